@@ -1,0 +1,4 @@
+//! The program `fedi`.
+#![tactic(auto)]
+
+fn main() {}
