@@ -1,2 +1,10 @@
 //! Addresses: IRIs, hosts, names of members and the recipients of an activity.
 #![tactic(auto)]
+
+mod items;
+mod name;
+mod refusal;
+
+pub use items::Items;
+pub use name::LocalName;
+pub use refusal::Refusal;

@@ -1,0 +1,2 @@
+pub mod Iris
+pub mod Names
