@@ -8,3 +8,10 @@ mod refusal;
 pub use items::Items;
 pub use name::LocalName;
 pub use refusal::Refusal;
+
+mod host;
+mod iri;
+mod recipients;
+pub use host::Host;
+pub use iri::Iri;
+pub use recipients::Recipients;

@@ -1,2 +1,20 @@
-//! The objects and activities of ActivityStreams, and the JSON in which they are shown.
+//! The objects and activities of ActivityStreams, the entries of a history, and the JSON in which objects are shown.
 #![tactic(auto)]
+
+mod activity;
+mod entry;
+mod kind;
+mod moment;
+mod object;
+mod repeat_key;
+mod shown;
+mod text;
+
+pub use activity::{Activity, ObjectRef};
+pub use entry::{Came, Entry, Sent, What};
+pub use kind::{Kind, State};
+pub use moment::Moment;
+pub use object::{Change, Edit, Object, Tag};
+pub use repeat_key::RepeatKey;
+pub use shown::{Shown, ShownObject};
+pub use text::{Bytes, Text};

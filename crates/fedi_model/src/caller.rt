@@ -1,0 +1,34 @@
+//! Who makes a request, and what the request shows for it.
+
+use fedi_address::{Host, LocalName};
+
+/// Who makes a request.
+#[derive(Drop)]
+pub enum Caller {
+    Nobody,
+    /// A member of this server.
+    Actor(LocalName),
+    /// Another server.
+    Peer(Host),
+}
+
+/// What a peer signed.
+#[derive(Clone, Copy)]
+pub struct Signed<'a> {
+    /// The peer's own host.
+    pub host: &'a str,
+    pub mac: [u8; 32],
+    pub method: &'a [u8],
+    pub target: &'a [u8],
+    pub body: &'a [u8],
+}
+
+/// What a request shows of who makes it. Its references are into the request.
+#[derive(Clone, Copy)]
+pub enum Credentials<'a> {
+    Nothing,
+    /// A bearer key (RFC 6750, section 2.1), or none where the field has another form.
+    Bearer(Option<[u8; 32]>),
+    /// A peer's code over the request, or none where one of its fields is missing or has another form.
+    Mac(Option<Signed<'a>>),
+}

@@ -1,0 +1,77 @@
+//! The entries of a history.
+
+use crate::activity::Activity;
+use crate::moment::Moment;
+use crate::repeat_key::RepeatKey;
+use crate::text::Text;
+use fedi_address::{Host, Iri, LocalName};
+
+/// Which request to a peer an outcome is of.
+#[derive(Clone, Copy, Debug)]
+pub enum Sent {
+    Lookup,
+    Post,
+}
+
+/// What came of a request to a peer.
+#[derive(Clone, Copy, Debug)]
+pub enum What {
+    /// The exchange failed.
+    Failed,
+    /// The reply has no head, or a status below 100.
+    NoHead,
+    /// The looked up actor document cannot be used.
+    BadActor,
+    /// The reply has this status.
+    Status(u16),
+}
+
+/// What came of one attempt to deliver.
+#[derive(Clone, Copy, Debug)]
+pub struct Came {
+    pub step: Sent,
+    pub what: What,
+}
+
+/// One entry of a history.
+#[derive(Drop)]
+pub enum Entry {
+    /// The server was set up for this host.
+    Hosted { host: Host, moment: Moment },
+    /// A member was made, with the SHA-256 digest of the member's key.
+    Made {
+        name: LocalName,
+        digest: [u8; 32],
+        locked: bool,
+        moment: Moment,
+    },
+    /// Another server became a peer.
+    PeerSet {
+        host: Host,
+        key: [u8; 32],
+        address: Text,
+        relay: bool,
+        moment: Moment,
+    },
+    /// A member posted an activity, as it was read, perhaps under a key for repeats with the digest of the body.
+    Local {
+        name: LocalName,
+        repeat: Option<(RepeatKey, [u8; 32])>,
+        activity: Activity,
+        moment: Moment,
+    },
+    /// A peer delivered an activity, as it was read, to a member's inbox.
+    Remote {
+        peer: Host,
+        inbox: LocalName,
+        activity: Activity,
+        moment: Moment,
+    },
+    /// A delivery was tried.
+    Tried {
+        activity: Iri,
+        recipient: Iri,
+        came: Came,
+        moment: Moment,
+    },
+}

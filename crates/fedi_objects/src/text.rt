@@ -1,0 +1,67 @@
+//! Texts and bytes that hide how they are kept.
+
+ghost use Rattle.std.specs.Prelude.{◌≡◌};
+ghost use Rattle.std.specs.String.{string_bytes};
+
+use std::marker::Model;
+
+/// A text in UTF-8. It is made from a `String` without taking memory.
+#[derive(Drop)]
+pub struct Text {
+    kept: String,
+}
+
+impl Model for Text {
+    ghost use Rattle.std.specs.Prelude.{ℕ, List};
+    ghost use Rattle.std.specs.String.{string_bytes};
+
+    ghost Value = { List ℕ };
+
+    ghost view = { λ a. string_bytes a.kept };
+}
+
+impl Text {
+    /// The same text.
+    pub fn new(text: String) -> Text
+        ensures { result ≡ string_bytes text }
+    {
+        Text { kept: text }
+    }
+
+    /// The text again.
+    pub fn text(&self) -> &str
+        ensures { result.now ≡ self.now }
+    {
+        self.kept.as_str()
+    }
+}
+
+/// A list of bytes. It is made from a `Vec` without taking memory.
+#[derive(Drop)]
+pub struct Bytes {
+    kept: Vec<u8>,
+}
+
+impl Model for Bytes {
+    ghost use Rattle.std.specs.Prelude.{ℕ, List};
+
+    ghost Value = { List ℕ };
+
+    ghost view = { λ a. a.kept.items };
+}
+
+impl Bytes {
+    /// The same bytes.
+    pub fn new(bytes: Vec<u8>) -> Bytes
+        ensures { result ≡ bytes.items }
+    {
+        Bytes { kept: bytes }
+    }
+
+    /// The bytes again.
+    pub fn bytes(&self) -> &[u8]
+        ensures { result.now ≡ self.now }
+    {
+        self.kept.as_slice()
+    }
+}
