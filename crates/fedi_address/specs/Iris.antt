@@ -16,3 +16,9 @@ normal_of (Err e) = None
 -- the normal text of a web address, where the text is one
 unfoldable pub normal : List ℕ → Option (List ℕ)
 normal text = normal_of (parse_url None text)
+
+unfoldable pub host_of : List ℕ → List ℕ
+host_of text = text
+
+abbrev pub public_iri : List ℕ
+public_iri = codes "https://www.w3.org/ns/activitystreams#Public"

@@ -1,2 +1,4 @@
 pub mod Iris
 pub mod Names
+pub mod Refusals
+pub mod Recipients

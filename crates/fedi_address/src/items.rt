@@ -1,7 +1,8 @@
 //! Lists that hide how they are kept.
 
-ghost use Rattle.std.specs.Prelude.{◌≡◌};
+ghost use Rattle.std.specs.Prelude.{◌≡◌, ◌==◌, [], ◌∷◌, ◌++◌, length, OnOk, OnErr};
 
+use std::alloc::{AllocError, Global};
 use std::marker::Model;
 
 /// A list. It is made from a `Vec` and gives it back without taking memory.
@@ -26,11 +27,55 @@ impl<T> Items<T> {
         Items { kept: values }
     }
 
+    /// A list without values. It takes no memory.
+    pub fn empty(alloc: Global) -> Self
+        ensures { result ≡ [] }
+    {
+        Items {
+            kept: Vec::new(alloc),
+        }
+    }
+
+    /// How many values the list has.
+    pub fn len(&self) -> usize
+        ensures { result ≡ length self.now }
+    {
+        self.kept.len()
+    }
+
+    /// Whether the list has no value.
+    pub fn is_empty(&self) -> bool
+        ensures { result ≡ (length self.now == 0) }
+    {
+        self.kept.is_empty()
+    }
+
     /// The values, in order.
     pub fn as_slice(&self) -> &[T]
         ensures { result.now ≡ self.now }
     {
         self.kept.as_slice()
+    }
+
+    /// Adds a value at the end. Where memory is wanted the list is as before, and the value is let
+    /// go.
+    pub fn push(&mut self, value: T) -> Result<(), AllocError>
+    where
+        T: Drop,
+        ensures ok { OnOk result (self.new ≡ self.old ++ value ∷ []) }
+        ensures err { OnErr result (self.new ≡ self.old) }
+    {
+        self.kept.push(value)?;
+        Ok(())
+    }
+
+    /// Lets each value go. The room stays.
+    pub fn clear(&mut self)
+    where
+        T: Drop,
+        ensures { self.new ≡ [] }
+    {
+        self.kept.clear();
     }
 
     /// The values again.

@@ -1,1 +1,10 @@
 pub mod Ids
+pub mod Towns
+pub mod Addressing
+pub mod Activities
+pub mod Histories
+pub mod Seeing
+pub mod Credentials
+pub mod Callers
+pub mod Replies
+pub mod Agreement

@@ -1,12 +1,16 @@
 //! What a history means: the definitions on which every promise of the server rests, and the plain types that they speak of.
 #![tactic(auto)]
 
+mod act;
 mod ask;
 mod caller;
+mod laws;
 mod reply;
 mod request;
 
+pub use act::{Act, Actor};
 pub use ask::Ask;
+pub use laws::replies_are_private;
 pub use caller::{Caller, Credentials, Signed};
 pub use reply::{Allow, Form, Reply};
 pub use request::{Field, Request};

@@ -1,0 +1,22 @@
+-- Who a caller is, by the credentials of a request (RFC 6750, section 2.1, for bearer keys).
+use Rattle.std.specs.Prelude.{ℕ, List, Option, Some, None, Result, Ok, Err}
+use Rattle.std.specs.List.{find}
+use Rattle.sha2.specs.Sha256.{sha256}
+use Rattle.fedi_address.specs.declared.refusal.Refusal.{Refusal}
+use Rattle.fedi_address.specs.declared.refusal.Refusal.TheVariants.{WrongKey, WrongMac}
+use Rattle.fedi_model.specs.declared.act.Actor.{Actor}
+use Rattle.fedi_model.specs.declared.caller.Caller.{Caller}
+use Rattle.fedi_model.specs.declared.caller.Caller.TheVariants as callers
+use Rattle.fedi_model.specs.Credentials.{Shows, ShowsNothing, ShowsBearer, ShowsMac}
+use Rattle.fedi_model.specs.Towns.{Town, has_digest}
+
+abbrev pub member_or_refused : Option Actor → Result Caller Refusal
+member_or_refused None = Err WrongKey
+member_or_refused (Some a) = Ok (callers.Actor a.name)
+
+-- nobody without credentials, and the member whose key has the digest of the bearer's; there are no peers yet
+unfoldable pub caller_by : Town → Shows → Result Caller Refusal
+caller_by t ShowsNothing = Ok callers.Nobody
+caller_by t (ShowsBearer None) = Err WrongKey
+caller_by t (ShowsBearer (Some key)) = member_or_refused (find (has_digest (sha256 key)) t.actors)
+caller_by t (ShowsMac signed) = Err WrongMac
