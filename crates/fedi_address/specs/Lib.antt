@@ -1,3 +1,4 @@
+pub mod Hosts
 pub mod Iris
 pub mod Names
 pub mod Refusals

@@ -1,17 +1,155 @@
-//! x
-use std::marker::Model;
+//! IRIs: the normal texts of web addresses.
 
-/// x
+ghost use Rattle.std.specs.Prelude.{◌≡◌, ℕ, ◌<◌, ◌≤◌, List, ◌++◌, length, codes, bytes_eq, string_bytes, Some, None, IsTrue, IfOk, IfErr, MatchResult};
+ghost use Rattle.std.specs.Prelude.{◌≢◌, true, false};
+ghost use Rattle.fedi_address.specs.Hosts.{address, is_plain_path};
+ghost use Rattle.fedi_address.specs.Iris.{IsIri, normal, public_iri, web_url};
+
+ghost use Rattle.fedi_address.specs.Iris as iris;
+
+use crate::host::{Host, address_text};
+use std::alloc::{AllocError, Global};
+use std::marker::Model;
+use url::{ParseError, Url};
+
+/// An IRI: the normal text of an `http` or `https` URL (URL Standard, 4.4 and 4.5), of at most
+/// 2,048 bytes. Two IRIs are the same where their texts are.
 #[derive(Drop)]
 pub struct Iri {
     text: String,
 }
 
 impl Model for Iri {
-    ghost use Rattle.std.specs.Prelude.{ℕ, List};
-    ghost use Rattle.std.specs.String.{string_bytes};
+    ghost use Rattle.std.specs.Prelude.{ℕ, List, string_bytes};
+    ghost use Rattle.fedi_address.specs.Iris.{IsIri};
 
     ghost Value = { List ℕ };
 
     ghost view = { λ a. string_bytes a.text };
+
+    ghost invariant = { λ a. IsIri (string_bytes a.text) };
+}
+
+/// Why a text gives no IRI.
+#[derive(Clone, Copy, Debug, PartialEq, Eq)]
+pub enum IriFault {
+    /// The text is no URL, or its scheme is neither `http` nor `https`.
+    NotIri,
+    /// The normal text has more than 2,048 bytes.
+    TooLong,
+    /// Memory was wanted.
+    Memory,
+}
+
+fn is_web(url: &Url) -> bool
+    ensures { result ≡ iris.is_web url.now }
+{
+    let scheme = url.scheme();
+    scheme == "https" || scheme == "http"
+}
+
+// `url` answers that it had no room where memory is wanted, or where a text would have 4 GB.
+fn is_out_of_room(fault: &ParseError) -> bool
+    ensures { result ≡ iris.is_out_of_room fault.now }
+{
+    match fault {
+        ParseError::OutOfMemory => true,
+        ParseError::Overflow => true,
+        _ => false,
+    }
+}
+
+// The web address that a text is read as.
+fn web_address(alloc: Global, text: &str) -> Result<Url, IriFault>
+    ensures ok { IfOk result (λ url. web_url text.now ≡ Some url) }
+    ensures web { IfOk result (λ url. iris.is_web url ≡ true) }
+    ensures err { IfErr result (λ e. e ≢ IriFault.TooLong) }
+    ensures not_iri { IfErr result (λ e. e ≡ IriFault.NotIri → web_url text.now ≡ None) }
+{
+    let url = match Url::parse(alloc, text) {
+        Ok(url) => url,
+        Err(fault) => {
+            return if is_out_of_room(&fault) {
+                Err(IriFault::Memory)
+            } else {
+                Err(IriFault::NotIri)
+            };
+        }
+    };
+    if is_web(&url) {
+        Ok(url)
+    } else {
+        Err(IriFault::NotIri)
+    }
+}
+
+// Whether a text is its own normal text. The error is want of memory.
+pub(crate) fn is_normal(alloc: Global, text: &str) -> Result<bool, AllocError>
+    requires { length text.now ≤ 2048 }
+    ensures iri { IfOk result (λ own. own ≡ true → IsIri text.now) }
+    ensures other { IfOk result (λ own. own ≡ false → normal text.now ≢ Some text.now) }
+{
+    match Iri::parse(alloc, text) {
+        Ok(iri) => Ok(iri.text() == text),
+        Err(IriFault::NotIri) => Ok(false),
+        Err(IriFault::TooLong) => Ok(false),
+        Err(IriFault::Memory) => Err(AllocError),
+    }
+}
+
+impl Iri {
+    /// The longest IRI, in bytes.
+    pub const LONGEST: usize = 2048;
+
+    /// The IRI that the text is read as, with no base (URL Standard, 4.4). `NotIri` where it is no
+    /// URL or its scheme is neither `http` nor `https`, `TooLong` where its normal text has more
+    /// than 2,048 bytes, `Memory` where memory is wanted.
+    pub fn parse(alloc: Global, text: &str) -> Result<Iri, IriFault>
+        ensures ok { IfOk result (λ iri. normal text.now ≡ Some iri) }
+        ensures short { IfOk result (λ iri. length iri ≤ 2048) }
+        ensures not_iri { IfErr result (λ e. e ≡ IriFault.NotIri → normal text.now ≡ None) }
+        ensures too_long { IfErr result (λ e. e ≡ IriFault.TooLong → (long : List ℕ) × (normal text.now ≡ Some long) × (2048 < length long)) }
+    {
+        let url = web_address(alloc, text)?;
+        if url.as_str().len() > Self::LONGEST {
+            return Err(IriFault::TooLong);
+        }
+        let text = String::from_str(alloc, url.as_str()).map_err(|_| IriFault::Memory)?;
+        Ok(Iri { text })
+    }
+
+    /// The IRI of a plain path at a host: `https://`, the host and the path. The error is want of
+    /// memory.
+    pub fn at(alloc: Global, host: &Host, path: &str) -> Result<Iri, AllocError>
+        requires { IsTrue (is_plain_path path.now) }
+        ensures { IfOk result (λ iri. iri ≡ address host.now path.now) }
+    {
+        let text = address_text(alloc, host.text(), path)?;
+        Ok(Iri { text })
+    }
+
+    /// The normal text.
+    pub fn text(&self) -> &str
+        ensures value { result.now ≡ self.now }
+        ensures iri { IsIri self.now }
+        ensures normal { normal self.now ≡ Some self.now }
+        ensures short { length self.now ≤ 2048 }
+    {
+        self.text.as_str()
+    }
+
+    /// Whether the two IRIs have the same text.
+    pub fn is(&self, other: &Iri) -> bool
+        ensures { result ≡ bytes_eq self.now other.now }
+    {
+        self.text.as_str() == other.text.as_str()
+    }
+
+    /// An equal IRI. The error is want of memory.
+    pub fn copy(&self) -> Result<Iri, AllocError>
+        ensures { IfOk result (λ iri. iri ≡ self.now) }
+    {
+        let text = self.text.clone()?;
+        Ok(Iri { text })
+    }
 }

@@ -96,10 +96,12 @@ abbrev pub is_new_key : List Act → Option (List ℕ × List ℕ) → Bool
 is_new_key acts None = true
 is_new_key acts (Some r) = not (list_any (λ x. has_key r.0 x.repeat) acts)
 
--- the post of a member who has this id: its key is new among the author's own, which are fewer than 4,294,967,295
-abbrev pub may_post : Town → Option (List ℕ) → Option (List ℕ × List ℕ) → Bool
-may_post t None repeat = false
-may_post t (Some author) repeat = nat_lt (count_of t author) 4294967295 && is_new_key (filter (is_by author) t.acts) repeat
+-- the post of a member: its key is new among the author's own, which are fewer than 4,294,967,295
+abbrev pub may_post : Option (List ℕ) → Town → List ℕ → Option (List ℕ × List ℕ) → Bool
+may_post None t name repeat = false
+may_post (Some host) t name repeat =
+    list_any (is_named name) t.actors
+    && (nat_lt (count_of t (actor_id host name)) 4294967295 && is_new_key (filter (is_by (actor_id host name)) t.acts) repeat)
 
 -- The server is set up first and once; a member's name and key are new; a post is a member's. Peers, deliveries
 -- and outcomes are not admitted yet.
@@ -107,7 +109,7 @@ abbrev pub is_admissible : Town → Entry → Bool
 is_admissible t (Hosted host moment) = is_none t.host
 is_admissible t (Made name digest locked moment) = is_some t.host && (not (list_any (is_named name) t.actors) && not (list_any (has_digest digest) t.actors))
 is_admissible t (PeerSet host key address relay moment) = false
-is_admissible t (Local name repeat a moment) = is_some t.host && (may_post t (id_of t name) repeat && is_posted a)
+is_admissible t (Local name repeat a moment) = may_post t.host t name repeat && is_posted a
 is_admissible t (Remote peer inbox a moment) = false
 is_admissible t (Tried activity recipient came moment) = false
 

@@ -2,6 +2,7 @@
 use Rattle.std.specs.Prelude.{ℕ, Bool, ◌&&◌, List, ◌++◌, codes, decimal, nat_eq}
 use Rattle.std.specs.List.{starts_with}
 use Rattle.std.specs.Str.{bytes_eq}
+use Rattle.fedi_address.specs.Hosts.{address}
 use Rattle.fedi_address.specs.Iris.{host_of}
 
 -- the paths of a member, of the member's activity of a number, and of the object that it made
@@ -14,21 +15,17 @@ activity_path name number = codes "/users/" ++ (name ++ (codes "/a/" ++ decimal 
 abbrev pub object_path : List ℕ → ℕ → List ℕ
 object_path name number = codes "/users/" ++ (name ++ (codes "/o/" ++ decimal number))
 
--- the IRI of a path of this host
-abbrev pub iri_at : List ℕ → List ℕ → List ℕ
-iri_at host path = codes "https://" ++ (host ++ path)
-
 -- the id of a member
 unfoldable pub actor_id : List ℕ → List ℕ → List ℕ
-actor_id host name = iri_at host (actor_path name)
+actor_id host name = address host (actor_path name)
 
 -- the id of a member's activity of this number
 unfoldable pub activity_id : List ℕ → List ℕ → ℕ → List ℕ
-activity_id host name number = iri_at host (activity_path name number)
+activity_id host name number = address host (activity_path name number)
 
 -- the id of the object that the member's activity of this number made
 unfoldable pub object_id : List ℕ → List ℕ → ℕ → List ℕ
-object_id host name number = iri_at host (object_path name number)
+object_id host name number = address host (object_path name number)
 
 -- the IRI is of this host: by https, and with its text as host
 unfoldable pub is_of_host : List ℕ → List ℕ → Bool

@@ -1,3 +1,4 @@
 pub mod Dates
+pub mod Keys
 pub mod Kinds
 pub mod Forms

@@ -37,7 +37,10 @@ pub struct Came {
 #[derive(Drop)]
 pub enum Entry {
     /// The server was set up for this host.
-    Hosted { host: Host, moment: Moment },
+    Hosted {
+        host: Host,
+        moment: Moment,
+    },
     /// A member was made, with the SHA-256 digest of the member's key.
     Made {
         name: LocalName,

@@ -2,6 +2,7 @@
 #![tactic(auto)]
 
 mod activity;
+mod copies;
 mod entry;
 mod kind;
 mod moment;

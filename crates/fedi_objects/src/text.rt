@@ -1,8 +1,9 @@
 //! Texts and bytes that hide how they are kept.
 
-ghost use Rattle.std.specs.Prelude.{◌≡◌};
+ghost use Rattle.std.specs.Prelude.{◌≡◌, IfOk};
 ghost use Rattle.std.specs.String.{string_bytes};
 
+use std::alloc::{AllocError, Global};
 use std::marker::Model;
 
 /// A text in UTF-8. It is made from a `String` without taking memory.
@@ -26,6 +27,21 @@ impl Text {
         ensures { result ≡ string_bytes text }
     {
         Text { kept: text }
+    }
+
+    /// A text of its own with these bytes.
+    pub fn from_text(alloc: Global, text: &str) -> Result<Text, AllocError>
+        ensures { IfOk result (λ x. x ≡ text.now) }
+    {
+        let kept = String::from_str(alloc, text)?;
+        Ok(Text { kept })
+    }
+
+    /// An equal text.
+    pub fn copy(&self) -> Result<Text, AllocError>
+        ensures { IfOk result (λ x. x ≡ self.now) }
+    {
+        Text::from_text(*self.kept.allocator(), self.kept.as_str())
     }
 
     /// The text again.
