@@ -1,2 +1,5 @@
+pub mod Parts
+pub mod Public
+pub mod Audience
 pub mod Texts
 pub mod Urls

@@ -1,5 +1,6 @@
 pub mod Hosts
 pub mod Iris
 pub mod Names
-pub mod Refusals
+pub mod Pieces
 pub mod Recipients
+pub mod Refusals

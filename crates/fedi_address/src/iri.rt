@@ -3,11 +3,12 @@
 ghost use Rattle.std.specs.Prelude.{◌≡◌, ℕ, ◌<◌, ◌≤◌, List, ◌++◌, length, codes, bytes_eq, string_bytes, Some, None, IsTrue, IfOk, IfErr, MatchResult};
 ghost use Rattle.std.specs.Prelude.{◌≢◌, true, false};
 ghost use Rattle.fedi_address.specs.Hosts.{address, is_plain_path};
-ghost use Rattle.fedi_address.specs.Iris.{IsIri, normal, public_iri, web_url};
-
+ghost use Rattle.fedi_address.specs.Iris.{IsIri, host_of, host_and_port, normal, path_and_query, target_of, public_iri, web_url};
 ghost use Rattle.fedi_address.specs.Iris as iris;
+ghost use Rattle.url.specs.Parts.{Parts};
 
 use crate::host::{Host, address_text};
+use crate::pieces::{after, after_any, before, from};
 use std::alloc::{AllocError, Global};
 use std::marker::Model;
 use url::{ParseError, Url};
@@ -83,6 +84,13 @@ fn web_address(alloc: Global, text: &str) -> Result<Url, IriFault>
     }
 }
 
+// What follows the `//` before the authority.
+fn after_slashes(text: &str) -> &str
+    ensures { result.now ≡ iris.after_slashes text.now }
+{
+    after(after(text, '/'), '/')
+}
+
 // Whether a text is its own normal text. The error is want of memory.
 pub(crate) fn is_normal(alloc: Global, text: &str) -> Result<bool, AllocError>
     requires { length text.now ≤ 2048 }
@@ -101,9 +109,13 @@ impl Iri {
     /// The longest IRI, in bytes.
     pub const LONGEST: usize = 2048;
 
+    /// The text of the IRI that stands for everyone (W3C ActivityPub, 5.6).
+    pub const PUBLIC: &'static str = "https://www.w3.org/ns/activitystreams#Public";
+
     /// The IRI that the text is read as, with no base (URL Standard, 4.4). `NotIri` where it is no
     /// URL or its scheme is neither `http` nor `https`, `TooLong` where its normal text has more
     /// than 2,048 bytes, `Memory` where memory is wanted.
+    #[tactic(auto, unfolding(crate::specs::Iris::normal))]
     pub fn parse(alloc: Global, text: &str) -> Result<Iri, IriFault>
         ensures ok { IfOk result (λ iri. normal text.now ≡ Some iri) }
         ensures short { IfOk result (λ iri. length iri ≤ 2048) }
@@ -122,9 +134,19 @@ impl Iri {
     /// memory.
     pub fn at(alloc: Global, host: &Host, path: &str) -> Result<Iri, AllocError>
         requires { IsTrue (is_plain_path path.now) }
-        ensures { IfOk result (λ iri. iri ≡ address host.now path.now) }
+        ensures text { IfOk result (λ iri. iri ≡ address host.now path.now) }
+        ensures host { IfOk result (λ iri. host_of iri ≡ host.now) }
+        ensures target { IfOk result (λ iri. target_of iri ≡ path.now) }
     {
         let text = address_text(alloc, host.text(), path)?;
+        Ok(Iri { text })
+    }
+
+    /// The IRI that stands for everyone (W3C ActivityPub, 5.6). The error is want of memory.
+    pub fn public(alloc: Global) -> Result<Iri, AllocError>
+        ensures { IfOk result (λ iri. iri ≡ public_iri) }
+    {
+        let text = String::from_str(alloc, Self::PUBLIC)?;
         Ok(Iri { text })
     }
 
@@ -136,6 +158,26 @@ impl Iri {
         ensures short { length self.now ≤ 2048 }
     {
         self.text.as_str()
+    }
+
+    /// The host, with the port where there is one. User information is no part of it.
+    #[tactic(auto, unfolding(crate::specs::Iris::host_of))]
+    pub fn host(&self) -> &str
+        ensures value { result.now ≡ host_of self.now }
+        ensures of_url { (url : Parts) → web_url self.now ≡ Some url → result.now ≡ host_and_port url }
+    {
+        let onward = after_slashes(self.text.as_str());
+        after_any(before(onward, '/'), '@')
+    }
+
+    /// The path and the query.
+    #[tactic(auto, unfolding(crate::specs::Iris::target_of))]
+    pub fn target(&self) -> &str
+        ensures value { result.now ≡ target_of self.now }
+        ensures of_url { (url : Parts) → web_url self.now ≡ Some url → result.now ≡ path_and_query url }
+    {
+        let onward = after_slashes(self.text.as_str());
+        before(from(onward, '/'), '#')
     }
 
     /// Whether the two IRIs have the same text.

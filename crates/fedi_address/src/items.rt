@@ -78,6 +78,11 @@ impl<T> Items<T> {
         self.kept.clear();
     }
 
+    /// The allocator that the list takes its memory from.
+    pub fn allocator(&self) -> Global {
+        *self.kept.allocator()
+    }
+
     /// The values again.
     pub fn into_vec(self) -> Vec<T>
         ensures { result.items ≡ self }

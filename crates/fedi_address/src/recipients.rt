@@ -1,13 +1,120 @@
-//! x
+//! To whom an activity or an object is addressed.
+
+ghost use Rattle.std.specs.Prelude.{◌≡◌, ◌||◌, ◌++◌, List, length, IfOk};
+ghost use Rattle.fedi_address.specs.Recipients as recipients;
+
 use crate::iri::Iri;
 use crate::items::Items;
+use std::alloc::AllocError;
 
-/// x
+/// To whom an activity or an object is addressed: the five fields for audience targeting (Activity
+/// Vocabulary, 4; W3C ActivityPub, 6).
 #[derive(Drop)]
 pub struct Recipients {
+    /// The primary recipients.
     pub to: Items<Iri>,
+    /// The secondary recipients.
     pub cc: Items<Iri>,
+    /// The primary recipients of whom the others are not told.
     pub bto: Items<Iri>,
+    /// The secondary recipients of whom the others are not told.
     pub bcc: Items<Iri>,
+    /// The audience in a wider sense.
     pub audience: Items<Iri>,
+}
+
+/// Whether one of the IRIs has this text.
+#[tactic(auto, unfolding(crate::specs::Recipients::is_among))]
+pub fn is_among(text: &str, iris: &[Iri]) -> bool
+    ensures { result ≡ recipients.is_among text.now iris.now }
+{
+    iris.iter().any(|iri| iri.text() == text)
+}
+
+// An equal list.
+fn copy_list(list: &Items<Iri>) -> Result<Items<Iri>, AllocError>
+    ensures { IfOk result (λ copied. copied ≡ list.now) }
+{
+    let iris = list.as_slice();
+    let mut copied = Vec::with_capacity(list.allocator(), iris.len())?;
+    for iri in iris {
+        copied.push(iri.copy()?)?;
+    }
+    Ok(Items::new(copied))
+}
+
+// Two equal lists.
+fn copy_both(
+    first: &Items<Iri>,
+    second: &Items<Iri>,
+) -> Result<(Items<Iri>, Items<Iri>), AllocError>
+    ensures { IfOk result (λ both. both ≡ (first.now, second.now)) }
+{
+    let first = copy_list(first)?;
+    let second = copy_list(second)?;
+    Ok((first, second))
+}
+
+impl Recipients {
+    /// How many recipients the five fields have together.
+    pub fn count(&self) -> usize
+        ensures { result ≡ length (recipients.all_of self.now) }
+    {
+        self.to.as_slice().len()
+            + self.cc.as_slice().len()
+            + self.bto.as_slice().len()
+            + self.bcc.as_slice().len()
+            + self.audience.as_slice().len()
+    }
+
+    /// Whether one of the five fields has the IRI of everyone (W3C ActivityPub, 5.6).
+    pub fn is_public(&self) -> bool
+        ensures { result ≡ recipients.is_public self.now }
+    {
+        self.has(Iri::PUBLIC)
+    }
+
+    /// Whether one of the five fields has the IRI.
+    pub fn names(&self, iri: &Iri) -> bool
+        ensures { result ≡ recipients.names self.now iri.now }
+    {
+        self.has(iri.text())
+    }
+
+    #[tactic(auto, using(crate::proofs::Audience::is_among_all))]
+    fn has(&self, text: &str) -> bool
+        ensures { result ≡ recipients.names self.now text.now }
+    {
+        is_among(text, self.to.as_slice())
+            || is_among(text, self.cc.as_slice())
+            || is_among(text, self.bto.as_slice())
+            || is_among(text, self.bcc.as_slice())
+            || is_among(text, self.audience.as_slice())
+    }
+
+    /// The same recipients without `bto` and `bcc` (W3C ActivityPub, 6 and 7).
+    pub fn strip(self) -> Recipients
+        ensures { result ≡ recipients.stripped self }
+    {
+        let mut left = self;
+        left.bto.clear();
+        left.bcc.clear();
+        left
+    }
+
+    /// Equal recipients. The error is want of memory.
+    pub fn copy(&self) -> Result<Recipients, AllocError>
+        ensures { IfOk result (λ copied. copied ≡ self.now) }
+    {
+        let (to, cc) = copy_both(&self.to, &self.cc)?;
+        let (bto, bcc) = copy_both(&self.bto, &self.bcc)?;
+        let audience = copy_list(&self.audience)?;
+        Ok(Recipients {
+            to,
+            cc,
+            bto,
+            bcc,
+            audience,
+        })
+    }
 }

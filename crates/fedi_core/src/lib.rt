@@ -1,2 +1,15 @@
 //! The machine: facts of a history, who a caller is, and the reply to what is asked.
 #![tactic(auto)]
+
+mod addressing;
+mod facts;
+mod ids;
+mod machine;
+mod making;
+mod replies;
+mod seeing;
+
+pub use facts::Facts;
+pub use machine::{Core, digest};
+pub use replies::{refusal_reply, reply};
+pub use seeing::sees;

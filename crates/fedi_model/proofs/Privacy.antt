@@ -8,7 +8,7 @@ use Rattle.fedi_objects.specs.declared.activity.ObjectRef.{ObjectRef}
 use Rattle.fedi_objects.specs.declared.activity.ObjectRef.TheVariants.{Nothing, Id, Whole, Changed}
 use Rattle.fedi_objects.specs.declared.entry.Entry.{Entry}
 use Rattle.fedi_objects.specs.declared.object.Object.{Object}
-use Rattle.fedi_objects.specs.Forms.{object_form}
+use Rattle.fedi_objects.specs.Forms.{object_form, kind_members, with_links, tombstone_members}
 use Rattle.fedi_objects.specs.Kinds.{is_create}
 use Rattle.fedi_model.specs.declared.act.Act.{Act}
 use Rattle.fedi_model.specs.declared.ask.Ask.{Ask}
@@ -34,7 +34,7 @@ shown_document s = document_or_missing (whole_of s.activity.object)
 
 -- the document of an object tells nothing of `bto` and `bcc`
 document-stripped : (o : Object) → document (stripped_object o) ≡ document o
-unfolding document
+unfolding document object_form kind_members with_links tombstone_members
 document-stripped o = refl
 
 -- what is shown of an object keeps its id where the activity made it

@@ -7,7 +7,7 @@ use Rattle.fedi_address.specs.declared.refusal.Refusal.TheVariants.{WrongKey, Wr
 use Rattle.fedi_model.specs.declared.act.Actor.{Actor}
 use Rattle.fedi_model.specs.declared.caller.Caller.{Caller}
 use Rattle.fedi_model.specs.declared.caller.Caller.TheVariants as callers
-use Rattle.fedi_model.specs.Credentials.{Shows, ShowsNothing, ShowsBearer, ShowsMac}
+use Rattle.fedi_model.specs.Credentials.{Shows, Nothing, Bearer, Mac}
 use Rattle.fedi_model.specs.Towns.{Town, has_digest}
 
 abbrev pub member_or_refused : Option Actor → Result Caller Refusal
@@ -16,7 +16,7 @@ member_or_refused (Some a) = Ok (callers.Actor a.name)
 
 -- nobody without credentials, and the member whose key has the digest of the bearer's; there are no peers yet
 unfoldable pub caller_by : Town → Shows → Result Caller Refusal
-caller_by t ShowsNothing = Ok callers.Nobody
-caller_by t (ShowsBearer None) = Err WrongKey
-caller_by t (ShowsBearer (Some key)) = member_or_refused (find (has_digest (sha256 key)) t.actors)
-caller_by t (ShowsMac signed) = Err WrongMac
+caller_by t Nothing = Ok callers.Nobody
+caller_by t (Bearer None) = Err WrongKey
+caller_by t (Bearer (Some key)) = member_or_refused (find (has_digest (sha256 key)) t.actors)
+caller_by t (Mac signed) = Err WrongMac

@@ -1,5 +1,43 @@
-use Rattle.std.specs.Prelude.{ℕ, List, Option}
+-- What the fields of a request show of who makes it (RFC 6750, section 2.1; RFC 9110, section 11.6.2).
+use Rattle.std.specs.Prelude.{ℕ, Bool, ◌&&◌, ◌||◌, nat_le, List, take, drop, map, codes, bytes_eq, find, Option, Some, None, option_map, if◌then◌else◌}
+use Rattle.std.specs.List.{list_all}
+use Rattle.std.specs.Str.{is_utf8}
+use Rattle.std.specs.Char.{to_ascii_lowercase}
+use Rattle.std.specs.Result.{result_ok}
+use Rattle.hex.specs.Hex.{decode_sized}
+use Rattle.fedi_model.specs.declared.caller.Credentials.{Credentials}
+use Rattle.fedi_model.specs.declared.caller.Credentials.TheVariants.{Nothing as NoneShown, Bearer as BearerShown, Mac as MacShown}
+use Rattle.fedi_model.specs.declared.caller.Signed.{Signed}
+use Rattle.fedi_model.specs.declared.request.Field.{Field}
+use Rattle.fedi_model.specs.declared.request.Request.{Request}
+use Rattle.fedi_model.specs.Requests.{is_named}
 
+-- the value of the first field of this name
+unfoldable pub field_value : List ℕ → List Field → Option (List ℕ)
+field_value name fields = option_map (λ f. f.value) (find (is_named name) fields)
+
+-- the 32 bytes that 64 hexadecimal digits, of either case, write (RFC 4648, section 8)
+unfoldable pub key_of : List ℕ → Option (List ℕ)
+key_of text = result_ok (decode_sized text 32)
+
+-- the key after `Bearer`, in any case, and one space (RFC 6750, section 2.1; RFC 9110, section 11.1)
+abbrev pub bearer_key : List ℕ → Option (List ℕ)
+bearer_key value =
+    if bytes_eq (map to_ascii_lowercase (take 7 value)) (codes "bearer ") then key_of (drop 7 value) else None
+
+-- `0` to `9` or `a` to `f`
+abbrev pub is_lower_digit : ℕ → Bool
+is_lower_digit b = (nat_le 48 b && nat_le b 57) || (nat_le 97 b && nat_le b 102)
+
+-- each byte is a hexadecimal digit, none in upper case
+unfoldable pub is_lower_hex : List ℕ → Bool
+is_lower_hex text = list_all is_lower_digit text
+
+-- the 32 bytes of an authentication code, whose digits are in lower case
+abbrev pub code_of : List ℕ → Option (List ℕ)
+code_of text = if is_lower_hex text then key_of text else None
+
+-- what another server signed
 pub record Signature : Type 0 where
   pub host : List ℕ
   pub mac : List ℕ
@@ -7,7 +45,42 @@ pub record Signature : Type 0 where
   pub target : List ℕ
   pub body : List ℕ
 
+-- the request as this host signed it by this code
+abbrev pub signed_by : Request → List ℕ → List ℕ → Signature
+signed_by q host mac = record { host = host; mac = mac; method = q.method; target = q.target; body = q.body }
+
+-- both fields stand, the host is a text, and the code is one
+abbrev pub signature_of : Request → Option (List ℕ) → Option (List ℕ) → Option Signature
+signature_of q (Some host) (Some code) = if is_utf8 host then option_map (signed_by q host) (code_of code) else None
+signature_of q (Some host) None = None
+signature_of q None code = None
+
+-- what a request shows of who makes it
 pub data Shows : Type 0 where
-  ShowsNothing : Shows
-  ShowsBearer : Option (List ℕ) → Shows
-  ShowsMac : Option Signature → Shows
+  Nothing : Shows
+  Bearer : Option (List ℕ) → Shows
+  Mac : Option Signature → Shows
+
+-- what the values of `Authorization`, `Peer-Host` and `Peer-Mac` show
+abbrev pub credentials_by : Request → Option (List ℕ) → Option (List ℕ) → Option (List ℕ) → Shows
+credentials_by q (Some value) host code = Bearer (bearer_key value)
+credentials_by q None None None = Nothing
+credentials_by q None None (Some code) = Mac (signature_of q None (Some code))
+credentials_by q None (Some host) code = Mac (signature_of q (Some host) code)
+
+abbrev pub credentials_of : Request → Shows
+credentials_of q =
+    credentials_by q
+    (field_value (codes "Authorization") q.fields)
+    (field_value (codes "Peer-Host") q.fields)
+    (field_value (codes "Peer-Mac") q.fields)
+
+-- what another server signed, without the references
+abbrev pub signature_in : Signed → Signature
+signature_in s = record { host = s.host.now; mac = s.mac; method = s.method.now; target = s.target.now; body = s.body.now }
+
+-- the credentials, without the references
+abbrev pub shown_by : Credentials → Shows
+shown_by NoneShown = Nothing
+shown_by (BearerShown key) = Bearer key
+shown_by (MacShown signed) = Mac (option_map signature_in signed)

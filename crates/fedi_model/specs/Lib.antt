@@ -4,7 +4,12 @@ pub mod Addressing
 pub mod Activities
 pub mod Histories
 pub mod Seeing
+pub mod Requests
 pub mod Credentials
 pub mod Callers
+pub mod Routes
 pub mod Replies
 pub mod Agreement
+pub mod ReplyText
+pub mod Usage
+pub mod Answers

@@ -7,6 +7,7 @@ mod entry;
 mod kind;
 mod moment;
 mod object;
+mod public;
 mod repeat_key;
 mod shown;
 mod text;
@@ -16,6 +17,10 @@ pub use entry::{Came, Entry, Sent, What};
 pub use kind::{Kind, State};
 pub use moment::Moment;
 pub use object::{Change, Edit, Object, Tag};
+pub use public::{object_value, public_text, public_value};
 pub use repeat_key::RepeatKey;
 pub use shown::{Shown, ShownObject};
 pub use text::{Bytes, Text};
+
+#[cfg(test)]
+mod tests;

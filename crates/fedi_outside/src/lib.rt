@@ -1,2 +1,17 @@
 //! What lies outside the server: where bytes come from, where they go, and what time it is.
+//!
+//! Each trait says what a caller may rely on, and each has an implementation in memory that tells all that it does.
 #![tactic(auto)]
+
+mod clocks;
+mod failure;
+mod plan;
+mod sinks;
+mod sources;
+#[cfg(test)]
+mod tests;
+
+pub use clocks::{Clock, FixedClock};
+pub use failure::Failed;
+pub use sinks::{MemorySink, Sink};
+pub use sources::{CalmSource, MemorySource, Source};

@@ -1,0 +1,4 @@
+pub mod RequestLemmas
+pub mod RouteLemmas
+pub mod HeadLemmas
+pub mod StreamLemmas

@@ -1,0 +1,138 @@
+-- The parts of a path, and that a path is that of one thing at most.
+use Rattle.std.proofs.Common.{◌≡◌, ◌≢◌, ℕ, ◌+◌, ◌-◌, ◌<◌, ◌≤◌, ◌^◌, length-drop, List, [], ◌∷◌, ◌++◌, length, take, drop, get_or, IsTrue, true, false, Bool, if◌then◌else◌, zero, suc, Option, Some, None, Result, Ok, Err, refl, sym, ◌∙◌, ap, arith, nat_lt, nat_le}
+use Rattle.std.specs.Prelude.{codes, decimal, position, ◌==◌, ◌&&◌, not}
+use Rattle.std.proofs.lemmas.List.{append_cancel_left}
+use Rattle.std.proofs.Math.Seq.{take-append_seam, drop-append_seam, take-length}
+use Rattle.std.proofs.lemmas.List.Sums.{prefix_len-le-length}
+use Rattle.std.proofs.lemmas.Grind.{common_steps}
+use Rattle.std.proofs.lemmas.Fmt.{decimal_injective, first_decimal, decimal_digit, decimal-digits_value, parse-decimal, IsAscii-decimal}
+use Rattle.std.proofs.lemmas.Str.{is_utf8-from_IsUtf8, IsUtf8-from_ascii}
+use Rattle.std.proofs.lemmas.Str.Parse.{IsNumeralModel, numerals_by_value, tells_digits, parse_plain}
+use Rattle.std.proofs.lemmas.Bool.{and_parts, ltb-true, lt-ltb, le-ltb, eqb-true}
+use Rattle.std.proofs.lemmas.Bool.Decides.{nat_tests}
+use Rattle.std.specs.List.{list_all, position_or_len, before_first, prefix_len}
+use Rattle.std.specs.Str.{is_utf8}
+use Rattle.std.specs.Str.Parse.{ParsesUnsigned, AllDigits, digits_value}
+use Rattle.fedi_address.proofs.Texts.{name_is_utf8}
+use Rattle.fedi_address.specs.Names.{is_name, is_name_byte}
+use Rattle.fedi_model.specs.declared.ask.Ask.{Ask}
+use Rattle.fedi_model.specs.declared.ask.Ask.TheVariants.{Nowhere, Object}
+use Rattle.fedi_model.specs.Ids.{object_path}
+use Rattle.fedi_model.specs.Routes.{IsNumber, object_part, IsPathOf, Asks, IsAskedOnce}
+
+abbrev pub is_slash : ℕ → Bool
+is_slash b = b == 47
+
+-- ---- the first byte that passes a test
+
+position_Some : (p : ℕ → Bool) (xs : List ℕ) (k : ℕ) → position p xs ≡ Some k → position_or_len p xs ≡ k
+position_Some p xs k h = grind (arith, common_steps)
+
+position_None : (p : ℕ → Bool) (xs : List ℕ) → position p xs ≡ None → position_or_len p xs ≡ length xs
+position_None p xs h = grind (arith, common_steps, prefix_len-le-length (λ x. not (p x)) xs)
+
+-- the front of a text, whether the byte is found or not
+pub front_found : (p : ℕ → Bool) (xs : List ℕ) (k : ℕ) → position p xs ≡ Some k → take k xs ≡ before_first p xs
+front_found p xs k h = ap (λ (n : ℕ). take n xs) (sym (position_Some p xs k h))
+
+pub front_all : (p : ℕ → Bool) (xs : List ℕ) → position p xs ≡ None → xs ≡ before_first p xs
+front_all p xs h = sym (ap (λ (n : ℕ). take n xs) (position_None p xs h) ∙ take-length xs)
+
+name_byte_no_slash : (x : ℕ) → is_name_byte x ≡ true → is_slash x ≡ false
+name_byte_no_slash x h = grind (arith, nat_tests)
+
+-- no slash stands before one that follows name bytes
+slash_follows : (name rest : List ℕ) → list_all is_name_byte name ≡ true
+    → position_or_len is_slash (name ++ 47 ∷ rest) ≡ length name
+slash_follows [] rest h = refl
+slash_follows (x ∷ name) rest h =
+    let parts = and_parts (is_name_byte x) (list_all is_name_byte name) h in
+    rw (name_byte_no_slash x parts.0) (grind (arith, slash_follows name rest parts.1))
+
+-- a slash follows a name at its length
+slash_at : (name rest : List ℕ) → is_name name ≡ true → position is_slash (name ++ 47 ∷ rest) ≡ Some (length name)
+slash_at name rest h =
+    let bytes = (and_parts (nat_le 1 (length name) && nat_le (length name) 30) (list_all is_name_byte name) h).1 in
+    grind (arith, common_steps, slash_follows name rest bytes)
+
+-- what stands before and from the first slash of a member's part of a path
+pub parts_at_slash : (rest name more : List ℕ) (k : ℕ) → position is_slash rest ≡ Some k → is_name name ≡ true
+    → rest ≡ name ++ 47 ∷ more → (take k rest ≡ name) × (drop k rest ≡ 47 ∷ more)
+parts_at_slash rest name more k at h e =
+    let found : position is_slash (name ++ 47 ∷ more) ≡ Some k = rw (← e) at in
+    let same : length name ≡ k = cc (slash_at name more h) in
+    rw (e, ← same) (take-append_seam name (47 ∷ more), drop-append_seam name (47 ∷ more))
+
+pub no_slash : (rest name more : List ℕ) → position is_slash rest ≡ None → is_name name ≡ true → rest ≢ name ++ 47 ∷ more
+no_slash rest name more none h e =
+    let found : position is_slash (name ++ 47 ∷ more) ≡ None = rw (← e) none in
+    cc (slash_at name more h)
+
+-- what a slice from an index to the end shows
+pub slice_to_end : (k : ℕ) (xs : List ℕ) → take (length xs - k) (drop k xs) ≡ drop k xs
+slice_to_end k xs = ap (λ (n : ℕ). take n (drop k xs)) (sym (length-drop k xs)) ∙ take-length (drop k xs)
+
+-- ---- names and numbers
+
+pub text_same : (bytes text : List ℕ) (u : Bool) → Some text ≡ (if u then Some bytes else None) → text ≡ bytes
+text_same bytes text true e = cc
+text_same bytes text false e = cc
+
+-- what is no text is no name
+pub name_is_text : (bytes : List ℕ) → is_name bytes ≡ true → is_utf8 bytes ≡ true
+name_is_text bytes h = is_utf8-from_IsUtf8 bytes (name_is_utf8 bytes h)
+
+pub no_name : (bytes : List ℕ) → None ≡ (if is_utf8 bytes then Some bytes else None) → is_name bytes ≡ true → ⊥
+no_name bytes e h = cc (rw (name_is_text bytes h) at e)
+
+number_is_text : (n : ℕ) → IsNumber n → is_utf8 (decimal n) ≡ true
+number_is_text n h = is_utf8-from_IsUtf8 (decimal n) (IsUtf8-from_ascii (decimal n) (IsAscii-decimal n (omega arith)))
+
+pub no_number : (bytes : List ℕ) (n : ℕ) → None ≡ (if is_utf8 bytes then Some bytes else None) → IsNumber n → bytes ≢ decimal n
+no_number bytes n e small same = cc (rw (same, number_is_text n small) at e)
+
+-- a number from 1 is written with no zero in front
+pub number_begins : (n : ℕ) → IsNumber n → 48 < get_or (decimal n) 0 0
+number_begins n h = first_decimal n (omega arith) (omega arith)
+
+own : IsNumeralModel (AllDigits 10) (digits_value 10)
+own = numerals_by_value (AllDigits 10) tells_digits
+
+written_above_zero : (bs : List ℕ) (m : ℕ) → decimal m ≡ bs → 48 < get_or bs 0 0 → 1 ≤ m
+written_above_zero bs zero e h = absurd (omega (arith, rw (← e, decimal_digit 0 (omega arith)) at h))
+written_above_zero bs (suc m) e h = omega arith
+
+-- a number that is read from digits with no zero in front is written by them
+pub number_written : (bs : List ℕ) (m : ℕ) → 48 < get_or bs 0 0 → ParsesUnsigned {E = ℕ} 32 10 bs (Ok m)
+    → IsNumber m × (bs ≡ decimal m)
+number_written bs m first h =
+    let read = parse_plain own {E = ℕ} 32 bs (Ok m) h (λ e. omega arith) in
+    let small : digits_value 10 bs < 2 ^ 64 = omega arith in
+    let written : decimal m ≡ bs =
+    ap decimal read.1 ∙ decimal-digits_value own bs read.0.0 read.0.1 (λ e. absurd (omega arith)) small in
+    ((written_above_zero bs m written first, omega arith), sym written)
+
+-- and a number that is not read is not written by them
+pub number_unwritten : {E : Type 0} (bs : List ℕ) (e : E) (n : ℕ) → ParsesUnsigned 32 10 bs (Err e) → IsNumber n → bs ≢ decimal n
+number_unwritten bs e n h small same = cc (parse-decimal 32 n bs (Err e) (omega arith) (omega arith) same h)
+
+-- ---- one path, one thing
+
+path_once : (path : List ℕ) (a b : Ask) → IsPathOf path a → IsPathOf path b → a ≡ b
+path_once path (Object name n) (Object other m) x y =
+    let same = append_cancel_left (codes "/users/") (name ++ object_part n) (other ++ object_part m) (sym x.2 ∙ y.2) in
+    let one = parts_at_slash (name ++ object_part n) other (codes "o/" ++ decimal m) (length name)
+    (slash_at name (codes "o/" ++ decimal n) x.0) y.0 same in
+    let numbers = append_cancel_left (codes "/o/") (decimal n) (decimal m)
+    (sym (drop-append_seam name (object_part n)) ∙ one.1) in
+    let number_is : n ≡ m = decimal_injective n m (omega arith) (omega arith) numbers in
+    let name_is : name ≡ other = sym (take-append_seam name (object_part n)) ∙ one.0 in
+    rw (name_is, number_is) refl
+path_once path Nowhere b x y = absurd x
+path_once path a Nowhere x y = absurd y
+
+pub asked_once : (path : List ℕ) → IsAskedOnce path
+asked_once path Nowhere Nowhere x y = refl
+asked_once path Nowhere (Object name n) x y = absurd (x (Object name n) y)
+asked_once path (Object name n) Nowhere x y = absurd (y (Object name n) x)
+asked_once path (Object name n) (Object other m) x y = path_once path (Object name n) (Object other m) x y

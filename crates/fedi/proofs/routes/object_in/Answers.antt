@@ -1,0 +1,26 @@
+use Rattle.std.proofs.Common.{sym, ◌∙◌, codes, ◌++◌}
+use Rattle.std.specs.Prelude.{decimal}
+use Rattle.fedi.proofs.RouteLemmas.{no_slash, parts_at_slash, slice_to_end}
+use Rattle.fedi.proofs.routes.object_in.Goals as goal
+
+pub returns-in_err-slash : goal.returns-in_err-slash
+returns-in_err-slash c =
+    rw c.from_residual.ensures
+    (λ name number is_name small same.
+    no_slash c.args.rest.now name (codes "o/" ++ decimal number) (sym c.in_err-slash.ensures) is_name same)
+
+pub returns-in_err-name : goal.returns-in_err-name
+returns-in_err-name c =
+    rw c.from_residual-in_err-name.ensures
+    (λ name number is_name small same.
+    let parts = parts_at_slash c.args.rest.now name (codes "o/" ++ decimal number) c.in_ok-slash.slash
+    (sym c.in_ok-slash.ensures) is_name same in
+    cc (c.in_err-name.ensures.name.1 (rw parts.0 is_name)))
+
+pub returns-in_err-number : goal.returns-in_err-number
+returns-in_err-number c =
+    rw c.from_residual-in_err-number.ensures
+    (λ name number is_name small same.
+    let parts = parts_at_slash c.args.rest.now name (codes "o/" ++ decimal number) c.in_ok-slash.slash
+    (sym c.in_ok-slash.ensures) is_name same in
+    c.in_err-number.ensures number small (slice_to_end c.in_ok-slash.slash c.args.rest.now ∙ parts.1))

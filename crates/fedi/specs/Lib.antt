@@ -1,0 +1,5 @@
+pub mod Heads
+pub mod Sending
+pub mod Conversations
+pub mod Commands
+pub mod Endings

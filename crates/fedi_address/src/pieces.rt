@@ -1,0 +1,50 @@
+//! Pieces of a text, cut at bytes of ASCII.
+
+ghost use Rattle.std.specs.Prelude.{◌≡◌, ◌<◌, ◌==◌};
+ghost use Rattle.std.specs.List.{before_first, after_first};
+ghost use Rattle.fedi_address.specs.Pieces.{from_first, after_any};
+
+/// What stands before the first mark, or all where there is none.
+pub fn before(text: &str, mark: char) -> &str
+    requires { mark < 128 }
+    ensures { result.now ≡ before_first (λ b. b == mark) text.now }
+{
+    match text.split_once(mark) {
+        Some((front, _)) => front,
+        None => text,
+    }
+}
+
+/// What stands after the first mark, or nothing where there is none.
+pub fn after(text: &str, mark: char) -> &str
+    requires { mark < 128 }
+    ensures { result.now ≡ after_first (λ b. b == mark) text.now }
+{
+    match text.split_once(mark) {
+        Some((_, back)) => back,
+        None => "",
+    }
+}
+
+/// What stands after the first mark, or all where there is none.
+#[tactic(auto, unfolding(crate::specs::Pieces::after_any))]
+pub fn after_any(text: &str, mark: char) -> &str
+    requires { mark < 128 }
+    ensures { result.now ≡ after_any (λ b. b == mark) text.now }
+{
+    match text.split_once(mark) {
+        Some((_, back)) => back,
+        None => text,
+    }
+}
+
+/// The first mark and what follows it, or nothing where there is none.
+pub fn from(text: &str, mark: char) -> &str
+    requires { mark < 128 }
+    ensures { result.now ≡ from_first (λ b. b == mark) text.now }
+{
+    match text.split_once(mark) {
+        Some((front, _)) => &text[front.len()..],
+        None => "",
+    }
+}

@@ -1,0 +1,456 @@
+//! The JSON in which objects are shown.
+
+ghost use Rattle.std.specs.Prelude.{◌≡◌, false, true, codes, map, IfOk, OnOk, ◌++◌};
+ghost use Rattle.std.specs.Option.{option_copied};
+ghost use Rattle.std.specs.String.{string_bytes};
+ghost use Rattle.serde_json.specs.Data.{string, put, object};
+ghost use Rattle.serde_json.specs.View.{view, members_view};
+ghost use Rattle.serde_json.specs.Written.{compact_text, has_float};
+ghost use Rattle.fedi_objects.specs.Forms.{with_text, with_list, with_context, with_collections, tag_form, with_audience, with_words, kind_members, with_id, with_links, live_members, tombstone_members, object_members, object_form, with_object, activity_kind_members, with_activity_links, activity_members, activity_form, is_clean};
+
+use crate::object::{Object, Tag};
+use crate::shown::{Shown, ShownObject};
+use crate::text::Text;
+use fedi_address::Iri;
+use serde_json::{Map, Value};
+use std::alloc::{AllocError, Global};
+
+/// The context of ActivityStreams (ActivityStreams 2.0 Core, section 2.1).
+const CONTEXT: &str = "https://www.w3.org/ns/activitystreams";
+
+/// The type of a mention.
+const MENTION: &str = "Mention";
+
+/// The type of what is left of a deleted object.
+const TOMBSTONE: &str = "Tombstone";
+
+fn put_str(
+    members: &mut Map<String, Value>,
+    alloc: Global,
+    key: &str,
+    text: &str,
+) -> Result<(), AllocError>
+    ensures { OnOk result (members_view members.new.entries
+        ≡ put key.now (string text.now) (members_view members.old.entries)) }
+{
+    serde_json::put(members, alloc, key, Value::try_from_str(alloc, text)?)
+}
+
+#[tactic(auto, unfolding(crate::specs::Forms::with_text))]
+fn put_text(
+    members: &mut Map<String, Value>,
+    alloc: Global,
+    key: &str,
+    text: Option<&Text>,
+) -> Result<(), AllocError>
+    ensures { OnOk result (members_view members.new.entries
+        ≡ with_text key.now (option_copied text.entry) (members_view members.old.entries)) }
+{
+    match text {
+        None => Ok(()),
+        Some(text) => put_str(members, alloc, key, text.text()),
+    }
+}
+
+#[tactic(auto, unfolding(crate::specs::Forms::with_text))]
+fn put_iri(
+    members: &mut Map<String, Value>,
+    alloc: Global,
+    key: &str,
+    iri: Option<&Iri>,
+) -> Result<(), AllocError>
+    ensures { OnOk result (members_view members.new.entries
+        ≡ with_text key.now (option_copied iri.entry) (members_view members.old.entries)) }
+{
+    match iri {
+        None => Ok(()),
+        Some(iri) => put_str(members, alloc, key, iri.text()),
+    }
+}
+
+#[tactic(auto, unfolding(crate::specs::Forms::with_list))]
+fn put_list(
+    members: &mut Map<String, Value>,
+    alloc: Global,
+    key: &str,
+    values: Vec<Value>,
+) -> Result<(), AllocError>
+    ensures { OnOk result (members_view members.new.entries
+        ≡ with_list key.now (map view values.items) (members_view members.old.entries)) }
+{
+    if values.is_empty() {
+        return Ok(());
+    }
+    serde_json::put(members, alloc, key, Value::Array(values))
+}
+
+fn iri_values(alloc: Global, iris: &[Iri]) -> Result<Vec<Value>, AllocError>
+    ensures { IfOk result (λ values. map view values.items ≡ map string iris.now) }
+{
+    let mut values = Vec::new(alloc);
+    for iri in iris {
+        values.push(Value::try_from_str(alloc, iri.text())?)?;
+    }
+    Ok(values)
+}
+
+fn put_iris(
+    members: &mut Map<String, Value>,
+    alloc: Global,
+    key: &str,
+    iris: &[Iri],
+) -> Result<(), AllocError>
+    ensures { OnOk result (members_view members.new.entries
+        ≡ with_list key.now (map string iris.now) (members_view members.old.entries)) }
+{
+    let values = iri_values(alloc, iris)?;
+    put_list(members, alloc, key, values)
+}
+
+#[tactic(auto, unfolding(crate::specs::Forms::tag_form))]
+fn tag_value(alloc: Global, tag: &Tag) -> Result<Value, AllocError>
+    ensures { IfOk result (λ value. view value ≡ tag_form tag.now) }
+{
+    let mut members = Map::new(alloc);
+    put_str(&mut members, alloc, "type", MENTION)?;
+    put_str(&mut members, alloc, "name", tag.name.text())?;
+    put_str(&mut members, alloc, "href", tag.href.text())?;
+    Ok(Value::Object(members))
+}
+
+fn tag_values(alloc: Global, tags: &[Tag]) -> Result<Vec<Value>, AllocError>
+    ensures { IfOk result (λ values. map view values.items ≡ map tag_form tags.now) }
+{
+    let mut values = Vec::new(alloc);
+    for tag in tags {
+        values.push(tag_value(alloc, tag)?)?;
+    }
+    Ok(values)
+}
+
+fn put_tags(members: &mut Map<String, Value>, alloc: Global, tags: &[Tag]) -> Result<(), AllocError>
+    ensures { OnOk result (members_view members.new.entries
+        ≡ with_list (codes "tag") (map tag_form tags.now) (members_view members.old.entries)) }
+{
+    let values = tag_values(alloc, tags)?;
+    put_list(members, alloc, "tag", values)
+}
+
+#[tactic(auto, unfolding(crate::specs::Forms::with_context))]
+fn put_context(
+    members: &mut Map<String, Value>,
+    alloc: Global,
+    context: bool,
+) -> Result<(), AllocError>
+    ensures { OnOk result (members_view members.new.entries
+        ≡ with_context context (members_view members.old.entries)) }
+{
+    if !context {
+        return Ok(());
+    }
+    put_str(members, alloc, "@context", CONTEXT)
+}
+
+/// One text after the other.
+fn joined(alloc: Global, front: &str, back: &str) -> Result<String, AllocError>
+    ensures { IfOk result (λ text. string_bytes text ≡ front.now ++ back.now) }
+{
+    let mut text = String::from_str(alloc, front)?;
+    text.push_str(back)?;
+    Ok(text)
+}
+
+#[tactic(auto, unfolding(crate::specs::Forms::with_collections))]
+fn put_collections(
+    members: &mut Map<String, Value>,
+    alloc: Global,
+    local: bool,
+    id: Option<&Iri>,
+) -> Result<(), AllocError>
+    ensures { OnOk result (members_view members.new.entries
+        ≡ with_collections local (option_copied id.entry) (members_view members.old.entries)) }
+{
+    if !local {
+        return Ok(());
+    }
+    match id {
+        None => Ok(()),
+        Some(id) => {
+            let shares = joined(alloc, id.text(), "/shares")?;
+            serde_json::put(members, alloc, "shares", Value::String(shares))?;
+            let likes = joined(alloc, id.text(), "/likes")?;
+            serde_json::put(members, alloc, "likes", Value::String(likes))
+        }
+    }
+}
+
+#[tactic(auto, unfolding(crate::specs::Forms::with_audience))]
+fn put_audience(
+    members: &mut Map<String, Value>,
+    alloc: Global,
+    to: &[Iri],
+    cc: &[Iri],
+    audience: &[Iri],
+) -> Result<(), AllocError>
+    ensures { OnOk result (members_view members.new.entries
+        ≡ with_audience to.now cc.now audience.now (members_view members.old.entries)) }
+{
+    put_iris(members, alloc, "to", to)?;
+    put_iris(members, alloc, "cc", cc)?;
+    put_iris(members, alloc, "audience", audience)
+}
+
+#[tactic(auto, unfolding(crate::specs::Forms::with_words))]
+fn put_words(
+    members: &mut Map<String, Value>,
+    alloc: Global,
+    content: Option<&Text>,
+    summary: Option<&Text>,
+    name: Option<&Text>,
+    tags: &[Tag],
+) -> Result<(), AllocError>
+    ensures { OnOk result (members_view members.new.entries
+        ≡ with_words (option_copied content.entry) (option_copied summary.entry)
+        (option_copied name.entry) tags.now (members_view members.old.entries)) }
+{
+    put_tags(members, alloc, tags)?;
+    put_text(members, alloc, "summary", summary)?;
+    put_text(members, alloc, "name", name)?;
+    put_text(members, alloc, "content", content)
+}
+
+/// The members that say an object's type and times.
+#[tactic(auto, unfolding(crate::specs::Forms::kind_members))]
+fn kind_members(alloc: Global, object: &Object) -> Result<Map<String, Value>, AllocError>
+    ensures { IfOk result (λ members. members_view members.entries ≡ kind_members object.now) }
+{
+    let mut members = Map::new(alloc);
+    put_text(&mut members, alloc, "updated", object.updated.as_ref())?;
+    put_str(&mut members, alloc, "type", object.kind.text())?;
+    put_text(&mut members, alloc, "published", object.published.as_ref())?;
+    Ok(members)
+}
+
+#[tactic(auto, unfolding(crate::specs::Forms::with_id))]
+fn put_id(
+    members: &mut Map<String, Value>,
+    alloc: Global,
+    local: bool,
+    id: Option<&Iri>,
+) -> Result<(), AllocError>
+    ensures { OnOk result (members_view members.new.entries
+        ≡ with_id local (option_copied id.entry) (members_view members.old.entries)) }
+{
+    put_collections(members, alloc, local, id)?;
+    put_iri(members, alloc, "id", id)
+}
+
+#[tactic(auto, unfolding(crate::specs::Forms::with_links))]
+fn put_links(
+    members: &mut Map<String, Value>,
+    alloc: Global,
+    object: &Object,
+) -> Result<(), AllocError>
+    ensures { OnOk result (members_view members.new.entries
+        ≡ with_links object.now (members_view members.old.entries)) }
+{
+    put_iri(members, alloc, "url", object.url.as_ref())?;
+    put_iri(members, alloc, "inReplyTo", object.in_reply_to.as_ref())?;
+    put_iri(
+        members,
+        alloc,
+        "attributedTo",
+        object.attributed_to.as_ref(),
+    )
+}
+
+/// The members of an object as it stands.
+fn live_members(
+    alloc: Global,
+    object: &Object,
+    local: bool,
+) -> Result<Map<String, Value>, AllocError>
+    ensures { IfOk result
+        (λ members. members_view members.entries ≡ live_members local object.now) }
+{
+    let mut members = kind_members(alloc, object)?;
+    put_words(
+        &mut members,
+        alloc,
+        object.content.as_ref(),
+        object.summary.as_ref(),
+        object.name.as_ref(),
+        object.tags.as_slice(),
+    )?;
+    let recipients = &object.recipients;
+    put_audience(
+        &mut members,
+        alloc,
+        recipients.to.as_slice(),
+        recipients.cc.as_slice(),
+        recipients.audience.as_slice(),
+    )?;
+    put_id(&mut members, alloc, local, object.id.as_ref())?;
+    put_links(&mut members, alloc, object)?;
+    Ok(members)
+}
+
+/// The members of what is left of a deleted object.
+#[tactic(auto, unfolding(crate::specs::Forms::tombstone_members))]
+fn tombstone_members(alloc: Global, object: &Object) -> Result<Map<String, Value>, AllocError>
+    ensures { IfOk result
+        (λ members. members_view members.entries ≡ tombstone_members object.now) }
+{
+    let mut members = Map::new(alloc);
+    put_str(&mut members, alloc, "type", object.kind.text())?;
+    put_iri(&mut members, alloc, "id", object.id.as_ref())?;
+    put_text(
+        &mut members,
+        alloc,
+        "formerType",
+        object.former_kind.as_ref(),
+    )?;
+    put_text(&mut members, alloc, "deleted", object.deleted.as_ref())?;
+    Ok(members)
+}
+
+fn object_members(
+    alloc: Global,
+    object: &Object,
+    local: bool,
+) -> Result<Map<String, Value>, AllocError>
+    ensures { IfOk result
+        (λ members. members_view members.entries ≡ object_members local object.now) }
+{
+    if object.kind.text() == TOMBSTONE {
+        tombstone_members(alloc, object)
+    } else {
+        live_members(alloc, object, local)
+    }
+}
+
+#[tactic(auto, unfolding(crate::specs::Forms::object_form))]
+fn built_object(
+    alloc: Global,
+    object: &Object,
+    local: bool,
+    context: bool,
+) -> Result<Value, AllocError>
+    ensures { IfOk result (λ value. view value ≡ object_form local context object.now) }
+{
+    let mut members = object_members(alloc, object, local)?;
+    put_context(&mut members, alloc, context)?;
+    Ok(Value::Object(members))
+}
+
+/// An object as everybody who may see it sees it (ActivityStreams 2.0 Core, sections 2 to 4): never with `bto` and
+/// `bcc` (ActivityPub, section 6). `likes` and `shares` stand on a local object that has an id, and `@context` where
+/// it is a document of its own. What is left of a deleted object, of the type `Tombstone`, has its id, its types and
+/// the time of the deletion alone. The error is want of memory.
+pub fn object_value(
+    alloc: Global,
+    object: &Object,
+    local: bool,
+    context: bool,
+) -> Result<Value, AllocError>
+    ensures form { IfOk result (λ value. view value ≡ object_form local context object.now) }
+    ensures clean { IfOk result (λ value. is_clean (view value) ≡ true) }
+    ensures whole { IfOk result (λ value. has_float (view value) ≡ false) }
+{
+    let value = built_object(alloc, object, local, context)?;
+    Ok(value)
+}
+
+#[tactic(auto, unfolding(crate::specs::Forms::with_object))]
+fn put_object(
+    members: &mut Map<String, Value>,
+    alloc: Global,
+    local: bool,
+    object: ShownObject,
+) -> Result<(), AllocError>
+    ensures { OnOk result (members_view members.new.entries
+        ≡ with_object local object.entry (members_view members.old.entries)) }
+{
+    match object {
+        ShownObject::Nothing => Ok(()),
+        ShownObject::Id(id) => put_str(members, alloc, "object", id.text()),
+        ShownObject::Present(object) => {
+            let value = object_value(alloc, object, local, false)?;
+            serde_json::put(members, alloc, "object", value)
+        }
+    }
+}
+
+/// The members that say an activity's type and time.
+#[tactic(auto, unfolding(crate::specs::Forms::activity_kind_members))]
+fn activity_kind_members(alloc: Global, shown: &Shown) -> Result<Map<String, Value>, AllocError>
+    ensures { IfOk result
+        (λ members. members_view members.entries ≡ activity_kind_members shown.now) }
+{
+    let mut members = Map::new(alloc);
+    put_str(&mut members, alloc, "type", shown.kind.name())?;
+    put_text(&mut members, alloc, "published", shown.published)?;
+    Ok(members)
+}
+
+#[tactic(auto, unfolding(crate::specs::Forms::with_activity_links))]
+fn put_activity_links(
+    members: &mut Map<String, Value>,
+    alloc: Global,
+    shown: &Shown,
+) -> Result<(), AllocError>
+    ensures { OnOk result (members_view members.new.entries
+        ≡ with_activity_links shown.now (members_view members.old.entries)) }
+{
+    put_iri(members, alloc, "target", shown.target)?;
+    put_iri(members, alloc, "inReplyTo", shown.in_reply_to)?;
+    put_str(members, alloc, "id", shown.id.text())?;
+    put_str(members, alloc, "actor", shown.author.text())
+}
+
+fn activity_members(alloc: Global, shown: &Shown) -> Result<Map<String, Value>, AllocError>
+    ensures { IfOk result (λ members. members_view members.entries ≡ activity_members shown.now) }
+{
+    let mut members = activity_kind_members(alloc, shown)?;
+    put_words(
+        &mut members,
+        alloc,
+        shown.content,
+        shown.summary,
+        shown.name,
+        shown.tags,
+    )?;
+    put_audience(&mut members, alloc, shown.to, shown.cc, shown.audience)?;
+    put_object(&mut members, alloc, shown.local, shown.object)?;
+    put_activity_links(&mut members, alloc, shown)?;
+    Ok(members)
+}
+
+#[tactic(auto, unfolding(crate::specs::Forms::activity_form))]
+fn built_activity(alloc: Global, shown: &Shown, context: bool) -> Result<Value, AllocError>
+    ensures { IfOk result (λ value. view value ≡ activity_form context shown.now) }
+{
+    let mut members = activity_members(alloc, shown)?;
+    put_context(&mut members, alloc, context)?;
+    Ok(Value::Object(members))
+}
+
+/// An activity as everybody who may see it sees it (ActivityStreams 2.0 Core, section 4.2): never with `bto` and `bcc`
+/// (ActivityPub, section 6). `object` is an address, or the object as it stands, and `@context` stands where the
+/// activity is a document of its own. The error is want of memory.
+pub fn public_value(alloc: Global, shown: &Shown, context: bool) -> Result<Value, AllocError>
+    ensures form { IfOk result (λ value. view value ≡ activity_form context shown.now) }
+    ensures clean { IfOk result (λ value. is_clean (view value) ≡ true) }
+    ensures whole { IfOk result (λ value. has_float (view value) ≡ false) }
+{
+    let value = built_activity(alloc, shown, context)?;
+    Ok(value)
+}
+
+/// The bytes of a value as JSON, with no space. The error is want of memory.
+pub fn public_text(alloc: Global, value: &Value) -> Result<Vec<u8>, AllocError>
+    requires { has_float (view value.now) ≡ false }
+    ensures { IfOk result (λ bytes. bytes.items ≡ compact_text (view value.now)) }
+{
+    value.to_vec(alloc)
+}
