@@ -214,7 +214,7 @@ is_head limit xs at start low inside none here holds =
           ∙ ap Some (text-is xs (at + 1) start here (omega arith));
     }
 
-slice_range-append : (xs ys : List ℕ) (start end : ℕ) → start < end → end ≤ length xs → slice_range (xs ++ ys) start end ≡ slice_range xs start end
+pub slice_range-append : (xs ys : List ℕ) (start end : ℕ) → start < end → end ≤ length xs → slice_range (xs ++ ys) start end ≡ slice_range xs start end
 slice_range-append xs ys start end low high =
     ap (take (end - start)) (drop-append-le start xs ys (omega arith)) ∙ take-append-le (end - start) (drop start xs) ys (omega (arith, length-drop start xs))
 

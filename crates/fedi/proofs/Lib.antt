@@ -2,3 +2,4 @@ pub mod RequestLemmas
 pub mod RouteLemmas
 pub mod HeadLemmas
 pub mod StreamLemmas
+pub mod SessionLemmas

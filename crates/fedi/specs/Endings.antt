@@ -1,5 +1,5 @@
 -- How a session and a run may end, each with what has then happened.
-use Rattle.std.specs.Prelude.{◌≡◌, ℕ, ◌<◌, Bool, ◌==◌, List, [], ◌∷◌, length, take, Option}
+use Rattle.std.specs.Prelude.{◌≡◌, ◌⊎◌, ℕ, ◌<◌, Bool, ◌==◌, List, [], ◌∷◌, length, take, Option}
 use Rattle.std.specs.List.{list_any}
 use Rattle.std.specs.Io.KnownBytes.{Keeps, Appends}
 use Rattle.fedi_objects.specs.declared.entry.Entry.{Entry}
@@ -41,3 +41,17 @@ status_of CutShort = 8
 status_of ReadFault = 6
 status_of WriteFault = 7
 status_of Memory = 12
+
+-- a text was printed: all of it at status 0, and a front of it at 7; `fault` stands for the cause of a failed write
+abbrev pub Prints : Type 0 → Option (List ℕ) → Option (List ℕ) → List ℕ → ℕ → Type 0
+Prints fault before after text status =
+    ((status ≡ 0) × Appends before after text) ⊎ ((status ≡ 7) × fault × AppendsFront before after text)
+
+-- a session ended with this status, or none began
+abbrev pub EndsWith : List Entry → Type 0 → Type 0 → Option ℕ → Option (List ℕ) → Option (List ℕ) → Option (List ℕ) → ℕ → Type 0
+EndsWith history read write told input before after status =
+    (ending : SessionEnd) × (status ≡ status_of ending) × Ends history read write told input before after ending
+
+-- a text was printed, or a front of it where a write failed
+abbrev pub PrintsUnlessFailed : Type 0 → Option (List ℕ) → Option (List ℕ) → List ℕ → Type 0
+PrintsUnlessFailed fault before after text = Appends before after text ⊎ (fault × AppendsFront before after text)

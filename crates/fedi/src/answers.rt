@@ -15,6 +15,7 @@ use fedi_model::{Reply, Request};
 use std::alloc::{AllocError, Global};
 
 /// The answer to a request at the machine's history. The error is want of memory.
+#[tactic(auto, using(fedi_model::proofs::Statuses::reply_has_status, fedi_model::proofs::Statuses::refused_has_status))]
 fn answer(alloc: Global, core: &Core, request: &Request) -> Result<Reply, AllocError>
     ensures exact { IfOk result (λ r. Answers (town core.now) request.now r) }
     ensures private { IfOk result (λ r. IsPrivateAnswer core.now request.now r) }
@@ -28,6 +29,7 @@ fn answer(alloc: Global, core: &Core, request: &Request) -> Result<Reply, AllocE
 
 /// The reply to the text of a head, by the machine's history and by each that agrees with it on
 /// what the caller may know. The error is want of memory.
+#[tactic(auto, using(crate::proofs::SessionLemmas::request_replies, crate::proofs::SessionLemmas::refusal_replies, fedi_model::proofs::Statuses::refused_has_status))]
 pub fn answer_text(alloc: Global, core: &Core, text: &[u8]) -> Result<Reply, AllocError>
     ensures reply { IfOk result (λ r. IsReply core.now text.now r) }
     ensures status { IfOk result (λ r. HasStatus r) }

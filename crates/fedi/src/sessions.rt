@@ -37,6 +37,7 @@ pub enum SessionEnd {
 }
 
 /// Tells the other side that memory was wanted.
+#[tactic(auto, using(crate::proofs::SessionLemmas::sends_front))]
 fn give_up<O: Sink>(out: &mut O)
     ensures sent { AppendsFront (O.sent out.old) (O.sent out.new) memory_text }
     ensures later { O.write_faults out.old ≤ O.write_faults out.new }

@@ -1,3 +1,4 @@
 pub mod Finding
 pub mod MadeOnce
 pub mod Privacy
+pub mod Statuses
