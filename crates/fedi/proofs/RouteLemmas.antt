@@ -1,5 +1,5 @@
 -- The parts of a path, and that a path is that of one thing at most.
-use Rattle.std.proofs.Common.{◌≡◌, ◌≢◌, ℕ, ◌+◌, ◌-◌, ◌<◌, ◌≤◌, ◌^◌, length-drop, List, [], ◌∷◌, ◌++◌, length, take, drop, get_or, IsTrue, true, false, Bool, if◌then◌else◌, zero, suc, Option, Some, None, Result, Ok, Err, refl, sym, ◌∙◌, ap, arith, nat_lt, nat_le}
+use Rattle.std.proofs.Common.{◌≡◌, ◌≢◌, ℕ, ◌-◌, ◌<◌, ◌≤◌, ◌^◌, length-drop, List, [], ◌∷◌, ◌++◌, length, take, drop, get_or, true, false, Bool, if◌then◌else◌, zero, suc, Some, None, Ok, Err, refl, sym, ◌∙◌, ap, arith, nat_le}
 use Rattle.std.specs.Prelude.{codes, decimal, position, ◌==◌, ◌&&◌, not}
 use Rattle.std.proofs.lemmas.List.{append_cancel_left}
 use Rattle.std.proofs.Math.Seq.{take-append_seam, drop-append_seam, take-length}
@@ -8,9 +8,9 @@ use Rattle.std.proofs.lemmas.Grind.{common_steps}
 use Rattle.std.proofs.lemmas.Fmt.{decimal_injective, first_decimal, decimal_digit, decimal-digits_value, parse-decimal, IsAscii-decimal}
 use Rattle.std.proofs.lemmas.Str.{is_utf8-from_IsUtf8, IsUtf8-from_ascii}
 use Rattle.std.proofs.lemmas.Str.Parse.{IsNumeralModel, numerals_by_value, tells_digits, parse_plain}
-use Rattle.std.proofs.lemmas.Bool.{and_parts, ltb-true, lt-ltb, le-ltb, eqb-true}
+use Rattle.std.proofs.lemmas.Bool.{and_parts}
 use Rattle.std.proofs.lemmas.Bool.Decides.{nat_tests}
-use Rattle.std.specs.List.{list_all, position_or_len, before_first, prefix_len}
+use Rattle.std.specs.List.{list_all, position_or_len, before_first}
 use Rattle.std.specs.Str.{is_utf8}
 use Rattle.std.specs.Str.Parse.{ParsesUnsigned, AllDigits, digits_value}
 use Rattle.fedi_address.proofs.Texts.{name_is_utf8}
@@ -18,7 +18,7 @@ use Rattle.fedi_address.specs.Names.{is_name, is_name_byte}
 use Rattle.fedi_model.specs.declared.ask.Ask.{Ask}
 use Rattle.fedi_model.specs.declared.ask.Ask.TheVariants.{Nowhere, Object}
 use Rattle.fedi_model.specs.Ids.{object_path}
-use Rattle.fedi_model.specs.Routes.{IsNumber, object_part, IsPathOf, Asks, IsAskedOnce}
+use Rattle.fedi_model.specs.Routes.{IsNumber, object_part, IsPathOf, IsAskedOnce}
 
 abbrev pub is_slash : ℕ → Bool
 is_slash b = b == 47

@@ -11,7 +11,10 @@ use hex::FromHex;
 const SCHEME: &[u8] = b"bearer ";
 
 /// What the request shows of who makes it, by the fields `Authorization`, `Peer-Host` and
-/// `Peer-Mac`. Where `Authorization` stands it alone counts. It takes no memory.
+/// `Peer-Mac`. Where `Authorization` stands it alone counts: the key is there exactly where the value
+/// is `Bearer`, in any case, one space and 64 hexadecimal digits (RFC 6750, section 2.1). A code is
+/// there exactly where both other fields stand, the host is UTF-8 and the code has 64 hexadecimal
+/// digits, none in upper case. It takes no memory.
 pub fn credentials(request: &Request) -> Credentials<'_>
     ensures { model.shown_by result ≡ model.credentials_of request.now }
 {
@@ -81,7 +84,8 @@ fn code_of(text: &[u8]) -> Option<[u8; 32]>
 
 /// The request as this host signed it by this code.
 fn signed<'a>(request: &'a Request, host: &'a [u8], code: &[u8]) -> Option<Signed<'a>>
-    ensures { option_map model.signature_in result ≡ model.signature_of request.now (Some host.now) (Some code.now) }
+    ensures { option_map model.signature_in result
+        ≡ model.signature_of request.now (Some host.now) (Some code.now) }
 {
     let host = text_of(host)?;
     let mac = code_of(code)?;

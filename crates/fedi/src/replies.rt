@@ -30,8 +30,10 @@ pub fn memory_text() -> &'static [u8]
     MEMORY_TEXT
 }
 
-/// The text of the reply: the head alone where `head_only`, and with `Connection: close` where
-/// `closing`.
+/// The text of the reply at this moment (RFC 9112, section 4): the status line, the fields `Date`,
+/// `Location`, `Allow`, `WWW-Authenticate`, `Access-Control-Allow-Origin`, `Content-Type`,
+/// `Content-Length` and `Connection`, each where it applies, an empty line, and the body unless
+/// `head_only`. The connection is told to close where `closing`. The status has three digits.
 pub fn reply_bytes(
     alloc: Global,
     reply: &Reply,
@@ -236,7 +238,8 @@ fn connection_line(closing: bool) -> &'static [u8]
 
 /// Puts the empty line and the body at the end.
 fn push_end(text: &mut Vec<u8>, body: &[u8], head_only: bool) -> Result<(), AllocError>
-    ensures { OnOk result (text.new.items ≡ text.old.items ++ (codes "\r\n" ++ model.body_text head_only body.now)) }
+    ensures { OnOk result (text.new.items
+        ≡ text.old.items ++ (codes "\r\n" ++ model.body_text head_only body.now)) }
 {
     text.extend_from_slice(END)?;
     if head_only {

@@ -26,7 +26,8 @@ pub const MOST_FIELDS: usize = 64;
 #[tactic(auto, using(crate::proofs::RequestLemmas::reads_once))]
 pub fn read_request_head(alloc: Global, text: &[u8]) -> Result<Request, Refusal>
     ensures ok { IfOk result (λ request. model.ReadsAs MOST_FIELDS text.now (Ok request)) }
-    ensures refused { IfErr result (λ e. e ≢ Refusal.Memory → model.ReadsAs MOST_FIELDS text.now (Err e)) }
+    ensures refused { IfErr result (λ e.
+        e ≢ Refusal.Memory → model.ReadsAs MOST_FIELDS text.now (Err e)) }
     ensures once { model.IsReadOnce MOST_FIELDS text.now }
 {
     let mut spans = [EMPTY_HEADER_SPAN; MOST_FIELDS];
@@ -49,8 +50,10 @@ pub fn read_request_head(alloc: Global, text: &[u8]) -> Result<Request, Refusal>
 /// The places of the parts of the head, where the text is one whole head whose fields have room.
 fn whole_head(text: &[u8], spans: &mut [HeaderSpan]) -> Option<RequestSpans>
     ensures within { IfSome result (IsRequestWithin text.now spans.new) }
-    ensures head { IfSome result (λ head. (h : RequestHead) × model.IsHead (length spans.old) text.now h × IsRequestAt text.now spans.new head h) }
-    ensures found { (h : RequestHead) → model.IsHead (length spans.old) text.now h → IfSome result (λ head. IsRequestAt text.now spans.new head h) }
+    ensures head { IfSome result (λ head. (h : RequestHead)
+        × model.IsHead (length spans.old) text.now h × IsRequestAt text.now spans.new head h) }
+    ensures found { (h : RequestHead) → model.IsHead (length spans.old) text.now h
+        → IfSome result (λ head. IsRequestAt text.now spans.new head h) }
     ensures some { (h : RequestHead) → model.IsHead (length spans.old) text.now h → IsSome result }
 {
     match parse_request(text, spans) {
@@ -61,7 +64,9 @@ fn whole_head(text: &[u8], spans: &mut [HeaderSpan]) -> Option<RequestSpans>
 
 /// The method of this name, where it is served.
 fn served_method(name: &[u8]) -> Option<Method>
-    ensures { MatchOption result (model.is_served_method name.now ≡ false) (λ method. (model.is_served_method name.now ≡ true) × (method ≡ name.now)) }
+    ensures { MatchOption result
+        (model.is_served_method name.now ≡ false)
+        (λ method. (model.is_served_method name.now ≡ true) × (method ≡ name.now)) }
 {
     if name == b"GET".as_slice() {
         return Some(Method::GET);
@@ -74,7 +79,9 @@ fn is_served(text: &[u8], head: RequestSpans, fields: &[HeaderSpan]) -> bool
     requires within { All (IsHeaderWithin (length text.now)) fields.now }
     requires ordered { head.path.start ≤ head.path.end }
     requires in_range { head.path.end ≤ length text.now }
-    ensures { result ≡ (model.is_served_version head.version && model.is_served_target (span_bytes text.now head.path) && model.has_served_fields (model.fields_at text.now fields.now)) }
+    ensures { result ≡ (model.is_served_version head.version
+        && model.is_served_target (span_bytes text.now head.path)
+        && model.has_served_fields (model.fields_at text.now fields.now)) }
 {
     head.version == 1 && head.path.of(text).starts_with(b"/") && has_served_fields(text, fields)
 }
@@ -167,7 +174,8 @@ fn request_at(
     requires within { All (IsHeaderWithin (length text.now)) fields.now }
     requires ordered { target.start ≤ target.end }
     requires in_range { target.end ≤ length text.now }
-    ensures { IfOk result (λ request. request ≡ model.request_with method (span_bytes text.now target) (model.fields_at text.now fields.now)) }
+    ensures { IfOk result (λ request. request ≡
+        model.request_with method (span_bytes text.now target) (model.fields_at text.now fields.now)) }
 {
     let target = bytes_at(alloc, text, target)?;
     let fields = fields_at(alloc, text, fields)?;

@@ -9,8 +9,9 @@ use crate::requests::text_of;
 use fedi_address::LocalName;
 use fedi_model::{Ask, Request};
 
-/// What the request asks for, by its path. Paths are compared byte for byte and never decoded. It
-/// takes no memory.
+/// What the request asks for, by its path: `Ask::Nowhere` exactly where the path is that of nothing.
+/// The path is the target up to its first question mark (RFC 3986, section 3.3). Paths are compared
+/// byte for byte and never decoded. It takes no memory.
 #[tactic(auto, using(crate::proofs::RouteLemmas::asked_once))]
 pub fn route(request: &Request) -> Ask
     ensures asks { model.Asks (model.path_of request.now.target) result }
@@ -34,14 +35,22 @@ fn path_of(target: &[u8]) -> &[u8]
 
 /// The member and the number whose object has this path.
 fn object_of(path: &[u8]) -> Option<(LocalName, u32)>
-    ensures { MatchOption result ((name : List ℕ) (number : ℕ) → IsTrue (is_name name) → model.IsNumber number → path.now ≢ object_path name number) (λ found. IsTrue (is_name found.0) × model.IsNumber found.1 × (path.now ≡ object_path found.0 found.1)) }
+    ensures { MatchOption result
+        ((name : List ℕ) (number : ℕ) → IsTrue (is_name name) → model.IsNumber number
+        → path.now ≢ object_path name number)
+        (λ found. IsTrue (is_name found.0) × model.IsNumber found.1
+        × (path.now ≡ object_path found.0 found.1)) }
 {
     object_in(after(path, b"/users/")?)
 }
 
 /// The member and the number in what follows `/users/`.
 fn object_in(rest: &[u8]) -> Option<(LocalName, u32)>
-    ensures { MatchOption result ((name : List ℕ) (number : ℕ) → IsTrue (is_name name) → model.IsNumber number → rest.now ≢ name ++ model.object_part number) (λ found. IsTrue (is_name found.0) × model.IsNumber found.1 × (rest.now ≡ found.0 ++ model.object_part found.1)) }
+    ensures { MatchOption result
+        ((name : List ℕ) (number : ℕ) → IsTrue (is_name name) → model.IsNumber number
+        → rest.now ≢ name ++ model.object_part number)
+        (λ found. IsTrue (is_name found.0) × model.IsNumber found.1
+        × (rest.now ≡ found.0 ++ model.object_part found.1)) }
 {
     let slash = first(rest, b'/')?;
     let name = name_of(&rest[..slash])?;
@@ -66,14 +75,18 @@ fn name_of(bytes: &[u8]) -> Option<LocalName>
 
 /// The number in what follows a member's name.
 fn number_in(rest: &[u8]) -> Option<u32>
-    ensures { MatchOption result ((number : ℕ) → model.IsNumber number → rest.now ≢ model.object_part number) (λ number. model.IsNumber number × (rest.now ≡ model.object_part number)) }
+    ensures { MatchOption result
+        ((number : ℕ) → model.IsNumber number → rest.now ≢ model.object_part number)
+        (λ number. model.IsNumber number × (rest.now ≡ model.object_part number)) }
 {
     number_of(after(rest, b"/o/")?)
 }
 
 /// The number, from 1, that these digits write without a zero in front.
 fn number_of(digits: &[u8]) -> Option<u32>
-    ensures { MatchOption result ((number : ℕ) → model.IsNumber number → digits.now ≢ decimal number) (λ number. model.IsNumber number × (digits.now ≡ decimal number)) }
+    ensures { MatchOption result
+        ((number : ℕ) → model.IsNumber number → digits.now ≢ decimal number)
+        (λ number. model.IsNumber number × (digits.now ≡ decimal number)) }
 {
     if !begins_above_zero(digits) {
         return None;
@@ -99,7 +112,9 @@ fn begins_above_zero(digits: &[u8]) -> bool
 
 /// What follows these bytes at the front.
 fn after<'a>(text: &'a [u8], front: &[u8]) -> Option<&'a [u8]>
-    ensures { MatchOption result ((rest : List ℕ) → text.now ≢ front.now ++ rest) (λ rest. text.now ≡ front.now ++ rest.now) }
+    ensures { MatchOption result
+        ((rest : List ℕ) → text.now ≢ front.now ++ rest)
+        (λ rest. text.now ≡ front.now ++ rest.now) }
 {
     text.strip_prefix(front)
 }

@@ -68,6 +68,7 @@ credentials_by q None None None = Nothing
 credentials_by q None None (Some code) = Mac (signature_of q None (Some code))
 credentials_by q None (Some host) code = Mac (signature_of q (Some host) code)
 
+-- what a request shows of who makes it
 abbrev pub credentials_of : Request → Shows
 credentials_of q =
     credentials_by q

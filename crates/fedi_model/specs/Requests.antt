@@ -1,5 +1,5 @@
 -- What the head of a request asks, and which requests are served (RFC 9112, sections 2 to 5; RFC 9110, sections 5 and 7.2).
-use Rattle.std.specs.Prelude.{◌≡◌, ℕ, ◌≤◌, Bool, false, ◌&&◌, ◌==◌, nat_eq, nat_le, List, [], ◌∷◌, length, map, count_by, codes, bytes_eq, IsTrue, Result, Ok, Err}
+use Rattle.std.specs.Prelude.{◌≡◌, ℕ, ◌≤◌, Bool, false, ◌&&◌, ◌==◌, nat_eq, nat_le, List, [], length, map, count_by, codes, bytes_eq, IsTrue, Result, Ok, Err}
 use Rattle.std.specs.List.{starts_with}
 use Rattle.std.specs.Char.{to_ascii_lowercase}
 use Rattle.httparse.specs.Grammar.{RequestHead, ReadsRequest}
@@ -42,12 +42,15 @@ is_named name field = bytes_eq (map to_ascii_lowercase field.name) (map to_ascii
 unfoldable pub count_named : List ℕ → List Field → ℕ
 count_named name fields = count_by (is_named name) fields
 
+-- exactly one field has this name
 abbrev pub is_once : List ℕ → List Field → Bool
 is_once name fields = count_named name fields == 1
 
+-- no field has this name
 abbrev pub is_missing : List ℕ → List Field → Bool
 is_missing name fields = count_named name fields == 0
 
+-- one field at most has this name
 abbrev pub is_single : List ℕ → List Field → Bool
 is_single name fields = nat_le (count_named name fields) 1
 
@@ -78,6 +81,7 @@ has_no_body fields = is_missing (codes "Content-Length") fields && is_missing (c
 abbrev pub has_host : List Field → Bool
 has_host fields = is_once (codes "Host") fields
 
+-- the fields are those of a request that is served
 unfoldable pub has_served_fields : List Field → Bool
 has_served_fields fields = has_host fields && has_no_repeats fields && has_no_body fields
 
@@ -98,6 +102,7 @@ abbrev pub serves : List ℕ → List ℕ → ℕ → List Field → Bool
 serves method target minor fields =
     is_served_method method && (is_served_version minor && is_served_target target && has_served_fields fields)
 
+-- whether a head is served
 abbrev pub is_served : RequestHead → Bool
 is_served h = serves h.method h.target h.minor (fields_of h)
 

@@ -1,4 +1,4 @@
-use Rattle.std.proofs.Common.{◌≡◌, ℕ, List, Bor, Option, Some, None, option_map, unwrap_or, ap, refl, sym, ◌∙◌}
+use Rattle.std.proofs.Common.{◌≡◌, ℕ, List, Bor, Option, Some, None, option_map, unwrap_or, ap, ◌∙◌}
 use Rattle.http.specs.StatusCode.{reason_phrase}
 use Rattle.fedi_model.specs.ReplyText.{reason_of}
 use Rattle.fedi.proofs.replies.reason.Goals as goal

@@ -1,4 +1,4 @@
-use Rattle.std.proofs.Common.{ℕ, ◌+◌, ◌≡◌, cond, arith, sym, ◌∙◌, ap, subst, Bool, true, false, add-zero}
+use Rattle.std.proofs.Common.{ℕ, ◌+◌, ◌≡◌, cond, arith, sym, ◌∙◌, Bool, true, false, add-zero}
 use Rattle.fedi.proofs.RequestLemmas.{count_named-none, count_named_more}
 use Rattle.fedi.proofs.requests.count_named.Goals as goal
 use Rattle.fedi.proofs.requests.count_named.Goals.{then-is_same_name, else-is_same_name}

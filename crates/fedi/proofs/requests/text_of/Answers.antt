@@ -1,4 +1,4 @@
-use Rattle.std.proofs.Common.{◌≡◌, List, ℕ, if◌then◌else◌, option_copied, Option, Some, None, Result, Ok, Err, MatchResult, IsUtf8, Bor, ap, refl, ◌∙◌}
+use Rattle.std.proofs.Common.{◌≡◌, List, ℕ, if◌then◌else◌, option_copied, Some, None, Result, Ok, Err, MatchResult, IsUtf8, Bor, ap, refl, ◌∙◌}
 use Rattle.std.specs.Str.{is_utf8}
 use Rattle.std.specs.Result.{result_ok}
 use Rattle.std.proofs.lemmas.Str.{is_utf8-from_IsUtf8, IsUtf8-from_is_utf8}

@@ -1,4 +1,3 @@
-use Rattle.std.proofs.Common.{◌≡◌}
 use Rattle.fedi.proofs.RouteLemmas.{no_name}
 use Rattle.fedi.proofs.routes.name_of.Goals as goal
 
