@@ -1,12 +1,11 @@
 -- What is shown names nobody who is hidden, and has no float.
-use Rattle.std.proofs.Common.{◌≡◌, ℕ, List, [], ◌∷◌, ◌++◌, map, length, Bool, true, false, ◌&&◌, ◌||◌, cond, codes, Option, Some, None, refl}
+use Rattle.std.proofs.Common.{◌≡◌, ℕ, List, [], ◌∷◌, map, length, Bool, true, false, ◌&&◌, ◌||◌, cond, codes, Option, Some, None, refl}
 use Rattle.std.specs.Prelude.{◌==◌}
 use Rattle.std.specs.Ordering.{nat_cmp, match_ordering}
-use Rattle.std.specs.declared.cmp.Ordering.{Ordering}
 use Rattle.std.specs.declared.cmp.Ordering.TheVariants.{Less, Equal, Greater}
 use Rattle.std.specs.Cmp.Lexicographic.{slice_cmp}
 use Rattle.std.proofs.lemmas.Bool.{and_parts}
-use Rattle.serde_json.specs.Data.{Data, string, array, object, Items, no_items, item, Members, no_members, member, put}
+use Rattle.serde_json.specs.Data.{Data, string, array, object, Items, item, Members, no_members, member, put}
 use Rattle.serde_json.specs.View.{items_of}
 use Rattle.serde_json.specs.Written.{has_float, items_have_float, members_have_float}
 use Rattle.fedi_objects.specs.declared.object.Tag.{Tag}
@@ -15,7 +14,7 @@ use Rattle.fedi_objects.specs.Kinds.{kind_name}
 use Rattle.fedi_objects.specs.declared.shown.Shown.{Shown}
 use Rattle.fedi_objects.specs.declared.shown.ShownObject.{ShownObject}
 use Rattle.fedi_objects.specs.declared.shown.ShownObject.TheVariants.{Nothing, Id, Present}
-use Rattle.fedi_objects.specs.Forms.{is_open, is_clean, items_are_clean, members_are_clean, with_text, with_list, with_context, with_collections, tag_form, with_audience, with_words, kind_members, with_id, with_links, live_members, tombstone_members, is_tombstone, object_members, object_form, with_object, activity_kind_members, with_activity_links, activity_members, activity_form}
+use Rattle.fedi_objects.specs.Forms.{is_open, is_clean, items_are_clean, members_are_clean, with_text, with_list, with_context, with_collections, tag_form, with_audience, with_words, kind_members, with_id, with_links, live_members, tombstone_members, is_tombstone, object_form, with_object, activity_kind_members, with_activity_links, activity_members, activity_form}
 
 record IsShown (d : Data) : Type 0 where
   clean : is_clean d ≡ true

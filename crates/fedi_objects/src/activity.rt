@@ -21,7 +21,7 @@ pub enum ObjectRef {
 }
 
 impl ObjectRef {
-    /// An equal value.
+    /// An equal value. The error is want of memory.
     pub fn copy(&self) -> Result<ObjectRef, AllocError>
         ensures { IfOk result (λ x. x ≡ self.now) }
     {
@@ -52,7 +52,7 @@ pub struct Activity {
 }
 
 impl Activity {
-    /// An equal activity.
+    /// An equal activity. The error is want of memory.
     pub fn copy(&self) -> Result<Activity, AllocError>
         ensures { IfOk result (λ x. x ≡ self.now) }
     {

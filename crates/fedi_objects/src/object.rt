@@ -15,7 +15,7 @@ pub struct Tag {
 }
 
 impl Tag {
-    /// An equal mention.
+    /// An equal mention. The error is want of memory.
     pub fn copy(&self) -> Result<Tag, AllocError>
         ensures { IfOk result (λ x. x ≡ self.now) }
     {
@@ -54,7 +54,7 @@ pub struct Object {
 }
 
 impl Object {
-    /// An equal object.
+    /// An equal object. The error is want of memory.
     pub fn copy(&self) -> Result<Object, AllocError>
         ensures { IfOk result (λ x. x ≡ self.now) }
     {
@@ -148,7 +148,7 @@ pub struct Change {
 }
 
 impl Change {
-    /// An equal change.
+    /// An equal change. The error is want of memory.
     pub fn copy(&self) -> Result<Change, AllocError>
         ensures { IfOk result (λ x. x ≡ self.now) }
     {

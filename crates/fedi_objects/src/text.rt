@@ -29,7 +29,7 @@ impl Text {
         Text { kept: text }
     }
 
-    /// A text of its own with these bytes.
+    /// A text of its own with these bytes. The error is want of memory.
     pub fn from_text(alloc: Global, text: &str) -> Result<Text, AllocError>
         ensures { IfOk result (λ x. x ≡ text.now) }
     {
@@ -37,7 +37,7 @@ impl Text {
         Ok(Text { kept })
     }
 
-    /// An equal text.
+    /// An equal text. The error is want of memory.
     pub fn copy(&self) -> Result<Text, AllocError>
         ensures { IfOk result (λ x. x ≡ self.now) }
     {

@@ -1,6 +1,5 @@
 use Rattle.std.proofs.Common.{◌<◌, arith}
 use Rattle.std.specs.Str.{IsUtf8}
-use Rattle.fedi_objects.specs.Dates.{moment_text}
 use Rattle.fedi_objects.proofs.DateLemmas.{moment_text_utf8}
 use Rattle.fedi_objects.proofs.moment.Moment.to_text.Goals as goal
 
