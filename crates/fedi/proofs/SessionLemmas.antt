@@ -1,9 +1,10 @@
 -- What a session has said, as a conversation over its input.
-use Rattle.std.proofs.Common.{◌≡◌, ℕ, ◌≤◌, ◌<◌, min, List, [], ◌++◌, length, take, Option, Some, None, Result, Ok, Err, refl, sym, ap, subst, ◌∙◌, arith, lit≤}
+use Rattle.std.proofs.Common.{◌≡◌, ℕ, ◌≤◌, ◌<◌, min, List, [], ◌++◌, length, take, Option, Some, None, Result, Ok, Err, refl, sym, ap, subst, ◌∙◌, ◌⊎◌, inl, inr, arith, lit≤}
 use Rattle.std.specs.Prelude.{IfSome, IfOk, option_map}
 use Rattle.std.specs.Io.KnownBytes.{prepend_known, Appends}
 use Rattle.std.specs.List.{slice_range}
 use Rattle.std.proofs.Math.Seq.{take-length}
+use Rattle.std.proofs.lemmas.List.{take_all}
 use Rattle.std.proofs.KnownBytes.{Appends-nil}
 use Rattle.fedi_address.specs.declared.refusal.Refusal.{Refusal}
 use Rattle.fedi_address.specs.declared.refusal.Refusal.TheVariants.{BadHead}
@@ -14,14 +15,15 @@ use Rattle.fedi_model.specs.Answers.{AnswersText, Answers, AnswersRead, IsPrivat
 use Rattle.fedi_model.specs.Histories.{town}
 use Rattle.fedi_model.specs.Replies.{refused}
 use Rattle.fedi_model.specs.Requests.{ReadsAs, IsReadOnce}
+use Rattle.fedi.specs.declared.heads.HeadRead.{HeadRead}
 use Rattle.fedi.specs.declared.heads.HeadRead.TheVariants as heads
 use Rattle.fedi.specs.declared.heads.TheConstants.{HEAD_LIMIT}
 use Rattle.fedi.specs.declared.requests.TheConstants.{MOST_FIELDS}
 use Rattle.fedi.specs.declared.sessions.SessionEnd.{SessionEnd}
 use Rattle.fedi.specs.declared.sessions.SessionEnd.TheVariants.{End, CutShort, Closed, ReadFault, WriteFault, Memory}
-use Rattle.fedi.specs.Conversations.{IsNow, IsReply, Talks, AppendsFront, closing_text}
-use Rattle.fedi.specs.Endings.{Says, Ends}
-use Rattle.fedi.specs.Heads.{IsHeadAt, IsHeadUpTo}
+use Rattle.fedi.specs.Conversations.{IsNow, IsReply, Writes, Talks, BeginsTalk, AppendsFront, IsWhole, closing_text}
+use Rattle.fedi.specs.Endings.{Says, Ends, EndsWith, status_of}
+use Rattle.fedi.specs.Heads.{head_end, IsHeadAt, IsHeadUpTo}
 use Rattle.fedi.specs.Sending.{Sends}
 use Rattle.fedi.proofs.HeadLemmas.{slice_range-append}
 
@@ -108,3 +110,44 @@ refusal_replies history text e r reads once same = record {
 pub if_ok_both : {T E : Type 0} (P Q R : T → Type 0) (r : Result T E) → ((x : T) → P x → Q x → R x) → IfOk r P → IfOk r Q → IfOk r R
 if_ok_both P Q R (Ok x) f p q = f x p q
 if_ok_both P Q R (Err e) f p q = tt
+
+-- one thing alone stands at the front of the input
+not_cut_short : (limit : ℕ) (bytes : List ℕ) (start end : ℕ) → IsHeadAt limit bytes start end → ¬ (IsHeadUpTo limit bytes heads.CutShort)
+not_cut_short limit bytes start end at cut =
+    let short : length bytes ≤ limit = omega (arith, cut.1.0) in
+    let ends : head_end bytes ≡ Some end = rw (take_all limit bytes short) at at.ends in
+    let none : head_end bytes ≡ None = cut.1.1 in
+    cc
+
+-- what was written is no answer to an input that is cut short
+writes_whole : (limit : ℕ) (history : List Entry) (moment : ℕ) (bytes out : List ℕ) (found : HeadRead)
+    → IsHeadUpTo limit bytes found → Writes history moment bytes found out → ¬ (IsHeadUpTo limit bytes heads.CutShort)
+writes_whole limit history moment bytes out (heads.Text start end) at writes cut = not_cut_short limit bytes start end at cut
+writes_whole limit history moment bytes out heads.TooLong at writes cut = absurd (omega (arith, at.0, cut.1.0))
+writes_whole limit history moment bytes out heads.Empty at writes cut = absurd (let none : length bytes ≡ 0 = ap length at in omega (arith, cut.0))
+writes_whole limit history moment bytes out heads.CutShort at writes cut = writes
+writes_whole limit history moment bytes out heads.ReadFault at writes cut = writes
+writes_whole limit history moment bytes out heads.Memory at writes cut = writes
+
+talks_whole : (history : List Entry) (told : Option ℕ) (input before after : Option (List ℕ)) → Talks history told input before after → IsWhole input
+talks_whole history told None before after talks = tt
+talks_whole history told (Some bytes) before after talks =
+    let c = talks.1 in writes_whole HEAD_LIMIT history c.0 bytes talks.0 c.2.0 c.2.1 c.2.2
+
+begins_whole : (history : List Entry) (told : Option ℕ) (input before after : Option (List ℕ)) → BeginsTalk history told input before after → IsWhole input
+begins_whole history told None before after talk = tt
+begins_whole history told (Some bytes) before after talk =
+    let c = talk.2 in writes_whole HEAD_LIMIT history c.0 bytes talk.0 c.2.0 c.2.1 c.2.2
+
+-- a session that wrote, or had nothing to write, had an input that is not cut short
+pub ends_whole : (history : List Entry) (read write : Type 0) (told : Option ℕ) (input before after : Option (List ℕ)) (status : ℕ)
+    → EndsWith history read write told input before after status → (status ≡ 0) ⊎ (status ≡ 7) → IsWhole input
+ends_whole history read write told input before after status ends answered =
+    elim ends.0 as (λ e. status ≡ status_of e → Ends history read write told input before after e → IsWhole input) [
+      | End ↦ λ is talks. talks_whole history told input before after talks
+      | Closed ↦ λ is talks. talks_whole history told input before after talks
+      | CutShort ↦ λ is cut. absurd (elim answered [ inl zero ↦ (cc) | inr seven ↦ (cc) ])
+      | ReadFault ↦ λ is fault. absurd (elim answered [ inl zero ↦ (cc) | inr seven ↦ (cc) ])
+      | WriteFault ↦ λ is talk. begins_whole history told input before after talk.1
+      | Memory ↦ λ is front. absurd (elim answered [ inl zero ↦ (cc) | inr seven ↦ (cc) ])
+    ] ends.1 ends.2

@@ -59,3 +59,7 @@ CutsShort input before after = IfSome input (λ bytes. IsHeadUpTo HEAD_LIMIT byt
 -- a text was written, or a front of it
 abbrev pub AppendsFront : Option (List ℕ) → Option (List ℕ) → List ℕ → Type 0
 AppendsFront before after text = (n : ℕ) × Appends before after (take n text)
+
+-- the input does not end inside the head
+abbrev pub IsWhole : Option (List ℕ) → Type 0
+IsWhole input = IfSome input (λ bytes. ¬ (IsHeadUpTo HEAD_LIMIT bytes heads.CutShort))

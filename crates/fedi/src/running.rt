@@ -7,7 +7,7 @@ ghost use Rattle.fedi_model.specs.Histories.{IsLegal};
 ghost use Rattle.fedi_model.specs.ReplyText.{memory_text};
 ghost use Rattle.fedi_model.specs.Usage.{usage_text};
 ghost use Rattle.fedi.specs.Commands.{command_of};
-ghost use Rattle.fedi.specs.Conversations.{Talks, BeginsTalk, CutsShort, AppendsFront};
+ghost use Rattle.fedi.specs.Conversations.{Talks, BeginsTalk, CutsShort, IsWhole, AppendsFront};
 ghost use Rattle.fedi.specs.Endings.{EndsWith, Prints, PrintsUnlessFailed, is_status, status_of};
 
 use crate::commands::{Command, command_of};
@@ -120,6 +120,7 @@ pub fn run<S: Source, O: Sink, C: Clock>(
         → BeginsTalk history.items (C.told clock.now) (S.left input.old) (O.sent out.old) (O.sent out.new) }
     ensures cut { result.status ≡ 8 → CutsShort (S.left input.old) (O.sent out.old) (O.sent out.new) }
     ensures unread { result.status ≡ 6 → Keeps (O.sent out.old) (O.sent out.new) }
+    ensures whole { command_of (map string_bytes words.now) ≡ Some Command.Inetd → (result.status ≡ 0) ⊎ (result.status ≡ 7) → IsWhole (S.left input.old) }
     ensures memory { result.status ≡ 12 → AppendsFront (O.sent out.old) (O.sent out.new) memory_text }
 
     // The usage is printed whole, but where a write failed.
