@@ -1,13 +1,14 @@
 //! The whole program, over whatever lies outside.
 
-ghost use Rattle.std.specs.Prelude.{◌≡◌, ◌≤◌, ◌↔◌, ◌⊎◌, IsTrue, Some, None, map, string_bytes};
+ghost use Rattle.std.specs.Prelude.{◌≡◌, ◌≤◌, ◌↔◌, ◌⊎◌, ℕ, List, IsTrue, Some, None, map, string_bytes};
 ghost use Rattle.std.specs.Io.KnownBytes.{Keeps, Appends};
 ghost use Rattle.fedi_outside.specs.Causes.{Rose};
+ghost use Rattle.fedi_objects.specs.declared.entry.Entry.{Entry};
 ghost use Rattle.fedi_model.specs.Histories.{IsLegal};
 ghost use Rattle.fedi_model.specs.ReplyText.{memory_text};
 ghost use Rattle.fedi_model.specs.Usage.{usage_text};
 ghost use Rattle.fedi.specs.Commands.{command_of};
-ghost use Rattle.fedi.specs.Conversations.{Talks, BeginsTalk, CutsShort, IsWhole, AppendsFront};
+ghost use Rattle.fedi.specs.Conversations.{Converses, Talks, BeginsTalk, CutsShort, IsWhole, AppendsFront};
 ghost use Rattle.fedi.specs.Endings.{EndsWith, Prints, PrintsUnlessFailed, is_status, status_of};
 
 use crate::commands::{Command, command_of};
@@ -145,4 +146,11 @@ pub fn run<S: Source, O: Sink, C: Clock>(
             Ended { status: 2, history }
         }
     }
+}
+
+/// Over one input, at one moment and at one history there is one conversation: the bytes are
+/// determined.
+pub fn conversations_are_determined()
+    ensures { (history : List Entry) (seconds : ℕ) (input out other : List ℕ) → Converses history (Some seconds) input out → Converses history (Some seconds) input other → out ≡ other }
+{
 }
