@@ -2,3 +2,4 @@ pub mod Finding
 pub mod MadeOnce
 pub mod Privacy
 pub mod Statuses
+pub mod Unseen

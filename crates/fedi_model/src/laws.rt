@@ -1,16 +1,30 @@
 //! Laws of the definitions, each the contract of a function that does nothing.
 
-ghost use Rattle.std.specs.Prelude.{◌≡◌, List};
+ghost use Rattle.std.specs.Prelude.{◌≡◌, ℕ, false, List, [], ◌∷◌, ◌++◌, Option, Some};
+ghost use Rattle.fedi_objects.specs.declared.activity.Activity.{Activity};
 ghost use Rattle.fedi_objects.specs.declared.entry.Entry.{Entry};
+ghost use Rattle.fedi_objects.specs.declared.entry.Entry.TheVariants.{Local};
 ghost use Rattle.fedi_model.specs.declared.ask.Ask.{Ask};
 ghost use Rattle.fedi_model.specs.declared.caller.Caller.{Caller};
+ghost use Rattle.fedi_model.specs.Activities.{local_act};
 ghost use Rattle.fedi_model.specs.Agreement.{Agree};
 ghost use Rattle.fedi_model.specs.Histories.{town};
 ghost use Rattle.fedi_model.specs.Replies.{reply};
+ghost use Rattle.fedi_model.specs.Seeing.{sees};
 
 /// Histories that agree for a caller give the caller the same reply, whatever else stands in them.
 #[tactic(auto, using(crate::proofs::Privacy::reply_agrees))]
 pub fn replies_are_private()
     ensures { (g h : List Entry) (c : Caller) (ask : Ask) → Agree (town g) (town h) c → reply (town g) c ask ≡ reply (town h) c ask }
+{
+}
+
+/// A post changes nothing that a caller knows who does not see it. Its author sees it, so a caller
+/// who does not is another. So the agreement is no empty one: a private post changes no reply to a
+/// stranger.
+pub fn unseen_posts_tell_nothing()
+    ensures { (history : List Entry) (host name : List ℕ) (repeat : Option (List ℕ × List ℕ)) (a : Activity) (moment : ℕ) (c : Caller)
+        → (town history).host ≡ Some host → sees (town history) c (local_act (town history) host name repeat a moment) ≡ false
+        → Agree (town (history ++ Local name repeat a moment ∷ [])) (town history) c }
 {
 }
