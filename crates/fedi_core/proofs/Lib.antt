@@ -1,1 +1,3 @@
+pub mod Club
+pub mod ExampleTown
 pub mod Paths

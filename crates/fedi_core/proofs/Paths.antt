@@ -1,6 +1,6 @@
 -- The paths of ids are plain, so that each id is an IRI.
-use Rattle.std.proofs.Common.{◌≡◌, ℕ, ◌+◌, ◌*◌, ◌/◌, ◌%◌, ◌^◌, ◌<◌, ◌≤◌, Bool, true, false, leb, List, [], ◌∷◌, ◌++◌, length, refl, sym, ap, ◌∙◌, arith, lit<, lit≤}
-use Rattle.std.specs.Prelude.{◌&&◌, ◌||◌, ◌==◌, IsTrue, codes, decimal}
+use Rattle.std.proofs.Common.{◌≡◌, ℕ, ◌+◌, ◌%◌, ◌^◌, ◌<◌, ◌≤◌, Bool, true, false, leb, List, [], ◌∷◌, ◌++◌, length, refl, ◌∙◌, arith, lit<, lit≤}
+use Rattle.std.specs.Prelude.{◌&&◌, ◌||◌, IsTrue, codes, decimal}
 use Rattle.std.specs.List.{list_all}
 use Rattle.std.proofs.lemmas.Bool.{le-leb, leb-true}
 use Rattle.std.proofs.lemmas.Fmt.{decimal_by_steps, length-decimal-le}
@@ -36,8 +36,8 @@ digit_in_path d lt =
 digits_in_path : (n : ℕ) → n < 2 ^ 64 → list_all is_path_byte (decimal n) ≡ true
 digits_in_path =
     decimal_by_steps (λ n ds. list_all is_path_byte ds ≡ true)
-      (λ n lt. both _ _ (digit_in_path n lt) refl)
-      (λ n ds more h. list_all-append is_path_byte ds ((48 + n % 10) ∷ []) ∙ both _ _ h (both _ _ (digit_in_path (n % 10) (omega arith)) refl))
+    (λ n lt. both _ _ (digit_in_path n lt) refl)
+    (λ n ds more h. list_all-append is_path_byte ds ((48 + n % 10) ∷ []) ∙ both _ _ h (both _ _ (digit_in_path (n % 10) (omega arith)) refl))
 
 name_in_path : (name : List ℕ) → list_all is_name_byte name ≡ true → list_all is_path_byte name ≡ true
 name_in_path [] h = refl
@@ -74,9 +74,9 @@ plain_numbered kind name number three plain small h =
     let n = name_facts name h in
     let digits : length (decimal number) ≤ 10 = length-decimal-le 10 number (lit< tt) (omega arith) (omega arith) in
     plain_after_users (name ++ (kind ++ decimal number))
-      (omega (arith, length-append name (kind ++ decimal number), length-append kind (decimal number), n.short))
-      (list_all-append is_path_byte name (kind ++ decimal number)
-       ∙ both _ _ n.bytes (list_all-append is_path_byte kind (decimal number) ∙ both _ _ plain (digits_in_path number (omega arith))))
+    (omega (arith, length-append name (kind ++ decimal number), length-append kind (decimal number), n.short))
+    (list_all-append is_path_byte name (kind ++ decimal number)
+    ∙ both _ _ n.bytes (list_all-append is_path_byte kind (decimal number) ∙ both _ _ plain (digits_in_path number (omega arith))))
 
 pub activity_path_is_plain : (name : List ℕ) (number : ℕ) → number < 2 ^ 32 → IsTrue (is_name name) → IsTrue (is_plain_path (activity_path name number))
 activity_path_is_plain name number small h = plain_numbered (codes "/a/") name number (lit≤ tt) refl small h

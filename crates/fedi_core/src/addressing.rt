@@ -76,12 +76,7 @@ fn gather_one(
     Ok(())
 }
 
-fn gather(
-    facts: &Facts,
-    author: &Iri,
-    found: &mut Vec<Iri>,
-    iris: &[Iri],
-) -> Result<(), AllocError>
+fn gather(facts: &Facts, author: &Iri, found: &mut Vec<Iri>, iris: &[Iri]) -> Result<(), AllocError>
     ensures { OnOk result (found.new.items ≡ fold (with_recipient facts.now author.now) found.old.items iris.now) }
 {
     for iri in iris {

@@ -3,6 +3,7 @@
 
 mod addressing;
 mod facts;
+mod fixture;
 mod ids;
 mod machine;
 mod making;
@@ -10,6 +11,7 @@ mod replies;
 mod seeing;
 
 pub use facts::Facts;
+pub use fixture::example_history;
 pub use machine::{Core, digest};
 pub use replies::{refusal_reply, reply};
 pub use seeing::sees;

@@ -143,13 +143,7 @@ fn completed(
     Ok(with_stamp(own, id, actor, published, object))
 }
 
-fn with_stamp(
-    own: Activity,
-    id: Iri,
-    actor: Iri,
-    published: Text,
-    object: ObjectRef,
-) -> Activity
+fn with_stamp(own: Activity, id: Iri, actor: Iri, published: Text, object: ObjectRef) -> Activity
     ensures { result ≡ record own { id = Some id; actor = Some actor; published = Some published; object = object } }
 {
     let mut own = own;

@@ -98,12 +98,7 @@ fn object_reply(
 }
 
 /// The reply to an ask. The error is want of memory.
-pub fn reply(
-    alloc: Global,
-    facts: &Facts,
-    caller: &Caller,
-    ask: &Ask,
-) -> Result<Reply, AllocError>
+pub fn reply(alloc: Global, facts: &Facts, caller: &Caller, ask: &Ask) -> Result<Reply, AllocError>
     ensures { IfOk result (λ r. r ≡ reply facts.now caller.now ask.now) }
 {
     match ask {

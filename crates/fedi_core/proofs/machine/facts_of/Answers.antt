@@ -1,4 +1,4 @@
-use Rattle.std.proofs.Common.{◌≡◌, ◌+◌, ◌<◌, Bool, true, false, List, ◌∷◌, length, get_or, take, drop, refl, sym, ap, subst, ◌∙◌, arith}
+use Rattle.std.proofs.Common.{◌≡◌, ◌+◌, ◌<◌, Bool, true, false, List, ◌∷◌, length, get_or, take, drop, sym, ap, subst, ◌∙◌}
 use Rattle.std.specs.Prelude.{◌&&◌}
 use Rattle.std.specs.List.{fold}
 use Rattle.std.proofs.lemmas.List.{drop_more}
@@ -27,9 +27,9 @@ loop-entry-preserved c =
     let applied : c.apply.new.self ≡ step c.loop-entry.facts e = c.in_ok-apply.ensures.ok in
     let split : drop i h ≡ e ∷ drop (i + 1) h = subst (λ (x : Entry). drop i h ≡ x ∷ drop (i + 1) h) at (drop_more h i e here) in
     let more : fold step empty_town (take (i + 1) h) ≡ step (fold step empty_town (take i h)) e =
-        subst (λ (x : Entry). fold step empty_town (take (i + 1) h) ≡ step (fold step empty_town (take i h)) x) at (fold_more step empty_town h i e here) in
+    subst (λ (x : Entry). fold step empty_town (take (i + 1) h) ≡ step (fold step empty_town (take i h)) x) at (fold_more step empty_town h i e here) in
     record {
       made = applied ∙ ap (λ (t : Town). step t e) c.loop-entry.invariant.made ∙ sym more;
       legal = subst (λ (t : Town). is_legal_from t (drop (i + 1) h) ≡ true) (sym applied)
-        (legal_next c.loop-entry.facts e (drop i h) (drop (i + 1) h) split c.loop-entry.invariant.legal);
+          (legal_next c.loop-entry.facts e (drop i h) (drop (i + 1) h) split c.loop-entry.invariant.legal);
     }

@@ -1,6 +1,4 @@
-use Rattle.std.proofs.Common.{◌≡◌, refl}
-use Rattle.fedi_model.specs.Histories.{town}
-use Rattle.fedi_model.specs.Replies.{reply}
+use Rattle.std.proofs.Common.{refl}
 use Rattle.fedi_model.proofs.Privacy.{reply_agrees}
 use Rattle.fedi_core.proofs.machine.Core.answer.Goals as goal
 
