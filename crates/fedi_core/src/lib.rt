@@ -15,3 +15,6 @@ pub use fixture::example_history;
 pub use machine::{Core, digest};
 pub use replies::{refusal_reply, reply};
 pub use seeing::sees;
+
+#[cfg(test)]
+mod tests;

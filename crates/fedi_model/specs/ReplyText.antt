@@ -1,5 +1,5 @@
 -- The text of a reply (RFC 9112, section 4). Its lines end in CR LF.
-use Rattle.std.specs.Prelude.{ℕ, ◌≤◌, ◌<◌, Bool, true, false, ◌&&◌, ◌==◌, List, [], ◌++◌, length, codes, decimal, Option, Some, None, unwrap_or, if◌then◌else◌}
+use Rattle.std.specs.Prelude.{ℕ, Bool, true, false, ◌&&◌, ◌==◌, List, [], ◌++◌, length, codes, decimal, Option, Some, None, unwrap_or, if◌then◌else◌}
 use Rattle.http.specs.StatusCode.{reason_phrase, IsStatusCode}
 use Rattle.fedi_objects.specs.Dates.{http_date_text}
 use Rattle.fedi_model.specs.declared.reply.Allow.{Allow}

@@ -1,5 +1,5 @@
 -- What a target asks for. Paths are compared byte for byte and never decoded.
-use Rattle.std.specs.Prelude.{◌≡◌, ◌≢◌, ℕ, ◌≤◌, ◌<◌, ◌^◌, ◌==◌, List, ◌++◌, codes, decimal, IsTrue}
+use Rattle.std.specs.Prelude.{◌≡◌, ℕ, ◌≤◌, ◌<◌, ◌^◌, ◌==◌, List, ◌++◌, codes, decimal, IsTrue}
 use Rattle.std.specs.List.{before_first}
 use Rattle.fedi_address.specs.Names.{is_name}
 use Rattle.fedi_model.specs.Ids.{object_path}

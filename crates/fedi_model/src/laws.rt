@@ -12,5 +12,4 @@ ghost use Rattle.fedi_model.specs.Replies.{reply};
 #[tactic(auto, using(crate::proofs::Privacy::reply_agrees))]
 pub fn replies_are_private()
     ensures { (g h : List Entry) (c : Caller) (ask : Ask) → Agree (town g) (town h) c → reply (town g) c ask ≡ reply (town h) c ask }
-{
-}
+{}

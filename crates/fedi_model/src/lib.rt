@@ -10,7 +10,7 @@ mod request;
 
 pub use act::{Act, Actor};
 pub use ask::Ask;
-pub use laws::replies_are_private;
 pub use caller::{Caller, Credentials, Signed};
+pub use laws::replies_are_private;
 pub use reply::{Allow, Form, Reply};
 pub use request::{Field, Request};
