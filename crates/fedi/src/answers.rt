@@ -10,8 +10,8 @@ use crate::credentials::credentials;
 use crate::requests::read_request_head;
 use crate::routes::route;
 use fedi_address::Refusal;
-use fedi_core::{Core, refusal_reply};
-use fedi_model::{Reply, Request};
+use fedi_core::Core;
+use fedi_model::{Reply, Request, refusal_reply};
 use std::alloc::{AllocError, Global};
 
 /// The answer to a request at the machine's history. The error is want of memory.

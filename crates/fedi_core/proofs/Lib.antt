@@ -1,3 +1,4 @@
 pub mod Club
 pub mod ExampleTown
+pub mod Fronts
 pub mod Paths

@@ -14,14 +14,14 @@ or_true : (a b : Bool) → b ≡ true → (a || b) ≡ true
 or_true true b e = refl
 or_true false b e = e
 
-both : (a b : Bool) → a ≡ true → b ≡ true → (a && b) ≡ true
+pub both : (a b : Bool) → a ≡ true → b ≡ true → (a && b) ≡ true
 both a b ea eb = rw (ea, eb) refl
 
-both_first : (a b : Bool) → (a && b) ≡ true → a ≡ true
+pub both_first : (a b : Bool) → (a && b) ≡ true → a ≡ true
 both_first true b e = refl
 both_first false b e = absurd cc
 
-both_other : (a b : Bool) → (a && b) ≡ true → b ≡ true
+pub both_other : (a b : Bool) → (a && b) ≡ true → b ≡ true
 both_other true b e = e
 both_other false b e = absurd cc
 

@@ -13,5 +13,8 @@ mod seeing;
 pub use facts::Facts;
 pub use fixture::example_history;
 pub use machine::{Core, digest};
-pub use replies::{refusal_reply, reply};
+pub use replies::reply;
 pub use seeing::sees;
+
+#[cfg(test)]
+mod tests;

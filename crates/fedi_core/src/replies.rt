@@ -2,40 +2,16 @@
 
 ghost use Rattle.std.specs.Prelude.{◌≡◌, ◌^◌, ◌<◌, IfOk, option_copied};
 ghost use Rattle.fedi_model.specs.Activities.{whole_of};
-ghost use Rattle.fedi_model.specs.Replies.{refusal_body, refused, document, document_or_missing, maker_of, seen_or_missing, reply};
+ghost use Rattle.fedi_model.specs.Replies.{document, document_or_missing, maker_of, seen_or_missing, reply};
 
 use crate::facts::Facts;
 use crate::ids::object_iri;
 use crate::making::whole_of;
 use crate::seeing::sees;
 use fedi_address::{LocalName, Refusal};
-use fedi_model::{Act, Ask, Caller, Form, Reply};
+use fedi_model::{Act, Ask, Caller, Form, Reply, refusal_reply};
 use fedi_objects::{Bytes, Object, object_value, public_text};
 use std::alloc::{AllocError, Global};
-
-fn refusal_body(alloc: Global, refusal: Refusal) -> Result<Bytes, AllocError>
-    ensures { IfOk result (λ body. body ≡ refusal_body refusal) }
-{
-    let mut body = Vec::new(alloc);
-    body.extend_from_slice(b"{\"error\":\"")?;
-    body.extend_from_slice(refusal.name().as_bytes())?;
-    body.extend_from_slice(b"\"}")?;
-    Ok(Bytes::new(body))
-}
-
-/// The reply that names a refusal. The error is want of memory.
-pub fn refusal_reply(alloc: Global, refusal: Refusal) -> Result<Reply, AllocError>
-    ensures { IfOk result (λ r. r ≡ refused refusal) }
-{
-    let body = refusal_body(alloc, refusal)?;
-    Ok(Reply {
-        status: refusal.status(),
-        form: Form::Json,
-        location: None,
-        allow: None,
-        body,
-    })
-}
 
 #[tactic(auto, unfolding(fedi_model::specs::Replies::document))]
 fn document(alloc: Global, object: &Object) -> Result<Reply, AllocError>

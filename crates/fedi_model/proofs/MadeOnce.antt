@@ -1,5 +1,5 @@
 -- No object is made twice: a Create is done only where its object's id is new.
-use Rattle.std.proofs.Common.{◌≡◌, ℕ, Bool, true, false, List, [], ◌∷◌, ◌++◌, Option, Some, None, refl, sym, ap, subst, ◌∙◌, arith}
+use Rattle.std.proofs.Common.{◌≡◌, ℕ, Bool, true, false, List, [], ◌∷◌, ◌++◌, Option, Some, None, refl, subst}
 use Rattle.std.proofs.lemmas.List.{append-nil}
 use Rattle.std.proofs.lemmas.Slice.Eq.{bytes_eq-Decides}
 use Rattle.std.specs.Prelude.{◌+◌, ◌&&◌, not, if◌then◌else◌}
@@ -11,12 +11,9 @@ use Rattle.fedi_objects.specs.declared.activity.ObjectRef.TheVariants.{Nothing, 
 use Rattle.fedi_objects.specs.declared.entry.Entry.{Entry}
 use Rattle.fedi_objects.specs.declared.entry.Entry.TheVariants.{Hosted, Made, PeerSet, Local, Remote, Tried}
 use Rattle.fedi_objects.specs.declared.kind.Kind.{Kind}
-use Rattle.fedi_objects.specs.declared.kind.State.{State}
-use Rattle.fedi_objects.specs.declared.kind.State.TheVariants.{Plain, Done, Pending, Accepted, Rejected, Standing, Undone}
-use Rattle.fedi_objects.specs.declared.object.Object.{Object}
+use Rattle.fedi_objects.specs.declared.kind.State.TheVariants.{Plain, Done}
 use Rattle.fedi_objects.specs.Kinds.{is_create}
-use Rattle.fedi_model.specs.declared.act.Act.{Act}
-use Rattle.fedi_model.specs.Activities.{is_done, whole_of, completed, completed_ref, completed_object, has_object_id, makes, local_state, local_act}
+use Rattle.fedi_model.specs.Activities.{is_done, whole_of, completed_ref, has_object_id, makes, local_state, local_act}
 use Rattle.fedi_model.specs.Histories.{step, posted, town}
 use Rattle.fedi_model.specs.Ids.{actor_id, object_id}
 use Rattle.fedi_model.specs.Towns.{Town, empty_town, count_of}

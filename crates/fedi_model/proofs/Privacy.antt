@@ -1,8 +1,7 @@
 -- A reply is a function of the host, the caller's view and the ask alone.
-use Rattle.std.proofs.Common.{◌≡◌, ℕ, Bool, true, false, List, [], ◌∷◌, ◌++◌, Option, Some, None, refl, sym, ap, ◌∙◌, arith}
-use Rattle.std.specs.Prelude.{◌&&◌, if◌then◌else◌, map, filter, option_and_then}
-use Rattle.std.specs.List.{find, list_any}
-use Rattle.std.specs.Str.{bytes_eq}
+use Rattle.std.proofs.Common.{◌≡◌, ℕ, Bool, true, false, List, Option, Some, None, refl, sym, ap, ◌∙◌}
+use Rattle.std.specs.Prelude.{◌&&◌, option_and_then}
+use Rattle.std.specs.List.{find}
 use Rattle.fedi_address.specs.declared.refusal.Refusal.TheVariants.{NotFound}
 use Rattle.fedi_objects.specs.declared.activity.ObjectRef.{ObjectRef}
 use Rattle.fedi_objects.specs.declared.activity.ObjectRef.TheVariants.{Nothing, Id, Whole, Changed}
@@ -19,8 +18,8 @@ use Rattle.fedi_model.specs.Activities.{is_done, whole_of, has_object_id, makes}
 use Rattle.fedi_model.specs.Agreement.{Agree}
 use Rattle.fedi_model.specs.Histories.{town}
 use Rattle.fedi_model.specs.Ids.{object_id}
-use Rattle.fedi_model.specs.Replies.{refused, document, document_or_missing, maker_of, seen_or_missing, reply}
-use Rattle.fedi_model.specs.Seeing.{Sight, shown_ref, stripped_object, shown_activity, sees, shown, view}
+use Rattle.fedi_model.specs.Replies.{refused, document, document_or_missing, seen_or_missing, reply}
+use Rattle.fedi_model.specs.Seeing.{Sight, shown_ref, stripped_object, sees, shown, view}
 use Rattle.fedi_model.specs.Towns.{Town}
 use Rattle.fedi_model.proofs.Finding.{seen_or, found_or, found_seen}
 use Rattle.fedi_model.proofs.MadeOnce.{MadeOnce, town_once}
@@ -83,7 +82,7 @@ reply_at t c (Some host) name number once =
     let id : List ℕ = object_id host name number in
     seen_is t c (find (makes id) t.acts)
     ∙ found_seen (sees t c) (makes id) (shown t c) (is_shown_maker id) (same_maker t c id)
-        (λ x. document_or_missing (whole_of x.activity.object)) shown_document (same_reply t c id) (refused NotFound) t.acts (once.once id)
+    (λ x. document_or_missing (whole_of x.activity.object)) shown_document (same_reply t c id) (refused NotFound) t.acts (once.once id)
 
 reply-view : (t : Town) (c : Caller) (ask : Ask) → MadeOnce t → reply t c ask ≡ reply_from t.host (view t c) ask
 reply-view t c asks.Nowhere once = refl

@@ -1,5 +1,5 @@
 -- What the server makes of an accepted activity (ActivityPub, sections 6 and 6.2).
-use Rattle.std.specs.Prelude.{ℕ, ◌+◌, Bool, true, false, not, ◌&&◌, List, [], ◌∷◌, ◌++◌, Option, Some, None, if◌then◌else◌}
+use Rattle.std.specs.Prelude.{ℕ, ◌+◌, Bool, true, false, not, ◌&&◌, List, Option, Some, None, if◌then◌else◌}
 use Rattle.std.specs.List.{list_any}
 use Rattle.std.specs.Str.{bytes_eq}
 use Rattle.fedi_address.specs.Recipients.{is_public}
@@ -31,7 +31,7 @@ abbrev pub completed_object : List ℕ → List ℕ → ℕ → ℕ → Object �
 completed_object host name number moment o = record o {
   id = Some (object_id host name number);
   attributed_to = Some (actor_id host name);
-  published = Some (moment_text moment)
+  published = Some (moment_text moment);
 }
 
 abbrev pub completed_ref : List ℕ → List ℕ → ℕ → ℕ → ObjectRef → ObjectRef
@@ -46,7 +46,7 @@ completed host name number moment a = record a {
   id = Some (activity_id host name number);
   actor = Some (actor_id host name);
   published = Some (moment_text moment);
-  object = completed_ref host name number moment a.object
+  object = completed_ref host name number moment a.object;
 }
 
 -- the object that an activity carries
@@ -85,5 +85,5 @@ local_act t host name repeat a moment =
       moment = moment;
       recipients = recipients_of t author a.recipients;
       is_public = is_public a.recipients;
-      state = local_state t a.kind (object_id host name number) (whole_of a.object)
+      state = local_state t a.kind (object_id host name number) (whole_of a.object);
     }

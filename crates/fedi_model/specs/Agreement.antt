@@ -1,8 +1,7 @@
 -- When two histories agree on all that a caller may know.
-use Rattle.std.specs.Prelude.{◌≡◌, ℕ, List, map, filter, Option, Some, None, option_map}
+use Rattle.std.specs.Prelude.{◌≡◌, ℕ, List, filter, Option, option_map}
 use Rattle.std.specs.List.{filter_map}
 use Rattle.fedi_objects.specs.declared.entry.Entry.{Entry}
-use Rattle.fedi_model.specs.declared.act.Act.{Act}
 use Rattle.fedi_model.specs.declared.ask.Ask.{Ask}
 use Rattle.fedi_model.specs.declared.caller.Caller.{Caller}
 use Rattle.fedi_model.specs.declared.caller.Caller.TheVariants as callers

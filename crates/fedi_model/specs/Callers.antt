@@ -1,5 +1,5 @@
 -- Who a caller is, by the credentials of a request (RFC 6750, section 2.1, for bearer keys).
-use Rattle.std.specs.Prelude.{ℕ, List, Option, Some, None, Result, Ok, Err}
+use Rattle.std.specs.Prelude.{Option, Some, None, Result, Ok, Err}
 use Rattle.std.specs.List.{find}
 use Rattle.sha2.specs.Sha256.{sha256}
 use Rattle.fedi_address.specs.declared.refusal.Refusal.{Refusal}

@@ -1,5 +1,5 @@
 -- Histories: what the entries make one after the other, and which entries may come next.
-use Rattle.std.specs.Prelude.{◌≡◌, ℕ, ◌+◌, Bool, true, false, not, ◌&&◌, ◌||◌, ◌==◌, nat_lt, nat_le, IsTrue, List, [], ◌∷◌, ◌++◌, length, map, filter, codes, Option, Some, None, is_some, is_none}
+use Rattle.std.specs.Prelude.{ℕ, Bool, true, false, not, ◌&&◌, nat_lt, nat_le, IsTrue, List, [], ◌∷◌, ◌++◌, length, filter, codes, Option, Some, None, is_some, is_none}
 use Rattle.std.specs.List.{fold, list_any, list_all}
 use Rattle.std.specs.Cmp.Lexicographic.{pointwise}
 use Rattle.std.specs.Str.{bytes_eq}
@@ -14,7 +14,7 @@ use Rattle.fedi_objects.specs.Kinds.{is_create}
 use Rattle.fedi_model.specs.declared.act.Act.{Act}
 use Rattle.fedi_model.specs.declared.act.Actor.{Actor}
 use Rattle.fedi_model.specs.Ids.{actor_id}
-use Rattle.fedi_model.specs.Towns.{Town, empty_town, is_named, has_digest, is_by, count_of, id_of}
+use Rattle.fedi_model.specs.Towns.{Town, empty_town, is_named, has_digest, is_by, count_of}
 use Rattle.fedi_model.specs.Activities.{local_act, whole_of}
 
 -- ---- what entries make

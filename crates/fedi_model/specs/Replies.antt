@@ -1,5 +1,5 @@
 -- The reply to an ask (ActivityPub, section 3.2; RFC 9110, section 15).
-use Rattle.std.specs.Prelude.{ℕ, Bool, true, List, ◌++◌, codes, Option, Some, None, option_and_then, if◌then◌else◌}
+use Rattle.std.specs.Prelude.{ℕ, true, List, ◌++◌, codes, Option, Some, None, option_and_then, if◌then◌else◌}
 use Rattle.std.specs.List.{find}
 use Rattle.serde_json.specs.Written.{compact_text}
 use Rattle.fedi_address.specs.declared.refusal.Refusal.{Refusal}

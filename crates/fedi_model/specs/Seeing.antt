@@ -1,5 +1,5 @@
 -- Who sees what (ActivityPub, sections 3.2, 5 and 6), and what a reader is shown.
-use Rattle.std.specs.Prelude.{ℕ, Bool, true, false, ◌&&◌, ◌||◌, List, [], map, filter, Option, Some, None}
+use Rattle.std.specs.Prelude.{ℕ, Bool, true, false, ◌&&◌, ◌||◌, List, map, filter, Option, Some, None}
 use Rattle.std.specs.List.{list_any}
 use Rattle.std.specs.Str.{bytes_eq}
 use Rattle.fedi_address.specs.Iris.{host_of}
@@ -53,7 +53,7 @@ shown_ref made (Changed change) = Id change.id
 abbrev pub shown_activity : Act → Activity
 shown_activity x = record x.activity {
   recipients = stripped x.activity.recipients;
-  object = shown_ref (is_create x.activity.kind && is_done x.state) x.activity.object
+  object = shown_ref (is_create x.activity.kind && is_done x.state) x.activity.object;
 }
 
 -- what a reader is shown of an activity
@@ -80,7 +80,7 @@ shown t c x = record {
   activity = shown_activity x;
   state = x.state;
   is_public = x.is_public;
-  is_recipient = is_addressed (id_of_caller t c) x
+  is_recipient = is_addressed (id_of_caller t c) x;
 }
 
 -- all that the caller is shown, in order

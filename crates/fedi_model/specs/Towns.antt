@@ -1,6 +1,6 @@
 -- What the entries of a history so far have made.
-use Rattle.std.specs.Prelude.{ℕ, Bool, ◌==◌, List, [], map, filter, length, Option, Some, None, option_map}
-use Rattle.std.specs.List.{find, list_any}
+use Rattle.std.specs.Prelude.{ℕ, Bool, List, [], map, filter, length, Option, None, option_map}
+use Rattle.std.specs.List.{find}
 use Rattle.std.specs.Str.{bytes_eq}
 use Rattle.fedi_model.specs.declared.act.Act.{Act}
 use Rattle.fedi_model.specs.declared.act.Actor.{Actor}

@@ -6,6 +6,7 @@ use fedi_objects::{Activity, Moment, RepeatKey, State};
 /// A member of this server.
 #[derive(Drop)]
 pub struct Actor {
+    /// The name, which is the last part of the id.
     pub name: LocalName,
     /// The id of the member's actor document (ActivityPub, section 3.1).
     pub id: Iri,
@@ -30,5 +31,6 @@ pub struct Act {
     pub recipients: Items<Iri>,
     /// Whether everybody may see it (ActivityPub, section 5.6).
     pub is_public: bool,
+    /// What has become of it.
     pub state: State,
 }

@@ -5,6 +5,7 @@ use fedi_address::{Host, LocalName};
 /// Who makes a request.
 #[derive(Drop)]
 pub enum Caller {
+    /// Somebody who shows nothing.
     Nobody,
     /// A member of this server.
     Actor(LocalName),
@@ -17,15 +18,20 @@ pub enum Caller {
 pub struct Signed<'a> {
     /// The peer's own host.
     pub host: &'a str,
+    /// The code over the request.
     pub mac: [u8; 32],
+    /// The method of the request.
     pub method: &'a [u8],
+    /// Its target.
     pub target: &'a [u8],
+    /// Its body.
     pub body: &'a [u8],
 }
 
 /// What a request shows of who makes it. Its references are into the request.
 #[derive(Clone, Copy)]
 pub enum Credentials<'a> {
+    /// None of the fields stands.
     Nothing,
     /// A bearer key (RFC 6750, section 2.1), or none where the field has another form.
     Bearer(Option<[u8; 32]>),

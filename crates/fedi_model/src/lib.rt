@@ -5,12 +5,14 @@ mod act;
 mod ask;
 mod caller;
 mod laws;
+mod refusing;
 mod reply;
 mod request;
 
 pub use act::{Act, Actor};
 pub use ask::Ask;
-pub use laws::{replies_are_private, unseen_posts_tell_nothing};
 pub use caller::{Caller, Credentials, Signed};
+pub use laws::{replies_are_private, unseen_posts_tell_nothing};
+pub use refusing::refusal_reply;
 pub use reply::{Allow, Form, Reply};
 pub use request::{Field, Request};

@@ -7,16 +7,22 @@ use http::Method;
 /// One field of a head (RFC 9110, section 5).
 #[derive(Drop)]
 pub struct Field {
+    /// The name, as it was written (RFC 9110, section 5.1).
     pub name: Bytes,
+    /// The value without the white space around it (RFC 9110, section 5.5).
     pub value: Bytes,
 }
 
 /// A request (RFC 9112, section 2.1).
 #[derive(Drop)]
 pub struct Request {
+    /// The method (RFC 9110, section 9).
     pub method: Method,
+    /// The target (RFC 9112, section 3.2).
     pub target: Bytes,
+    /// The fields of the head, in order.
     pub fields: Items<Field>,
+    /// The body, without any coding for its transfer.
     pub body: Bytes,
     /// Whether the connection goes on after the reply.
     pub keep: bool,

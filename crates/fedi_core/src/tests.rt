@@ -1,0 +1,159 @@
+ghost use Rattle.std.specs.Prelude.{◌≡◌, take};
+ghost use Rattle.fedi_model.specs.Histories.{IsLegal};
+
+use crate::*;
+use fedi_address::{Host, LocalName, Refusal};
+use fedi_model::{Ask, Caller, Credentials};
+use fedi_objects::Entry;
+use std::alloc::Global;
+use std::process::Abort;
+use std::test::Fail;
+
+const HELLO: &str =
+    r#"{"@context":"https://www.w3.org/ns/activitystreams","attributedTo":"https://club.example/users/ana","content":"Hello","id":"https://club.example/users/ana/o/1","likes":"https://club.example/users/ana/o/1/likes","published":"1994-11-06T08:49:37Z","shares":"https://club.example/users/ana/o/1/shares","to":["https://www.w3.org/ns/activitystreams#Public"],"type":"Note"}"#;
+
+const PSST: &str =
+    r#"{"@context":"https://www.w3.org/ns/activitystreams","attributedTo":"https://club.example/users/ana","content":"Psst","id":"https://club.example/users/ana/o/2","likes":"https://club.example/users/ana/o/2/likes","published":"1994-11-06T08:49:37Z","shares":"https://club.example/users/ana/o/2/shares","type":"Note"}"#;
+
+const NOT_FOUND: &str = r#"{"error":"NotFound"}"#;
+
+fn open(alloc: Global, history: Vec<Entry>) -> Result<Core, Fail>
+    requires { IsLegal history.items }
+{
+    let core = Core::open(alloc, history).ok().ok_or("memory is wanted")?;
+    Ok(core)
+}
+
+// The example town without the post to ben alone.
+fn first_six(history: Vec<Entry>) -> Vec<Entry>
+    requires { IsLegal history.items }
+    ensures { IsLegal result.items }
+{
+    let mut first = history;
+    first.truncate(6);
+    first
+}
+
+// The digest of `abc` is that of the examples to FIPS 180-4.
+#[test]
+fn digests(rt: HostRuntime) {
+    let abc = [
+        0xba, 0x78, 0x16, 0xbf, 0x8f, 0x01, 0xcf, 0xea, 0x41, 0x41, 0x40, 0xde, 0x5d, 0xae, 0x22,
+        0x23, 0xb0, 0x03, 0x61, 0xa3, 0x96, 0x17, 0x7a, 0x9c, 0xb4, 0x10, 0xff, 0x61, 0xf2, 0x00,
+        0x15, 0xad,
+    ];
+    assert_eq!(rt; digest(b"abc").as_slice(), abc.as_slice());
+}
+
+fn name_of(caller: &Caller) -> &str {
+    match caller {
+        Caller::Nobody => "nobody",
+        Caller::Actor(name) => name.text(),
+        Caller::Peer(host) => host.text(),
+    }
+}
+
+#[test]
+fn keys_of_members(rt: HostRuntime) -> Result<(), Fail> {
+    let core = open(rt.alloc(), example_history(rt.alloc())?)?;
+    for (byte, name) in [(0, "ana"), (1, "ben"), (2, "cleo"), (3, "dan")] {
+        let caller = core.caller_of(&Credentials::Bearer(Some([byte; 32])))?;
+        assert_eq!(rt; name_of(&caller), name);
+    }
+    assert_eq!(rt; name_of(&core.caller_of(&Credentials::Nothing)?), "nobody");
+    for (shown, refusal) in [
+        (Credentials::Bearer(Some([4; 32])), Refusal::WrongKey),
+        (Credentials::Bearer(None), Refusal::WrongKey),
+        (Credentials::Mac(None), Refusal::WrongMac),
+    ] {
+        assert_eq!(rt; core.caller_of(&shown).err(), Some(refusal));
+    }
+    Ok(())
+}
+
+fn caller(alloc: Global, who: &str) -> Result<Caller, Fail> {
+    if who == "nobody" {
+        return Ok(Caller::Nobody);
+    }
+    if let Some(name) = LocalName::parse(who) {
+        return Ok(Caller::Actor(name));
+    }
+    Ok(Caller::Peer(Host::parse(alloc, who)?))
+}
+
+fn answers(
+    rt: &impl Abort,
+    alloc: Global,
+    core: &Core,
+    who: &str,
+    ask: &Ask,
+    body: &str,
+) -> Result<(), Fail> {
+    let caller = caller(alloc, who)?;
+    let reply = core.answer(alloc, &caller, ask)?;
+    let status = if body == NOT_FOUND { 404 } else { 200 };
+    assert_eq!(rt; reply.status, status, "{who}");
+    assert_eq!(rt; reply.body.bytes(), body.as_bytes(), "{who}");
+    Ok(())
+}
+
+// Whose object, of which number, who asks, and the body of the reply.
+const ASKS: [(&str, u32, &str, &str); 18] = [
+    ("ana", 1, "nobody", HELLO),
+    ("ana", 1, "ana", HELLO),
+    ("ana", 1, "dan", HELLO),
+    ("ana", 1, "eve", HELLO),
+    ("ana", 1, "far.example", HELLO),
+    ("ana", 2, "ana", PSST),
+    ("ana", 2, "ben", PSST),
+    ("ana", 2, "club.example", PSST),
+    ("ana", 2, "nobody", NOT_FOUND),
+    ("ana", 2, "cleo", NOT_FOUND),
+    ("ana", 2, "dan", NOT_FOUND),
+    ("ana", 2, "eve", NOT_FOUND),
+    ("ana", 2, "far.example", NOT_FOUND),
+    ("ana", 0, "ana", NOT_FOUND),
+    ("ana", 3, "ana", NOT_FOUND),
+    ("ben", 1, "ben", NOT_FOUND),
+    ("eve", 1, "nobody", NOT_FOUND),
+    ("ana", 4_294_967_295, "nobody", NOT_FOUND),
+];
+
+#[test]
+fn objects(rt: HostRuntime) -> Result<(), Fail> {
+    let core = open(rt.alloc(), example_history(rt.alloc())?)?;
+    for (name, number, who, body) in &ASKS {
+        let name = LocalName::parse(name).ok_or("no name")?;
+        answers(
+            &rt,
+            rt.alloc(),
+            &core,
+            who,
+            &Ask::Object(name, *number),
+            body,
+        )?;
+    }
+    answers(&rt, rt.alloc(), &core, "ana", &Ask::Nowhere, NOT_FOUND)
+}
+
+// To who may not see the last post all is as if it were not there.
+#[test]
+fn without_the_last_post(rt: HostRuntime) -> Result<(), Fail> {
+    let core = open(rt.alloc(), first_six(example_history(rt.alloc())?))?;
+    assert_eq!(rt; core.front(), 6);
+    for (number, body) in [(1, HELLO), (2, NOT_FOUND), (3, NOT_FOUND)] {
+        for who in ["cleo", "dan", "nobody"] {
+            let name = LocalName::parse("ana").ok_or("no name")?;
+            answers(
+                &rt,
+                rt.alloc(),
+                &core,
+                who,
+                &Ask::Object(name, number),
+                body,
+            )?;
+        }
+    }
+    assert_eq!(rt; core.close().len(), 6);
+    Ok(())
+}

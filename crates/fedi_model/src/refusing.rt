@@ -1,0 +1,37 @@
+//! The reply to what is refused.
+
+ghost use Rattle.std.specs.Prelude.{◌≡◌, IfOk};
+ghost use Rattle.fedi_model.specs.Replies.{refusal_body, refused};
+ghost use Rattle.fedi_model.specs.ReplyText.{HasStatus};
+
+use crate::reply::{Form, Reply};
+use fedi_address::Refusal;
+use fedi_objects::Bytes;
+use std::alloc::{AllocError, Global};
+
+fn refusal_body(alloc: Global, refusal: Refusal) -> Result<Bytes, AllocError>
+    ensures { IfOk result (λ body. body ≡ refusal_body refusal) }
+{
+    let mut body = Vec::new(alloc);
+    body.extend_from_slice(b"{\"error\":\"")?;
+    body.extend_from_slice(refusal.name().as_bytes())?;
+    body.extend_from_slice(b"\"}")?;
+    Ok(Bytes::new(body))
+}
+
+/// The reply that tells a refusal: its status (RFC 9110, section 15), and its name as JSON. The
+/// error is want of memory.
+#[tactic(auto, using(crate::proofs::Statuses::refused_has_status))]
+pub fn refusal_reply(alloc: Global, refusal: Refusal) -> Result<Reply, AllocError>
+    ensures reply { IfOk result (λ r. r ≡ refused refusal) }
+    ensures status { IfOk result (λ r. HasStatus r) }
+{
+    let body = refusal_body(alloc, refusal)?;
+    Ok(Reply {
+        status: refusal.status(),
+        form: Form::Json,
+        location: None,
+        allow: None,
+        body,
+    })
+}
