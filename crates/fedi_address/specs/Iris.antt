@@ -32,10 +32,11 @@ is_out_of_room OutOfMemory = true
 is_out_of_room Overflow = true
 is_out_of_room _ = false
 
--- the host of a URL, with its port where it has one, and its path with its query (URL Standard, 4.1)
+-- the host of a URL, with its port where it has one (URL Standard, 4.1)
 abbrev pub host_and_port : Parts → List ℕ
 host_and_port url = text_between url BeforeHost AfterPort
 
+-- its path, with its query where it has one (URL Standard, 4.1)
 abbrev pub path_and_query : Parts → List ℕ
 path_and_query url = text_between url BeforePath AfterQuery
 
@@ -51,13 +52,15 @@ pub record IsIri (text : List ℕ) : Type 0 where
 abbrev pub public_iri : List ℕ
 public_iri = codes "https://www.w3.org/ns/activitystreams#Public"
 
--- `/`, `@` and `#`
+-- `/`, which stands before a path
 abbrev pub is_slash : ℕ → Bool
 is_slash b = b == 47
 
+-- `@`, which stands behind the user information
 abbrev pub is_at : ℕ → Bool
 is_at b = b == 64
 
+-- `#`, which stands before the fragment
 abbrev pub is_hash : ℕ → Bool
 is_hash b = b == 35
 

@@ -11,10 +11,11 @@ use Rattle.fedi_objects.specs.declared.object.Object.{Object}
 use Rattle.fedi_model.specs.Ids.{actor_id}
 use Rattle.fedi_core.specs.declared.fixture.TheConstants.{ANA_DIGEST, BEN_DIGEST, CLEO_DIGEST, DAN_DIGEST, SECONDS}
 
--- the host, and a member that is made
+-- the host
 abbrev pub host : List ℕ
 host = codes "club.example"
 
+-- a member that is made
 abbrev pub made : List ℕ → List ℕ → Bool → Entry
 made name digest locked = Made name digest locked SECONDS
 
@@ -58,10 +59,11 @@ creation content r = record {
 abbrev pub posted : List ℕ → Recipients → Entry
 posted content r = Local (codes "ana") None (creation content r) SECONDS
 
--- everybody, and ben alone and without the knowledge of others
+-- everybody
 abbrev pub to_public : Recipients
 to_public = record { to = public_iri ∷ []; cc = []; bto = []; bcc = []; audience = [] }
 
+-- ben alone, and without the knowledge of others
 abbrev pub to_ben : Recipients
 to_ben = record { to = []; cc = []; bto = []; bcc = actor_id host (codes "ben") ∷ []; audience = [] }
 

@@ -44,9 +44,10 @@ unfolding is_by
 own-unseen t None x unseen = (refl, refl)
 own-unseen t (Some id) x unseen =
     let other : is_by id x ≡ false = first_false (bytes_eq x.author id) _ unseen in
-    let same : filter (is_by id) (t.acts ++ x ∷ []) ≡ filter (is_by id) t.acts = filter-unpassed (is_by id) t.acts x other in
-    (ap (λ (xs : List Act). Some (length xs)) same,
-     ap (λ (xs : List Act). Some (filter_map (λ y. option_map (λ r. (r, y.activity.id)) y.repeat) xs)) same)
+    let same : filter (is_by id) (t.acts ++ x ∷ []) ≡ filter (is_by id) t.acts = filter-unpassed (is_by id) t.acts x other in (
+      ap (λ (xs : List Act). Some (length xs)) same,
+      ap (λ (xs : List Act). Some (filter_map (λ y. option_map (λ r. (r, y.activity.id)) y.repeat) xs)) same,
+    )
 
 same_own : (t : Town) (c : Caller) (x : Act) → sees t c x ≡ false → IsSameOwn (with_act t x) t c
 unfolding sees
@@ -71,5 +72,5 @@ pub post_unseen : (history : List Entry) (host name : List ℕ) (repeat : Option
     → Agree (town (history ++ Local name repeat a moment ∷ [])) (town history) c
 post_unseen history host name repeat a moment c is unseen =
     let whole : town (history ++ Local name repeat a moment ∷ []) ≡ step (town history) (Local name repeat a moment) =
-        fold-append step empty_town history (Local name repeat a moment ∷ []) in
+    fold-append step empty_town history (Local name repeat a moment ∷ []) in
     subst (λ (t : Town). Agree t (town history) c) (sym whole) (posted_unseen (town history) (town history).host host name repeat a moment c is unseen)

@@ -17,6 +17,7 @@ use Rattle.fedi_model.specs.Ids.{actor_id, activity_id, object_id}
 use Rattle.fedi_model.specs.Towns.{Town, count_of}
 use Rattle.fedi_model.specs.Addressing.{recipients_of}
 
+-- its effect has happened
 abbrev pub is_done : State → Bool
 is_done Done = true
 is_done Plain = false
@@ -34,6 +35,7 @@ completed_object host name number moment o = record o {
   published = Some (moment_text moment);
 }
 
+-- an object that the activity carries is completed; a mere id stays
 abbrev pub completed_ref : List ℕ → List ℕ → ℕ → ℕ → ObjectRef → ObjectRef
 completed_ref host name number moment Nothing = Nothing
 completed_ref host name number moment (Id iri) = Id iri
@@ -56,10 +58,12 @@ whole_of (Id iri) = None
 whole_of (Whole o) = Some o
 whole_of (Changed change) = None
 
+-- the object's own id is this one
 abbrev pub is_object_id : List ℕ → Option (List ℕ) → Bool
 is_object_id id None = false
 is_object_id id (Some own) = bytes_eq own id
 
+-- there is an object, and it has this id
 abbrev pub has_object_id : List ℕ → Option Object → Bool
 has_object_id id None = false
 has_object_id id (Some o) = is_object_id id o.id

@@ -8,6 +8,7 @@ use Rattle.fedi_address.specs.Recipients.{all_of, is_among}
 use Rattle.fedi_model.specs.Ids.{is_of_host}
 use Rattle.fedi_model.specs.Towns.{Town, has_id}
 
+-- the IRI is of the host that was set up
 abbrev pub is_of_town : Option (List ℕ) → List ℕ → Bool
 is_of_town None iri = false
 is_of_town (Some host) iri = is_of_host host iri

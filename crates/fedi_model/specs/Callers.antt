@@ -10,6 +10,7 @@ use Rattle.fedi_model.specs.declared.caller.Caller.TheVariants as callers
 use Rattle.fedi_model.specs.Credentials.{Shows, Nothing, Bearer, Mac}
 use Rattle.fedi_model.specs.Towns.{Town, has_digest}
 
+-- the member, or the refusal of a key that nobody has (RFC 6750, section 3.1)
 abbrev pub member_or_refused : Option Actor → Result Caller Refusal
 member_or_refused None = Err WrongKey
 member_or_refused (Some a) = Ok (callers.Actor a.name)

@@ -44,6 +44,7 @@ town history = fold step empty_town history
 
 -- ---- which entries may come next
 
+-- a text, where there is one, has at most so many bytes
 abbrev pub is_within : ℕ → Option (List ℕ) → Bool
 is_within limit None = true
 is_within limit (Some text) = nat_le (length text) limit
@@ -59,11 +60,13 @@ are_addressed r =
     nat_le (length (all_of r)) 500
     && (is_each_once r.to && (is_each_once r.cc && (is_each_once r.bto && (is_each_once r.bcc && is_each_once r.audience))))
 
+-- each of the five fields names the same, in the same order
 abbrev pub are_same : Recipients → Recipients → Bool
 are_same a b =
     pointwise bytes_eq a.to b.to && (pointwise bytes_eq a.cc b.cc && (pointwise bytes_eq a.bto b.bto
     && (pointwise bytes_eq a.bcc b.bcc && pointwise bytes_eq a.audience b.audience)))
 
+-- the names of mentions have at most 65,536 bytes
 abbrev pub are_tags : List Tag → Bool
 are_tags tags = list_all (λ t. nat_le (length t.name) 65536) tags
 
@@ -92,6 +95,7 @@ abbrev pub has_key : List ℕ → Option (List ℕ × List ℕ) → Bool
 has_key key None = false
 has_key key (Some r) = bytes_eq r.0 key
 
+-- none of these activities was posted under the key
 abbrev pub is_new_key : List Act → Option (List ℕ × List ℕ) → Bool
 is_new_key acts None = true
 is_new_key acts (Some r) = not (list_any (λ x. has_key r.0 x.repeat) acts)
@@ -118,5 +122,6 @@ abbrev pub is_legal_from : Town → List Entry → Bool
 is_legal_from t [] = true
 is_legal_from t (e ∷ entries) = is_admissible t e && is_legal_from (step t e) entries
 
+-- the history is legal: each of its entries was admissible when it came
 pub record IsLegal (history : List Entry) : Type 0 where
   pub admissible : IsTrue (is_legal_from empty_town history)

@@ -5,13 +5,15 @@ use Rattle.std.specs.Str.{bytes_eq}
 use Rattle.fedi_address.specs.Hosts.{address}
 use Rattle.fedi_address.specs.Iris.{host_of}
 
--- the paths of a member, of the member's activity of a number, and of the object that it made
+-- the path of a member
 abbrev pub actor_path : List ℕ → List ℕ
 actor_path name = codes "/users/" ++ name
 
+-- the path of the member's activity of this number
 abbrev pub activity_path : List ℕ → ℕ → List ℕ
 activity_path name number = codes "/users/" ++ (name ++ (codes "/a/" ++ decimal number))
 
+-- the path of the object that the member's activity of this number made
 abbrev pub object_path : List ℕ → ℕ → List ℕ
 object_path name number = codes "/users/" ++ (name ++ (codes "/o/" ++ decimal number))
 

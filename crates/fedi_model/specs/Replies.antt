@@ -22,6 +22,7 @@ use Rattle.fedi_model.specs.Towns.{Town}
 abbrev pub refusal_body : Refusal → List ℕ
 refusal_body r = codes "{\"error\":\"" ++ (name_of r ++ codes "\"}")
 
+-- the reply to what is refused (RFC 9110, sections 15.5 and 15.6)
 abbrev pub refused : Refusal → Reply
 refused r = record { status = status_of r; form = forms.Json; location = None; allow = None; body = refusal_body r }
 
@@ -29,6 +30,7 @@ refused r = record { status = status_of r; form = forms.Json; location = None; a
 unfoldable pub document : Object → Reply
 document o = record { status = 200; form = forms.Activity; location = None; allow = None; body = compact_text (object_form true true o) }
 
+-- the document, or that there is none
 abbrev pub document_or_missing : Option Object → Reply
 document_or_missing None = refused NotFound
 document_or_missing (Some o) = document o
@@ -42,6 +44,7 @@ abbrev pub seen_or_missing : Town → Caller → Option Act → Reply
 seen_or_missing t c None = refused NotFound
 seen_or_missing t c (Some x) = if sees t c x then document_or_missing (whole_of x.activity.object) else refused NotFound
 
+-- the reply to the caller for the ask
 abbrev pub reply : Town → Caller → Ask → Reply
 reply t c asks.Nowhere = refused NotFound
 reply t c (asks.Object name number) = seen_or_missing t c (maker_of t name number)

@@ -23,6 +23,7 @@ abbrev pub is_seen_as : Option (List ℕ) → Act → Bool
 is_seen_as None x = x.is_public
 is_seen_as (Some id) x = bytes_eq x.author id || (x.is_public || is_among id x.recipients)
 
+-- the IRI is of the other server: with its text as host
 unfoldable pub is_of_peer : List ℕ → List ℕ → Bool
 is_of_peer host iri = bytes_eq (host_of iri) host
 
@@ -34,9 +35,11 @@ sees t (callers.Peer host) x = x.is_public || (is_of_peer host x.author || list_
 
 -- ---- what is shown
 
+-- the object without `bto` and `bcc` (ActivityPub, section 6)
 abbrev pub stripped_object : Object → Object
 stripped_object o = record o { recipients = stripped o.recipients }
 
+-- a mere id, where there is one
 abbrev pub ref_to : Option (List ℕ) → ObjectRef
 ref_to None = Nothing
 ref_to (Some id) = Id id
@@ -64,6 +67,7 @@ pub record Sight : Type 0 where
   pub is_public : Bool
   pub is_recipient : Bool
 
+-- the activity goes to this id
 abbrev pub is_addressed : Option (List ℕ) → Act → Bool
 is_addressed None x = false
 is_addressed (Some id) x = is_among id x.recipients
@@ -74,6 +78,7 @@ id_of_caller t callers.Nobody = None
 id_of_caller t (callers.Actor name) = id_of t name
 id_of_caller t (callers.Peer host) = None
 
+-- what the caller is shown of an activity that the caller sees
 unfoldable pub shown : Town → Caller → Act → Sight
 shown t c x = record {
   author = x.author;

@@ -16,16 +16,19 @@ pub record Town : Type 0 where
 abbrev pub empty_town : Town
 empty_town = record { host = None; actors = []; acts = [] }
 
+-- the names of the members, which fix their actor documents
 abbrev pub names : Town → List (List ℕ)
 names t = map (λ a. a.name) t.actors
 
--- the member of this name, of this id, with this digest of a key
+-- the member of this name
 unfoldable pub is_named : List ℕ → Actor → Bool
 is_named name a = bytes_eq a.name name
 
+-- the member of this id
 unfoldable pub has_id : List ℕ → Actor → Bool
 has_id id a = bytes_eq a.id id
 
+-- the member with this digest of a key
 unfoldable pub has_digest : List ℕ → Actor → Bool
 has_digest digest a = bytes_eq a.digest digest
 

@@ -16,8 +16,7 @@ ghost use Rattle.fedi_model.specs.Seeing.{sees};
 #[tactic(auto, using(crate::proofs::Privacy::reply_agrees))]
 pub fn replies_are_private()
     ensures { (g h : List Entry) (c : Caller) (ask : Ask) → Agree (town g) (town h) c → reply (town g) c ask ≡ reply (town h) c ask }
-{
-}
+{}
 
 /// A post changes nothing that a caller knows who does not see it. Its author sees it, so a caller
 /// who does not is another. So the agreement is no empty one: a private post changes no reply to a
@@ -26,5 +25,4 @@ pub fn unseen_posts_tell_nothing()
     ensures { (history : List Entry) (host name : List ℕ) (repeat : Option (List ℕ × List ℕ)) (a : Activity) (moment : ℕ) (c : Caller)
         → (town history).host ≡ Some host → sees (town history) c (local_act (town history) host name repeat a moment) ≡ false
         → Agree (town (history ++ Local name repeat a moment ∷ [])) (town history) c }
-{
-}
+{}

@@ -83,9 +83,11 @@ tombstone_members o =
     (with_text (codes "id") o.id
     (put (codes "type") (string o.kind) no_members)))
 
+-- the object was deleted (Vocabulary, section 3.3)
 abbrev pub is_tombstone : Object → Bool
 is_tombstone o = bytes_eq o.kind (codes "Tombstone")
 
+-- what is shown of an object
 abbrev pub object_members : Bool → Object → Members
 object_members local o = if is_tombstone o then tombstone_members o else live_members local o
 
@@ -112,6 +114,7 @@ with_activity_links a ms =
     (with_text (codes "inReplyTo") (option_copied a.in_reply_to)
     (with_text (codes "target") (option_copied a.target) ms)))
 
+-- what is shown of an activity
 abbrev pub activity_members : Shown → Members
 activity_members a =
     with_activity_links a

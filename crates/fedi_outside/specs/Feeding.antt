@@ -2,6 +2,7 @@
 use Rattle.std.specs.Prelude.{ℕ, ◌+◌, ◌-◌, ◌^◌, min, max, Bool, nat_eq, List, length, slice_get, Option, None, Some}
 use Rattle.std.specs.List.{list_any}
 
+-- what a source in memory is to give, and what it has done
 pub record Feed : Type 0 where
   pub left : List ℕ  -- the bytes to come
   pub pieces : List ℕ  -- how many bytes the read with this number gives at most
