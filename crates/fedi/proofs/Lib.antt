@@ -3,3 +3,4 @@ pub mod RouteLemmas
 pub mod HeadLemmas
 pub mod StreamLemmas
 pub mod SessionLemmas
+pub mod HistoryLemmas
