@@ -95,7 +95,7 @@ pub request_replies : (history : List Entry) (text : List ℕ) (q : Request) (r 
 request_replies history text q r reads once answer private = record {
   answer = (Ok q, reads, answer);
   private = λ other reads_other. let same : q ≡ other = (let e : Ok q ≡ Ok other = once (Ok q) (Ok other) reads reads_other in cc) in
-    subst (λ (x : Request). IsPrivateAnswer history x r) same private;
+      subst (λ (x : Request). IsPrivateAnswer history x r) same private;
 }
 
 -- the refusal of a text that is read as no request

@@ -19,9 +19,8 @@ mod usage;
 use adapters::{Reading, SystemClock, Writing};
 use fedi_core::example_history;
 use std::alloc::AllocError;
-use std::env;
-use std::io;
 use std::process::ExitCode;
+use std::{env, io};
 
 /// The status where memory is wanted.
 const WANTED_MEMORY: u8 = 12;

@@ -11,5 +11,5 @@ returns-in-Ok-clause-reply c =
     let text = c.args.text.now in
     let q = c.in-Ok.request in
     if_ok_both (λ r. Answers (town h) q r) (λ r. IsPrivateAnswer h q r) (λ r. IsReply h text r) c.answer.result
-      (λ r answer private. request_replies h text q r c.in-Ok.ensures.ok c.in-Ok.ensures.once answer private)
-      c.answer.ensures.exact c.answer.ensures.private
+    (λ r answer private. request_replies h text q r c.in-Ok.ensures.ok c.in-Ok.ensures.once answer private)
+    c.answer.ensures.exact c.answer.ensures.private
