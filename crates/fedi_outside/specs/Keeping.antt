@@ -18,17 +18,23 @@ pub record Adds (before : ℕ) (past since : ℕ → List (List ℕ) → Type 0)
   pub nothing_else : (moment : ℕ) (left : List (List ℕ)) → moment ≤ before → since moment left → past moment left ⊎ added left
   pub keeps : (moment : ℕ) (left : List (List ℕ)) → moment ≤ before → past moment left → since moment left
 
--- records in memory, and the length below which a record has room
+-- records in memory
 pub record Piled : Type 0 where
-  pub records : List (List ℕ)
-  pub spare : ℕ
-  pub end : ℕ
-
--- a keeper in memory, as its callers see it
-pub record Keeping : Type 0 where
   pub records : List (List ℕ)
   pub doubt : Option (List ℕ)  -- the record of the last append, where that failed and nothing was settled since
   pub spare : ℕ  -- a record that is shorter has room
+  pub end : ℕ
+
+-- these bytes, where they are in doubt
+abbrev pub doubted : Bool → List ℕ → Option (List ℕ)
+doubted true bytes = Some bytes
+doubted false bytes = None
+
+-- such records, and the calls that fail
+pub record Keeping : Type 0 where
+  pub records : List (List ℕ)
+  pub doubt : Option (List ℕ)
+  pub spare : ℕ
   pub end : ℕ
   pub failing : List ℕ  -- the numbers of the calls that fail
   pub calls : ℕ  -- how many calls there were that can fail

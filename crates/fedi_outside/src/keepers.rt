@@ -85,12 +85,13 @@ pub trait Keeper {
     fn count(&self) -> u64
         ensures { IfSome (records self.now) (λ kept. result ≡ length kept) };
 
-    /// The record at this place, counted from 0, or none exactly where the place is at least the count. The records and the doubt
-    /// are as before, also after an error: `Failed` where the keeper failed, `Memory` where memory was wanting.
+    /// The record at this place, counted from 0, or none exactly where the place is at least the count. The records, the doubt
+    /// and the room are as before, also after an error: `Failed` where the keeper failed, `Memory` where memory was wanting.
     fn load(&mut self, alloc: Global, place: u64) -> Result<Option<Vec<u8>>, LoadFault>
         ensures found { IfSome (records self.old) (λ kept. IfOk result (λ found. option_map (λ bytes. bytes.items) found ≡ slice_get kept place)) }
         ensures records { records self.new ≡ records self.old }
         ensures doubt { doubt self.new ≡ doubt self.old }
+        ensures spare { spare self.new ≡ spare self.old }
         ensures end { end self.new ≡ end self.old }
         ensures later { faults self.old ≤ faults self.new }
         ensures cause { IsErrOf result LoadFault.Failed → Rose (faults self.old) (faults self.new) }
@@ -99,10 +100,11 @@ pub trait Keeper {
         ensures crash { WhereTold (tells_crashes self.old) (records self.old) (λ kept. Adds (clock self.old) (left_since self.old) (left_since self.new) (MayLeave kept (doubt self.old))) };
 
     /// Makes room for a record of this length. `Full` exactly where the end and the room for it come to more than 2^62; `Memory` where
-    /// memory was wanting. The records and the doubt are as before, also after an error.
+    /// memory was wanting. The records and the doubt are as before, and after an error the room too.
     fn reserve(&mut self, length: usize) -> Result<(), ReserveFault>
         ensures full { IsErrOf result ReserveFault.Full ↔ (2 ^ 62 < end self.old + room length) }
         ensures spare { OnOk result (length < spare self.new) }
+        ensures refused { OnErr result (spare self.new ≡ spare self.old) }
         ensures records { records self.new ≡ records self.old }
         ensures doubt { doubt self.new ≡ doubt self.old }
         ensures end { end self.new ≡ end self.old }
@@ -126,7 +128,7 @@ pub trait Keeper {
         ensures alone { OnOk result (WhereTold (tells_crashes self.new) (records self.new) (λ kept. (left : List (List ℕ)) → left_since self.new (clock self.new) left → left ≡ kept)) };
 
     /// Adds the payload as the last record. It takes no memory: nothing is in doubt, and room was made. After an error the records
-    /// are as before, and this one may be in doubt.
+    /// and the room are as before, and this record may be in doubt.
     fn append(&mut self, payload: &[u8]) -> Result<(), Failed>
         requires settled { doubt self.old ≡ None }
         requires spare { length payload.now < spare self.old }
@@ -135,6 +137,7 @@ pub trait Keeper {
         ensures grown { OnOk result (end self.new ≡ end self.old + growth (length payload.now)) }
         ensures settled { OnOk result (doubt self.new ≡ None) }
         ensures records { OnErr result (records self.new ≡ records self.old) }
+        ensures spare { OnErr result (spare self.new ≡ spare self.old) }
         ensures end { OnErr result (end self.new ≡ end self.old) }
         ensures doubt { OnErr result ((doubt self.new ≡ None) ⊎ (doubt self.new ≡ Some payload.now)) }
         ensures cause { HasCause (faults self.old) (faults self.new) result }

@@ -11,11 +11,10 @@ use std::alloc::Global;
 use std::marker::Model;
 
 /// A keeper in memory, which may be made to fail. It tells its records and counts its faults. It takes memory in `reserve` and `load`
-/// alone. A failed append leaves its record in doubt, and uses up the room.
+/// alone. A failed append leaves its record in doubt.
 #[derive(Drop)]
 pub struct MemoryKeeper {
     pile: Pile,
-    doubt: Option<Record>,
     failing: Vec<u64>,
     calls: u64,
     faults: u64,
@@ -28,7 +27,7 @@ impl Model for MemoryKeeper {
 
     ghost view = { λ k. record {
       records = k.pile.records;
-      doubt = k.doubt;
+      doubt = k.pile.doubt;
       spare = k.pile.spare;
       end = k.pile.end;
       failing = k.failing.items;
@@ -51,7 +50,6 @@ impl MemoryKeeper {
     {
         MemoryKeeper {
             pile: Pile::new(alloc, end),
-            doubt: None,
             failing: Vec::new(alloc),
             calls: 0,
             faults: 0,
@@ -147,7 +145,7 @@ impl Keeper for MemoryKeeper {
         if self.fails() {
             return Err(Failed);
         }
-        self.doubt = None;
+        self.pile.settle();
         Ok(())
     }
 
@@ -156,12 +154,12 @@ impl Keeper for MemoryKeeper {
         requires spare { length payload.now < self.old.spare }
         requires room { self.old.end + (10 + length payload.now) ≤ 2 ^ 62 }
         ensures answer { is_ok result ≡ not (is_to_fail self.old) }
-        ensures added { OnOk result (self.new ≡ record (called self.old) { records = self.old.records ++ payload.now ∷ []; spare = 0; end = self.old.end + (9 + length payload.now) }) }
-        ensures refused { OnErr result (self.new ≡ record (called self.old) { doubt = Some payload.now; spare = 0 }) }
+        ensures added { OnOk result (self.new ≡ record (called self.old) { records = self.old.records ++ payload.now ∷ []; doubt = None; spare = 0; end = self.old.end + (9 + length payload.now) }) }
+        ensures refused { OnErr result (self.new ≡ record (called self.old) { doubt = Some payload.now }) }
         ensures cause { HasCause self.old.faults self.new.faults result }
     {
         if self.fails() {
-            self.doubt = Some(self.pile.take_record(payload));
+            self.pile.doubt(payload);
             return Err(Failed);
         }
         self.pile.append(payload);
@@ -187,7 +185,7 @@ impl Model for CalmKeeper {
 impl CalmKeeper {
     /// A keeper with no records, whose end is 0.
     pub fn new(alloc: Global) -> Self
-        ensures { result ≡ record { records = []; spare = 0; end = 0 } }
+        ensures { result ≡ record { records = []; doubt = None; spare = 0; end = 0 } }
     {
         CalmKeeper {
             pile: Pile::new(alloc, 0),
@@ -205,7 +203,7 @@ impl CalmKeeper {
 impl Keeper for CalmKeeper {
     ghost records = { λ k. Some k.records };
 
-    ghost doubt = { λ _. None };
+    ghost doubt = { λ k. k.doubt };
 
     ghost spare = { λ k. k.spare };
 
@@ -248,16 +246,18 @@ impl Keeper for CalmKeeper {
 
     fn settle(&mut self) -> Result<(), Failed>
         ensures ok { IsOk result }
-        ensures after { self.new ≡ self.old }
+        ensures after { self.new ≡ record self.old { doubt = None } }
     {
+        self.pile.settle();
         Ok(())
     }
 
     fn append(&mut self, payload: &[u8]) -> Result<(), Failed>
+        requires settled { self.old.doubt ≡ None }
         requires spare { length payload.now < self.old.spare }
         requires room { self.old.end + (10 + length payload.now) ≤ 2 ^ 62 }
         ensures ok { IsOk result }
-        ensures after { self.new ≡ record { records = self.old.records ++ payload.now ∷ []; spare = 0; end = self.old.end + (9 + length payload.now) } }
+        ensures after { self.new ≡ record { records = self.old.records ++ payload.now ∷ []; doubt = None; spare = 0; end = self.old.end + (9 + length payload.now) } }
     {
         self.pile.append(payload);
         Ok(())

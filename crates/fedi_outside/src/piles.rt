@@ -1,5 +1,5 @@
 //! Records in memory, and room for the next.
-ghost use Rattle.std.specs.Prelude.{ℕ, ◌≡◌, ◌↔◌, ◌+◌, ◌^◌, ◌<◌, ◌≤◌, max, List, [], ◌∷◌, ◌++◌, length, slice_get, is_ok, if◌then◌else◌, option_copied, IsErrOf, vec_len, vec_capacity};
+ghost use Rattle.std.specs.Prelude.{ℕ, ◌≡◌, ◌↔◌, ◌+◌, ◌^◌, ◌<◌, ◌≤◌, max, List, [], ◌∷◌, ◌++◌, length, slice_get, is_ok, if◌then◌else◌, Some, None, IsErrOf, vec_len, vec_capacity};
 
 use crate::ReserveFault;
 use std::alloc::Global;
@@ -41,8 +41,10 @@ impl Record {
 pub(crate) struct Pile {
     alloc: Global,
     records: Vec<Record>,
-    // What the next record is written into. It is empty.
+    // What the next record is written into.
     blank: Vec<u8>,
+    // Whether an append of what stands in the blank has failed.
+    in_doubt: bool,
     // A record that is shorter than this has room.
     spare: usize,
     end: u64,
@@ -50,24 +52,25 @@ pub(crate) struct Pile {
 
 impl Model for Pile {
     ghost use Rattle.std.specs.Prelude.{◌≡◌, ◌+◌, ◌<◌, ◌≤◌, [], vec_len, vec_capacity};
-    ghost use Rattle.fedi_outside.specs.Keeping.{Piled};
+    ghost use Rattle.fedi_outside.specs.Keeping.{Piled, doubted};
 
     ghost Value = { Piled };
 
-    ghost view = { λ p. record { records = p.records.items; spare = p.spare; end = p.end } };
+    ghost view = { λ p. record { records = p.records.items; doubt = doubted p.in_doubt p.blank.items; spare = p.spare; end = p.end } };
 
-    ghost invariant = { λ p. (p.blank.items ≡ []) × (vec_len p.blank ≡ 0) × (p.spare ≤ vec_capacity p.blank + 1) × (0 < p.spare → vec_len p.records < vec_capacity p.records) };
+    ghost invariant = { λ p. (p.spare ≤ vec_capacity p.blank + 1) × (0 < p.spare → vec_len p.records < vec_capacity p.records) };
 }
 
 impl Pile {
     /// No records, which end there.
     pub fn new(alloc: Global, end: u64) -> Self
-        ensures { result ≡ record { records = []; spare = 0; end = end } }
+        ensures { result ≡ record { records = []; doubt = None; spare = 0; end = end } }
     {
         Pile {
             alloc,
             records: Vec::new(alloc),
             blank: Vec::new(alloc),
+            in_doubt: false,
             spare: 0,
             end,
         }
@@ -96,38 +99,44 @@ impl Pile {
         Ok(())
     }
 
-    /// A record of these bytes, for which room was made. The room is used up.
-    pub fn take_record(&mut self, payload: &[u8]) -> Record
+    /// Holds these bytes in doubt, for which room was made. The room stays.
+    pub fn doubt(&mut self, payload: &[u8])
         requires { length payload.now < self.old.spare }
-        ensures bytes { result ≡ payload.now }
-        ensures after { self.new ≡ record self.old { spare = 0 } }
+        ensures { self.new ≡ record self.old { doubt = Some payload.now } }
     {
-        let blank = mem::replace(&mut self.blank, Vec::new(self.alloc));
-        self.spare = 0;
-        filled(blank, payload)
+        write(&mut self.blank, payload);
+        self.in_doubt = true;
     }
 
-    /// Adds a record of these bytes, for which room was made. The room is used up.
+    /// Takes the doubt away.
+    pub fn settle(&mut self)
+        ensures { self.new ≡ record self.old { doubt = None } }
+    {
+        self.in_doubt = false;
+    }
+
+    /// Adds a record of these bytes, for which room was made. The room is used up, and nothing is in doubt.
     pub fn append(&mut self, payload: &[u8])
         requires spare { length payload.now < self.old.spare }
         requires room { self.old.end + (10 + length payload.now) ≤ 2 ^ 62 }
-        ensures { self.new ≡ record { records = self.old.records ++ payload.now ∷ []; spare = 0; end = self.old.end + (9 + length payload.now) } }
+        ensures { self.new ≡ record { records = self.old.records ++ payload.now ∷ []; doubt = None; spare = 0; end = self.old.end + (9 + length payload.now) } }
     {
-        let blank = mem::replace(&mut self.blank, Vec::new(self.alloc));
-        self.records.push_reserved(filled(blank, payload));
+        self.settle();
+        write(&mut self.blank, payload);
+        let bytes = mem::replace(&mut self.blank, Vec::new(self.alloc));
+        self.records.push_reserved(Record { bytes });
         self.spare = 0;
         self.end += GROWTH + payload.len() as u64;
     }
 }
 
-// The record that is these bytes, written into the blank.
-fn filled(blank: Vec<u8>, payload: &[u8]) -> Record
-    requires empty { (blank.items ≡ []) × (vec_len blank ≡ 0) }
-    requires room { length payload.now ≤ vec_capacity blank }
-    ensures { result ≡ payload.now }
+// Writes the payload in place of what stands there. There is room.
+fn write(blank: &mut Vec<u8>, payload: &[u8])
+    requires { length payload.now ≤ vec_capacity blank.old }
+    ensures bytes { blank.new.items ≡ payload.now }
+    ensures capacity { vec_capacity blank.old ≤ vec_capacity blank.new }
 {
-    let mut bytes = blank;
-    // The room is there, so it does not fail.
-    let _ = bytes.extend_from_slice(payload);
-    Record { bytes }
+    blank.clear();
+    // It does not fail where there is room.
+    let _ = blank.extend_from_slice(payload);
 }
