@@ -1,3 +1,4 @@
 pub mod Causes
 pub mod Feeding
 pub mod Gathering
+pub mod Keeping

@@ -5,6 +5,9 @@
 
 mod clocks;
 mod failure;
+mod keepers;
+mod memory_keepers;
+mod piles;
 mod plan;
 mod sinks;
 mod sources;
@@ -13,5 +16,8 @@ mod tests;
 
 pub use clocks::{Clock, FixedClock};
 pub use failure::Failed;
+pub use keepers::{Keeper, LoadFault, ReserveFault};
+pub use memory_keepers::{CalmKeeper, MemoryKeeper};
+pub use piles::Record;
 pub use sinks::{MemorySink, Sink};
 pub use sources::{CalmSource, MemorySource, Source};
