@@ -51,7 +51,7 @@ same_text_reply : (limit : ℕ) (history : List Entry) (moment : ℕ) (bytes out
 same_text_reply limit history moment bytes out other start end other_start other_end x y a b =
     let same = same_text limit bytes start end other_start other_end x y in
     let first : AnswersText MOST_FIELDS (town history) (slice_range bytes other_start other_end) a.0 =
-        subst (λ (text : List ℕ). AnswersText MOST_FIELDS (town history) text a.0) same a.1.answer in
+    subst (λ (text : List ℕ). AnswersText MOST_FIELDS (town history) text a.0) same a.1.answer in
     let reply_is : a.0 ≡ b.0 = same_reply (town history) (slice_range bytes other_start other_end) a.0 b.0 first b.1.answer in
     a.2 ∙ ap (λ (r : Reply). closing_text moment r) reply_is ∙ sym b.2
 

@@ -152,5 +152,4 @@ pub fn run<S: Source, O: Sink, C: Clock>(
 /// determined.
 pub fn conversations_are_determined()
     ensures { (history : List Entry) (seconds : ℕ) (input out other : List ℕ) → Converses history (Some seconds) input out → Converses history (Some seconds) input other → out ≡ other }
-{
-}
+{}

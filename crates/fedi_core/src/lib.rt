@@ -12,7 +12,7 @@ mod seeing;
 
 pub use facts::Facts;
 pub use fixture::example_history;
-pub use machine::{Core, digest};
+pub use machine::Core;
 pub use replies::reply;
 pub use seeing::sees;
 

@@ -13,18 +13,11 @@ ghost use Rattle.fedi_model.specs.Replies.{reply};
 use crate::facts::Facts;
 use crate::replies;
 use fedi_address::Refusal;
+use fedi_mac::digest;
 use fedi_model::{Ask, Caller, Credentials, Reply};
 use fedi_objects::Entry;
-use sha2::{Digest, Sha256};
 use std::alloc::{AllocError, Global};
 use std::marker::Model;
-
-/// The SHA-256 digest of the bytes (FIPS 180-4). It takes no memory.
-pub fn digest(bytes: &[u8]) -> [u8; 32]
-    ensures { result ≡ sha256 bytes.now }
-{
-    Sha256::digest(bytes)
-}
 
 /// The machine: a history with the facts that it has made. A contract sees it as its history.
 #[derive(Drop)]
