@@ -1,0 +1,84 @@
+-- Lists of values, seen as their data.
+use Rattle.std.proofs.Common.{◌≡◌, ℕ, ◌+◌, ◌<◌, List, [], ◌∷◌, ◌++◌, append-nil, map, take, get_or, length, Bool, true, false, cond, ◌||◌, Option, Some, None, refl, ap, ◌∙◌}
+use Rattle.std.specs.Prelude.{Ok, Err}
+use Rattle.std.proofs.lemmas.List.{take_more, map_push}
+use Rattle.std.proofs.lemmas.List.Sums.{fold-append}
+use Rattle.std.proofs.lemmas.List.Folds.{list_any-append, list_any_at}
+use Rattle.std.proofs.lemmas.List.Elements.{filter_map-append}
+use Rattle.std.specs.List.{list_any, filter_map, cons_option}
+use Rattle.serde_json.specs.Data.{Data}
+use Rattle.serde_json.specs.View.{items_of}
+use Rattle.fedi_reading.specs.Properties.{list_of}
+use Rattle.fedi_reading.specs.Reading.{is_bad, recipient_of, reads_entry, reads_entries, add_new, distinct}
+use Rattle.fedi_reading.specs.declared.shape_fault.ShapeFault.{ShapeFault}
+use Rattle.fedi_reading.specs.declared.shape_fault.ShapeFault.TheVariants.{BadIri}
+
+-- the items of a list are its entries
+pub list_of_items : (ds : List Data) → list_of (items_of ds) ≡ ds
+list_of_items [] = refl
+list_of_items (d ∷ ds) = ap (λ es. d ∷ es) (list_of_items ds)
+
+-- a test of what the elements are seen as
+pub list_any_map : {X Y : Type 0} (f : X → Y) (p : Y → Bool) (xs : List X) → list_any p (map f xs) ≡ list_any (λ x. p (f x)) xs
+list_any_map f p [] = refl
+list_any_map f p (x ∷ xs) = ap (λ b. p (f x) || b) (list_any_map f p xs)
+
+-- one more element, as at a step of a loop
+pub map_take_more : {X Y : Type 0} (f : X → Y) (xs : List X) (i : ℕ) (x : X) → i < length xs → map f (take (i + 1) xs) ≡ map f (take i xs) ++ f (get_or xs i x) ∷ []
+map_take_more f xs i x h = ap (map f) (take_more xs i x h) ∙ map_push f (take i xs) (get_or xs i x)
+
+-- an entry that is read is not bad
+entry_ok : (d : Data) (o : Option (List ℕ)) → reads_entry d ≡ Ok o → (is_bad d ≡ false) × (recipient_of d ≡ o)
+unfolding reads_entry
+entry_ok d o = elim (is_bad d) as (λ b. cond b (Err BadIri) (Ok (recipient_of d)) ≡ Ok o → (b ≡ false) × (recipient_of d ≡ o)) [ true ↦ λ h. cc | false ↦ λ h. (refl, cc) ]
+
+-- an entry that is not read is bad
+entry_err : (d : Data) (e : ShapeFault) → reads_entry d ≡ Err e → (is_bad d ≡ true) × (e ≡ BadIri)
+unfolding reads_entry
+entry_err d e = elim (is_bad d) as (λ b. cond b (Err BadIri) (Ok (recipient_of d)) ≡ Err e → (b ≡ true) × (e ≡ BadIri)) [ true ↦ λ h. (refl, cc) | false ↦ λ h. cc ]
+
+-- What is kept of the entries so far, of which none is bad.
+pub record HasRead (ds : List Data) (kept : List (List ℕ)) : Type 0 where
+  pub good : list_any is_bad ds ≡ false
+  pub once : kept ≡ distinct (filter_map recipient_of ds)
+
+pub none_read : HasRead [] []
+unfolding distinct
+none_read = record { good = refl; once = refl }
+
+goes_past : (ds : List Data) (d : Data) → list_any is_bad ds ≡ false → is_bad d ≡ false → list_any is_bad (ds ++ d ∷ []) ≡ false
+goes_past ds d h k = rw (list_any-append is_bad ds (d ∷ []), h, k) refl
+
+pub read_past : (ds : List Data) (d : Data) (kept : List (List ℕ)) → HasRead ds kept → reads_entry d ≡ Ok None → HasRead (ds ++ d ∷ []) kept
+read_past ds d kept h e =
+    let read = entry_ok d None e in
+    record {
+      good = goes_past ds d h.good read.0;
+      once = rw (filter_map-append recipient_of ds (d ∷ []), read.1, append-nil) h.once;
+    }
+
+pub read_more : (ds : List Data) (d : Data) (kept : List (List ℕ)) (text : List ℕ) → HasRead ds kept → reads_entry d ≡ Ok (Some text) → HasRead (ds ++ d ∷ []) (add_new kept text)
+unfolding distinct
+read_more ds d kept text h e =
+    let read = entry_ok d (Some text) e in
+    record {
+      good = goes_past ds d h.good read.0;
+      once = rw (filter_map-append recipient_of ds (d ∷ []), read.1, fold-append add_new [] (filter_map recipient_of ds) (text ∷ []), ← h.once) refl;
+    }
+
+-- all entries are read
+pub reads_all : (ds : List Data) (kept : List (List ℕ)) → HasRead ds kept → reads_entries ds ≡ Ok kept
+unfolding reads_entries
+reads_all ds kept h = rw (h.good, h.once) refl
+
+-- one bad entry makes the field bad
+pub reads_none : {X : Type 0} (f : X → Data) (xs : List X) (i : ℕ) (x : X) (e : ShapeFault) → i < length xs → reads_entry (f (get_or xs i x)) ≡ Err e → reads_entries (map f xs) ≡ Err e
+unfolding reads_entries
+reads_none f xs i x e h k =
+    let bad = entry_err (f (get_or xs i x)) e k in
+    let all : list_any is_bad (map f xs) ≡ true = list_any_map f is_bad xs ∙ list_any_at (λ y. is_bad (f y)) xs i x h bad.0 in
+    rw (all, bad.1) refl
+
+-- one more element is tried
+pub filter_map_more : {X Y : Type 0} (h : X → Option Y) (xs : List X) (x : X) (o : Option Y) → h x ≡ o → filter_map h (xs ++ x ∷ []) ≡ filter_map h xs ++ cons_option o []
+filter_map_more h xs x o e = rw (filter_map-append h xs (x ∷ []), e) refl

@@ -1,0 +1,5 @@
+pub mod Bodies
+pub mod Faults
+pub mod Properties
+pub mod Reading
+pub mod Shapes

@@ -1,0 +1,172 @@
+-- What is read of an object that a client posts (ActivityStreams 2.0 Vocabulary, section 4; ActivityPub, sections 5.6 and 6.2).
+use Rattle.std.specs.Prelude.{ℕ, List, [], ◌∷◌, ◌++◌, ◌+◌, length, fold, Bool, false, not, ◌&&◌, ◌||◌, nat_le, nat_lt, Option, Some, None, is_some, is_none, option_and_then, option_map, if◌then◌else◌, codes, bytes_eq, Result, Ok, Err}
+use Rattle.std.specs.Option.{option_map_or}
+use Rattle.std.specs.List.{list_any, filter_map}
+use Rattle.serde_json.specs.Data.{Data}
+use Rattle.serde_json.specs.Find.{as_object}
+use Rattle.fedi_address.specs.Iris.{public_iri}
+use Rattle.fedi_address.specs.Recipients.{is_among}
+use Rattle.fedi_address.specs.declared.recipients.Recipients.{Recipients}
+use Rattle.fedi_reading.specs.Properties.{text_at, entries_at, named, reference_at, has_context, reads_type, reads_text, iri}
+use Rattle.fedi_reading.specs.Shapes.{◌>>=◌}
+use Rattle.fedi_objects.specs.declared.object.Tag.{Tag}
+use Rattle.fedi_objects.specs.declared.object.Object.{Object}
+use Rattle.fedi_objects.specs.declared.activity.ObjectRef.TheVariants.{Whole}
+use Rattle.fedi_objects.specs.declared.activity.Activity.{Activity}
+use Rattle.fedi_objects.specs.declared.kind.Kind.TheVariants.{Create}
+use Rattle.fedi_reading.specs.declared.shape_fault.ShapeFault.{ShapeFault}
+use Rattle.fedi_reading.specs.declared.shape_fault.ShapeFault.TheVariants.{NotObject, BadContext, BadIri, TooManyRecipients}
+
+-- the short names of the collection of everyone (ActivityPub, section 5.6)
+unfoldable pub is_everyone : List ℕ → Bool
+is_everyone text = bytes_eq text (codes "Public") || bytes_eq text (codes "as:Public")
+
+-- whom a text names
+unfoldable pub recipient : List ℕ → Option (List ℕ)
+recipient text = if is_everyone text then Some public_iri else iri text
+
+-- whom an entry names
+unfoldable pub recipient_of : Data → Option (List ℕ)
+recipient_of d = option_and_then recipient (named d)
+
+-- the entry names something, but by no address
+unfoldable pub is_bad : Data → Bool
+is_bad d = is_some (named d) && is_none (recipient_of d)
+
+-- an entry: it is bad, or names somebody, or is read past
+unfoldable pub reads_entry : Data → Result (Option (List ℕ)) ShapeFault
+reads_entry d = if is_bad d then Err BadIri else Ok (recipient_of d)
+
+-- the texts, each once, in the order of their first places
+abbrev pub add_new : List (List ℕ) → List ℕ → List (List ℕ)
+add_new kept text = if is_among text kept then kept else kept ++ text ∷ []
+
+unfoldable pub distinct : List (List ℕ) → List (List ℕ)
+distinct texts = fold add_new [] texts
+
+-- a field of recipients, by its entries (ActivityPub, section 6; Vocabulary, section 4)
+unfoldable pub reads_entries : List Data → Result (List (List ℕ)) ShapeFault
+reads_entries ds = if list_any is_bad ds then Err BadIri else Ok (distinct (filter_map recipient_of ds))
+
+-- two fields of recipients
+unfoldable pub reads_fields : List ℕ → List ℕ → Data → Result (List (List ℕ) × List (List ℕ)) ShapeFault
+reads_fields first second d = do
+  a ← reads_entries (entries_at first d)
+  b ← reads_entries (entries_at second d)
+  Ok (a, b)
+
+-- the five fields of recipients
+unfoldable pub reads_recipients : Data → Result Recipients ShapeFault
+reads_recipients d = do
+  told ← reads_fields (codes "to") (codes "cc") d
+  hidden ← reads_fields (codes "bto") (codes "bcc") d
+  audience ← reads_entries (entries_at (codes "audience") d)
+  Ok (record { to = told.0; cc = told.1; bto = hidden.0; bcc = hidden.1; audience = audience })
+
+-- how many entries the five fields have, as they are written
+unfoldable pub entry_count : Data → ℕ
+entry_count d =
+    length (entries_at (codes "to") d) + length (entries_at (codes "cc") d) + length (entries_at (codes "bto") d)
+    + length (entries_at (codes "bcc") d) + length (entries_at (codes "audience") d)
+
+-- an address that is there must be one
+abbrev pub reads_iri : Option (List ℕ) → Result (Option (List ℕ)) ShapeFault
+reads_iri None = Ok None
+reads_iri (Some text) = if is_some (iri text) then Ok (iri text) else Err BadIri
+
+-- what an object replies to (Vocabulary, section 4)
+unfoldable pub reads_reply : Data → Result (Option (List ℕ)) ShapeFault
+reads_reply d = reads_iri (reference_at (codes "inReplyTo") d)
+
+-- what an object replies to, and whom it is for
+unfoldable pub reads_people : Data → Result (Option (List ℕ) × Recipients) ShapeFault
+reads_people d = do
+  in_reply_to ← reads_reply d
+  recipients ← reads_recipients d
+  if nat_lt 500 (entry_count d) then Err TooManyRecipients else Ok (in_reply_to, recipients)
+
+-- the content, the summary and the name (Vocabulary, section 4; Core, section 4.7)
+unfoldable pub reads_words : Data → Result (Option (List ℕ) × Option (List ℕ) × Option (List ℕ)) ShapeFault
+reads_words d = do
+  content ← reads_text (codes "content") d
+  summary ← reads_text (codes "summary") d
+  name ← reads_text (codes "name") d
+  Ok (content, summary, name)
+
+-- the address of a property: what is no address is read past
+abbrev pub iri_at : List ℕ → Data → Option (List ℕ)
+iri_at key d = option_and_then iri (text_at key d)
+
+-- where an object can be seen in another form (Vocabulary, section 4)
+unfoldable pub url_of : Data → Option (List ℕ)
+url_of d = iri_at (codes "url") d
+
+-- a text that is not too long, else the empty text
+abbrev pub short_text : Option (List ℕ) → List ℕ
+short_text None = []
+short_text (Some text) = if nat_le (length text) 65536 then text else []
+
+abbrev pub mention : List ℕ → List ℕ → Tag
+mention name href = record { href = href; name = name }
+
+abbrev pub is_mention : Data → Bool
+is_mention d = option_map_or (λ text. bytes_eq text (codes "Mention")) (text_at (codes "type") d) false
+
+-- a mention (Vocabulary, section 5.5): every other tag is read past
+unfoldable pub tag_of : Data → Option Tag
+tag_of d =
+    if is_mention d then option_map (mention (short_text (text_at (codes "name") d))) (iri_at (codes "href") d) else None
+
+unfoldable pub tags_of : Data → List Tag
+tags_of d = filter_map tag_of (entries_at (codes "tag") d)
+
+-- An object that a client posts, of its type, what it replies to, whom it is for, its words, its url and its mentions:
+-- its `id`, its author and its times are the server's to give (ActivityPub, section 6).
+abbrev pub made : List ℕ → Option (List ℕ) × Recipients → Option (List ℕ) × Option (List ℕ) × Option (List ℕ) → Option (List ℕ) × List Tag → Object
+made kind people words links = record {
+  id = None;
+  kind = kind;
+  attributed_to = None;
+  recipients = people.1;
+  in_reply_to = people.0;
+  content = words.0;
+  summary = words.1;
+  name = words.2;
+  url = links.0;
+  published = None;
+  updated = None;
+  former_kind = None;
+  deleted = None;
+  tags = links.1;
+}
+
+unfoldable pub reads_object : Data → Result Object ShapeFault
+reads_object d = do
+  kind ← reads_type d
+  people ← reads_people d
+  words ← reads_words d
+  Ok (made kind people words (url_of d, tags_of d))
+
+-- the Create that an object alone is wrapped in, for the same recipients (ActivityPub, section 6.2.1)
+abbrev pub wrapped : Object → Activity
+wrapped o = record {
+  id = None;
+  kind = Create;
+  actor = None;
+  object = Whole o;
+  target = None;
+  recipients = o.recipients;
+  in_reply_to = None;
+  content = None;
+  summary = None;
+  name = None;
+  published = None;
+  tags = [];
+}
+
+-- What a client posts, read as an activity: the first fault, in the order of the faults' numbers, or the Create.
+unfoldable pub reads_posted : Data → Result Activity ShapeFault
+reads_posted d =
+    if not (is_some (as_object d)) then Err NotObject else (
+    if not (has_context d) then Err BadContext else (
+    reads_object d >>= λ o. Ok (wrapped o)))

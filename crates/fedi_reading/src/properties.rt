@@ -1,0 +1,233 @@
+//! The properties of ActivityStreams, as they stand in JSON.
+
+ghost use Rattle.std.specs.Prelude.{◌≡◌, ◌||◌, map, bytes_eq, option_map, IfOk};
+ghost use Rattle.std.specs.Option.{option_copied};
+ghost use Rattle.std.specs.List.{list_any};
+ghost use Rattle.serde_json.specs.View.{view};
+ghost use Rattle.fedi_reading.specs.Properties as properties;
+ghost use Rattle.fedi_reading.specs.Shapes.{Gives};
+
+use crate::shape_fault::ShapeFault;
+use fedi_address::{Iri, IriFault};
+use fedi_objects::{Kind, Text};
+use serde_json::Value;
+use std::alloc::{AllocError, Global};
+
+/// The context of ActivityStreams (ActivityStreams 2.0 Core, section 2.1).
+const CONTEXT: &str = "https://www.w3.org/ns/activitystreams";
+
+/// The type of what is left of a deleted object.
+const TOMBSTONE: &str = "Tombstone";
+
+/// The longest type, in bytes.
+const LONGEST_TYPE: usize = 64;
+
+/// The longest text that is kept, in bytes.
+pub(crate) const LONGEST_TEXT: usize = 65_536;
+
+/// The types of activities.
+const KINDS: [Kind; 28] = [
+    Kind::Accept,
+    Kind::Add,
+    Kind::Announce,
+    Kind::Arrive,
+    Kind::Block,
+    Kind::Create,
+    Kind::Delete,
+    Kind::Dislike,
+    Kind::Flag,
+    Kind::Follow,
+    Kind::Ignore,
+    Kind::Invite,
+    Kind::Join,
+    Kind::Leave,
+    Kind::Like,
+    Kind::Listen,
+    Kind::Move,
+    Kind::Offer,
+    Kind::Question,
+    Kind::Read,
+    Kind::Reject,
+    Kind::Remove,
+    Kind::TentativeAccept,
+    Kind::TentativeReject,
+    Kind::Travel,
+    Kind::Undo,
+    Kind::Update,
+    Kind::View,
+];
+
+// The value of a property. One that is null is absent.
+#[tactic(auto, unfolding(crate::specs::Properties::property))]
+pub(crate) fn property<'a>(value: &'a Value, key: &str) -> Option<&'a Value>
+    ensures { option_map (λ v. view v.now) result ≡ properties.property key.now (view value.now) }
+{
+    match value.get(key) {
+        None => None,
+        Some(Value::Null) => None,
+        Some(found) => Some(found),
+    }
+}
+
+// The text of a property, where it is one.
+#[tactic(auto, unfolding(crate::specs::Properties::text_at))]
+pub(crate) fn text_at<'a>(value: &'a Value, key: &str) -> Option<&'a str>
+    ensures { option_copied result ≡ properties.text_at key.now (view value.now) }
+{
+    value.get(key).and_then(Value::as_str)
+}
+
+// The entries of a list, or the one value.
+#[tactic(auto, using(crate::proofs::ReadingLemmas::list_of_items), unfolding(crate::specs::Properties::entries))]
+pub(crate) fn entries(value: &Value) -> &[Value]
+    ensures { map view result.now ≡ properties.entries (view value.now) }
+{
+    match value.as_array() {
+        Some(values) => values.as_slice(),
+        None => std::slice::from_ref(value),
+    }
+}
+
+// The entries of a property.
+#[tactic(auto, unfolding(crate::specs::Properties::entries_at))]
+pub(crate) fn entries_at<'a>(value: &'a Value, key: &str) -> &'a [Value]
+    ensures { map view result.now ≡ properties.entries_at key.now (view value.now) }
+{
+    match property(value, key) {
+        None => &[],
+        Some(found) => entries(found),
+    }
+}
+
+// A list stands for its first entry.
+#[tactic(auto, unfolding(crate::specs::Properties::first_of))]
+fn first_of(value: &Value) -> &Value
+    ensures { view result.now ≡ properties.first_of (view value.now) }
+{
+    value.get(0).unwrap_or(value)
+}
+
+// What a value names.
+#[tactic(auto, unfolding(crate::specs::Properties::named))]
+pub(crate) fn named(value: &Value) -> Option<&str>
+    ensures { option_copied result ≡ properties.named (view value.now) }
+{
+    match value {
+        Value::String(text) => Some(text.as_str()),
+        _ => text_at(value, "id"),
+    }
+}
+
+// What a property of one value names.
+#[tactic(auto, unfolding(crate::specs::Properties::reference_at))]
+pub(crate) fn reference_at<'a>(value: &'a Value, key: &str) -> Option<&'a str>
+    ensures { option_copied result ≡ properties.reference_at key.now (view value.now) }
+{
+    match property(value, key) {
+        None => None,
+        Some(found) => named(first_of(found)),
+    }
+}
+
+#[tactic(auto, unfolding(crate::specs::Properties::is_context))]
+fn is_context(value: &Value) -> bool
+    ensures { result ≡ properties.is_context (view value.now) }
+{
+    match value {
+        Value::String(text) => text.as_str() == CONTEXT,
+        _ => false,
+    }
+}
+
+fn hold_context(values: &[Value]) -> bool
+    ensures { result ≡ list_any (λ value. properties.is_context (view value)) values.now }
+{
+    values.iter().any(|value| is_context(value))
+}
+
+// Whether the context is that of ActivityStreams, or absent.
+#[tactic(auto, using(crate::proofs::ReadingLemmas::list_any_map), unfolding(crate::specs::Properties::has_context))]
+pub(crate) fn has_context(value: &Value) -> bool
+    ensures { result ≡ properties.has_context (view value.now) }
+{
+    match property(value, "@context") {
+        None => true,
+        Some(context) => hold_context(entries(context)),
+    }
+}
+
+#[tactic(auto, unfolding(crate::specs::Properties::type_text))]
+fn type_text(text: &str) -> Option<&str>
+    ensures { option_copied result ≡ properties.type_text text.now }
+{
+    if 1 <= text.len() && text.len() <= LONGEST_TYPE {
+        Some(text)
+    } else {
+        None
+    }
+}
+
+#[tactic(auto, unfolding(crate::specs::Properties::type_of))]
+fn type_of(value: &Value) -> Option<&str>
+    ensures { option_copied result ≡ properties.type_of (view value.now) }
+{
+    let found = property(value, "type")?;
+    let text = first_of(found).as_str()?;
+    type_text(text)
+}
+
+// Whether the text is one of the types of activities.
+#[tactic(auto, unfolding(crate::specs::Properties::is_activity_type))]
+fn is_activity_type(text: &str) -> bool
+    ensures { result ≡ properties.is_activity_type text.now }
+{
+    KINDS.iter().any(|kind| kind.name() == text)
+}
+
+#[tactic(auto, unfolding(crate::specs::Properties::makes_nothing))]
+fn makes_nothing(text: &str) -> bool
+    ensures { result ≡ properties.makes_nothing text.now }
+{
+    is_activity_type(text) || text == TOMBSTONE
+}
+
+// The type of an object to be made.
+#[tactic(auto, unfolding(crate::specs::Properties::reads_type))]
+pub(crate) fn read_type(alloc: Global, value: &Value) -> Result<Text, ShapeFault>
+    ensures { Gives result (properties.reads_type (view value.now)) }
+{
+    let Some(text) = type_of(value) else {
+        return Err(ShapeFault::NoType);
+    };
+    if makes_nothing(text) {
+        return Err(ShapeFault::NoType);
+    }
+    Ok(Text::from_text(alloc, text)?)
+}
+
+// The text of a property, which must not be too long.
+#[tactic(auto, unfolding(crate::specs::Properties::reads_text))]
+pub(crate) fn read_text(alloc: Global, value: &Value, key: &str) -> Result<Option<Text>, ShapeFault>
+    ensures { Gives result (properties.reads_text key.now (view value.now)) }
+{
+    let Some(text) = text_at(value, key) else {
+        return Ok(None);
+    };
+    if text.len() > LONGEST_TEXT {
+        return Err(ShapeFault::BadText);
+    }
+    Ok(Some(Text::from_text(alloc, text)?))
+}
+
+// The address that a text is read as.
+#[tactic(auto, unfolding(crate::specs::Properties::iri))]
+pub(crate) fn iri_of(alloc: Global, text: &str) -> Result<Option<Iri>, AllocError>
+    ensures { IfOk result (λ iri. iri ≡ properties.iri text.now) }
+{
+    match Iri::parse(alloc, text) {
+        Ok(iri) => Ok(Some(iri)),
+        Err(IriFault::NotIri) => Ok(None),
+        Err(IriFault::TooLong) => Ok(None),
+        Err(IriFault::Memory) => Err(AllocError),
+    }
+}
