@@ -1,7 +1,7 @@
 //! What the server makes of a posted activity.
 
 ghost use Rattle.std.specs.Prelude.{◌≡◌, ◌<◌, ◌+◌, IfOk, Some, option_copied};
-ghost use Rattle.fedi_model.specs.Activities.{makes, is_done, is_object_id, completed, completed_object, completed_ref, local_state, local_act, whole_of};
+ghost use Rattle.fedi_model.specs.Activities.{makes, is_done, is_own_id, completed, completed_object, completed_ref, local_state, local_act, whole_of};
 ghost use Rattle.fedi_model.specs.Ids.{actor_id, activity_id, object_id};
 ghost use Rattle.fedi_model.specs.Towns.{count_of};
 ghost use Rattle.fedi_objects.specs.Dates.{moment_text};
@@ -28,8 +28,8 @@ fn is_done(state: State) -> bool
     }
 }
 
-fn is_object_id(own: &Option<Iri>, id: &Iri) -> bool
-    ensures { result ≡ is_object_id id.now own.now }
+fn is_own_id(own: &Option<Iri>, id: &Iri) -> bool
+    ensures { result ≡ is_own_id id.now own.now }
 {
     match own {
         Some(own) => own.is(id),
@@ -56,7 +56,7 @@ pub fn makes(act: &Act, id: &Iri) -> bool
         return false;
     }
     match &act.activity.object {
-        ObjectRef::Whole(object) => is_object_id(&object.id, id),
+        ObjectRef::Whole(object) => is_own_id(&object.id, id),
         ObjectRef::Nothing | ObjectRef::Id(_) | ObjectRef::Changed(_) => false,
     }
 }

@@ -1,20 +1,28 @@
 -- Each reply has a status code of three digits.
-use Rattle.std.proofs.Common.{◌≡◌, ℕ, ◌≤◌, ◌<◌, Bool, true, false, Option, Some, None, refl, lit≤, lit<}
-use Rattle.std.specs.Prelude.{if◌then◌else◌, option_and_then}
+use Rattle.std.proofs.Common.{◌≡◌, ℕ, ◌≤◌, ◌<◌, Bool, true, false, List, Option, Some, None, Result, Ok, Err, refl, lit≤, lit<}
+use Rattle.std.specs.Prelude.{nat_lt, not, if◌then◌else◌}
 use Rattle.std.specs.List.{find}
 use Rattle.fedi_address.specs.declared.refusal.Refusal.{Refusal}
 use Rattle.fedi_address.specs.declared.refusal.Refusal.TheVariants.{BadHead, BadBody, BadQuery, NoKey, WrongKey, WrongMac, NotOwner, Blocked, NotOrigin, NotPublic, NotFound, WrongMethod, KeyReused, NotStanding, Gone, NoLength, TooLong, WrongType, BadShape, HeadTooLong, NoCoding, ActorFull, KeeperFault, Memory, JournalFull}
+use Rattle.fedi_objects.specs.declared.activity.Activity.{Activity}
 use Rattle.fedi_objects.specs.declared.object.Object.{Object}
+use Rattle.fedi_reading.specs.declared.shape_fault.ShapeFault.{ShapeFault}
 use Rattle.fedi_model.specs.declared.act.Act.{Act}
 use Rattle.fedi_model.specs.declared.ask.Ask.{Ask}
 use Rattle.fedi_model.specs.declared.ask.Ask.TheVariants as asks
+use Rattle.fedi_model.specs.declared.ask.Post.{Post}
+use Rattle.fedi_model.specs.declared.ask.Read.{Read}
+use Rattle.fedi_model.specs.declared.ask.Read.TheVariants.{NotJson, Bad, Ready}
+use Rattle.fedi_model.specs.declared.act.Actor.{Actor}
 use Rattle.fedi_model.specs.declared.caller.Caller.{Caller}
 use Rattle.fedi_model.specs.declared.reply.Reply.{Reply}
 use Rattle.fedi_model.specs.Activities.{whole_of}
-use Rattle.fedi_model.specs.Replies.{refused, document, document_or_missing, maker_of, seen_or_missing, reply}
+use Rattle.fedi_model.specs.Posting.{is_nobody, is_self, judged, post_reply_at, read_or_refused, told, with_room}
+use Rattle.fedi_model.specs.Refusing.{misshapen, refused}
+use Rattle.fedi_model.specs.Replies.{activity_document, activity_or_missing, object_document, document_or_missing, maker_of, seen_activity, seen_or_missing, reply}
 use Rattle.fedi_model.specs.ReplyText.{HasStatus}
 use Rattle.fedi_model.specs.Seeing.{sees}
-use Rattle.fedi_model.specs.Towns.{Town}
+use Rattle.fedi_model.specs.Towns.{Town, count_of, is_named}
 
 pub refused_has_status : (r : Refusal) → HasStatus (refused r)
 refused_has_status BadHead = (lit≤ tt, lit< tt)
@@ -43,8 +51,11 @@ refused_has_status KeeperFault = (lit≤ tt, lit< tt)
 refused_has_status Memory = (lit≤ tt, lit< tt)
 refused_has_status JournalFull = (lit≤ tt, lit< tt)
 
+pub misshapen_has_status : (fault : ShapeFault) → HasStatus (misshapen fault)
+misshapen_has_status fault = (lit≤ tt, lit< tt)
+
 document_has_status : (o : Option Object) → HasStatus (document_or_missing o)
-unfolding document
+unfolding object_document
 document_has_status None = refused_has_status NotFound
 document_has_status (Some o) = (lit≤ tt, lit< tt)
 
@@ -56,6 +67,53 @@ seen_has_status t c (Some x) =
       | false ↦ refused_has_status NotFound
     ]
 
+activity_has_status : (found : Option Act) → HasStatus (activity_or_missing found)
+unfolding activity_document
+activity_has_status None = refused_has_status NotFound
+activity_has_status (Some x) = (lit≤ tt, lit< tt)
+
+-- a refusal among results
+abbrev ErrHasStatus : Result Activity Reply → Type 0
+ErrHasStatus (Ok a) = Unit {0}
+ErrHasStatus (Err r) = HasStatus r
+
+read_has_status : (read : Read) → ErrHasStatus (read_or_refused read)
+read_has_status NotJson = refused_has_status BadBody
+read_has_status (Bad fault) = misshapen_has_status fault
+read_has_status (Ready a) = tt
+
+room_has_status : (count : ℕ) (r : Result Activity Reply) → ErrHasStatus r → ErrHasStatus (with_room count r)
+room_has_status count (Err r) h = h
+room_has_status count (Ok a) h =
+    elim (nat_lt count 4294967295) as (λ b. ErrHasStatus (if b then Ok a else Err (refused ActorFull))) [
+      | true ↦ tt
+      | false ↦ refused_has_status ActorFull
+    ]
+
+-- the first of two that is refused
+choice_has_status : (b : Bool) (x y : Result Activity Reply) → ErrHasStatus x → ErrHasStatus y → ErrHasStatus (if b then x else y)
+choice_has_status true x y hx hy = hx
+choice_has_status false x y hx hy = hy
+
+pub judged_has_status : (c : Caller) (name : List ℕ) (count : ℕ) (post : Post) → ErrHasStatus (judged c name count post)
+judged_has_status c name count post =
+    choice_has_status post.is_keyed _ _ (refused_has_status BadQuery)
+    (choice_has_status (is_nobody c) _ _ (refused_has_status NoKey)
+    (choice_has_status (not (is_self c name)) _ _ (refused_has_status NotOwner)
+    (choice_has_status (not post.is_typed) _ _ (refused_has_status WrongType)
+    (room_has_status count (read_or_refused post.read) (read_has_status post.read)))))
+
+told_has_status : (host : Option (List ℕ)) (name : List ℕ) (count : ℕ) (r : Result Activity Reply) → ErrHasStatus r → HasStatus (told host name count r)
+told_has_status host name count (Err r) h = h
+told_has_status host name count (Ok a) h = (lit≤ tt, lit< tt)
+
+post_has_status : (t : Town) (c : Caller) (name : List ℕ) (member : Option Actor) (post : Post) → HasStatus (post_reply_at t c name member post)
+post_has_status t c name None post = refused_has_status NotFound
+post_has_status t c name (Some member) post =
+    told_has_status t.host name (count_of t member.id) (judged c name (count_of t member.id) post) (judged_has_status c name (count_of t member.id) post)
+
 pub reply_has_status : (t : Town) (c : Caller) (ask : Ask) → HasStatus (reply t c ask)
 reply_has_status t c asks.Nowhere = refused_has_status NotFound
+reply_has_status t c (asks.Activity name number) = activity_has_status (seen_activity t c name number)
 reply_has_status t c (asks.Object name number) = seen_has_status t c (maker_of t name number)
+reply_has_status t c (asks.Outbox name post) = post_has_status t c name (find (is_named name) t.actors) post

@@ -58,15 +58,15 @@ whole_of (Id iri) = None
 whole_of (Whole o) = Some o
 whole_of (Changed change) = None
 
--- the object's own id is this one
-abbrev pub is_object_id : List ℕ → Option (List ℕ) → Bool
-is_object_id id None = false
-is_object_id id (Some own) = bytes_eq own id
+-- this is the thing's own id
+abbrev pub is_own_id : List ℕ → Option (List ℕ) → Bool
+is_own_id id None = false
+is_own_id id (Some own) = bytes_eq own id
 
 -- there is an object, and it has this id
 abbrev pub has_object_id : List ℕ → Option Object → Bool
 has_object_id id None = false
-has_object_id id (Some o) = is_object_id id o.id
+has_object_id id (Some o) = is_own_id id o.id
 
 -- the activity made the object of this id: a Create that is done
 unfoldable pub makes : List ℕ → Act → Bool

@@ -17,6 +17,10 @@ activity_path name number = codes "/users/" ++ (name ++ (codes "/a/" ++ decimal 
 abbrev pub object_path : List ℕ → ℕ → List ℕ
 object_path name number = codes "/users/" ++ (name ++ (codes "/o/" ++ decimal number))
 
+-- the path of a member's outbox (ActivityPub, section 5.1)
+abbrev pub outbox_path : List ℕ → List ℕ
+outbox_path name = codes "/users/" ++ (name ++ codes "/outbox")
+
 -- the id of a member
 unfoldable pub actor_id : List ℕ → List ℕ → List ℕ
 actor_id host name = address host (actor_path name)

@@ -8,6 +8,8 @@ pub mod Requests
 pub mod Credentials
 pub mod Callers
 pub mod Routes
+pub mod Refusing
+pub mod Posting
 pub mod Replies
 pub mod Agreement
 pub mod ReplyText

@@ -1,5 +1,5 @@
 -- What the head of a request asks, and which requests are served (RFC 9112, sections 2 to 5; RFC 9110, sections 5 and 7.2).
-use Rattle.std.specs.Prelude.{◌≡◌, ℕ, ◌≤◌, Bool, false, ◌&&◌, ◌==◌, nat_eq, nat_le, List, [], length, map, count_by, codes, bytes_eq, IsTrue, Result, Ok, Err}
+use Rattle.std.specs.Prelude.{◌≡◌, ℕ, ◌≤◌, Bool, false, ◌&&◌, ◌==◌, nat_eq, nat_le, List, [], length, map, count_by, codes, bytes_eq, find, Option, option_map, IsTrue, Result, Ok, Err}
 use Rattle.std.specs.List.{starts_with}
 use Rattle.std.specs.Char.{to_ascii_lowercase}
 use Rattle.httparse.specs.Grammar.{RequestHead, ReadsRequest}
@@ -26,9 +26,17 @@ fields_of h = map field_of (map name_and_value h.fields)
 abbrev pub fields_at : List ℕ → List HeaderSpan → List Field
 fields_at text spans = map field_of (map (header_bytes text) spans)
 
--- a request of these parts, with no body
+-- to read (RFC 9110, section 9.3.1)
+abbrev pub is_get : List ℕ → Bool
+is_get method = bytes_eq method (codes "GET")
+
+-- to post (RFC 9110, section 9.3.3)
+abbrev pub is_post : List ℕ → Bool
+is_post method = bytes_eq method (codes "POST")
+
+-- a request of these parts
 abbrev pub request_with : List ℕ → List ℕ → List Field → Request
-request_with method target fields = record { method = method; target = target; fields = fields; body = []; keep = false; head_only = false }
+request_with method target fields = record { method = method; target = target; fields = fields; body_length = 0; keep = false }
 
 -- the request that a head writes
 abbrev pub request_of : RequestHead → Request
@@ -41,6 +49,10 @@ is_named name field = bytes_eq (map to_ascii_lowercase field.name) (map to_ascii
 -- how many of the fields have this name
 unfoldable pub count_named : List ℕ → List Field → ℕ
 count_named name fields = count_by (is_named name) fields
+
+-- the value of the first field of this name
+unfoldable pub field_value : List ℕ → List Field → Option (List ℕ)
+field_value name fields = option_map (λ f. f.value) (find (is_named name) fields)
 
 -- exactly one field has this name
 abbrev pub is_once : List ℕ → List Field → Bool

@@ -1,10 +1,20 @@
--- What a target asks for. Paths are compared byte for byte and never decoded.
-use Rattle.std.specs.Prelude.{◌≡◌, ℕ, ◌≤◌, ◌<◌, ◌^◌, ◌==◌, List, ◌++◌, codes, decimal, IsTrue}
-use Rattle.std.specs.List.{before_first}
+-- What a request asks for, by its method and its path (RFC 9110, section 9.3; ActivityPub, sections 3.2 and 6). Paths are
+-- compared byte for byte and never decoded.
+use Rattle.std.specs.Prelude.{◌≡◌, ℕ, ◌-◌, ◌≤◌, ◌<◌, ◌^◌, ◌==◌, Bool, false, not, ◌||◌, List, length, take, map, codes, bytes_eq, IsTrue, Option, Some, None, Ok, Err}
+use Rattle.std.specs.Char.{to_ascii_lowercase, is_ascii_whitespace}
+use Rattle.std.specs.List.{before_first, suffix_len}
+use Rattle.serde_json.specs.Data.{Data}
 use Rattle.fedi_address.specs.Names.{is_name}
-use Rattle.fedi_model.specs.Ids.{object_path}
+use Rattle.fedi_reading.specs.Bodies.{IsBodyOf}
+use Rattle.fedi_reading.specs.Reading.{reads_posted}
+use Rattle.fedi_model.specs.Ids.{activity_path, object_path, outbox_path}
+use Rattle.fedi_model.specs.Requests.{field_value, is_get, is_missing, is_post}
 use Rattle.fedi_model.specs.declared.ask.Ask.{Ask}
-use Rattle.fedi_model.specs.declared.ask.Ask.TheVariants.{Nowhere, Object}
+use Rattle.fedi_model.specs.declared.ask.Ask.TheVariants.{Nowhere, Activity, Object, Outbox}
+use Rattle.fedi_model.specs.declared.ask.Post.{Post}
+use Rattle.fedi_model.specs.declared.ask.Read.{Read}
+use Rattle.fedi_model.specs.declared.ask.Read.TheVariants.{NotJson, Bad, Ready}
+use Rattle.fedi_model.specs.declared.request.Request.{Request}
 
 -- the path: the target up to its first question mark (RFC 3986, section 3.3)
 abbrev pub path_of : List ℕ → List ℕ
@@ -14,20 +24,55 @@ path_of target = before_first (λ b. b == 63) target
 abbrev pub IsNumber : ℕ → Type 0
 IsNumber number = (1 ≤ number) × (number < 2 ^ 32)
 
--- what follows the member's name in the path of an object
-abbrev pub object_part : ℕ → List ℕ
-object_part number = codes "/o/" ++ decimal number
+-- ---- posts
 
--- the path is that of this thing
-abbrev pub IsPathOf : List ℕ → Ask → Type 0
-IsPathOf path Nowhere = ⊥
-IsPathOf path (Object name number) = IsTrue (is_name name) × IsNumber number × (path ≡ object_path name number)
+-- the text up to the white space at its end, of which a field has spaces and tabs alone
+abbrev pub without_blanks : List ℕ → List ℕ
+without_blanks text = take (length text - suffix_len is_ascii_whitespace text) text
 
--- what a path asks for: the thing whose path it is, and nothing where it is the path of no thing
-abbrev pub Asks : List ℕ → Ask → Type 0
-Asks path Nowhere = (ask : Ask) → ¬ (IsPathOf path ask)
-Asks path (Object name number) = IsPathOf path (Object name number)
+-- a media type in lower case, without its parameters (RFC 9110, section 8.3.1)
+unfoldable pub media_type : List ℕ → List ℕ
+media_type value = map to_ascii_lowercase (without_blanks (before_first (λ b. b == 59) value))
 
--- a path asks for one thing at most
-abbrev pub IsAskedOnce : List ℕ → Type 0
-IsAskedOnce path = (a b : Ask) → Asks path a → Asks path b → a ≡ b
+-- the types of JSON and of ActivityStreams (ActivityPub, section 3.2; ActivityStreams 2.0 Core, section 2; RFC 8259, section 11)
+unfoldable pub is_read_type : List ℕ → Bool
+is_read_type type =
+    bytes_eq type (codes "application/activity+json")
+    || (bytes_eq type (codes "application/ld+json") || bytes_eq type (codes "application/json"))
+
+-- the body is said to be of such a type
+abbrev pub is_typed : Option (List ℕ) → Bool
+is_typed None = false
+is_typed (Some value) = is_read_type (media_type value)
+
+-- what is read of a body
+abbrev pub ReadsBody : List ℕ → Read → Type 0
+ReadsBody body NotJson = (d : Data) → ¬ (IsBodyOf body d)
+ReadsBody body (Bad fault) = (d : Data) × IsBodyOf body d × (reads_posted d ≡ Err fault)
+ReadsBody body (Ready a) = (d : Data) × IsBodyOf body d × (reads_posted d ≡ Ok a)
+
+-- the post that a request with this body makes
+pub record IsPost (q : Request) (body : List ℕ) (post : Post) : Type 0 where
+  pub typed : post.is_typed ≡ is_typed (field_value (codes "Content-Type") q.fields)
+  pub keyed : post.is_keyed ≡ not (is_missing (codes "Idempotency-Key") q.fields)
+  pub read : ReadsBody body post.read
+
+-- ---- asks
+
+-- the request is for this
+abbrev pub IsFor : Request → List ℕ → Ask → Type 0
+IsFor q body Nowhere = ⊥
+IsFor q body (Activity name number) = IsTrue (is_get q.method) × IsTrue (is_name name) × IsNumber number × (path_of q.target ≡ activity_path name number)
+IsFor q body (Object name number) = IsTrue (is_get q.method) × IsTrue (is_name name) × IsNumber number × (path_of q.target ≡ object_path name number)
+IsFor q body (Outbox name post) = IsTrue (is_post q.method) × IsTrue (is_name name) × (path_of q.target ≡ outbox_path name) × IsPost q body post
+
+-- what a request with this body asks for: that for which it is, and nothing where it is for no thing
+abbrev pub Asks : Request → List ℕ → Ask → Type 0
+Asks q body Nowhere = (ask : Ask) → ¬ (IsFor q body ask)
+Asks q body (Activity name number) = IsFor q body (Activity name number)
+Asks q body (Object name number) = IsFor q body (Object name number)
+Asks q body (Outbox name post) = IsFor q body (Outbox name post)
+
+-- a request asks for one thing at most
+abbrev pub IsAskedOnce : Request → List ℕ → Type 0
+IsAskedOnce q body = (a b : Ask) → Asks q body a → Asks q body b → a ≡ b

@@ -10,9 +10,9 @@ mod reply;
 mod request;
 
 pub use act::{Act, Actor};
-pub use ask::Ask;
+pub use ask::{Ask, Post, Read};
 pub use caller::{Caller, Credentials, Signed};
 pub use laws::{replies_are_private, unseen_posts_tell_nothing};
-pub use refusing::refusal_reply;
+pub use refusing::{misshapen_reply, refusal_reply};
 pub use reply::{Allow, Form, Reply};
 pub use request::{Field, Request};

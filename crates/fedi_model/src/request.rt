@@ -22,10 +22,8 @@ pub struct Request {
     pub target: Bytes,
     /// The fields of the head, in order.
     pub fields: Items<Field>,
-    /// The body, without any coding for its transfer.
-    pub body: Bytes,
-    /// Whether the connection goes on after the reply.
+    /// How many bytes the body has (RFC 9112, section 6.2).
+    pub body_length: usize,
+    /// Whether the connection goes on after the reply, as far as the fields say (RFC 9112, section 9.3).
     pub keep: bool,
-    /// Whether the reply is its head alone.
-    pub head_only: bool,
 }

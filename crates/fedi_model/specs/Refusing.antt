@@ -1,0 +1,28 @@
+-- The replies to what is refused (RFC 9110, sections 15.5 and 15.6).
+use Rattle.std.specs.Prelude.{ℕ, List, ◌++◌, codes, None}
+use Rattle.fedi_address.specs.declared.refusal.Refusal.{Refusal}
+use Rattle.fedi_address.specs.Refusals.{name_of, status_of}
+use Rattle.fedi_reading.specs.declared.shape_fault.ShapeFault.{ShapeFault}
+use Rattle.fedi_reading.specs.Shapes.{fault_name}
+use Rattle.fedi_model.specs.declared.reply.Form.TheVariants as forms
+use Rattle.fedi_model.specs.declared.reply.Reply.{Reply}
+
+-- a reply that tells in JSON what is wrong
+abbrev pub telling : ℕ → List ℕ → Reply
+telling status body = record { status = status; form = forms.Json; location = None; allow = None; body = body }
+
+-- the body that names a refusal
+abbrev pub refusal_body : Refusal → List ℕ
+refusal_body r = codes "{\"error\":\"" ++ (name_of r ++ codes "\"}")
+
+-- the reply to what is refused
+abbrev pub refused : Refusal → Reply
+refused r = telling (status_of r) (refusal_body r)
+
+-- the body that names a fault of shape
+abbrev pub fault_body : ShapeFault → List ℕ
+fault_body fault = codes "{\"error\":\"BadShape\",\"fault\":\"" ++ (fault_name fault ++ codes "\"}")
+
+-- the reply to a post of the wrong shape (RFC 9110, section 15.5.21)
+abbrev pub misshapen : ShapeFault → Reply
+misshapen fault = telling 422 (fault_body fault)
