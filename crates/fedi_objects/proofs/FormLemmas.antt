@@ -11,9 +11,9 @@ use Rattle.serde_json.specs.Written.{has_float, items_have_float, members_have_f
 use Rattle.fedi_objects.specs.declared.object.Tag.{Tag}
 use Rattle.fedi_objects.specs.declared.object.Object.{Object}
 use Rattle.fedi_objects.specs.Kinds.{kind_name}
-use Rattle.fedi_objects.specs.declared.shown.Shown.{Shown}
-use Rattle.fedi_objects.specs.declared.shown.ShownObject.{ShownObject}
-use Rattle.fedi_objects.specs.declared.shown.ShownObject.TheVariants.{Nothing, Id, Present}
+use Rattle.fedi_objects.specs.declared.activity.Activity.{Activity}
+use Rattle.fedi_objects.specs.declared.activity.ObjectRef.{ObjectRef}
+use Rattle.fedi_objects.specs.declared.activity.ObjectRef.TheVariants as refs
 use Rattle.fedi_objects.specs.Forms.{is_open, is_clean, items_are_clean, members_are_clean, with_text, with_list, with_context, with_collections, tag_form, with_audience, with_words, kind_members, with_id, with_links, live_members, tombstone_members, is_tombstone, object_form, with_object, activity_kind_members, with_activity_links, activity_members, activity_form}
 
 record IsShown (d : Data) : Type 0 where
@@ -165,34 +165,35 @@ is_clean-object_form local context o = (object_form_shown local context o).clean
 pub has_float-object_form : (local context : Bool) (o : Object) → has_float (object_form local context o) ≡ false
 has_float-object_form local context o = (object_form_shown local context o).whole
 
-with_object_shown : (local : Bool) (o : ShownObject) (ms : Members) → HasShown ms → HasShown (with_object local o ms)
+with_object_shown : (local : Bool) (o : ObjectRef) (ms : Members) → HasShown ms → HasShown (with_object local o ms)
 unfolding with_object
-with_object_shown local Nothing ms rest = rest
-with_object_shown local (Id id) ms rest = put_shown (codes "object") _ ms refl (string_shown id.now) rest
-with_object_shown local (Present o) ms rest = put_shown (codes "object") _ ms refl (object_form_shown local false o.now) rest
+with_object_shown local refs.Nothing ms rest = rest
+with_object_shown local (refs.Id id) ms rest = put_shown (codes "object") _ ms refl (string_shown id) rest
+with_object_shown local (refs.Whole o) ms rest = put_shown (codes "object") _ ms refl (object_form_shown local false o) rest
+with_object_shown local (refs.Changed change) ms rest = rest
 
-activity_kind_members_shown : (a : Shown) → HasShown (activity_kind_members a)
+activity_kind_members_shown : (a : Activity) → HasShown (activity_kind_members a)
 unfolding activity_kind_members
 activity_kind_members_shown a =
     with_text_shown (codes "published") _ _ refl (put_shown (codes "type") _ no_members refl (string_shown (kind_name a.kind)) none_shown)
 
-with_activity_links_shown : (a : Shown) (ms : Members) → HasShown ms → HasShown (with_activity_links a ms)
+with_activity_links_shown : (author : List ℕ) (a : Activity) (ms : Members) → HasShown ms → HasShown (with_activity_links author a ms)
 unfolding with_activity_links
-with_activity_links_shown a ms rest =
-    put_shown (codes "actor") _ _ refl (string_shown a.author.now) (put_shown (codes "id") _ _ refl (string_shown a.id.now)
+with_activity_links_shown author a ms rest =
+    put_shown (codes "actor") _ _ refl (string_shown author) (with_text_shown (codes "id") _ _ refl
     (with_text_shown (codes "inReplyTo") _ _ refl (with_text_shown (codes "target") _ ms refl rest)))
 
-activity_members_shown : (a : Shown) → HasShown (activity_members a)
-activity_members_shown a =
-    with_activity_links_shown a _ (with_object_shown a.local a.object _ (with_audience_shown _ _ _ _
-    (with_words_shown _ _ _ a.tags.now _ (activity_kind_members_shown a))))
+activity_members_shown : (local : Bool) (author : List ℕ) (a : Activity) → HasShown (activity_members local author a)
+activity_members_shown local author a =
+    with_activity_links_shown author a _ (with_object_shown local a.object _ (with_audience_shown _ _ _ _
+    (with_words_shown _ _ _ a.tags _ (activity_kind_members_shown a))))
 
-activity_form_shown : (context : Bool) (a : Shown) → IsShown (activity_form context a)
+activity_form_shown : (local context : Bool) (author : List ℕ) (a : Activity) → IsShown (activity_form local context author a)
 unfolding activity_form
-activity_form_shown context a = object_shown _ (with_context_shown context _ (activity_members_shown a))
+activity_form_shown local context author a = object_shown _ (with_context_shown context _ (activity_members_shown local author a))
 
-pub is_clean-activity_form : (context : Bool) (a : Shown) → is_clean (activity_form context a) ≡ true
-is_clean-activity_form context a = (activity_form_shown context a).clean
+pub is_clean-activity_form : (local context : Bool) (author : List ℕ) (a : Activity) → is_clean (activity_form local context author a) ≡ true
+is_clean-activity_form local context author a = (activity_form_shown local context author a).clean
 
-pub has_float-activity_form : (context : Bool) (a : Shown) → has_float (activity_form context a) ≡ false
-has_float-activity_form context a = (activity_form_shown context a).whole
+pub has_float-activity_form : (local context : Bool) (author : List ℕ) (a : Activity) → has_float (activity_form local context author a) ≡ false
+has_float-activity_form local context author a = (activity_form_shown local context author a).whole

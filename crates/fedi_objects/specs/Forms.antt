@@ -1,15 +1,18 @@
 -- The JSON in which objects are shown (ActivityStreams 2.0 Core, sections 2 to 4). A property that is
 -- absent is not written, and neither is an empty list.
-use Rattle.std.specs.Prelude.{ℕ, List, ◌++◌, map, length, Bool, true, false, not, ◌&&◌, ◌==◌, Option, Some, None, if◌then◌else◌, codes, bytes_eq}
+use Rattle.std.specs.Prelude.{ℕ, List, [], ◌++◌, map, length, Bool, true, false, not, ◌&&◌, ◌==◌, Option, Some, None, if◌then◌else◌, codes, bytes_eq}
 use Rattle.serde_json.specs.Data.{Data, null, boolean, number, string, array, object, Items, no_items, item, Members, no_members, member, put}
 use Rattle.serde_json.specs.View.{items_of}
 use Rattle.std.specs.Option.{option_copied}
 use Rattle.fedi_objects.specs.Kinds.{kind_name}
+use Rattle.fedi_objects.specs.declared.activity.Activity.{Activity}
+use Rattle.fedi_objects.specs.declared.activity.ObjectRef.{ObjectRef}
+use Rattle.fedi_objects.specs.declared.activity.ObjectRef.TheVariants as refs
 use Rattle.fedi_objects.specs.declared.object.Tag.{Tag}
 use Rattle.fedi_objects.specs.declared.object.Object.{Object}
 use Rattle.fedi_objects.specs.declared.shown.Shown.{Shown}
 use Rattle.fedi_objects.specs.declared.shown.ShownObject.{ShownObject}
-use Rattle.fedi_objects.specs.declared.shown.ShownObject.TheVariants.{Nothing, Id, Present}
+use Rattle.fedi_objects.specs.declared.shown.ShownObject.TheVariants as shows
 
 -- the members, with a text where there is one
 unfoldable pub with_text : List ℕ → Option (List ℕ) → Members → Members
@@ -95,37 +98,61 @@ object_members local o = if is_tombstone o then tombstone_members o else live_me
 unfoldable pub object_form : Bool → Bool → Object → Data
 object_form local context o = object (with_context context (object_members local o))
 
--- the members, with what an activity is about: an address, or the object as it stands
-unfoldable pub with_object : Bool → ShownObject → Members → Members
-with_object local Nothing ms = ms
-with_object local (Id id) ms = put (codes "object") (string id.now) ms
-with_object local (Present o) ms = put (codes "object") (object_form local false o.now) ms
+-- the members, with what an activity is about: an address, or the object itself
+unfoldable pub with_object : Bool → ObjectRef → Members → Members
+with_object local refs.Nothing ms = ms
+with_object local (refs.Id id) ms = put (codes "object") (string id) ms
+with_object local (refs.Whole o) ms = put (codes "object") (object_form local false o) ms
+with_object local (refs.Changed change) ms = ms
 
 -- an activity's type and time
-unfoldable pub activity_kind_members : Shown → Members
+unfoldable pub activity_kind_members : Activity → Members
 activity_kind_members a =
-    with_text (codes "published") (option_copied a.published) (put (codes "type") (string (kind_name a.kind)) no_members)
+    with_text (codes "published") a.published (put (codes "type") (string (kind_name a.kind)) no_members)
 
--- the members, with an activity's own address and those that it names
-unfoldable pub with_activity_links : Shown → Members → Members
-with_activity_links a ms =
-    put (codes "actor") (string a.author.now)
-    (put (codes "id") (string a.id.now)
-    (with_text (codes "inReplyTo") (option_copied a.in_reply_to)
-    (with_text (codes "target") (option_copied a.target) ms)))
+-- the members, with an activity's author, its own address and those that it names
+unfoldable pub with_activity_links : List ℕ → Activity → Members → Members
+with_activity_links author a ms =
+    put (codes "actor") (string author)
+    (with_text (codes "id") a.id
+    (with_text (codes "inReplyTo") a.in_reply_to
+    (with_text (codes "target") a.target ms)))
 
--- what is shown of an activity
-abbrev pub activity_members : Shown → Members
-activity_members a =
-    with_activity_links a
-    (with_object a.local a.object
-    (with_audience a.to.now a.cc.now a.audience.now
-    (with_words (option_copied a.content) (option_copied a.summary) (option_copied a.name) a.tags.now
-    (activity_kind_members a))))
+-- what is shown of an author's activity
+abbrev pub activity_members : Bool → List ℕ → Activity → Members
+activity_members local author a =
+    with_activity_links author a
+    (with_object local a.object
+    (with_audience a.recipients.to a.recipients.cc a.recipients.audience
+    (with_words a.content a.summary a.name a.tags (activity_kind_members a))))
 
--- an activity alone (Core, section 4.2), by whether it is a document of its own
-unfoldable pub activity_form : Bool → Shown → Data
-activity_form context a = object (with_context context (activity_members a))
+-- an author's activity alone (Core, section 4.2), by whether it is one of this server's, and whether it is a
+-- document of its own
+unfoldable pub activity_form : Bool → Bool → List ℕ → Activity → Data
+activity_form local context author a = object (with_context context (activity_members local author a))
+
+-- what a shown activity is about
+abbrev pub object_in : ShownObject → ObjectRef
+object_in shows.Nothing = refs.Nothing
+object_in (shows.Id id) = refs.Id id.now
+object_in (shows.Present o) = refs.Whole o.now
+
+-- the activity that is shown, which names nobody in `bto` and `bcc`
+abbrev pub shown_in : Shown → Activity
+shown_in s = record {
+  id = Some s.id.now;
+  kind = s.kind;
+  actor = Some s.author.now;
+  object = object_in s.object;
+  target = option_copied s.target;
+  recipients = record { to = s.to.now; cc = s.cc.now; bto = []; bcc = []; audience = s.audience.now };
+  in_reply_to = option_copied s.in_reply_to;
+  content = option_copied s.content;
+  summary = option_copied s.summary;
+  name = option_copied s.name;
+  published = option_copied s.published;
+  tags = s.tags.now;
+}
 
 -- a member that everybody may see
 abbrev pub is_open : List ℕ → Bool

@@ -6,7 +6,7 @@ ghost use Rattle.std.specs.String.{string_bytes};
 ghost use Rattle.serde_json.specs.Data.{string, put, object};
 ghost use Rattle.serde_json.specs.View.{view, members_view};
 ghost use Rattle.serde_json.specs.Written.{compact_text, has_float};
-ghost use Rattle.fedi_objects.specs.Forms.{with_text, with_list, with_context, with_collections, tag_form, with_audience, with_words, kind_members, with_id, with_links, live_members, tombstone_members, object_members, object_form, with_object, activity_kind_members, with_activity_links, activity_members, activity_form, is_clean};
+ghost use Rattle.fedi_objects.specs.Forms.{with_text, with_list, with_context, with_collections, tag_form, with_audience, with_words, kind_members, with_id, with_links, live_members, tombstone_members, object_members, object_form, with_object, activity_kind_members, with_activity_links, activity_members, activity_form, object_in, shown_in, is_clean};
 
 use crate::object::{Object, Tag};
 use crate::shown::{Shown, ShownObject};
@@ -369,7 +369,7 @@ fn put_object(
     object: ShownObject,
 ) -> Result<(), AllocError>
     ensures { OnOk result (members_view members.new.entries
-        ≡ with_object local object.entry (members_view members.old.entries)) }
+        ≡ with_object local (object_in object.entry) (members_view members.old.entries)) }
 {
     match object {
         ShownObject::Nothing => Ok(()),
@@ -385,7 +385,7 @@ fn put_object(
 #[tactic(auto, unfolding(crate::specs::Forms::activity_kind_members))]
 fn activity_kind_members(alloc: Global, shown: &Shown) -> Result<Map<String, Value>, AllocError>
     ensures { IfOk result
-        (λ members. members_view members.entries ≡ activity_kind_members shown.now) }
+        (λ members. members_view members.entries ≡ activity_kind_members (shown_in shown.now)) }
 {
     let mut members = Map::new(alloc);
     put_str(&mut members, alloc, "type", shown.kind.name())?;
@@ -400,16 +400,17 @@ fn put_activity_links(
     shown: &Shown,
 ) -> Result<(), AllocError>
     ensures { OnOk result (members_view members.new.entries
-        ≡ with_activity_links shown.now (members_view members.old.entries)) }
+        ≡ with_activity_links shown.now.author.now (shown_in shown.now) (members_view members.old.entries)) }
 {
     put_iri(members, alloc, "target", shown.target)?;
     put_iri(members, alloc, "inReplyTo", shown.in_reply_to)?;
-    put_str(members, alloc, "id", shown.id.text())?;
+    put_iri(members, alloc, "id", Some(shown.id))?;
     put_str(members, alloc, "actor", shown.author.text())
 }
 
 fn activity_members(alloc: Global, shown: &Shown) -> Result<Map<String, Value>, AllocError>
-    ensures { IfOk result (λ members. members_view members.entries ≡ activity_members shown.now) }
+    ensures { IfOk result (λ members. members_view members.entries
+        ≡ activity_members shown.now.local shown.now.author.now (shown_in shown.now)) }
 {
     let mut members = activity_kind_members(alloc, shown)?;
     put_words(
@@ -428,7 +429,8 @@ fn activity_members(alloc: Global, shown: &Shown) -> Result<Map<String, Value>, 
 
 #[tactic(auto, unfolding(crate::specs::Forms::activity_form))]
 fn built_activity(alloc: Global, shown: &Shown, context: bool) -> Result<Value, AllocError>
-    ensures { IfOk result (λ value. view value ≡ activity_form context shown.now) }
+    ensures { IfOk result (λ value. view value
+        ≡ activity_form shown.now.local context shown.now.author.now (shown_in shown.now)) }
 {
     let mut members = activity_members(alloc, shown)?;
     put_context(&mut members, alloc, context)?;
@@ -439,7 +441,8 @@ fn built_activity(alloc: Global, shown: &Shown, context: bool) -> Result<Value, 
 /// (ActivityPub, section 6). `object` is an address, or the object as it stands, and `@context` stands where the
 /// activity is a document of its own. The error is want of memory.
 pub fn public_value(alloc: Global, shown: &Shown, context: bool) -> Result<Value, AllocError>
-    ensures form { IfOk result (λ value. view value ≡ activity_form context shown.now) }
+    ensures form { IfOk result (λ value. view value
+        ≡ activity_form shown.now.local context shown.now.author.now (shown_in shown.now)) }
     ensures clean { IfOk result (λ value. is_clean (view value) ≡ true) }
     ensures whole { IfOk result (λ value. has_float (view value) ≡ false) }
 {

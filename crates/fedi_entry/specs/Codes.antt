@@ -1,0 +1,157 @@
+-- How an entry of a history is written as bytes. The format is this server's own.
+use Rattle.std.specs.Prelude.{ℕ, Bool, true, false, List, [], ◌∷◌, ◌++◌, length, Option, Some, None}
+use Rattle.std.specs.List.{flat_map}
+use Rattle.std.specs.Int.{to_be_bytes, w16, w32, w64}
+use Rattle.fedi_address.specs.declared.recipients.Recipients.{Recipients}
+use Rattle.fedi_objects.specs.Kinds.{kind_number}
+use Rattle.fedi_objects.specs.declared.activity.Activity.{Activity}
+use Rattle.fedi_objects.specs.declared.activity.ObjectRef.{ObjectRef}
+use Rattle.fedi_objects.specs.declared.activity.ObjectRef.TheVariants.{Nothing, Id, Whole, Changed}
+use Rattle.fedi_objects.specs.declared.entry.Came.{Came}
+use Rattle.fedi_objects.specs.declared.entry.Entry.{Entry}
+use Rattle.fedi_objects.specs.declared.entry.Entry.TheVariants.{Hosted, Made, PeerSet, Local, Remote, Tried}
+use Rattle.fedi_objects.specs.declared.entry.Sent.{Sent}
+use Rattle.fedi_objects.specs.declared.entry.Sent.TheVariants.{Lookup, Post}
+use Rattle.fedi_objects.specs.declared.entry.What.{What}
+use Rattle.fedi_objects.specs.declared.entry.What.TheVariants.{Failed, NoHead, BadActor, Status}
+use Rattle.fedi_objects.specs.declared.object.Change.{Change}
+use Rattle.fedi_objects.specs.declared.object.Edit.{Edit}
+use Rattle.fedi_objects.specs.declared.object.Edit.TheVariants.{Keep, Remove, Give}
+use Rattle.fedi_objects.specs.declared.object.Object.{Object}
+use Rattle.fedi_objects.specs.declared.object.Tag.{Tag}
+
+-- a number in two, four or eight bytes, the highest first
+unfoldable pub u16_code : ℕ → List ℕ
+u16_code n = to_be_bytes w16 n
+
+unfoldable pub u32_code : ℕ → List ℕ
+u32_code n = to_be_bytes w32 n
+
+unfoldable pub u64_code : ℕ → List ℕ
+u64_code n = to_be_bytes w64 n
+
+-- yes or no
+abbrev pub bool_code : Bool → List ℕ
+bool_code false = 0 ∷ []
+bool_code true = 1 ∷ []
+
+-- a text or an IRI: its length and its bytes
+unfoldable pub text_code : List ℕ → List ℕ
+text_code text = u32_code (length text) ++ text
+
+-- what may be absent: whether it is there, and it
+unfoldable pub option_code : {X : Type 0} → (X → List ℕ) → Option X → List ℕ
+option_code code None = 0 ∷ []
+option_code code (Some x) = 1 ∷ code x
+
+-- a list: how many items, and each
+unfoldable pub list_code : {X : Type 0} → (X → List ℕ) → List X → List ℕ
+list_code code items = u32_code (length items) ++ flat_map code items
+
+-- what is done to a property: whether it stays, goes or is given, and the value that is given
+unfoldable pub edit_code : {X : Type 0} → (X → List ℕ) → Edit X → List ℕ
+edit_code code Keep = 0 ∷ []
+edit_code code Remove = 1 ∷ []
+edit_code code (Give x) = 2 ∷ code x
+
+-- a mention
+unfoldable pub tag_code : Tag → List ℕ
+tag_code tag = text_code tag.href ++ text_code tag.name
+
+-- the five fields of recipients
+unfoldable pub hidden_code : Recipients → List ℕ
+hidden_code r = list_code text_code r.bto ++ (list_code text_code r.bcc ++ list_code text_code r.audience)
+
+unfoldable pub recipients_code : Recipients → List ℕ
+recipients_code r = list_code text_code r.to ++ (list_code text_code r.cc ++ hidden_code r)
+
+-- three texts that may be absent
+unfoldable pub words_code : Option (List ℕ) → Option (List ℕ) → Option (List ℕ) → List ℕ
+words_code content summary name = option_code text_code content ++ (option_code text_code summary ++ option_code text_code name)
+
+-- an object: who it is, to whom, what it says, and when
+unfoldable pub object_head : Object → List ℕ
+object_head o = option_code text_code o.id ++ (text_code o.kind ++ option_code text_code o.attributed_to)
+
+unfoldable pub object_words : Object → List ℕ
+object_words o = option_code text_code o.in_reply_to ++ (words_code o.content o.summary o.name ++ option_code text_code o.url)
+
+unfoldable pub object_times : Object → List ℕ
+object_times o =
+    option_code text_code o.published ++ (option_code text_code o.updated ++ (option_code text_code o.former_kind ++ option_code text_code o.deleted))
+
+unfoldable pub object_code : Object → List ℕ
+object_code o = object_head o ++ (recipients_code o.recipients ++ (object_words o ++ (object_times o ++ list_code tag_code o.tags)))
+
+-- what is changed in an object
+unfoldable pub edits_code : Edit (List ℕ) → Edit (List ℕ) → Edit (List ℕ) → List ℕ
+edits_code content summary name = edit_code text_code content ++ (edit_code text_code summary ++ edit_code text_code name)
+
+unfoldable pub change_code : Change → List ℕ
+change_code c =
+    text_code c.id
+    ++ (edits_code c.content c.summary c.name
+    ++ (edit_code text_code c.url ++ (edit_code text_code c.in_reply_to ++ edit_code (list_code tag_code) c.tags)))
+
+-- what an activity is about
+unfoldable pub object_ref_code : ObjectRef → List ℕ
+object_ref_code Nothing = 0 ∷ []
+object_ref_code (Id iri) = 1 ∷ text_code iri
+object_ref_code (Whole object) = 2 ∷ object_code object
+object_ref_code (Changed change) = 3 ∷ change_code change
+
+-- an activity: what it is, about what and to whom, and what it says
+unfoldable pub activity_head : Activity → List ℕ
+activity_head a = option_code text_code a.id ++ (kind_number a.kind ∷ option_code text_code a.actor)
+
+unfoldable pub activity_words : Activity → List ℕ
+activity_words a =
+    option_code text_code a.in_reply_to
+    ++ (words_code a.content a.summary a.name ++ (option_code text_code a.published ++ list_code tag_code a.tags))
+
+unfoldable pub activity_code : Activity → List ℕ
+activity_code a =
+    activity_head a
+    ++ (object_ref_code a.object ++ (option_code text_code a.target ++ (recipients_code a.recipients ++ activity_words a)))
+
+-- a key for repeats, and the digest of what was posted under it
+unfoldable pub repeat_code : List ℕ × List ℕ → List ℕ
+repeat_code repeat = text_code repeat.0 ++ repeat.1
+
+-- what came of an attempt to deliver
+abbrev pub sent_number : Sent → ℕ
+sent_number Lookup = 0
+sent_number Post = 1
+
+unfoldable pub what_code : What → List ℕ
+what_code Failed = 0 ∷ []
+what_code NoHead = 1 ∷ []
+what_code BadActor = 2 ∷ []
+what_code (Status status) = 3 ∷ u16_code status
+
+unfoldable pub came_code : Came → List ℕ
+came_code came = sent_number came.step ∷ what_code came.what
+
+-- which kind of entry
+abbrev pub entry_number : Entry → ℕ
+entry_number (Hosted _ _) = 1
+entry_number (Made _ _ _ _) = 2
+entry_number (PeerSet _ _ _ _ _) = 3
+entry_number (Local _ _ _ _) = 4
+entry_number (Remote _ _ _ _) = 5
+entry_number (Tried _ _ _ _) = 6
+
+-- the fields of an entry
+unfoldable pub fields_code : Entry → List ℕ
+fields_code (Hosted host moment) = text_code host ++ u64_code moment
+fields_code (Made name digest locked moment) = text_code name ++ (digest ++ (bool_code locked ++ u64_code moment))
+fields_code (PeerSet host key address relay moment) =
+    text_code host ++ (key ++ (text_code address ++ (bool_code relay ++ u64_code moment)))
+fields_code (Local name repeat activity moment) =
+    text_code name ++ (option_code repeat_code repeat ++ (activity_code activity ++ u64_code moment))
+fields_code (Remote peer inbox activity moment) = text_code peer ++ (text_code inbox ++ (activity_code activity ++ u64_code moment))
+fields_code (Tried activity recipient came moment) = text_code activity ++ (text_code recipient ++ (came_code came ++ u64_code moment))
+
+-- an entry: which kind, and its fields
+unfoldable pub code_of : Entry → List ℕ
+code_of entry = entry_number entry ∷ fields_code entry

@@ -1,0 +1,12 @@
+//! The entries of a history as bytes, as a journal keeps them.
+//!
+//! An entry is a byte for its kind and its fields, one after another. Numbers stand highest byte first. A text has its
+//! length before it in four bytes, a list its count, and what may be absent a byte that says whether it is there.
+#![tactic(auto)]
+
+mod activities;
+mod coded;
+mod entries;
+mod objects;
+
+pub use entries::encode;
