@@ -156,8 +156,8 @@ both_found name (a ∷ gs) (b ∷ hs) same =
     let first : a.name ≡ b.name = cc in
     let rest : map (λ a. a.name) gs ≡ map (λ a. a.name) hs = cc in
     elim (bytes_eq a.name name) as (λ s. bytes_eq a.name name ≡ s → AreBoth (find (is_named name) (a ∷ gs)) (find (is_named name) (b ∷ hs))) [
-      | true ↦ λ named. let other : bytes_eq b.name name ≡ true = rw ← first named in rw (named, other) tt
-      | false ↦ λ unnamed. let other : bytes_eq b.name name ≡ false = rw ← first unnamed in rw (unnamed, other) (both_found name gs hs rest)
+      | true ↦ λ named. let other : bytes_eq b.name name ≡ true = rw (← first) named in rw (named, other) tt
+      | false ↦ λ unnamed. let other : bytes_eq b.name name ≡ false = rw (← first) unnamed in rw (unnamed, other) (both_found name gs hs rest)
     ] refl
 
 -- a post is judged by what it is, and by how many activities the member has
