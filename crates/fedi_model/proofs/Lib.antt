@@ -3,3 +3,5 @@ pub mod MadeOnce
 pub mod Privacy
 pub mod Statuses
 pub mod Unseen
+pub mod Clean
+pub mod EachReply

@@ -96,7 +96,7 @@ activity_shown : (t : Town) (c : Caller) (id : List ℕ) (xs : List Act)
 activity_shown t c id [] = refl
 activity_shown t c id (x ∷ xs) =
     elim (has_activity_id id x) as (λ b. has_activity_id id x ≡ b
-        → activity_or_missing (find (has_activity_id id) (x ∷ xs)) ≡ sight_or_missing (find (has_shown_id id) (map (shown t c) (x ∷ xs)))) [
+    → activity_or_missing (find (has_activity_id id) (x ∷ xs)) ≡ sight_or_missing (find (has_shown_id id) (map (shown t c) (x ∷ xs)))) [
       | true ↦ λ has. rw (same_activity t c id x, has) (sym (same_activity_document t c x))
       | false ↦ λ lacks. rw (same_activity t c id x, lacks) (activity_shown t c id xs)
     ] refl
@@ -180,7 +180,7 @@ told_same : (k l : Option (List ℕ)) (c : Caller) (name : List ℕ) (m n : ℕ)
     → told k name m (judged c name m post) ≡ told l name n (judged c name n post)
 told_same k l c name m n post host counts =
     elim (is_self c name) as (λ s. is_self c name ≡ s
-        → told k name m (judged_by post.is_keyed (is_nobody c) s post.is_typed m post.read) ≡ told l name n (judged_by post.is_keyed (is_nobody c) s post.is_typed n post.read)) [
+    → told k name m (judged_by post.is_keyed (is_nobody c) s post.is_typed m post.read) ≡ told l name n (judged_by post.is_keyed (is_nobody c) s post.is_typed n post.read)) [
       | true ↦ λ self. let same : m ≡ n = counts self in
           ap (λ (x : Option (List ℕ)). told x name m (judged_by post.is_keyed (is_nobody c) true post.is_typed m post.read)) host
           ∙ ap (λ (x : ℕ). told l name x (judged_by post.is_keyed (is_nobody c) true post.is_typed x post.read)) same

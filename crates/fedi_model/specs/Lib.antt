@@ -14,4 +14,5 @@ pub mod Replies
 pub mod Agreement
 pub mod ReplyText
 pub mod Usage
+pub mod Cleanness
 pub mod Answers

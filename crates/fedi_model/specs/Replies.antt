@@ -1,5 +1,5 @@
 -- The reply to an ask (ActivityPub, section 3.2; RFC 9110, section 15), and the entry that it makes.
-use Rattle.std.specs.Prelude.{ℕ, Bool, true, false, List, filter, Option, Some, None, option_and_then, if◌then◌else◌}
+use Rattle.std.specs.Prelude.{ℕ, Bool, true, List, filter, Option, Some, None, option_and_then, if◌then◌else◌}
 use Rattle.std.specs.List.{find}
 use Rattle.serde_json.specs.Data.{Data}
 use Rattle.serde_json.specs.Written.{compact_text}

@@ -8,14 +8,23 @@ ghost use Rattle.fedi_model.specs.declared.ask.Ask.{Ask};
 ghost use Rattle.fedi_model.specs.declared.caller.Caller.{Caller};
 ghost use Rattle.fedi_model.specs.Activities.{local_act};
 ghost use Rattle.fedi_model.specs.Agreement.{Agree};
+ghost use Rattle.fedi_model.specs.Cleanness.{IsCleanBody};
 ghost use Rattle.fedi_model.specs.Histories.{town};
 ghost use Rattle.fedi_model.specs.Replies.{reply};
 ghost use Rattle.fedi_model.specs.Seeing.{sees};
+ghost use Rattle.fedi_model.specs.Towns.{Town};
 
 /// Histories that agree for a caller give the caller the same reply, whatever else stands in them.
 #[tactic(auto, using(crate::proofs::Privacy::reply_agrees))]
 pub fn replies_are_private()
     ensures { (g h : List Entry) (c : Caller) (ask : Ask) → Agree (town g) (town h) c → reply (town g) c ask ≡ reply (town h) c ask }
+{}
+
+/// No reply, to whomever and for whatever, names those whom `bto` and `bcc` hide (ActivityPub, section
+/// 6).
+#[tactic(auto, using(crate::proofs::Clean::reply_is_clean))]
+pub fn replies_are_clean()
+    ensures { (t : Town) (c : Caller) (ask : Ask) → IsCleanBody (reply t c ask).body }
 {}
 
 /// A post changes nothing that a caller knows who does not see it. Its author sees it, so a caller
