@@ -13,13 +13,13 @@ use Rattle.fedi_model.specs.Replies.{reply}
 use Rattle.fedi_model.specs.Requests.{ReadsAs}
 use Rattle.fedi_model.specs.Routes.{path_of, Asks}
 use Rattle.fedi_model.specs.Towns.{Town}
-use Rattle.fedi.specs.declared.heads.HeadRead.{HeadRead}
-use Rattle.fedi.specs.declared.heads.HeadRead.TheVariants as heads
-use Rattle.fedi.specs.declared.heads.TheConstants.{HEAD_LIMIT}
-use Rattle.fedi.specs.declared.requests.TheConstants.{MOST_FIELDS}
+use Rattle.fedi_http.specs.declared.heads.HeadRead.{HeadRead}
+use Rattle.fedi_http.specs.declared.heads.HeadRead.TheVariants as heads
+use Rattle.fedi_http.specs.declared.heads.TheConstants.{HEAD_LIMIT}
+use Rattle.fedi_http.specs.declared.requests.TheConstants.{MOST_FIELDS}
 use Rattle.fedi.specs.Conversations.{IsReply, Writes, Converses, closing_text}
-use Rattle.fedi.specs.Heads.{head_end, head_of, IsHeadAt, IsHeadUpTo}
-use Rattle.fedi.proofs.RequestLemmas.{reads_once}
+use Rattle.fedi_http.specs.Heads.{head_end, head_of, IsHeadAt, IsHeadUpTo}
+use Rattle.fedi_http.proofs.RequestLemmas.{reads_once}
 use Rattle.fedi.proofs.RouteLemmas.{asked_once}
 
 -- one reply to the caller

@@ -15,17 +15,17 @@ use Rattle.fedi_model.specs.Answers.{AnswersText, Answers, AnswersRead, IsPrivat
 use Rattle.fedi_model.specs.Histories.{town}
 use Rattle.fedi_model.specs.Replies.{refused}
 use Rattle.fedi_model.specs.Requests.{ReadsAs, IsReadOnce}
-use Rattle.fedi.specs.declared.heads.HeadRead.{HeadRead}
-use Rattle.fedi.specs.declared.heads.HeadRead.TheVariants as heads
-use Rattle.fedi.specs.declared.heads.TheConstants.{HEAD_LIMIT}
-use Rattle.fedi.specs.declared.requests.TheConstants.{MOST_FIELDS}
+use Rattle.fedi_http.specs.declared.heads.HeadRead.{HeadRead}
+use Rattle.fedi_http.specs.declared.heads.HeadRead.TheVariants as heads
+use Rattle.fedi_http.specs.declared.heads.TheConstants.{HEAD_LIMIT}
+use Rattle.fedi_http.specs.declared.requests.TheConstants.{MOST_FIELDS}
 use Rattle.fedi.specs.declared.sessions.SessionEnd.{SessionEnd}
 use Rattle.fedi.specs.declared.sessions.SessionEnd.TheVariants.{End, CutShort, Closed, ReadFault, WriteFault, Memory}
 use Rattle.fedi.specs.Conversations.{IsNow, IsReply, Writes, Talks, BeginsTalk, AppendsFront, IsWhole, closing_text}
 use Rattle.fedi.specs.Endings.{Says, Ends, EndsWith, status_of}
-use Rattle.fedi.specs.Heads.{head_end, IsHeadAt, IsHeadUpTo}
-use Rattle.fedi.specs.Sending.{Sends}
-use Rattle.fedi.proofs.HeadLemmas.{slice_range-append}
+use Rattle.fedi_http.specs.Heads.{head_end, IsHeadAt, IsHeadUpTo}
+use Rattle.fedi_http.specs.Sending.{Sends}
+use Rattle.fedi_http.proofs.HeadLemmas.{slice_range-append}
 
 -- whatever became of it, a front was sent
 pub sends_front : {T E : Type 0} (before after : Option (List ℕ)) (text : List ℕ) (r : Result T E) → Sends before after text r → AppendsFront before after text

@@ -9,11 +9,11 @@ use Rattle.fedi_model.specs.Answers.{AnswersText, IsPrivateText}
 use Rattle.fedi_model.specs.Histories.{town}
 use Rattle.fedi_model.specs.Replies.{refused}
 use Rattle.fedi_model.specs.ReplyText.{reply_text, memory_text}
-use Rattle.fedi.specs.declared.heads.HeadRead.{HeadRead}
-use Rattle.fedi.specs.declared.heads.HeadRead.TheVariants as heads
-use Rattle.fedi.specs.declared.heads.TheConstants.{HEAD_LIMIT}
-use Rattle.fedi.specs.declared.requests.TheConstants.{MOST_FIELDS}
-use Rattle.fedi.specs.Heads.{IsHeadUpTo}
+use Rattle.fedi_http.specs.declared.heads.HeadRead.{HeadRead}
+use Rattle.fedi_http.specs.declared.heads.HeadRead.TheVariants as heads
+use Rattle.fedi_http.specs.declared.heads.TheConstants.{HEAD_LIMIT}
+use Rattle.fedi_http.specs.declared.requests.TheConstants.{MOST_FIELDS}
+use Rattle.fedi_http.specs.Heads.{IsHeadUpTo}
 
 -- the moment that a clock gives, up to the last one
 abbrev pub IsNow : Option ℕ → ℕ → Type 0

@@ -1,5 +1,3 @@
-pub mod Heads
-pub mod Sending
 pub mod Conversations
 pub mod Commands
 pub mod Endings

@@ -7,10 +7,10 @@ ghost use Rattle.fedi_model.specs.ReplyText.{HasStatus};
 ghost use Rattle.fedi.specs.Conversations.{IsReply};
 
 use crate::credentials::credentials;
-use crate::requests::read_request_head;
 use crate::routes::route;
 use fedi_address::Refusal;
 use fedi_core::Core;
+use fedi_http::read_request_head;
 use fedi_model::{Reply, Request, refusal_reply};
 use std::alloc::{AllocError, Global};
 

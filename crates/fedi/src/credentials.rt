@@ -3,7 +3,7 @@
 ghost use Rattle.std.specs.Prelude.{◌≡◌, List, option_copied, option_map};
 ghost use Rattle.fedi_model.specs.Credentials as model;
 
-use crate::requests::{is_same_name, text_of};
+use fedi_http::{is_same_name, text_of};
 use fedi_model::{Credentials, Field, Request, Signed};
 use hex::FromHex;
 

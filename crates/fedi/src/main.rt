@@ -5,12 +5,8 @@ mod adapters;
 mod answers;
 mod commands;
 mod credentials;
-mod heads;
-mod replies;
-mod requests;
 mod routes;
 mod running;
-mod sending;
 mod sessions;
 #[cfg(test)]
 mod tests;

@@ -5,8 +5,8 @@ ghost use Rattle.fedi_address.specs.Names.{is_name};
 ghost use Rattle.fedi_model.specs.Ids.{object_path};
 ghost use Rattle.fedi_model.specs.Routes as model;
 
-use crate::requests::text_of;
 use fedi_address::LocalName;
+use fedi_http::text_of;
 use fedi_model::{Ask, Request};
 
 /// What the request asks for, by its path: `Ask::Nowhere` exactly where the path is that of nothing.

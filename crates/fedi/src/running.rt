@@ -12,10 +12,10 @@ ghost use Rattle.fedi.specs.Conversations.{Converses, Talks, BeginsTalk, CutsSho
 ghost use Rattle.fedi.specs.Endings.{EndsWith, Prints, PrintsUnlessFailed, is_status, status_of};
 
 use crate::commands::{Command, command_of};
-use crate::sending::send;
 use crate::sessions::{SessionEnd, session};
 use crate::usage::usage;
 use fedi_core::Core;
+use fedi_http::send;
 use fedi_objects::Entry;
 use fedi_outside::{Clock, Failed, Sink, Source};
 use std::alloc::Global;

@@ -9,11 +9,9 @@ ghost use Rattle.fedi.specs.Conversations.{IsReply, AppendsFront};
 ghost use Rattle.fedi.specs.Endings.{Says, Ends};
 
 use crate::answers::answer_text;
-use crate::heads::{Buffer, HeadRead, read_head};
-use crate::replies;
-use crate::sending::send;
 use fedi_address::Refusal;
 use fedi_core::Core;
+use fedi_http::{Buffer, HeadRead, memory_text as text_for_memory, read_head, reply_bytes, send};
 use fedi_model::{Reply, refusal_reply};
 use fedi_objects::Moment;
 use fedi_outside::{Clock, Failed, Sink, Source};
@@ -42,7 +40,7 @@ fn give_up<O: Sink>(out: &mut O)
     ensures sent { AppendsFront (O.sent out.old) (O.sent out.new) memory_text }
     ensures later { O.write_faults out.old ≤ O.write_faults out.new }
 {
-    let _ = send(out, replies::memory_text());
+    let _ = send(out, text_for_memory());
 }
 
 /// Sends the reply, or gives up where memory is wanted.
@@ -61,7 +59,7 @@ fn say<O: Sink, C: Clock>(
         return SessionEnd::Memory;
     };
     let moment = Moment::clamped(clock.now());
-    let Ok(text) = replies::reply_bytes(alloc, &reply, moment, false, true) else {
+    let Ok(text) = reply_bytes(alloc, &reply, moment, false, true) else {
         give_up(out);
         return SessionEnd::Memory;
     };

@@ -1,0 +1,283 @@
+-- Lemmas on where a head ends.
+use Rattle.std.proofs.Common.{◌≡◌, ℕ, ◌+◌, ◌-◌, ◌<◌, ◌≤◌, zero, suc, Bool, true, false, cond, not, List, [], ◌∷◌, ◌++◌, length, take, drop, get_or, find, min, Option, None, Some, option_map, IfSome, inl, inr, refl, sym, ap, ◌∙◌, arith, length-take, length-append, eqb, eq-eqb, add-zero}
+use Rattle.std.specs.List.{ends_with, range_with_len, slice_range}
+use Rattle.std.specs.Prelude.{nat_eq}
+use Rattle.std.proofs.lemmas.Slice.Eq.{ends_is}
+use Rattle.std.proofs.lemmas.Bool.Decides.{Decides-eqb}
+use Rattle.std.proofs.lemmas.List.{take-take, take-append-le, take_more, take_all, length-take-le, drop-take, take_min, take_all, drop-append-le, length-drop, get_or-append-add, get_or-take, get_or-drop}
+use Rattle.std.proofs.lemmas.Bool.{cases_eq, ne_eqb, or_cases}
+use Rattle.std.proofs.lemmas.List.Sums.{prefix_len-le-length}
+use Rattle.std.proofs.lemmas.List.Folds.{position_or_len_push}
+use Rattle.fedi_http.specs.Heads.{is_line_end, leading, after_leading, ends_in_empty_line, is_end, head_end, IsHeadAt, IsLookedAt, LacksHead}
+use Rattle.std.specs.Io.{StartsWith}
+use Rattle.std.specs.Io.KnownBytes.{prepend_known}
+use Rattle.std.proofs.Transfers.{starts_with_length}
+use Rattle.fedi_http.proofs.StreamLemmas.{stream-more, stream-end}
+
+-- ---- the first number that passes a test
+
+pub find-none : (p : ℕ → Bool) (from count : ℕ) → ((n : ℕ) → from ≤ n → n < from + count → p n ≡ false) → find p (range_with_len from count) ≡ None
+find-none p from zero none = refl
+find-none p from (suc count) none =
+    let rest = find-none p (from + 1) count (λ n low high. none n (omega arith) (omega arith)) in
+    let first : p from ≡ false = none from (omega arith) (omega arith) in rw (first, rest) refl
+
+-- where a test passes first at n, it does not before
+some-first : (p : ℕ → Bool) (from n : ℕ) → from ≤ n → p from ≡ true → p n ≡ true → ((m : ℕ) → from ≤ m → m < n → p m ≡ false) → from ≡ n
+some-first p from n low first here below =
+    elim (cases_eq from n) [ inl same ↦ same | inr other ↦ let no : p from ≡ false = below from (omega arith) (omega arith) in cc ]
+
+some-later : (p : ℕ → Bool) (from n : ℕ) → from ≤ n → p from ≡ false → p n ≡ true → from + 1 ≤ n
+some-later p from n low first here =
+    elim (cases_eq from n) [ inl same ↦ let holds : p from ≡ true = ap p same ∙ here in cc | inr other ↦ omega arith ]
+
+pub find-some : (p : ℕ → Bool) (from count n : ℕ) → from ≤ n → n < from + count → p n ≡ true → ((m : ℕ) → from ≤ m → m < n → p m ≡ false)
+    → find p (range_with_len from count) ≡ Some n
+find-some p from zero n low high here below = absurd (omega arith)
+find-some p from (suc count) n low high here below =
+    elim (p from) as (λ b. p from ≡ b → cond b (Some from) (find p (range_with_len (from + 1) count)) ≡ Some n) [
+      | true ↦ λ first. ap Some (some-first p from n low first here below)
+      | false ↦ λ first. find-some p (from + 1) count n (some-later p from n low first here) (omega arith) here (λ m l h. below m (omega arith) h)
+    ] refl
+
+pub find-none-below : (p : ℕ → Bool) (from count : ℕ) → find p (range_with_len from count) ≡ None → (n : ℕ) → from ≤ n → n < from + count → p n ≡ false
+find-none-below p from zero none n low high = absurd (omega arith)
+find-none-below p from (suc count) none n low high = grind (arith, find-none-below p (from + 1) count)
+
+pub find-some-is : (p : ℕ → Bool) (from count n : ℕ) → find p (range_with_len from count) ≡ Some n
+    → (from ≤ n) × (n < from + count) × (p n ≡ true) × ((m : ℕ) → from ≤ m → m < n → p m ≡ false)
+find-some-is p from zero n found = cc
+find-some-is p from (suc count) n found = grind (arith, find-some-is p (from + 1) count n)
+
+-- ---- whether the head ends at a number
+
+-- what stands behind does not matter
+pub is_end-append : (xs ys : List ℕ) (n : ℕ) → n ≤ length xs → is_end (xs ++ ys) n ≡ is_end xs n
+unfolding is_end
+is_end-append xs ys n h = ap (λ l. ends_in_empty_line (after_leading l)) (take-append-le n xs ys h)
+
+pub is_end-take : (xs : List ℕ) (k n : ℕ) → n ≤ k → is_end (take k xs) n ≡ is_end xs n
+unfolding is_end
+is_end-take xs k n h = ap (λ l. ends_in_empty_line (after_leading l)) (take-take n k xs h)
+
+pub head_end-None : (xs : List ℕ) → ((n : ℕ) → n ≤ length xs → is_end xs n ≡ false) → head_end xs ≡ None
+unfolding head_end
+head_end-None xs none = find-none (is_end xs) 0 (length xs + 1) (λ n low high. none n (omega arith))
+
+pub head_end-Some : (xs : List ℕ) (n : ℕ) → n ≤ length xs → is_end xs n ≡ true → ((m : ℕ) → m < n → is_end xs m ≡ false) → head_end xs ≡ Some n
+unfolding head_end
+head_end-Some xs n h here below = find-some (is_end xs) 0 (length xs + 1) n (omega arith) (omega arith) here (λ m low high. below m high)
+
+pub head_end-None-below : (xs : List ℕ) → head_end xs ≡ None → (n : ℕ) → n ≤ length xs → is_end xs n ≡ false
+unfolding head_end
+head_end-None-below xs none n h = find-none-below (is_end xs) 0 (length xs + 1) none n (omega arith) (omega arith)
+
+pub head_end-Some-is : (xs : List ℕ) (n : ℕ) → head_end xs ≡ Some n → (n ≤ length xs) × (is_end xs n ≡ true) × ((m : ℕ) → m < n → is_end xs m ≡ false)
+unfolding head_end
+head_end-Some-is xs n found =
+    let is = find-some-is (is_end xs) 0 (length xs + 1) n found in
+    (omega (arith, is.1), is.2, λ m h. is.3 m (omega arith) h)
+
+-- ---- one byte more
+
+pub head_end-nil : head_end [] ≡ None
+unfolding head_end is_end leading
+head_end-nil = refl
+
+pub head_end-take-none : (xs : List ℕ) (at : ℕ) → at < length xs → head_end (take at xs) ≡ None → is_end xs (at + 1) ≡ false → head_end (take (at + 1) xs) ≡ None
+head_end-take-none xs at h none here =
+    head_end-None (take (at + 1) xs) (λ n le.
+    let low : n ≤ at + 1 = omega (arith, le, length-take (at + 1) xs) in
+    is_end-take xs (at + 1) n low ∙ elim (cases_eq n (at + 1)) [
+      | inl same ↦ ap (is_end xs) same ∙ here
+      | inr other ↦ sym (is_end-take xs at n (omega arith)) ∙ head_end-None-below (take at xs) none n (omega (arith, length-take at xs))
+    ])
+
+-- the first end is found in any bytes that begin with these
+pub head_end-take-some : (xs : List ℕ) (at k : ℕ) → at < k → k ≤ length xs → head_end (take at xs) ≡ None → is_end xs (at + 1) ≡ true → head_end (take k xs) ≡ Some (at + 1)
+head_end-take-some xs at k low high none here =
+    head_end-Some (take k xs) (at + 1) (omega (arith, length-take k xs)) (is_end-take xs k (at + 1) (omega arith) ∙ here)
+    (λ m h. is_end-take xs k m (omega arith) ∙ sym (is_end-take xs at m (omega arith)) ∙ head_end-None-below (take at xs) none m (omega (arith, length-take at xs)))
+
+-- bytes that are the same up to a head's end have that head
+head_end-same : (xs ys : List ℕ) (n : ℕ) → head_end xs ≡ Some n → n ≤ length ys → ((m : ℕ) → m ≤ n → is_end ys m ≡ is_end xs m) → head_end ys ≡ Some n
+head_end-same xs ys n found h same =
+    let is = head_end-Some-is xs n found in
+    head_end-Some ys n h (same n (omega arith) ∙ is.1) (λ m low. same m (omega arith) ∙ is.2 m low)
+
+-- ---- the line ends in front
+
+pub leading-nil : leading [] ≡ 0
+unfolding leading
+leading-nil = refl
+
+pub leading-take-more : (xs : List ℕ) (at : ℕ) → at < length xs
+    → leading (take (at + 1) xs) ≡ cond (eqb (leading (take at xs)) at) (at + cond (not (is_line_end (get_or xs at 0))) 0 1) (leading (take at xs))
+unfolding leading
+leading-take-more xs at h =
+    let long : length (take at xs) ≡ at = length-take-le at xs (omega arith) in
+    ap leading (take_more xs at 0 h) ∙ rw long at (position_or_len_push (λ b. not (is_line_end b)) (take at xs) (get_or xs at 0))
+
+-- a byte behind line ends alone, and one behind another byte
+pub leading-more-end : (xs : List ℕ) (at : ℕ) → at < length xs → leading (take at xs) ≡ at → is_line_end (get_or xs at 0) ≡ true → leading (take (at + 1) xs) ≡ at + 1
+leading-more-end xs at h all here =
+    leading-take-more xs at h ∙ ap (λ n. cond (eqb n at) (at + cond (not (is_line_end (get_or xs at 0))) 0 1) n) all
+    ∙ ap (λ b. cond b (at + cond (not (is_line_end (get_or xs at 0))) 0 1) at) (eq-eqb at at refl) ∙ ap (λ b. at + cond (not b) 0 1) here
+
+pub leading-more-text : (xs : List ℕ) (at : ℕ) → at < length xs → leading (take at xs) ≡ at → is_line_end (get_or xs at 0) ≡ false → leading (take (at + 1) xs) ≡ at
+leading-more-text xs at h all here =
+    leading-take-more xs at h ∙ ap (λ n. cond (eqb n at) (at + cond (not (is_line_end (get_or xs at 0))) 0 1) n) all
+    ∙ ap (λ b. cond b (at + cond (not (is_line_end (get_or xs at 0))) 0 1) at) (eq-eqb at at refl) ∙ ap (λ b. at + cond (not b) 0 1) here ∙ add-zero at
+
+pub leading-more-other : (xs : List ℕ) (at : ℕ) → at < length xs → (leading (take at xs) ≡ at → ⊥) → leading (take (at + 1) xs) ≡ leading (take at xs)
+leading-more-other xs at h other =
+    leading-take-more xs at h ∙ ap (λ b. cond b (at + cond (not (is_line_end (get_or xs at 0))) 0 1) (leading (take at xs))) (ne_eqb (leading (take at xs)) at other)
+
+pub leading-take-le : (xs : List ℕ) (at : ℕ) → at ≤ length xs → leading (take at xs) ≤ at
+unfolding leading
+leading-take-le xs at h = omega (arith, prefix_len-le-length (λ b. not (not (is_line_end b))) (take at xs), length-take at xs)
+
+-- ---- the test at a number
+
+-- the text of a front is the part of the bytes behind the line ends
+pub text-is : (xs : List ℕ) (n start : ℕ) → start ≡ leading (take n xs) → n ≤ length xs → after_leading (take n xs) ≡ slice_range xs start n
+text-is xs n start here h =
+    let low : start ≤ n = omega (arith, here, leading-take-le xs n h) in
+    let split : start + (n - start) ≡ n = omega arith in
+    ap (λ k. drop k (take n xs)) (sym here) ∙ ap (λ k. drop start (take k xs)) (sym split) ∙ drop-take start (n - start) xs
+
+pub is_end-is : (xs : List ℕ) (n start : ℕ) → start ≡ leading (take n xs) → n ≤ length xs → is_end xs n ≡ ends_in_empty_line (slice_range xs start n)
+unfolding is_end
+is_end-is xs n start here h = ap ends_in_empty_line (text-is xs n start here h)
+
+-- no empty line ends a text of no bytes
+pub ends-longer : (xs : List ℕ) (start n : ℕ) → ends_in_empty_line (slice_range xs start n) ≡ true → start < n
+ends-longer xs start n holds =
+    elim (cases_eq (n - start) 0) [
+      | inl low ↦ let none : slice_range xs start n ≡ [] = ap (λ k. take k (drop start xs)) low in
+          let no : false ≡ true = ap ends_in_empty_line (sym none) ∙ holds in cc
+      | inr high ↦ omega arith
+    ]
+
+-- the last byte of a text that ends with these
+ends-last : (text suffix : List ℕ) (n : ℕ) → length suffix ≡ n + 1 → ends_with nat_eq text suffix ≡ true → get_or text (length text - 1) 0 ≡ get_or suffix n 0
+ends-last text suffix n long holds =
+    let front = take (length text - length suffix) text in
+    let split : text ≡ front ++ suffix = (ends_is Decides-eqb text suffix (ends_with nat_eq text suffix) refl).0 holds in
+    let last : length text - 1 ≡ length front + n = omega (arith, ap length split, length-append front suffix) in
+    ap (get_or text (length text - 1)) refl ∙ ap (λ k. get_or text k 0) last ∙ ap (λ l. get_or l (length front + n) 0) split ∙ get_or-append-add front suffix n 0
+
+-- an empty line ends in LF
+empty_line-last : (text : List ℕ) → ends_in_empty_line text ≡ true → get_or text (length text - 1) 0 ≡ 10
+empty_line-last text holds =
+    elim (or_cases (ends_with nat_eq text (10 ∷ 10 ∷ [])) (ends_with nat_eq text (10 ∷ 13 ∷ 10 ∷ [])) holds) [
+      | inl short ↦ ends-last text (10 ∷ 10 ∷ []) 1 refl short
+      | inr long ↦ ends-last text (10 ∷ 13 ∷ 10 ∷ []) 2 refl long
+    ]
+
+empty_line-byte : (xs : List ℕ) (at start : ℕ) → at < length xs → ends_in_empty_line (slice_range xs start (at + 1)) ≡ true → get_or xs at 0 ≡ 10
+empty_line-byte xs at start inside holds =
+    let text = slice_range xs start (at + 1) in
+    let low : start < at + 1 = ends-longer xs start (at + 1) holds in
+    let long : length text ≡ at + 1 - start = omega (arith, length-take (at + 1 - start) (drop start xs), length-drop start xs) in
+    let last : length text - 1 ≡ at - start = omega arith in
+    let there : start + (at - start) ≡ at = omega arith in
+    sym (ap (λ k. get_or text k 0) last
+    ∙ get_or-take (at + 1 - start) (drop start xs) (at - start) 0 (omega arith)
+    ∙ get_or-drop start xs (at - start) 0 ∙ ap (λ k. get_or xs k 0) there)
+    ∙ empty_line-last text holds
+
+-- so at another byte no empty line ends
+pub no-empty_line : (xs : List ℕ) (at start : ℕ) → at < length xs → (get_or xs at 0 ≡ 10 → ⊥) → ends_in_empty_line (slice_range xs start (at + 1)) ≡ false
+no-empty_line xs at start inside other =
+    elim (ends_in_empty_line (slice_range xs start (at + 1))) as (λ b. ends_in_empty_line (slice_range xs start (at + 1)) ≡ b → b ≡ false) [
+      | true ↦ λ holds. absurd (other (empty_line-byte xs at start inside holds))
+      | false ↦ λ fails. refl
+    ] refl
+
+pub none-more : (xs : List ℕ) (at start : ℕ) → at < length xs → start ≡ leading (take (at + 1) xs) → head_end (take at xs) ≡ None
+    → ends_in_empty_line (slice_range xs start (at + 1)) ≡ false → head_end (take (at + 1) xs) ≡ None
+none-more xs at start inside here none fails = head_end-take-none xs at inside none (is_end-is xs (at + 1) start here (omega arith) ∙ fails)
+
+-- a head that was found where the first bytes had none
+pub is_head : (limit : ℕ) (xs : List ℕ) (at start : ℕ) → at < limit → at < length xs → head_end (take at xs) ≡ None → start ≡ leading (take (at + 1) xs)
+    → ends_in_empty_line (slice_range xs start (at + 1)) ≡ true → IsHeadAt limit xs start (at + 1)
+is_head limit xs at start low inside none here holds =
+    let end = is_end-is xs (at + 1) start here (omega arith) ∙ holds in
+    let found : head_end (take limit xs) ≡ Some (at + 1) = ap head_end (sym (take_min limit xs)) ∙ head_end-take-some xs at (min limit (length xs)) (omega arith) (omega arith) none end in
+    record {
+      ends = found;
+      ordered = ends-longer xs start (at + 1) holds;
+      within = omega arith;
+      text = ap (option_map (λ count. after_leading (take count (take limit xs)))) found
+          ∙ ap (λ l. Some (after_leading l)) (take-take (at + 1) limit xs (omega arith))
+          ∙ ap Some (text-is xs (at + 1) start here (omega arith));
+    }
+
+pub slice_range-append : (xs ys : List ℕ) (start end : ℕ) → start < end → end ≤ length xs → slice_range (xs ++ ys) start end ≡ slice_range xs start end
+slice_range-append xs ys start end low high =
+    ap (take (end - start)) (drop-append-le start xs ys (omega arith)) ∙ take-append-le (end - start) (drop start xs) ys (omega (arith, length-drop start xs))
+
+-- and it is the head of any bytes that begin so
+pub is_head-append : (limit : ℕ) (xs ys : List ℕ) (start end : ℕ) → IsHeadAt limit xs start end → IsHeadAt limit (xs ++ ys) start end
+is_head-append limit xs ys start end head =
+    let low : end ≤ limit = omega (arith, (head_end-Some-is (take limit xs) end head.ends).0, length-take limit xs) in
+    let inside : end ≤ length xs = head.within in
+    let more : length (xs ++ ys) ≡ length xs + length ys = length-append xs ys in
+    let found : head_end (take limit (xs ++ ys)) ≡ Some end =
+    head_end-same (take limit xs) (take limit (xs ++ ys)) end head.ends (omega (arith, length-take limit (xs ++ ys)))
+    (λ m h. is_end-take (xs ++ ys) limit m (omega arith) ∙ is_end-append xs ys m (omega arith) ∙ sym (is_end-take xs limit m (omega arith))) in
+    let front : take end (take limit (xs ++ ys)) ≡ take end (take limit xs) = take-take end limit (xs ++ ys) low ∙ take-append-le end xs ys inside ∙ sym (take-take end limit xs low) in
+    let part : slice_range (xs ++ ys) start end ≡ slice_range xs start end = slice_range-append xs ys start end head.ordered inside in
+    record {
+      ends = found;
+      ordered = head.ordered;
+      within = omega arith;
+      text = ap (option_map (λ count. after_leading (take count (take limit (xs ++ ys))))) found
+          ∙ ap (λ l. Some (after_leading l)) front
+          ∙ sym (ap (option_map (λ count. after_leading (take count (take limit xs)))) head.ends)
+          ∙ head.text ∙ ap Some (sym part);
+    }
+
+-- ---- reading on
+
+pub looked-nil : (xs : List ℕ) → IsLookedAt xs 0 0
+looked-nil xs = record { within = omega arith; front = sym leading-nil; none = head_end-nil }
+
+-- what was looked at stays so where more bytes come
+pub looked-more : (xs ys : List ℕ) (looked start : ℕ) → StartsWith ys xs → IsLookedAt xs looked start → IsLookedAt ys looked start
+looked-more xs ys looked start more is =
+    let low : looked ≤ length xs = is.within in
+    let longer : length xs ≤ length ys = starts_with_length ys xs more in
+    let same : take looked ys ≡ take looked xs = sym (take-take looked (length xs) ys low) ∙ ap (take looked) more in
+    record { within = omega arith; front = is.front ∙ ap leading (sym same); none = ap head_end same ∙ is.none }
+
+-- all was looked at
+pub lacks_head : (limit : ℕ) (xs : List ℕ) (looked start : ℕ) → IsLookedAt xs looked start → looked ≡ min limit (length xs) → (looked ≡ limit → ⊥) → LacksHead limit xs
+lacks_head limit xs looked start is all more =
+    let short : length xs < limit = omega arith in
+    (short, ap head_end (sym (take_all looked xs (omega arith))) ∙ is.none)
+
+pub too_long : (limit : ℕ) (xs : List ℕ) (looked start : ℕ) → IsLookedAt xs looked start → looked ≡ min limit (length xs) → looked ≡ limit
+    → (limit ≤ length xs) × (head_end (take limit xs) ≡ None)
+too_long limit xs looked start is all full = (omega arith, ap (λ k. head_end (take k xs)) (sym full) ∙ is.none)
+
+-- ---- what the stream tells
+
+pub told-text : (limit : ℕ) (pending : List ℕ) (left : Option (List ℕ)) (start end : ℕ) → IsHeadAt limit pending start end
+    → IfSome (prepend_known pending left) (λ stream. IsHeadAt limit stream start end)
+told-text limit pending left start end head = stream-more (λ stream. IsHeadAt limit stream start end) left pending (λ rest. is_head-append limit pending rest start end head)
+
+pub told-long : (limit : ℕ) (pending : List ℕ) (left : Option (List ℕ)) → (limit ≤ length pending) × (head_end (take limit pending) ≡ None)
+    → IfSome (prepend_known pending left) (λ stream. (limit ≤ length stream) × (head_end (take limit stream) ≡ None))
+told-long limit pending left long =
+    stream-more (λ stream. (limit ≤ length stream) × (head_end (take limit stream) ≡ None)) left pending
+    (λ rest. (omega (arith, long.0, length-append pending rest), ap head_end (take-append-le limit pending rest long.0) ∙ long.1))
+
+pub ruleset line_ends = (leading-more-end, leading-more-text, leading-more-other, leading-take-le)
+
+pub ruleset looks = (none-more, is_head)
+
+pub ruleset reading = (looked-more, lacks_head, too_long, told-long, stream-end)
+
+pub ruleset other_bytes = no-empty_line

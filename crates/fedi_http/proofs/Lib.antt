@@ -1,0 +1,3 @@
+pub mod RequestLemmas
+pub mod HeadLemmas
+pub mod StreamLemmas

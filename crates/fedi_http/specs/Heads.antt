@@ -1,0 +1,86 @@
+-- Where the head of a request ends.
+use Rattle.std.specs.Prelude.{ℕ, ◌≡◌, ◌+◌, ◌<◌, ◌≤◌, Bool, ◌||◌, not, nat_eq, List, [], ◌∷◌, length, take, drop, find, Option, None, Some, option_map}
+use Rattle.std.specs.List.{ends_with, position_or_len, range_with_len, slice_range}
+use Rattle.fedi_http.specs.declared.heads.HeadRead.{HeadRead}
+use Rattle.fedi_http.specs.declared.heads.HeadRead.TheVariants.{Text, Empty, CutShort, TooLong, ReadFault, Memory}
+
+-- CR and LF
+abbrev pub is_line_end : ℕ → Bool
+is_line_end byte = nat_eq byte 13 || nat_eq byte 10
+
+-- the index of the first byte that is neither: empty lines may come before a request line (RFC 9112, section 2.2)
+unfoldable pub leading : List ℕ → ℕ
+leading bytes = position_or_len (λ byte. not (is_line_end byte)) bytes
+
+-- the bytes from the first that is neither on
+abbrev pub after_leading : List ℕ → List ℕ
+after_leading bytes = drop (leading bytes) bytes
+
+-- a line ends in LF, before which a CR may stand (RFC 9112, section 2.2); so an empty line behind another ends in LF LF or in LF CR LF
+abbrev pub ends_in_empty_line : List ℕ → Bool
+ends_in_empty_line text = ends_with nat_eq text (10 ∷ 10 ∷ []) || ends_with nat_eq text (10 ∷ 13 ∷ 10 ∷ [])
+
+-- whether the first `count` bytes, but for the line ends in front, end with an empty line
+unfoldable pub is_end : List ℕ → ℕ → Bool
+is_end bytes count = ends_in_empty_line (after_leading (take count bytes))
+
+-- how many bytes the head takes from the front: the least number after which it ends with an empty line (RFC 9112, section 2.1)
+unfoldable pub head_end : List ℕ → Option ℕ
+head_end bytes = find (is_end bytes) (range_with_len 0 (length bytes + 1))
+
+-- the head's text: these bytes but for the line ends in front
+abbrev pub head_of : List ℕ → Option (List ℕ)
+head_of bytes = option_map (λ count. after_leading (take count bytes)) (head_end bytes)
+
+-- the head of the first `limit` bytes stands from `start` to `end`
+pub record IsHeadAt (limit : ℕ) (bytes : List ℕ) (start end : ℕ) : Type 0 where
+  pub ends : head_end (take limit bytes) ≡ Some end
+  pub ordered : start < end
+  pub within : end ≤ length bytes
+  pub text : head_of (take limit bytes) ≡ Some (slice_range bytes start end)
+
+-- the bytes are fewer than `limit`, and no head ends in them
+abbrev pub LacksHead : ℕ → List ℕ → Type 0
+LacksHead limit bytes = (length bytes < limit) × (head_end bytes ≡ None)
+
+-- what stands at the front of the bytes that are there, of which a head takes at most `limit`
+abbrev pub IsHeadUpTo : ℕ → List ℕ → HeadRead → Type 0
+IsHeadUpTo limit bytes (Text start end) = IsHeadAt limit bytes start end
+IsHeadUpTo limit bytes Empty = bytes ≡ []
+IsHeadUpTo limit bytes CutShort = (0 < length bytes) × LacksHead limit bytes
+IsHeadUpTo limit bytes TooLong = (limit ≤ length bytes) × (head_end (take limit bytes) ≡ None)
+IsHeadUpTo limit bytes ReadFault = Unit {0}
+IsHeadUpTo limit bytes Memory = Unit {0}
+
+-- a fact for the answers that come where the input ended
+abbrev pub OnEnd : HeadRead → Type 0 → Type 0
+OnEnd (Text start end) P = Unit {0}
+OnEnd Empty P = P
+OnEnd CutShort P = P
+OnEnd TooLong P = Unit {0}
+OnEnd ReadFault P = Unit {0}
+OnEnd Memory P = Unit {0}
+
+-- a fact for the answers by which reading stopped before the stream was known
+abbrev pub OnStopped : HeadRead → Type 0 → Type 0
+OnStopped (Text start end) P = Unit {0}
+OnStopped Empty P = Unit {0}
+OnStopped CutShort P = Unit {0}
+OnStopped TooLong P = Unit {0}
+OnStopped ReadFault P = P
+OnStopped Memory P = P
+
+-- a fact for a read that failed
+abbrev pub OnReadFault : HeadRead → Type 0 → Type 0
+OnReadFault (Text start end) P = Unit {0}
+OnReadFault Empty P = Unit {0}
+OnReadFault CutShort P = Unit {0}
+OnReadFault TooLong P = Unit {0}
+OnReadFault ReadFault P = P
+OnReadFault Memory P = Unit {0}
+
+-- no head ends in the first `looked` bytes, and the first `start` of these are the line ends in front
+pub record IsLookedAt (bytes : List ℕ) (looked start : ℕ) : Type 0 where
+  pub within : looked ≤ length bytes
+  pub front : start ≡ leading (take looked bytes)
+  pub none : head_end (take looked bytes) ≡ None
