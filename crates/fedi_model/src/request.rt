@@ -13,7 +13,10 @@ pub struct Field {
     pub value: Bytes,
 }
 
-/// A request (RFC 9112, section 2.1).
+/// The most bytes that a body may have.
+pub const BODY_LIMIT: usize = 262_144;
+
+/// A request, without its body (RFC 9112, section 2.1).
 #[derive(Drop)]
 pub struct Request {
     /// The method (RFC 9110, section 9).
@@ -22,10 +25,8 @@ pub struct Request {
     pub target: Bytes,
     /// The fields of the head, in order.
     pub fields: Items<Field>,
-    /// The body, without any coding for its transfer.
-    pub body: Bytes,
-    /// Whether the connection goes on after the reply.
+    /// How many bytes the body has (RFC 9112, section 6.2).
+    pub body_length: usize,
+    /// Whether the connection goes on after the reply, as far as the fields say (RFC 9112, section 9.3).
     pub keep: bool,
-    /// Whether the reply is its head alone.
-    pub head_only: bool,
 }
