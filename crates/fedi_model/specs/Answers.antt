@@ -1,5 +1,5 @@
 -- The answer to a request: the refusal of its caller, or the reply to the caller for what it asks.
-use Rattle.std.specs.Prelude.{◌≡◌, ℕ, List, Result, Ok, Err}
+use Rattle.std.specs.Prelude.{◌≡◌, ℕ, List, [], Result, Ok, Err}
 use Rattle.fedi_address.specs.declared.refusal.Refusal.{Refusal}
 use Rattle.fedi_objects.specs.declared.entry.Entry.{Entry}
 use Rattle.fedi_model.specs.declared.ask.Ask.{Ask}
@@ -17,7 +17,7 @@ use Rattle.fedi_model.specs.Towns.{Town}
 
 -- who makes the request, or why nobody may be taken for its caller
 abbrev pub caller_of : Town → Request → Result Caller Refusal
-caller_of t q = caller_by t (credentials_of q)
+caller_of t q = caller_by t (credentials_of q [])
 
 -- the reply to this caller for what the request asks
 abbrev pub AnswersTo : Town → Result Caller Refusal → Request → Reply → Type 0

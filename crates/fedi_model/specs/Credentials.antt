@@ -1,5 +1,5 @@
 -- What the fields of a request show of who makes it (RFC 6750, section 2.1; RFC 9110, section 11.6.2).
-use Rattle.std.specs.Prelude.{ℕ, Bool, ◌&&◌, ◌||◌, nat_le, List, take, drop, map, codes, bytes_eq, find, Option, Some, None, option_map, if◌then◌else◌}
+use Rattle.std.specs.Prelude.{ℕ, Bool, ◌&&◌, ◌||◌, nat_le, List, take, drop, map, codes, bytes_eq, Option, Some, None, option_map, if◌then◌else◌}
 use Rattle.std.specs.List.{list_all}
 use Rattle.std.specs.Str.{is_utf8}
 use Rattle.std.specs.Char.{to_ascii_lowercase}
@@ -8,13 +8,8 @@ use Rattle.hex.specs.Hex.{decode_sized}
 use Rattle.fedi_model.specs.declared.caller.Credentials.{Credentials}
 use Rattle.fedi_model.specs.declared.caller.Credentials.TheVariants.{Nothing as NoneShown, Bearer as BearerShown, Mac as MacShown}
 use Rattle.fedi_model.specs.declared.caller.Signed.{Signed}
-use Rattle.fedi_model.specs.declared.request.Field.{Field}
 use Rattle.fedi_model.specs.declared.request.Request.{Request}
-use Rattle.fedi_model.specs.Requests.{is_named}
-
--- the value of the first field of this name
-unfoldable pub field_value : List ℕ → List Field → Option (List ℕ)
-field_value name fields = option_map (λ f. f.value) (find (is_named name) fields)
+use Rattle.fedi_model.specs.Requests.{field_value}
 
 -- the 32 bytes that 64 hexadecimal digits, of either case, write (RFC 4648, section 8)
 unfoldable pub key_of : List ℕ → Option (List ℕ)
@@ -45,15 +40,15 @@ pub record Signature : Type 0 where
   pub target : List ℕ
   pub body : List ℕ
 
--- the request as this host signed it by this code
-abbrev pub signed_by : Request → List ℕ → List ℕ → Signature
-signed_by q host mac = record { host = host; mac = mac; method = q.method; target = q.target; body = q.body }
+-- the request with this body as this host signed it by this code
+abbrev pub signed_by : Request → List ℕ → List ℕ → List ℕ → Signature
+signed_by q body host mac = record { host = host; mac = mac; method = q.method; target = q.target; body = body }
 
 -- both fields stand, the host is a text, and the code is one
-abbrev pub signature_of : Request → Option (List ℕ) → Option (List ℕ) → Option Signature
-signature_of q (Some host) (Some code) = if is_utf8 host then option_map (signed_by q host) (code_of code) else None
-signature_of q (Some host) None = None
-signature_of q None code = None
+abbrev pub signature_of : Request → List ℕ → Option (List ℕ) → Option (List ℕ) → Option Signature
+signature_of q body (Some host) (Some code) = if is_utf8 host then option_map (signed_by q body host) (code_of code) else None
+signature_of q body (Some host) None = None
+signature_of q body None code = None
 
 -- what a request shows of who makes it
 pub data Shows : Type 0 where
@@ -62,16 +57,16 @@ pub data Shows : Type 0 where
   Mac : Option Signature → Shows
 
 -- what the values of `Authorization`, `Peer-Host` and `Peer-Mac` show
-abbrev pub credentials_by : Request → Option (List ℕ) → Option (List ℕ) → Option (List ℕ) → Shows
-credentials_by q (Some value) host code = Bearer (bearer_key value)
-credentials_by q None None None = Nothing
-credentials_by q None None (Some code) = Mac (signature_of q None (Some code))
-credentials_by q None (Some host) code = Mac (signature_of q (Some host) code)
+abbrev pub credentials_by : Request → List ℕ → Option (List ℕ) → Option (List ℕ) → Option (List ℕ) → Shows
+credentials_by q body (Some value) host code = Bearer (bearer_key value)
+credentials_by q body None None None = Nothing
+credentials_by q body None None (Some code) = Mac (signature_of q body None (Some code))
+credentials_by q body None (Some host) code = Mac (signature_of q body (Some host) code)
 
--- what a request shows of who makes it
-abbrev pub credentials_of : Request → Shows
-credentials_of q =
-    credentials_by q
+-- what a request with this body shows of who makes it
+abbrev pub credentials_of : Request → List ℕ → Shows
+credentials_of q body =
+    credentials_by q body
     (field_value (codes "Authorization") q.fields)
     (field_value (codes "Peer-Host") q.fields)
     (field_value (codes "Peer-Mac") q.fields)
