@@ -1,3 +1,4 @@
+pub mod FramingLemmas
 pub mod RequestLemmas
 pub mod HeadLemmas
 pub mod StreamLemmas

@@ -1,6 +1,8 @@
 //! HTTP/1.1 (RFC 9112): requests are read from a source, and replies are written to a sink.
 #![tactic(auto)]
 
+mod fields;
+mod framing;
 mod heads;
 mod replies;
 mod requests;
@@ -8,7 +10,8 @@ mod sending;
 #[cfg(test)]
 mod tests;
 
+pub use fields::{field_value, is_same_name};
 pub use heads::{Buffer, HEAD_LIMIT, HeadRead, read_head};
 pub use replies::{MEMORY_TEXT, memory_text, reply_bytes};
-pub use requests::{MOST_FIELDS, is_same_name, read_request_head, text_of};
+pub use requests::{MOST_FIELDS, read_request_head, text_of};
 pub use sending::send;

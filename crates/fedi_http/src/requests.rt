@@ -1,12 +1,12 @@
 //! Reading the head of a request (RFC 9112, sections 2 to 5).
 
-ghost use Rattle.std.specs.Prelude.{◌≡◌, ◌≢◌, ℕ, ◌≤◌, ◌↔◌, List, MatchOption, true, false, ◌&&◌, map, length, codes, bytes_eq, IsTrue, All, IfOk, IfErr, IfSome, IsSome, if◌then◌else◌, option_copied};
+ghost use Rattle.std.specs.Prelude.{◌≡◌, ◌≢◌, ℕ, ◌≤◌, List, MatchOption, true, false, ◌&&◌, length, All, IfOk, IfErr, IfSome, IsSome, if◌then◌else◌, option_copied};
 ghost use Rattle.std.specs.Str.{is_utf8};
-ghost use Rattle.std.specs.Char.{to_ascii_lowercase};
 ghost use Rattle.httparse.specs.Grammar.{RequestHead, IsToken};
 ghost use Rattle.httparse.specs.Spans.{IsRequestAt, IsRequestWithin, IsHeaderWithin, span_bytes, header_bytes};
 ghost use Rattle.fedi_model.specs.Requests as model;
 
+use crate::framing::{closes, measured};
 use fedi_address::{Items, Refusal};
 use fedi_model::{Field, Request};
 use fedi_objects::Bytes;
@@ -18,11 +18,12 @@ use std::alloc::{AllocError, Global};
 /// The most fields that a head may have.
 pub const MOST_FIELDS: usize = 64;
 
-/// Reads the text of one whole head as a request, without a body. It is `BadHead` where the text is
-/// not one head of at most 64 fields, or one that is not served: whose method is not GET, whose
-/// version is not 1.1, whose target does not begin with a slash, which has not exactly one `Host`,
-/// which repeats a field that stands once, or which announces a body. It is `Memory` where memory
-/// is wanted.
+/// Reads the text of one whole head as a request, whose body is still to come. It is `BadHead` where the text is not one head of at
+/// most 64 fields, or one that is not served: whose method is neither GET nor POST, whose version is not 1.1, whose target does not
+/// begin with a slash, which has not exactly one `Host`, which repeats a field that stands once, which has both `Content-Length` and
+/// `Transfer-Encoding`, or whose `Content-Length` is no number of 1 to 19 digits. Then it is `NoCoding` where the body is coded for
+/// its transfer, `NoLength` for a POST without `Content-Length`, and `TooLong` where the body has over 262,144 bytes. It is `Memory`
+/// where memory is wanted.
 #[tactic(auto, using(crate::proofs::RequestLemmas::reads_once))]
 pub fn read_request_head(alloc: Global, text: &[u8]) -> Result<Request, Refusal>
     ensures ok { IfOk result (λ request. model.ReadsAs MOST_FIELDS text.now (Ok request)) }
@@ -31,19 +32,9 @@ pub fn read_request_head(alloc: Global, text: &[u8]) -> Result<Request, Refusal>
     ensures once { model.IsReadOnce MOST_FIELDS text.now }
 {
     let mut spans = [EMPTY_HEADER_SPAN; MOST_FIELDS];
-    let Some(head) = whole_head(text, &mut spans) else {
-        return Err(Refusal::BadHead);
-    };
-    let fields = &spans[..head.headers];
-    let Some(method) = served_method(head.method.of(text)) else {
-        return Err(Refusal::BadHead);
-    };
-    if !is_served(text, head, fields) {
-        return Err(Refusal::BadHead);
-    }
-    match request_at(alloc, text, method, head.path, fields) {
-        Ok(request) => Ok(request),
-        Err(_) => Err(Refusal::Memory),
+    match whole_head(text, &mut spans) {
+        Some(head) => request_at(alloc, text, head, &spans[..head.headers]),
+        None => Err(Refusal::BadHead),
     }
 }
 
@@ -69,123 +60,77 @@ fn served_method(name: &[u8]) -> Option<Method>
         (λ method. (model.is_served_method name.now ≡ true) × (method ≡ name.now)) }
 {
     if name == b"GET".as_slice() {
-        return Some(Method::GET);
+        Some(Method::GET)
+    } else if name == b"POST".as_slice() {
+        Some(Method::POST)
+    } else {
+        None
     }
-    None
 }
 
-/// Whether the version, the target and the fields at these places are served.
-fn is_served(text: &[u8], head: RequestSpans, fields: &[HeaderSpan]) -> bool
-    requires within { All (IsHeaderWithin (length text.now)) fields.now }
-    requires ordered { head.path.start ≤ head.path.end }
-    requires in_range { head.path.end ≤ length text.now }
-    ensures { result ≡ (model.is_served_version head.version
-        && model.is_served_target (span_bytes text.now head.path)
-        && model.has_served_fields (model.fields_at text.now fields.now)) }
+/// Whether the version and the target are served.
+fn is_served(version: u8, target: &[u8]) -> bool
+    ensures { result ≡ (model.is_served_version version && model.is_served_target target.now) }
 {
-    head.version == 1 && head.path.of(text).starts_with(b"/") && has_served_fields(text, fields)
+    version == 1 && target.starts_with(b"/")
 }
 
-/// Whether `Host` stands once, the fields that stand once at most are not repeated, and no body is
-/// announced.
-#[tactic(auto, unfolding(fedi_model::specs::Requests::has_served_fields))]
-fn has_served_fields(text: &[u8], fields: &[HeaderSpan]) -> bool
-    requires { All (IsHeaderWithin (length text.now)) fields.now }
-    ensures { result ≡ model.has_served_fields (model.fields_at text.now fields.now) }
-{
-    count_named(text, fields, "Host") == 1
-        && has_no_repeats(text, fields)
-        && has_no_body(text, fields)
-}
-
-/// Whether the fields announce no body.
-#[tactic(auto, unfolding(fedi_model::specs::Requests::has_no_body))]
-fn has_no_body(text: &[u8], fields: &[HeaderSpan]) -> bool
-    requires { All (IsHeaderWithin (length text.now)) fields.now }
-    ensures { result ≡ model.has_no_body (model.fields_at text.now fields.now) }
-{
-    count_named(text, fields, "Content-Length") == 0
-        && count_named(text, fields, "Transfer-Encoding") == 0
-}
-
-/// Whether the fields that say who asks stand once each at most.
-#[tactic(auto, unfolding(fedi_model::specs::Requests::has_single_credentials))]
-fn has_single_credentials(text: &[u8], fields: &[HeaderSpan]) -> bool
-    requires { All (IsHeaderWithin (length text.now)) fields.now }
-    ensures { result ≡ model.has_single_credentials (model.fields_at text.now fields.now) }
-{
-    is_single(text, fields, "Authorization")
-        && is_single(text, fields, "Peer-Host")
-        && is_single(text, fields, "Peer-Mac")
-}
-
-/// Whether the fields that speak of the body stand once each at most.
-#[tactic(auto, unfolding(fedi_model::specs::Requests::has_single_content))]
-fn has_single_content(text: &[u8], fields: &[HeaderSpan]) -> bool
-    requires { All (IsHeaderWithin (length text.now)) fields.now }
-    ensures { result ≡ model.has_single_content (model.fields_at text.now fields.now) }
-{
-    is_single(text, fields, "Content-Length")
-        && is_single(text, fields, "Transfer-Encoding")
-        && is_single(text, fields, "Content-Type")
-}
-
-/// Whether no field is repeated that stands once at most.
-#[tactic(auto, unfolding(fedi_model::specs::Requests::has_no_repeats))]
-fn has_no_repeats(text: &[u8], fields: &[HeaderSpan]) -> bool
-    requires { All (IsHeaderWithin (length text.now)) fields.now }
-    ensures { result ≡ model.has_no_repeats (model.fields_at text.now fields.now) }
-{
-    has_single_credentials(text, fields)
-        && has_single_content(text, fields)
-        && is_single(text, fields, "Idempotency-Key")
-}
-
-/// Whether at most one of the fields has this name.
-fn is_single(text: &[u8], fields: &[HeaderSpan], name: &str) -> bool
-    requires { All (IsHeaderWithin (length text.now)) fields.now }
-    ensures { result ≡ model.is_single name.now (model.fields_at text.now fields.now) }
-{
-    count_named(text, fields, name) <= 1
-}
-
-/// How many of the fields have this name.
-fn count_named(text: &[u8], fields: &[HeaderSpan], name: &str) -> usize
-    requires { All (IsHeaderWithin (length text.now)) fields.now }
-    ensures { result ≡ model.count_named name.now (model.fields_at text.now fields.now) }
-{
-    let mut count = 0;
-    for field in fields {
-        if is_same_name(field.name.of(text), name.as_bytes()) {
-            count += 1;
-        }
-    }
-    count
-}
-
-/// The request of these parts of a head, with no body.
+/// The request of the head at these places.
 fn request_at(
     alloc: Global,
     text: &[u8],
-    method: Method,
-    target: Span,
-    fields: &[HeaderSpan],
-) -> Result<Request, AllocError>
-    requires within { All (IsHeaderWithin (length text.now)) fields.now }
-    requires ordered { target.start ≤ target.end }
-    requires in_range { target.end ≤ length text.now }
-    ensures { IfOk result (λ request. request ≡
-        model.request_with method (span_bytes text.now target) (model.fields_at text.now fields.now)) }
+    head: RequestSpans,
+    spans: &[HeaderSpan],
+) -> Result<Request, Refusal>
+    requires within { All (IsHeaderWithin (length text.now)) spans.now }
+    requires named { head.method.start ≤ head.method.end }
+    requires named_within { head.method.end ≤ length text.now }
+    requires ordered { head.path.start ≤ head.path.end }
+    requires in_range { head.path.end ≤ length text.now }
+    ensures ok { IfOk result (λ request.
+        (model.refusal_with (span_bytes text.now head.method) (span_bytes text.now head.path) head.version
+        (model.fields_at text.now spans.now) ≡ None)
+        × (request ≡ model.request_with (span_bytes text.now head.method) (span_bytes text.now head.path)
+        (model.fields_at text.now spans.now))) }
+    ensures refused { IfErr result (λ e. e ≢ Refusal.Memory →
+        model.refusal_with (span_bytes text.now head.method) (span_bytes text.now head.path) head.version
+        (model.fields_at text.now spans.now) ≡ Some e) }
 {
-    let target = bytes_at(alloc, text, target)?;
-    let fields = fields_at(alloc, text, fields)?;
+    let target = head.path.of(text);
+    let Some(method) = served_method(head.method.of(text)) else {
+        return Err(Refusal::BadHead);
+    };
+    if !is_served(head.version, target) {
+        return Err(Refusal::BadHead);
+    }
+    match fields_at(alloc, text, spans) {
+        Ok(fields) => request_with(alloc, method, target, fields),
+        Err(AllocError) => Err(Refusal::Memory),
+    }
+}
+
+/// The request of these parts, whose request line is served.
+fn request_with(
+    alloc: Global,
+    method: Method,
+    target: &[u8],
+    fields: Vec<Field>,
+) -> Result<Request, Refusal>
+    ensures ok { IfOk result (λ request. (model.fields_refusal method fields.items ≡ None)
+        × (request ≡ model.request_with method target.now fields.items)) }
+    ensures refused { IfErr result (λ e. e ≢ Refusal.Memory → model.fields_refusal method fields.items ≡ Some e) }
+{
+    let body_length = measured(&method, &fields)?;
+    let keep = !closes(&fields);
+    let Ok(target) = Vec::from_slice(alloc, target) else {
+        return Err(Refusal::Memory);
+    };
     Ok(Request {
         method,
-        target,
+        target: Bytes::new(target),
         fields: Items::new(fields),
-        body: Bytes::new(Vec::new(alloc)),
-        keep: false,
-        head_only: false,
+        body_length,
+        keep,
     })
 }
 
@@ -220,13 +165,6 @@ fn fields_at(alloc: Global, text: &[u8], spans: &[HeaderSpan]) -> Result<Vec<Fie
         fields.push(field_at(alloc, text, *span)?)?;
     }
     Ok(fields)
-}
-
-/// Whether the names are equal without case.
-pub fn is_same_name(one: &[u8], other: &[u8]) -> bool
-    ensures { result ≡ bytes_eq (map to_ascii_lowercase one.now) (map to_ascii_lowercase other.now) }
-{
-    one.eq_ignore_ascii_case(other)
 }
 
 /// The text that these bytes are, where they are UTF-8.

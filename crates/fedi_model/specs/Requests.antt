@@ -1,18 +1,22 @@
--- What the head of a request asks, and which requests are served (RFC 9112, sections 2 to 5; RFC 9110, sections 5 and 7.2).
-use Rattle.std.specs.Prelude.{◌≡◌, ℕ, ◌≤◌, Bool, false, ◌&&◌, ◌==◌, nat_eq, nat_le, List, [], length, map, count_by, codes, bytes_eq, find, Option, option_map, IsTrue, Result, Ok, Err}
-use Rattle.std.specs.List.{starts_with}
-use Rattle.std.specs.Char.{to_ascii_lowercase}
+-- What the head of a request asks, and which requests are served (RFC 9112, sections 2 to 6 and 9; RFC 9110, sections 5 and 7 to 9).
+use Rattle.std.specs.Prelude.{◌≡◌, ℕ, ◌≤◌, ◌-◌, Bool, true, not, ◌&&◌, ◌||◌, ◌==◌, nat_eq, nat_le, List, [], length, take, drop, map, find, count_by, codes, bytes_eq, Option, Some, None, option_map, ◌⊎◌, if◌then◌else◌, Result, Ok, Err}
+use Rattle.std.specs.List.{starts_with, list_any, list_all, slice_split, position_or_len, suffix_len}
+use Rattle.std.specs.Char.{to_ascii_lowercase, is_ascii_digit}
+use Rattle.std.specs.Str.Parse.{digits_value}
 use Rattle.httparse.specs.Grammar.{RequestHead, ReadsRequest}
 use Rattle.httparse.specs.Spans.{name_and_value, header_bytes}
 use Rattle.httparse.specs.declared.spans.HeaderSpan.{HeaderSpan}
 use Rattle.fedi_address.specs.declared.refusal.Refusal.{Refusal}
-use Rattle.fedi_address.specs.declared.refusal.Refusal.TheVariants.{BadHead}
+use Rattle.fedi_address.specs.declared.refusal.Refusal.TheVariants.{BadHead, NoCoding, NoLength, TooLong}
 use Rattle.fedi_model.specs.declared.request.Field.{Field}
 use Rattle.fedi_model.specs.declared.request.Request.{Request}
+use Rattle.fedi_model.specs.declared.request.TheConstants.{BODY_LIMIT}
 
 -- the text is one whole head of at most so many fields (RFC 9112, section 2.1)
 abbrev pub IsHead : ℕ → List ℕ → RequestHead → Type 0
 IsHead most text h = ReadsRequest text h [] × (length h.fields ≤ most)
+
+-- ---- the fields
 
 -- a field of this name and value
 abbrev pub field_of : List ℕ × List ℕ → Field
@@ -25,22 +29,6 @@ fields_of h = map field_of (map name_and_value h.fields)
 -- the fields at these places of the text
 abbrev pub fields_at : List ℕ → List HeaderSpan → List Field
 fields_at text spans = map field_of (map (header_bytes text) spans)
-
--- to read (RFC 9110, section 9.3.1)
-abbrev pub is_get : List ℕ → Bool
-is_get method = bytes_eq method (codes "GET")
-
--- to post (RFC 9110, section 9.3.3)
-abbrev pub is_post : List ℕ → Bool
-is_post method = bytes_eq method (codes "POST")
-
--- a request of these parts
-abbrev pub request_with : List ℕ → List ℕ → List Field → Request
-request_with method target fields = record { method = method; target = target; fields = fields; body_length = 0; keep = false }
-
--- the request that a head writes
-abbrev pub request_of : RequestHead → Request
-request_of h = request_with h.method h.target (fields_of h)
 
 -- whether a field has this name; names are compared without case (RFC 9110, section 5.1)
 abbrev pub is_named : List ℕ → Field → Bool
@@ -66,6 +54,93 @@ is_missing name fields = count_named name fields == 0
 abbrev pub is_single : List ℕ → List Field → Bool
 is_single name fields = nat_le (count_named name fields) 1
 
+-- ---- the length of the body
+
+-- one digit or more, of which there are so few that the number has 64 bits (RFC 9110, section 8.6)
+unfoldable pub is_length : List ℕ → Bool
+is_length value = nat_le 1 (length value) && (nat_le (length value) 19 && list_all is_ascii_digit value)
+
+-- a value that is there is such a number
+abbrev pub is_length_if_any : Option (List ℕ) → Bool
+is_length_if_any None = true
+is_length_if_any (Some value) = is_length value
+
+-- the number that the digits write
+abbrev pub length_by : Option (List ℕ) → ℕ
+length_by None = 0
+length_by (Some value) = digits_value 10 value
+
+-- how many bytes the body has: as many as `Content-Length` says, and none where it is missing (RFC 9112, section 6.2)
+unfoldable pub body_length : List Field → ℕ
+body_length fields = length_by (field_value (codes "Content-Length") fields)
+
+-- ---- whether the connection goes on
+
+-- a space or a tab
+abbrev pub is_blank : ℕ → Bool
+is_blank byte = (byte == 32) || (byte == 9)
+
+-- the text from its first byte that is not blank
+abbrev pub without_front_blanks : List ℕ → List ℕ
+without_front_blanks text = drop (position_or_len (λ byte. not (is_blank byte)) text) text
+
+-- the text up to its last byte that is not blank
+abbrev pub without_back_blanks : List ℕ → List ℕ
+without_back_blanks text = take (length text - suffix_len is_blank text) text
+
+-- the element of a list is `close`, in any case (RFC 9110, sections 5.6.1 and 7.6.1)
+unfoldable pub is_close : List ℕ → Bool
+is_close element = bytes_eq (map to_ascii_lowercase (without_back_blanks (without_front_blanks element))) (codes "close")
+
+-- one of the elements between the commas is `close` (RFC 9110, section 5.6.1)
+unfoldable pub lists_close : List ℕ → Bool
+lists_close value = list_any is_close (slice_split (λ byte. byte == 44) value)
+
+-- a field `Connection` that lists `close`
+abbrev pub is_closing : Field → Bool
+is_closing field = is_named (codes "Connection") field && lists_close field.value
+
+-- the connection closes after the reply, as the fields say (RFC 9112, section 9.6)
+unfoldable pub closes : List Field → Bool
+closes fields = list_any is_closing fields
+
+-- ---- the request
+
+-- to read (RFC 9110, section 9.3.1)
+abbrev pub is_get : List ℕ → Bool
+is_get method = bytes_eq method (codes "GET")
+
+-- to post (RFC 9110, section 9.3.3)
+abbrev pub is_post : List ℕ → Bool
+is_post method = bytes_eq method (codes "POST")
+
+-- a request of these parts
+abbrev pub request_with : List ℕ → List ℕ → List Field → Request
+request_with method target fields =
+    record { method = method; target = target; fields = fields; body_length = body_length fields; keep = not (closes fields) }
+
+-- the request that a head writes
+abbrev pub request_of : RequestHead → Request
+request_of h = request_with h.method h.target (fields_of h)
+
+-- ---- which heads are bad
+
+-- GET and POST
+abbrev pub is_served_method : List ℕ → Bool
+is_served_method method = is_get method || is_post method
+
+-- HTTP/1.1 alone
+abbrev pub is_served_version : ℕ → Bool
+is_served_version minor = minor == 1
+
+-- the origin form, which begins with a slash (RFC 9112, section 3.2.1)
+abbrev pub is_served_target : List ℕ → Bool
+is_served_target target = starts_with nat_eq target (codes "/")
+
+-- whether a request line such as this is served
+abbrev pub is_served_line : List ℕ → List ℕ → ℕ → Bool
+is_served_line method target minor = is_served_method method && (is_served_version minor && is_served_target target)
+
 -- of the fields that say who asks there is one of each at most (RFC 9110, section 5.3)
 unfoldable pub has_single_credentials : List Field → Bool
 has_single_credentials fields =
@@ -85,44 +160,49 @@ unfoldable pub has_no_repeats : List Field → Bool
 has_no_repeats fields =
     has_single_credentials fields && has_single_content fields && is_single (codes "Idempotency-Key") fields
 
--- the fields announce no body (RFC 9112, section 6.3)
-unfoldable pub has_no_body : List Field → Bool
-has_no_body fields = is_missing (codes "Content-Length") fields && is_missing (codes "Transfer-Encoding") fields
-
 -- `Host` stands exactly once (RFC 9112, section 3.2)
 abbrev pub has_host : List Field → Bool
 has_host fields = is_once (codes "Host") fields
 
--- the fields are those of a request that is served
+-- the body is not measured in both ways (RFC 9112, section 6.3)
+unfoldable pub has_one_measure : List Field → Bool
+has_one_measure fields = is_missing (codes "Content-Length") fields || is_missing (codes "Transfer-Encoding") fields
+
+-- a `Content-Length` that is there is a number (RFC 9112, section 6.3)
+unfoldable pub has_plain_length : List Field → Bool
+has_plain_length fields = is_length_if_any (field_value (codes "Content-Length") fields)
+
+-- the fields are those of a good head
 unfoldable pub has_served_fields : List Field → Bool
-has_served_fields fields = has_host fields && has_no_repeats fields && has_no_body fields
+has_served_fields fields = has_host fields && has_no_repeats fields && has_one_measure fields && has_plain_length fields
 
--- GET alone (RFC 9110, section 9.3.1)
-abbrev pub is_served_method : List ℕ → Bool
-is_served_method method = bytes_eq method (codes "GET")
+-- ---- why a head is refused
 
--- HTTP/1.1 alone
-abbrev pub is_served_version : ℕ → Bool
-is_served_version minor = minor == 1
+-- why no body is read after the good fields of a request with this method: for its coding (RFC 9112, section 6.1), for want of
+-- a length (RFC 9110, section 15.5.12), or for the length (RFC 9110, section 15.5.14)
+abbrev pub body_refusal : List ℕ → List Field → Option Refusal
+body_refusal method fields =
+    if not (is_missing (codes "Transfer-Encoding") fields) then Some NoCoding
+    else (if is_post method && is_missing (codes "Content-Length") fields then Some NoLength
+    else (if nat_le (body_length fields) BODY_LIMIT then None else Some TooLong))
 
--- the origin form, which begins with a slash (RFC 9112, section 3.2.1)
-abbrev pub is_served_target : List ℕ → Bool
-is_served_target target = starts_with nat_eq target (codes "/")
+-- why a request with this method is refused by its fields
+abbrev pub fields_refusal : List ℕ → List Field → Option Refusal
+fields_refusal method fields = if has_served_fields fields then body_refusal method fields else Some BadHead
 
--- whether a request line and fields such as these are served
-abbrev pub serves : List ℕ → List ℕ → ℕ → List Field → Bool
-serves method target minor fields =
-    is_served_method method && (is_served_version minor && is_served_target target && has_served_fields fields)
+-- why a request of these parts is refused
+abbrev pub refusal_with : List ℕ → List ℕ → ℕ → List Field → Option Refusal
+refusal_with method target minor fields = if is_served_line method target minor then fields_refusal method fields else Some BadHead
 
--- whether a head is served
-abbrev pub is_served : RequestHead → Bool
-is_served h = serves h.method h.target h.minor (fields_of h)
+-- why a head is refused, if it is
+abbrev pub head_refusal : RequestHead → Option Refusal
+head_refusal h = refusal_with h.method h.target h.minor (fields_of h)
 
--- what a text is read as: the request of the served head that it is, or that it is no such head
+-- what a text is read as: the request of the head that it is, or why that head is refused; what is no head is bad
 abbrev pub ReadsAs : ℕ → List ℕ → Result Request Refusal → Type 0
-ReadsAs most text (Ok q) = (h : RequestHead) × IsHead most text h × IsTrue (is_served h) × (q ≡ request_of h)
-ReadsAs most text (Err BadHead) = (h : RequestHead) → IsHead most text h → ¬ (IsTrue (is_served h))
-ReadsAs most text (Err e) = ⊥
+ReadsAs most text (Ok q) = (h : RequestHead) × IsHead most text h × (head_refusal h ≡ None) × (q ≡ request_of h)
+ReadsAs most text (Err e) =
+    ((h : RequestHead) × IsHead most text h × (head_refusal h ≡ Some e)) ⊎ ((e ≡ BadHead) × ((h : RequestHead) → ¬ (IsHead most text h)))
 
 -- a text is read in one way at most
 abbrev pub IsReadOnce : ℕ → List ℕ → Type 0

@@ -1,14 +1,14 @@
 -- What a request asks for, by its method and its path (RFC 9110, section 9.3; ActivityPub, sections 3.2 and 6). Paths are
 -- compared byte for byte and never decoded.
-use Rattle.std.specs.Prelude.{◌≡◌, ℕ, ◌-◌, ◌≤◌, ◌<◌, ◌^◌, ◌==◌, Bool, false, not, ◌||◌, List, length, take, map, codes, bytes_eq, IsTrue, Option, Some, None, Ok, Err}
-use Rattle.std.specs.Char.{to_ascii_lowercase, is_ascii_whitespace}
-use Rattle.std.specs.List.{before_first, suffix_len}
+use Rattle.std.specs.Prelude.{◌≡◌, ℕ, ◌≤◌, ◌<◌, ◌^◌, ◌==◌, Bool, false, not, ◌||◌, List, map, codes, bytes_eq, IsTrue, Option, Some, None, Ok, Err}
+use Rattle.std.specs.Char.{to_ascii_lowercase}
+use Rattle.std.specs.List.{before_first}
 use Rattle.serde_json.specs.Data.{Data}
 use Rattle.fedi_address.specs.Names.{is_name}
 use Rattle.fedi_reading.specs.Bodies.{IsBodyOf}
 use Rattle.fedi_reading.specs.Reading.{reads_posted}
 use Rattle.fedi_model.specs.Ids.{activity_path, object_path, outbox_path}
-use Rattle.fedi_model.specs.Requests.{field_value, is_get, is_missing, is_post}
+use Rattle.fedi_model.specs.Requests.{field_value, is_get, is_missing, is_post, without_back_blanks}
 use Rattle.fedi_model.specs.declared.ask.Ask.{Ask}
 use Rattle.fedi_model.specs.declared.ask.Ask.TheVariants.{Nowhere, Activity, Object, Outbox}
 use Rattle.fedi_model.specs.declared.ask.Post.{Post}
@@ -26,13 +26,9 @@ IsNumber number = (1 ≤ number) × (number < 2 ^ 32)
 
 -- ---- posts
 
--- the text up to the white space at its end, of which a field has spaces and tabs alone
-abbrev pub without_blanks : List ℕ → List ℕ
-without_blanks text = take (length text - suffix_len is_ascii_whitespace text) text
-
 -- a media type in lower case, without its parameters (RFC 9110, section 8.3.1)
 unfoldable pub media_type : List ℕ → List ℕ
-media_type value = map to_ascii_lowercase (without_blanks (before_first (λ b. b == 59) value))
+media_type value = map to_ascii_lowercase (without_back_blanks (before_first (λ b. b == 59) value))
 
 -- the types of JSON and of ActivityStreams (ActivityPub, section 3.2; ActivityStreams 2.0 Core, section 2; RFC 8259, section 11)
 unfoldable pub is_read_type : List ℕ → Bool

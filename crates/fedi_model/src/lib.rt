@@ -15,4 +15,4 @@ pub use caller::{Caller, Credentials, Signed};
 pub use laws::{replies_are_clean, replies_are_private, unseen_posts_tell_nothing};
 pub use refusing::{misshapen_reply, refusal_reply};
 pub use reply::{Allow, Form, Reply};
-pub use request::{Field, Request};
+pub use request::{BODY_LIMIT, Field, Request};

@@ -13,7 +13,10 @@ pub struct Field {
     pub value: Bytes,
 }
 
-/// A request (RFC 9112, section 2.1).
+/// The most bytes that a body may have.
+pub const BODY_LIMIT: usize = 262_144;
+
+/// A request, without its body (RFC 9112, section 2.1).
 #[derive(Drop)]
 pub struct Request {
     /// The method (RFC 9110, section 9).
