@@ -1,4 +1,3 @@
-pub mod RouteLemmas
 pub mod SessionLemmas
 pub mod OneConversation
 pub mod HistoryLemmas

@@ -1,7 +1,7 @@
 use Rattle.std.proofs.Common.{sym, ◌∙◌, codes, ◌++◌}
 use Rattle.std.specs.Prelude.{decimal}
-use Rattle.fedi.proofs.RouteLemmas.{no_slash, parts_at_slash, slice_to_end}
-use Rattle.fedi.proofs.routes.object_in.Goals as goal
+use Rattle.fedi_routes.proofs.RouteLemmas.{no_slash, parts_at_slash, slice_to_end}
+use Rattle.fedi_routes.proofs.routes.object_in.Goals as goal
 
 pub returns-in_err-slash : goal.returns-in_err-slash
 returns-in_err-slash c =
