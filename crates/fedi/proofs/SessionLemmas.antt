@@ -1,153 +1,309 @@
--- What a session has said, as a conversation over its input.
-use Rattle.std.proofs.Common.{◌≡◌, ℕ, ◌≤◌, ◌<◌, min, List, [], ◌++◌, length, take, Option, Some, None, Result, Ok, Err, refl, sym, ap, subst, ◌∙◌, ◌⊎◌, inl, inr, arith, lit≤}
-use Rattle.std.specs.Prelude.{IfSome, IfOk, option_map}
-use Rattle.std.specs.Io.KnownBytes.{prepend_known, Appends}
-use Rattle.std.specs.List.{slice_range}
+-- From the turns of the machine to exchanges, and from exchanges to sessions.
+use Rattle.std.proofs.Common.{◌≡◌, ◌⊎◌, ℕ, ◌+◌, ◌-◌, ◌^◌, ◌<◌, ◌≤◌, min, Bool, true, false, List, [], ◌∷◌, ◌++◌, length, take, drop, map, Option, Some, None, option_map, IfSome, Result, Ok, Err, inl, inr, refl, sym, ap, subst, ◌∙◌, append_assoc, append-nil, arith}
+use Rattle.std.specs.Prelude.{nat_le, not, ◌||◌, IsTrue}
+use Rattle.std.specs.List.{fold, list_any, slice_range}
+use Rattle.std.specs.Io.KnownBytes.{Appends, prepend_known}
+use Rattle.std.specs.Str.{bytes_eq}
+use Rattle.std.proofs.KnownBytes.{Appends-nil, Appends-trans}
 use Rattle.std.proofs.Math.Seq.{take-length}
-use Rattle.std.proofs.lemmas.List.{take_all}
-use Rattle.std.proofs.KnownBytes.{Appends-nil}
+use Rattle.std.proofs.lemmas.List.{drop-append-le, map-append}
+use Rattle.std.proofs.lemmas.Slice.Eq.{bytes_eq-Decides}
+use Rattle.fedi_outside.specs.Causes.{Rose}
+use Rattle.fedi_address.specs.Recipients.{is_among}
 use Rattle.fedi_address.specs.declared.refusal.Refusal.{Refusal}
-use Rattle.fedi_address.specs.declared.refusal.Refusal.TheVariants.{BadHead}
+use Rattle.fedi_core.specs.Turns.{Kept as Keeping, MayDoubt, TurnOf, IsDropped}
+use Rattle.fedi_entry.specs.Codes.{code_of}
+use Rattle.fedi_http.specs.Arrivals.{IsArrival, LacksRequest}
+use Rattle.fedi_http.specs.Sending.{Sends}
+use Rattle.fedi_http.specs.declared.arrivals.Arrived.{Arrived}
+use Rattle.fedi_http.specs.declared.arrivals.Arrived.TheVariants as arrivals
+use Rattle.fedi_http.specs.declared.heads.TheConstants.{HEAD_LIMIT}
+use Rattle.fedi_http.specs.declared.requests.TheConstants.{MOST_FIELDS}
+use Rattle.fedi_http.proofs.HeadLemmas.{slice_range-append}
 use Rattle.fedi_objects.specs.declared.entry.Entry.{Entry}
 use Rattle.fedi_model.specs.declared.reply.Reply.{Reply}
 use Rattle.fedi_model.specs.declared.request.Request.{Request}
-use Rattle.fedi_model.specs.Answers.{AnswersText, Answers, AnswersRead, IsPrivateAnswer, IsPrivateText}
-use Rattle.fedi_model.specs.Histories.{town}
-use Rattle.fedi_model.specs.Replies.{refused}
-use Rattle.fedi_model.specs.Requests.{ReadsAs, IsReadOnce}
-use Rattle.fedi_http.specs.declared.heads.HeadRead.{HeadRead}
-use Rattle.fedi_http.specs.declared.heads.HeadRead.TheVariants as heads
-use Rattle.fedi_http.specs.declared.heads.TheConstants.{HEAD_LIMIT}
-use Rattle.fedi_http.specs.declared.requests.TheConstants.{MOST_FIELDS}
+use Rattle.fedi_model.specs.Refusing.{refused}
+use Rattle.fedi_model.specs.ReplyText.{memory_text, reply_text}
+use Rattle.fedi.specs.declared.sessions.Said.{Said}
+use Rattle.fedi.specs.declared.sessions.Said.TheVariants.{Whole}
+use Rattle.fedi.specs.declared.sessions.Said.TheVariants as said
 use Rattle.fedi.specs.declared.sessions.SessionEnd.{SessionEnd}
-use Rattle.fedi.specs.declared.sessions.SessionEnd.TheVariants.{End, CutShort, Closed, ReadFault, WriteFault, Memory}
-use Rattle.fedi.specs.Conversations.{IsNow, IsReply, Writes, Talks, BeginsTalk, AppendsFront, IsWhole, closing_text}
-use Rattle.fedi.specs.Endings.{Says, Ends, EndsWith, status_of}
-use Rattle.fedi_http.specs.Heads.{head_end, IsHeadAt, IsHeadUpTo}
-use Rattle.fedi_http.specs.Sending.{Sends}
-use Rattle.fedi_http.proofs.HeadLemmas.{slice_range-append}
+use Rattle.fedi.specs.declared.sessions.SessionEnd.TheVariants as ends
+use Rattle.fedi.specs.Conversations.{Setting, Outcome, NoEntry, Kept, Full, Failed, Exchange, Progress, IsNow, HasRoom, Settles, IsReply, IsExchange, Arrives, after, closes, kept_in, end_after, doubts_after, failed_after, text_of, Converses, progress}
+use Rattle.fedi.specs.Endings.{Scene, HasKept, KeepsSome, IsKeptTo, IsWritten, IsAt, AppendsFront, IsTurn, AnswersOnce, RefusesOnce, BreaksOff, GivesUp, IsUnread, Finishes, Steps, end_by}
+
+-- ---- sending
 
 -- whatever became of it, a front was sent
 pub sends_front : {T E : Type 0} (before after : Option (List ℕ)) (text : List ℕ) (r : Result T E) → Sends before after text r → AppendsFront before after text
 sends_front before after text (Ok x) h = (length text, rw take-length h)
 sends_front before after text (Err e) h = (h.0, h.2)
 
--- any clock gives some moment
-some_now : (told : Option ℕ) → (moment : ℕ) × IsNow told moment
-some_now None = (0, lit≤ tt)
-some_now (Some seconds) = (min seconds 253402300799, refl)
+-- ---- what follows a turn
 
--- nothing is said where nothing came
-pub empty_talks : (history : List Entry) (told : Option ℕ) (input before : Option (List ℕ)) → IfSome input (λ bytes. IsHeadUpTo HEAD_LIMIT bytes heads.Empty) → Talks history told input before before
-empty_talks history told None before found = tt
-empty_talks history told (Some bytes) before found =
-    let now = some_now told in
-    ([], (now.0, now.1, (heads.Empty, found, refl)), Appends-nil before)
+abbrev DoubtAfter : Option (List ℕ) → Option (List ℕ) → Outcome → Type 0
+DoubtAfter before after NoEntry = after ≡ before
+DoubtAfter before after (Kept e) = after ≡ None
+DoubtAfter before after (Full e) = after ≡ before
+DoubtAfter before after (Failed e) = MayDoubt (code_of e) before after
 
--- one reply to what holds no head
-pub bad_head_ends : (history : List Entry) (read fault : Type 0) (told : Option ℕ) (input before after : Option (List ℕ)) (ending : SessionEnd)
-    → IfSome input (λ bytes. IsHeadUpTo HEAD_LIMIT bytes heads.TooLong)
-    → Says (λ r. r ≡ refused BadHead) fault told before after ending → Ends history read fault told input before after ending
-bad_head_ends history read fault told input before after End found said = absurd said
-bad_head_ends history read fault told input before after CutShort found said = absurd said
-bad_head_ends history read fault told input before after ReadFault found said = absurd said
-bad_head_ends history read fault told input before after Memory found said = said
-bad_head_ends history read fault told None before after Closed found said = tt
-bad_head_ends history read fault told None before after WriteFault found said = (said.0, tt)
-bad_head_ends history read fault told (Some bytes) before after Closed found said =
-    (closing_text said.0 said.1, (said.0, said.2, (heads.TooLong, found, ap (λ (r : Reply). closing_text said.0 r) said.3)), said.4)
-bad_head_ends history read fault told (Some bytes) before after WriteFault found said =
-    let s = said.1 in
-    (said.0, (closing_text s.0 s.1, s.2, (s.0, s.3, (heads.TooLong, found, ap (λ (r : Reply). closing_text s.0 r) s.4)), s.5, s.6))
+abbrev FaultsAfter : ℕ → ℕ → Outcome → Type 0
+FaultsAfter before after NoEntry = before ≤ after
+FaultsAfter before after (Kept e) = before ≤ after
+FaultsAfter before after (Full e) = before ≤ after
+FaultsAfter before after (Failed e) = (before ≤ after) × Rose before after
 
--- the bytes that are pending are those of the input
-same_text : (pending bytes : List ℕ) (left : Option (List ℕ)) (start end : ℕ) → start < end → end ≤ length pending → prepend_known pending left ≡ Some bytes
-    → slice_range pending start end ≡ slice_range bytes start end
-same_text pending bytes None start end ordered within joined = absurd cc
-same_text pending bytes (Some rest) start end ordered within joined =
-    let whole : pending ++ rest ≡ bytes = cc in
-    sym (slice_range-append pending rest start end ordered within) ∙ ap (λ (xs : List ℕ). slice_range xs start end) whole
+-- the history and the keeper after this outcome
+pub record Follows (w : Setting) (h h' : List Entry) (before after : Keeping) (outcome : Outcome) : Type 0 where
+  pub history : h' ≡ h ++ kept_in outcome
+  pub records : after.records ≡ option_map (λ records. records ++ map code_of (kept_in outcome)) before.records
+  pub end : after.end ≡ end_after w before.end outcome
+  pub doubt : DoubtAfter before.doubt after.doubt outcome
+  pub faults : FaultsAfter before.faults after.faults outcome
 
--- one reply to the text of a head
-pub text_ends : (history : List Entry) (read fault : Type 0) (told : Option ℕ) (input left before after : Option (List ℕ)) (pending : List ℕ) (start end : ℕ) (ending : SessionEnd)
-    → prepend_known pending left ≡ input → IsHeadAt HEAD_LIMIT pending start end
-    → IfSome input (λ bytes. IsHeadUpTo HEAD_LIMIT bytes (heads.Text start end))
-    → Says (λ r. IsReply history (slice_range pending start end) r) fault told before after ending → Ends history read fault told input before after ending
-text_ends history read fault told input left before after pending start end End joined at found said = absurd said
-text_ends history read fault told input left before after pending start end CutShort joined at found said = absurd said
-text_ends history read fault told input left before after pending start end ReadFault joined at found said = absurd said
-text_ends history read fault told input left before after pending start end Memory joined at found said = said
-text_ends history read fault told None left before after pending start end Closed joined at found said = tt
-text_ends history read fault told None left before after pending start end WriteFault joined at found said = (said.0, tt)
-text_ends history read fault told (Some bytes) left before after pending start end Closed joined at found said =
-    let same = same_text pending bytes left start end at.ordered at.within joined in
-    let reply : IsReply history (slice_range bytes start end) said.1 = subst (λ (text : List ℕ). IsReply history text said.1) same said.3 in
-    (closing_text said.0 said.1, (said.0, said.2, (heads.Text start end, found, (said.1, reply, refl))), said.4)
-text_ends history read fault told (Some bytes) left before after pending start end WriteFault joined at found said =
-    let s = said.1 in
-    let same = same_text pending bytes left start end at.ordered at.within joined in
-    let reply : IsReply history (slice_range bytes start end) s.1 = subst (λ (text : List ℕ). IsReply history text s.1) same s.4 in
-    (said.0, (closing_text s.0 s.1, s.2, (s.0, s.3, (heads.Text start end, found, (s.1, reply, refl))), s.5, s.6))
+same_records : (a : Option (List (List ℕ))) → a ≡ option_map (λ records. records ++ []) a
+same_records None = refl
+same_records (Some records) = ap Some (sym (append-nil records))
 
--- the answer to the one request that the text is read as
-pub request_replies : (history : List Entry) (text : List ℕ) (q : Request) (r : Reply)
-    → ReadsAs MOST_FIELDS text (Ok q) → IsReadOnce MOST_FIELDS text → Answers (town history) q r → IsPrivateAnswer history q r → IsReply history text r
-request_replies history text q r reads once answer private = record {
-  answer = (Ok q, reads, answer);
-  private = λ other reads_other. let same : q ≡ other = (let e : Ok q ≡ Ok other = once (Ok q) (Ok other) reads reads_other in cc) in
-      subst (λ (x : Request). IsPrivateAnswer history x r) same private;
+-- a turn settles the entry that the request makes
+pub settled : (w : Setting) (h h' : List Entry) (r : Reply) (made : Option Entry) (before after : Keeping) (given : Reply)
+    → TurnOf w.growth w.room h r made before after h' given
+    → (outcome : Outcome) × Settles w before.end r made outcome given × Follows w h h' before after outcome
+settled w h h' r None before after given turn = (
+  NoEntry,
+  turn.reply,
+  record {
+    history = turn.history ∙ sym (append-nil h);
+    records = ap (λ (k : Keeping). k.records) turn.keeper ∙ same_records before.records;
+    end = ap (λ (k : Keeping). k.end) turn.keeper;
+    doubt = ap (λ (k : Keeping). k.doubt) turn.keeper;
+    faults = let same : after.faults ≡ before.faults = ap (λ (k : Keeping). k.faults) turn.keeper in omega (arith, same);
+  },
+)
+settled w h h' r (Some e) before after given (inl turn) = (
+  Kept e,
+  (refl, turn.fits, turn.reply),
+  record {
+    history = turn.history;
+    records = turn.keeper.records;
+    end = turn.keeper.end;
+    doubt = turn.keeper.doubt;
+    faults = turn.keeper.faults;
+  },
+)
+settled w h h' r (Some e) before after given (inr (inl turn)) = (
+  Full e,
+  (refl, turn.full, turn.reply),
+  record {
+    history = turn.history ∙ sym (append-nil h);
+    records = turn.keeper.same.records ∙ same_records before.records;
+    end = turn.keeper.same.end;
+    doubt = turn.keeper.doubt;
+    faults = turn.keeper.same.faults;
+  },
+)
+settled w h h' r (Some e) before after given (inr (inr turn)) = (
+  Failed e,
+  (refl, turn.fits, turn.reply),
+  record {
+    history = turn.history ∙ sym (append-nil h);
+    records = turn.keeper.same.records ∙ same_records before.records;
+    end = turn.keeper.same.end;
+    doubt = turn.keeper.doubt;
+    faults = (turn.keeper.same.faults, turn.keeper.rose);
+  },
+)
+
+-- where memory was wanted, nothing was to be settled
+pub dropped : (w : Setting) (h h' : List Entry) (before after : Keeping) → IsDropped h before after h' → Follows w h h' before after NoEntry
+dropped w h h' before after d = record {
+  history = d.history ∙ sym (append-nil h);
+  records = d.keeper.same.records ∙ same_records before.records;
+  end = d.keeper.same.end;
+  doubt = d.keeper.doubt;
+  faults = d.keeper.same.faults;
 }
 
--- the refusal of a text that is read as no request
-pub refusal_replies : (history : List Entry) (text : List ℕ) (e : Refusal) (r : Reply)
-    → ReadsAs MOST_FIELDS text (Err e) → IsReadOnce MOST_FIELDS text → r ≡ refused e → IsReply history text r
-refusal_replies history text e r reads once same = record {
-  answer = (Err e, reads, same);
-  private = λ other reads_other. absurd (let clash : Err e ≡ Ok other = once (Err e) (Ok other) reads reads_other in cc);
+-- and some entries were kept, whichever
+pub follows_keeps : (w : Setting) (h h' : List Entry) (before after : Keeping) (outcome : Outcome) → Follows w h h' before after outcome → KeepsSome h h' before after
+follows_keeps w h h' before after NoEntry f = ([], record { history = f.history; records = f.records; faults = f.faults })
+follows_keeps w h h' before after (Kept e) f = (e ∷ [], record { history = f.history; records = f.records; faults = f.faults })
+follows_keeps w h h' before after (Full e) f = ([], record { history = f.history; records = f.records; faults = f.faults })
+follows_keeps w h h' before after (Failed e) f = ([], record { history = f.history; records = f.records; faults = f.faults.0 })
+
+-- ---- the keeper along a conversation
+
+records_after : (a b c : Option (List (List ℕ))) (made kept : List Entry) → b ≡ option_map (λ records. records ++ map code_of made) a
+    → c ≡ option_map (λ records. records ++ map code_of kept) b → c ≡ option_map (λ records. records ++ map code_of (made ++ kept)) a
+records_after None b c made kept first next = let none : b ≡ None = first in rw none at next
+records_after (Some records) b c made kept first next =
+    let was : b ≡ Some (records ++ map code_of made) = first in
+    let now : c ≡ Some ((records ++ map code_of made) ++ map code_of kept) = rw was at next in
+    now ∙ ap Some (append_assoc records (map code_of made) (map code_of kept) ∙ ap (λ xs. records ++ xs) (sym (map-append code_of made kept)))
+
+pub keeps_trans : (h m l : List Entry) (a b c : Keeping) → KeepsSome h m a b → KeepsSome m l b c → KeepsSome h l a c
+keeps_trans h m l a b c x y = (
+  x.0 ++ y.0,
+  record {
+    history = y.1.history ∙ ap (λ xs. xs ++ y.0) x.1.history ∙ append_assoc h x.0 y.0;
+    records = records_after a.records b.records c.records x.0 y.0 x.1.records y.1.records;
+    faults = omega (arith, x.1.faults, y.1.faults);
+  },
+)
+
+pub keeps_none : (h : List Entry) (a : Keeping) → KeepsSome h h a a
+keeps_none h a = ([], record { history = sym (append-nil h); records = same_records a.records; faults = omega arith })
+
+among-push : (d x : List ℕ) (ds : List (List ℕ)) → is_among d ds ≡ true → is_among d (ds ++ x ∷ []) ≡ true
+unfolding is_among
+among-push d x [] h = absurd cc
+among-push d x (y ∷ ds) h =
+    elim (bytes_eq y d) as (λ b. bytes_eq y d ≡ b → is_among d ((y ∷ ds) ++ x ∷ []) ≡ true) [
+      | true ↦ λ same. rw same refl
+      | false ↦ λ other. let rest : is_among d ds ≡ true = rw other at h in rw other (among-push d x ds rest)
+    ] refl
+
+among-last : (x : List ℕ) (ds : List (List ℕ)) → is_among x (ds ++ x ∷ []) ≡ true
+unfolding is_among
+among-last x [] = rw ((bytes_eq-Decides x x).1 refl) refl
+among-last x (y ∷ ds) =
+    elim (bytes_eq y x) as (λ b. bytes_eq y x ≡ b → is_among x ((y ∷ ds) ++ x ∷ []) ≡ true) [
+      | true ↦ λ same. rw same refl
+      | false ↦ λ other. rw other (among-last x ds)
+    ] refl
+
+abbrev IsDoubted : List (List ℕ) → Option (List ℕ) → Type 0
+IsDoubted doubts doubt = IfSome doubt (λ d. IsTrue (is_among d doubts))
+
+doubted_more : (x : List ℕ) (doubts : List (List ℕ)) (doubt : Option (List ℕ)) → IsDoubted doubts doubt → IsDoubted (doubts ++ x ∷ []) doubt
+doubted_more x doubts None h = tt
+doubted_more x doubts (Some d) h = among-push d x doubts h
+
+doubted_after : (doubts : List (List ℕ)) (before after : Option (List ℕ)) (outcome : Outcome) → IsDoubted doubts before → DoubtAfter before after outcome
+    → IsDoubted (doubts_after doubts outcome) after
+doubted_after doubts before after NoEntry h now = subst (IsDoubted doubts) (sym now) h
+doubted_after doubts before after (Kept e) h now = subst (IsDoubted []) (sym now) tt
+doubted_after doubts before after (Full e) h now = subst (IsDoubted doubts) (sym now) h
+doubted_after doubts before after (Failed e) h (inl now) = subst (IsDoubted (doubts ++ code_of e ∷ [])) (sym now) (doubted_more (code_of e) doubts before h)
+doubted_after doubts before after (Failed e) h (inr (inl now)) = subst (IsDoubted (doubts ++ code_of e ∷ [])) (sym now) tt
+doubted_after doubts before after (Failed e) h (inr (inr now)) = subst (IsDoubted (doubts ++ code_of e ∷ [])) (sym now) (among-last (code_of e) doubts)
+
+-- a count with a last value
+counted_more : (f k b a most : ℕ) → min (f + k) most ≤ b → min (b + 1) most ≤ a → min (f + (k + 1)) most ≤ a
+counted_more f k b a most before rose = omega (arith, before, rose)
+
+counted_after : (f k b a most : ℕ) (outcome : Outcome) → most ≡ 2 ^ 64 - 1 → min (f + k) most ≤ b → FaultsAfter b a outcome → min (f + failed_after k outcome) most ≤ a
+counted_after f k b a most NoEntry is h now = omega (arith, h, now)
+counted_after f k b a most (Kept e) is h now = omega (arith, h, now)
+counted_after f k b a most (Full e) is h now = omega (arith, h, now)
+counted_after f k b a most (Failed e) is h now = let rose : min (b + 1) most ≤ a = rw is now.1 in counted_more f k b a most h rose
+
+-- what follows a turn is kept to by the progress after it
+pub kept_after : (w : Setting) (first before now : Scene) (p : Progress) (x : Exchange) → IsKeptTo w first before p
+    → Follows w before.history now.history before.keeper now.keeper x.outcome → IsKeptTo w first now (after w p x)
+kept_after w first before now p x k f = record {
+  history = f.history ∙ ap (λ h. h ++ kept_in x.outcome) k.history ∙ append_assoc first.history p.made (kept_in x.outcome);
+  records = records_after first.keeper.records before.keeper.records now.keeper.records p.made (kept_in x.outcome) k.records f.records;
+  end = f.end ∙ ap (λ e. end_after w e x.outcome) k.end;
+  doubt = doubted_after p.doubts before.keeper.doubt now.keeper.doubt x.outcome k.doubt f.doubt;
+  faults = counted_after first.keeper.faults p.failed before.keeper.faults now.keeper.faults (2 ^ 64 - 1) x.outcome refl k.faults f.faults;
 }
 
--- what holds of a good result for two reasons
-pub if_ok_both : {T E : Type 0} (P Q R : T → Type 0) (r : Result T E) → ((x : T) → P x → Q x → R x) → IfOk r P → IfOk r Q → IfOk r R
-if_ok_both P Q R (Ok x) f p q = f x p q
-if_ok_both P Q R (Err e) f p q = tt
+-- where nothing is kept, the progress is as it was
+pub kept_still : (w : Setting) (first before now : Scene) (p : Progress) → IsKeptTo w first before p
+    → Follows w before.history now.history before.keeper now.keeper NoEntry → IsKeptTo w first now p
+kept_still w first before now p k f = record {
+  history = f.history ∙ append-nil before.history ∙ k.history;
+  records = f.records ∙ sym (same_records before.keeper.records) ∙ k.records;
+  end = f.end ∙ k.end;
+  doubt = doubted_after p.doubts before.keeper.doubt now.keeper.doubt NoEntry k.doubt f.doubt;
+  faults = counted_after first.keeper.faults p.failed before.keeper.faults now.keeper.faults (2 ^ 64 - 1) NoEntry refl k.faults f.faults;
+}
 
--- one thing alone stands at the front of the input
-not_cut_short : (limit : ℕ) (bytes : List ℕ) (start end : ℕ) → IsHeadAt limit bytes start end → ¬ (IsHeadUpTo limit bytes heads.CutShort)
-not_cut_short limit bytes start end at cut =
-    let short : length bytes ≤ limit = omega (arith, cut.1.0) in
-    let ends : head_end bytes ≡ Some end = rw (take_all limit bytes short) at at.ends in
-    let none : head_end bytes ≡ None = cut.1.1 in
-    cc
+-- ---- an exchange with a request
 
--- what was written is no answer to an input that is cut short
-writes_whole : (limit : ℕ) (history : List Entry) (moment : ℕ) (bytes out : List ℕ) (found : HeadRead)
-    → IsHeadUpTo limit bytes found → Writes history moment bytes found out → ¬ (IsHeadUpTo limit bytes heads.CutShort)
-writes_whole limit history moment bytes out (heads.Text start end) at writes cut = not_cut_short limit bytes start end at cut
-writes_whole limit history moment bytes out heads.TooLong at writes cut = absurd (omega (arith, at.0, cut.1.0))
-writes_whole limit history moment bytes out heads.Empty at writes cut = absurd (let none : length bytes ≡ 0 = ap length at in omega (arith, cut.0))
-writes_whole limit history moment bytes out heads.CutShort at writes cut = writes
-writes_whole limit history moment bytes out heads.ReadFault at writes cut = writes
-writes_whole limit history moment bytes out heads.Memory at writes cut = writes
+-- the exchange of an answered request, with what follows it
+record IsAnsweredBy (w : Setting) (first before now : Scene) (p : Progress) (x : Exchange) : Type 0 where
+  exchange : IsExchange w p x
+  kept : IsKeptTo w first now (after w p x)
 
-talks_whole : (history : List Entry) (told : Option ℕ) (input before after : Option (List ℕ)) → Talks history told input before after → IsWhole input
-talks_whole history told None before after talks = tt
-talks_whole history told (Some bytes) before after talks =
-    let c = talks.1 in writes_whole HEAD_LIMIT history c.0 bytes talks.0 c.2.0 c.2.1 c.2.2
+abbrev exchanged : Arrived → ℕ → Outcome → Reply → Exchange
+exchanged arrived moment outcome r = record { arrived = arrived; moment = moment; outcome = outcome; reply = r }
 
-begins_whole : (history : List Entry) (told : Option ℕ) (input before after : Option (List ℕ)) → BeginsTalk history told input before after → IsWhole input
-begins_whole history told None before after talk = tt
-begins_whole history told (Some bytes) before after talk =
-    let c = talk.2 in writes_whole HEAD_LIMIT history c.0 bytes talk.0 c.2.0 c.2.1 c.2.2
+answered : (w : Setting) (first before now : Scene) (pending : List ℕ) (p : Progress) (q : Request) (body end moment : ℕ) (r : Reply)
+    → w.history ≡ first.history → IsAt w first before pending p → Arrives p.left (arrivals.Request q body end) → IsNow w.told moment
+    → IsTurn w.growth w.room before.history now.history before.keeper now.keeper moment q (slice_range p.left body end) r
+    → (outcome : Outcome) × IsAnsweredBy w first before now p (exchanged (arrivals.Request q body end) moment outcome r)
+answered w first before now pending p q body end moment r begun at arrival is_now turn =
+    let own : before.history ≡ w.history ++ p.made = at.kept.history ∙ ap (λ h. h ++ p.made) (sym begun) in
+    let s = settled w before.history now.history turn.turn.0 turn.turn.1 before.keeper now.keeper r turn.turn.3 in
+    let x : Exchange = exchanged (arrivals.Request q body end) moment s.0 r in
+    let text : List ℕ = slice_range p.left body end in
+    let reply : IsReply w before.history before.keeper.end moment q text s.0 r = record {
+      answer = (turn.turn.0, turn.turn.1, turn.turn.2, s.1);
+      private = turn.private;
+      clean = turn.clean;
+    } in (
+      s.0,
+      record {
+        exchange = record {
+          open_yet = at.open_yet;
+          arrival = arrival;
+          now = is_now;
+          reply = subst (λ (h : List Entry). IsReply w h p.end moment q text s.0 r) own (subst (λ (e : ℕ). IsReply w before.history e moment q text s.0 r) at.kept.end reply);
+        };
+        kept = kept_after w first before now p x at.kept s.2;
+      },
+    )
 
--- a session that wrote, or had nothing to write, had an input that is not cut short
-pub ends_whole : (history : List Entry) (read write : Type 0) (told : Option ℕ) (input before after : Option (List ℕ)) (status : ℕ)
-    → EndsWith history read write told input before after status → (status ≡ 0) ⊎ (status ≡ 7) → IsWhole input
-ends_whole history read write told input before after status ends answered =
-    elim ends.0 as (λ e. status ≡ status_of e → Ends history read write told input before after e → IsWhole input) [
-      | End ↦ λ is talks. talks_whole history told input before after talks
-      | Closed ↦ λ is talks. talks_whole history told input before after talks
-      | CutShort ↦ λ is cut. absurd (elim answered [ inl zero ↦ (cc) | inr seven ↦ (cc) ])
-      | ReadFault ↦ λ is fault. absurd (elim answered [ inl zero ↦ (cc) | inr seven ↦ (cc) ])
-      | WriteFault ↦ λ is talk. begins_whole history told input before after talk.1
-      | Memory ↦ λ is front. absurd (elim answered [ inl zero ↦ (cc) | inr seven ↦ (cc) ])
-    ] ends.1 ends.2
+-- the exchange with what is refused
+refused_by : (w : Setting) (first before now : Scene) (pending : List ℕ) (p : Progress) (e : Refusal) (moment : ℕ)
+    → IsAt w first before pending p → Arrives p.left (arrivals.Refused e) → IsNow w.told moment
+    → Follows w before.history now.history before.keeper now.keeper NoEntry
+    → IsAnsweredBy w first before now p (exchanged (arrivals.Refused e) moment NoEntry (refused e))
+refused_by w first before now pending p e moment at arrival is_now still = record {
+  exchange = record { open_yet = at.open_yet; arrival = arrival; now = is_now; reply = (refl, refl) };
+  kept = kept_after w first before now p (exchanged (arrivals.Refused e) moment NoEntry (refused e)) at.kept still;
+}
+
+-- ---- the bytes of the input
+
+-- what is pending is a front of what is left
+abbrev StandsIn : List ℕ → Option (List ℕ) → List ℕ → Type 0
+StandsIn pending input left = prepend_known pending input ≡ Some left
+
+pub same_slice : (pending : List ℕ) (input : Option (List ℕ)) (left : List ℕ) (start end : ℕ) → StandsIn pending input left → start ≤ end → end ≤ length pending
+    → slice_range pending start end ≡ slice_range left start end
+same_slice pending None left start end stands low high = absurd cc
+same_slice pending (Some rest) left start end stands low high =
+    let whole : pending ++ rest ≡ left = cc in
+    sym (slice_range-append pending rest start end low high) ∙ ap (λ (xs : List ℕ). slice_range xs start end) whole
+
+pub taken_off : (pending : List ℕ) (input : Option (List ℕ)) (left : List ℕ) (count : ℕ) → StandsIn pending input left → count ≤ length pending
+    → StandsIn (drop count pending) input (drop count left)
+taken_off pending None left count stands high = absurd cc
+taken_off pending (Some rest) left count stands high =
+    let whole : pending ++ rest ≡ left = cc in
+    ap Some (sym (drop-append-le count pending rest high) ∙ ap (drop count) whole)
+
+told_of : (P : List ℕ → Type 0) (known : Option (List ℕ)) (left : List ℕ) → known ≡ Some left → IfSome known P → P left
+told_of P known left is h = subst (λ (k : Option (List ℕ)). IfSome k P) is h
+
+-- ---- one step of a session
+
+written_more : (first before now : Scene) (p : Progress) (text : List ℕ) → IsWritten first before p → Appends before.sent now.sent text
+    → Appends first.sent now.sent (p.written ++ text)
+written_more first before now p text was more = Appends-trans first.sent before.sent now.sent p.written text was more
+
+-- a reply was sent whole: the connection goes on or is closed
+said_whole : (read write : Type 0) (w : Setting) (first before now : Scene) (pending : List ℕ) (p : Progress) (x : Exchange) (closing : Bool)
+    → closing ≡ closes p.count x.arrived → IsAnsweredBy w first before now p x → IsWritten first before p
+    → StandsIn pending now.input (after w p x).left → Appends before.sent now.sent (reply_text x.moment false closing x.reply)
+    → Steps read write w first now pending p (end_by Whole closing)
+said_whole read write w first before now pending p x true is by was stands sent =
+    let text : Appends before.sent now.sent (text_of p.count x) = rw (← is) sent in
+    (x, by.exchange, (sym is, by.kept, written_more first before now p (text_of p.count x) was text))
+said_whole read write w first before now pending p x false is by was stands sent =
+    let text : Appends before.sent now.sent (text_of p.count x) = rw (← is) sent in
+    (x, by.exchange, record { open_yet = sym is; input = stands; kept = by.kept; written = written_more first before now p (text_of p.count x) was text })

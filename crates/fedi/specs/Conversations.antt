@@ -199,9 +199,18 @@ IsOver p = (p.closed ≡ true) ⊎ ((p.closed ≡ false) × Arrives p.left arriv
 abbrev pub IsCutShort : Progress → Type 0
 IsCutShort p = (p.closed ≡ false) × Arrives p.left arrivals.CutShort
 
+-- nothing more is answered
+abbrev pub IsAtEnd : Progress → Type 0
+IsAtEnd p = IsOver p ⊎ IsCutShort p
+
+-- the keeper did not fail
+abbrev pub IsCalm : Outcome → Type 0
+IsCalm NoEntry = Unit {0}
+IsCalm (Kept e) = Unit {0}
+IsCalm (Full e) = Unit {0}
+IsCalm (Failed e) = ⊥
+
 -- the keeper failed at none of these
-abbrev pub is_calm : Outcome → Bool
-is_calm NoEntry = true
-is_calm (Kept e) = true
-is_calm (Full e) = true
-is_calm (Failed e) = false
+abbrev pub AreCalm : List Exchange → Type 0
+AreCalm [] = Unit {0}
+AreCalm (x ∷ xs) = IsCalm x.outcome × AreCalm xs

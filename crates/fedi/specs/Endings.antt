@@ -23,7 +23,7 @@ use Rattle.fedi.specs.declared.sessions.Said.TheVariants.{Whole}
 use Rattle.fedi.specs.declared.sessions.Said.TheVariants as said
 use Rattle.fedi.specs.declared.sessions.SessionEnd.{SessionEnd}
 use Rattle.fedi.specs.declared.sessions.SessionEnd.TheVariants.{End, CutShort, Closed, ReadFault, WriteFault, Memory}
-use Rattle.fedi.specs.Conversations.{Setting, Exchange, Progress, IsExchange, Converses, Arrives, IsCutShort, after, beginning, progress, text_of, IsNow, IsPrivateReply}
+use Rattle.fedi.specs.Conversations.{Setting, Exchange, Progress, IsExchange, Converses, Arrives, IsCutShort, IsOver, after, beginning, progress, text_of, IsNow, IsPrivateReply}
 
 -- ---- what stands at a moment
 
@@ -34,12 +34,26 @@ pub record Scene : Type 0 where
   pub history : List Entry
   pub keeper : Keeping
 
--- The entries that came to the history since then are the records that came to the keeper, each once and in order; and
--- the end is where these take it.
-pub record HasKept (growth : ℕ → ℕ) (first now : Scene) (made : List Entry) : Type 0 where
-  pub history : now.history ≡ first.history ++ made
-  pub records : now.keeper.records ≡ option_map (λ records. records ++ map code_of made) first.keeper.records
-  pub faults : first.keeper.faults ≤ now.keeper.faults
+-- what a keeper shows, by what the trait of keepers says of it
+abbrev pub keeping : {K : Type 0} → (K → Option (List (List ℕ))) → (K → Option (List ℕ)) → (K → ℕ) → (K → ℕ) → K → Keeping
+keeping records doubt end faults k = record { records = records k; doubt = doubt k; end = end k; faults = faults k }
+
+abbrev pub scene_of : Option (List ℕ) → Option (List ℕ) → List Entry → Keeping → Scene
+scene_of input sent history keeper = record { input = input; sent = sent; history = history; keeper = keeper }
+
+-- the setting of a session that begins at this scene
+abbrev pub setting_of : (ℕ → ℕ) → (ℕ → ℕ) → Option ℕ → Scene → Setting
+setting_of growth room told first = record { history = first.history; growth = growth; room = room; told = told }
+
+-- the entries that came to the history are the records that came to the keeper, each once and in order
+pub record HasKept (h h' : List Entry) (before after : Keeping) (made : List Entry) : Type 0 where
+  pub history : h' ≡ h ++ made
+  pub records : after.records ≡ option_map (λ records. records ++ map code_of made) before.records
+  pub faults : before.faults ≤ after.faults
+
+-- whichever they are
+abbrev pub KeepsSome : List Entry → List Entry → Keeping → Keeping → Type 0
+KeepsSome h h' before after = (made : List Entry) × HasKept h h' before after made
 
 -- The history and the keeper are those of this progress: what may be in doubt is one of its doubts, and the keeper's
 -- count of faults, which stays at the last value of a u64, rose for each entry that it failed to keep.
@@ -47,7 +61,7 @@ pub record IsKeptTo (w : Setting) (first now : Scene) (p : Progress) : Type 0 wh
   pub history : now.history ≡ first.history ++ p.made
   pub records : now.keeper.records ≡ option_map (λ records. records ++ map code_of p.made) first.keeper.records
   pub end : now.keeper.end ≡ p.end
-  pub doubt : IfSome now.keeper.doubt (λ record. IsTrue (is_among record p.doubts))
+  pub doubt : IfSome now.keeper.doubt (λ doubted. IsTrue (is_among doubted p.doubts))
   pub faults : min (first.keeper.faults + p.failed) (2 ^ 64 - 1) ≤ now.keeper.faults
 
 -- all that this progress has written was sent
@@ -150,6 +164,13 @@ Ends read write w first now input ending =
 abbrev pub EndsWhereTold : Type 0 → Type 0 → Setting → Scene → Scene → SessionEnd → Type 0
 EndsWhereTold read write w first now ending = IfSome first.input (λ input. Ends read write w first now input ending)
 
+-- how the session ends after a reply, if it does
+abbrev pub end_by : Said → Bool → Option SessionEnd
+end_by Whole true = Some Closed
+end_by Whole false = None
+end_by said.WriteFault closing = Some WriteFault
+end_by said.Memory closing = Some Memory
+
 -- one exchange went well and the connection goes on, or a session ended so
 abbrev pub Steps : Type 0 → Type 0 → Setting → Scene → Scene → List ℕ → Progress → Option SessionEnd → Type 0
 Steps read write w first now pending p None = (x : Exchange) × IsExchange w p x × IsAt w first now pending (after w p x)
@@ -159,6 +180,15 @@ Steps read write w first now pending p (Some CutShort) = Finishes read write w f
 Steps read write w first now pending p (Some ReadFault) = Finishes read write w first now p ReadFault
 Steps read write w first now pending p (Some WriteFault) = Finishes read write w first now p WriteFault
 Steps read write w first now pending p (Some Memory) = Finishes read write w first now p Memory
+
+-- an end that tells of a fault has its cause
+abbrev pub IsCaused : Type 0 → Type 0 → SessionEnd → Type 0
+IsCaused read write End = Unit {0}
+IsCaused read write CutShort = Unit {0}
+IsCaused read write Closed = Unit {0}
+IsCaused read write ReadFault = read
+IsCaused read write WriteFault = write
+IsCaused read write Memory = Unit {0}
 
 -- ---- the program
 
@@ -174,6 +204,26 @@ status_of CutShort = 8
 status_of ReadFault = 6
 status_of WriteFault = 7
 status_of Memory = 12
+
+-- nothing was done
+abbrev pub IsIdle : Scene → Scene → Type 0
+IsIdle first now = now ≡ first
+
+-- a session ended with this status, or none began for want of memory
+abbrev pub RunsTo : Type 0 → Type 0 → Setting → Scene → Scene → ℕ → Type 0
+RunsTo read write w first now status =
+    ((ending : SessionEnd) × (status ≡ status_of ending) × EndsWhereTold read write w first now ending) ⊎ ((status ≡ 12) × IsIdle first now)
+
+-- the whole conversation over this input was held: each request has its reply, and what was kept and written is that of
+-- the exchanges
+pub record Talks (w : Setting) (first now : Scene) (input : List ℕ) (xs : List Exchange) : Type 0 where
+  pub exchanges : Converses w (beginning input first.keeper.end first.keeper.doubt) xs
+  pub over : IsOver (progress w (beginning input first.keeper.end first.keeper.doubt) xs)
+  pub kept : IsKeptTo w first now (progress w (beginning input first.keeper.end first.keeper.doubt) xs)
+  pub written : IsWritten first now (progress w (beginning input first.keeper.end first.keeper.doubt) xs)
+
+abbrev pub TalksWhereTold : Setting → Scene → Scene → Type 0
+TalksWhereTold w first now = IfSome first.input (λ input. (xs : List Exchange) × Talks w first now input xs)
 
 -- a text was printed: all of it at status 0, and a front of it at 7; `fault` stands for the cause of a failed write
 abbrev pub Prints : Type 0 → Option (List ℕ) → Option (List ℕ) → List ℕ → ℕ → Type 0

@@ -1,13 +1,10 @@
 //! One connection, request by request (RFC 9112, section 9.3).
 
-ghost use Rattle.std.specs.Prelude.{◌≡◌, ◌≤◌, ◌+◌, ◌<◌, ◌||◌, ℕ, List, nat_le, not, IfOk, OnErr, Ok, Some, None, slice_range};
-ghost use Rattle.std.specs.Io.KnownBytes.{prepend_known};
+ghost use Rattle.std.specs.Prelude.{◌≡◌, ◌≤◌, ◌<◌, IfSome};
 ghost use Rattle.fedi_outside.specs.Causes.{Rose};
-ghost use Rattle.fedi_core.specs.Turns.{keeping};
-ghost use Rattle.fedi_model.specs.Refusing.{refused};
 ghost use Rattle.fedi_model.specs.ReplyText.{HasStatus, memory_text, reply_text};
-ghost use Rattle.fedi.specs.Conversations.{IsNow, Progress, closes};
-ghost use Rattle.fedi.specs.Endings.{AnswersOnce, AppendsFront, EndsWhereTold, HasKept, IsAt, IsSaid, RefusesOnce, Scene, Steps, setting_of};
+ghost use Rattle.fedi.specs.Conversations.{Progress};
+ghost use Rattle.fedi.specs.Endings.{AnswersOnce, AppendsFront, EndsWhereTold, IsAt, IsCaused, IsSaid, KeepsSome, RefusesOnce, Scene, Steps, end_by, keeping, scene_of, setting_of};
 
 use crate::answers::answer_request;
 use fedi_address::Refusal;
@@ -118,4 +115,90 @@ fn refuse<O: Sink, C: Clock>(alloc: Global, out: &mut O, clock: &C, refusal: Ref
             Said::Memory
         }
     }
+}
+
+/// How the session ends after a reply, if it does.
+fn end_after(said: Said, closing: bool) -> Option<SessionEnd>
+    ensures { result ≡ end_by said closing }
+{
+    match said {
+        Said::Whole if closing => Some(SessionEnd::Closed),
+        Said::Whole => None,
+        Said::WriteFault => Some(SessionEnd::WriteFault),
+        Said::Memory => Some(SessionEnd::Memory),
+    }
+}
+
+/// Reads the next request and answers it, after so many were served. The bytes that it takes leave
+/// what is pending. The answer is how the session ends, if it does.
+fn exchange<S: Source, O: Sink, P: Keeper, C: Clock>(
+    alloc: Global,
+    core: &mut Core<P>,
+    input: &mut S,
+    out: &mut O,
+    clock: &C,
+    buffer: &mut Buffer,
+    served: u64,
+) -> Option<SessionEnd>
+    requires { served < 1000 }
+    ensures steps { (first : Scene) (p : Progress) → served ≡ p.count
+        → IsAt (setting_of P.growth P.room (C.told clock.now) first) first (scene_of (S.left input.old) (O.sent out.old) core.old.history (keeping P.records P.doubt P.end P.faults core.old.keeper)) buffer.old p
+        → Steps (Rose (S.read_faults input.old) (S.read_faults input.new)) (Rose (O.write_faults out.old) (O.write_faults out.new))
+        (setting_of P.growth P.room (C.told clock.now) first) first (scene_of (S.left input.new) (O.sent out.new) core.new.history (keeping P.records P.doubt P.end P.faults core.new.keeper)) buffer.new p result }
+    ensures kept { KeepsSome core.old.history core.new.history
+        (keeping P.records P.doubt P.end P.faults core.old.keeper) (keeping P.records P.doubt P.end P.faults core.new.keeper) }
+    ensures reads { S.read_faults input.old ≤ S.read_faults input.new }
+    ensures writes { O.write_faults out.old ≤ O.write_faults out.new }
+    ensures causes { IfSome result (IsCaused (Rose (S.read_faults input.old) (S.read_faults input.new)) (Rose (O.write_faults out.old) (O.write_faults out.new))) }
+{
+    match read_request(alloc, input, buffer) {
+        Arrived::Request { request, body, end } => {
+            let closing = !request.keep || served + 1 >= MOST_REQUESTS;
+            let said = answer(
+                alloc,
+                core,
+                out,
+                clock,
+                &request,
+                &buffer.pending()[body..end],
+                closing,
+            );
+            buffer.take_front(end);
+            end_after(said, closing)
+        }
+        Arrived::Refused(refusal) => end_after(refuse(alloc, out, clock, refusal), true),
+        Arrived::End => Some(SessionEnd::End),
+        Arrived::CutShort => Some(SessionEnd::CutShort),
+        Arrived::ReadFault => Some(SessionEnd::ReadFault),
+        Arrived::Memory => {
+            give_up(out);
+            Some(SessionEnd::Memory)
+        }
+    }
+}
+
+/// Serves one connection: answers the requests on the input one after the other, until it ends, a
+/// reply closes it, or a read or a write fails (RFC 9112, sections 9.3 and 9.6).
+pub fn session<S: Source, O: Sink, P: Keeper, C: Clock>(
+    alloc: Global,
+    core: &mut Core<P>,
+    input: &mut S,
+    out: &mut O,
+    clock: &C,
+) -> SessionEnd
+    // Where the input is told: what was read, written and kept is one conversation, which ended so.
+    ensures ends { let first = scene_of (S.left input.old) (O.sent out.old) core.old.history (keeping P.records P.doubt P.end P.faults core.old.keeper) in
+        EndsWhereTold (Rose (S.read_faults input.old) (S.read_faults input.new)) (Rose (O.write_faults out.old) (O.write_faults out.new))
+        (setting_of P.growth P.room (C.told clock.now) first) first (scene_of (S.left input.new) (O.sent out.new) core.new.history (keeping P.records P.doubt P.end P.faults core.new.keeper)) result }
+    ensures kept { KeepsSome core.old.history core.new.history
+        (keeping P.records P.doubt P.end P.faults core.old.keeper) (keeping P.records P.doubt P.end P.faults core.new.keeper) }
+    ensures causes { IsCaused (Rose (S.read_faults input.old) (S.read_faults input.new)) (Rose (O.write_faults out.old) (O.write_faults out.new)) result }
+{
+    let mut buffer = Buffer::new(alloc);
+    for served in 0..MOST_REQUESTS {
+        if let Some(end) = exchange(alloc, core, input, out, clock, &mut buffer, served) {
+            return end;
+        }
+    }
+    SessionEnd::Closed
 }
