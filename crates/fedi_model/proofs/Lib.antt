@@ -1,5 +1,6 @@
 pub mod Finding
 pub mod MadeOnce
+pub mod Posted
 pub mod Privacy
 pub mod Statuses
 pub mod Unseen

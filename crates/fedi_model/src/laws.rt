@@ -1,15 +1,17 @@
 //! Laws of the definitions, each the contract of a function that does nothing.
 
-ghost use Rattle.std.specs.Prelude.{◌≡◌, ℕ, false, List, [], ◌∷◌, ◌++◌, Option, Some};
+ghost use Rattle.std.specs.Prelude.{◌≡◌, ℕ, false, List, [], ◌∷◌, ◌++◌, IsTrue, Option, Some, Ok};
+ghost use Rattle.serde_json.specs.Data.{Data};
 ghost use Rattle.fedi_objects.specs.declared.activity.Activity.{Activity};
 ghost use Rattle.fedi_objects.specs.declared.entry.Entry.{Entry};
 ghost use Rattle.fedi_objects.specs.declared.entry.Entry.TheVariants.{Local};
+ghost use Rattle.fedi_reading.specs.Reading.{reads_posted};
 ghost use Rattle.fedi_model.specs.declared.ask.Ask.{Ask};
 ghost use Rattle.fedi_model.specs.declared.caller.Caller.{Caller};
 ghost use Rattle.fedi_model.specs.Activities.{local_act};
 ghost use Rattle.fedi_model.specs.Agreement.{Agree};
 ghost use Rattle.fedi_model.specs.Cleanness.{IsCleanBody};
-ghost use Rattle.fedi_model.specs.Histories.{town};
+ghost use Rattle.fedi_model.specs.Histories.{town, is_posted};
 ghost use Rattle.fedi_model.specs.Replies.{reply};
 ghost use Rattle.fedi_model.specs.Seeing.{sees};
 ghost use Rattle.fedi_model.specs.Towns.{Town};
@@ -34,4 +36,10 @@ pub fn unseen_posts_tell_nothing()
     ensures { (history : List Entry) (host name : List ℕ) (repeat : Option (List ℕ × List ℕ)) (a : Activity) (moment : ℕ) (c : Caller)
         → (town history).host ≡ Some host → sees (town history) c (local_act (town history) host name repeat a moment) ≡ false
         → Agree (town (history ++ Local name repeat a moment ∷ [])) (town history) c }
+{}
+
+/// What is read of a client's post is an activity that a history may take as one.
+#[tactic(auto, using(crate::proofs::Posted::read_is_posted))]
+pub fn what_is_read_may_be_posted()
+    ensures { (d : Data) (a : Activity) → reads_posted d ≡ Ok a → IsTrue (is_posted a) }
 {}

@@ -12,7 +12,9 @@ mod request;
 pub use act::{Act, Actor};
 pub use ask::{Ask, Post, Read};
 pub use caller::{Caller, Credentials, Signed};
-pub use laws::{replies_are_clean, replies_are_private, unseen_posts_tell_nothing};
+pub use laws::{
+    replies_are_clean, replies_are_private, unseen_posts_tell_nothing, what_is_read_may_be_posted,
+};
 pub use refusing::{misshapen_reply, refusal_reply};
 pub use reply::{Allow, Form, Reply};
 pub use request::{BODY_LIMIT, Field, Request};

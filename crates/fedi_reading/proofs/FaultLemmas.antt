@@ -1,5 +1,5 @@
 -- Reading stops at the fault with the least number.
-use Rattle.std.proofs.Common.{◌≡◌, ℕ, List, ◌++◌, length, append_assoc, length-append, Bool, true, false, not, cond, ◌||◌, nat_lt, Option, Some, None, codes, refl, ap, sym, ◌∙◌, arith}
+use Rattle.std.proofs.Common.{◌≡◌, ℕ, List, ◌++◌, length, append_assoc, Bool, true, false, not, cond, ◌||◌, nat_lt, Option, Some, None, codes, refl, ap, sym, ◌∙◌}
 use Rattle.std.specs.Prelude.{◌≢◌, Result, Ok, Err, IfErr, OnOk, is_some, is_none}
 use Rattle.std.specs.Option.{option_or, option_map_or}
 use Rattle.std.specs.Result.{result_err}
@@ -8,9 +8,9 @@ use Rattle.std.proofs.lemmas.List.Folds.{list_any-append}
 use Rattle.serde_json.specs.Data.{Data, Members}
 use Rattle.serde_json.specs.Find.{as_object}
 use Rattle.fedi_reading.specs.Properties.{text_at, entries_at, reference_at, has_context, type_of, makes_nothing, iri, reads_type, made_type, reads_text, kept_text}
-use Rattle.fedi_reading.specs.Reading.{is_bad, recipient_of, distinct, reads_entries, reads_fields, reads_recipients, entry_count, reads_iri, reads_reply, reads_people, reads_words, reads_object, wrapped, reads_posted}
+use Rattle.fedi_reading.specs.Reading.{is_bad, recipient_of, distinct, reads_entries, reads_fields, reads_recipients, all_entries, reads_iri, reads_reply, reads_people, reads_words, reads_object, wrapped, reads_posted}
 use Rattle.fedi_reading.specs.Shapes.{◌>>=◌, Gives}
-use Rattle.fedi_reading.specs.Faults.{all_entries, is_bad_reply, is_long, has_fault, first_fault}
+use Rattle.fedi_reading.specs.Faults.{is_bad_reply, is_long, has_fault, first_fault}
 use Rattle.fedi_reading.specs.declared.shape_fault.ShapeFault.{ShapeFault}
 use Rattle.fedi_reading.specs.declared.shape_fault.ShapeFault.TheVariants.{NotObject, BadContext, NoType, BadIri, TooManyRecipients, BadText, Memory}
 use Rattle.fedi_objects.specs.declared.activity.Activity.{Activity}
@@ -94,7 +94,7 @@ fields_fault first second d =
     both_bad _ _ _ _ (entries_fault (entries_at first d)) (λ a. last_bad _ (λ b. (a, b)) _ (entries_fault (entries_at second d)))
 
 recipients_fault : (d : Data) → result_err (reads_recipients d) ≡ only (list_any is_bad (all_entries d)) BadIri
-unfolding reads_recipients
+unfolding reads_recipients all_entries
 recipients_fault d =
     both_bad (reads_fields (codes "to") (codes "cc") d) _ (entries_at (codes "to") d ++ entries_at (codes "cc") d) ((entries_at (codes "bto") d ++ entries_at (codes "bcc") d) ++ entries_at (codes "audience") d)
     (fields_fault (codes "to") (codes "cc") d)
@@ -107,18 +107,11 @@ reply_fault : (d : Data) → result_err (reads_reply d) ≡ only (is_bad_reply d
 unfolding reads_reply
 reply_fault d = named_fault (reference_at (codes "inReplyTo") d)
 
-count_all : (d : Data) → entry_count d ≡ length (all_entries d)
-unfolding entry_count
-count_all d = simp length-append (omega arith)
-
-count_fault : {A : Type 0} (d : Data) (x : A) → result_err (cond (nat_lt 500 (entry_count d)) (Err TooManyRecipients) (Ok x)) ≡ only (nat_lt 500 (length (all_entries d))) TooManyRecipients
-count_fault d x = rw (count_all d) (ended_fault (nat_lt 500 (length (all_entries d))) TooManyRecipients x)
-
 people_fault : (d : Data) → result_err (reads_people d) ≡ cond (has_fault d BadIri) (Some BadIri) (only (has_fault d TooManyRecipients) TooManyRecipients)
 unfolding reads_people
 people_fault d =
     then_fault (reads_reply d) _ (only (is_bad_reply d) BadIri) (cond (list_any is_bad (all_entries d)) (Some BadIri) (only (has_fault d TooManyRecipients) TooManyRecipients)) (reply_fault d)
-    (λ reply. then_fault (reads_recipients d) _ _ _ (recipients_fault d) (λ people. count_fault d (reply, people)) ∙ or_cond (list_any is_bad (all_entries d)) BadIri (only (nat_lt 500 (length (all_entries d))) TooManyRecipients))
+    (λ reply. then_fault (reads_recipients d) _ _ _ (recipients_fault d) (λ people. ended_fault _ TooManyRecipients (reply, people)) ∙ or_cond (list_any is_bad (all_entries d)) BadIri (only (nat_lt 500 (length (all_entries d))) TooManyRecipients))
     ∙ either_first (is_bad_reply d) (list_any is_bad (all_entries d)) BadIri _
 
 text_fault : (key : List ℕ) (d : Data) → result_err (reads_text key d) ≡ only (is_long (text_at key d)) BadText

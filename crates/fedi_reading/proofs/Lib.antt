@@ -1,2 +1,3 @@
 pub mod FaultLemmas
+pub mod KeptLemmas
 pub mod ReadingLemmas

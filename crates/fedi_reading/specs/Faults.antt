@@ -1,24 +1,19 @@
 -- What is wrong with an object that a client posts, fault by fault.
-use Rattle.std.specs.Prelude.{ℕ, List, [], ◌∷◌, ◌++◌, length, find, Bool, true, false, not, ◌||◌, nat_lt, Option, is_some, is_none, codes}
+use Rattle.std.specs.Prelude.{ℕ, List, [], ◌∷◌, length, find, Bool, true, false, not, ◌||◌, nat_lt, Option, is_some, is_none, codes}
 use Rattle.std.specs.Option.{option_map_or}
 use Rattle.std.specs.List.{list_any}
 use Rattle.serde_json.specs.Data.{Data}
 use Rattle.serde_json.specs.Find.{as_object}
-use Rattle.fedi_reading.specs.Properties.{text_at, entries_at, reference_at, has_context, type_of, makes_nothing, iri}
-use Rattle.fedi_reading.specs.Reading.{is_bad}
+use Rattle.fedi_reading.specs.Properties.{text_at, reference_at, has_context, type_of, makes_nothing, iri}
+use Rattle.fedi_reading.specs.Reading.{is_bad, all_entries}
 use Rattle.fedi_reading.specs.declared.shape_fault.ShapeFault.{ShapeFault}
 use Rattle.fedi_reading.specs.declared.shape_fault.ShapeFault.TheVariants.{NotObject, BadContext, NoType, NoId, NoActor, NoObject, BadIri, TooManyRecipients, BadText, SelfTarget, Memory}
-
--- all entries of the five fields of recipients, as they are written
-abbrev pub all_entries : Data → List Data
-all_entries d =
-    entries_at (codes "to") d ++ (entries_at (codes "cc") d ++ (entries_at (codes "bto") d
-    ++ (entries_at (codes "bcc") d ++ entries_at (codes "audience") d)))
 
 -- what is replied to is named, but by no address
 abbrev pub is_bad_reply : Data → Bool
 is_bad_reply d = option_map_or (λ text. is_none (iri text)) (reference_at (codes "inReplyTo") d) false
 
+-- a text is too long to be kept
 abbrev pub is_long : Option (List ℕ) → Bool
 is_long text = option_map_or (λ bytes. nat_lt 65536 (length bytes)) text false
 

@@ -24,6 +24,7 @@ property key d = option_and_then present (get key d)
 unfoldable pub text_at : List ℕ → Data → Option (List ℕ)
 text_at key d = option_and_then as_str (get key d)
 
+-- the entries of a list
 abbrev pub list_of : Items → List Data
 list_of no_items = []
 list_of (item d ds) = d ∷ list_of ds
@@ -32,6 +33,7 @@ list_of (item d ds) = d ∷ list_of ds
 unfoldable pub entries : Data → List Data
 entries d = option_map_or list_of (as_array d) (d ∷ [])
 
+-- the values of the property of this name: none where it is absent
 unfoldable pub entries_at : List ℕ → Data → List Data
 entries_at key d = option_map_or entries (property key d) []
 
@@ -72,13 +74,15 @@ kinds =
     ∷ Like ∷ Listen ∷ Move ∷ Offer ∷ Question ∷ Read ∷ Reject ∷ Remove ∷ TentativeAccept ∷ TentativeReject ∷ Travel ∷ Undo
     ∷ Update ∷ View ∷ []
 
+-- the text is one of these types
 unfoldable pub is_activity_type : List ℕ → Bool
 is_activity_type text = list_any (λ kind. bytes_eq (kind_name kind) text) kinds
 
--- A client makes no activity by an object's type, and nothing that is deleted already (Vocabulary, section 3.3).
+-- a type of which a client posts no object: one of activities, or that of what was deleted (Vocabulary, section 3.3)
 unfoldable pub makes_nothing : List ℕ → Bool
 makes_nothing text = is_activity_type text || bytes_eq text (codes "Tombstone")
 
+-- the type, where a client may post an object of it
 abbrev pub made_type : Option (List ℕ) → Result (List ℕ) ShapeFault
 made_type None = Err NoType
 made_type (Some text) = if makes_nothing text then Err NoType else Ok text
@@ -92,9 +96,11 @@ abbrev pub kept_text : Option (List ℕ) → Result (Option (List ℕ)) ShapeFau
 kept_text None = Ok None
 kept_text (Some text) = if nat_lt 65536 (length text) then Err BadText else Ok (Some text)
 
+-- the text of a property, which must not be too long
 unfoldable pub reads_text : List ℕ → Data → Result (Option (List ℕ)) ShapeFault
 reads_text key d = kept_text (text_at key d)
 
+-- an address of at most 2,048 bytes
 abbrev pub short_iri : List ℕ → Option (List ℕ)
 short_iri text = if nat_le (length text) 2048 then Some text else None
 

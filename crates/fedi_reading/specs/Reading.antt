@@ -1,5 +1,5 @@
 -- What is read of an object that a client posts (ActivityStreams 2.0 Vocabulary, section 4; ActivityPub, sections 5.6 and 6.2).
-use Rattle.std.specs.Prelude.{ℕ, List, [], ◌∷◌, ◌++◌, ◌+◌, length, fold, Bool, false, not, ◌&&◌, ◌||◌, nat_le, nat_lt, Option, Some, None, is_some, is_none, option_and_then, option_map, if◌then◌else◌, codes, bytes_eq, Result, Ok, Err}
+use Rattle.std.specs.Prelude.{ℕ, List, [], ◌∷◌, ◌++◌, length, fold, Bool, false, not, ◌&&◌, ◌||◌, nat_le, nat_lt, Option, Some, None, is_some, is_none, option_and_then, option_map, if◌then◌else◌, codes, bytes_eq, Result, Ok, Err}
 use Rattle.std.specs.Option.{option_map_or}
 use Rattle.std.specs.List.{list_any, filter_map}
 use Rattle.serde_json.specs.Data.{Data}
@@ -37,10 +37,11 @@ is_bad d = is_some (named d) && is_none (recipient_of d)
 unfoldable pub reads_entry : Data → Result (Option (List ℕ)) ShapeFault
 reads_entry d = if is_bad d then Err BadIri else Ok (recipient_of d)
 
--- the texts, each once, in the order of their first places
+-- one more text, unless it is there
 abbrev pub add_new : List (List ℕ) → List ℕ → List (List ℕ)
 add_new kept text = if is_among text kept then kept else kept ++ text ∷ []
 
+-- the texts, each once, in the order of their first places
 unfoldable pub distinct : List (List ℕ) → List (List ℕ)
 distinct texts = fold add_new [] texts
 
@@ -55,6 +56,12 @@ reads_fields first second d = do
   b ← reads_entries (entries_at second d)
   Ok (a, b)
 
+-- all entries of the five fields of recipients, as they are written
+unfoldable pub all_entries : Data → List Data
+all_entries d =
+    entries_at (codes "to") d ++ (entries_at (codes "cc") d ++ (entries_at (codes "bto") d
+    ++ (entries_at (codes "bcc") d ++ entries_at (codes "audience") d)))
+
 -- the five fields of recipients
 unfoldable pub reads_recipients : Data → Result Recipients ShapeFault
 reads_recipients d = do
@@ -62,12 +69,6 @@ reads_recipients d = do
   hidden ← reads_fields (codes "bto") (codes "bcc") d
   audience ← reads_entries (entries_at (codes "audience") d)
   Ok (record { to = told.0; cc = told.1; bto = hidden.0; bcc = hidden.1; audience = audience })
-
--- how many entries the five fields have, as they are written
-unfoldable pub entry_count : Data → ℕ
-entry_count d =
-    length (entries_at (codes "to") d) + length (entries_at (codes "cc") d) + length (entries_at (codes "bto") d)
-    + length (entries_at (codes "bcc") d) + length (entries_at (codes "audience") d)
 
 -- an address that is there must be one
 abbrev pub reads_iri : Option (List ℕ) → Result (Option (List ℕ)) ShapeFault
@@ -83,7 +84,7 @@ unfoldable pub reads_people : Data → Result (Option (List ℕ) × Recipients) 
 reads_people d = do
   in_reply_to ← reads_reply d
   recipients ← reads_recipients d
-  if nat_lt 500 (entry_count d) then Err TooManyRecipients else Ok (in_reply_to, recipients)
+  if nat_lt 500 (length (all_entries d)) then Err TooManyRecipients else Ok (in_reply_to, recipients)
 
 -- the content, the summary and the name (Vocabulary, section 4; Core, section 4.7)
 unfoldable pub reads_words : Data → Result (Option (List ℕ) × Option (List ℕ) × Option (List ℕ)) ShapeFault
@@ -106,17 +107,20 @@ abbrev pub short_text : Option (List ℕ) → List ℕ
 short_text None = []
 short_text (Some text) = if nat_le (length text) 65536 then text else []
 
+-- a mention of this name and address
 abbrev pub mention : List ℕ → List ℕ → Tag
 mention name href = record { href = href; name = name }
 
+-- the type of a tag is that of mentions (Vocabulary, section 5.5)
 abbrev pub is_mention : Data → Bool
 is_mention d = option_map_or (λ text. bytes_eq text (codes "Mention")) (text_at (codes "type") d) false
 
--- a mention (Vocabulary, section 5.5): every other tag is read past
+-- a mention with an address: every other tag is read past
 unfoldable pub tag_of : Data → Option Tag
 tag_of d =
     if is_mention d then option_map (mention (short_text (text_at (codes "name") d))) (iri_at (codes "href") d) else None
 
+-- the mentions of an object
 unfoldable pub tags_of : Data → List Tag
 tags_of d = filter_map tag_of (entries_at (codes "tag") d)
 
@@ -140,6 +144,7 @@ made kind people words links = record {
   tags = links.1;
 }
 
+-- an object that a client posts: of its parts the first at fault gives the fault
 unfoldable pub reads_object : Data → Result Object ShapeFault
 reads_object d = do
   kind ← reads_type d

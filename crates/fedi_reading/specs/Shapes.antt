@@ -17,6 +17,7 @@ fault_number BadText = Some 9
 fault_number SelfTarget = Some 10
 fault_number Memory = None
 
+-- the name of a fault
 abbrev pub fault_name : ShapeFault → List ℕ
 fault_name NotObject = codes "NotObject"
 fault_name BadContext = codes "BadContext"

@@ -1,6 +1,6 @@
 //! Whom a posted object is for.
 
-ghost use Rattle.std.specs.Prelude.{◌≡◌, map, IfOk, OnOk};
+ghost use Rattle.std.specs.Prelude.{◌≡◌, length, map, IfOk, OnOk};
 ghost use Rattle.serde_json.specs.View.{view};
 ghost use Rattle.fedi_reading.specs.Reading as reading;
 ghost use Rattle.fedi_reading.specs.Shapes.{Gives};
@@ -102,9 +102,9 @@ pub(crate) fn read_recipients(alloc: Global, value: &Value) -> Result<Recipients
 }
 
 // How many entries the five fields have, as they are written.
-#[tactic(auto, unfolding(crate::specs::Reading::entry_count))]
+#[tactic(auto, unfolding(crate::specs::Reading::all_entries))]
 pub(crate) fn entry_count(value: &Value) -> usize
-    ensures { result ≡ reading.entry_count (view value.now) }
+    ensures { result ≡ length (reading.all_entries (view value.now)) }
 {
     entries_at(value, "to").len()
         + entries_at(value, "cc").len()

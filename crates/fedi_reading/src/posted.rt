@@ -213,9 +213,8 @@ fn read_alone(alloc: Global, value: &Value) -> Result<Activity, ShapeFault>
 }
 
 /// Reads what a client posts: an object whose type is none of the activities', which is wrapped in
-/// a Create for the same recipients (ActivityPub, section 6.2.1). Who posts it makes no difference
-/// to an object alone. What the server gives itself is read past: `id`, `actor`, `attributedTo` and
-/// the times.
+/// a Create for the same recipients (ActivityPub, section 6.2.1). What the server gives itself is
+/// read past: `id`, `actor`, `attributedTo` and the times.
 ///
 /// The error is the fault with the least number that holds. `NotObject`: the value is no JSON
 /// object. `BadContext`: `@context` is there and is neither the one of ActivityStreams nor a list
@@ -224,7 +223,7 @@ fn read_alone(alloc: Global, value: &Value) -> Result<Activity, ShapeFault>
 /// replied to is no web address of at most 2,048 bytes. `TooManyRecipients`: the five fields of
 /// recipients have more than 500 entries as written. `BadText`: the content, the summary or the
 /// name has more than 65,536 bytes. `Memory`: memory was wanted, which may come at any time.
-pub fn read_posted(alloc: Global, value: &Value, _author: &Iri) -> Result<Activity, ShapeFault>
+pub fn read_posted(alloc: Global, value: &Value) -> Result<Activity, ShapeFault>
     ensures exact { Gives result (reading.reads_posted (view value.now)) }
     // The fault with the least number that holds.
     ensures least { IfErr result

@@ -1,6 +1,5 @@
 //! Reading bodies as clients write them.
 use crate::*;
-use fedi_address::Iri;
 use fedi_objects::{Activity, Object, ObjectRef, object_value, public_text};
 use std::alloc::Global;
 use std::test::Fail;
@@ -18,12 +17,9 @@ fn note_of(activity: &Activity) -> Option<&Object> {
     }
 }
 
-const ANA: &str = "https://club.example/users/ana";
-
 fn read(alloc: Global, body: &str) -> Result<Result<Activity, ShapeFault>, Fail> {
-    let author = Iri::parse(alloc, ANA)?;
     let value = read_body(alloc, body.as_bytes())?;
-    Ok(read_posted(alloc, &value, &author))
+    Ok(read_posted(alloc, &value))
 }
 
 fn fault_of(alloc: Global, body: &str) -> Result<&'static str, Fail> {
@@ -56,10 +52,7 @@ const REFUSED: [(&str, &str); 22] = [
     ("{\"type\":\"Like\",\"to\":[\"nobody\"]}", "NoType"),
     ("{\"type\":[\"TentativeReject\",\"Note\"]}", "NoType"),
     ("{\"type\":\"Tombstone\"}", "NoType"),
-    (
-        "{\"type\":\"AAAAAAAAAAAAAAAAAAAAAAAAAAAAAAAAAAAAAAAAAAAAAAAAAAAAAAAAAAAAAAAAA\"}",
-        "NoType",
-    ),
+    ("{\"type\":\"Note\",\"inReplyTo\":\"Public\"}", "BadIri"),
     ("{\"type\":\"Note\",\"inReplyTo\":\"a note\"}", "BadIri"),
     (
         "{\"type\":\"Note\",\"inReplyTo\":[{\"id\":\"a note\"}]}",
@@ -86,25 +79,30 @@ fn faults_come_in_their_order(rt: HostRuntime) -> Result<(), Fail> {
     Ok(())
 }
 
-// A note to this many, in two fields, with a content of this many bytes.
+// The text this many times.
+fn repeated(alloc: Global, text: &str, count: usize) -> Result<String, Fail> {
+    let mut all = String::new(alloc);
+    for _ in 0..count {
+        all.push_str(text)?;
+    }
+    Ok(all)
+}
+
+// A note with this many entries of recipients, in two fields, and a content of this many bytes.
 fn long_note(alloc: Global, entries: usize, bytes: usize) -> Result<String, Fail> {
-    let mut body = String::from_str(alloc, "{\"type\":\"Note\",\"bto\":[0")?;
-    for _ in 1..entries {
-        body.push_str(",0")?;
-    }
-    body.push_str("],\"cc\":5,\"content\":\"")?;
-    for _ in 0..bytes {
-        body.push_str("x")?;
-    }
-    body.push_str("\"}")?;
+    let others = repeated(alloc, ",\"Public\"", entries.saturating_sub(2))?;
+    let content = repeated(alloc, "x", bytes)?;
+    let body = format!(in alloc;
+        "{{\"type\":\"Note\",\"bto\":[0{others}],\"cc\":5,\"content\":\"{content}\"}}"
+    )?;
     Ok(body)
 }
 
 const LENGTHS: [(usize, usize, &str); 4] = [
-    (499, 65_536, "none"),
-    (500, 65_537, "TooManyRecipients"),
-    (500, 1, "TooManyRecipients"),
-    (499, 65_537, "BadText"),
+    (500, 65_536, "none"),
+    (501, 65_537, "TooManyRecipients"),
+    (501, 1, "TooManyRecipients"),
+    (500, 65_537, "BadText"),
 ];
 
 #[test]
@@ -117,8 +115,80 @@ fn entries_and_bytes_are_counted(rt: HostRuntime) -> Result<(), Fail> {
     Ok(())
 }
 
+#[test]
+fn a_type_has_64_bytes_at_most(rt: HostRuntime) -> Result<(), Fail> {
+    for (bytes, name) in &[(1, "none"), (64, "none"), (65, "NoType")] {
+        let kind = repeated(rt.alloc(), "A", *bytes)?;
+        let body = format!(in rt.alloc(); "{{\"type\":\"{kind}\"}}")?;
+        let found = fault_of(rt.alloc(), body.as_str())?;
+        assert_eq!(rt; found, *name, "{bytes}");
+    }
+    Ok(())
+}
+
+const ACTIVITY_TYPES: [&str; 28] = [
+    "Accept",
+    "Add",
+    "Announce",
+    "Arrive",
+    "Block",
+    "Create",
+    "Delete",
+    "Dislike",
+    "Flag",
+    "Follow",
+    "Ignore",
+    "Invite",
+    "Join",
+    "Leave",
+    "Like",
+    "Listen",
+    "Move",
+    "Offer",
+    "Question",
+    "Read",
+    "Reject",
+    "Remove",
+    "TentativeAccept",
+    "TentativeReject",
+    "Travel",
+    "Undo",
+    "Update",
+    "View",
+];
+
+#[test]
+fn an_activity_is_no_object(rt: HostRuntime) -> Result<(), Fail> {
+    for kind in &ACTIVITY_TYPES {
+        let body = format!(in rt.alloc(); "{{\"type\":\"{kind}\"}}")?;
+        let found = fault_of(rt.alloc(), body.as_str())?;
+        assert_eq!(rt; found, "NoType", "{kind}");
+    }
+    Ok(())
+}
+
+#[test]
+fn a_body_nests_127_deep_at_most(rt: HostRuntime) -> Result<(), Fail> {
+    for (depth, read) in &[(127, true), (128, false)] {
+        let open = repeated(rt.alloc(), "[", *depth)?;
+        let close = repeated(rt.alloc(), "]", *depth)?;
+        let body = format!(in rt.alloc(); "{open}{close}")?;
+        let found = read_body(rt.alloc(), body.as_bytes()).is_ok();
+        assert_eq!(rt; found, *read, "{depth}");
+    }
+    Ok(())
+}
+
 // What is posted, and the object that is read of it.
-const READ: [(&str, &str); 5] = [
+const READ: [(&str, &str); 7] = [
+    (
+        "{\"type\":\"Note\",\"to\":[\"as:Public\",\"https://www.w3.org/ns/activitystreams#Public\",\"Public\",{\"id\":\"HTTPS://www.w3.org/ns/activitystreams#Public\"}],\"cc\":[\"https://far.example\",\"Public\",\"https://far.example/\"]}",
+        "{\"cc\":[\"https://far.example/\",\"https://www.w3.org/ns/activitystreams#Public\"],\"to\":[\"https://www.w3.org/ns/activitystreams#Public\"],\"type\":\"Note\"}",
+    ),
+    (
+        "{\"type\":\"Like\",\"type\":\"Note\",\"to\":null,\"inReplyTo\":[{\"id\":\"https://far.example/1\"},\"a note\"],\"content\":null,\"name\":[\"Tea\"],\"summary\":\"one\",\"summary\":\"two\"}",
+        "{\"inReplyTo\":\"https://far.example/1\",\"summary\":\"two\",\"type\":\"Note\"}",
+    ),
     (
         "{\"type\":\"Note\",\"content\":\"Hello\",\"to\":[\"Public\"]}",
         "{\"content\":\"Hello\",\"to\":[\"https://www.w3.org/ns/activitystreams#Public\"],\"type\":\"Note\"}",

@@ -1,0 +1,97 @@
+-- What is read of a client's post is an activity that a history may take.
+use Rattle.std.proofs.Common.{◌≡◌, ℕ, ◌≤◌, List, [], ◌∷◌, ◌++◌, length, true, false, cond, not, nat_le, Option, Some, None, codes, refl, sym, subst, ◌∙◌}
+use Rattle.std.specs.Prelude.{Ok, IsTrue}
+use Rattle.std.specs.Cmp.Lexicographic.{pointwise}
+use Rattle.std.specs.List.{fold, filter_map}
+use Rattle.std.specs.Str.{bytes_eq}
+use Rattle.std.proofs.lemmas.Bool.{and_parts, or_parts, not-true, ltb-false, le-leb}
+use Rattle.std.proofs.lemmas.Cmp.{nat_list_eq_equiv, lists_equiv}
+use Rattle.std.proofs.lemmas.List.Folds.{list_any-append}
+use Rattle.serde_json.specs.Data.{Data}
+use Rattle.fedi_address.specs.Recipients.{all_of, is_among}
+use Rattle.fedi_address.specs.declared.recipients.Recipients.{Recipients}
+use Rattle.fedi_objects.specs.declared.activity.Activity.{Activity}
+use Rattle.fedi_objects.specs.declared.object.Object.{Object}
+use Rattle.fedi_reading.specs.Faults.{is_long}
+use Rattle.fedi_reading.specs.Properties.{entries_at}
+use Rattle.fedi_reading.specs.Reading.{recipient_of, add_new, distinct, wrapped, reads_posted}
+use Rattle.fedi_reading.proofs.KeptLemmas.{named_by, AreNamed, IsMadeOf, type_kept, words_kept, people_kept, tags_kept, object_parts, posted_object}
+use Rattle.fedi_model.specs.Histories.{is_within, is_each_once, are_addressed, are_same, is_posted}
+
+-- ---- lists without doubles
+
+-- a name that is not there is not there either with another behind
+still_new : (name text : List ℕ) (others : List (List ℕ)) → is_among name others ≡ false → bytes_eq text name ≡ false → is_among name (others ++ text ∷ []) ≡ false
+unfolding is_among
+still_new name text others new other = rw (list_any-append (λ u. bytes_eq u name) others (text ∷ []), new, other) refl
+
+-- a new name makes no double
+once_pushed : (kept : List (List ℕ)) (text : List ℕ) → is_each_once kept ≡ true → is_among text kept ≡ false → is_each_once (kept ++ text ∷ []) ≡ true
+unfolding is_among
+once_pushed [] text once new = refl
+once_pushed (name ∷ others) text once new =
+    let first = and_parts (not (is_among name others)) (is_each_once others) once in
+    let apart = or_parts (bytes_eq name text) (is_among text others) new in
+    let other : bytes_eq text name ≡ false = nat_list_eq_equiv.symm text name ∙ apart.0 in
+    let front : is_among name (others ++ text ∷ []) ≡ false = still_new name text others (not-true (is_among name others) first.0) other in
+    let rest : is_each_once (others ++ text ∷ []) ≡ true = once_pushed others text first.1 apart.1 in
+    rw (front, rest) refl
+
+-- each text is added where it is new, so that no double comes
+once_added : (kept : List (List ℕ)) (text : List ℕ) → is_each_once kept ≡ true → is_each_once (add_new kept text) ≡ true
+once_added kept text once =
+    elim (is_among text kept) as (λ b. is_among text kept ≡ b → is_each_once (cond b kept (kept ++ text ∷ [])) ≡ true)
+    [ true ↦ λ _. once | false ↦ once_pushed kept text once ] refl
+
+once_folded : (kept texts : List (List ℕ)) → is_each_once kept ≡ true → is_each_once (fold add_new kept texts) ≡ true
+once_folded kept [] once = once
+once_folded kept (text ∷ texts) once = once_folded (add_new kept text) texts (once_added kept text once)
+
+named_once : (key : List ℕ) (d : Data) → is_each_once (named_by key d) ≡ true
+unfolding distinct
+named_once key d = once_folded [] (filter_map recipient_of (entries_at key d)) refl
+
+-- ---- recipients
+
+same_names : (names : List (List ℕ)) → pointwise bytes_eq names names ≡ true
+same_names names = (lists_equiv nat_list_eq_equiv).refl names
+
+same_people : (r : Recipients) → are_same r r ≡ true
+same_people r = rw (same_names r.to, same_names r.cc, same_names r.bto, same_names r.bcc, same_names r.audience) refl
+
+-- the recipients that are read are at most 500, and none is there twice in a field
+addressed : (d : Data) (r : Recipients) → AreNamed d r → length (all_of r) ≤ 500 → are_addressed r ≡ true
+addressed d r named few =
+    let to : is_each_once r.to ≡ true = rw named.to (named_once (codes "to") d) in
+    let copied : is_each_once r.cc ≡ true = rw named.cc (named_once (codes "cc") d) in
+    let bto : is_each_once r.bto ≡ true = rw named.bto (named_once (codes "bto") d) in
+    let bcc : is_each_once r.bcc ≡ true = rw named.bcc (named_once (codes "bcc") d) in
+    let audience : is_each_once r.audience ≡ true = rw named.audience (named_once (codes "audience") d) in
+    rw (le-leb (length (all_of r)) 500 few, to, copied, bto, bcc, audience) refl
+
+-- ---- the whole
+
+not_long : (text : Option (List ℕ)) → is_long text ≡ false → is_within 65536 text ≡ true
+not_long None h = refl
+not_long (Some text) h = le-leb (length text) 65536 (ltb-false 65536 (length text) h)
+
+-- the Create of an object that is read keeps each limit
+object_kept : (d : Data) (o : Object) → IsMadeOf d o → is_posted (wrapped o) ≡ true
+object_kept d o h =
+    let kind = type_kept d h.kind h.kind_read in
+    let size = and_parts (nat_le 1 (length h.kind)) (nat_le (length h.kind) 64) kind.0 in
+    let words = words_kept d h.words h.words_read in
+    let content = not_long h.words.0 words.0 in
+    let summary = not_long h.words.1 words.1 in
+    let name = not_long h.words.2 words.2 in
+    let people = people_kept d h.people h.people_read in
+    let reached = addressed d h.people.1 people.0 people.1 in
+    let same = same_people h.people.1 in
+    let tags = tags_kept d in
+    subst (λ (x : Object). is_posted (wrapped x) ≡ true) (sym h.whole)
+    (rw (size.0, size.1, kind.1, content, summary, name, tags, reached, same) refl)
+
+pub read_is_posted : (d : Data) (a : Activity) → reads_posted d ≡ Ok a → IsTrue (is_posted a)
+read_is_posted d a h =
+    let found = posted_object d a h in
+    subst (λ (x : Activity). is_posted x ≡ true) (sym found.2) (object_kept d found.0 (object_parts d found.0 found.1))
