@@ -1,5 +1,5 @@
 -- How an entry of a history is written as bytes. The format is this server's own.
-use Rattle.std.specs.Prelude.{ℕ, Bool, true, false, List, [], ◌∷◌, ◌++◌, length, Option, Some, None}
+use Rattle.std.specs.Prelude.{◌≡◌, ◌<◌, ◌^◌, ℕ, Bool, true, false, List, [], ◌∷◌, ◌++◌, length, Option, Some, None}
 use Rattle.std.specs.List.{flat_map}
 use Rattle.std.specs.Int.{to_be_bytes, w16, w32, w64}
 use Rattle.fedi_address.specs.declared.recipients.Recipients.{Recipients}
@@ -155,3 +155,27 @@ fields_code (Tried activity recipient came moment) = text_code activity ++ (text
 -- an entry: which kind, and its fields
 unfoldable pub code_of : Entry → List ℕ
 code_of entry = entry_number entry ∷ fields_code entry
+
+-- a status is one of 16 bits
+abbrev pub HasStatus : What → Type 0
+HasStatus (Status status) = status < 2 ^ 16
+HasStatus _ = Unit {0}
+
+-- a digest has 32 bytes, where there is one
+abbrev pub HasDigest : Option (List ℕ × List ℕ) → Type 0
+HasDigest None = Unit {0}
+HasDigest (Some repeat) = length repeat.1 ≡ 32
+
+-- digests and keys have 32 bytes, and numbers the bits that they are written in
+abbrev pub HasSizes : Entry → Type 0
+HasSizes (Hosted host moment) = moment < 2 ^ 64
+HasSizes (Made name digest locked moment) = (length digest ≡ 32) × (moment < 2 ^ 64)
+HasSizes (PeerSet host key address relay moment) = (length key ≡ 32) × (moment < 2 ^ 64)
+HasSizes (Local name repeat activity moment) = HasDigest repeat × (moment < 2 ^ 64)
+HasSizes (Remote peer inbox activity moment) = moment < 2 ^ 64
+HasSizes (Tried activity recipient came moment) = HasStatus came.what × (moment < 2 ^ 64)
+
+-- nothing in the entry is too large for its bytes: each length and each count counts bytes of the code, of which there are fewer than 2 ^ 32
+pub record Fits (entry : Entry) : Type 0 where
+  pub sizes : HasSizes entry
+  pub short : length (code_of entry) < 2 ^ 32

@@ -4,7 +4,7 @@ ghost use Rattle.std.specs.Prelude.{◌≡◌, ◌∷◌, [], ◌++◌, length, 
 ghost use Rattle.std.specs.List.{flat_map};
 ghost use Rattle.fedi_entry.specs.Codes.{bool_code, text_code, u16_code, u32_code, u64_code};
 
-use fedi_address::{Iri, Items};
+use fedi_address::{Host, Iri, Items, LocalName};
 use fedi_objects::{Edit, Moment, Text};
 use std::alloc::AllocError;
 
@@ -85,6 +85,26 @@ impl Coded for Iri {
 }
 
 impl Coded for Text {
+    ghost use Rattle.fedi_entry.specs.Codes.{text_code};
+
+    ghost code = { text_code };
+
+    fn put(&self, bytes: &mut Vec<u8>) -> Result<(), AllocError> {
+        put_text(bytes, self.text().as_bytes())
+    }
+}
+
+impl Coded for Host {
+    ghost use Rattle.fedi_entry.specs.Codes.{text_code};
+
+    ghost code = { text_code };
+
+    fn put(&self, bytes: &mut Vec<u8>) -> Result<(), AllocError> {
+        put_text(bytes, self.text().as_bytes())
+    }
+}
+
+impl Coded for LocalName {
     ghost use Rattle.fedi_entry.specs.Codes.{text_code};
 
     ghost code = { text_code };

@@ -14,26 +14,6 @@ const ROOM: usize = 1024;
 /// The most bytes that an entry has.
 const LONGEST: usize = 4_294_967_295;
 
-impl Coded for Host {
-    ghost use Rattle.fedi_entry.specs.Codes.{text_code};
-
-    ghost code = { text_code };
-
-    fn put(&self, bytes: &mut Vec<u8>) -> Result<(), AllocError> {
-        put_text(bytes, self.text().as_bytes())
-    }
-}
-
-impl Coded for LocalName {
-    ghost use Rattle.fedi_entry.specs.Codes.{text_code};
-
-    ghost code = { text_code };
-
-    fn put(&self, bytes: &mut Vec<u8>) -> Result<(), AllocError> {
-        put_text(bytes, self.text().as_bytes())
-    }
-}
-
 impl Coded for (RepeatKey, [u8; 32]) {
     ghost use Rattle.fedi_entry.specs.Codes.{repeat_code};
 

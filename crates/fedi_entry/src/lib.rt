@@ -7,6 +7,8 @@
 mod activities;
 mod coded;
 mod entries;
+mod laws;
 mod objects;
 
 pub use entries::encode;
+pub use laws::{codes_are_unique, codes_begin_with_the_kind};

@@ -1,0 +1,17 @@
+//! Laws of the definitions, each the contract of a function that does nothing.
+
+ghost use Rattle.std.specs.Prelude.{◌≡◌, ℕ, List, ◌∷◌};
+ghost use Rattle.fedi_objects.specs.declared.entry.Entry.{Entry};
+ghost use Rattle.fedi_entry.specs.Codes.{code_of, entry_number, Fits};
+
+/// The code of an entry begins with the number of its kind, as 4 of a post, and so is not empty.
+#[tactic(auto, unfolding(crate::specs::Codes::code_of))]
+pub fn codes_begin_with_the_kind()
+    ensures { (entry : Entry) → (fields : List ℕ) × (code_of entry ≡ entry_number entry ∷ fields) }
+{}
+
+/// No two entries have the same code, where nothing in them is too large for its bytes.
+#[tactic(auto, using(crate::proofs::EntryLemmas::code_of_injective))]
+pub fn codes_are_unique()
+    ensures { (a b : Entry) → Fits a → Fits b → code_of a ≡ code_of b → a ≡ b }
+{}
