@@ -2,3 +2,4 @@ pub mod FramingLemmas
 pub mod RequestLemmas
 pub mod HeadLemmas
 pub mod StreamLemmas
+pub mod ArrivalLemmas

@@ -78,7 +78,7 @@ impl Buffer {
     }
 
     // Reads once into the room behind what is pending, with room for `limit` bytes in all.
-    fn fill<S: Source>(&mut self, source: &mut S, limit: usize) -> Filled
+    pub(crate) fn fill<S: Source>(&mut self, source: &mut S, limit: usize) -> Filled
         requires { length self.old < limit }
         ensures stream { prepend_known self.new (S.left source.new) ≡ prepend_known self.old (S.left source.old) }
         ensures kept { StartsWith self.new self.old }
@@ -126,7 +126,7 @@ pub fn read_head<S: Source>(source: &mut S, buffer: &mut Buffer) -> HeadRead
 
 // Reads a head of at most `limit` bytes.
 #[tactic(auto, using(crate::proofs::HeadLemmas::reading))]
-fn read_up_to<S: Source>(source: &mut S, buffer: &mut Buffer, limit: usize) -> HeadRead
+pub(crate) fn read_up_to<S: Source>(source: &mut S, buffer: &mut Buffer, limit: usize) -> HeadRead
     ensures stream { prepend_known buffer.new (S.left source.new) ≡ prepend_known buffer.old (S.left source.old) }
     ensures kept { StartsWith buffer.new buffer.old }
     ensures pending { IsHeadUpTo limit buffer.new result }
@@ -163,7 +163,7 @@ fn read_up_to<S: Source>(source: &mut S, buffer: &mut Buffer, limit: usize) -> H
 
 // What became of one read into a buffer.
 #[derive(Clone, Copy)]
-enum Filled {
+pub(crate) enum Filled {
     More,
     End,
     ReadFault,

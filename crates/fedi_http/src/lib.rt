@@ -1,6 +1,7 @@
 //! HTTP/1.1 (RFC 9112): requests are read from a source, and replies are written to a sink.
 #![tactic(auto)]
 
+mod arrivals;
 mod fields;
 mod framing;
 mod heads;
@@ -10,6 +11,7 @@ mod sending;
 #[cfg(test)]
 mod tests;
 
+pub use arrivals::{Arrived, arrivals_are_determined, read_request};
 pub use fields::{field_value, is_same_name};
 pub use heads::{Buffer, HEAD_LIMIT, HeadRead, read_head};
 pub use replies::{MEMORY_TEXT, memory_text, reply_bytes};
