@@ -25,7 +25,7 @@ pub has_head-append : (limit most : ℕ) (xs ys : List ℕ) (outcome : Result Re
 has_head-append limit most xs ys outcome end has = record {
   start = has.start;
   head = is_head-append limit xs ys has.start end has.head;
-  reads = subst (λ (text : List ℕ). ReadsAs most text outcome) (sym (slice_range-append xs ys has.start end has.head.ordered has.head.within)) has.reads;
+  reads = subst (λ (text : List ℕ). ReadsAs most text outcome) (sym (slice_range-append xs ys has.start end (omega (arith, has.head.ordered)) has.head.within)) has.reads;
 }
 
 has_head_more : (limit most : ℕ) (xs ys : List ℕ) (outcome : Result Request Refusal) (end : ℕ) → StartsWith ys xs

@@ -214,7 +214,7 @@ is_head limit xs at start low inside none here holds =
           ∙ ap Some (text-is xs (at + 1) start here (omega arith));
     }
 
-pub slice_range-append : (xs ys : List ℕ) (start end : ℕ) → start < end → end ≤ length xs → slice_range (xs ++ ys) start end ≡ slice_range xs start end
+pub slice_range-append : (xs ys : List ℕ) (start end : ℕ) → start ≤ end → end ≤ length xs → slice_range (xs ++ ys) start end ≡ slice_range xs start end
 slice_range-append xs ys start end low high =
     ap (take (end - start)) (drop-append-le start xs ys (omega arith)) ∙ take-append-le (end - start) (drop start xs) ys (omega (arith, length-drop start xs))
 
@@ -228,7 +228,7 @@ is_head-append limit xs ys start end head =
     head_end-same (take limit xs) (take limit (xs ++ ys)) end head.ends (omega (arith, length-take limit (xs ++ ys)))
     (λ m h. is_end-take (xs ++ ys) limit m (omega arith) ∙ is_end-append xs ys m (omega arith) ∙ sym (is_end-take xs limit m (omega arith))) in
     let front : take end (take limit (xs ++ ys)) ≡ take end (take limit xs) = take-take end limit (xs ++ ys) low ∙ take-append-le end xs ys inside ∙ sym (take-take end limit xs low) in
-    let part : slice_range (xs ++ ys) start end ≡ slice_range xs start end = slice_range-append xs ys start end head.ordered inside in
+    let part : slice_range (xs ++ ys) start end ≡ slice_range xs start end = slice_range-append xs ys start end (omega (arith, head.ordered)) inside in
     record {
       ends = found;
       ordered = head.ordered;
