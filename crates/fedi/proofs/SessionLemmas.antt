@@ -62,7 +62,7 @@ pub record Follows (w : Setting) (h h' : List Entry) (before after : Keeping) (o
   pub doubt : DoubtAfter before.doubt after.doubt outcome
   pub faults : FaultsAfter before.faults after.faults outcome
 
-same_records : (a : Option (List (List ℕ))) → a ≡ option_map (λ records. records ++ []) a
+pub same_records : (a : Option (List (List ℕ))) → a ≡ option_map (λ records. records ++ []) a
 same_records None = refl
 same_records (Some records) = ap Some (sym (append-nil records))
 
@@ -307,3 +307,145 @@ said_whole read write w first before now pending p x true is by was stands sent 
 said_whole read write w first before now pending p x false is by was stands sent =
     let text : Appends before.sent now.sent (text_of p.count x) = rw (← is) sent in
     (x, by.exchange, record { open_yet = sym is; input = stands; kept = by.kept; written = written_more first before now p (text_of p.count x) was text })
+
+-- a reply was begun, and the write failed
+said_broken : (w : Setting) (first before now : Scene) (p : Progress) (x : Exchange) (closing : Bool) (n : ℕ)
+    → closing ≡ closes p.count x.arrived → IsAnsweredBy w first before now p x → IsWritten first before p
+    → n < length (reply_text x.moment false closing x.reply) → Appends before.sent now.sent (take n (reply_text x.moment false closing x.reply))
+    → BreaksOff w first now p x n
+said_broken w first before now p x closing n is by was short sent =
+    let fewer : n < length (text_of p.count x) = rw (← is) short in
+    let front : Appends before.sent now.sent (take n (text_of p.count x)) = rw (← is) sent in
+    record { exchange = by.exchange; kept = by.kept; short = fewer; sent = written_more first before now p (take n (text_of p.count x)) was front }
+
+-- the request at the front of the input was answered
+pub request_steps : (read write : Type 0) (w : Setting) (first before now : Scene) (old pending : List ℕ) (p : Progress) (q : Request) (body end : ℕ) (closing : Bool) (s : Said)
+    → w.history ≡ first.history → IsAt w first before old p → prepend_known pending now.input ≡ prepend_known old before.input
+    → IfSome (prepend_known old before.input) (λ stream. Arrives stream (arrivals.Request q body end)) → body ≤ end → end ≤ length pending
+    → closing ≡ closes p.count (arrivals.Request q body end)
+    → AnswersOnce w.growth w.room w.told before.history now.history before.keeper now.keeper write before.sent now.sent q (slice_range pending body end) closing s
+    → Steps read write w first now (drop end pending) p (end_by s closing)
+request_steps read write w first before now old pending p q body end closing Whole begun at stream told low high is a =
+    let stands : StandsIn pending now.input p.left = stream ∙ at.input in
+    let arrival : Arrives p.left (arrivals.Request q body end) = told_of (λ bytes. Arrives bytes (arrivals.Request q body end)) (prepend_known old before.input) p.left at.input told in
+    let same : slice_range pending body end ≡ slice_range p.left body end = same_slice pending now.input p.left body end stands low high in
+    let turn = subst (λ (text : List ℕ). IsTurn w.growth w.room before.history now.history before.keeper now.keeper a.0 q text a.1) same a.3 in
+    let b = answered w first before now old p q body end a.0 a.1 begun at arrival a.2 turn in
+    said_whole read write w first before now (drop end pending) p (exchanged (arrivals.Request q body end) a.0 b.0 a.1) closing is b.1 at.written
+    (taken_off pending now.input p.left end stands high) a.4
+request_steps read write w first before now old pending p q body end closing said.WriteFault begun at stream told low high is f =
+    let a = f.1 in
+    let stands : StandsIn pending now.input p.left = stream ∙ at.input in
+    let arrival : Arrives p.left (arrivals.Request q body end) = told_of (λ bytes. Arrives bytes (arrivals.Request q body end)) (prepend_known old before.input) p.left at.input told in
+    let same : slice_range pending body end ≡ slice_range p.left body end = same_slice pending now.input p.left body end stands low high in
+    let turn = subst (λ (text : List ℕ). IsTurn w.growth w.room before.history now.history before.keeper now.keeper a.0 q text a.1) same a.4 in
+    let b = answered w first before now old p q body end a.0 a.1 begun at arrival a.3 turn in
+    let x : Exchange = exchanged (arrivals.Request q body end) a.0 b.0 a.1 in
+    (f.0, (x, a.2, said_broken w first before now p x closing a.2 is b.1 at.written a.5 a.6))
+request_steps read write w first before now old pending p q body end closing said.Memory begun at stream told low high is (inl d, front) = (
+  None,
+  front.0,
+  record {
+    exchange = tt;
+    kept = kept_still w first before now p at.kept (dropped w before.history now.history before.keeper now.keeper d);
+    sent = written_more first before now p (take front.0 memory_text) at.written front.1;
+  },
+)
+request_steps read write w first before now old pending p q body end closing said.Memory begun at stream told low high is (inr a, front) =
+    let stands : StandsIn pending now.input p.left = stream ∙ at.input in
+    let arrival : Arrives p.left (arrivals.Request q body end) = told_of (λ bytes. Arrives bytes (arrivals.Request q body end)) (prepend_known old before.input) p.left at.input told in
+    let same : slice_range pending body end ≡ slice_range p.left body end = same_slice pending now.input p.left body end stands low high in
+    let turn = subst (λ (text : List ℕ). IsTurn w.growth w.room before.history now.history before.keeper now.keeper a.0 q text a.1) same a.3 in
+    let b = answered w first before now old p q body end a.0 a.1 begun at arrival a.2 turn in
+    let x : Exchange = exchanged (arrivals.Request q body end) a.0 b.0 a.1 in (
+      Some x,
+      front.0,
+      record {
+        exchange = b.1.exchange;
+        kept = b.1.kept;
+        sent = written_more first before now p (take front.0 memory_text) at.written front.1;
+      },
+    )
+
+-- nothing was done to the history and the keeper
+pub unchanged : (w : Setting) (h : List Entry) (k : Keeping) → Follows w h h k k NoEntry
+unchanged w h k = record { history = sym (append-nil h); records = same_records k.records; end = refl; doubt = refl; faults = omega arith }
+
+-- what stands at the front of the input was refused
+pub refusal_steps : (read write : Type 0) (w : Setting) (first before now : Scene) (old pending : List ℕ) (p : Progress) (e : Refusal) (s : Said)
+    → IsAt w first before old p → prepend_known pending now.input ≡ prepend_known old before.input
+    → IfSome (prepend_known old before.input) (λ stream. Arrives stream (arrivals.Refused e))
+    → Follows w before.history now.history before.keeper now.keeper NoEntry
+    → RefusesOnce w.told write before.sent now.sent e s → Steps read write w first now pending p (end_by s true)
+refusal_steps read write w first before now old pending p e Whole at stream told still a =
+    let arrival : Arrives p.left (arrivals.Refused e) = told_of (λ bytes. Arrives bytes (arrivals.Refused e)) (prepend_known old before.input) p.left at.input told in
+    said_whole read write w first before now pending p (exchanged (arrivals.Refused e) a.0 NoEntry (refused e)) true refl
+    (refused_by w first before now old p e a.0 at arrival a.1 still) at.written (stream ∙ at.input) a.2
+refusal_steps read write w first before now old pending p e said.WriteFault at stream told still f =
+    let a = f.1 in
+    let arrival : Arrives p.left (arrivals.Refused e) = told_of (λ bytes. Arrives bytes (arrivals.Refused e)) (prepend_known old before.input) p.left at.input told in
+    let x : Exchange = exchanged (arrivals.Refused e) a.0 NoEntry (refused e) in
+    (f.0, (x, a.1, said_broken w first before now p x true a.1 refl (refused_by w first before now old p e a.0 at arrival a.2 still) at.written a.3 a.4))
+refusal_steps read write w first before now old pending p e said.Memory at stream told still front = (
+  None,
+  front.0,
+  record {
+    exchange = tt;
+    kept = kept_still w first before now p at.kept still;
+    sent = written_more first before now p (take front.0 memory_text) at.written front.1;
+  },
+)
+
+-- nothing more was to be answered, and nothing was sent
+written_still : (first before now : Scene) (p : Progress) → IsWritten first before p → now.sent ≡ before.sent → IsWritten first now p
+written_still first before now p was same = subst (λ (sent : Option (List ℕ)). Appends first.sent sent p.written) (sym same) was
+
+pub end_steps : (read write : Type 0) (w : Setting) (first before now : Scene) (old pending : List ℕ) (p : Progress)
+    → IsAt w first before old p → IfSome (prepend_known old before.input) (λ stream. Arrives stream arrivals.End)
+    → Follows w before.history now.history before.keeper now.keeper NoEntry → now.sent ≡ before.sent
+    → Steps read write w first now pending p (Some ends.End)
+end_steps read write w first before now old pending p at told still quiet = (
+  at.open_yet,
+  told_of (λ bytes. Arrives bytes arrivals.End) (prepend_known old before.input) p.left at.input told,
+  kept_still w first before now p at.kept still,
+  written_still first before now p at.written quiet,
+)
+
+pub cut_steps : (read write : Type 0) (w : Setting) (first before now : Scene) (old pending : List ℕ) (p : Progress)
+    → IsAt w first before old p → IfSome (prepend_known old before.input) (λ stream. Arrives stream arrivals.CutShort)
+    → Follows w before.history now.history before.keeper now.keeper NoEntry → now.sent ≡ before.sent
+    → Steps read write w first now pending p (Some ends.CutShort)
+cut_steps read write w first before now old pending p at told still quiet = (
+  (at.open_yet, told_of (λ bytes. Arrives bytes arrivals.CutShort) (prepend_known old before.input) p.left at.input told),
+  kept_still w first before now p at.kept still,
+  written_still first before now p at.written quiet,
+)
+
+pub fault_steps : (read write : Type 0) (w : Setting) (first before now : Scene) (old pending : List ℕ) (p : Progress) → read
+    → IsAt w first before old p → prepend_known pending now.input ≡ prepend_known old before.input → LacksRequest HEAD_LIMIT MOST_FIELDS pending
+    → Follows w before.history now.history before.keeper now.keeper NoEntry → now.sent ≡ before.sent
+    → Steps read write w first now pending p (Some ends.ReadFault)
+fault_steps read write w first before now old pending p cause at stream lacks still quiet =
+    let unread : IsUnread w first now pending p = record {
+      at = record {
+        open_yet = at.open_yet;
+        input = stream ∙ at.input;
+        kept = kept_still w first before now p at.kept still;
+        written = written_still first before now p at.written quiet;
+      };
+      lacks = lacks;
+    } in
+    (cause, (pending, unread))
+
+pub memory_steps : (read write : Type 0) (w : Setting) (first before now : Scene) (old pending : List ℕ) (p : Progress)
+    → IsAt w first before old p → Follows w before.history now.history before.keeper now.keeper NoEntry → AppendsFront before.sent now.sent memory_text
+    → Steps read write w first now pending p (Some ends.Memory)
+memory_steps read write w first before now old pending p at still front = (
+  None,
+  front.0,
+  record {
+    exchange = tt;
+    kept = kept_still w first before now p at.kept still;
+    sent = written_more first before now p (take front.0 memory_text) at.written front.1;
+  },
+)
