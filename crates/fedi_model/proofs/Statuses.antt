@@ -1,7 +1,6 @@
 -- Each reply has a status code of three digits.
-use Rattle.std.proofs.Common.{◌≡◌, ℕ, ◌≤◌, ◌<◌, Bool, true, false, Option, Some, None, refl, lit≤, lit<}
-use Rattle.std.specs.Prelude.{if◌then◌else◌, option_and_then}
-use Rattle.std.specs.List.{find}
+use Rattle.std.proofs.Common.{true, false, Option, Some, None, lit≤, lit<}
+use Rattle.std.specs.Prelude.{if◌then◌else◌}
 use Rattle.fedi_address.specs.declared.refusal.Refusal.{Refusal}
 use Rattle.fedi_address.specs.declared.refusal.Refusal.TheVariants.{BadHead, BadBody, BadQuery, NoKey, WrongKey, WrongMac, NotOwner, Blocked, NotOrigin, NotPublic, NotFound, WrongMethod, KeyReused, NotStanding, Gone, NoLength, TooLong, WrongType, BadShape, HeadTooLong, NoCoding, ActorFull, KeeperFault, Memory, JournalFull}
 use Rattle.fedi_objects.specs.declared.object.Object.{Object}
@@ -9,7 +8,6 @@ use Rattle.fedi_model.specs.declared.act.Act.{Act}
 use Rattle.fedi_model.specs.declared.ask.Ask.{Ask}
 use Rattle.fedi_model.specs.declared.ask.Ask.TheVariants as asks
 use Rattle.fedi_model.specs.declared.caller.Caller.{Caller}
-use Rattle.fedi_model.specs.declared.reply.Reply.{Reply}
 use Rattle.fedi_model.specs.Activities.{whole_of}
 use Rattle.fedi_model.specs.Replies.{refused, document, document_or_missing, maker_of, seen_or_missing, reply}
 use Rattle.fedi_model.specs.ReplyText.{HasStatus}

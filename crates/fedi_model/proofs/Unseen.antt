@@ -1,7 +1,7 @@
 -- A post changes nothing for a caller who does not see it.
-use Rattle.std.proofs.Common.{◌≡◌, ℕ, Bool, true, false, List, [], ◌∷◌, ◌++◌, length, Option, Some, None, refl, sym, ap, subst, ◌∙◌, arith}
-use Rattle.std.specs.Prelude.{◌||◌, map, filter, option_map, if◌then◌else◌}
-use Rattle.std.specs.List.{fold, filter_map}
+use Rattle.std.proofs.Common.{◌≡◌, ℕ, Bool, true, false, List, [], ◌∷◌, ◌++◌, length, Option, Some, None, refl, sym, ap, subst}
+use Rattle.std.specs.Prelude.{◌||◌, map, filter, option_map}
+use Rattle.std.specs.List.{filter_map}
 use Rattle.std.specs.Str.{bytes_eq}
 use Rattle.std.proofs.lemmas.List.Sums.{fold-append}
 use Rattle.fedi_objects.specs.declared.activity.Activity.{Activity}
@@ -13,7 +13,7 @@ use Rattle.fedi_model.specs.declared.caller.Caller.TheVariants as callers
 use Rattle.fedi_model.specs.Activities.{local_act}
 use Rattle.fedi_model.specs.Agreement.{Agree, IsSameOwn, repeats_of}
 use Rattle.fedi_model.specs.Histories.{step, posted, town}
-use Rattle.fedi_model.specs.Seeing.{Sight, sees, shown, view, is_seen_as}
+use Rattle.fedi_model.specs.Seeing.{sees, shown, view, is_seen_as}
 use Rattle.fedi_model.specs.Towns.{Town, empty_town, id_of, is_by, count_of}
 
 abbrev with_act : Town → Act → Town
