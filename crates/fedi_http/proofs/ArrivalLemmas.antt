@@ -1,18 +1,17 @@
 -- Lemmas on what arrives at the front of a stream.
-use Rattle.std.proofs.Common.{◌≡◌, ℕ, ◌+◌, ◌<◌, ◌≤◌, List, [], ◌++◌, length, take, drop, Option, None, Some, IfSome, Result, Ok, Err, inl, inr, refl, sym, ap, subst, ◌∙◌, arith, length-append}
+use Rattle.std.proofs.Common.{◌≡◌, ℕ, ◌+◌, ◌<◌, List, [], ◌++◌, length, take, drop, Option, None, Some, IfSome, Result, Ok, Err, inl, inr, refl, sym, ap, subst, ◌∙◌, arith, length-append}
 use Rattle.std.proofs.lemmas.List.{take-append-drop, take_all, take-append-le}
 use Rattle.std.specs.Io.{StartsWith}
 use Rattle.std.specs.Io.KnownBytes.{prepend_known, IsAtEnd}
 use Rattle.std.specs.List.{slice_range}
 use Rattle.fedi_address.specs.declared.refusal.Refusal.{Refusal}
-use Rattle.fedi_address.specs.declared.refusal.Refusal.TheVariants.{BadHead}
 use Rattle.fedi_model.specs.declared.request.Request.{Request}
 use Rattle.fedi_model.specs.Requests.{ReadsAs}
 use Rattle.fedi_http.specs.declared.arrivals.Arrived.{Arrived}
 use Rattle.fedi_http.specs.declared.arrivals.Arrived.TheVariants as arrived
 use Rattle.fedi_http.specs.declared.heads.HeadRead.TheVariants.{TooLong}
 use Rattle.fedi_http.specs.Arrivals.{HasHead, IsWhole, HasPartOfBody, LacksRequest, IsRefused, IsArrival, IsBodyRead, OnInputEnd, OnFailedRead, TellsOfStream}
-use Rattle.fedi_http.specs.Heads.{head_end, IsHeadAt, IsHeadUpTo, LacksHead}
+use Rattle.fedi_http.specs.Heads.{head_end, IsHeadUpTo, LacksHead}
 use Rattle.fedi_http.proofs.HeadLemmas.{is_head-append, slice_range-append}
 use Rattle.fedi_http.proofs.RequestLemmas.{reads_once}
 use Rattle.fedi_http.proofs.StreamLemmas.{stream-more, stream-end}

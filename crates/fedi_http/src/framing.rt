@@ -16,7 +16,7 @@ use http::Method;
 /// length is no number of 1 to 19 digits; then `NoCoding` for any `Transfer-Encoding`, `NoLength` for a POST without a length, and
 /// `TooLong` for a length over `BODY_LIMIT`.
 #[tactic(auto, unfolding(fedi_model::specs::Requests::has_served_fields))]
-pub fn measured(method: &Method, fields: &[Field]) -> Result<usize, Refusal>
+pub fn body_length(method: &Method, fields: &[Field]) -> Result<usize, Refusal>
     ensures { MatchResult result
         (λ length. (model.fields_refusal method.now fields.now ≡ None) × (length ≡ model.body_length fields.now))
         (λ refusal. model.fields_refusal method.now fields.now ≡ Some refusal) }
@@ -24,7 +24,7 @@ pub fn measured(method: &Method, fields: &[Field]) -> Result<usize, Refusal>
     if !has_served_fields(fields) {
         return Err(Refusal::BadHead);
     }
-    body_length(method, fields)
+    allowed_length(method, fields)
 }
 
 /// Whether `Host` stands once, no field is repeated that stands once at most, and the body is measured in one way, by a number.
@@ -72,8 +72,8 @@ fn has_digits_alone(value: &[u8]) -> bool
     value.iter().all(|byte| byte.is_ascii_digit())
 }
 
-/// The length of the body after good fields, or why it is not read.
-fn body_length(method: &Method, fields: &[Field]) -> Result<usize, Refusal>
+/// The length of the body after good fields, or why no body is read.
+fn allowed_length(method: &Method, fields: &[Field]) -> Result<usize, Refusal>
     requires { model.has_plain_length fields.now ≡ true }
     ensures { MatchResult result
         (λ length. (model.body_refusal method.now fields.now ≡ None) × (length ≡ model.body_length fields.now))
@@ -151,10 +151,7 @@ fn lists_close(value: &[u8]) -> bool
 fn is_close(element: &[u8]) -> bool
     ensures { result ≡ model.is_close element.now }
 {
-    is_same_name(
-        without_back_blanks(without_front_blanks(element)),
-        b"close",
-    )
+    is_same_name(without_back_blanks(without_front_blanks(element)), b"close")
 }
 
 /// The text from its first byte that is not blank.

@@ -6,7 +6,7 @@ ghost use Rattle.httparse.specs.Grammar.{RequestHead, IsToken};
 ghost use Rattle.httparse.specs.Spans.{IsRequestAt, IsRequestWithin, IsHeaderWithin, span_bytes, header_bytes};
 ghost use Rattle.fedi_model.specs.Requests as model;
 
-use crate::framing::{closes, measured};
+use crate::framing::{body_length, closes};
 use fedi_address::{Items, Refusal};
 use fedi_model::{Field, Request};
 use fedi_objects::Bytes;
@@ -120,7 +120,7 @@ fn request_with(
         × (request ≡ model.request_with method target.now fields.items)) }
     ensures refused { IfErr result (λ e. e ≢ Refusal.Memory → model.fields_refusal method fields.items ≡ Some e) }
 {
-    let body_length = measured(&method, &fields)?;
+    let body_length = body_length(&method, &fields)?;
     let keep = !closes(&fields);
     let Ok(target) = Vec::from_slice(alloc, target) else {
         return Err(Refusal::Memory);

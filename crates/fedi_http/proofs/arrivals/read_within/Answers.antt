@@ -1,4 +1,4 @@
-use Rattle.std.proofs.Common.{◌≡◌, Ok, Err, inl}
+use Rattle.std.proofs.Common.{Ok, inl}
 use Rattle.fedi_http.specs.declared.requests.TheConstants.{MOST_FIELDS}
 use Rattle.fedi_http.specs.Arrivals.{HasHead}
 use Rattle.fedi_http.proofs.ArrivalLemmas.{body_arrival, body_stopped}
@@ -16,8 +16,11 @@ returns-in-Ok-clause-stopped g c =
 
 pub returns-in_default-clause-pending : goal.returns-in_default-clause-pending
 returns-in_default-clause-pending g c =
-    inl (c.in-Text.end, record {
-      start = c.in-Text.start;
-      head = c.in-Text.ensures.pending;
-      reads = rw c.pending.ensures at (c.in-Err.ensures.refused c.in_default.not-Memory);
-    })
+    inl (
+      c.in-Text.end,
+      record {
+        start = c.in-Text.start;
+        head = c.in-Text.ensures.pending;
+        reads = rw c.pending.ensures at (c.in-Err.ensures.refused c.in_default.not-Memory);
+      },
+    )
