@@ -211,11 +211,16 @@ const READ: [(&str, &str); 7] = [
     ),
 ];
 
+fn note_text(alloc: Global, activity: &Activity) -> Result<Vec<u8>, Fail> {
+    let note = note_of(activity).ok_or("another object")?;
+    document(alloc, note, false, false)
+}
+
 fn object_text(alloc: Global, body: &str) -> Result<Vec<u8>, Fail> {
-    let activity = read(alloc, body)?.map_err(|_| "refused")?;
-    let object = note_of(&activity).ok_or("another object")?;
-    let text = document(alloc, object, false, false)?;
-    Ok(text)
+    match read(alloc, body)? {
+        Ok(activity) => note_text(alloc, &activity),
+        Err(_) => Err(Fail::from("refused")),
+    }
 }
 
 #[test]
