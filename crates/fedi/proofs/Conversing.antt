@@ -7,6 +7,7 @@ use Rattle.std.proofs.KnownBytes.{Appends-nil, prepend_known-nil}
 use Rattle.std.proofs.lemmas.Bool.{leb-false}
 use Rattle.std.proofs.lemmas.List.Sums.{fold-append}
 use Rattle.std.proofs.lemmas.Slice.Eq.{bytes_eq-Decides}
+use Rattle.fedi_outside.specs.Causes.{Rose}
 use Rattle.fedi_address.specs.Recipients.{is_among}
 use Rattle.fedi_http.specs.declared.arrivals.Arrived.{Arrived}
 use Rattle.fedi.specs.declared.sessions.SessionEnd.{SessionEnd}
@@ -104,3 +105,47 @@ begins_count input end (Some doubted) = refl
 pub stands_first : (w : Setting) (first : Scene) (input : List ℕ) → first.input ≡ Some input → Stands w first first [] input 0
 stands_first w first input told =
     ([], tt, begins_at w first input first.keeper.doubt refl told, begins_count input first.keeper.end first.keeper.doubt, lit< tt)
+
+-- ---- where the input is told
+
+pub stands_told : (w : Setting) (first : Scene) (known : Option (List ℕ)) → first.input ≡ known → IfSome known (λ input. Stands w first first [] input 0)
+stands_told w first None is = tt
+stands_told w first (Some input) is = stands_first w first input is
+
+pub stands_next : (read write : Type 0) (w : Setting) (first before now : Scene) (old pending : List ℕ) (count : ℕ) (known : Option (List ℕ))
+    → ((p : Progress) → count ≡ p.count → IsAt w first before old p → Steps read write w first now pending p None)
+    → IfSome known (λ input. Stands w first before old input count) → IfSome known (λ input. Stands w first now pending input (count + 1))
+stands_next read write w first before now old pending count None steps held = tt
+stands_next read write w first before now old pending count (Some input) steps held =
+    stands_on read write w first before now old pending input count held
+    (steps (progress w (beginning input first.keeper.end first.keeper.doubt) held.0) (sym held.3) held.2)
+
+-- a session has its causes in all that went before, too
+finishes_since : (read write read' write' : Type 0) → (read → read') → (write → write') → (w : Setting) (first now : Scene) (p : Progress) (e : SessionEnd)
+    → Finishes read write w first now p e → Finishes read' write' w first now p e
+finishes_since read write read' write' f g w first now p End h = h
+finishes_since read write read' write' f g w first now p Closed h = h
+finishes_since read write read' write' f g w first now p CutShort h = h
+finishes_since read write read' write' f g w first now p ReadFault h = (f h.0, h.1)
+finishes_since read write read' write' f g w first now p WriteFault h = (g h.0, h.1)
+finishes_since read write read' write' f g w first now p Memory h = h
+
+pub stands_over : (read write read' write' : Type 0) → (read → read') → (write → write')
+    → (w : Setting) (first before now : Scene) (old pending : List ℕ) (count : ℕ) (known : Option (List ℕ)) (e : SessionEnd)
+    → ((p : Progress) → count ≡ p.count → IsAt w first before old p → Steps read write w first now pending p (Some e))
+    → IfSome known (λ input. Stands w first before old input count) → IfSome known (λ input. Ends read' write' w first now input e)
+stands_over read write read' write' f g w first before now old pending count None e steps held = tt
+stands_over read write read' write' f g w first before now old pending count (Some input) e steps held =
+    let ended = stands_ended read write w first before now old pending input count e held
+    (steps (progress w (beginning input first.keeper.end first.keeper.doubt) held.0) (sym held.3) held.2) in
+    (ended.0, ended.1, finishes_since read write read' write' f g w first now (progress w (beginning input first.keeper.end first.keeper.doubt) ended.0) e ended.2)
+
+-- the last request closes the connection, so that none stands open after it
+pub stands_not : (read write : Type 0) (w : Setting) (first now : Scene) (pending : List ℕ) (count : ℕ) (known : Option (List ℕ)) → 1000 ≤ count
+    → IfSome known (λ input. Stands w first now pending input count) → IfSome known (λ input. Ends read write w first now input Closed)
+stands_not read write w first now pending count None many held = tt
+stands_not read write w first now pending count (Some input) many held = absurd (omega (arith, many, held.4))
+
+-- a count that rose since then rose since before that
+pub rose_since : (first before now : ℕ) → first ≤ before → Rose before now → Rose first now
+rose_since first before now low rose = omega (arith, low, rose)

@@ -1,3 +1,4 @@
-pub mod SessionLemmas
-pub mod OneConversation
+pub mod Conversing
+pub mod Determined
 pub mod HistoryLemmas
+pub mod SessionLemmas

@@ -31,7 +31,7 @@ use Rattle.fedi.specs.declared.sessions.Said.TheVariants as said
 use Rattle.fedi.specs.declared.sessions.SessionEnd.{SessionEnd}
 use Rattle.fedi.specs.declared.sessions.SessionEnd.TheVariants as ends
 use Rattle.fedi.specs.Conversations.{Setting, Outcome, NoEntry, Kept, Full, Failed, Exchange, Progress, IsNow, HasRoom, Settles, IsReply, IsExchange, Arrives, after, closes, kept_in, end_after, doubts_after, failed_after, text_of, Converses, progress}
-use Rattle.fedi.specs.Endings.{Scene, HasKept, KeepsSome, IsKeptTo, IsWritten, IsAt, AppendsFront, IsTurn, AnswersOnce, RefusesOnce, BreaksOff, GivesUp, IsUnread, Finishes, Steps, end_by}
+use Rattle.fedi.specs.Endings.{Scene, HasKept, KeepsSome, IsKeptTo, IsWritten, IsAt, AppendsFront, IsSaid, IsTurn, AnswersOnce, RefusesOnce, BreaksOff, GivesUp, IsUnread, Finishes, Steps, end_by}
 
 -- ---- sending
 
@@ -366,6 +366,34 @@ request_steps read write w first before now old pending p q body end closing sai
         sent = written_more first before now p (take front.0 memory_text) at.written front.1;
       },
     )
+
+turn_keeps : (growth room : ℕ → ℕ) (told : Option ℕ) (h h' : List Entry) (before after : Keeping) (moment : ℕ) (q : Request) (body : List ℕ) (r : Reply)
+    → IsTurn growth room h h' before after moment q body r → KeepsSome h h' before after
+turn_keeps growth room told h h' before after moment q body r turn =
+    let w : Setting = record { history = h; growth = growth; room = room; told = told } in
+    let s = settled w h h' turn.turn.0 turn.turn.1 before after r turn.turn.3 in
+    follows_keeps w h h' before after s.0 s.2
+
+refusal_told : (told : Option ℕ) (fault : Type 0) (old new : Option (List ℕ)) (e : Refusal) (moment : ℕ) (s : Said) → IsNow told moment
+    → IsSaid fault old new (reply_text moment false true (refused e)) s → RefusesOnce told fault old new e s
+refusal_told told fault old new e moment Whole is_now said = (moment, is_now, said)
+refusal_told told fault old new e moment said.WriteFault is_now f = (f.0, (moment, f.1.0, is_now, f.1.1, f.1.2))
+refusal_told told fault old new e moment said.Memory is_now front = front
+
+-- whatever became of the reply, some entries were kept
+pub answered_keeps : (growth room : ℕ → ℕ) (told : Option ℕ) (h h' : List Entry) (before after : Keeping) (write : Type 0) (old new : Option (List ℕ))
+    (q : Request) (body : List ℕ) (closing : Bool) (s : Said) → AnswersOnce growth room told h h' before after write old new q body closing s → KeepsSome h h' before after
+answered_keeps growth room told h h' before after write old new q body closing Whole a = turn_keeps growth room told h h' before after a.0 q body a.1 a.3
+answered_keeps growth room told h h' before after write old new q body closing said.WriteFault f = turn_keeps growth room told h h' before after f.1.0 q body f.1.1 f.1.4
+answered_keeps growth room told h h' before after write old new q body closing said.Memory (inl d, front) =
+    let w : Setting = record { history = h; growth = growth; room = room; told = told } in
+    follows_keeps w h h' before after NoEntry (dropped w h h' before after d)
+answered_keeps growth room told h h' before after write old new q body closing said.Memory (inr a, front) = turn_keeps growth room told h h' before after a.0 q body a.1 a.3
+
+-- the reply to what is refused was sent so
+pub refusal_said : (told : Option ℕ) (fault : Type 0) (old new : Option (List ℕ)) (e : Refusal) (moment : ℕ) (r : Reply) (s : Said) → IsNow told moment → r ≡ refused e
+    → IsSaid fault old new (reply_text moment false true r) s → RefusesOnce told fault old new e s
+refusal_said told fault old new e moment r s is_now is said = refusal_told told fault old new e moment s is_now (subst (λ (x : Reply). IsSaid fault old new (reply_text moment false true x) s) is said)
 
 -- nothing was done to the history and the keeper
 pub unchanged : (w : Setting) (h : List Entry) (k : Keeping) → Follows w h h k k NoEntry

@@ -1,6 +1,6 @@
 //! One connection, request by request (RFC 9112, section 9.3).
 
-ghost use Rattle.std.specs.Prelude.{◌≡◌, ◌≤◌, ◌<◌, IfSome};
+ghost use Rattle.std.specs.Prelude.{◌≡◌, ◌≤◌, ◌<◌, ◌||◌, false, nat_le, not, IfSome};
 ghost use Rattle.fedi_outside.specs.Causes.{Rose};
 ghost use Rattle.fedi_model.specs.ReplyText.{HasStatus, memory_text, reply_text};
 ghost use Rattle.fedi.specs.Conversations.{Progress};
@@ -103,6 +103,7 @@ fn answer<O: Sink, P: Keeper, C: Clock>(
 }
 
 /// Answers what is refused as no request, with the reply that closes the connection.
+#[tactic(auto, using(crate::proofs::SessionLemmas::refusal_said))]
 fn refuse<O: Sink, C: Clock>(alloc: Global, out: &mut O, clock: &C, refusal: Refusal) -> Said
     ensures refused { RefusesOnce (C.told clock.now) (Rose (O.write_faults out.old) (O.write_faults out.new)) (O.sent out.old) (O.sent out.new) refusal result }
     ensures later { O.write_faults out.old ≤ O.write_faults out.new }
@@ -129,6 +130,14 @@ fn end_after(said: Said, closing: bool) -> Option<SessionEnd>
     }
 }
 
+/// Whether a request is the last on its connection, after so many were served: it asks to close, or no
+/// more are served (RFC 9112, section 9.6).
+fn is_last(request: &Request, served: u64) -> bool
+    ensures { result ≡ (not request.now.keep || nat_le 999 served) }
+{
+    !request.keep || served >= MOST_REQUESTS - 1
+}
+
 /// Reads the next request and answers it, after so many were served. The bytes that it takes leave
 /// what is pending. The answer is how the session ends, if it does.
 fn exchange<S: Source, O: Sink, P: Keeper, C: Clock>(
@@ -153,7 +162,7 @@ fn exchange<S: Source, O: Sink, P: Keeper, C: Clock>(
 {
     match read_request(alloc, input, buffer) {
         Arrived::Request { request, body, end } => {
-            let closing = !request.keep || served + 1 >= MOST_REQUESTS;
+            let closing = is_last(&request, served);
             let said = answer(
                 alloc,
                 core,
@@ -196,8 +205,9 @@ pub fn session<S: Source, O: Sink, P: Keeper, C: Clock>(
 {
     let mut buffer = Buffer::new(alloc);
     for served in 0..MOST_REQUESTS {
-        if let Some(end) = exchange(alloc, core, input, out, clock, &mut buffer, served) {
-            return end;
+        match exchange(alloc, core, input, out, clock, &mut buffer, served) {
+            Some(end) => return end,
+            None => {}
         }
     }
     SessionEnd::Closed
