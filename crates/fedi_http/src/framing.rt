@@ -172,7 +172,7 @@ fn first_not_blank(text: &[u8]) -> Option<usize>
 }
 
 /// The text up to its last byte that is not blank.
-fn without_back_blanks(text: &[u8]) -> &[u8]
+pub fn without_back_blanks(text: &[u8]) -> &[u8]
     ensures { result.now ≡ model.without_back_blanks text.now }
 {
     let mut end = text.len();

@@ -12,7 +12,8 @@ mod sending;
 mod tests;
 
 pub use arrivals::{Arrived, arrivals_are_determined, read_request};
-pub use fields::{field_value, is_same_name};
+pub use fields::{count_named, field_value, is_same_name};
+pub use framing::without_back_blanks;
 pub use heads::{Buffer, HEAD_LIMIT, HeadRead, read_head};
 pub use replies::{MEMORY_TEXT, memory_text, reply_bytes};
 pub use requests::{MOST_FIELDS, read_request_head, text_of};

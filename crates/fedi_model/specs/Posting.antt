@@ -1,11 +1,13 @@
 -- What becomes of a post to an outbox (ActivityPub, section 6).
-use Rattle.std.specs.Prelude.{ℕ, ◌+◌, Bool, true, false, not, nat_lt, List, [], Option, Some, None, option_map, Result, Ok, Err, if◌then◌else◌}
+use Rattle.std.specs.Prelude.{ℕ, ◌+◌, Bool, true, false, not, nat_lt, IsTrue, List, [], Option, Some, None, option_map, Result, Ok, Err, if◌then◌else◌}
 use Rattle.std.specs.Str.{bytes_eq}
 use Rattle.fedi_address.specs.declared.refusal.Refusal.TheVariants.{BadBody, BadQuery, NoKey, NotOwner, NotFound, WrongType, ActorFull}
 use Rattle.fedi_objects.specs.declared.activity.Activity.{Activity}
 use Rattle.fedi_objects.specs.declared.entry.Entry.{Entry}
 use Rattle.fedi_objects.specs.declared.entry.Entry.TheVariants.{Local}
 use Rattle.fedi_model.specs.declared.act.Actor.{Actor}
+use Rattle.fedi_model.specs.declared.ask.Ask.{Ask}
+use Rattle.fedi_model.specs.declared.ask.Ask.TheVariants as asks
 use Rattle.fedi_model.specs.declared.ask.Post.{Post}
 use Rattle.fedi_model.specs.declared.ask.Read.{Read}
 use Rattle.fedi_model.specs.declared.ask.Read.TheVariants.{NotJson, Bad, Ready}
@@ -13,6 +15,7 @@ use Rattle.fedi_model.specs.declared.caller.Caller.{Caller}
 use Rattle.fedi_model.specs.declared.caller.Caller.TheVariants as callers
 use Rattle.fedi_model.specs.declared.reply.Form.TheVariants as forms
 use Rattle.fedi_model.specs.declared.reply.Reply.{Reply}
+use Rattle.fedi_model.specs.Histories.{is_posted}
 use Rattle.fedi_model.specs.Ids.{activity_id}
 use Rattle.fedi_model.specs.Refusing.{refused, misshapen}
 use Rattle.fedi_model.specs.Towns.{Town, count_of}
@@ -75,3 +78,16 @@ entry_by name moment (Ok a) = Some (Local name None a moment)
 abbrev pub post_entry_at : Town → Caller → List ℕ → Option Actor → Post → ℕ → Option Entry
 post_entry_at t c name None post moment = None
 post_entry_at t c name (Some member) post moment = entry_by name moment (judged c name (count_of t member.id) post)
+
+-- an activity that was read is one that a client may post
+abbrev pub IsReadPosted : Read → Type 0
+IsReadPosted NotJson = Unit {0}
+IsReadPosted (Bad fault) = Unit {0}
+IsReadPosted (Ready a) = IsTrue (is_posted a)
+
+-- what is asked holds no activity but such a one
+abbrev pub IsPostable : Ask → Type 0
+IsPostable asks.Nowhere = Unit {0}
+IsPostable (asks.Activity name number) = Unit {0}
+IsPostable (asks.Object name number) = Unit {0}
+IsPostable (asks.Outbox name post) = IsReadPosted post.read

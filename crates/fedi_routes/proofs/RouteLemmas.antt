@@ -1,6 +1,6 @@
--- The parts of a path, and that a path is that of one thing at most.
-use Rattle.std.proofs.Common.{◌≡◌, ◌≢◌, ℕ, ◌-◌, ◌<◌, ◌≤◌, ◌^◌, length-drop, List, [], ◌∷◌, ◌++◌, length, take, drop, get_or, true, false, Bool, if◌then◌else◌, zero, suc, Some, None, Ok, Err, refl, sym, ◌∙◌, ap, arith, nat_le}
-use Rattle.std.specs.Prelude.{codes, decimal, position, ◌==◌, ◌&&◌, not}
+-- The parts of a path, and that a path is that of one place at most.
+use Rattle.std.proofs.Common.{◌≡◌, ◌≢◌, ℕ, ◌-◌, ◌<◌, ◌≤◌, ◌^◌, length-drop, List, [], ◌∷◌, ◌++◌, length, take, drop, get_or, true, false, Bool, if◌then◌else◌, zero, suc, Some, None, Ok, Err, refl, sym, ◌∙◌, ap, arith, nat_le, lit<}
+use Rattle.std.specs.Prelude.{codes, decimal, position, ◌==◌, ◌&&◌, not, IsTrue}
 use Rattle.std.proofs.lemmas.List.{append_cancel_left}
 use Rattle.std.proofs.Math.Seq.{take-append_seam, drop-append_seam, take-length}
 use Rattle.std.proofs.lemmas.List.Sums.{prefix_len-le-length}
@@ -15,10 +15,10 @@ use Rattle.std.specs.Str.{is_utf8}
 use Rattle.std.specs.Str.Parse.{ParsesUnsigned, AllDigits, digits_value}
 use Rattle.fedi_address.proofs.Texts.{name_is_utf8}
 use Rattle.fedi_address.specs.Names.{is_name, is_name_byte}
-use Rattle.fedi_model.specs.declared.ask.Ask.{Ask}
-use Rattle.fedi_model.specs.declared.ask.Ask.TheVariants.{Nowhere, Object}
-use Rattle.fedi_model.specs.Ids.{object_path}
-use Rattle.fedi_model.specs.Routes.{IsNumber, object_part, IsPathOf, IsAskedOnce}
+use Rattle.fedi_model.specs.Routes.{IsNumber}
+use Rattle.fedi_routes.specs.Places.{part_of, place_path, IsPlace}
+use Rattle.fedi_routes.specs.declared.places.Place.{Place}
+use Rattle.fedi_routes.specs.declared.places.Place.TheVariants.{Activity, Object, Outbox}
 
 abbrev pub is_slash : ℕ → Bool
 is_slash b = b == 47
@@ -55,18 +55,27 @@ slash_at name rest h =
     let bytes = (and_parts (nat_le 1 (length name) && nat_le (length name) 30) (list_all is_name_byte name) h).1 in
     grind (arith, common_steps, slash_follows name rest bytes)
 
--- what stands before and from the first slash of a member's part of a path
-pub parts_at_slash : (rest name more : List ℕ) (k : ℕ) → position is_slash rest ≡ Some k → is_name name ≡ true
-    → rest ≡ name ++ 47 ∷ more → (take k rest ≡ name) × (drop k rest ≡ 47 ∷ more)
-parts_at_slash rest name more k at h e =
-    let found : position is_slash (name ++ 47 ∷ more) ≡ Some k = rw (← e) at in
-    let same : length name ≡ k = cc (slash_at name more h) in
-    rw (e, ← same) (take-append_seam name (47 ∷ more), drop-append_seam name (47 ∷ more))
+-- what follows a name begins with a slash
+part_begins : (place : Place) → part_of place ≡ 47 ∷ drop 1 (part_of place)
+part_begins (Activity number) = refl
+part_begins (Object number) = refl
+part_begins Outbox = refl
 
-pub no_slash : (rest name more : List ℕ) → position is_slash rest ≡ None → is_name name ≡ true → rest ≢ name ++ 47 ∷ more
-no_slash rest name more none h e =
-    let found : position is_slash (name ++ 47 ∷ more) ≡ None = rw (← e) none in
-    cc (slash_at name more h)
+slash_before : (name : List ℕ) (place : Place) → is_name name ≡ true → position is_slash (name ++ part_of place) ≡ Some (length name)
+slash_before name place h = rw (part_begins place) (slash_at name (drop 1 (part_of place)) h)
+
+-- what stands before and from the first slash of a member's part of a path
+pub parts_at_slash : (rest name : List ℕ) (place : Place) (k : ℕ) → position is_slash rest ≡ Some k → is_name name ≡ true
+    → rest ≡ name ++ part_of place → (take k rest ≡ name) × (drop k rest ≡ part_of place)
+parts_at_slash rest name place k at h e =
+    let found : position is_slash (name ++ part_of place) ≡ Some k = rw (← e) at in
+    let same : length name ≡ k = cc (slash_before name place h) in
+    rw (e, ← same) (take-append_seam name (part_of place), drop-append_seam name (part_of place))
+
+pub no_slash : (rest name : List ℕ) (place : Place) → position is_slash rest ≡ None → is_name name ≡ true → rest ≢ name ++ part_of place
+no_slash rest name place none h e =
+    let found : position is_slash (name ++ part_of place) ≡ None = rw (← e) none in
+    cc (slash_before name place h)
 
 -- what a slice from an index to the end shows
 pub slice_to_end : (k : ℕ) (xs : List ℕ) → take (length xs - k) (drop k xs) ≡ drop k xs
@@ -116,23 +125,31 @@ number_written bs m first h =
 pub number_unwritten : {E : Type 0} (bs : List ℕ) (e : E) (n : ℕ) → ParsesUnsigned 32 10 bs (Err e) → IsNumber n → bs ≢ decimal n
 number_unwritten bs e n h small same = cc (parse-decimal 32 n bs (Err e) (omega arith) (omega arith) same h)
 
--- ---- one path, one thing
+-- ---- one path, one place
 
-path_once : (path : List ℕ) (a b : Ask) → IsPathOf path a → IsPathOf path b → a ≡ b
-path_once path (Object name n) (Object other m) x y =
-    let same = append_cancel_left (codes "/users/") (name ++ object_part n) (other ++ object_part m) (sym x.2 ∙ y.2) in
-    let one = parts_at_slash (name ++ object_part n) other (codes "o/" ++ decimal m) (length name)
-    (slash_at name (codes "o/" ++ decimal n) x.0) y.0 same in
-    let numbers = append_cancel_left (codes "/o/") (decimal n) (decimal m)
-    (sym (drop-append_seam name (object_part n)) ∙ one.1) in
-    let number_is : n ≡ m = decimal_injective n m (omega arith) (omega arith) numbers in
-    let name_is : name ≡ other = sym (take-append_seam name (object_part n)) ∙ one.0 in
-    rw (name_is, number_is) refl
-path_once path Nowhere b x y = absurd x
-path_once path a Nowhere x y = absurd y
+number_once : (front : List ℕ) (n m : ℕ) → IsNumber n → IsNumber m → front ++ decimal n ≡ front ++ decimal m → n ≡ m
+number_once front n m x y same = decimal_injective n m (omega arith) (omega arith) (append_cancel_left front (decimal n) (decimal m) same)
 
-pub asked_once : (path : List ℕ) → IsAskedOnce path
-asked_once path Nowhere Nowhere x y = refl
-asked_once path Nowhere (Object name n) x y = absurd (x (Object name n) y)
-asked_once path (Object name n) Nowhere x y = absurd (y (Object name n) x)
-asked_once path (Object name n) (Object other m) x y = path_once path (Object name n) (Object other m) x y
+below_apart : (a b : ℕ) → a < b → a ≢ b
+below_apart a b h e = omega arith
+
+byte_same : (p r : Place) (k : ℕ) → part_of p ≡ part_of r → get_or (part_of p) k 0 ≡ get_or (part_of r) k 0
+byte_same p r k same = ap (λ (xs : List ℕ). get_or xs k 0) same
+
+part_once : (p r : Place) → IsPlace p → IsPlace r → part_of p ≡ part_of r → p ≡ r
+part_once (Activity n) (Activity m) x y same = ap Activity (number_once (codes "/a/") n m x y same)
+part_once (Object n) (Object m) x y same = ap Object (number_once (codes "/o/") n m x y same)
+part_once Outbox Outbox x y same = refl
+part_once (Activity n) (Object m) x y same = absurd (below_apart 97 111 (lit< tt) (byte_same (Activity n) (Object m) 1 same))
+part_once (Activity n) Outbox x y same = absurd (below_apart 97 111 (lit< tt) (byte_same (Activity n) Outbox 1 same))
+part_once (Object n) (Activity m) x y same = absurd (below_apart 97 111 (lit< tt) (sym (byte_same (Object n) (Activity m) 1 same)))
+part_once (Object n) Outbox x y same = absurd (below_apart 47 117 (lit< tt) (byte_same (Object n) Outbox 2 same))
+part_once Outbox (Activity m) x y same = absurd (below_apart 97 111 (lit< tt) (sym (byte_same Outbox (Activity m) 1 same)))
+part_once Outbox (Object m) x y same = absurd (below_apart 47 117 (lit< tt) (sym (byte_same Outbox (Object m) 2 same)))
+
+pub place_once : (name other : List ℕ) (p r : Place) → IsTrue (is_name name) → IsTrue (is_name other) → IsPlace p → IsPlace r
+    → place_path name p ≡ place_path other r → (name ≡ other) × (p ≡ r)
+place_once name other p r is_name is_other x y path =
+    let same = append_cancel_left (codes "/users/") (name ++ part_of p) (other ++ part_of r) path in
+    let one = parts_at_slash (name ++ part_of p) other r (length name) (slash_before name p is_name) is_other same in
+    (sym (take-append_seam name (part_of p)) ∙ one.0, part_once p r x y (sym (drop-append_seam name (part_of p)) ∙ one.1))

@@ -1,11 +1,14 @@
 //! What a request asks for, and what it shows of who makes it.
 #![tactic(auto)]
 
-mod credentials;
+mod places;
+mod posts;
 mod routes;
+mod shown;
+mod texts;
 
-pub use credentials::credentials;
 pub use routes::route;
+pub use shown::credentials;
 
 #[cfg(test)]
 mod tests;

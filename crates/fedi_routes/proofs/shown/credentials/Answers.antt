@@ -1,6 +1,7 @@
 use Rattle.std.proofs.Common.{◌≡◌, codes, Some, ap, sym, ◌∙◌}
-use Rattle.fedi_model.specs.Credentials.{field_value, Bearer}
-use Rattle.fedi_routes.proofs.credentials.credentials.Goals as goal
+use Rattle.fedi_model.specs.Credentials.{Bearer}
+use Rattle.fedi_model.specs.Requests.{field_value}
+use Rattle.fedi_routes.proofs.shown.credentials.Goals as goal
 
 pub returns-in-Some : goal.returns-in-Some
 returns-in-Some c =

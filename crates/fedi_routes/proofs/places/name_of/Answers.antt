@@ -1,5 +1,5 @@
 use Rattle.fedi_routes.proofs.RouteLemmas.{no_name}
-use Rattle.fedi_routes.proofs.routes.name_of.Goals as goal
+use Rattle.fedi_routes.proofs.places.name_of.Goals as goal
 
 pub returns-in_err-text_of-clause-name : goal.returns-in_err-text_of-clause-name
 returns-in_err-text_of-clause-name c =

@@ -1,6 +1,6 @@
 use Rattle.std.proofs.lemmas.Bool.Decides.{Decides-eqb}
 use Rattle.std.proofs.lemmas.Slice.Eq.{strip_prefix_is}
-use Rattle.fedi_routes.proofs.routes.after.Goals as goal
+use Rattle.fedi_routes.proofs.texts.after.Goals as goal
 
 pub returns : goal.returns
 returns c =

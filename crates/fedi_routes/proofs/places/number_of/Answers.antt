@@ -1,6 +1,6 @@
 use Rattle.std.proofs.Common.{◌≡◌, ◌<◌, get_or, sym, ◌∙◌}
 use Rattle.fedi_routes.proofs.RouteLemmas.{no_number, number_begins, number_written, number_unwritten, text_same}
-use Rattle.fedi_routes.proofs.routes.number_of.Goals as goal
+use Rattle.fedi_routes.proofs.places.number_of.Goals as goal
 
 pub returns-then-not-begins_above_zero : goal.returns-then-not-begins_above_zero
 returns-then-not-begins_above_zero c number small same =

@@ -1,0 +1,136 @@
+-- What a request asks for is one thing at most.
+use Rattle.std.proofs.Common.{◌≡◌, ◌≢◌, ℕ, List, Bool, true, false, Some, None, Ok, Err, refl, sym, ◌∙◌, ap}
+use Rattle.std.specs.Prelude.{Result, IfOk, IsTrue}
+use Rattle.serde_json.specs.Data.{Data}
+use Rattle.fedi_address.specs.Names.{is_name}
+use Rattle.fedi_model.proofs.Posted.{read_is_posted}
+use Rattle.fedi_model.specs.Posting.{IsReadPosted, IsPostable}
+use Rattle.fedi_model.specs.Routes.{path_of, ReadsBody, IsPost, IsFor, Asks, IsAskedOnce}
+use Rattle.fedi_model.specs.declared.ask.Ask.{Ask}
+use Rattle.fedi_model.specs.declared.ask.Ask.TheVariants as asks
+use Rattle.fedi_model.specs.declared.ask.Post.{Post}
+use Rattle.fedi_model.specs.declared.ask.Read.{Read}
+use Rattle.fedi_model.specs.declared.ask.Read.TheVariants.{NotJson, Bad, Ready}
+use Rattle.fedi_model.specs.declared.request.Request.{Request}
+use Rattle.fedi_reading.specs.Bodies.{IsBodyOf}
+use Rattle.fedi_routes.specs.Places.{part_of, place_path, IsPlace, takes}
+use Rattle.fedi_routes.specs.Posts.{ReadsValue}
+use Rattle.fedi_routes.specs.declared.places.Place.{Place}
+use Rattle.fedi_routes.specs.declared.places.Place.TheVariants.{Activity, Object, Outbox}
+use Rattle.fedi_routes.proofs.RouteLemmas.{place_once}
+
+-- ---- posts
+
+-- what is read of the value of a body is read of the body
+pub reads_body : (body : List ℕ) (d : Data) (read : Read) → IsBodyOf body d → ReadsValue d read → ReadsBody body read
+reads_body body d NotJson is h = absurd h
+reads_body body d (Bad fault) is h = (d, is, h)
+reads_body body d (Ready a) is h = (d, is, h)
+
+read_once : (body : List ℕ) (x y : Read) → ReadsBody body x → ReadsBody body y → x ≡ y
+read_once body NotJson NotJson x y = refl
+read_once body NotJson (Bad fault) x y = absurd (x y.0 y.1)
+read_once body NotJson (Ready a) x y = absurd (x y.0 y.1)
+read_once body (Bad fault) NotJson x y = absurd (y x.0 x.1)
+read_once body (Ready a) NotJson x y = absurd (y x.0 x.1)
+read_once body (Bad fault) (Bad other) x y = cc
+read_once body (Bad fault) (Ready a) x y = cc
+read_once body (Ready a) (Bad fault) x y = cc
+read_once body (Ready a) (Ready other) x y = cc
+
+abbrev post_with : Bool → Bool → Read → Post
+post_with typed keyed read = record { is_typed = typed; is_keyed = keyed; read = read }
+
+post_once : (q : Request) (body : List ℕ) (x y : Post) → IsPost q body x → IsPost q body y → x ≡ y
+post_once q body x y a b =
+    let typed : x.is_typed ≡ y.is_typed = a.typed ∙ sym b.typed in
+    let keyed : x.is_keyed ≡ y.is_keyed = a.keyed ∙ sym b.keyed in
+    let read : x.read ≡ y.read = read_once body x.read y.read a.read b.read in
+    let same : post_with x.is_typed x.is_keyed x.read ≡ post_with y.is_typed y.is_keyed y.read = cc in same
+
+-- what is read as an activity is one that a client may post
+read_postable : (body : List ℕ) (read : Read) → ReadsBody body read → IsReadPosted read
+read_postable body NotJson h = tt
+read_postable body (Bad fault) h = tt
+read_postable body (Ready a) h = read_is_posted h.0 a h.2
+
+asked_postable : (q : Request) (body : List ℕ) (ask : Ask) → Asks q body ask → IsPostable ask
+asked_postable q body asks.Nowhere h = tt
+asked_postable q body (asks.Activity name number) h = tt
+asked_postable q body (asks.Object name number) h = tt
+asked_postable q body (asks.Outbox name post) h = read_postable body post.read h.3.read
+
+pub postable : {E : Type 0} (q : Request) (body : List ℕ) (r : Result Ask E) → IfOk r (λ ask. Asks q body ask) → IfOk r IsPostable
+postable q body (Ok ask) h = asked_postable q body ask h
+postable q body (Err e) h = tt
+
+-- ---- what is for a request
+
+-- where the path leads nowhere, the request is for nothing
+pub no_place : (q : Request) (body : List ℕ)
+    → ((name : List ℕ) (place : Place) → IsTrue (is_name name) → IsPlace place → path_of q.target ≢ place_path name place)
+    → (ask : Ask) → ¬ (IsFor q body ask)
+no_place q body none asks.Nowhere h = h
+no_place q body none (asks.Activity name number) h = none name (Activity number) h.1 h.2 h.3
+no_place q body none (asks.Object name number) h = none name (Object number) h.1 h.2 h.3
+no_place q body none (asks.Outbox name post) h = none name Outbox h.1 tt h.2
+
+not_here : (q : Request) (name other : List ℕ) (place there : Place) → IsTrue (is_name name) → IsPlace place → path_of q.target ≡ place_path name place
+    → takes place q.method ≡ false → IsTrue (is_name other) → IsPlace there → path_of q.target ≡ place_path other there → takes there q.method ≡ true → ⊥
+not_here q name other place there is_name is_place path refused is_other is_there also taken =
+    let one = (place_once name other place there is_name is_other is_place is_there (sym path ∙ also)).1 in
+    let same : takes place q.method ≡ takes there q.method = ap (λ (p : Place). takes p q.method) one in cc
+
+-- and so where the method is not served at the place
+pub not_taken : (q : Request) (body name : List ℕ) (place : Place) → IsTrue (is_name name) → IsPlace place
+    → path_of q.target ≡ place_path name place → takes place q.method ≡ false → (ask : Ask) → ¬ (IsFor q body ask)
+not_taken q body name place is_name is_place path refused asks.Nowhere h = h
+not_taken q body name place is_name is_place path refused (asks.Activity other number) h =
+    not_here q name other place (Activity number) is_name is_place path refused h.1 h.2 h.3 h.0
+not_taken q body name place is_name is_place path refused (asks.Object other number) h =
+    not_here q name other place (Object number) is_name is_place path refused h.1 h.2 h.3 h.0
+not_taken q body name place is_name is_place path refused (asks.Outbox other post) h =
+    not_here q name other place Outbox is_name is_place path refused h.1 tt h.2 h.0
+
+-- ---- one request, one ask
+
+for_once : (q : Request) (body : List ℕ) (a b : Ask) → IsFor q body a → IsFor q body b → a ≡ b
+for_once q body asks.Nowhere b x y = absurd x
+for_once q body a asks.Nowhere x y = absurd y
+for_once q body (asks.Activity name n) (asks.Activity other m) x y =
+    let one = place_once name other (Activity n) (Activity m) x.1 y.1 x.2 y.2 (sym x.3 ∙ y.3) in cc
+for_once q body (asks.Object name n) (asks.Object other m) x y =
+    let one = place_once name other (Object n) (Object m) x.1 y.1 x.2 y.2 (sym x.3 ∙ y.3) in cc
+for_once q body (asks.Outbox name a) (asks.Outbox other b) x y =
+    let one = place_once name other Outbox Outbox x.1 y.1 tt tt (sym x.2 ∙ y.2) in
+    let post = post_once q body a b x.3 y.3 in cc
+for_once q body (asks.Activity name n) (asks.Object other m) x y =
+    let one = place_once name other (Activity n) (Object m) x.1 y.1 x.2 y.2 (sym x.3 ∙ y.3) in cc
+for_once q body (asks.Object name n) (asks.Activity other m) x y =
+    let one = place_once name other (Object n) (Activity m) x.1 y.1 x.2 y.2 (sym x.3 ∙ y.3) in cc
+for_once q body (asks.Activity name n) (asks.Outbox other b) x y =
+    let one = place_once name other (Activity n) Outbox x.1 y.1 x.2 tt (sym x.3 ∙ y.2) in cc
+for_once q body (asks.Outbox name a) (asks.Activity other m) x y =
+    let one = place_once name other Outbox (Activity m) x.1 y.1 tt y.2 (sym x.2 ∙ y.3) in cc
+for_once q body (asks.Object name n) (asks.Outbox other b) x y =
+    let one = place_once name other (Object n) Outbox x.1 y.1 x.2 tt (sym x.3 ∙ y.2) in cc
+for_once q body (asks.Outbox name a) (asks.Object other m) x y =
+    let one = place_once name other Outbox (Object m) x.1 y.1 tt y.2 (sym x.2 ∙ y.3) in cc
+
+pub asked_once : (q : Request) (body : List ℕ) → IsAskedOnce q body
+asked_once q body asks.Nowhere asks.Nowhere x y = refl
+asked_once q body asks.Nowhere (asks.Activity name n) x y = absurd (x (asks.Activity name n) y)
+asked_once q body asks.Nowhere (asks.Object name n) x y = absurd (x (asks.Object name n) y)
+asked_once q body asks.Nowhere (asks.Outbox name post) x y = absurd (x (asks.Outbox name post) y)
+asked_once q body (asks.Activity name n) asks.Nowhere x y = absurd (y (asks.Activity name n) x)
+asked_once q body (asks.Object name n) asks.Nowhere x y = absurd (y (asks.Object name n) x)
+asked_once q body (asks.Outbox name post) asks.Nowhere x y = absurd (y (asks.Outbox name post) x)
+asked_once q body (asks.Activity name n) (asks.Activity other m) x y = for_once q body (asks.Activity name n) (asks.Activity other m) x y
+asked_once q body (asks.Activity name n) (asks.Object other m) x y = for_once q body (asks.Activity name n) (asks.Object other m) x y
+asked_once q body (asks.Activity name n) (asks.Outbox other b) x y = for_once q body (asks.Activity name n) (asks.Outbox other b) x y
+asked_once q body (asks.Object name n) (asks.Activity other m) x y = for_once q body (asks.Object name n) (asks.Activity other m) x y
+asked_once q body (asks.Object name n) (asks.Object other m) x y = for_once q body (asks.Object name n) (asks.Object other m) x y
+asked_once q body (asks.Object name n) (asks.Outbox other b) x y = for_once q body (asks.Object name n) (asks.Outbox other b) x y
+asked_once q body (asks.Outbox name a) (asks.Activity other m) x y = for_once q body (asks.Outbox name a) (asks.Activity other m) x y
+asked_once q body (asks.Outbox name a) (asks.Object other m) x y = for_once q body (asks.Outbox name a) (asks.Object other m) x y
+asked_once q body (asks.Outbox name a) (asks.Outbox other b) x y = for_once q body (asks.Outbox name a) (asks.Outbox other b) x y
