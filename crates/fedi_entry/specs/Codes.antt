@@ -58,7 +58,7 @@ edit_code code (Give x) = 2 ∷ code x
 unfoldable pub tag_code : Tag → List ℕ
 tag_code tag = text_code tag.href ++ text_code tag.name
 
--- the five fields of recipients
+-- recipients: to, cc, bto, bcc, audience
 unfoldable pub hidden_code : Recipients → List ℕ
 hidden_code r = list_code text_code r.bto ++ (list_code text_code r.bcc ++ list_code text_code r.audience)
 
@@ -69,7 +69,7 @@ recipients_code r = list_code text_code r.to ++ (list_code text_code r.cc ++ hid
 unfoldable pub words_code : Option (List ℕ) → Option (List ℕ) → Option (List ℕ) → List ℕ
 words_code content summary name = option_code text_code content ++ (option_code text_code summary ++ option_code text_code name)
 
--- an object: who it is, to whom, what it says, and when
+-- an object: id, type, attributedTo, the recipients, inReplyTo, content, summary, name, url, published, updated, formerType, deleted, tag
 unfoldable pub object_head : Object → List ℕ
 object_head o = option_code text_code o.id ++ (text_code o.kind ++ option_code text_code o.attributed_to)
 
@@ -83,7 +83,7 @@ object_times o =
 unfoldable pub object_code : Object → List ℕ
 object_code o = object_head o ++ (recipients_code o.recipients ++ (object_words o ++ (object_times o ++ list_code tag_code o.tags)))
 
--- what is changed in an object
+-- what is changed in an object: its id, and what is done to content, summary, name, url, inReplyTo, tag
 unfoldable pub edits_code : Edit (List ℕ) → Edit (List ℕ) → Edit (List ℕ) → List ℕ
 edits_code content summary name = edit_code text_code content ++ (edit_code text_code summary ++ edit_code text_code name)
 
@@ -93,14 +93,14 @@ change_code c =
     ++ (edits_code c.content c.summary c.name
     ++ (edit_code text_code c.url ++ (edit_code text_code c.in_reply_to ++ edit_code (list_code tag_code) c.tags)))
 
--- what an activity is about
+-- what an activity is about: nothing, an address, a whole object or a change
 unfoldable pub object_ref_code : ObjectRef → List ℕ
 object_ref_code Nothing = 0 ∷ []
 object_ref_code (Id iri) = 1 ∷ text_code iri
 object_ref_code (Whole object) = 2 ∷ object_code object
 object_ref_code (Changed change) = 3 ∷ change_code change
 
--- an activity: what it is, about what and to whom, and what it says
+-- an activity: id, type, actor, object, target, the recipients, inReplyTo, content, summary, name, published, tag
 unfoldable pub activity_head : Activity → List ℕ
 activity_head a = option_code text_code a.id ++ (kind_number a.kind ∷ option_code text_code a.actor)
 
@@ -118,7 +118,7 @@ activity_code a =
 unfoldable pub repeat_code : List ℕ × List ℕ → List ℕ
 repeat_code repeat = text_code repeat.0 ++ repeat.1
 
--- what came of an attempt to deliver
+-- what came of an attempt to deliver: at which request, and what
 abbrev pub sent_number : Sent → ℕ
 sent_number Lookup = 0
 sent_number Post = 1

@@ -33,6 +33,7 @@ impl Coded for ObjectRef {
     }
 }
 
+/// Puts what an activity is, and whose, at the end.
 #[tactic(auto, unfolding(crate::specs::Codes::activity_head))]
 fn put_head(bytes: &mut Vec<u8>, activity: &Activity) -> Result<(), AllocError>
     ensures { OnOk result (bytes.new.items ≡ bytes.old.items ++ activity_head activity.now) }
@@ -42,8 +43,9 @@ fn put_head(bytes: &mut Vec<u8>, activity: &Activity) -> Result<(), AllocError>
     activity.actor.put(bytes)
 }
 
+/// Puts what an activity itself says at the end.
 #[tactic(auto, unfolding(crate::specs::Codes::activity_words))]
-fn put_text(bytes: &mut Vec<u8>, activity: &Activity) -> Result<(), AllocError>
+fn put_contents(bytes: &mut Vec<u8>, activity: &Activity) -> Result<(), AllocError>
     ensures { OnOk result (bytes.new.items ≡ bytes.old.items ++ activity_words activity.now) }
 {
     activity.in_reply_to.put(bytes)?;
@@ -63,6 +65,6 @@ impl Coded for Activity {
         self.object.put(bytes)?;
         self.target.put(bytes)?;
         self.recipients.put(bytes)?;
-        put_text(bytes, self)
+        put_contents(bytes, self)
     }
 }

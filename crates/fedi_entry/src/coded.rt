@@ -1,6 +1,6 @@
 //! Writing values at the end of a buffer.
 
-ghost use Rattle.std.specs.Prelude.{◌≡◌, ◌∷◌, [], ◌++◌, length, OnOk};
+ghost use Rattle.std.specs.Prelude.{◌≡◌, ◌<◌, ◌^◌, ◌∷◌, [], ◌++◌, length, OnOk};
 ghost use Rattle.std.specs.List.{flat_map};
 ghost use Rattle.fedi_entry.specs.Codes.{bool_code, text_code, u16_code, u32_code, u64_code};
 
@@ -41,7 +41,8 @@ pub fn put_bool(bytes: &mut Vec<u8>, value: bool) -> Result<(), AllocError>
 /// Puts a status at the end.
 #[tactic(auto, unfolding(crate::specs::Codes::u16_code))]
 pub fn put_status(bytes: &mut Vec<u8>, status: u16) -> Result<(), AllocError>
-    ensures { OnOk result (bytes.new.items ≡ bytes.old.items ++ u16_code status) }
+    ensures code { OnOk result (bytes.new.items ≡ bytes.old.items ++ u16_code status) }
+    ensures size { OnOk result (status < 2 ^ 16) }
 {
     bytes.extend_from_slice(&status.to_be_bytes())
 }
@@ -60,12 +61,21 @@ fn put_count(bytes: &mut Vec<u8>, count: usize) -> Result<(), AllocError>
 /// Puts a moment at the end.
 #[tactic(auto, unfolding(crate::specs::Codes::u64_code))]
 pub fn put_moment(bytes: &mut Vec<u8>, moment: Moment) -> Result<(), AllocError>
-    ensures { OnOk result (bytes.new.items ≡ bytes.old.items ++ u64_code moment) }
+    ensures code { OnOk result (bytes.new.items ≡ bytes.old.items ++ u64_code moment) }
+    ensures size { OnOk result (moment < 2 ^ 64) }
 {
     bytes.extend_from_slice(&moment.seconds().to_be_bytes())
 }
 
-/// Puts a text at the end, which may also be a key.
+/// Puts a key or a digest at the end.
+pub fn put_key(bytes: &mut Vec<u8>, key: &[u8; 32]) -> Result<(), AllocError>
+    ensures code { OnOk result (bytes.new.items ≡ bytes.old.items ++ key.now) }
+    ensures size { OnOk result (length key.now ≡ 32) }
+{
+    bytes.extend_from_slice(key)
+}
+
+/// Puts the bytes of a text, or of a key for repeats, at the end.
 #[tactic(auto, unfolding(crate::specs::Codes::text_code))]
 pub fn put_text(bytes: &mut Vec<u8>, text: &[u8]) -> Result<(), AllocError>
     ensures { OnOk result (bytes.new.items ≡ bytes.old.items ++ text_code text.now) }

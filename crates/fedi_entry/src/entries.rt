@@ -1,9 +1,10 @@
 //! Entries as bytes.
 
 ghost use Rattle.std.specs.Prelude.{◌≡◌, ◌∷◌, ◌++◌, ◌<◌, ◌^◌, length, IfOk, OnOk};
-ghost use Rattle.fedi_entry.specs.Codes.{text_code, bool_code, u64_code, option_code, repeat_code, activity_code, came_code, entry_number, fields_code, code_of};
+ghost use Rattle.fedi_entry.specs.Codes.{text_code, bool_code, u64_code, option_code, repeat_code, activity_code, what_code, came_code, entry_number, fields_code, code_of, HasDigest, HasStatus, HasSizes, Fits};
+ghost use Rattle.fedi_entry.specs.Codes as codes;
 
-use crate::coded::{Coded, put_bool, put_byte, put_moment, put_status, put_text};
+use crate::coded::{Coded, put_bool, put_byte, put_key, put_moment, put_status, put_text};
 use fedi_address::{Host, Iri, LocalName};
 use fedi_objects::{Activity, Came, Entry, Moment, ObjectRef, RepeatKey, Sent, Text, What};
 use std::alloc::{AllocError, Global};
@@ -14,51 +15,58 @@ const ROOM: usize = 1024;
 /// The most bytes that an entry has.
 const LONGEST: usize = 4_294_967_295;
 
-impl Coded for (RepeatKey, [u8; 32]) {
-    ghost use Rattle.fedi_entry.specs.Codes.{repeat_code};
-
-    ghost code = { repeat_code };
-
-    #[tactic(auto, unfolding(crate::specs::Codes::repeat_code))]
-    fn put(&self, bytes: &mut Vec<u8>) -> Result<(), AllocError> {
-        put_text(bytes, self.0.bytes())?;
-        bytes.extend_from_slice(&self.1)
-    }
-}
-
-impl Coded for What {
-    ghost use Rattle.fedi_entry.specs.Codes.{what_code};
-
-    ghost code = { what_code };
-
-    #[tactic(auto, unfolding(crate::specs::Codes::what_code))]
-    fn put(&self, bytes: &mut Vec<u8>) -> Result<(), AllocError> {
-        match self {
-            What::Failed => put_byte(bytes, 0),
-            What::NoHead => put_byte(bytes, 1),
-            What::BadActor => put_byte(bytes, 2),
-            What::Status(status) => {
-                put_byte(bytes, 3)?;
-                put_status(bytes, *status)
-            }
+/// Puts the key for repeats at the end, where there is one, with its digest.
+#[tactic(auto, unfolding(crate::specs::Codes::option_code, crate::specs::Codes::repeat_code))]
+fn put_repeat(bytes: &mut Vec<u8>, repeat: &Option<(RepeatKey, [u8; 32])>) -> Result<(), AllocError>
+    ensures code { OnOk result (bytes.new.items
+        ≡ bytes.old.items ++ option_code repeat_code repeat.now) }
+    ensures size { OnOk result (HasDigest repeat.now) }
+{
+    match repeat {
+        None => put_byte(bytes, 0),
+        Some(repeat) => {
+            put_byte(bytes, 1)?;
+            put_text(bytes, repeat.0.bytes())?;
+            put_key(bytes, &repeat.1)
         }
     }
 }
 
-impl Coded for Came {
-    ghost use Rattle.fedi_entry.specs.Codes.{came_code};
-
-    ghost code = { came_code };
-
-    #[tactic(auto, unfolding(crate::specs::Codes::came_code))]
-    fn put(&self, bytes: &mut Vec<u8>) -> Result<(), AllocError> {
-        let step = match self.step {
-            Sent::Lookup => 0,
-            Sent::Post => 1,
-        };
-        put_byte(bytes, step)?;
-        self.what.put(bytes)
+/// Puts what came of a request at the end.
+#[tactic(auto, unfolding(crate::specs::Codes::what_code))]
+fn put_what(bytes: &mut Vec<u8>, what: &What) -> Result<(), AllocError>
+    ensures code { OnOk result (bytes.new.items ≡ bytes.old.items ++ what_code what.now) }
+    ensures size { OnOk result (HasStatus what.now) }
+{
+    match what {
+        What::Failed => put_byte(bytes, 0),
+        What::NoHead => put_byte(bytes, 1),
+        What::BadActor => put_byte(bytes, 2),
+        What::Status(status) => {
+            put_byte(bytes, 3)?;
+            put_status(bytes, *status)
+        }
     }
+}
+
+/// The byte that says at which request it came.
+fn sent_number(step: Sent) -> u8
+    ensures { result ≡ codes.sent_number step }
+{
+    match step {
+        Sent::Lookup => 0,
+        Sent::Post => 1,
+    }
+}
+
+/// Puts what came of an attempt to deliver at the end.
+#[tactic(auto, unfolding(crate::specs::Codes::came_code))]
+fn put_came(bytes: &mut Vec<u8>, came: &Came) -> Result<(), AllocError>
+    ensures code { OnOk result (bytes.new.items ≡ bytes.old.items ++ came_code came.now) }
+    ensures size { OnOk result (HasStatus came.now.what) }
+{
+    put_byte(bytes, sent_number(came.step))?;
+    put_what(bytes, &came.what)
 }
 
 /// Puts a member that was made at the end.
@@ -69,11 +77,12 @@ fn put_made(
     locked: bool,
     moment: Moment,
 ) -> Result<(), AllocError>
-    ensures { OnOk result (bytes.new.items ≡ bytes.old.items
+    ensures code { OnOk result (bytes.new.items ≡ bytes.old.items
         ++ (text_code name.now ++ (digest.now ++ (bool_code locked ++ u64_code moment)))) }
+    ensures sizes { OnOk result ((length digest.now ≡ 32) × (moment < 2 ^ 64)) }
 {
     name.put(bytes)?;
-    bytes.extend_from_slice(digest)?;
+    put_key(bytes, digest)?;
     put_bool(bytes, locked)?;
     put_moment(bytes, moment)
 }
@@ -86,12 +95,13 @@ fn put_local(
     activity: &Activity,
     moment: Moment,
 ) -> Result<(), AllocError>
-    ensures { OnOk result (bytes.new.items ≡ bytes.old.items
+    ensures code { OnOk result (bytes.new.items ≡ bytes.old.items
         ++ (text_code name.now
         ++ (option_code repeat_code repeat.now ++ (activity_code activity.now ++ u64_code moment)))) }
+    ensures sizes { OnOk result (HasDigest repeat.now × (moment < 2 ^ 64)) }
 {
     name.put(bytes)?;
-    repeat.put(bytes)?;
+    put_repeat(bytes, repeat)?;
     activity.put(bytes)?;
     put_moment(bytes, moment)
 }
@@ -105,12 +115,13 @@ fn put_peer(
     relay: bool,
     moment: Moment,
 ) -> Result<(), AllocError>
-    ensures { OnOk result (bytes.new.items ≡ bytes.old.items
+    ensures code { OnOk result (bytes.new.items ≡ bytes.old.items
         ++ (text_code host.now
         ++ (key.now ++ (text_code address.now ++ (bool_code relay ++ u64_code moment))))) }
+    ensures sizes { OnOk result ((length key.now ≡ 32) × (moment < 2 ^ 64)) }
 {
     host.put(bytes)?;
-    bytes.extend_from_slice(key)?;
+    put_key(bytes, key)?;
     address.put(bytes)?;
     put_bool(bytes, relay)?;
     put_moment(bytes, moment)
@@ -124,9 +135,10 @@ fn put_remote(
     activity: &Activity,
     moment: Moment,
 ) -> Result<(), AllocError>
-    ensures { OnOk result (bytes.new.items ≡ bytes.old.items
+    ensures code { OnOk result (bytes.new.items ≡ bytes.old.items
         ++ (text_code peer.now
         ++ (text_code inbox.now ++ (activity_code activity.now ++ u64_code moment)))) }
+    ensures sizes { OnOk result (moment < 2 ^ 64) }
 {
     peer.put(bytes)?;
     inbox.put(bytes)?;
@@ -142,20 +154,22 @@ fn put_tried(
     came: &Came,
     moment: Moment,
 ) -> Result<(), AllocError>
-    ensures { OnOk result (bytes.new.items ≡ bytes.old.items
+    ensures code { OnOk result (bytes.new.items ≡ bytes.old.items
         ++ (text_code activity.now
         ++ (text_code recipient.now ++ (came_code came.now ++ u64_code moment)))) }
+    ensures sizes { OnOk result (HasStatus came.now.what × (moment < 2 ^ 64)) }
 {
     activity.put(bytes)?;
     recipient.put(bytes)?;
-    came.put(bytes)?;
+    put_came(bytes, came)?;
     put_moment(bytes, moment)
 }
 
 /// Puts the host that the server was set up for at the end.
 fn put_hosted(bytes: &mut Vec<u8>, host: &Host, moment: Moment) -> Result<(), AllocError>
-    ensures { OnOk result (bytes.new.items
+    ensures code { OnOk result (bytes.new.items
         ≡ bytes.old.items ++ (text_code host.now ++ u64_code moment)) }
+    ensures sizes { OnOk result (moment < 2 ^ 64) }
 {
     host.put(bytes)?;
     put_moment(bytes, moment)
@@ -178,7 +192,8 @@ fn number(entry: &Entry) -> u8
 /// Puts the fields of an entry at the end.
 #[tactic(auto, unfolding(crate::specs::Codes::fields_code))]
 fn put_fields(bytes: &mut Vec<u8>, entry: &Entry) -> Result<(), AllocError>
-    ensures { OnOk result (bytes.new.items ≡ bytes.old.items ++ fields_code entry.now) }
+    ensures code { OnOk result (bytes.new.items ≡ bytes.old.items ++ fields_code entry.now) }
+    ensures sizes { OnOk result (HasSizes entry.now) }
 {
     match entry {
         Entry::Hosted { host, moment } => put_hosted(bytes, host, *moment),
@@ -216,26 +231,25 @@ fn put_fields(bytes: &mut Vec<u8>, entry: &Entry) -> Result<(), AllocError>
     }
 }
 
-impl Coded for Entry {
-    ghost use Rattle.fedi_entry.specs.Codes.{code_of};
-
-    ghost code = { code_of };
-
-    #[tactic(auto, unfolding(crate::specs::Codes::code_of))]
-    fn put(&self, bytes: &mut Vec<u8>) -> Result<(), AllocError> {
-        put_byte(bytes, number(self))?;
-        put_fields(bytes, self)
-    }
+/// Puts an entry at the end.
+#[tactic(auto, unfolding(crate::specs::Codes::code_of))]
+fn put_entry(bytes: &mut Vec<u8>, entry: &Entry) -> Result<(), AllocError>
+    ensures code { OnOk result (bytes.new.items ≡ bytes.old.items ++ code_of entry.now) }
+    ensures sizes { OnOk result (HasSizes entry.now) }
+{
+    put_byte(bytes, number(entry))?;
+    put_fields(bytes, entry)
 }
 
 /// The bytes of an entry. The error is want of memory. An entry whose bytes do not fit in 32 bits, and so a length or
 /// a count that does not, is answered as want of memory too: there is no such entry in practice.
 pub fn encode(alloc: Global, entry: &Entry) -> Result<Vec<u8>, AllocError>
     ensures code { IfOk result (λ bytes. bytes.items ≡ code_of entry.now) }
-    ensures fits { IfOk result (λ bytes. length bytes.items < 2 ^ 32) }
+    ensures short { IfOk result (λ bytes. length bytes.items < 2 ^ 32) }
+    ensures fits { OnOk result (Fits entry.now) }
 {
     let mut bytes = Vec::with_capacity(alloc, room_for(entry))?;
-    entry.put(&mut bytes)?;
+    put_entry(&mut bytes, entry)?;
     if bytes.len() > LONGEST {
         return Err(AllocError);
     }

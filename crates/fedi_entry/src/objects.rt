@@ -20,6 +20,7 @@ impl Coded for Tag {
     }
 }
 
+/// Puts the hidden recipients and the audience at the end.
 #[tactic(auto, unfolding(crate::specs::Codes::hidden_code))]
 fn put_hidden(bytes: &mut Vec<u8>, recipients: &Recipients) -> Result<(), AllocError>
     ensures { OnOk result (bytes.new.items ≡ bytes.old.items ++ hidden_code recipients.now) }
@@ -42,6 +43,7 @@ impl Coded for Recipients {
     }
 }
 
+/// Puts three texts at the end, each of which may be absent.
 #[tactic(auto, unfolding(crate::specs::Codes::words_code))]
 pub fn put_words(
     bytes: &mut Vec<u8>,
@@ -57,6 +59,7 @@ pub fn put_words(
     name.put(bytes)
 }
 
+/// Puts what an object is, and whose, at the end.
 #[tactic(auto, unfolding(crate::specs::Codes::object_head))]
 fn put_head(bytes: &mut Vec<u8>, object: &Object) -> Result<(), AllocError>
     ensures { OnOk result (bytes.new.items ≡ bytes.old.items ++ object_head object.now) }
@@ -66,8 +69,9 @@ fn put_head(bytes: &mut Vec<u8>, object: &Object) -> Result<(), AllocError>
     object.attributed_to.put(bytes)
 }
 
+/// Puts what an object says at the end.
 #[tactic(auto, unfolding(crate::specs::Codes::object_words))]
-fn put_text(bytes: &mut Vec<u8>, object: &Object) -> Result<(), AllocError>
+fn put_contents(bytes: &mut Vec<u8>, object: &Object) -> Result<(), AllocError>
     ensures { OnOk result (bytes.new.items ≡ bytes.old.items ++ object_words object.now) }
 {
     object.in_reply_to.put(bytes)?;
@@ -75,6 +79,7 @@ fn put_text(bytes: &mut Vec<u8>, object: &Object) -> Result<(), AllocError>
     object.url.put(bytes)
 }
 
+/// Puts when an object came, changed and went at the end.
 #[tactic(auto, unfolding(crate::specs::Codes::object_times))]
 fn put_times(bytes: &mut Vec<u8>, object: &Object) -> Result<(), AllocError>
     ensures { OnOk result (bytes.new.items ≡ bytes.old.items ++ object_times object.now) }
@@ -94,12 +99,13 @@ impl Coded for Object {
     fn put(&self, bytes: &mut Vec<u8>) -> Result<(), AllocError> {
         put_head(bytes, self)?;
         self.recipients.put(bytes)?;
-        put_text(bytes, self)?;
+        put_contents(bytes, self)?;
         put_times(bytes, self)?;
         self.tags.put(bytes)
     }
 }
 
+/// Puts what is done to three texts at the end.
 #[tactic(auto, unfolding(crate::specs::Codes::edits_code))]
 fn put_edits(
     bytes: &mut Vec<u8>,
