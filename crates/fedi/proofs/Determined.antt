@@ -24,7 +24,6 @@ use Rattle.fedi.specs.Conversations.{Setting, Outcome, NoEntry, Kept, Full, Fail
 
 -- ---- one answer
 
-
 same_to : (t : Town) (moment : ℕ) (caller : Result Caller Refusal) (q : Request) (body : List ℕ) (r s : Reply) (made other : Option Entry)
     → AnswersTo t moment caller q body r made → AnswersTo t moment caller q body s other → (r ≡ s) × (made ≡ other)
 same_to t moment (Err e) q body r s made other x y = (x.0 ∙ sym y.0, x.1 ∙ sym y.1)
@@ -39,7 +38,6 @@ same_to t moment (Ok c) q body r s made other x y =
 -- an outcome and the reply that is given with it
 abbrev IsSame : Outcome → Outcome → Reply → Reply → Type 0
 IsSame a b r s = (a ≡ b) × (r ≡ s)
-
 
 same_settling : (w : Setting) (end : ℕ) (r : Reply) (made : Option Entry) (a b : Outcome) (s t : Reply)
     → Settles w end r made a s → Settles w end r made b t → IsCalm a → IsCalm b → IsSame a b s t

@@ -4,8 +4,6 @@
 mod adapters;
 mod answers;
 mod commands;
-mod credentials;
-mod routes;
 mod running;
 mod sessions;
 #[cfg(test)]
@@ -14,6 +12,7 @@ mod usage;
 
 use adapters::{Reading, SystemClock, Writing};
 use fedi_core::example_history;
+use fedi_outside::MemoryKeeper;
 use std::alloc::AllocError;
 use std::process::ExitCode;
 use std::{env, io};
@@ -41,7 +40,16 @@ fn main(rt: HostRuntime) -> ExitCode {
     };
     let mut input = Reading::new(rt.reader());
     let mut out = Writing::new(io::writer(&rt));
+    let keeper = MemoryKeeper::new(rt.alloc());
     let clock = SystemClock::new(&rt);
-    let ended = running::run(rt.alloc(), &words, &mut input, &mut out, history, &clock);
+    let ended = running::run(
+        rt.alloc(),
+        &words,
+        &mut input,
+        &mut out,
+        history,
+        keeper,
+        &clock,
+    );
     ExitCode::from(ended.status)
 }

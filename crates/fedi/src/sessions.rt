@@ -56,13 +56,7 @@ fn give_up<O: Sink>(out: &mut O)
 }
 
 /// Sends a reply, or gives up where memory is wanted.
-fn say<O: Sink>(
-    alloc: Global,
-    out: &mut O,
-    moment: Moment,
-    closing: bool,
-    reply: &Reply,
-) -> Said
+fn say<O: Sink>(alloc: Global, out: &mut O, moment: Moment, closing: bool, reply: &Reply) -> Said
     requires { HasStatus reply.now }
     ensures said { IsSaid (Rose (O.write_faults out.old) (O.write_faults out.new)) (O.sent out.old) (O.sent out.new) (reply_text moment false closing reply.now) result }
     ensures later { O.write_faults out.old ≤ O.write_faults out.new }

@@ -1,5 +1,6 @@
 //! What no clause says: that the calls succeed with ample memory, and the very bytes of worked rows.
+mod connections;
 mod outside;
-mod parts;
+mod posts;
 mod replies;
 mod runs;

@@ -1,6 +1,6 @@
 //! The replies of whole runs over the example town, byte for byte.
-use super::runs::{SECONDS, answered_at, answered_over, younger_town};
-use fedi_outside::{MemorySink, MemorySource};
+use super::runs::{SECONDS, served_at, served_over, younger_town};
+use fedi_outside::{MemoryKeeper, MemorySink, MemorySource};
 use std::alloc::{AllocError, Global};
 use std::test::Fail;
 
@@ -28,9 +28,11 @@ const WRONG_MAC: &str =
 const BAD_HEAD: &str =
     "HTTP/1.1 400 Bad Request\r\nDate: Sun, 06 Nov 1994 08:49:37 GMT\r\nContent-Type: application/json\r\nContent-Length: 19\r\nConnection: close\r\n\r\n{\"error\":\"BadHead\"}";
 
-/// A request for this target with a `Host` and these further lines.
+/// The last request of a connection, for this target and with these further lines.
 fn request(alloc: Global, target: &str, fields: &str) -> Result<String, AllocError> {
-    format!(in alloc; "GET {target} HTTP/1.1\r\nHost: club.example\r\n{fields}\r\n")
+    format!(in alloc;
+        "GET {target} HTTP/1.1\r\nHost: club.example\r\nConnection: close\r\n{fields}\r\n"
+    )
 }
 
 #[test]
@@ -122,7 +124,7 @@ fn callers_see_what_they_may(rt: HostRuntime) -> Result<(), Fail> {
     for (target, fields, wanted) in rows {
         let bytes = request(alloc, target, fields)?;
         for cut in [false, true] {
-            let left = answered_over(alloc, bytes.as_bytes(), cut)?;
+            let left = served_over(alloc, bytes.as_bytes(), cut)?;
             assert_eq!(rt; left.sink.bytes(), wanted.as_bytes(), "{bytes}");
             assert_eq!(rt; left.status, 0);
             assert_eq!(rt; left.entries, 7);
@@ -138,9 +140,10 @@ fn a_hidden_post_leaves_no_trace(rt: HostRuntime) -> Result<(), Fail> {
         let fields = format!(in alloc; "Authorization: Bearer {key}\r\n")?;
         let bytes = request(alloc, "/users/ana/o/2", fields.as_str())?;
         let source = MemorySource::new(alloc, bytes.into_bytes());
-        let left = answered_at(
+        let left = served_at(
             alloc,
-            younger_town(alloc)?,
+            younger_town(alloc, 6)?,
+            MemoryKeeper::new(alloc),
             source,
             MemorySink::new(alloc),
             SECONDS,
@@ -156,27 +159,81 @@ fn a_hidden_post_leaves_no_trace(rt: HostRuntime) -> Result<(), Fail> {
     Ok(())
 }
 
+/// The reply that refuses a head, with this status line and this name of the length.
+fn refusal(alloc: Global, status: &str, name: &str) -> Result<String, AllocError> {
+    let length = name.len() + 12;
+    format!(in alloc;
+        "HTTP/1.1 {status}\r\nDate: Sun, 06 Nov 1994 08:49:37 GMT\r\nContent-Type: application/json\r\nContent-Length: {length}\r\nConnection: close\r\n\r\n{{\"error\":\"{name}\"}}"
+    )
+}
+
 #[test]
 fn heads_that_are_refused_first(rt: HostRuntime) -> Result<(), Fail> {
     let alloc = rt.alloc();
     let rows = [
-        "PUT / HTTP/1.1\r\nHost: a\r\n\r\n",
-        "PUT / HTTP/1.1\r\nHost: a\r\nAuthorization: Bearer 00\r\n\r\n",
-        "get / HTTP/1.1\r\nHost: a\r\n\r\n",
-        "GET / HTTP/1.0\r\nHost: a\r\n\r\n",
-        "GET * HTTP/1.1\r\nHost: a\r\n\r\n",
-        "GET https://a/ HTTP/1.1\r\nHost: a\r\n\r\n",
-        "GET / HTTP/1.1\r\n\r\n",
-        "GET / HTTP/1.1\r\nHost: a\r\nhost: a\r\n\r\n",
-        "GET / HTTP/1.1\r\nHost: a\r\nContent-Length: 0\r\n\r\n",
-        "GET / HTTP/1.1\r\nHost: a\r\nTransfer-Encoding: chunked\r\n\r\n",
-        "GET / HTTP/1.1\r\nHost: a\r\nno field\r\n\r\n",
-        "\r\n\r\nhello\n\n",
+        (
+            "PUT / HTTP/1.1\r\nHost: a\r\n\r\n",
+            "400 Bad Request",
+            "BadHead",
+        ),
+        (
+            "get / HTTP/1.1\r\nHost: a\r\n\r\n",
+            "400 Bad Request",
+            "BadHead",
+        ),
+        (
+            "GET / HTTP/1.0\r\nHost: a\r\n\r\n",
+            "400 Bad Request",
+            "BadHead",
+        ),
+        (
+            "GET * HTTP/1.1\r\nHost: a\r\n\r\n",
+            "400 Bad Request",
+            "BadHead",
+        ),
+        ("GET / HTTP/1.1\r\n\r\n", "400 Bad Request", "BadHead"),
+        (
+            "GET / HTTP/1.1\r\nHost: a\r\nhost: a\r\n\r\n",
+            "400 Bad Request",
+            "BadHead",
+        ),
+        (
+            "GET / HTTP/1.1\r\nHost: a\r\nContent-Length: -1\r\n\r\n",
+            "400 Bad Request",
+            "BadHead",
+        ),
+        (
+            "GET / HTTP/1.1\r\nHost: a\r\nno field\r\n\r\n",
+            "400 Bad Request",
+            "BadHead",
+        ),
+        ("\r\n\r\nhello\n\n", "400 Bad Request", "BadHead"),
+        (
+            "GET / HTTP/1.1\r\nHost: a\r\nTransfer-Encoding: chunked\r\n\r\n",
+            "501 Not Implemented",
+            "NoCoding",
+        ),
+        (
+            "POST / HTTP/1.1\r\nHost: a\r\nTransfer-Encoding: chunked\r\n\r\n",
+            "501 Not Implemented",
+            "NoCoding",
+        ),
+        (
+            "POST / HTTP/1.1\r\nHost: a\r\nAuthorization: Bearer 00\r\n\r\n",
+            "411 Length Required",
+            "NoLength",
+        ),
+        (
+            "POST / HTTP/1.1\r\nHost: a\r\nContent-Length: 262145\r\n\r\n",
+            "413 Payload Too Large",
+            "TooLong",
+        ),
     ];
-    for head in rows {
+    for (head, status, name) in rows {
+        let wanted = refusal(alloc, status, name)?;
         for cut in [false, true] {
-            let left = answered_over(alloc, head.as_bytes(), cut)?;
-            assert_eq!(rt; left.sink.bytes(), BAD_HEAD.as_bytes(), "{head}");
+            let left = served_over(alloc, head.as_bytes(), cut)?;
+            assert_eq!(rt; left.sink.bytes(), wanted.as_bytes(), "{head}");
             assert_eq!(rt; left.status, 0);
         }
     }
@@ -198,20 +255,20 @@ fn fields_that_stand_once(rt: HostRuntime) -> Result<(), Fail> {
     for name in names {
         let fields = format!(in alloc; "{name}: 1\r\n{name}: 1\r\n")?;
         let bytes = request(alloc, "/users/ana/o/1", fields.as_str())?;
-        let left = answered_over(alloc, bytes.as_bytes(), false)?;
+        let left = served_over(alloc, bytes.as_bytes(), false)?;
         assert_eq!(rt; left.sink.bytes(), BAD_HEAD.as_bytes(), "{name}");
     }
     let fields = "Accept: a\r\nAccept: b\r\nContent-Type: a\r\nIdempotency-Key: b\r\n";
     let bytes = request(alloc, "/users/ana/o/1", fields)?;
-    let left = answered_over(alloc, bytes.as_bytes(), false)?;
+    let left = served_over(alloc, bytes.as_bytes(), false)?;
     assert_eq!(rt; left.sink.bytes(), HELLO.as_bytes());
     Ok(())
 }
 
 /// A request with this many fields, whose last is as long as so many letters.
 fn long(alloc: Global, fields: usize, letters: usize) -> Result<String, AllocError> {
-    let mut text = String::from_str(alloc, "GET / HTTP/1.1\r\nHost: a\r\n")?;
-    for _ in 2..fields {
+    let mut text = String::from_str(alloc, "GET / HTTP/1.1\r\nHost: a\r\nConnection:close\r\n")?;
+    for _ in 3..fields {
         text.push_str("X: y\r\n")?;
     }
     text.push_str("X: ")?;
@@ -227,15 +284,15 @@ fn heads_have_limits(rt: HostRuntime) -> Result<(), Fail> {
     let rows = [
         (64, 1, "\r\n\r\n", 0, NOT_FOUND),
         (65, 1, "\r\n\r\n", 0, BAD_HEAD),
-        (2, 16_352, "\r\n\r\n", 0, NOT_FOUND),
-        (2, 16_353, "\r\n\r\n", 0, BAD_HEAD),
-        (2, 16_356, "", 0, BAD_HEAD),
-        (2, 16_355, "", 8, ""),
+        (3, 16_334, "\r\n\r\n", 0, NOT_FOUND),
+        (3, 16_335, "\r\n\r\n", 0, BAD_HEAD),
+        (3, 16_338, "", 0, BAD_HEAD),
+        (3, 16_337, "", 8, ""),
     ];
     for (fields, letters, end, status, wanted) in rows {
         let mut text = long(alloc, fields, letters)?;
         text.push_str(end)?;
-        let left = answered_over(alloc, text.as_bytes(), false)?;
+        let left = served_over(alloc, text.as_bytes(), false)?;
         assert_eq!(rt; left.status, status, "{fields} {letters}");
         assert_eq!(rt; left.sink.bytes(), wanted.as_bytes(), "{fields} {letters}");
     }

@@ -6,18 +6,19 @@ use crate::running::run;
 use crate::usage::usage;
 use fedi_core::example_history;
 use fedi_objects::Entry;
-use fedi_outside::{FixedClock, MemorySink, MemorySource};
+use fedi_outside::{FixedClock, MemoryKeeper, MemorySink, MemorySource};
 use std::alloc::{AllocError, Global};
 use std::test::Fail;
 
 /// When the example town was made, and its runs are: 1994-11-06T08:49:37Z.
 pub const SECONDS: u64 = 784_111_777;
 
-/// What a run left: its status, how many entries came back, and what it wrote.
+/// What a run left: its status, how many entries came back, what it kept and what it wrote.
 #[derive(Drop)]
 pub struct Outcome {
     pub status: u8,
     pub entries: usize,
+    pub keeper: MemoryKeeper,
     pub sink: MemorySink,
 }
 
@@ -30,13 +31,13 @@ fn texts(alloc: Global, words: &[&str]) -> Result<Vec<String>, AllocError> {
     Ok(texts)
 }
 
-/// The example town before its last post.
+/// The first entries of the example town: the host and its members are 5, and the first post is the sixth.
 #[tactic(auto, using(crate::proofs::HistoryLemmas::front_is_legal))]
-pub fn younger_town(alloc: Global) -> Result<Vec<Entry>, AllocError>
+pub fn younger_town(alloc: Global, entries: usize) -> Result<Vec<Entry>, AllocError>
     ensures { IfOk result (λ history. IsLegal history.items) }
 {
     let mut history = example_history(alloc)?;
-    history.truncate(6);
+    history.truncate(entries);
     Ok(history)
 }
 
@@ -46,10 +47,11 @@ pub fn in_bytes(alloc: Global, bytes: &[u8]) -> Result<MemorySource, AllocError>
     Ok(MemorySource::new(alloc, bytes.to_vec(alloc)?).cut(pieces))
 }
 
-/// One request answered at this history.
-pub fn answered_at(
+/// A connection served at this history.
+pub fn served_at(
     alloc: Global,
     history: Vec<Entry>,
+    keeper: MemoryKeeper,
     source: MemorySource,
     sink: MemorySink,
     seconds: u64,
@@ -59,39 +61,50 @@ pub fn answered_at(
     let words = texts(alloc, &["inetd", "STORE"])?;
     let mut source = source;
     let mut sink = sink;
+    let clock = FixedClock::new(seconds);
     let ended = run(
         alloc,
         &words,
         &mut source,
         &mut sink,
         history,
-        &FixedClock::new(seconds),
+        keeper,
+        &clock,
     );
     Ok(Outcome {
         status: ended.status,
         entries: ended.history.len(),
+        keeper: ended.keeper,
         sink,
     })
 }
 
-/// One request answered at the example town.
-pub fn answered(
+/// A connection served at the example town.
+pub fn served(
     alloc: Global,
     source: MemorySource,
     sink: MemorySink,
     seconds: u64,
 ) -> Result<Outcome, AllocError> {
-    answered_at(alloc, example_history(alloc)?, source, sink, seconds)
+    let history = example_history(alloc)?;
+    served_at(
+        alloc,
+        history,
+        MemoryKeeper::new(alloc),
+        source,
+        sink,
+        seconds,
+    )
 }
 
 /// What a run over these bytes left, read in one piece or each byte alone.
-pub fn answered_over(alloc: Global, bytes: &[u8], cut: bool) -> Result<Outcome, AllocError> {
+pub fn served_over(alloc: Global, bytes: &[u8], cut: bool) -> Result<Outcome, AllocError> {
     let source = if cut {
         in_bytes(alloc, bytes)?
     } else {
         MemorySource::new(alloc, bytes.to_vec(alloc)?)
     };
-    answered(alloc, source, MemorySink::new(alloc), SECONDS)
+    served(alloc, source, MemorySink::new(alloc), SECONDS)
 }
 
 /// What a run with these words left.
@@ -101,10 +114,20 @@ fn run_by(alloc: Global, words: &[&str], sink: MemorySink) -> Result<Outcome, Al
     let mut source = MemorySource::new(alloc, b"".to_vec(alloc)?);
     let mut sink = sink;
     let clock = FixedClock::new(SECONDS);
-    let ended = run(alloc, &words, &mut source, &mut sink, history, &clock);
+    let keeper = MemoryKeeper::new(alloc);
+    let ended = run(
+        alloc,
+        &words,
+        &mut source,
+        &mut sink,
+        history,
+        keeper,
+        &clock,
+    );
     Ok(Outcome {
         status: ended.status,
         entries: ended.history.len(),
+        keeper: ended.keeper,
         sink,
     })
 }
@@ -154,7 +177,7 @@ fn inputs_that_end(rt: HostRuntime) -> Result<(), Fail> {
     ];
     for (bytes, status) in rows {
         for cut in [false, true] {
-            let left = answered_over(alloc, bytes, cut)?;
+            let left = served_over(alloc, bytes, cut)?;
             assert_eq!(rt; left.status, status);
             assert!(rt; left.sink.bytes().is_empty());
             assert_eq!(rt; left.entries, 7);
@@ -169,7 +192,7 @@ fn each_read_fails_once(rt: HostRuntime) -> Result<(), Fail> {
     let bytes = b"GET / HTTP/1.1\r\nHost: a\r\n\r\n";
     for call in 0..bytes.len() as u64 {
         let source = in_bytes(alloc, bytes)?.failing([call].to_vec(alloc)?);
-        let left = answered(alloc, source, MemorySink::new(alloc), SECONDS)?;
+        let left = served(alloc, source, MemorySink::new(alloc), SECONDS)?;
         assert_eq!(rt; left.status, 6, "at {call}");
         assert!(rt; left.sink.bytes().is_empty());
         assert_eq!(rt; left.entries, 7);
@@ -181,14 +204,14 @@ fn each_read_fails_once(rt: HostRuntime) -> Result<(), Fail> {
 fn each_write_fails_once(rt: HostRuntime) -> Result<(), Fail> {
     let alloc = rt.alloc();
     let bytes = b"GET / HTTP/1.1\r\nHost: a\r\n\r\n";
-    let whole = answered_over(alloc, bytes, false)?;
+    let whole = served_over(alloc, bytes, false)?;
     let wanted = whole.sink.bytes();
     for call in 0..wanted.len() {
         let source = MemorySource::new(alloc, bytes.to_vec(alloc)?);
         let sink = MemorySink::new(alloc)
             .limited(1)
             .failing([call as u64].to_vec(alloc)?);
-        let left = answered(alloc, source, sink, SECONDS)?;
+        let left = served(alloc, source, sink, SECONDS)?;
         assert_eq!(rt; left.status, 7, "at {call}");
         assert_eq!(rt; left.sink.bytes(), &wanted[..call]);
         assert_eq!(rt; left.entries, 7);
@@ -207,7 +230,7 @@ fn clocks_end_with_the_year_9999(rt: HostRuntime) -> Result<(), Fail> {
     ];
     for (seconds, date) in rows {
         let source = MemorySource::new(alloc, b"\r\nPUT\r\n\r\n".to_vec(alloc)?);
-        let left = answered(alloc, source, MemorySink::new(alloc), seconds)?;
+        let left = served(alloc, source, MemorySink::new(alloc), seconds)?;
         let wanted = format!(in alloc;
             "HTTP/1.1 400 Bad Request\r\nDate: {date}\r\nContent-Type: application/json\r\nContent-Length: 19\r\nConnection: close\r\n\r\n{{\"error\":\"BadHead\"}}"
         )?;
