@@ -157,12 +157,14 @@ doubts_after doubts (Kept e) = []
 doubts_after doubts (Full e) = doubts
 doubts_after doubts (Failed e) = doubts ++ code_of e ∷ []
 
+-- how many entries the keeper has then failed to keep
 abbrev pub failed_after : ℕ → Outcome → ℕ
 failed_after failed NoEntry = failed
 failed_after failed (Kept e) = failed
 failed_after failed (Full e) = failed
 failed_after failed (Failed e) = failed + 1
 
+-- the progress after one more exchange
 abbrev pub after : Setting → Progress → Exchange → Progress
 after w p x = record {
   left = drop (taken_by x.arrived) p.left;

@@ -38,6 +38,7 @@ pub record Scene : Type 0 where
 abbrev pub keeping : {K : Type 0} → (K → Option (List (List ℕ))) → (K → Option (List ℕ)) → (K → ℕ) → (K → ℕ) → K → Keeping
 keeping records doubt end faults k = record { records = records k; doubt = doubt k; end = end k; faults = faults k }
 
+-- the scene of these
 abbrev pub scene_of : Option (List ℕ) → Option (List ℕ) → List Entry → Keeping → Scene
 scene_of input sent history keeper = record { input = input; sent = sent; history = history; keeper = keeper }
 
@@ -129,6 +130,7 @@ abbrev pub IsMaybeExchange : Setting → Progress → Option Exchange → Type 0
 IsMaybeExchange w p None = Unit {0}
 IsMaybeExchange w p (Some x) = IsExchange w p x
 
+-- the progress after one more exchange, or the same
 abbrev pub after_maybe : Setting → Progress → Option Exchange → Progress
 after_maybe w p None = p
 after_maybe w p (Some x) = after w p x
@@ -222,6 +224,7 @@ pub record Talks (w : Setting) (first now : Scene) (input : List ℕ) (xs : List
   pub kept : IsKeptTo w first now (progress w (beginning input first.keeper.end first.keeper.doubt) xs)
   pub written : IsWritten first now (progress w (beginning input first.keeper.end first.keeper.doubt) xs)
 
+-- it was, where the input is told
 abbrev pub TalksWhereTold : Setting → Scene → Scene → Type 0
 TalksWhereTold w first now = IfSome first.input (λ input. (xs : List Exchange) × Talks w first now input xs)
 

@@ -20,13 +20,15 @@ use Rattle.fedi_objects.specs.declared.object.Edit.TheVariants.{Keep, Remove, Gi
 use Rattle.fedi_objects.specs.declared.object.Object.{Object}
 use Rattle.fedi_objects.specs.declared.object.Tag.{Tag}
 
--- a number in two, four or eight bytes, the highest first
+-- a number in two bytes, the highest first
 unfoldable pub u16_code : ℕ → List ℕ
 u16_code n = to_be_bytes w16 n
 
+-- a number in four bytes
 unfoldable pub u32_code : ℕ → List ℕ
 u32_code n = to_be_bytes w32 n
 
+-- a number in eight bytes
 unfoldable pub u64_code : ℕ → List ℕ
 u64_code n = to_be_bytes w64 n
 
@@ -58,10 +60,11 @@ edit_code code (Give x) = 2 ∷ code x
 unfoldable pub tag_code : Tag → List ℕ
 tag_code tag = text_code tag.href ++ text_code tag.name
 
--- recipients: to, cc, bto, bcc, audience
+-- the last three fields of recipients: bto, bcc, audience
 unfoldable pub hidden_code : Recipients → List ℕ
 hidden_code r = list_code text_code r.bto ++ (list_code text_code r.bcc ++ list_code text_code r.audience)
 
+-- the five fields of recipients: to, cc, bto, bcc, audience
 unfoldable pub recipients_code : Recipients → List ℕ
 recipients_code r = list_code text_code r.to ++ (list_code text_code r.cc ++ hidden_code r)
 
@@ -69,24 +72,28 @@ recipients_code r = list_code text_code r.to ++ (list_code text_code r.cc ++ hid
 unfoldable pub words_code : Option (List ℕ) → Option (List ℕ) → Option (List ℕ) → List ℕ
 words_code content summary name = option_code text_code content ++ (option_code text_code summary ++ option_code text_code name)
 
--- an object: id, type, attributedTo, the recipients, inReplyTo, content, summary, name, url, published, updated, formerType, deleted, tag
+-- the first part of an object: id, type, attributedTo
 unfoldable pub object_head : Object → List ℕ
 object_head o = option_code text_code o.id ++ (text_code o.kind ++ option_code text_code o.attributed_to)
 
+-- what an object says: inReplyTo, content, summary, name, url
 unfoldable pub object_words : Object → List ℕ
 object_words o = option_code text_code o.in_reply_to ++ (words_code o.content o.summary o.name ++ option_code text_code o.url)
 
+-- what became of an object, and when: published, updated, formerType, deleted
 unfoldable pub object_times : Object → List ℕ
 object_times o =
     option_code text_code o.published ++ (option_code text_code o.updated ++ (option_code text_code o.former_kind ++ option_code text_code o.deleted))
 
+-- an object: its first part, the recipients, what it says, what became of it, tag
 unfoldable pub object_code : Object → List ℕ
 object_code o = object_head o ++ (recipients_code o.recipients ++ (object_words o ++ (object_times o ++ list_code tag_code o.tags)))
 
--- what is changed in an object: its id, and what is done to content, summary, name, url, inReplyTo, tag
+-- what is done to three texts: content, summary, name
 unfoldable pub edits_code : Edit (List ℕ) → Edit (List ℕ) → Edit (List ℕ) → List ℕ
 edits_code content summary name = edit_code text_code content ++ (edit_code text_code summary ++ edit_code text_code name)
 
+-- what is changed in an object: its id, and what is done to content, summary, name, url, inReplyTo, tag
 unfoldable pub change_code : Change → List ℕ
 change_code c =
     text_code c.id
@@ -100,15 +107,17 @@ object_ref_code (Id iri) = 1 ∷ text_code iri
 object_ref_code (Whole object) = 2 ∷ object_code object
 object_ref_code (Changed change) = 3 ∷ change_code change
 
--- an activity: id, type, actor, object, target, the recipients, inReplyTo, content, summary, name, published, tag
+-- the first part of an activity: id, type, actor
 unfoldable pub activity_head : Activity → List ℕ
 activity_head a = option_code text_code a.id ++ (kind_number a.kind ∷ option_code text_code a.actor)
 
+-- what an activity says: inReplyTo, content, summary, name, published, tag
 unfoldable pub activity_words : Activity → List ℕ
 activity_words a =
     option_code text_code a.in_reply_to
     ++ (words_code a.content a.summary a.name ++ (option_code text_code a.published ++ list_code tag_code a.tags))
 
+-- an activity: its first part, object, target, the recipients, what it says
 unfoldable pub activity_code : Activity → List ℕ
 activity_code a =
     activity_head a
@@ -118,17 +127,19 @@ activity_code a =
 unfoldable pub repeat_code : List ℕ × List ℕ → List ℕ
 repeat_code repeat = text_code repeat.0 ++ repeat.1
 
--- what came of an attempt to deliver: at which request, and what
+-- at which request of a delivery something came
 abbrev pub sent_number : Sent → ℕ
 sent_number Lookup = 0
 sent_number Post = 1
 
+-- what came
 unfoldable pub what_code : What → List ℕ
 what_code Failed = 0 ∷ []
 what_code NoHead = 1 ∷ []
 what_code BadActor = 2 ∷ []
 what_code (Status status) = 3 ∷ u16_code status
 
+-- what came of an attempt to deliver: at which request, and what
 unfoldable pub came_code : Came → List ℕ
 came_code came = sent_number came.step ∷ what_code came.what
 

@@ -63,18 +63,22 @@ created host name number = record {
   body = [];
 }
 
+-- the reply to what a post was judged to be, of a member with so many activities
 abbrev pub told : Option (List ℕ) → List ℕ → ℕ → Result Activity Reply → Reply
 told host name count (Err r) = r
 told host name count (Ok a) = created host name (count + 1)
 
+-- the reply to a post at a name, whose member was found or not
 abbrev pub post_reply_at : Town → Caller → List ℕ → Option Actor → Post → Reply
 post_reply_at t c name None post = refused NotFound
 post_reply_at t c name (Some member) post = told t.host name (count_of t member.id) (judged c name (count_of t member.id) post)
 
+-- the entry of a post that is accepted at this moment
 abbrev pub entry_by : List ℕ → ℕ → Result Activity Reply → Option Entry
 entry_by name moment (Err r) = None
 entry_by name moment (Ok a) = Some (Local name None a moment)
 
+-- the entry that a post at a name makes at this moment, whose member was found or not
 abbrev pub post_entry_at : Town → Caller → List ℕ → Option Actor → Post → ℕ → Option Entry
 post_entry_at t c name None post moment = None
 post_entry_at t c name (Some member) post moment = entry_by name moment (judged c name (count_of t member.id) post)

@@ -54,6 +54,7 @@ has_activity_id id x = is_own_id id x.activity.id
 abbrev pub seen_activity : Town → Caller → List ℕ → ℕ → Option Act
 seen_activity t c name number = option_and_then (λ host. find (has_activity_id (activity_id host name number)) (filter (sees t c) t.acts)) t.host
 
+-- the document of the activity that was found, or that there is none
 abbrev pub activity_or_missing : Option Act → Reply
 activity_or_missing None = refused NotFound
 activity_or_missing (Some x) = activity_document x
