@@ -1,5 +1,5 @@
 -- What a request asks for is one thing at most.
-use Rattle.std.proofs.Common.{◌≡◌, ◌≢◌, ℕ, List, Bool, true, false, Some, None, Ok, Err, refl, sym, ◌∙◌, ap}
+use Rattle.std.proofs.Common.{◌≡◌, ◌≢◌, ℕ, List, Bool, true, false, Ok, Err, refl, sym, ◌∙◌, ap}
 use Rattle.std.specs.Prelude.{Result, IfOk, IsTrue}
 use Rattle.serde_json.specs.Data.{Data}
 use Rattle.fedi_address.specs.Names.{is_name}
@@ -13,7 +13,7 @@ use Rattle.fedi_model.specs.declared.ask.Read.{Read}
 use Rattle.fedi_model.specs.declared.ask.Read.TheVariants.{NotJson, Bad, Ready}
 use Rattle.fedi_model.specs.declared.request.Request.{Request}
 use Rattle.fedi_reading.specs.Bodies.{IsBodyOf}
-use Rattle.fedi_routes.specs.Places.{part_of, place_path, IsPlace, takes}
+use Rattle.fedi_routes.specs.Places.{place_path, IsPlace, takes}
 use Rattle.fedi_routes.specs.Posts.{ReadsValue}
 use Rattle.fedi_routes.specs.declared.places.Place.{Place}
 use Rattle.fedi_routes.specs.declared.places.Place.TheVariants.{Activity, Object, Outbox}

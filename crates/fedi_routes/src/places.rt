@@ -23,14 +23,16 @@ pub(crate) enum Place {
     Outbox,
 }
 
-/// Whether the method is served at the place: activities and objects are read, and outboxes are
-/// posted to.
-pub(crate) fn takes(place: Place, method: &Method) -> bool
-    ensures { result ≡ places.takes place method.now }
-{
-    match place {
-        Place::Activity(_) | Place::Object(_) => is_method(method, "GET"),
-        Place::Outbox => is_method(method, "POST"),
+impl Place {
+    /// Whether the method is served at the place: activities and objects are read, and outboxes are
+    /// posted to.
+    pub(crate) fn takes(self, method: &Method) -> bool
+        ensures { result ≡ places.takes self method.now }
+    {
+        match self {
+            Place::Activity(_) | Place::Object(_) => is_method(method, "GET"),
+            Place::Outbox => is_method(method, "POST"),
+        }
     }
 }
 

@@ -6,17 +6,18 @@ ghost use Rattle.fedi_model.specs.Posting.{IsPostable};
 ghost use Rattle.fedi_model.specs.Routes as model;
 ghost use Rattle.fedi_routes.specs.Places as places;
 
-use crate::places::{Place, place_of, takes};
+use crate::places::{Place, place_of};
 use crate::posts::post_of;
 use crate::texts::up_to;
 use fedi_address::LocalName;
 use fedi_model::{Ask, Request};
 use std::alloc::{AllocError, Global};
 
-/// What the request with this body asks for, by its method and its path: `Ask::Nowhere` exactly where
-/// the method is served nowhere at the path. The path is the target up to its first question mark
-/// (RFC 3986, section 3.3). Paths are compared byte for byte and never decoded. The body is read of a
-/// post to an outbox alone. `AllocError` where memory was wanted, which only reading a body takes.
+/// What the request with this body asks for, by its method and its path: a GET reads an activity or an
+/// object, a POST is for an outbox, and all else asks for `Ask::Nowhere`. The path is the target up to
+/// its first question mark (RFC 3986, section 3.3). Paths are compared byte for byte and never decoded.
+/// The body is read of a post to an outbox alone. `AllocError` where memory was wanted, which only the
+/// reading of a body takes.
 #[tactic(auto, using(crate::proofs::AskLemmas::asked_once))]
 pub fn route(alloc: Global, request: &Request, body: &[u8]) -> Result<Ask, AllocError>
     ensures asks { IfOk result (λ ask. model.Asks request.now body.now ask) }
@@ -27,7 +28,7 @@ pub fn route(alloc: Global, request: &Request, body: &[u8]) -> Result<Ask, Alloc
     let Some((name, place)) = place_of(path_of(request)) else {
         return Ok(Ask::Nowhere);
     };
-    if !takes(place, &request.method) {
+    if !place.takes(&request.method) {
         return Ok(Ask::Nowhere);
     }
     ask_of(alloc, request, body, name, place)
