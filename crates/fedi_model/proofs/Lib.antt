@@ -5,3 +5,4 @@ pub mod Statuses
 pub mod Unseen
 pub mod Clean
 pub mod EachReply
+pub mod Members
