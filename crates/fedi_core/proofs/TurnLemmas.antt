@@ -1,6 +1,6 @@
 -- What a turn is, by what came of the entry that was to be kept.
 use Rattle.std.proofs.Common.{◌≡◌, ℕ, List, [], ◌∷◌, ◌++◌, Option, Some, None, refl, sym, ap, subst, inl, inr, arith, ◌∙◌}
-use Rattle.std.specs.Prelude.{Result, Ok, Err, IfOk, OnOk, OnErr}
+use Rattle.std.specs.Prelude.{Result, Ok, Err, IfNone, IfOk, OnOk, OnErr}
 use Rattle.std.specs.declared.alloc.AllocError.{AllocError}
 use Rattle.fedi_address.specs.declared.refusal.Refusal.TheVariants.{JournalFull, KeeperFault}
 use Rattle.fedi_entry.specs.Codes.{code_of}
@@ -108,3 +108,8 @@ status_turn growth room h c ask (Some e) before after h' r (inr (inr failed)) = 
 pub posts_hidden : (h h' : List Entry) → HidesPosts h h'
 posts_hidden h h' = λ host name repeat a moment c is grown unseen.
     subst (λ (k : List Entry). Agree (town k) (town h) c) (sym grown) (post_unseen h host name repeat a moment c is unseen)
+
+-- a fact holds where there is nothing
+pub if_none : {T : Type 0} (o : Option T) (P : Type 0) → P → IfNone o P
+if_none None P p = p
+if_none (Some x) P p = tt

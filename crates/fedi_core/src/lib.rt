@@ -19,3 +19,6 @@ pub use facts::Facts;
 pub use fixture::example_history;
 pub use machine::Core;
 pub use seeing::sees;
+
+#[cfg(test)]
+mod tests;

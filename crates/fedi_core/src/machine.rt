@@ -1,6 +1,6 @@
 //! The machine over one history and the keeper of its records.
 
-ghost use Rattle.std.specs.Prelude.{◌≡◌, IfOk, IfErr, OnErr, length};
+ghost use Rattle.std.specs.Prelude.{◌≡◌, IfNone, IfOk, IfErr, OnErr, length};
 ghost use Rattle.std.specs.List.{find};
 ghost use Rattle.sha2.specs.Sha256.{sha256};
 ghost use Rattle.fedi_model.specs.Callers.{caller_by, member_or_refused};
@@ -25,6 +25,7 @@ use std::marker::Model;
 
 /// The machine: a legal history with the facts that it has made, and the keeper of its records. A contract sees it as its history
 /// and its keeper.
+#[derive(Drop)]
 pub struct Core<P: Keeper> {
     held: Held,
     keeper: P,
@@ -100,6 +101,7 @@ impl<P: Keeper> Core<P> {
         ensures turn { IfOk result (λ r. TurnOf P.growth P.room self.old.history (reply (town self.old.history) caller.now ask.now) (entry_of (town self.old.history) caller.now ask.now moment)
             (shown_by P.records P.doubt P.end P.faults self.old.keeper) (shown_by P.records P.doubt P.end P.faults self.new.keeper) self.new.history r) }
         ensures dropped { OnErr result (IsDropped self.old.history (shown_by P.records P.doubt P.end P.faults self.old.keeper) (shown_by P.records P.doubt P.end P.faults self.new.keeper) self.new.history) }
+        ensures untouched { IfNone (entry_of (town self.old.history) caller.now ask.now moment) (self.new.keeper ≡ self.old.keeper) }
         ensures legal { IsLegal self.new.history }
     {
         turn(alloc, &mut self.held, &mut self.keeper, caller, ask, moment)
@@ -120,6 +122,7 @@ impl<P: Keeper> Core<P> {
         ensures turn { IfOk result (λ r. TurnOf P.growth P.room self.old.history (reply (town self.old.history) caller.now ask.now) (entry_of (town self.old.history) caller.now ask.now moment)
             (shown_by P.records P.doubt P.end P.faults self.old.keeper) (shown_by P.records P.doubt P.end P.faults self.new.keeper) self.new.history r) }
         ensures dropped { OnErr result (IsDropped self.old.history (shown_by P.records P.doubt P.end P.faults self.old.keeper) (shown_by P.records P.doubt P.end P.faults self.new.keeper) self.new.history) }
+        ensures untouched { IfNone (entry_of (town self.old.history) caller.now ask.now moment) (self.new.keeper ≡ self.old.keeper) }
         ensures legal { IsLegal self.new.history }
         // Each legal history that agrees with this one on what the caller may know gives the same reply, but for what the keeper does.
         ensures private { IfOk result (λ r. IsPrivateTurn self.old.history caller.now ask.now r) }

@@ -1,6 +1,6 @@
 //! What the machine does for one ask.
 
-ghost use Rattle.std.specs.Prelude.{◌≡◌, ◌∷◌, ◌++◌, [], IfOk, OnErr, None, Some, option_copied, option_map};
+ghost use Rattle.std.specs.Prelude.{◌≡◌, ◌∷◌, ◌++◌, [], IfNone, IfOk, OnErr, None, Some, option_copied, option_map};
 ghost use Rattle.std.specs.List.{find};
 ghost use Rattle.fedi_address.specs.declared.refusal.Refusal.TheVariants.{JournalFull, KeeperFault};
 ghost use Rattle.fedi_entry.specs.Codes.{code_of};
@@ -210,6 +210,7 @@ fn post_turn<P: Keeper>(
         (post_entry_at (town held.old) caller.now name.now (find (is_named name.now) (town held.old).actors) post.now moment)
         (shown_by P.records P.doubt P.end P.faults keeper.old) (shown_by P.records P.doubt P.end P.faults keeper.new) held.new r) }
     ensures dropped { OnErr result (IsDropped held.old (shown_by P.records P.doubt P.end P.faults keeper.old) (shown_by P.records P.doubt P.end P.faults keeper.new) held.new) }
+    ensures untouched { IfNone (post_entry_at (town held.old) caller.now name.now (find (is_named name.now) (town held.old).actors) post.now moment) (keeper.new ≡ keeper.old) }
     ensures legal { IsLegal held.new }
 {
     let verdict = judge(alloc, held.facts(), caller, name, post)?;
@@ -235,6 +236,7 @@ pub fn turn<P: Keeper>(
     ensures turn { IfOk result (λ r. TurnOf P.growth P.room held.old (reply (town held.old) caller.now ask.now) (entry_of (town held.old) caller.now ask.now moment)
         (shown_by P.records P.doubt P.end P.faults keeper.old) (shown_by P.records P.doubt P.end P.faults keeper.new) held.new r) }
     ensures dropped { OnErr result (IsDropped held.old (shown_by P.records P.doubt P.end P.faults keeper.old) (shown_by P.records P.doubt P.end P.faults keeper.new) held.new) }
+    ensures untouched { IfNone (entry_of (town held.old) caller.now ask.now moment) (keeper.new ≡ keeper.old) }
     ensures legal { IsLegal held.new }
 {
     let facts = held.facts();

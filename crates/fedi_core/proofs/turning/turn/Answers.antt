@@ -5,7 +5,7 @@ use Rattle.fedi_model.specs.Replies.{activity_or_missing, seen_activity, maker_o
 use Rattle.fedi_model.specs.Towns.{Town}
 use Rattle.fedi_model.specs.declared.ask.Ask.TheVariants as asks
 use Rattle.fedi_core.specs.Turns.{shown_by}
-use Rattle.fedi_core.proofs.TurnLemmas.{read_ask, on_err, same_dropped}
+use Rattle.fedi_core.proofs.TurnLemmas.{read_ask, if_none, on_err, same_dropped}
 use Rattle.fedi_core.proofs.turning.turn.Goals as goal
 
 pub returns-in-Nowhere-clause-turn : goal.returns-in-Nowhere-clause-turn
@@ -45,3 +45,12 @@ returns-in-Object-clause-dropped g c = on_err c.object_reply.result _ (same_drop
 
 pub returns-in-Object-clause-legal : goal.returns-in-Object-clause-legal
 returns-in-Object-clause-legal g c = c.facts-facts.ensures.legal
+
+pub returns-in-Nowhere-clause-untouched : goal.returns-in-Nowhere-clause-untouched
+returns-in-Nowhere-clause-untouched g c = if_none _ _ refl
+
+pub returns-in-Activity-clause-untouched : goal.returns-in-Activity-clause-untouched
+returns-in-Activity-clause-untouched g c = if_none _ _ refl
+
+pub returns-in-Object-clause-untouched : goal.returns-in-Object-clause-untouched
+returns-in-Object-clause-untouched g c = if_none _ _ refl

@@ -14,3 +14,6 @@ returns-clause-dropped g c = rw (← c.self.view_is) c.turn.ensures.dropped
 
 pub returns-clause-legal : goal.returns-clause-legal
 returns-clause-legal g c = c.turn.ensures.legal
+
+pub returns-clause-untouched : goal.returns-clause-untouched
+returns-clause-untouched g c = rw (← c.self.view_is) c.turn.ensures.untouched
