@@ -1,3 +1,4 @@
+pub mod AnswerLemmas
 pub mod Conversing
 pub mod Determined
 pub mod HistoryLemmas

@@ -34,10 +34,6 @@ pub record Scene : Type 0 where
   pub history : List Entry
   pub keeper : Keeping
 
--- what a keeper shows, by what the trait of keepers says of it
-abbrev pub keeping : {K : Type 0} → (K → Option (List (List ℕ))) → (K → Option (List ℕ)) → (K → ℕ) → (K → ℕ) → K → Keeping
-keeping records doubt end faults k = record { records = records k; doubt = doubt k; end = end k; faults = faults k }
-
 -- the scene of these
 abbrev pub scene_of : Option (List ℕ) → Option (List ℕ) → List Entry → Keeping → Scene
 scene_of input sent history keeper = record { input = input; sent = sent; history = history; keeper = keeper }

@@ -1,9 +1,9 @@
 //! The answer to a request.
 
 ghost use Rattle.std.specs.Prelude.{◌≡◌, IfOk, OnErr};
-ghost use Rattle.fedi_core.specs.Turns.{IsDropped};
+ghost use Rattle.fedi_core.specs.Turns.{IsDropped, shown_by};
 ghost use Rattle.fedi_model.specs.ReplyText.{HasStatus};
-ghost use Rattle.fedi.specs.Endings.{IsTurn, keeping};
+ghost use Rattle.fedi.specs.Endings.{IsTurn};
 
 use fedi_core::Core;
 use fedi_model::{Reply, Request, refusal_reply};
@@ -22,9 +22,9 @@ pub fn answer_request<P: Keeper>(
     moment: Moment,
 ) -> Result<Reply, AllocError>
     ensures turn { IfOk result (λ r. IsTurn P.growth P.room core.old.history core.new.history
-        (keeping P.records P.doubt P.end P.faults core.old.keeper) (keeping P.records P.doubt P.end P.faults core.new.keeper) moment request.now body.now r) }
+        (shown_by P.records P.doubt P.end P.faults core.old.keeper) (shown_by P.records P.doubt P.end P.faults core.new.keeper) moment request.now body.now r) }
     ensures dropped { OnErr result (IsDropped core.old.history
-        (keeping P.records P.doubt P.end P.faults core.old.keeper) (keeping P.records P.doubt P.end P.faults core.new.keeper) core.new.history) }
+        (shown_by P.records P.doubt P.end P.faults core.old.keeper) (shown_by P.records P.doubt P.end P.faults core.new.keeper) core.new.history) }
     ensures status { IfOk result (λ r. HasStatus r) }
 {
     let caller = match core.caller_of(&credentials(request, body)) {

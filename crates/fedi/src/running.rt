@@ -3,11 +3,12 @@
 ghost use Rattle.std.specs.Prelude.{◌≡◌, ◌≢◌, ◌↔◌, ℕ, List, IsTrue, Some, None, map, string_bytes};
 ghost use Rattle.std.specs.Io.KnownBytes.{Appends};
 ghost use Rattle.fedi_outside.specs.Causes.{Rose};
+ghost use Rattle.fedi_core.specs.Turns.{shown_by};
 ghost use Rattle.fedi_model.specs.Histories.{IsLegal};
 ghost use Rattle.fedi_model.specs.Usage.{usage_text};
 ghost use Rattle.fedi.specs.Commands.{command_of};
 ghost use Rattle.fedi.specs.Conversations.{Converses, Exchange, Progress, Setting, AreCalm, IsAtEnd, progress};
-ghost use Rattle.fedi.specs.Endings.{AppendsFront, IsCaused, KeepsSome, Prints, PrintsUnlessFailed, RunsTo, TalksWhereTold, is_status, keeping, scene_of, setting_of, status_of};
+ghost use Rattle.fedi.specs.Endings.{AppendsFront, IsCaused, KeepsSome, Prints, PrintsUnlessFailed, RunsTo, TalksWhereTold, is_status, scene_of, setting_of, status_of};
 
 use crate::commands::{Command, command_of};
 use crate::sessions::{SessionEnd, session};
@@ -62,10 +63,10 @@ fn inetd<S: Source, O: Sink, P: Keeper, C: Clock>(
     clock: &C,
 ) -> Ended<P>
     requires { IsLegal history.items }
-    ensures session { let first = scene_of (S.left input.old) (O.sent out.old) history.items (keeping P.records P.doubt P.end P.faults keeper) in
+    ensures session { let first = scene_of (S.left input.old) (O.sent out.old) history.items (shown_by P.records P.doubt P.end P.faults keeper) in
         RunsTo (Rose (S.read_faults input.old) (S.read_faults input.new)) (Rose (O.write_faults out.old) (O.write_faults out.new))
-        (setting_of P.growth P.room (C.told clock.now) first) first (scene_of (S.left input.new) (O.sent out.new) result.history.items (keeping P.records P.doubt P.end P.faults result.keeper)) result.status }
-    ensures kept { KeepsSome history.items result.history.items (keeping P.records P.doubt P.end P.faults keeper) (keeping P.records P.doubt P.end P.faults result.keeper) }
+        (setting_of P.growth P.room (C.told clock.now) first) first (scene_of (S.left input.new) (O.sent out.new) result.history.items (shown_by P.records P.doubt P.end P.faults result.keeper)) result.status }
+    ensures kept { KeepsSome history.items result.history.items (shown_by P.records P.doubt P.end P.faults keeper) (shown_by P.records P.doubt P.end P.faults result.keeper) }
     ensures read { result.status ≡ 6 → Rose (S.read_faults input.old) (S.read_faults input.new) }
     ensures write { result.status ≡ 7 → Rose (O.write_faults out.old) (O.write_faults out.new) }
     ensures statuses { IsTrue (is_status result.status) }
@@ -126,18 +127,18 @@ pub fn run<S: Source, O: Sink, P: Keeper, C: Clock>(
     // machine gives at the history so far, which each history that agrees on what the caller may
     // know gives too, or one that tells of the keeper and has its cause there. What was kept are the
     // entries that were acknowledged.
-    ensures talk { let first = scene_of (S.left input.old) (O.sent out.old) history.items (keeping P.records P.doubt P.end P.faults keeper) in
+    ensures talk { let first = scene_of (S.left input.old) (O.sent out.old) history.items (shown_by P.records P.doubt P.end P.faults keeper) in
         command_of (map string_bytes words.now) ≡ Some Command.Inetd → result.status ≡ 0
-        → TalksWhereTold (setting_of P.growth P.room (C.told clock.now) first) first (scene_of (S.left input.new) (O.sent out.new) result.history.items (keeping P.records P.doubt P.end P.faults result.keeper)) }
+        → TalksWhereTold (setting_of P.growth P.room (C.told clock.now) first) first (scene_of (S.left input.new) (O.sent out.new) result.history.items (shown_by P.records P.doubt P.end P.faults result.keeper)) }
 
     // At every other status, too, it is a conversation as far as it went.
-    ensures session { let first = scene_of (S.left input.old) (O.sent out.old) history.items (keeping P.records P.doubt P.end P.faults keeper) in
+    ensures session { let first = scene_of (S.left input.old) (O.sent out.old) history.items (shown_by P.records P.doubt P.end P.faults keeper) in
         command_of (map string_bytes words.now) ≡ Some Command.Inetd
         → RunsTo (Rose (S.read_faults input.old) (S.read_faults input.new)) (Rose (O.write_faults out.old) (O.write_faults out.new))
-        (setting_of P.growth P.room (C.told clock.now) first) first (scene_of (S.left input.new) (O.sent out.new) result.history.items (keeping P.records P.doubt P.end P.faults result.keeper)) result.status }
+        (setting_of P.growth P.room (C.told clock.now) first) first (scene_of (S.left input.new) (O.sent out.new) result.history.items (shown_by P.records P.doubt P.end P.faults result.keeper)) result.status }
 
     // Whatever the input, the entries that the run made are the records that came to the keeper.
-    ensures kept { KeepsSome history.items result.history.items (keeping P.records P.doubt P.end P.faults keeper) (keeping P.records P.doubt P.end P.faults result.keeper) }
+    ensures kept { KeepsSome history.items result.history.items (shown_by P.records P.doubt P.end P.faults keeper) (shown_by P.records P.doubt P.end P.faults result.keeper) }
 
     // The usage is printed whole, but where a write failed, and nothing is kept.
     ensures usage { command_of (map string_bytes words.now) ≡ Some Command.Usage → result.status ≡ 0 → Appends (O.sent out.old) (O.sent out.new) usage_text }

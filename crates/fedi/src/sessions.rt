@@ -2,9 +2,10 @@
 
 ghost use Rattle.std.specs.Prelude.{◌≡◌, ◌≤◌, ◌<◌, ◌||◌, false, nat_le, not, IfSome};
 ghost use Rattle.fedi_outside.specs.Causes.{Rose};
+ghost use Rattle.fedi_core.specs.Turns.{shown_by};
 ghost use Rattle.fedi_model.specs.ReplyText.{HasStatus, memory_text, reply_text};
 ghost use Rattle.fedi.specs.Conversations.{Progress};
-ghost use Rattle.fedi.specs.Endings.{AnswersOnce, AppendsFront, EndsWhereTold, IsAt, IsCaused, IsSaid, KeepsSome, RefusesOnce, Scene, Steps, end_by, keeping, scene_of, setting_of};
+ghost use Rattle.fedi.specs.Endings.{AnswersOnce, AppendsFront, EndsWhereTold, IsAt, IsCaused, IsSaid, KeepsSome, RefusesOnce, Scene, Steps, end_by, scene_of, setting_of};
 
 use crate::answers::answer_request;
 use fedi_address::Refusal;
@@ -82,7 +83,7 @@ fn answer<O: Sink, P: Keeper, C: Clock>(
     closing: bool,
 ) -> Said
     ensures answered { AnswersOnce P.growth P.room (C.told clock.now) core.old.history core.new.history
-        (keeping P.records P.doubt P.end P.faults core.old.keeper) (keeping P.records P.doubt P.end P.faults core.new.keeper)
+        (shown_by P.records P.doubt P.end P.faults core.old.keeper) (shown_by P.records P.doubt P.end P.faults core.new.keeper)
         (Rose (O.write_faults out.old) (O.write_faults out.new)) (O.sent out.old) (O.sent out.new) request.now body.now closing result }
     ensures later { O.write_faults out.old ≤ O.write_faults out.new }
 {
@@ -145,11 +146,11 @@ fn exchange<S: Source, O: Sink, P: Keeper, C: Clock>(
 ) -> Option<SessionEnd>
     requires { served < 1000 }
     ensures steps { (first : Scene) (p : Progress) → served ≡ p.count
-        → IsAt (setting_of P.growth P.room (C.told clock.now) first) first (scene_of (S.left input.old) (O.sent out.old) core.old.history (keeping P.records P.doubt P.end P.faults core.old.keeper)) buffer.old p
+        → IsAt (setting_of P.growth P.room (C.told clock.now) first) first (scene_of (S.left input.old) (O.sent out.old) core.old.history (shown_by P.records P.doubt P.end P.faults core.old.keeper)) buffer.old p
         → Steps (Rose (S.read_faults input.old) (S.read_faults input.new)) (Rose (O.write_faults out.old) (O.write_faults out.new))
-        (setting_of P.growth P.room (C.told clock.now) first) first (scene_of (S.left input.new) (O.sent out.new) core.new.history (keeping P.records P.doubt P.end P.faults core.new.keeper)) buffer.new p result }
+        (setting_of P.growth P.room (C.told clock.now) first) first (scene_of (S.left input.new) (O.sent out.new) core.new.history (shown_by P.records P.doubt P.end P.faults core.new.keeper)) buffer.new p result }
     ensures kept { KeepsSome core.old.history core.new.history
-        (keeping P.records P.doubt P.end P.faults core.old.keeper) (keeping P.records P.doubt P.end P.faults core.new.keeper) }
+        (shown_by P.records P.doubt P.end P.faults core.old.keeper) (shown_by P.records P.doubt P.end P.faults core.new.keeper) }
     ensures reads { S.read_faults input.old ≤ S.read_faults input.new }
     ensures writes { O.write_faults out.old ≤ O.write_faults out.new }
     ensures causes { IfSome result (IsCaused (Rose (S.read_faults input.old) (S.read_faults input.new)) (Rose (O.write_faults out.old) (O.write_faults out.new))) }
@@ -190,11 +191,11 @@ pub fn session<S: Source, O: Sink, P: Keeper, C: Clock>(
     clock: &C,
 ) -> SessionEnd
     // Where the input is told: what was read, written and kept is one conversation, which ended so.
-    ensures ends { let first = scene_of (S.left input.old) (O.sent out.old) core.old.history (keeping P.records P.doubt P.end P.faults core.old.keeper) in
+    ensures ends { let first = scene_of (S.left input.old) (O.sent out.old) core.old.history (shown_by P.records P.doubt P.end P.faults core.old.keeper) in
         EndsWhereTold (Rose (S.read_faults input.old) (S.read_faults input.new)) (Rose (O.write_faults out.old) (O.write_faults out.new))
-        (setting_of P.growth P.room (C.told clock.now) first) first (scene_of (S.left input.new) (O.sent out.new) core.new.history (keeping P.records P.doubt P.end P.faults core.new.keeper)) result }
+        (setting_of P.growth P.room (C.told clock.now) first) first (scene_of (S.left input.new) (O.sent out.new) core.new.history (shown_by P.records P.doubt P.end P.faults core.new.keeper)) result }
     ensures kept { KeepsSome core.old.history core.new.history
-        (keeping P.records P.doubt P.end P.faults core.old.keeper) (keeping P.records P.doubt P.end P.faults core.new.keeper) }
+        (shown_by P.records P.doubt P.end P.faults core.old.keeper) (shown_by P.records P.doubt P.end P.faults core.new.keeper) }
     ensures causes { IsCaused (Rose (S.read_faults input.old) (S.read_faults input.new)) (Rose (O.write_faults out.old) (O.write_faults out.new)) result }
 {
     let mut buffer = Buffer::new(alloc);

@@ -1,6 +1,6 @@
 //! The facts that a history has made, kept as plain lists.
 
-ghost use Rattle.std.specs.Prelude.{◌≡◌, ◌++◌, ◌∷◌, [], ◌<◌, IsTrue, OnOk, OnErr, option_copied, length, Some};
+ghost use Rattle.std.specs.Prelude.{◌≡◌, ◌++◌, ◌∷◌, [], ◌<◌, IsTrue, OnOk, OnErr, option_copied, length, take, Some};
 ghost use Rattle.std.specs.List.{find, list_any};
 ghost use Rattle.fedi_model.specs.Activities.{makes};
 ghost use Rattle.fedi_model.specs.Histories.{step, made, posted, may_post, is_admissible};
@@ -121,7 +121,8 @@ impl Facts {
         Ok(())
     }
 
-    fn add_act(
+    /// Adds the activity that an admissible post makes. Where memory is wanted the facts are as before.
+    pub fn add_act(
         &mut self,
         alloc: Global,
         name: &LocalName,
@@ -139,6 +140,20 @@ impl Facts {
         let act = new_act(alloc, self, host, name, repeat, activity, moment)?;
         self.acts.push(act)?;
         Ok(())
+    }
+
+    /// Keeps the first activities alone. It takes no memory.
+    pub fn keep_acts(&mut self, count: usize)
+        ensures { self.new ≡ record self.old { acts = take count self.old.acts } }
+    {
+        self.acts.truncate(count);
+    }
+
+    /// The member of this name, or none where there is no such member.
+    pub fn member(&self, name: &LocalName) -> Option<&Actor>
+        ensures { option_copied result ≡ find (is_named name.now) self.now.actors }
+    {
+        self.actors.iter().find(|a| is_named(a, name))
     }
 
     /// The id of the member of this name, or none where there is no such member.

@@ -48,14 +48,14 @@ fn club(alloc: Global) -> Result<Host, AllocError>
     }
 }
 
-fn named(text: &str) -> LocalName
+pub fn named(text: &str) -> LocalName
     requires { IsTrue (is_name text.now) }
     ensures { result ≡ text.now }
 {
     LocalName::parse(text).unwrap()
 }
 
-fn now() -> Moment
+pub fn now() -> Moment
     ensures { result ≡ SECONDS }
 {
     Moment::clamped(SECONDS)
@@ -92,7 +92,7 @@ fn only(alloc: Global, iri: Iri) -> Result<Items<Iri>, AllocError>
     Ok(list)
 }
 
-fn to_public(alloc: Global) -> Result<Recipients, AllocError>
+pub fn to_public(alloc: Global) -> Result<Recipients, AllocError>
     ensures { IfOk result (λ r. r ≡ example.to_public) }
 {
     let to = only(alloc, Iri::public(alloc)?)?;
@@ -143,7 +143,11 @@ fn note(alloc: Global, content: &str, recipients: Recipients) -> Result<Object, 
     })
 }
 
-fn creation(alloc: Global, content: &str, recipients: Recipients) -> Result<Activity, AllocError>
+pub fn creation(
+    alloc: Global,
+    content: &str,
+    recipients: Recipients,
+) -> Result<Activity, AllocError>
     ensures { IfOk result (λ a. a ≡ example.creation content.now recipients) }
 {
     let note = note(alloc, content, recipients.copy()?)?;

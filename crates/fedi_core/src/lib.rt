@@ -4,16 +4,20 @@
 mod addressing;
 mod facts;
 mod fixture;
+mod held;
 mod ids;
+mod judging;
 mod machine;
 mod making;
 mod replies;
 mod seeing;
+mod showing;
+mod storing;
+mod turning;
 
 pub use facts::Facts;
 pub use fixture::example_history;
 pub use machine::Core;
-pub use replies::reply;
 pub use seeing::sees;
 
 #[cfg(test)]

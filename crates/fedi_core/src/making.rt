@@ -14,7 +14,8 @@ use fedi_model::Act;
 use fedi_objects::{Activity, Moment, Object, ObjectRef, RepeatKey, State, Text};
 use std::alloc::{AllocError, Global};
 
-fn is_done(state: State) -> bool
+/// Whether the effect of an activity in this state has happened.
+pub fn is_done(state: State) -> bool
     ensures { result ≡ is_done state }
 {
     match state {
@@ -28,7 +29,8 @@ fn is_done(state: State) -> bool
     }
 }
 
-fn is_own_id(own: &Option<Iri>, id: &Iri) -> bool
+/// Whether a thing has an id, and it is this one.
+pub fn is_own_id(own: &Option<Iri>, id: &Iri) -> bool
     ensures { result ≡ is_own_id id.now own.now }
 {
     match own {

@@ -1,24 +1,29 @@
-//! The reply to an ask.
+//! The replies to what is read.
 
-ghost use Rattle.std.specs.Prelude.{◌≡◌, ◌^◌, ◌<◌, IfOk, option_copied};
+ghost use Rattle.std.specs.Prelude.{◌≡◌, ◌&&◌, ◌^◌, ◌<◌, false, IfOk, IfSome, Some, filter, option_copied};
+ghost use Rattle.std.specs.List.{find};
+ghost use Rattle.serde_json.specs.View.{view};
+ghost use Rattle.serde_json.specs.Written.{has_float};
 ghost use Rattle.fedi_model.specs.Activities.{whole_of};
-ghost use Rattle.fedi_model.specs.Replies.{document, document_or_missing, maker_of, seen_or_missing, reply};
+ghost use Rattle.fedi_model.specs.Replies.{activity_document, activity_or_missing, document, document_or_missing, has_activity_id, maker_of, object_document, seen_activity, seen_or_missing};
+ghost use Rattle.fedi_model.specs.Seeing.{sees};
 
 use crate::facts::Facts;
-use crate::ids::object_iri;
-use crate::making::whole_of;
+use crate::ids::{activity_iri, object_iri};
+use crate::making::{is_own_id, whole_of};
 use crate::seeing::sees;
-use fedi_address::{LocalName, Refusal};
-use fedi_model::{Act, Ask, Caller, Form, Reply, refusal_reply};
-use fedi_objects::{Bytes, Object, object_value, public_text};
+use crate::showing::shown_of;
+use fedi_address::{Iri, LocalName, Refusal};
+use fedi_model::{Act, Caller, Form, Reply, refusal_reply};
+use fedi_objects::{Bytes, Object, object_value, public_text, public_value};
+use serde_json::Value;
 use std::alloc::{AllocError, Global};
 
-#[tactic(auto, unfolding(fedi_model::specs::Replies::document))]
-fn document(alloc: Global, object: &Object) -> Result<Reply, AllocError>
-    ensures { IfOk result (λ r. r ≡ document object.now) }
+fn document(alloc: Global, value: &Value) -> Result<Reply, AllocError>
+    requires { has_float (view value.now) ≡ false }
+    ensures { IfOk result (λ r. r ≡ document (view value.now)) }
 {
-    let value = object_value(alloc, object, true, true)?;
-    let body = public_text(alloc, &value)?;
+    let body = public_text(alloc, value)?;
     Ok(Reply {
         status: 200,
         form: Form::Activity,
@@ -28,11 +33,30 @@ fn document(alloc: Global, object: &Object) -> Result<Reply, AllocError>
     })
 }
 
+#[tactic(auto, unfolding(fedi_model::specs::Replies::object_document))]
+fn object_document(alloc: Global, object: &Object) -> Result<Reply, AllocError>
+    ensures { IfOk result (λ r. r ≡ object_document object.now) }
+{
+    let value = object_value(alloc, object, true, true)?;
+    let reply = document(alloc, &value)?;
+    Ok(reply)
+}
+
+#[tactic(auto, unfolding(fedi_model::specs::Replies::activity_document))]
+fn activity_document(alloc: Global, act: &Act, id: &Iri) -> Result<Reply, AllocError>
+    requires { act.now.activity.id ≡ Some id.now }
+    ensures { IfOk result (λ r. r ≡ activity_document act.now) }
+{
+    let value = public_value(alloc, &shown_of(act, id), true)?;
+    let reply = document(alloc, &value)?;
+    Ok(reply)
+}
+
 fn document_or_missing(alloc: Global, object: Option<&Object>) -> Result<Reply, AllocError>
     ensures { IfOk result (λ r. r ≡ document_or_missing (option_copied object.entry)) }
 {
     match object {
-        Some(object) => document(alloc, object),
+        Some(object) => object_document(alloc, object),
         None => refusal_reply(alloc, Refusal::NotFound),
     }
 }
@@ -57,7 +81,9 @@ fn seen_or_missing(
     }
 }
 
-fn object_reply(
+/// The reply to who asks for the object that the member's activity of this number made. The error
+/// is want of memory.
+pub fn object_reply(
     alloc: Global,
     facts: &Facts,
     caller: &Caller,
@@ -73,12 +99,47 @@ fn object_reply(
     seen_or_missing(alloc, facts, caller, facts.maker_of(&id))
 }
 
-/// The reply to an ask. The error is want of memory.
-pub fn reply(alloc: Global, facts: &Facts, caller: &Caller, ask: &Ask) -> Result<Reply, AllocError>
-    ensures { IfOk result (λ r. r ≡ reply facts.now caller.now ask.now) }
+#[tactic(auto, unfolding(fedi_model::specs::Replies::has_activity_id))]
+fn has_activity_id(act: &Act, id: &Iri) -> bool
+    ensures { result ≡ has_activity_id id.now act.now }
 {
-    match ask {
-        Ask::Nowhere => refusal_reply(alloc, Refusal::NotFound),
-        Ask::Object(name, number) => object_reply(alloc, facts, caller, name, *number),
+    is_own_id(&act.activity.id, id)
+}
+
+// The first activity that has this id and that the caller sees.
+fn first_seen<'a>(facts: &'a Facts, caller: &Caller, id: &Iri) -> Option<&'a Act>
+    ensures { option_copied result ≡ find (λ x. has_activity_id id.now x && sees facts.now caller.now x) facts.now.acts }
+{
+    facts
+        .acts()
+        .iter()
+        .find(|x| has_activity_id(x, id) && sees(facts, caller, x))
+}
+
+// The activity of this id, among those that the caller sees.
+fn seen_activity<'a>(facts: &'a Facts, caller: &Caller, id: &Iri) -> Option<&'a Act>
+    ensures found { option_copied result ≡ find (has_activity_id id.now) (filter (sees facts.now caller.now) facts.now.acts) }
+    ensures own { IfSome (option_copied result) (λ x. x.activity.id ≡ Some id.now) }
+{
+    first_seen(facts, caller, id)
+}
+
+/// The reply to who asks for the member's activity of this number. The error is want of memory.
+pub fn activity_reply(
+    alloc: Global,
+    facts: &Facts,
+    caller: &Caller,
+    name: &LocalName,
+    number: u32,
+) -> Result<Reply, AllocError>
+    ensures { IfOk result (λ r. r ≡ activity_or_missing (seen_activity facts.now caller.now name.now number)) }
+{
+    let Some(host) = facts.host() else {
+        return refusal_reply(alloc, Refusal::NotFound);
+    };
+    let id = activity_iri(alloc, host, name, number)?;
+    match seen_activity(facts, caller, &id) {
+        Some(act) => activity_document(alloc, act, &id),
+        None => refusal_reply(alloc, Refusal::NotFound),
     }
 }

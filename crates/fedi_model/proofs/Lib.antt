@@ -6,3 +6,4 @@ pub mod Statuses
 pub mod Unseen
 pub mod Clean
 pub mod EachReply
+pub mod Members

@@ -1,12 +1,13 @@
 use Rattle.std.proofs.Common.{◌≤◌, IfSome}
 use Rattle.fedi.proofs.Conversing.{Stands}
-use Rattle.fedi.specs.Endings.{KeepsSome, keeping, scene_of, setting_of}
+use Rattle.fedi_core.specs.Turns.{shown_by}
+use Rattle.fedi.specs.Endings.{KeepsSome, scene_of, setting_of}
 use Rattle.fedi.proofs.sessions.session.Given as goal
 
 abbrev pub invariant-loop-served : goal.invariant-loop-served
 invariant-loop-served g l =
-    let before = keeping g.P.Keeper.records g.P.Keeper.doubt g.P.Keeper.end g.P.Keeper.faults l.fn.core.keeper in
-    let now = keeping g.P.Keeper.records g.P.Keeper.doubt g.P.Keeper.end g.P.Keeper.faults l.core.keeper in
+    let before = shown_by g.P.Keeper.records g.P.Keeper.doubt g.P.Keeper.end g.P.Keeper.faults l.fn.core.keeper in
+    let now = shown_by g.P.Keeper.records g.P.Keeper.doubt g.P.Keeper.end g.P.Keeper.faults l.core.keeper in
     let first = scene_of (g.S.Source.left l.fn.input) (g.O.Sink.sent l.fn.out) l.fn.core.history before in
     record {
       talk : IfSome (g.S.Source.left l.fn.input) (λ input. Stands (setting_of g.P.Keeper.growth g.P.Keeper.room (g.C.Clock.told l.clock) first) first

@@ -6,7 +6,7 @@ use Rattle.std.proofs.lemmas.List.Sums.{fold_more}
 use Rattle.fedi_objects.specs.declared.entry.Entry.{Entry}
 use Rattle.fedi_model.specs.Histories.{step, is_admissible, is_legal_from}
 use Rattle.fedi_model.specs.Towns.{Town, empty_town}
-use Rattle.fedi_core.proofs.machine.facts_of.Goals as goal
+use Rattle.fedi_core.proofs.held.facts_of.Goals as goal
 
 both_other : (a b : Bool) → (a && b) ≡ true → b ≡ true
 both_other true b e = e

@@ -1,0 +1,19 @@
+use Rattle.std.proofs.Common.{◌≡◌, subst}
+use Rattle.std.specs.Prelude.{IfOk, OnErr}
+use Rattle.fedi_model.specs.Histories.{town}
+use Rattle.fedi_model.specs.Replies.{entry_of, reply}
+use Rattle.fedi_core.specs.Machines.{Machine}
+use Rattle.fedi_core.specs.Turns.{TurnOf, IsDropped, shown_by}
+use Rattle.fedi_core.proofs.machine.Core.step.Goals as goal
+
+pub returns-clause-turn : goal.returns-clause-turn
+returns-clause-turn g c = rw (← c.self.view_is) c.turn.ensures.turn
+
+pub returns-clause-dropped : goal.returns-clause-dropped
+returns-clause-dropped g c = rw (← c.self.view_is) c.turn.ensures.dropped
+
+pub returns-clause-legal : goal.returns-clause-legal
+returns-clause-legal g c = c.turn.ensures.legal
+
+pub returns-clause-untouched : goal.returns-clause-untouched
+returns-clause-untouched g c = rw (← c.self.view_is) c.turn.ensures.untouched
