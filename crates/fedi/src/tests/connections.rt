@@ -13,6 +13,9 @@ const FIRST: &str =
 const SECOND: &str =
     "HTTP/1.1 201 Created\r\nDate: Sun, 06 Nov 1994 08:49:37 GMT\r\nLocation: https://club.example/users/ana/a/2\r\nContent-Length: 0\r\n\r\n";
 
+const THOUSANDTH: &str =
+    "/users/ana/a/1000\r\nContent-Length: 0\r\nConnection: close\r\n\r\n";
+
 const FAULT: &str =
     "HTTP/1.1 503 Service Unavailable\r\nDate: Sun, 06 Nov 1994 08:49:37 GMT\r\nContent-Type: application/json\r\nContent-Length: 23\r\n\r\n{\"error\":\"KeeperFault\"}";
 
@@ -118,20 +121,24 @@ fn a_body_is_cut_short_at_each_byte(rt: HostRuntime) -> Result<(), Fail> {
 }
 
 #[test]
-fn the_thousandth_request_is_the_last(rt: HostRuntime) -> Result<(), Fail> {
+fn the_thousandth_post_is_the_last(rt: HostRuntime) -> Result<(), Fail> {
     let alloc = rt.alloc();
-    let one = served_over(alloc, READ.as_bytes(), false)?;
     let mut bytes = Vec::new(alloc);
     for _ in 0..1001 {
-        bytes.extend_from_slice(READ.as_bytes())?;
+        bytes.extend_from_slice(NOTE.as_bytes())?;
     }
-    let left = served_over(alloc, &bytes, false)?;
-    let closing = b"Connection: close\r\n".len();
+    let left = served_at(
+        alloc,
+        younger_town(alloc, 5)?,
+        MemoryKeeper::new(alloc),
+        MemorySource::new(alloc, bytes),
+        MemorySink::new(alloc),
+        SECONDS,
+    )?;
     assert_eq!(rt; left.status, 0);
-    assert_eq!(rt;
-        left.sink.bytes().len(),
-        1000 * one.sink.bytes().len() + closing
-    );
-    assert!(rt; left.sink.bytes().starts_with(one.sink.bytes()));
+    assert_eq!(rt; left.keeper.records().len(), 1000);
+    assert_eq!(rt; left.entries, 1005);
+    assert!(rt; left.sink.bytes().starts_with(FIRST.as_bytes()));
+    assert!(rt; left.sink.bytes().ends_with(THOUSANDTH.as_bytes()));
     Ok(())
 }

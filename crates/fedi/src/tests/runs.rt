@@ -203,7 +203,7 @@ fn each_read_fails_once(rt: HostRuntime) -> Result<(), Fail> {
 #[test]
 fn each_write_fails_once(rt: HostRuntime) -> Result<(), Fail> {
     let alloc = rt.alloc();
-    let bytes = b"GET / HTTP/1.1\r\nHost: a\r\n\r\n";
+    let bytes = b"GET / HTTP/1.1\r\nHost: a\r\n\r\nGET /a HTTP/1.1\r\nHost: a\r\n\r\n";
     let whole = served_over(alloc, bytes, false)?;
     let wanted = whole.sink.bytes();
     for call in 0..wanted.len() {
