@@ -48,6 +48,7 @@ fn club(alloc: Global) -> Result<Host, AllocError>
     }
 }
 
+/// The member's name that this text is.
 pub fn named(text: &str) -> LocalName
     requires { IsTrue (is_name text.now) }
     ensures { result ≡ text.now }
@@ -55,6 +56,7 @@ pub fn named(text: &str) -> LocalName
     LocalName::parse(text).unwrap()
 }
 
+/// When the example town was made.
 pub fn now() -> Moment
     ensures { result ≡ SECONDS }
 {
@@ -92,6 +94,7 @@ fn only(alloc: Global, iri: Iri) -> Result<Items<Iri>, AllocError>
     Ok(list)
 }
 
+/// What goes to everybody (ActivityPub, section 5.6).
 pub fn to_public(alloc: Global) -> Result<Recipients, AllocError>
     ensures { IfOk result (λ r. r ≡ example.to_public) }
 {
@@ -143,6 +146,7 @@ fn note(alloc: Global, content: &str, recipients: Recipients) -> Result<Object, 
     })
 }
 
+/// The Create of a note with this content (ActivityPub, section 6.2). The error is want of memory.
 pub fn creation(
     alloc: Global,
     content: &str,

@@ -13,8 +13,7 @@ const FIRST: &str =
 const SECOND: &str =
     "HTTP/1.1 201 Created\r\nDate: Sun, 06 Nov 1994 08:49:37 GMT\r\nLocation: https://club.example/users/ana/a/2\r\nContent-Length: 0\r\n\r\n";
 
-const THOUSANDTH: &str =
-    "/users/ana/a/1000\r\nContent-Length: 0\r\nConnection: close\r\n\r\n";
+const THOUSANDTH: &str = "/users/ana/a/1000\r\nContent-Length: 0\r\nConnection: close\r\n\r\n";
 
 const FAULT: &str =
     "HTTP/1.1 503 Service Unavailable\r\nDate: Sun, 06 Nov 1994 08:49:37 GMT\r\nContent-Type: application/json\r\nContent-Length: 23\r\n\r\n{\"error\":\"KeeperFault\"}";
