@@ -18,15 +18,13 @@ fn everybody(alloc: Global) -> Result<Recipients, AllocError> {
     })
 }
 
-/// A note with this content.
-fn note(alloc: Global, content: &str) -> Result<Object, AllocError> {
-    let kind = Text::from_text(alloc, "Note")?;
-    let content = Text::from_text(alloc, content)?;
-    Ok(Object {
+/// An object of this type with this content.
+fn object(alloc: Global, kind: Text, recipients: Recipients, content: Text) -> Object {
+    Object {
         id: None,
         kind,
         attributed_to: None,
-        recipients: everybody(alloc)?,
+        recipients,
         in_reply_to: None,
         content: Some(content),
         summary: None,
@@ -37,25 +35,44 @@ fn note(alloc: Global, content: &str) -> Result<Object, AllocError> {
         former_kind: None,
         deleted: None,
         tags: Items::empty(alloc),
-    })
+    }
 }
 
-/// The Create of a note.
-fn creation(alloc: Global, note: Object) -> Result<Activity, AllocError> {
-    Ok(Activity {
+/// The Create of an object.
+fn creation(alloc: Global, object: Object, recipients: Recipients) -> Activity {
+    Activity {
         id: None,
         kind: Kind::Create,
         actor: None,
-        object: ObjectRef::Whole(note),
+        object: ObjectRef::Whole(object),
         target: None,
-        recipients: everybody(alloc)?,
+        recipients,
         in_reply_to: None,
         content: None,
         summary: None,
         name: None,
         published: None,
         tags: Items::empty(alloc),
-    })
+    }
+}
+
+/// The Create of a note to everybody.
+fn hello(alloc: Global) -> Result<Activity, AllocError> {
+    let kind = Text::from_text(alloc, "Note")?;
+    let content = Text::from_text(alloc, "Hello")?;
+    let own = everybody(alloc)?;
+    let recipients = everybody(alloc)?;
+    Ok(creation(alloc, object(alloc, kind, own, content), recipients))
+}
+
+/// Ana's post of this activity.
+fn posted(name: LocalName, activity: Activity) -> Entry {
+    Entry::Local {
+        name,
+        repeat: None,
+        activity,
+        moment: Moment::clamped(784_111_777),
+    }
 }
 
 #[test]
@@ -75,21 +92,8 @@ fn a_host_is_set_up(rt: HostRuntime) -> Result<(), Fail> {
 const LISTS: &[u8] =
     b"\x00\x00\x00\x01\x00\x00\x00\x2chttps://www.w3.org/ns/activitystreams#Public\x00\x00\x00\x00\x00\x00\x00\x00\x00\x00\x00\x00\x00\x00\x00\x00";
 
-#[test]
-fn a_note_is_posted(rt: HostRuntime) -> Result<(), Fail> {
-    let alloc = rt.alloc();
-    let name = LocalName::parse("ana").ok_or("no name")?;
-    let activity = creation(alloc, note(alloc, "Hello")?)?;
-    let moment = Moment::clamped(784_111_777);
-    let bytes = encode(
-        alloc,
-        &Entry::Local {
-            name,
-            repeat: None,
-            activity,
-            moment,
-        },
-    )?;
+/// The bytes of ana's post of a note to everybody.
+fn hello_code(alloc: Global) -> Result<Vec<u8>, AllocError> {
     let mut wanted = Vec::from_slice(
         alloc,
         b"\x04\x00\x00\x00\x03ana\x00\x00\x06\x00\x02\x00\x00\x00\x00\x04Note\x00",
@@ -102,6 +106,16 @@ fn a_note_is_posted(rt: HostRuntime) -> Result<(), Fail> {
     wanted.extend_from_slice(
         b"\x00\x00\x00\x00\x00\x00\x00\x00\x00\x00\x00\x00\x00\x2e\xbc\x98\xa1",
     )?;
+    Ok(wanted)
+}
+
+#[test]
+fn a_note_is_posted(rt: HostRuntime) -> Result<(), Fail> {
+    let alloc = rt.alloc();
+    let name = LocalName::parse("ana").ok_or("no name")?;
+    let wanted = hello_code(alloc)?;
+    let entry = posted(name, hello(alloc)?);
+    let bytes = encode(alloc, &entry)?;
     assert_eq!(rt; bytes, wanted);
     Ok(())
 }
