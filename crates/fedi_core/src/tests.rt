@@ -1,5 +1,6 @@
 ghost use Rattle.std.specs.Prelude.{◌≡◌, take, IfOk};
 ghost use Rattle.fedi_model.specs.Histories.{IsLegal};
+ghost use Rattle.fedi_model.specs.Posting.{IsPostable};
 
 use crate::fixture::{creation, named, now, to_public};
 use crate::*;
