@@ -1,6 +1,5 @@
 pub mod Club
 pub mod ExampleTown
-pub mod Fronts
 pub mod Paths
 pub mod Finds
 pub mod ShownForms

@@ -95,7 +95,7 @@ fn only(alloc: Global, iri: Iri) -> Result<Items<Iri>, AllocError>
 }
 
 /// What goes to everybody (ActivityPub, section 5.6).
-pub fn to_public(alloc: Global) -> Result<Recipients, AllocError>
+fn to_public(alloc: Global) -> Result<Recipients, AllocError>
     ensures { IfOk result (λ r. r ≡ example.to_public) }
 {
     let to = only(alloc, Iri::public(alloc)?)?;
@@ -147,11 +147,7 @@ fn note(alloc: Global, content: &str, recipients: Recipients) -> Result<Object, 
 }
 
 /// The Create of a note with this content (ActivityPub, section 6.2). The error is want of memory.
-pub fn creation(
-    alloc: Global,
-    content: &str,
-    recipients: Recipients,
-) -> Result<Activity, AllocError>
+fn creation(alloc: Global, content: &str, recipients: Recipients) -> Result<Activity, AllocError>
     ensures { IfOk result (λ a. a ≡ example.creation content.now recipients) }
 {
     let note = note(alloc, content, recipients.copy()?)?;

@@ -1,14 +1,13 @@
-ghost use Rattle.std.specs.Prelude.{◌≡◌, take, IfOk};
 ghost use Rattle.fedi_model.specs.Histories.{IsLegal};
 ghost use Rattle.fedi_model.specs.Posting.{IsPostable};
 
-use crate::fixture::{creation, named, now, to_public};
+use crate::fixture::{named, now};
 use crate::*;
 use fedi_address::{Host, LocalName, Refusal};
-use fedi_model::{Ask, Caller, Credentials, Post, Read, Reply};
+use fedi_model::{Ask, Caller, Credentials, Reply};
 use fedi_objects::Entry;
 use fedi_outside::MemoryKeeper;
-use std::alloc::{AllocError, Global};
+use std::alloc::Global;
 use std::process::Abort;
 use std::test::Fail;
 
@@ -35,16 +34,6 @@ fn open(
 
 fn example(alloc: Global) -> Result<Core<MemoryKeeper>, Fail> {
     open(alloc, example_history(alloc)?, MemoryKeeper::new(alloc))
-}
-
-// The first entries of the example town.
-fn first(history: Vec<Entry>, count: usize) -> Vec<Entry>
-    requires { IsLegal history.items }
-    ensures { IsLegal result.items }
-{
-    let mut first = history;
-    first.truncate(count);
-    first
 }
 
 fn name_of(caller: &Caller) -> &str {
@@ -140,56 +129,12 @@ fn objects(rt: HostRuntime) -> Result<(), Fail> {
     answers(&rt, rt.alloc(), &mut core, "ana", &Ask::Nowhere, NOT_FOUND)
 }
 
-// The post of a note to everybody, or to ben alone, to ana's outbox.
-#[tactic(auto, using(crate::proofs::ExampleTown::hello_is_posted))]
-fn hello(alloc: Global) -> Result<Ask, AllocError>
-    ensures { IfOk result (λ ask. IsPostable ask) }
-{
-    let activity = creation(alloc, "Hello", to_public(alloc)?)?;
-    Ok(Ask::Outbox(
-        named("ana"),
-        Post {
-            is_typed: true,
-            is_keyed: false,
-            read: Read::Ready(activity),
-        },
-    ))
-}
-
-fn members(alloc: Global, keeper: MemoryKeeper) -> Result<Core<MemoryKeeper>, Fail> {
-    open(alloc, first(example_history(alloc)?, 5), keeper)
-}
-
 fn answer(alloc: Global, core: &mut Core<MemoryKeeper>, who: &str, ask: &Ask) -> Result<Reply, Fail>
     requires { IsPostable ask.now }
 {
     let caller = caller(alloc, who)?;
     let reply = core.answer(alloc, &caller, ask, now())?;
     Ok(reply)
-}
-
-fn location(reply: &Reply) -> &str {
-    match &reply.location {
-        Some(iri) => iri.text(),
-        None => "",
-    }
-}
-
-const FIRST: &str = "https://club.example/users/ana/a/1";
-
-// Ana posts, and gets this status and location.
-fn posts(
-    rt: &impl Abort,
-    alloc: Global,
-    core: &mut Core<MemoryKeeper>,
-    status: u16,
-    at: &str,
-) -> Result<(), Fail> {
-    let ask = hello(alloc)?;
-    let reply = answer(alloc, core, "ana", &ask)?;
-    assert_eq!(rt; reply.status, status);
-    assert_eq!(rt; location(&reply), at);
-    Ok(())
 }
 
 // Somebody reads the activity of ana's of this number.
@@ -204,43 +149,6 @@ fn reads(
     let ask = Ask::Activity(named("ana"), number);
     let reply = answer(alloc, core, who, &ask)?;
     assert_eq!(rt; reply.status, status, "{who}");
-    Ok(())
-}
-
-// So many entries and records are there at the end.
-fn ends(rt: &impl Abort, core: Core<MemoryKeeper>, entries: usize, records: usize) {
-    let (history, keeper) = core.close();
-    assert_eq!(rt; history.len(), entries);
-    assert_eq!(rt; keeper.records().len(), records);
-}
-
-#[test]
-fn a_post(rt: HostRuntime) -> Result<(), Fail> {
-    let mut core = members(rt.alloc(), MemoryKeeper::new(rt.alloc()))?;
-    posts(&rt, rt.alloc(), &mut core, 201, FIRST)?;
-    reads(&rt, rt.alloc(), &mut core, "ana", 1, 200)?;
-    reads(&rt, rt.alloc(), &mut core, "nobody", 1, 200)?;
-    ends(&rt, core, 6, 1);
-    Ok(())
-}
-
-#[test]
-fn a_keeper_that_fails_once(rt: HostRuntime) -> Result<(), Fail> {
-    let calls = [1].to_vec(rt.alloc())?;
-    let keeper = MemoryKeeper::new(rt.alloc()).failing(calls);
-    let mut core = members(rt.alloc(), keeper)?;
-    posts(&rt, rt.alloc(), &mut core, 503, "")?;
-    posts(&rt, rt.alloc(), &mut core, 201, FIRST)?;
-    ends(&rt, core, 6, 1);
-    Ok(())
-}
-
-#[test]
-fn a_keeper_that_is_full(rt: HostRuntime) -> Result<(), Fail> {
-    let keeper = MemoryKeeper::at(rt.alloc(), (1 << 62) - 10);
-    let mut core = members(rt.alloc(), keeper)?;
-    posts(&rt, rt.alloc(), &mut core, 500, "")?;
-    ends(&rt, core, 5, 0);
     Ok(())
 }
 

@@ -12,6 +12,3 @@ mod objects;
 
 pub use entries::encode;
 pub use laws::{codes_are_unique, codes_begin_with_the_kind};
-
-#[cfg(test)]
-mod tests;

@@ -17,6 +17,10 @@ const HELLO: &str = "{\"type\":\"Note\",\"content\":\"Hello\",\"to\":[\"Public\"
 const CREATED: &str =
     "HTTP/1.1 201 Created\r\nDate: Sun, 06 Nov 1994 08:49:37 GMT\r\nLocation: https://club.example/users/ana/a/1\r\nContent-Length: 0\r\n\r\n";
 
+/// The record of the post of `HELLO`, but for the eight bytes of its moment.
+const RECORD: &str =
+    "\x04\0\0\0\x03ana\0\0\x06\0\x02\0\0\0\0\x04Note\0\0\0\0\x01\0\0\0,https://www.w3.org/ns/activitystreams#Public\0\0\0\0\0\0\0\0\0\0\0\0\0\0\0\0\0\x01\0\0\0\x05Hello\0\0\0\0\0\0\0\0\0\0\0\0\0\0\0\x01\0\0\0,https://www.w3.org/ns/activitystreams#Public\0\0\0\0\0\0\0\0\0\0\0\0\0\0\0\0\0\0\0\0\0\0\0\0\0";
+
 const ACTIVITY: &str =
     "HTTP/1.1 200 OK\r\nDate: Sun, 06 Nov 1994 08:49:37 GMT\r\nContent-Type: application/activity+json\r\nContent-Length: 566\r\n\r\n{\"@context\":\"https://www.w3.org/ns/activitystreams\",\"actor\":\"https://club.example/users/ana\",\"id\":\"https://club.example/users/ana/a/1\",\"object\":{\"attributedTo\":\"https://club.example/users/ana\",\"content\":\"Hello\",\"id\":\"https://club.example/users/ana/o/1\",\"likes\":\"https://club.example/users/ana/o/1/likes\",\"published\":\"1994-11-06T08:49:37Z\",\"shares\":\"https://club.example/users/ana/o/1/shares\",\"to\":[\"https://www.w3.org/ns/activitystreams#Public\"],\"type\":\"Note\"},\"published\":\"1994-11-06T08:49:37Z\",\"to\":[\"https://www.w3.org/ns/activitystreams#Public\"],\"type\":\"Create\"}";
 
@@ -43,6 +47,14 @@ fn get(alloc: Global, target: &str, fields: &str) -> Result<String, AllocError> 
 fn get_as(alloc: Global, target: &str, key: &str) -> Result<String, AllocError> {
     let field = format!(in alloc; "Authorization: Bearer {key}\r\n")?;
     get(alloc, target, field.as_str())
+}
+
+/// The first record that was kept.
+fn first_record(keeper: &MemoryKeeper) -> &[u8] {
+    match keeper.records().first() {
+        Some(record) => record.bytes(),
+        None => &[],
+    }
 }
 
 /// What these bytes leave where nothing was posted yet, in one piece or each byte alone.
@@ -81,6 +93,9 @@ fn a_note_is_posted_and_read_back(rt: HostRuntime) -> Result<(), Fail> {
         assert_eq!(rt; left.sink.bytes(), wanted.as_bytes());
         assert_eq!(rt; left.entries, 6);
         assert_eq!(rt; left.keeper.records().len(), 1);
+        let record = first_record(&left.keeper);
+        assert!(rt; record.starts_with(RECORD.as_bytes()));
+        assert_eq!(rt; record.len(), RECORD.len() + 8);
     }
     Ok(())
 }
