@@ -80,6 +80,14 @@ fn served(
     )
 }
 
+/// Whether what was written begins with the line of this status.
+fn has_status(left: &Outcome, status: &str) -> bool {
+    match left.sink.bytes().strip_prefix(b"HTTP/1.1 ") {
+        Some(rest) => rest.starts_with(status.as_bytes()),
+        None => false,
+    }
+}
+
 #[test]
 fn a_note_is_posted_and_read_back(rt: HostRuntime) -> Result<(), Fail> {
     let alloc = rt.alloc();
@@ -165,7 +173,7 @@ fn a_post_is_refused_for_the_first_reason(rt: HostRuntime) -> Result<(), Fail> {
     for (key, fields, body, status, wanted) in REFUSED {
         let bytes = post(alloc, key, fields, body)?;
         let left = served(alloc, MemoryKeeper::new(alloc), bytes.as_str(), false)?;
-        assert_eq!(rt; &left.sink.bytes()[9..12], status.as_bytes(), "{body}");
+        assert!(rt; has_status(&left, status), "{body}");
         assert!(rt; left.sink.bytes().ends_with(wanted.as_bytes()), "{body}");
         assert_eq!(rt; left.entries, 5);
         assert_eq!(rt; left.keeper.records().len(), 0);
@@ -227,11 +235,7 @@ fn who_and_where_a_post_is_from(rt: HostRuntime) -> Result<(), Fail> {
             "POST {target} HTTP/1.1\r\nHost: club.example\r\n{fields}Content-Length: 49\r\n\r\n{HELLO}"
         )?;
         let left = served(alloc, MemoryKeeper::new(alloc), bytes.as_str(), false)?;
-        assert_eq!(rt;
-            &left.sink.bytes()[9..12],
-            status.as_bytes(),
-            "{target} {fields}"
-        );
+        assert!(rt; has_status(&left, status), "{target} {fields}");
         let wanted = if name.is_empty() {
             String::new(alloc)
         } else {
