@@ -20,7 +20,7 @@ use Rattle.fedi_model.specs.Replies.{entry_of, reply}
 use Rattle.fedi_model.specs.Routes.{Asks}
 use Rattle.fedi_model.specs.Towns.{Town}
 use Rattle.fedi_routes.proofs.AskLemmas.{asked_once}
-use Rattle.fedi.specs.Conversations.{Setting, Outcome, NoEntry, Kept, Full, Failed, Exchange, Progress, Arrives, AreCalm, Converses, IsAnswered, IsAtEnd, IsCalm, IsCutShort, IsExchange, IsNow, IsOver, IsReply, HasRoom, Settles, after, progress}
+use Rattle.fedi.specs.Conversations.{Setting, Outcome, NoEntry, Kept, Full, Failed, Exchange, Progress, Arrives, AreCalm, Converses, IsAnswered, IsAtEnd, IsCalm, IsCutShort, IsExchange, IsNow, IsOver, IsReply, Settles, after, progress}
 
 -- ---- one answer
 

@@ -30,7 +30,7 @@ use Rattle.fedi.specs.declared.sessions.Said.TheVariants.{Whole}
 use Rattle.fedi.specs.declared.sessions.Said.TheVariants as said
 use Rattle.fedi.specs.declared.sessions.SessionEnd.{SessionEnd}
 use Rattle.fedi.specs.declared.sessions.SessionEnd.TheVariants as ends
-use Rattle.fedi.specs.Conversations.{Setting, Outcome, NoEntry, Kept, Full, Failed, Exchange, Progress, IsNow, HasRoom, Settles, IsReply, IsExchange, Arrives, after, closes, kept_in, end_after, doubts_after, failed_after, text_of, Converses, progress}
+use Rattle.fedi.specs.Conversations.{Setting, Outcome, NoEntry, Kept, Full, Failed, Exchange, Progress, IsNow, Settles, IsReply, IsExchange, Arrives, after, closes, kept_in, end_after, doubts_after, failed_after, text_of, Converses, progress}
 use Rattle.fedi.specs.Endings.{Scene, HasKept, KeepsSome, IsKeptTo, IsWritten, IsAt, AppendsFront, IsSaid, IsTurn, AnswersOnce, RefusesOnce, BreaksOff, GivesUp, IsUnread, Finishes, Steps, end_by}
 
 -- ---- sending

@@ -1,7 +1,8 @@
 -- What a connection reads, keeps and writes, request by request (RFC 9112, sections 2.2, 9.3 and 9.6).
-use Rattle.std.specs.Prelude.{◌≡◌, ◌⊎◌, ℕ, ◌+◌, ◌^◌, ◌<◌, ◌≤◌, min, nat_le, Bool, false, true, not, ◌||◌, List, [], ◌∷◌, ◌++◌, length, drop, Option, Some, None}
+use Rattle.std.specs.Prelude.{◌≡◌, ◌⊎◌, ℕ, ◌+◌, ◌≤◌, min, nat_le, Bool, false, true, not, ◌||◌, List, [], ◌∷◌, ◌++◌, length, drop, Option, Some, None}
 use Rattle.std.specs.List.{fold, slice_range}
 use Rattle.fedi_address.specs.declared.refusal.Refusal.TheVariants.{JournalFull, KeeperFault}
+use Rattle.fedi_core.specs.Turns.{HasRoom, IsFull}
 use Rattle.fedi_entry.specs.Codes.{code_of}
 use Rattle.fedi_http.specs.Arrivals.{IsArrival}
 use Rattle.fedi_http.specs.declared.arrivals.Arrived.{Arrived}
@@ -59,10 +60,6 @@ abbrev pub IsNow : Option ℕ → ℕ → Type 0
 IsNow None moment = moment ≤ 253402300799
 IsNow (Some told) moment = moment ≡ min told 253402300799
 
--- the entry's record has room behind this end of a keeper
-abbrev pub HasRoom : Setting → ℕ → Entry → Type 0
-HasRoom w end e = end + w.room (length (code_of e)) ≤ 2 ^ 62
-
 -- What the keeper does decides between the machine's reply, which it gives where the entry is kept or none is made, and
 -- the two that tell of the keeper.
 abbrev pub Settles : Setting → ℕ → Reply → Option Entry → Outcome → Reply → Type 0
@@ -71,9 +68,9 @@ Settles w end r None (Kept e) given = ⊥
 Settles w end r None (Full e) given = ⊥
 Settles w end r None (Failed e) given = ⊥
 Settles w end r (Some made) NoEntry given = ⊥
-Settles w end r (Some made) (Kept e) given = (e ≡ made) × HasRoom w end made × (given ≡ r)
-Settles w end r (Some made) (Full e) given = (e ≡ made) × (2 ^ 62 < end + w.room (length (code_of made))) × (given ≡ refused JournalFull)
-Settles w end r (Some made) (Failed e) given = (e ≡ made) × HasRoom w end made × (given ≡ refused KeeperFault)
+Settles w end r (Some made) (Kept e) given = (e ≡ made) × HasRoom w.room end (length (code_of made)) × (given ≡ r)
+Settles w end r (Some made) (Full e) given = (e ≡ made) × IsFull w.room end (length (code_of made)) × (given ≡ refused JournalFull)
+Settles w end r (Some made) (Failed e) given = (e ≡ made) × HasRoom w.room end (length (code_of made)) × (given ≡ refused KeeperFault)
 
 -- the reply is that of each legal history that gives the request the same caller and agrees with this one for that
 -- caller, or it tells of the keeper

@@ -1,14 +1,13 @@
 //! The whole program, over whatever lies outside.
 
 ghost use Rattle.std.specs.Prelude.{◌≡◌, ◌≢◌, ◌↔◌, ℕ, List, IsTrue, Some, None, map, string_bytes};
-ghost use Rattle.std.specs.Io.KnownBytes.{Appends};
 ghost use Rattle.fedi_outside.specs.Causes.{Rose};
 ghost use Rattle.fedi_core.specs.Turns.{shown_by};
 ghost use Rattle.fedi_model.specs.Histories.{IsLegal};
 ghost use Rattle.fedi_model.specs.Usage.{usage_text};
 ghost use Rattle.fedi.specs.Commands.{command_of};
 ghost use Rattle.fedi.specs.Conversations.{Converses, Exchange, Progress, Setting, AreCalm, IsAtEnd, progress};
-ghost use Rattle.fedi.specs.Endings.{AppendsFront, IsCaused, KeepsSome, Prints, PrintsUnlessFailed, RunsTo, TalksWhereTold, is_status, scene_of, setting_of, status_of};
+ghost use Rattle.fedi.specs.Endings.{KeepsSome, Prints, PrintsUnlessFailed, RunsTo, TalksWhereTold, is_status, scene_of, setting_of, status_of};
 
 use crate::commands::{Command, command_of};
 use crate::sessions::{SessionEnd, session};
@@ -140,11 +139,12 @@ pub fn run<S: Source, O: Sink, P: Keeper, C: Clock>(
     // Whatever the input, the entries that the run made are the records that came to the keeper.
     ensures kept { KeepsSome history.items result.history.items (shown_by P.records P.doubt P.end P.faults keeper) (shown_by P.records P.doubt P.end P.faults result.keeper) }
 
-    // The usage is printed whole, but where a write failed, and nothing is kept.
-    ensures usage { command_of (map string_bytes words.now) ≡ Some Command.Usage → result.status ≡ 0 → Appends (O.sent out.old) (O.sent out.new) usage_text }
-    ensures begun_usage { command_of (map string_bytes words.now) ≡ Some Command.Usage → result.status ≡ 7 → AppendsFront (O.sent out.old) (O.sent out.new) usage_text }
+    // The usage is printed whole, but where a write failed. Nothing is read, and nothing is kept.
+    ensures usage { command_of (map string_bytes words.now) ≡ Some Command.Usage
+        → Prints (Rose (O.write_faults out.old) (O.write_faults out.new)) (O.sent out.old) (O.sent out.new) usage_text result.status }
     ensures refused { result.status ≡ 2 → PrintsUnlessFailed (Rose (O.write_faults out.old) (O.write_faults out.new)) (O.sent out.old) (O.sent out.new) usage_text }
-    ensures idle { command_of (map string_bytes words.now) ≢ Some Command.Inetd → (result.history.items ≡ history.items) × (result.keeper ≡ keeper) }
+    ensures idle { command_of (map string_bytes words.now) ≢ Some Command.Inetd
+        → (input.new ≡ input.old) × (result.history.items ≡ history.items) × (result.keeper ≡ keeper) }
 
     // A failure has its cause outside.
     ensures read { result.status ≡ 6 → Rose (S.read_faults input.old) (S.read_faults input.new) }

@@ -1,5 +1,7 @@
 -- A legal history stays one where a post is added that may be.
 use Rattle.std.proofs.Common.{◌≡◌, true, List, [], ◌∷◌, ◌++◌, Option, Some, None, refl, sym, subst, ◌∙◌}
+use Rattle.std.specs.Cmp.Derive.{both_true}
+use Rattle.std.proofs.lemmas.Bool.{and_parts}
 use Rattle.std.specs.Prelude.{Result, Ok, Err, OnOk, OnErr}
 use Rattle.std.specs.List.{fold}
 use Rattle.std.proofs.lemmas.List.Sums.{fold-append}
@@ -18,7 +20,7 @@ pub may_add : (h : List Entry) (e : Entry) → IsLegal h → MayAdd (town h) e �
 may_add h (Hosted host moment) legal may = absurd may
 may_add h (Made name digest locked moment) legal may = absurd may
 may_add h (PeerSet host key address relay moment) legal may = absurd may
-may_add h (Local name None a moment) legal may = both _ _ (member_may_post h name may.member legal may.is may.fewer) may.posted
+may_add h (Local name None a moment) legal may = both_true (member_may_post h name may.member legal may.is may.fewer) may.posted
 may_add h (Local name (Some repeat) a moment) legal may = absurd may
 may_add h (Remote peer inbox a moment) legal may = absurd may
 may_add h (Tried activity recipient came moment) legal may = absurd may
@@ -37,10 +39,10 @@ pub town_grown : (h : List Entry) (e : Entry) → town (h ++ e ∷ []) ≡ step 
 town_grown h e = fold-append step empty_town h (e ∷ [])
 
 legal_from_grown : (t : Town) (h : List Entry) (e : Entry) → is_legal_from t h ≡ true → is_admissible (fold step t h) e ≡ true → is_legal_from t (h ++ e ∷ []) ≡ true
-legal_from_grown t [] e legal next = both _ _ next refl
+legal_from_grown t [] e legal next = both_true next refl
 legal_from_grown t (x ∷ h) e legal next =
-    both _ _ (both_first (is_admissible t x) (is_legal_from (step t x) h) legal)
-    (legal_from_grown (step t x) h e (both_other (is_admissible t x) (is_legal_from (step t x) h) legal) next)
+    both_true ((and_parts (is_admissible t x) (is_legal_from (step t x) h) legal).0)
+    (legal_from_grown (step t x) h e ((and_parts (is_admissible t x) (is_legal_from (step t x) h) legal).1) next)
 
 legal_grown : (h : List Entry) (e : Entry) → IsLegal h → is_admissible (town h) e ≡ true → IsLegal (h ++ e ∷ [])
 legal_grown h e legal next = record { admissible = legal_from_grown empty_town h e legal.admissible next }

@@ -1,8 +1,9 @@
 -- The paths of ids are plain, so that each id is an IRI.
 use Rattle.std.proofs.Common.{◌≡◌, ℕ, ◌+◌, ◌%◌, ◌^◌, ◌<◌, ◌≤◌, Bool, true, false, leb, List, [], ◌∷◌, ◌++◌, length, refl, ◌∙◌, arith, lit<, lit≤}
+use Rattle.std.specs.Cmp.Derive.{both_true}
 use Rattle.std.specs.Prelude.{◌&&◌, ◌||◌, IsTrue, codes, decimal}
 use Rattle.std.specs.List.{list_all}
-use Rattle.std.proofs.lemmas.Bool.{le-leb, leb-true}
+use Rattle.std.proofs.lemmas.Bool.{and_parts, le-leb, leb-true}
 use Rattle.std.proofs.lemmas.Fmt.{decimal_by_steps, length-decimal-le}
 use Rattle.std.proofs.lemmas.List.{length-append}
 use Rattle.std.proofs.lemmas.List.Folds.{list_all-append}
@@ -14,37 +15,26 @@ or_true : (a b : Bool) → b ≡ true → (a || b) ≡ true
 or_true true b e = refl
 or_true false b e = e
 
-pub both : (a b : Bool) → a ≡ true → b ≡ true → (a && b) ≡ true
-both a b ea eb = rw (ea, eb) refl
-
-pub both_first : (a b : Bool) → (a && b) ≡ true → a ≡ true
-both_first true b e = refl
-both_first false b e = absurd cc
-
-pub both_other : (a b : Bool) → (a && b) ≡ true → b ≡ true
-both_other true b e = e
-both_other false b e = absurd cc
-
 digit_in_path : (d : ℕ) → d < 10 → is_path_byte (48 + d) ≡ true
 digit_in_path d lt =
     let low : leb 48 (48 + d) ≡ true = le-leb 48 (48 + d) (omega arith) in
     let high : leb (48 + d) 57 ≡ true = le-leb (48 + d) 57 (omega arith) in
-    let digit : is_digit (48 + d) ≡ true = both _ _ low high in
+    let digit : is_digit (48 + d) ≡ true = both_true low high in
     let second : (is_lower (48 + d) || is_digit (48 + d)) ≡ true = or_true (is_lower (48 + d)) (is_digit (48 + d)) digit in
     rw second refl
 
 digits_in_path : (n : ℕ) → n < 2 ^ 64 → list_all is_path_byte (decimal n) ≡ true
 digits_in_path =
     decimal_by_steps (λ n ds. list_all is_path_byte ds ≡ true)
-    (λ n lt. both _ _ (digit_in_path n lt) refl)
-    (λ n ds more h. list_all-append is_path_byte ds ((48 + n % 10) ∷ []) ∙ both _ _ h (both _ _ (digit_in_path (n % 10) (omega arith)) refl))
+    (λ n lt. both_true (digit_in_path n lt) refl)
+    (λ n ds more h. list_all-append is_path_byte ds ((48 + n % 10) ∷ []) ∙ both_true h (both_true (digit_in_path (n % 10) (omega arith)) refl))
 
 name_in_path : (name : List ℕ) → list_all is_name_byte name ≡ true → list_all is_path_byte name ≡ true
 name_in_path [] h = refl
 name_in_path (b ∷ name) h =
-    let first : is_name_byte b ≡ true = both_first (is_name_byte b) (list_all is_name_byte name) h in
-    let rest = name_in_path name (both_other (is_name_byte b) (list_all is_name_byte name) h) in
-    both (is_path_byte b) (list_all is_path_byte name) (rw first refl) rest
+    let first : is_name_byte b ≡ true = (and_parts (is_name_byte b) (list_all is_name_byte name) h).0 in
+    let rest = name_in_path name ((and_parts (is_name_byte b) (list_all is_name_byte name) h).1) in
+    both_true (rw first refl) rest
 
 -- what a name gives a path
 record NameFacts (name : List ℕ) : Type 0 where
@@ -53,17 +43,17 @@ record NameFacts (name : List ℕ) : Type 0 where
 
 name_facts : (name : List ℕ) → IsTrue (is_name name) → NameFacts name
 name_facts name h =
-    let first : (leb 1 (length name) && leb (length name) 30) ≡ true = both_first (leb 1 (length name) && leb (length name) 30) (list_all is_name_byte name) h in
+    let first : (leb 1 (length name) && leb (length name) 30) ≡ true = (and_parts (leb 1 (length name) && leb (length name) 30) (list_all is_name_byte name) h).0 in
     record {
-      short = leb-true (length name) 30 (both_other (leb 1 (length name)) (leb (length name) 30) first);
-      bytes = name_in_path name (both_other (leb 1 (length name) && leb (length name) 30) (list_all is_name_byte name) h);
+      short = leb-true (length name) 30 ((and_parts (leb 1 (length name)) (leb (length name) 30) first).1);
+      bytes = name_in_path name ((and_parts (leb 1 (length name) && leb (length name) 30) (list_all is_name_byte name) h).1);
     }
 
 -- after `/users/` a short text of such bytes makes a plain path
 plain_after_users : (tail : List ℕ) → length tail ≤ 121 → list_all is_path_byte tail ≡ true → IsTrue (is_plain_path (codes "/users/" ++ tail))
 plain_after_users tail short bytes =
     let room : leb (length (codes "/users/" ++ tail)) 128 ≡ true = le-leb (length (codes "/users/" ++ tail)) 128 (omega arith) in
-    both _ _ (both _ _ refl room) (rw bytes refl)
+    both_true (both_true refl room) (rw bytes refl)
 
 pub actor_path_is_plain : (name : List ℕ) → IsTrue (is_name name) → IsTrue (is_plain_path (actor_path name))
 actor_path_is_plain name h = let n = name_facts name h in plain_after_users name (omega (arith, n.short)) n.bytes
@@ -76,7 +66,7 @@ plain_numbered kind name number three plain small h =
     plain_after_users (name ++ (kind ++ decimal number))
     (omega (arith, length-append name (kind ++ decimal number), length-append kind (decimal number), n.short))
     (list_all-append is_path_byte name (kind ++ decimal number)
-    ∙ both _ _ n.bytes (list_all-append is_path_byte kind (decimal number) ∙ both _ _ plain (digits_in_path number (omega arith))))
+    ∙ both_true n.bytes (list_all-append is_path_byte kind (decimal number) ∙ both_true plain (digits_in_path number (omega arith))))
 
 pub activity_path_is_plain : (name : List ℕ) (number : ℕ) → number < 2 ^ 32 → IsTrue (is_name name) → IsTrue (is_plain_path (activity_path name number))
 activity_path_is_plain name number small h = plain_numbered (codes "/a/") name number (lit≤ tt) refl small h

@@ -41,13 +41,13 @@ pub record IsUntouched (before after : Kept) : Type 0 where
   pub same : HasSame before after
   pub doubt : after.doubt ≡ before.doubt
 
--- a record of this length would take it past its limit
-abbrev pub IsFull : (ℕ → ℕ) → Kept → ℕ → Type 0
-IsFull room k length = 2 ^ 62 < k.end + room length
+-- behind this end, a record of this length would go past the limit of a keeper
+abbrev pub IsFull : (ℕ → ℕ) → ℕ → ℕ → Type 0
+IsFull room end length = 2 ^ 62 < end + room length
 
--- there is room for a record of this length
-abbrev pub HasRoom : (ℕ → ℕ) → Kept → ℕ → Type 0
-HasRoom room k length = k.end + room length ≤ 2 ^ 62
+-- behind this end there is room for a record of this length
+abbrev pub HasRoom : (ℕ → ℕ) → ℕ → ℕ → Type 0
+HasRoom room end length = end + room length ≤ 2 ^ 62
 
 -- the record was added, and nothing is in doubt
 pub record HasAdded (growth : ℕ → ℕ) (code : List ℕ) (before after : Kept) : Type 0 where
@@ -68,9 +68,9 @@ pub record HasFailed (code : List ℕ) (before after : Kept) : Type 0 where
 
 -- what came of a record that was to be kept
 abbrev pub Keeps : (ℕ → ℕ) → (ℕ → ℕ) → List ℕ → Kept → Result (Unit {0}) KeepFault → Kept → Type 0
-Keeps growth room code before (Ok done) after = HasRoom room before (length code) × HasAdded growth code before after
-Keeps growth room code before (Err Full) after = IsFull room before (length code) × IsUntouched before after
-Keeps growth room code before (Err Failed) after = HasRoom room before (length code) × HasFailed code before after
+Keeps growth room code before (Ok done) after = HasRoom room before.end (length code) × HasAdded growth code before after
+Keeps growth room code before (Err Full) after = IsFull room before.end (length code) × IsUntouched before after
+Keeps growth room code before (Err Failed) after = HasRoom room before.end (length code) × HasFailed code before after
 Keeps growth room code before (Err Memory) after = IsUntouched before after
 
 -- ---- the turn
@@ -94,21 +94,21 @@ pub record IsRead (h : List Entry) (r : Reply) (before after : Kept) (h' : List 
 pub record IsKept (growth room : ℕ → ℕ) (h : List Entry) (r : Reply) (e : Entry) (before after : Kept) (h' : List Entry) (r' : Reply) : Type 0 where
   pub reply : r' ≡ r
   pub history : h' ≡ h ++ e ∷ []
-  pub fits : HasRoom room before (length (code_of e))
+  pub fits : HasRoom room before.end (length (code_of e))
   pub keeper : HasAdded growth (code_of e) before after
 
 -- there was no room for the entry
 pub record IsTurnedAway (room : ℕ → ℕ) (h : List Entry) (e : Entry) (before after : Kept) (h' : List Entry) (r' : Reply) : Type 0 where
   pub reply : r' ≡ refused JournalFull
   pub history : h' ≡ h
-  pub full : IsFull room before (length (code_of e))
+  pub full : IsFull room before.end (length (code_of e))
   pub keeper : IsUntouched before after
 
 -- the keeper failed
 pub record IsGivenUp (room : ℕ → ℕ) (h : List Entry) (e : Entry) (before after : Kept) (h' : List Entry) (r' : Reply) : Type 0 where
   pub reply : r' ≡ refused KeeperFault
   pub history : h' ≡ h
-  pub fits : HasRoom room before (length (code_of e))
+  pub fits : HasRoom room before.end (length (code_of e))
   pub keeper : HasFailed (code_of e) before after
 
 -- The turn whose reply is `r` and which makes this entry, from a history and a keeper to those after it, with the

@@ -1,5 +1,6 @@
 -- No object is made twice: a Create is done only where its object's id is new.
 use Rattle.std.proofs.Common.{◌≡◌, ℕ, Bool, true, false, List, [], ◌∷◌, ◌++◌, Option, Some, None, refl, subst}
+use Rattle.std.proofs.lemmas.Bool.{and_parts}
 use Rattle.std.proofs.lemmas.List.{append-nil}
 use Rattle.std.proofs.lemmas.Slice.Eq.{bytes_eq-Decides}
 use Rattle.std.specs.Prelude.{◌+◌, ◌&&◌, not, if◌then◌else◌}
@@ -21,14 +22,6 @@ use Rattle.fedi_model.proofs.Finding.{PassesOnce, PassesOnce-push}
 
 pub record MadeOnce (t : Town) : Type 0 where
   pub once : (id : List ℕ) → PassesOnce (makes id) t.acts
-
-both_first : (a b : Bool) → (a && b) ≡ true → a ≡ true
-both_first true b e = refl
-both_first false b e = absurd cc
-
-both_other : (a b : Bool) → (a && b) ≡ true → b ≡ true
-both_other true b e = e
-both_other false b e = absurd cc
 
 bytes_eq-true : (xs ys : List ℕ) → bytes_eq xs ys ≡ true → xs ≡ ys
 bytes_eq-true xs ys e = (bytes_eq-Decides xs ys).0 e
@@ -52,9 +45,9 @@ is_new_by t k host name number moment id (Id iri) made = absurd (not_done (is_cr
 is_new_by t k host name number moment id (Changed change) made = absurd (not_done (is_create k) false made)
 is_new_by t k host name number moment id (Whole o) made =
     let own : List ℕ = object_id host name number in
-    let inner = both_other (is_create k) (is_done (local_state t k own (Some o)) && bytes_eq own id) made in
-    let done = both_first (is_done (local_state t k own (Some o))) (bytes_eq own id) inner in
-    let same : own ≡ id = bytes_eq-true own id (both_other (is_done (local_state t k own (Some o))) (bytes_eq own id) inner) in
+    let inner = (and_parts (is_create k) (is_done (local_state t k own (Some o)) && bytes_eq own id) made).1 in
+    let done = (and_parts (is_done (local_state t k own (Some o))) (bytes_eq own id) inner).0 in
+    let same : own ≡ id = bytes_eq-true own id ((and_parts (is_done (local_state t k own (Some o))) (bytes_eq own id) inner).1) in
     let new : list_any (makes own) t.acts ≡ false = is_new_where_done (list_any (makes own) t.acts) (is_create k) done in
     subst (λ (i : List ℕ). list_any (makes i) t.acts ≡ false) same new
 

@@ -114,6 +114,26 @@ people_fault d =
     (λ reply. then_fault (reads_recipients d) _ _ _ (recipients_fault d) (λ people. ended_fault _ TooManyRecipients (reply, people)) ∙ or_cond (list_any is_bad (all_entries d)) BadIri (only (nat_lt 500 (length (all_entries d))) TooManyRecipients))
     ∙ either_first (is_bad_reply d) (list_any is_bad (all_entries d)) BadIri _
 
+fault_of : {A : Type 0} (r : Result A ShapeFault) (e : ShapeFault) → result_err r ≡ Some e → r ≡ Err e
+fault_of (Ok x) e h = absurd cc
+fault_of (Err e) f h = cc
+
+good_of : {A : Type 0} (r : Result A ShapeFault) → result_err r ≡ None → (x : A) × (r ≡ Ok x)
+good_of (Ok x) h = (x, refl)
+good_of (Err e) h = absurd cc
+
+-- of too many entries one is bad
+pub bad_crowd : (d : Data) (reply : Option (List ℕ)) → reads_reply d ≡ Ok reply → list_any is_bad (all_entries d) ≡ true → reads_people d ≡ Err BadIri
+unfolding reads_people
+bad_crowd d reply h k = rw (h, fault_of (reads_recipients d) BadIri (recipients_fault d ∙ ap (λ b. only b BadIri) k)) refl
+
+-- of too many entries none is bad
+pub good_crowd : (d : Data) (reply : Option (List ℕ)) → reads_reply d ≡ Ok reply → list_any is_bad (all_entries d) ≡ false → nat_lt 500 (length (all_entries d)) ≡ true → reads_people d ≡ Err TooManyRecipients
+unfolding reads_people
+good_crowd d reply h k n =
+    let good = good_of (reads_recipients d) (recipients_fault d ∙ ap (λ b. only b BadIri) k) in
+    rw (h, good.1, n) refl
+
 text_fault : (key : List ℕ) (d : Data) → result_err (reads_text key d) ≡ only (is_long (text_at key d)) BadText
 unfolding reads_text
 text_fault key d = long_fault (text_at key d)

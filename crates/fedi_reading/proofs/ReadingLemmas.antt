@@ -66,18 +66,27 @@ read_more ds d kept text h e =
       once = rw (filter_map-append recipient_of ds (d ∷ []), read.1, fold-append add_new [] (filter_map recipient_of ds) (text ∷ []), ← h.once) refl;
     }
 
+-- none is bad with one more that is read
+pub stays_good : (ds : List Data) (d : Data) (o : Option (List ℕ)) → list_any is_bad ds ≡ false → reads_entry d ≡ Ok o → list_any is_bad (ds ++ d ∷ []) ≡ false
+stays_good ds d o h e = goes_past ds d h (entry_ok d o e).0
+
 -- all entries are read
 pub reads_all : (ds : List Data) (kept : List (List ℕ)) → HasRead ds kept → reads_entries ds ≡ Ok kept
 unfolding reads_entries
 reads_all ds kept h = rw (h.good, h.once) refl
 
+-- a bad entry is found among all
+pub finds_bad : {X : Type 0} (f : X → Data) (xs : List X) (i : ℕ) (x : X) (e : ShapeFault) → i < length xs → reads_entry (f (get_or xs i x)) ≡ Err e → (e ≡ BadIri) × (list_any is_bad (map f xs) ≡ true)
+finds_bad f xs i x e h k =
+    let bad = entry_err (f (get_or xs i x)) e k in
+    (bad.1, list_any_map f is_bad xs ∙ list_any_at (λ y. is_bad (f y)) xs i x h bad.0)
+
 -- one bad entry makes the field bad
 pub reads_none : {X : Type 0} (f : X → Data) (xs : List X) (i : ℕ) (x : X) (e : ShapeFault) → i < length xs → reads_entry (f (get_or xs i x)) ≡ Err e → reads_entries (map f xs) ≡ Err e
 unfolding reads_entries
 reads_none f xs i x e h k =
-    let bad = entry_err (f (get_or xs i x)) e k in
-    let all : list_any is_bad (map f xs) ≡ true = list_any_map f is_bad xs ∙ list_any_at (λ y. is_bad (f y)) xs i x h bad.0 in
-    rw (all, bad.1) refl
+    let bad = finds_bad f xs i x e h k in
+    rw (bad.1, bad.0) refl
 
 -- one more element is tried
 pub filter_map_more : {X Y : Type 0} (h : X → Option Y) (xs : List X) (x : X) (o : Option Y) → h x ≡ o → filter_map h (xs ++ x ∷ []) ≡ filter_map h xs ++ cons_option o []

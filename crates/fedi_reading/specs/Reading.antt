@@ -1,5 +1,5 @@
 -- What is read of an object that a client posts (ActivityStreams 2.0 Vocabulary, section 4; ActivityPub, sections 5.6 and 6.2).
-use Rattle.std.specs.Prelude.{ℕ, List, [], ◌∷◌, ◌++◌, length, fold, Bool, false, not, ◌&&◌, ◌||◌, nat_le, nat_lt, Option, Some, None, is_some, is_none, option_and_then, option_map, if◌then◌else◌, codes, bytes_eq, Result, Ok, Err}
+use Rattle.std.specs.Prelude.{◌≡◌, ◌≢◌, ℕ, List, [], ◌∷◌, ◌++◌, length, fold, Bool, true, false, not, ◌&&◌, ◌||◌, nat_le, nat_lt, Option, Some, None, is_some, is_none, option_and_then, option_map, if◌then◌else◌, codes, bytes_eq, Result, Ok, Err}
 use Rattle.std.specs.Option.{option_map_or}
 use Rattle.std.specs.List.{list_any, filter_map}
 use Rattle.serde_json.specs.Data.{Data}
@@ -15,7 +15,7 @@ use Rattle.fedi_objects.specs.declared.activity.ObjectRef.TheVariants.{Whole}
 use Rattle.fedi_objects.specs.declared.activity.Activity.{Activity}
 use Rattle.fedi_objects.specs.declared.kind.Kind.TheVariants.{Create}
 use Rattle.fedi_reading.specs.declared.shape_fault.ShapeFault.{ShapeFault}
-use Rattle.fedi_reading.specs.declared.shape_fault.ShapeFault.TheVariants.{NotObject, BadContext, BadIri, TooManyRecipients}
+use Rattle.fedi_reading.specs.declared.shape_fault.ShapeFault.TheVariants.{NotObject, BadContext, BadIri, TooManyRecipients, Memory}
 
 -- the short names of the collection of everyone (ActivityPub, section 5.6)
 unfoldable pub is_everyone : List ℕ → Bool
@@ -69,6 +69,11 @@ reads_recipients d = do
   hidden ← reads_fields (codes "bto") (codes "bcc") d
   audience ← reads_entries (entries_at (codes "audience") d)
   Ok (record { to = told.0; cc = told.1; bto = hidden.0; bcc = hidden.1; audience = audience })
+
+-- no entry is bad, or one is, or memory was wanted
+abbrev pub Checks : Result (Unit {0}) ShapeFault → List Data → Type 0
+Checks (Ok done) ds = list_any is_bad ds ≡ false
+Checks (Err e) ds = e ≢ Memory → (e ≡ BadIri) × (list_any is_bad ds ≡ true)
 
 -- an address that is there must be one
 abbrev pub reads_iri : Option (List ℕ) → Result (Option (List ℕ)) ShapeFault

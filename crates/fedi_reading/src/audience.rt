@@ -3,6 +3,7 @@
 ghost use Rattle.std.specs.Prelude.{◌≡◌, length, map, IfOk, OnOk};
 ghost use Rattle.serde_json.specs.View.{view};
 ghost use Rattle.fedi_reading.specs.Reading as reading;
+ghost use Rattle.fedi_reading.specs.Reading.{Checks};
 ghost use Rattle.fedi_reading.specs.Shapes.{Gives};
 
 use crate::properties::{entries_at, iri_of, named};
@@ -54,6 +55,29 @@ fn add_new(kept: &mut Items<Iri>, iri: Iri) -> Result<(), AllocError>
         return Ok(());
     }
     kept.push(iri)
+}
+
+// Refuses an entry that names somebody by no address.
+fn check_entries(alloc: Global, entries: &[Value]) -> Result<(), ShapeFault>
+    ensures { Checks result (map view entries.now) }
+{
+    for entry in entries {
+        read_entry(alloc, entry)?;
+    }
+    Ok(())
+}
+
+// Refuses such an entry of any of the five fields. It takes time that grows with the entries alone, where
+// `read_recipients` looks for each among all.
+#[tactic(auto, unfolding(crate::specs::Reading::all_entries))]
+pub(crate) fn check_recipients(alloc: Global, value: &Value) -> Result<(), ShapeFault>
+    ensures { Checks result (reading.all_entries (view value.now)) }
+{
+    check_entries(alloc, entries_at(value, "to"))?;
+    check_entries(alloc, entries_at(value, "cc"))?;
+    check_entries(alloc, entries_at(value, "bto"))?;
+    check_entries(alloc, entries_at(value, "bcc"))?;
+    check_entries(alloc, entries_at(value, "audience"))
 }
 
 // The addresses of a field, each once.

@@ -8,7 +8,7 @@ ghost use Rattle.fedi_reading.specs.Faults.{first_fault};
 ghost use Rattle.fedi_reading.specs.Reading as reading;
 ghost use Rattle.fedi_reading.specs.Shapes.{Gives};
 
-use crate::audience::{entry_count, read_recipients};
+use crate::audience::{check_recipients, entry_count, read_recipients};
 use crate::properties::{
     LONGEST_TEXT, entries_at, has_context, iri_of, read_text, read_type, reference_at, text_at,
 };
@@ -48,10 +48,11 @@ fn read_people(alloc: Global, value: &Value) -> Result<(Option<Iri>, Recipients)
     ensures { Gives result (reading.reads_people (view value.now)) }
 {
     let in_reply_to = read_reply(alloc, value)?;
-    let recipients = read_recipients(alloc, value)?;
     if entry_count(value) > MOST_ENTRIES {
+        check_recipients(alloc, value)?;
         return Err(ShapeFault::TooManyRecipients);
     }
+    let recipients = read_recipients(alloc, value)?;
     Ok((in_reply_to, recipients))
 }
 

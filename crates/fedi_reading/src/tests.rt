@@ -116,6 +116,14 @@ fn entries_and_bytes_are_counted(rt: HostRuntime) -> Result<(), Fail> {
 }
 
 #[test]
+fn a_bad_entry_comes_before_too_many(rt: HostRuntime) -> Result<(), Fail> {
+    let others = repeated(rt.alloc(), ",\"Public\"", 500)?;
+    let body = format!(in rt.alloc(); "{{\"type\":\"Note\",\"cc\":[\"nobody\"{others}]}}")?;
+    assert_eq!(rt; fault_of(rt.alloc(), body.as_str())?, "BadIri");
+    Ok(())
+}
+
+#[test]
 fn a_type_has_64_bytes_at_most(rt: HostRuntime) -> Result<(), Fail> {
     for (bytes, name) in &[(1, "none"), (64, "none"), (65, "NoType")] {
         let kind = repeated(rt.alloc(), "A", *bytes)?;

@@ -1,4 +1,5 @@
 use Rattle.std.proofs.Common.{◌≡◌, ◌+◌, ◌<◌, Bool, true, false, List, ◌∷◌, length, get_or, take, drop, sym, ap, subst, ◌∙◌}
+use Rattle.std.proofs.lemmas.Bool.{and_parts}
 use Rattle.std.specs.Prelude.{◌&&◌}
 use Rattle.std.specs.List.{fold}
 use Rattle.std.proofs.lemmas.List.{drop_more}
@@ -8,14 +9,10 @@ use Rattle.fedi_model.specs.Histories.{step, is_admissible, is_legal_from}
 use Rattle.fedi_model.specs.Towns.{Town, empty_town}
 use Rattle.fedi_core.proofs.held.facts_of.Goals as goal
 
-both_other : (a b : Bool) → (a && b) ≡ true → b ≡ true
-both_other true b e = e
-both_other false b e = absurd cc
-
 -- what is left is legal after the next entry
 legal_next : (t : Town) (e : Entry) (left next : List Entry) → left ≡ e ∷ next → is_legal_from t left ≡ true → is_legal_from (step t e) next ≡ true
 legal_next t e left next split legal =
-    both_other (is_admissible t e) (is_legal_from (step t e) next) (rw split at legal)
+    (and_parts (is_admissible t e) (is_legal_from (step t e) next) (rw split at legal)).1
 
 pub loop-entry-preserved : goal.loop-entry-preserved
 loop-entry-preserved c =
