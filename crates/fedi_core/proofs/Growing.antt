@@ -13,7 +13,6 @@ use Rattle.fedi_model.proofs.Members.{member_may_post}
 use Rattle.fedi_core.specs.Judgements.{MayAdd}
 use Rattle.fedi_core.specs.Turns.{IsPost}
 use Rattle.fedi_core.specs.declared.storing.KeepFault.{KeepFault}
-use Rattle.fedi_core.proofs.Paths.{both, both_first, both_other}
 
 -- such an entry is admissible
 pub may_add : (h : List Entry) (e : Entry) → IsLegal h → MayAdd (town h) e → is_admissible (town h) e ≡ true

@@ -6,8 +6,8 @@ ghost use Rattle.fedi_objects.specs.declared.entry.Entry.TheVariants.{Hosted};
 ghost use Rattle.fedi_model.specs.Histories.{IsLegal};
 ghost use Rattle.fedi_core.specs.Example as example;
 
-use crate::ids::actor_iri;
 use fedi_address::{Host, HostFault, Iri, Items, LocalName, Recipients};
+use fedi_facts::actor_iri;
 use fedi_objects::{Activity, Entry, Kind, Moment, Object, ObjectRef, Text};
 use std::alloc::{AllocError, Global};
 

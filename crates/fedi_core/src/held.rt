@@ -5,8 +5,8 @@ ghost use Rattle.fedi_model.specs.Histories.{IsLegal, is_admissible, step, town}
 ghost use Rattle.fedi_core.specs.Judgements.{MayAdd};
 ghost use Rattle.fedi_core.specs.Turns.{IsPost, Keeps, shown_by};
 
-use crate::facts::Facts;
 use crate::storing::{KeepFault, store};
+use fedi_facts::Facts;
 use fedi_objects::Entry;
 use fedi_outside::Keeper;
 use std::alloc::{AllocError, Global};

@@ -12,10 +12,10 @@ ghost use Rattle.fedi_model.specs.ReplyText.{HasStatus};
 ghost use Rattle.fedi_model.specs.Towns.{has_digest};
 ghost use Rattle.fedi_core.specs.Turns.{HidesPosts, IsDropped, IsPrivateTurn, TurnOf, shown_by};
 
-use crate::facts::Facts;
 use crate::held::Held;
 use crate::turning::turn;
 use fedi_address::Refusal;
+use fedi_facts::Facts;
 use fedi_mac::digest;
 use fedi_model::{Ask, Caller, Credentials, Reply};
 use fedi_objects::{Entry, Moment};

@@ -16,12 +16,11 @@ ghost use Rattle.fedi_core.specs.Outcomes.{IsReady};
 ghost use Rattle.fedi_core.specs.Turns.{IsDropped, TurnOf, shown_by};
 
 use crate::held::Held;
-use crate::ids::activity_iri;
 use crate::judging::{Verdict, judge};
-use crate::replies::{activity_reply, object_reply};
 use crate::storing::KeepFault;
 use fedi_address::{Host, Iri, LocalName, Refusal};
 use fedi_entry::encode;
+use fedi_facts::{activity_iri, activity_reply, object_reply};
 use fedi_model::{Ask, Caller, Form, Post, Reply, refusal_reply};
 use fedi_objects::{Activity, Bytes, Entry, Moment};
 use fedi_outside::Keeper;

@@ -3,8 +3,8 @@ use Rattle.std.specs.Prelude.{IfSome, filter}
 use Rattle.fedi_model.specs.declared.act.Act.{Act}
 use Rattle.fedi_model.specs.Replies.{has_activity_id}
 use Rattle.fedi_model.specs.Seeing.{sees}
-use Rattle.fedi_core.proofs.Finds.{find-filter, found_own}
-use Rattle.fedi_core.proofs.replies.seen_activity.Goals as goal
+use Rattle.fedi_facts.proofs.Finds.{find-filter, found_own}
+use Rattle.fedi_facts.proofs.replies.seen_activity.Goals as goal
 
 pub returns-clause-found : goal.returns-clause-found
 returns-clause-found c = c.first_seen.ensures ∙ find-filter (has_activity_id c.args.id.now) (sees c.args.facts.now c.args.caller.now) c.args.facts.now.acts

@@ -1,5 +1,5 @@
-use Rattle.fedi_core.proofs.ShownForms.{whole_shown}
-use Rattle.fedi_core.proofs.showing.shown_object.Goals as goal
+use Rattle.fedi_facts.proofs.ShownForms.{whole_shown}
+use Rattle.fedi_facts.proofs.showing.shown_object.Goals as goal
 
 pub returns-then-made : goal.returns-then-made
 returns-then-made c = λ ms. rw (c.in-Whole.is, c.if-made.true) (whole_shown c.in-Whole.object ms)
