@@ -1,5 +1,5 @@
 -- What is shown of an activity has the form of the activity.
-use Rattle.std.proofs.Common.{◌≡◌, ℕ, true, List, Option, refl}
+use Rattle.std.proofs.Common.{◌≡◌, ℕ, true, List, refl}
 use Rattle.serde_json.specs.Data.{Members}
 use Rattle.fedi_objects.specs.declared.activity.Activity.{Activity}
 use Rattle.fedi_objects.specs.declared.activity.ObjectRef.TheVariants.{Whole}
