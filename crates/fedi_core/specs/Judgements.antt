@@ -9,7 +9,6 @@ use Rattle.fedi_model.specs.Posting.{created, post_reply_at, post_entry_at}
 use Rattle.fedi_model.specs.Towns.{Town, is_named, count_of}
 use Rattle.fedi_model.specs.declared.act.Actor.{Actor}
 use Rattle.fedi_model.specs.declared.ask.Post.{Post}
-use Rattle.fedi_model.specs.declared.ask.Read.{Read}
 use Rattle.fedi_model.specs.declared.caller.Caller.{Caller}
 use Rattle.fedi_model.specs.declared.reply.Reply.{Reply}
 use Rattle.fedi_core.specs.declared.judging.Judgement.{Judgement}

@@ -1,12 +1,9 @@
-use Rattle.std.proofs.Common.{◌≡◌, ℕ, List, Option, Some, None, refl, sym, ap, subst, ◌∙◌}
+use Rattle.std.proofs.Common.{◌≡◌, ℕ, List, Option, Some, sym, ap, subst, ◌∙◌}
 use Rattle.fedi_objects.specs.declared.entry.Entry.{Entry}
-use Rattle.fedi_objects.specs.declared.entry.Entry.TheVariants.{Local}
 use Rattle.fedi_model.specs.Histories.{town}
 use Rattle.fedi_model.specs.Posting.{created}
 use Rattle.fedi_model.specs.Towns.{Town}
-use Rattle.fedi_model.specs.declared.reply.Reply.{Reply}
 use Rattle.fedi_core.specs.Judgements.{MayAdd}
-use Rattle.fedi_core.specs.Turns.{shown_by}
 use Rattle.fedi_core.proofs.TurnLemmas.{ready_own, turn_moves, on_err, same_dropped}
 use Rattle.fedi_core.proofs.turning.accept.Goals as goal
 

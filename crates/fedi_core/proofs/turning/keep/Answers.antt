@@ -1,8 +1,5 @@
-use Rattle.std.proofs.Common.{◌≡◌, List, sym, subst}
-use Rattle.std.specs.Prelude.{Result, IfOk, OnErr}
-use Rattle.fedi_core.specs.Outcomes.{choice}
-use Rattle.fedi_core.specs.Turns.{TurnOf, IsDropped, shown_by}
-use Rattle.fedi_core.proofs.TurnLemmas.{Came, chosen_turn, chosen_dropped}
+use Rattle.fedi_core.specs.Turns.{shown_by}
+use Rattle.fedi_core.proofs.TurnLemmas.{chosen_turn, chosen_dropped}
 use Rattle.fedi_core.proofs.turning.keep.Goals as goal
 
 pub returns-clause-turn : goal.returns-clause-turn

@@ -1,4 +1,4 @@
-use Rattle.std.proofs.Common.{◌≡◌, ℕ, List, Option, Some, None, refl, sym, ap, subst, ◌∙◌}
+use Rattle.std.proofs.Common.{◌≡◌, Option, refl, sym, subst}
 use Rattle.std.specs.Prelude.{IfNone}
 use Rattle.std.specs.List.{find}
 use Rattle.fedi_objects.specs.declared.entry.Entry.{Entry}

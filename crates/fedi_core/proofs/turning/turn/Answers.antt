@@ -1,6 +1,5 @@
 use Rattle.std.proofs.Common.{◌≡◌, refl, subst}
 use Rattle.std.specs.Prelude.{IfOk}
-use Rattle.fedi_model.specs.Histories.{town}
 use Rattle.fedi_model.specs.Replies.{activity_or_missing, seen_activity, maker_of, seen_or_missing}
 use Rattle.fedi_model.specs.Towns.{Town}
 use Rattle.fedi_model.specs.declared.ask.Ask.TheVariants as asks

@@ -1,9 +1,3 @@
-use Rattle.std.proofs.Common.{◌≡◌, subst}
-use Rattle.std.specs.Prelude.{IfOk, OnErr}
-use Rattle.fedi_model.specs.Histories.{town}
-use Rattle.fedi_model.specs.Replies.{entry_of, reply}
-use Rattle.fedi_core.specs.Machines.{Machine}
-use Rattle.fedi_core.specs.Turns.{TurnOf, IsDropped, shown_by}
 use Rattle.fedi_core.proofs.machine.Core.step.Goals as goal
 
 pub returns-clause-turn : goal.returns-clause-turn
