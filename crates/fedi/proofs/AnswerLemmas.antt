@@ -1,5 +1,5 @@
 -- From what the machine answers to a caller, to what a request is answered.
-use Rattle.std.proofs.Common.{◌≡◌, ◌⊎◌, ℕ, List, Option, Some, None, IfOk, Result, Ok, Err, inl, inr, refl, sym, subst, ◌∙◌}
+use Rattle.std.proofs.Common.{◌≡◌, ℕ, List, Option, Some, None, IfOk, Result, Ok, Err, inl, inr, refl, sym, subst, ◌∙◌}
 use Rattle.fedi_address.specs.declared.refusal.Refusal.{Refusal}
 use Rattle.fedi_address.specs.declared.refusal.Refusal.TheVariants.{JournalFull, KeeperFault}
 use Rattle.fedi_core.specs.Turns.{Kept as Keeping, IsPrivateTurn, TurnOf}
@@ -10,9 +10,9 @@ use Rattle.fedi_model.specs.declared.caller.Caller.{Caller}
 use Rattle.fedi_model.specs.declared.reply.Reply.{Reply}
 use Rattle.fedi_model.specs.declared.request.Request.{Request}
 use Rattle.fedi_model.specs.Agreement.{Agree}
-use Rattle.fedi_model.specs.Answers.{AgreeFor, AgreeOn, Answers, AnswersTo, IsPrivateAnswer, caller_of}
+use Rattle.fedi_model.specs.Answers.{AgreeFor, AgreeOn, Answers, AnswersTo, caller_of}
 use Rattle.fedi_model.specs.Cleanness.{IsCleanBody}
-use Rattle.fedi_model.specs.Histories.{IsLegal, town}
+use Rattle.fedi_model.specs.Histories.{town}
 use Rattle.fedi_model.specs.Refusing.{refused}
 use Rattle.fedi_model.specs.Replies.{entry_of, reply}
 use Rattle.fedi_model.specs.Routes.{Asks}

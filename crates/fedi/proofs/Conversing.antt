@@ -1,8 +1,6 @@
 -- Conversations grow exchange by exchange.
-use Rattle.std.proofs.Common.{◌≡◌, ℕ, ◌+◌, ◌<◌, ◌≤◌, ◌^◌, ◌-◌, min, Bool, true, false, List, [], ◌∷◌, ◌++◌, Option, Some, None, IfSome, refl, sym, ap, subst, ◌∙◌, append-nil, arith, lit<}
+use Rattle.std.proofs.Common.{◌≡◌, ℕ, ◌+◌, ◌<◌, ◌≤◌, Bool, true, false, List, [], ◌∷◌, ◌++◌, Option, Some, None, IfSome, refl, sym, ap, subst, ◌∙◌, append-nil, arith, lit<}
 use Rattle.std.specs.Prelude.{nat_le, ◌||◌, IsTrue}
-use Rattle.std.specs.List.{fold}
-use Rattle.std.specs.Io.KnownBytes.{prepend_known}
 use Rattle.std.proofs.KnownBytes.{Appends-nil, prepend_known-nil}
 use Rattle.std.proofs.lemmas.Bool.{leb-false}
 use Rattle.std.proofs.lemmas.List.Sums.{fold-append}
@@ -13,7 +11,7 @@ use Rattle.fedi_http.specs.declared.arrivals.Arrived.{Arrived}
 use Rattle.fedi.specs.declared.sessions.SessionEnd.{SessionEnd}
 use Rattle.fedi.specs.declared.sessions.SessionEnd.TheVariants.{End, CutShort, Closed, ReadFault, WriteFault, Memory}
 use Rattle.fedi.specs.Conversations.{Setting, Exchange, Progress, IsExchange, Converses, after, beginning, closes, ends_by, progress}
-use Rattle.fedi.specs.Endings.{Scene, IsAt, IsKeptTo, Ends, Finishes, Steps}
+use Rattle.fedi.specs.Endings.{Scene, IsAt, Ends, Finishes, Steps}
 use Rattle.fedi.proofs.SessionLemmas.{same_records}
 
 pub converses-more : (w : Setting) (p : Progress) (xs : List Exchange) (x : Exchange) → Converses w p xs → IsExchange w (progress w p xs) x → Converses w p (xs ++ x ∷ [])

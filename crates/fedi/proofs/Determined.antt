@@ -1,6 +1,6 @@
 -- Over one input, at one moment and from one beginning there is one conversation with a keeper that never fails.
-use Rattle.std.proofs.Common.{◌≡◌, ◌⊎◌, ℕ, ◌+◌, ◌^◌, ◌<◌, ◌≤◌, min, Bool, true, false, List, [], ◌∷◌, ◌++◌, Option, Some, None, Result, Ok, Err, inl, inr, refl, sym, ap, subst, ◌∙◌, arith, lit<}
-use Rattle.std.specs.List.{fold, slice_range}
+use Rattle.std.proofs.Common.{◌≡◌, ℕ, true, false, List, [], ◌∷◌, ◌++◌, Option, Some, None, Result, Ok, Err, inl, inr, refl, sym, ap, subst, ◌∙◌, arith, lit<}
+use Rattle.std.specs.List.{slice_range}
 use Rattle.fedi_address.specs.declared.refusal.Refusal.{Refusal}
 use Rattle.fedi_http.proofs.ArrivalLemmas.{one_arrival}
 use Rattle.fedi_http.specs.Arrivals.{TellsOfStream}
@@ -13,14 +13,12 @@ use Rattle.fedi_model.specs.declared.ask.Ask.{Ask}
 use Rattle.fedi_model.specs.declared.caller.Caller.{Caller}
 use Rattle.fedi_model.specs.declared.reply.Reply.{Reply}
 use Rattle.fedi_model.specs.declared.request.Request.{Request}
-use Rattle.fedi_model.specs.Answers.{AnswersTo, Answers, caller_of}
+use Rattle.fedi_model.specs.Answers.{AnswersTo, caller_of}
 use Rattle.fedi_model.specs.Histories.{town}
-use Rattle.fedi_model.specs.Refusing.{refused}
 use Rattle.fedi_model.specs.Replies.{entry_of, reply}
-use Rattle.fedi_model.specs.Routes.{Asks}
 use Rattle.fedi_model.specs.Towns.{Town}
 use Rattle.fedi_routes.proofs.AskLemmas.{asked_once}
-use Rattle.fedi.specs.Conversations.{Setting, Outcome, NoEntry, Kept, Full, Failed, Exchange, Progress, Arrives, AreCalm, Converses, IsAnswered, IsAtEnd, IsCalm, IsCutShort, IsExchange, IsNow, IsOver, IsReply, Settles, after, progress}
+use Rattle.fedi.specs.Conversations.{Setting, Outcome, NoEntry, Kept, Full, Failed, Exchange, Progress, Arrives, AreCalm, Converses, IsAnswered, IsAtEnd, IsCalm, IsExchange, IsNow, IsReply, Settles, after, progress}
 
 -- ---- one answer
 

@@ -1,10 +1,10 @@
 -- From the turns of the machine to exchanges, and from exchanges to sessions.
-use Rattle.std.proofs.Common.{◌≡◌, ◌⊎◌, ℕ, ◌+◌, ◌-◌, ◌^◌, ◌<◌, ◌≤◌, min, Bool, true, false, List, [], ◌∷◌, ◌++◌, length, take, drop, map, Option, Some, None, option_map, IfSome, Result, Ok, Err, inl, inr, refl, sym, ap, subst, ◌∙◌, append_assoc, append-nil, arith}
-use Rattle.std.specs.Prelude.{nat_le, not, ◌||◌, IsTrue}
-use Rattle.std.specs.List.{fold, list_any, slice_range}
+use Rattle.std.proofs.Common.{◌≡◌, ℕ, ◌+◌, ◌-◌, ◌^◌, ◌<◌, ◌≤◌, min, Bool, true, false, List, [], ◌∷◌, ◌++◌, length, take, drop, map, Option, Some, None, option_map, IfSome, Result, Ok, Err, inl, inr, refl, sym, ap, subst, ◌∙◌, append_assoc, append-nil, arith}
+use Rattle.std.specs.Prelude.{IsTrue}
+use Rattle.std.specs.List.{slice_range}
 use Rattle.std.specs.Io.KnownBytes.{Appends, prepend_known}
 use Rattle.std.specs.Str.{bytes_eq}
-use Rattle.std.proofs.KnownBytes.{Appends-nil, Appends-trans}
+use Rattle.std.proofs.KnownBytes.{Appends-trans}
 use Rattle.std.proofs.Math.Seq.{take-length}
 use Rattle.std.proofs.lemmas.List.{drop-append-le, map-append}
 use Rattle.std.proofs.lemmas.Slice.Eq.{bytes_eq-Decides}
@@ -13,7 +13,7 @@ use Rattle.fedi_address.specs.Recipients.{is_among}
 use Rattle.fedi_address.specs.declared.refusal.Refusal.{Refusal}
 use Rattle.fedi_core.specs.Turns.{Kept as Keeping, MayDoubt, TurnOf, IsDropped}
 use Rattle.fedi_entry.specs.Codes.{code_of}
-use Rattle.fedi_http.specs.Arrivals.{IsArrival, LacksRequest}
+use Rattle.fedi_http.specs.Arrivals.{LacksRequest}
 use Rattle.fedi_http.specs.Sending.{Sends}
 use Rattle.fedi_http.specs.declared.arrivals.Arrived.{Arrived}
 use Rattle.fedi_http.specs.declared.arrivals.Arrived.TheVariants as arrivals
@@ -28,10 +28,9 @@ use Rattle.fedi_model.specs.ReplyText.{memory_text, reply_text}
 use Rattle.fedi.specs.declared.sessions.Said.{Said}
 use Rattle.fedi.specs.declared.sessions.Said.TheVariants.{Whole}
 use Rattle.fedi.specs.declared.sessions.Said.TheVariants as said
-use Rattle.fedi.specs.declared.sessions.SessionEnd.{SessionEnd}
 use Rattle.fedi.specs.declared.sessions.SessionEnd.TheVariants as ends
-use Rattle.fedi.specs.Conversations.{Setting, Outcome, NoEntry, Kept, Full, Failed, Exchange, Progress, IsNow, Settles, IsReply, IsExchange, Arrives, after, closes, kept_in, end_after, doubts_after, failed_after, text_of, Converses, progress}
-use Rattle.fedi.specs.Endings.{Scene, HasKept, KeepsSome, IsKeptTo, IsWritten, IsAt, AppendsFront, IsSaid, IsTurn, AnswersOnce, RefusesOnce, BreaksOff, GivesUp, IsUnread, Finishes, Steps, end_by}
+use Rattle.fedi.specs.Conversations.{Setting, Outcome, NoEntry, Kept, Full, Failed, Exchange, Progress, IsNow, Settles, IsReply, IsExchange, Arrives, after, closes, kept_in, end_after, doubts_after, failed_after, text_of}
+use Rattle.fedi.specs.Endings.{Scene, KeepsSome, IsKeptTo, IsWritten, IsAt, AppendsFront, IsSaid, IsTurn, AnswersOnce, RefusesOnce, BreaksOff, IsUnread, Steps, end_by}
 
 -- ---- sending
 

@@ -1,6 +1,6 @@
 -- The words that the program takes.
-use Rattle.std.specs.Prelude.{ℕ, Bool, not, ◌&&◌, ◌==◌, nat_eq, List, [], ◌∷◌, map, codes, bytes_eq, string_bytes, String, Option, Some, None, if◌then◌else◌}
-use Rattle.std.specs.List.{list_any, starts_with}
+use Rattle.std.specs.Prelude.{ℕ, Bool, not, ◌&&◌, nat_eq, List, [], ◌∷◌, codes, bytes_eq, Option, Some, None, if◌then◌else◌}
+use Rattle.std.specs.List.{starts_with}
 use Rattle.fedi.specs.declared.commands.Command.{Command}
 use Rattle.fedi.specs.declared.commands.Command.TheVariants.{Usage, Inetd}
 

@@ -1,4 +1,4 @@
-use Rattle.std.proofs.Common.{◌≡◌, ◌≤◌, ◌||◌, ◌∙◌, nat_le, not, ap, refl, arith, ℕ}
+use Rattle.std.proofs.Common.{◌≤◌, ◌||◌, ◌∙◌, nat_le, not, ap, refl, arith, ℕ}
 use Rattle.fedi.proofs.SessionLemmas.{answered_keeps, refusal_steps, request_steps, unchanged}
 use Rattle.fedi.proofs.sessions.exchange.Goals as goal
 
