@@ -274,6 +274,12 @@ told-long limit pending left long =
     stream-more (λ stream. (limit ≤ length stream) × (head_end (take limit stream) ≡ None)) left pending
     (λ rest. (omega (arith, long.0, length-append pending rest), ap head_end (take-append-le limit pending rest long.0) ∙ long.1))
 
+-- a head has at most `limit` bytes
+pub head-near : (limit : ℕ) (xs : List ℕ) (start end : ℕ) → IsHeadAt limit xs start end → end ≤ limit
+head-near limit xs start end h =
+    let is = head_end-Some-is (take limit xs) end h.ends in
+    omega (arith, is.0, length-take limit xs)
+
 pub ruleset line_ends = (leading-more-end, leading-more-text, leading-more-other, leading-take-le)
 
 pub ruleset looks = (none-more, is_head)

@@ -6,7 +6,7 @@ ghost use Rattle.std.specs.Io.KnownBytes.{prepend_known, IsAtEnd};
 ghost use Rattle.fedi_outside.specs.Causes.{Rose};
 ghost use Rattle.fedi_http.specs.Arrivals.{IsArrival, IsBodyRead, LacksRequest, OnInputEnd, OnFailedRead, TellsOfStream};
 
-use crate::heads::{Buffer, Filled, HEAD_LIMIT, HeadRead, read_up_to};
+use crate::heads::{BUFFER_LIMIT, Buffer, Filled, HEAD_LIMIT, HeadRead, read_up_to};
 use crate::requests::{MOST_FIELDS, read_request_head};
 use fedi_address::Refusal;
 use fedi_model::Request;
@@ -63,6 +63,7 @@ fn read_within<S: Source>(
     buffer: &mut Buffer,
     limit: usize,
 ) -> Arrived
+    requires { limit ≤ HEAD_LIMIT }
     ensures stream { prepend_known buffer.new (S.left source.new) ≡ prepend_known buffer.old (S.left source.old) }
     ensures kept { StartsWith buffer.new buffer.old }
     ensures pending { IsArrival limit MOST_FIELDS buffer.new result }
@@ -97,7 +98,7 @@ fn read_body<S: Source>(
     request: Request,
     body: usize,
 ) -> Arrived
-    requires { body + request.body_length < 2 ^ 64 }
+    requires { body + request.body_length ≤ BUFFER_LIMIT }
     ensures stream { prepend_known buffer.new (S.left source.new) ≡ prepend_known buffer.old (S.left source.old) }
     ensures kept { StartsWith buffer.new buffer.old }
     ensures read { IsBodyRead request body buffer.new result }
@@ -117,6 +118,7 @@ fn read_body<S: Source>(
 
 /// Reads until so many bytes are pending. It is `More` where they are.
 fn fill_up_to<S: Source>(source: &mut S, buffer: &mut Buffer, count: usize) -> Filled
+    requires { count ≤ BUFFER_LIMIT }
     ensures stream { prepend_known buffer.new (S.left source.new) ≡ prepend_known buffer.old (S.left source.old) }
     ensures kept { StartsWith buffer.new buffer.old }
     ensures full { result ≡ Filled.More → count ≤ length buffer.new }

@@ -1,6 +1,6 @@
 //! How long a request is, and whether another may follow it (RFC 9112, sections 6 and 9).
 
-ghost use Rattle.std.specs.Prelude.{◌≡◌, true, not, Some, None, MatchResult, position};
+ghost use Rattle.std.specs.Prelude.{◌≡◌, ◌≤◌, true, not, Some, None, IfOk, MatchResult, position};
 ghost use Rattle.std.specs.Char.{is_ascii_digit};
 ghost use Rattle.std.specs.List.{list_all};
 ghost use Rattle.std.specs.Str.Parse.{digits_value};
@@ -17,9 +17,10 @@ use http::Method;
 /// `TooLong` for a length over `BODY_LIMIT`.
 #[tactic(auto, unfolding(fedi_model::specs::Requests::has_served_fields))]
 pub fn body_length(method: &Method, fields: &[Field]) -> Result<usize, Refusal>
-    ensures { MatchResult result
+    ensures length { MatchResult result
         (λ length. (model.fields_refusal method.now fields.now ≡ None) × (length ≡ model.body_length fields.now))
         (λ refusal. model.fields_refusal method.now fields.now ≡ Some refusal) }
+    ensures short { IfOk result (λ length. length ≤ BODY_LIMIT) }
 {
     if !has_served_fields(fields) {
         return Err(Refusal::BadHead);
@@ -75,9 +76,10 @@ fn has_digits_alone(value: &[u8]) -> bool
 /// The length of the body after good fields, or why no body is read.
 fn allowed_length(method: &Method, fields: &[Field]) -> Result<usize, Refusal>
     requires { model.has_plain_length fields.now ≡ true }
-    ensures { MatchResult result
+    ensures length { MatchResult result
         (λ length. (model.body_refusal method.now fields.now ≡ None) × (length ≡ model.body_length fields.now))
         (λ refusal. model.body_refusal method.now fields.now ≡ Some refusal) }
+    ensures short { IfOk result (λ length. length ≤ BODY_LIMIT) }
 {
     if count_named(fields, "Transfer-Encoding") != 0 {
         return Err(Refusal::NoCoding);

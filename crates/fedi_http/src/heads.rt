@@ -6,12 +6,16 @@ ghost use Rattle.std.specs.List.{slice_range};
 ghost use Rattle.fedi_outside.specs.Causes.{HasCause, Rose};
 ghost use Rattle.fedi_http.specs.Heads.{is_line_end as line_end, ends_in_empty_line as empty_line, leading, IsHeadAt, IsHeadUpTo, IsLookedAt, LacksHead, OnEnd, OnReadFault, OnStopped};
 
+use fedi_model::BODY_LIMIT;
 use fedi_outside::{Failed, Source};
 use std::alloc::{AllocError, Global};
 use std::marker::Model;
 
 /// How many bytes a head may take at most, with the line ends in front of it.
 pub const HEAD_LIMIT: usize = 16_384;
+
+/// How many bytes a buffer has at most, read or room: those of one head and one body.
+pub const BUFFER_LIMIT: usize = HEAD_LIMIT + BODY_LIMIT;
 
 /// How a head was read.
 #[derive(Clone, Copy, Debug, PartialEq, Eq)]
@@ -30,7 +34,8 @@ pub enum HeadRead {
     Memory,
 }
 
-/// Bytes that were read and are not yet used up, in order: those that are pending.
+/// Bytes that were read and are not yet used up, in order: those that are pending. It takes at most
+/// `BUFFER_LIMIT` bytes of memory.
 #[derive(Drop)]
 pub struct Buffer {
     bytes: Vec<u8>,
@@ -41,12 +46,13 @@ pub struct Buffer {
 
 impl Model for Buffer {
     ghost use Rattle.std.specs.Prelude.{List, ℕ, ◌+◌, ◌≤◌, length, take, drop};
+    ghost use Rattle.fedi_http.specs.declared.heads.TheConstants.{BUFFER_LIMIT};
 
     ghost Value = { List ℕ };
 
     ghost view = { λ b. take b.count (drop b.start b.bytes.items) };
 
-    ghost invariant = { λ b. b.start + b.count ≤ length b.bytes.items };
+    ghost invariant = { λ b. (b.start + b.count ≤ length b.bytes.items) × (length b.bytes.items ≤ BUFFER_LIMIT) };
 }
 
 impl Buffer {
@@ -63,7 +69,8 @@ impl Buffer {
 
     /// The bytes that are pending.
     pub fn pending(&self) -> &[u8]
-        ensures { result.now ≡ self.now }
+        ensures pending { result.now ≡ self.now }
+        ensures bound { length self.now ≤ BUFFER_LIMIT }
     {
         &self.bytes[self.start..self.start + self.count]
     }
@@ -79,7 +86,8 @@ impl Buffer {
 
     // Reads once into the room behind what is pending, with room for `limit` bytes in all.
     pub(crate) fn fill<S: Source>(&mut self, source: &mut S, limit: usize) -> Filled
-        requires { length self.old < limit }
+        requires short { length self.old < limit }
+        requires bound { limit ≤ BUFFER_LIMIT }
         ensures stream { prepend_known self.new (S.left source.new) ≡ prepend_known self.old (S.left source.old) }
         ensures kept { StartsWith self.new self.old }
         ensures more { result ≡ Filled.More → length self.old < length self.new }
@@ -127,6 +135,7 @@ pub fn read_head<S: Source>(source: &mut S, buffer: &mut Buffer) -> HeadRead
 // Reads a head of at most `limit` bytes.
 #[tactic(auto, using(crate::proofs::HeadLemmas::reading))]
 pub(crate) fn read_up_to<S: Source>(source: &mut S, buffer: &mut Buffer, limit: usize) -> HeadRead
+    requires { limit ≤ HEAD_LIMIT }
     ensures stream { prepend_known buffer.new (S.left source.new) ≡ prepend_known buffer.old (S.left source.old) }
     ensures kept { StartsWith buffer.new buffer.old }
     ensures pending { IsHeadUpTo limit buffer.new result }
@@ -177,10 +186,13 @@ fn make_room(
     count: usize,
     limit: usize,
 ) -> Result<(), AllocError>
-    requires { start + count ≤ length bytes.old.items }
+    requires within { start + count ≤ length bytes.old.items }
+    requires bound { limit ≤ BUFFER_LIMIT }
+    requires bounded { length bytes.old.items ≤ BUFFER_LIMIT }
     ensures moved { OnOk result (take count bytes.new.items ≡ take count (drop start bytes.old.items)) }
     ensures fits { OnOk result (count ≤ length bytes.new.items) }
     ensures room { OnOk result (limit ≤ length bytes.new.items) }
+    ensures bounded { OnOk result (length bytes.new.items ≤ BUFFER_LIMIT) }
     ensures failed { OnErr result (bytes.new.items ≡ bytes.old.items) }
 {
     if bytes.len() < limit {

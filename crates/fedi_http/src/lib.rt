@@ -14,7 +14,7 @@ mod tests;
 pub use arrivals::{Arrived, arrivals_are_determined, read_request};
 pub use fields::{count_named, field_value, is_same_name};
 pub use framing::without_back_blanks;
-pub use heads::{Buffer, HEAD_LIMIT, HeadRead, read_head};
+pub use heads::{BUFFER_LIMIT, Buffer, HEAD_LIMIT, HeadRead, read_head};
 pub use replies::{MEMORY_TEXT, memory_text, reply_bytes};
 pub use requests::{MOST_FIELDS, read_request_head, text_of};
 pub use sending::send;

@@ -8,7 +8,7 @@ ghost use Rattle.fedi_model.specs.Requests as model;
 
 use crate::framing::{body_length, closes};
 use fedi_address::{Items, Refusal};
-use fedi_model::{Field, Request};
+use fedi_model::{BODY_LIMIT, Field, Request};
 use fedi_objects::Bytes;
 use http::Method;
 use httparse::Status;
@@ -29,6 +29,7 @@ pub fn read_request_head(alloc: Global, text: &[u8]) -> Result<Request, Refusal>
     ensures ok { IfOk result (λ request. model.ReadsAs MOST_FIELDS text.now (Ok request)) }
     ensures refused { IfErr result (λ e.
         e ≢ Refusal.Memory → model.ReadsAs MOST_FIELDS text.now (Err e)) }
+    ensures short { IfOk result (λ request. request.body_length ≤ BODY_LIMIT) }
     ensures once { model.IsReadOnce MOST_FIELDS text.now }
 {
     let mut spans = [EMPTY_HEADER_SPAN; MOST_FIELDS];
@@ -95,6 +96,7 @@ fn request_at(
     ensures refused { IfErr result (λ e. e ≢ Refusal.Memory →
         model.refusal_with (span_bytes text.now head.method) (span_bytes text.now head.path) head.version
         (model.fields_at text.now spans.now) ≡ Some e) }
+    ensures short { IfOk result (λ request. request.body_length ≤ BODY_LIMIT) }
 {
     let target = head.path.of(text);
     let Some(method) = served_method(head.method.of(text)) else {
@@ -119,6 +121,7 @@ fn request_with(
     ensures ok { IfOk result (λ request. (model.fields_refusal method fields.items ≡ None)
         × (request ≡ model.request_with method target.now fields.items)) }
     ensures refused { IfErr result (λ e. e ≢ Refusal.Memory → model.fields_refusal method fields.items ≡ Some e) }
+    ensures short { IfOk result (λ request. request.body_length ≤ BODY_LIMIT) }
 {
     let body_length = body_length(&method, &fields)?;
     let keep = !closes(&fields);

@@ -8,7 +8,7 @@ returns-in-Request-clause-steps g c = λ first p count at.
     let whole = c.in-Request.ensures.pending in
     let low : c.in-Request.body ≤ c.in-Request.end = omega (arith, whole.ends) in
     let closing = c.is_last-closing.ensures ∙ ap (λ (n : ℕ). not q.keep || nat_le 999 n) count in
-    let said = rw c.pending.ensures at c.answer-said.ensures.answered in
+    let said = rw c.pending.ensures.pending at c.answer-said.ensures.answered in
     rw (c.take_front.ensures, c.end_after.ensures)
     (request_steps _ _ _ first _ _ _ _ p q c.in-Request.body c.in-Request.end c.is_last-closing.result c.answer-said.result refl at c.in-Request.ensures.stream
     c.in-Request.ensures.told low whole.within closing said)

@@ -17,4 +17,4 @@ reads-init g c = record {
 pub returns-in-Some-clause-told : goal.returns-in-Some-clause-told
 returns-in-Some-clause-told g c =
     subst (λ (known : Option (List ℕ)). IfSome known (λ stream. IsHeadAt c.args.limit stream c.look.new.self.start c.in-Some.end)) c.reads.invariant.stream
-    (told-text c.args.limit c.reads.buffer (g.S.Source.left c.reads.source) c.look.new.self.start c.in-Some.end (rw c.pending.ensures at c.in-Some.ensures.found))
+    (told-text c.args.limit c.reads.buffer (g.S.Source.left c.reads.source) c.look.new.self.start c.in-Some.end (rw c.pending.ensures.pending at c.in-Some.ensures.found))
