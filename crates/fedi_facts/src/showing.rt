@@ -51,6 +51,8 @@ fn is_maker(act: &Act) -> bool
 pub fn shown_of<'a>(act: &'a Act, id: &'a Iri) -> Shown<'a>
     requires { act.now.activity.id ≡ Some id.now }
     ensures local { result.local ≡ true }
+    ensures state { result.state ≡ act.now.state }
+    ensures public { result.public ≡ act.now.is_public }
     ensures form { activity_form true true result.author.now (shown_in result) ≡ activity_form true true act.now.author (shown_activity act.now) }
 {
     let activity = &act.activity;
