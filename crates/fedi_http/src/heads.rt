@@ -34,8 +34,8 @@ pub enum HeadRead {
     Memory,
 }
 
-/// Bytes that were read and are not yet used up, in order: those that are pending. It takes at most
-/// `BUFFER_LIMIT` bytes of memory.
+/// Bytes that were read and are not yet used up, in order: those that are pending. It has at most
+/// `BUFFER_LIMIT` bytes, read or room.
 #[derive(Drop)]
 pub struct Buffer {
     bytes: Vec<u8>,
