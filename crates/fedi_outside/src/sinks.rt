@@ -2,8 +2,8 @@
 ghost use Rattle.std.specs.Prelude.{ℕ, ◌≡◌, ◌<◌, List, Option, Some, None, [], true, length, is_some, IsErr, IfOk};
 ghost use Rattle.std.specs.Io.{WritesAtMost};
 ghost use Rattle.std.specs.Io.KnownBytes.{WriteAppends};
-ghost use Rattle.fedi_outside.specs.Causes.{HasCause};
-ghost use Rattle.fedi_outside.specs.Feeding.{counted, is_failing, allowed};
+ghost use Rattle.fedi_outside.specs.Causes.{HasCause, counted};
+ghost use Rattle.fedi_outside.specs.Feeding.{is_failing, allowed};
 
 use crate::Failed;
 use crate::plan::{allowed, is_failing};

@@ -2,8 +2,8 @@
 ghost use Rattle.std.specs.Prelude.{ℕ, ◌≡◌, ◌≤◌, List, Option, Some, None, [], drop, length, is_some, is_ok, not, min, take, slice_get, IsOkAnd, IfOk};
 ghost use Rattle.std.specs.Io.{ReadsAtMost};
 ghost use Rattle.std.specs.Io.KnownBytes.{ReadConsumes};
-ghost use Rattle.fedi_outside.specs.Causes.{HasCause};
-ghost use Rattle.fedi_outside.specs.Feeding.{counted, is_failing, allowed, given};
+ghost use Rattle.fedi_outside.specs.Causes.{HasCause, counted};
+ghost use Rattle.fedi_outside.specs.Feeding.{is_failing, allowed, given};
 
 use crate::Failed;
 use crate::plan::{allowed, at_call, is_failing};
