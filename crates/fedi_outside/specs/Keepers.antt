@@ -1,6 +1,6 @@
 -- What a keeper shows of itself, what its calls change, and what a crash leaves of its records.
 use Rattle.std.specs.Prelude.{ℕ, ◌≡◌, ◌⊎◌, ◌+◌, ◌^◌, ◌<◌, ◌≤◌, Bool, true, false, List, [], ◌∷◌, ◌++◌, length, slice_get, Option, None, Some, option_map, Result, Ok, Err, Vec}
-use Rattle.fedi_outside.specs.Causes.{counted}
+use Rattle.fedi_outside.specs.Causes.{next_count}
 use Rattle.fedi_outside.specs.declared.keepers.LoadFault.{LoadFault}
 use Rattle.fedi_outside.specs.declared.keepers.LoadFault.TheVariants.{Failed, Memory}
 
@@ -26,7 +26,7 @@ HasRoom room end length = end + room length ≤ 2 ^ 62
 
 -- after a call that failed: all is as before, and the fault is counted
 abbrev pub after_fault : KeeperState → KeeperState
-after_fault k = record k { faults = counted k.faults }
+after_fault k = record k { faults = next_count k.faults }
 
 -- after a load: all is as before, and a fault of the keeper is counted
 abbrev pub after_load : {T : Type 0} → Result T LoadFault → KeeperState → KeeperState
@@ -58,7 +58,7 @@ pub record HasFailed (refused : List ℕ) (before after : KeeperState) : Type 0 
   pub doubt : (after.doubt ≡ None) ⊎ (after.doubt ≡ Some refused)
   pub spare : after.spare ≡ before.spare
   pub end : after.end ≡ before.end
-  pub faults : after.faults ≡ counted before.faults
+  pub faults : after.faults ≡ next_count before.faults
 
 -- ---- crashes
 

@@ -1,6 +1,6 @@
 -- Keepers in memory, as their callers see them.
 use Rattle.std.specs.Prelude.{ℕ, Bool, true, false, List, Option, None, Some, if◌then◌else◌}
-use Rattle.fedi_outside.specs.Causes.{counted}
+use Rattle.fedi_outside.specs.Causes.{next_count}
 use Rattle.fedi_outside.specs.Feeding.{is_failing}
 use Rattle.fedi_outside.specs.Keepers.{Crashes, KeeperState}
 
@@ -32,7 +32,7 @@ is_to_fail k = is_failing k.failing k.calls
 
 -- after a call that can fail, which is counted, and its fault too
 abbrev pub called : Keeping → Keeping
-called k = record k { calls = counted k.calls; faults = if is_to_fail k then counted k.faults else k.faults }
+called k = record k { calls = next_count k.calls; faults = if is_to_fail k then next_count k.faults else k.faults }
 
 -- what a keeper in memory with such records shows, with this many faults
 abbrev pub state_of : List (List ℕ) → Option (List ℕ) → ℕ → ℕ → ℕ → KeeperState
