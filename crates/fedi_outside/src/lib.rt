@@ -12,8 +12,6 @@ mod memory_keepers;
 mod plans;
 mod sinks;
 mod sources;
-#[cfg(test)]
-mod tests;
 
 pub use calm_keepers::{CalmKeeper, Record};
 pub use clocks::{Clock, FixedClock};
