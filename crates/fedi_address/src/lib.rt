@@ -15,6 +15,3 @@ pub use items::Items;
 pub use name::LocalName;
 pub use recipients::{Recipients, is_among};
 pub use refusal::Refusal;
-
-#[cfg(test)]
-mod tests;
