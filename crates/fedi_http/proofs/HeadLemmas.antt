@@ -10,9 +10,7 @@ use Rattle.std.proofs.lemmas.List.Sums.{prefix_len-le-length}
 use Rattle.std.proofs.lemmas.List.Folds.{position_or_len_push}
 use Rattle.fedi_http.specs.Heads.{is_line_end, leading, after_leading, ends_in_empty_line, is_end, head_end, IsHeadAt, IsLookedAt, LacksHead}
 use Rattle.std.specs.Io.{StartsWith}
-use Rattle.std.specs.Io.KnownBytes.{prepend_known}
 use Rattle.std.proofs.Transfers.{starts_with_length}
-use Rattle.fedi_http.proofs.StreamLemmas.{stream-more, stream-end}
 
 -- ---- the first number that passes a test
 
@@ -262,18 +260,6 @@ pub too_long : (limit : ℕ) (xs : List ℕ) (looked start : ℕ) → IsLookedAt
     → (limit ≤ length xs) × (head_end (take limit xs) ≡ None)
 too_long limit xs looked start is all full = (omega arith, ap (λ k. head_end (take k xs)) (sym full) ∙ is.none)
 
--- ---- what the stream tells
-
-pub told-text : (limit : ℕ) (pending : List ℕ) (left : Option (List ℕ)) (start end : ℕ) → IsHeadAt limit pending start end
-    → IfSome (prepend_known pending left) (λ stream. IsHeadAt limit stream start end)
-told-text limit pending left start end head = stream-more (λ stream. IsHeadAt limit stream start end) left pending (λ rest. is_head-append limit pending rest start end head)
-
-pub told-long : (limit : ℕ) (pending : List ℕ) (left : Option (List ℕ)) → (limit ≤ length pending) × (head_end (take limit pending) ≡ None)
-    → IfSome (prepend_known pending left) (λ stream. (limit ≤ length stream) × (head_end (take limit stream) ≡ None))
-told-long limit pending left long =
-    stream-more (λ stream. (limit ≤ length stream) × (head_end (take limit stream) ≡ None)) left pending
-    (λ rest. (omega (arith, long.0, length-append pending rest), ap head_end (take-append-le limit pending rest long.0) ∙ long.1))
-
 -- a head has at most `limit` bytes
 pub head-near : (limit : ℕ) (xs : List ℕ) (start end : ℕ) → IsHeadAt limit xs start end → end ≤ limit
 head-near limit xs start end h =
@@ -284,6 +270,6 @@ pub ruleset line_ends = (leading-more-end, leading-more-text, leading-more-other
 
 pub ruleset looks = (none-more, is_head)
 
-pub ruleset reading = (looked-more, lacks_head, too_long, told-long, stream-end)
+pub ruleset reading = (looked-more, lacks_head, too_long)
 
 pub ruleset other_bytes = no-empty_line

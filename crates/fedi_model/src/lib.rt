@@ -17,4 +17,4 @@ pub use laws::{
 };
 pub use refusing::{misshapen_reply, refusal_reply};
 pub use reply::{Allow, Form, Reply};
-pub use request::{BODY_LIMIT, Field, Request};
+pub use request::{BODY_LIMIT, Fields, Request};
