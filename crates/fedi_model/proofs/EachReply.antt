@@ -2,8 +2,8 @@
 use Rattle.std.proofs.Common.{ℕ, Bool, true, false, List, Option, Some, None, Result, Ok, Err}
 use Rattle.std.specs.Prelude.{nat_lt, not, if◌then◌else◌}
 use Rattle.std.specs.List.{find}
-use Rattle.fedi_address.specs.declared.refusal.Refusal.{Refusal}
-use Rattle.fedi_address.specs.declared.refusal.Refusal.TheVariants.{BadBody, BadQuery, NoKey, NotOwner, NotFound, WrongType, ActorFull}
+use Rattle.fedi_model.specs.declared.refusal.Refusal.{Refusal}
+use Rattle.fedi_model.specs.declared.refusal.Refusal.TheVariants.{BadBody, BadQuery, NoKey, NotOwner, NotFound, WrongType, ActorFull}
 use Rattle.fedi_objects.specs.declared.activity.Activity.{Activity}
 use Rattle.fedi_objects.specs.declared.object.Object.{Object}
 use Rattle.fedi_reading.specs.declared.shape_fault.ShapeFault.{ShapeFault}

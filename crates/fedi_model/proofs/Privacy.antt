@@ -4,7 +4,7 @@ use Rattle.std.proofs.lemmas.Slice.Eq.{bytes_eq-Decides}
 use Rattle.std.specs.Prelude.{◌&&◌, not, map, filter, option_and_then, option_map, if◌then◌else◌}
 use Rattle.std.specs.List.{find}
 use Rattle.std.specs.Str.{bytes_eq}
-use Rattle.fedi_address.specs.declared.refusal.Refusal.TheVariants.{NotFound, BadQuery, NoKey, NotOwner, WrongType}
+use Rattle.fedi_model.specs.declared.refusal.Refusal.TheVariants.{NotFound, BadQuery, NoKey, NotOwner, WrongType}
 use Rattle.fedi_objects.specs.declared.activity.Activity.{Activity}
 use Rattle.fedi_objects.specs.declared.activity.ObjectRef.{ObjectRef}
 use Rattle.fedi_objects.specs.declared.activity.ObjectRef.TheVariants.{Nothing, Id, Whole, Changed}

@@ -1,7 +1,7 @@
 -- What becomes of a post to an outbox (ActivityPub, section 6).
 use Rattle.std.specs.Prelude.{ℕ, ◌+◌, Bool, true, false, not, nat_lt, IsTrue, List, [], Option, Some, None, option_map, Result, Ok, Err, if◌then◌else◌}
 use Rattle.std.specs.Str.{bytes_eq}
-use Rattle.fedi_address.specs.declared.refusal.Refusal.TheVariants.{BadBody, BadQuery, NoKey, NotOwner, NotFound, WrongType, ActorFull}
+use Rattle.fedi_model.specs.declared.refusal.Refusal.TheVariants.{BadBody, BadQuery, NoKey, NotOwner, NotFound, WrongType, ActorFull}
 use Rattle.fedi_objects.specs.declared.activity.Activity.{Activity}
 use Rattle.fedi_objects.specs.declared.entry.Entry.{Entry}
 use Rattle.fedi_objects.specs.declared.entry.Entry.TheVariants.{Local}

@@ -3,7 +3,7 @@ use Rattle.std.specs.Prelude.{ℕ, Bool, true, List, filter, Option, Some, None,
 use Rattle.std.specs.List.{find}
 use Rattle.serde_json.specs.Data.{Data}
 use Rattle.serde_json.specs.Written.{compact_text}
-use Rattle.fedi_address.specs.declared.refusal.Refusal.TheVariants.{NotFound}
+use Rattle.fedi_model.specs.declared.refusal.Refusal.TheVariants.{NotFound}
 use Rattle.fedi_objects.specs.declared.entry.Entry.{Entry}
 use Rattle.fedi_objects.specs.declared.object.Object.{Object}
 use Rattle.fedi_objects.specs.Forms.{activity_form, object_form}
