@@ -2,7 +2,7 @@
 
 ghost use Rattle.std.specs.Prelude.{◌≡◌, ◌∷◌, ◌++◌, [], IfNone, IfOk, OnErr, None, Some, option_copied, option_map};
 ghost use Rattle.std.specs.List.{find};
-ghost use Rattle.fedi_model.specs.declared.refusal.Refusal.TheVariants.{JournalFull, KeeperFault};
+ghost use Rattle.fedi_address.specs.declared.refusal.Refusal.TheVariants.{JournalFull, KeeperFault};
 ghost use Rattle.fedi_entry.specs.Codes.{code_of};
 ghost use Rattle.fedi_model.specs.Histories.{IsLegal, town};
 ghost use Rattle.fedi_model.specs.Ids.{activity_id};
