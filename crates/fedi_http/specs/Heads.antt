@@ -1,7 +1,7 @@
 -- Where the head of a request ends.
-use Rattle.std.specs.Prelude.{ℕ, ◌≡◌, ◌+◌, ◌<◌, ◌≤◌, Bool, ◌||◌, not, nat_eq, List, [], ◌∷◌, length, take, drop, find, Option, None, Some, option_map}
+use Rattle.std.specs.Prelude.{ℕ, ◌≡◌, ◌≢◌, slice_index, ◌+◌, ◌<◌, ◌≤◌, Bool, ◌||◌, not, nat_eq, List, [], ◌∷◌, length, take, drop, find, Option, None, Some, option_map}
 use Rattle.std.specs.List.{ends_with, position_or_len, range_with_len, slice_range}
-use Rattle.fedi_address.specs.declared.refusal.Refusal.TheVariants.{BadHead}
+use Rattle.fedi_model.specs.declared.refusal.Refusal.TheVariants.{BadHead}
 use Rattle.fedi_http.specs.declared.read_error.ReadError.{ReadError}
 use Rattle.fedi_http.specs.declared.read_error.ReadError.TheVariants.{End, CutShort, Refused, ReadFault, Memory}
 
@@ -69,3 +69,11 @@ pub record IsLookedAt (bytes : List ℕ) (looked start : ℕ) : Type 0 where
   pub within : looked ≤ length bytes
   pub front : start ≡ leading (take looked bytes)
   pub none : head_end (take looked bytes) ≡ None
+
+-- wherever the bytes are cut from `looked` to `upto` on, the line ends in front are the first `start`
+abbrev pub IsSettled : List ℕ → ℕ → ℕ → ℕ → Type 0
+IsSettled bytes looked upto start = (n : ℕ) → looked ≤ n → n ≤ upto → leading (take n bytes) ≡ start
+
+-- no byte from `from` up to `upto` is LF
+abbrev pub LacksLineFeed : List ℕ → ℕ → ℕ → Type 0
+LacksLineFeed bytes from upto = (i : ℕ) → from ≤ i → i < upto → slice_index bytes i ≢ 10

@@ -9,8 +9,7 @@ ghost use Rattle.fedi_http.specs.Moves.{MovesBytes, StopsReading, has_fault};
 use crate::heads::{BUFFER_LIMIT, Buffer, HEAD_LIMIT, read_head};
 use crate::read_error::ReadError;
 use crate::requests::{MOST_FIELDS, read_request_head};
-use fedi_address::Refusal;
-use fedi_model::{BODY_LIMIT, Request};
+use fedi_model::{BODY_LIMIT, Refusal, Request};
 use fedi_outside::Source;
 use std::alloc::Global;
 

@@ -9,8 +9,7 @@ ghost use Rattle.fedi_model.specs.Requests.{Field};
 ghost use Rattle.fedi_http.specs.Fields.{AreKnown};
 
 use crate::fields::{KnownFields, is_same_name};
-use fedi_address::Refusal;
-use fedi_model::BODY_LIMIT;
+use fedi_model::{BODY_LIMIT, Refusal};
 use http::Method;
 
 /// The length of the body of a request with this method and these fields, or why it is refused. It is `BadHead` unless `Host` stands

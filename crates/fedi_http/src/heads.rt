@@ -1,15 +1,14 @@
 //! Reading the head of a request.
-ghost use Rattle.std.specs.Prelude.{◌≡◌, ◌+◌, ◌<◌, ◌≤◌, ◌⊎◌, [], length, take, drop, min, IfOk, IfErr, OnOk, OnErr, IfSome, IfNone};
+ghost use Rattle.std.specs.Prelude.{◌≡◌, ◌+◌, ◌<◌, ◌≤◌, ◌⊎◌, [], length, take, drop, min, IfOk, IfErr, OnOk, OnErr, IfSome, IfNone, MatchOption};
 ghost use Rattle.std.specs.Io.KnownBytes.{prepend_known, IsAtEnd};
-ghost use Rattle.std.specs.List.{slice_range};
 ghost use Rattle.fedi_outside.specs.Causes.{HasCause};
-ghost use Rattle.fedi_http.specs.Heads.{is_line_end as line_end, ends_in_empty_line as empty_line, leading, HasNoHead, IsHeadAt, IsLookedAt, LacksHead, OnEnd};
+ghost use Rattle.fedi_http.specs.Heads.{is_line_end as line_end, ends_in_empty_line as empty_line, HasNoHead, IsHeadAt, IsLookedAt, IsSettled, LacksHead, LacksLineFeed, OnEnd};
 ghost use Rattle.fedi_http.specs.Moves.{IsFailure, MovesBytes, has_fault};
 
 use crate::read_error::ReadError;
-use fedi_address::Refusal;
-use fedi_model::BODY_LIMIT;
+use fedi_model::{BODY_LIMIT, Refusal};
 use fedi_outside::{Failed, Source};
+use memchr::memchr;
 use std::alloc::{AllocError, Global};
 use std::marker::Model;
 
@@ -188,12 +187,12 @@ fn read_behind<S: Source>(source: &mut S, bytes: &mut [u8], count: usize) -> Res
 #[derive(Clone, Copy)]
 struct Search {
     looked: usize,
+    // How many of these are the line ends in front.
     start: usize,
 }
 
 impl Search {
     // Looks for the end of a head in the first `HEAD_LIMIT` bytes. `start` is then where its text starts.
-    #[tactic(auto, using(crate::proofs::HeadLemmas::looks))]
     fn look(&mut self, bytes: &[u8]) -> Option<usize>
         requires known { IsLookedAt bytes.now self.old.looked self.old.start }
         requires within { self.old.looked ≤ HEAD_LIMIT }
@@ -202,31 +201,47 @@ impl Search {
         ensures all { IfNone result (self.new.looked ≡ min HEAD_LIMIT (length bytes.now)) }
     {
         let upto = bytes.len().min(HEAD_LIMIT);
-        for at in self.looked..upto {
-            self.start = start_after(bytes, at, self.start);
-            if empty_line_ends_at(bytes, at, self.start) {
+        self.skip_line_ends(bytes, upto);
+        'lines: while let Some(at) = next_line_feed(bytes, self.looked, upto) {
+            if ends_in_empty_line(&bytes[self.start..at + 1]) {
                 return Some(at + 1);
             }
+            self.looked = at + 1;
         }
         self.looked = upto;
         None
     }
+
+    // Looks at the line ends in front, as far as `upto`. Where the text starts is then settled for all of these bytes.
+    fn skip_line_ends(&mut self, bytes: &[u8], upto: usize)
+        requires known { IsLookedAt bytes.now self.old.looked self.old.start }
+        requires within { self.old.looked ≤ upto }
+        requires inside { upto ≤ length bytes.now }
+        ensures known { IsLookedAt bytes.now self.new.looked self.new.start }
+        ensures within { self.new.looked ≤ upto }
+        ensures settled { IsSettled bytes.now self.new.looked upto self.new.start }
+    {
+        'ends: while self.start == self.looked && self.looked < upto {
+            if !is_line_end(bytes[self.looked]) {
+                return;
+            }
+            self.looked += 1;
+            self.start = self.looked;
+        }
+    }
 }
 
-// How many line ends are in front of the first `at + 1` bytes, where they are `start` in front of the first `at`.
-#[tactic(auto, using(crate::proofs::HeadLemmas::line_ends))]
-fn start_after(bytes: &[u8], at: usize, start: usize) -> usize
-    requires within { at < length bytes.now }
-    requires front { start ≡ leading (take at bytes.now) }
-    ensures front { result ≡ leading (take (at + 1) bytes.now) }
-    ensures low { result ≤ at + 1 }
+// Where the next LF stands, from `from` up to `upto`.
+fn next_line_feed(bytes: &[u8], from: usize, upto: usize) -> Option<usize>
+    requires ordered { from ≤ upto }
+    requires inside { upto ≤ length bytes.now }
+    ensures { MatchOption result
+        (LacksLineFeed bytes.now from upto)
+        (λ at. (from ≤ at) × (at < upto) × LacksLineFeed bytes.now from at) }
 {
-    if start != at {
-        start
-    } else if is_line_end(bytes[at]) {
-        at + 1
-    } else {
-        at
+    match memchr(b'\n', &bytes[from..upto]) {
+        Some(more) => Some(from + more),
+        None => None,
     }
 }
 
@@ -235,20 +250,6 @@ fn is_line_end(byte: u8) -> bool
     ensures { result ≡ line_end byte }
 {
     byte == b'\r' || byte == b'\n'
-}
-
-// Whether the text from `start` to `at`, that byte with it, ends with an empty line. Most bytes are no LF, and are passed over quickly.
-#[tactic(auto, using(crate::proofs::HeadLemmas::other_bytes))]
-fn empty_line_ends_at(bytes: &[u8], at: usize, start: usize) -> bool
-    requires within { at < length bytes.now }
-    requires low { start ≤ at + 1 }
-    ensures { result ≡ empty_line (slice_range bytes.now start (at + 1)) }
-{
-    if bytes[at] == b'\n' {
-        ends_in_empty_line(&bytes[start..at + 1])
-    } else {
-        false
-    }
 }
 
 // Whether a text ends with an empty line.

@@ -1,6 +1,6 @@
 //! Why no request was read.
 
-use fedi_address::Refusal;
+use fedi_model::Refusal;
 use fedi_outside::Failed;
 use std::alloc::AllocError;
 use thiserror::Error;

@@ -10,8 +10,7 @@ ghost use Rattle.fedi_http.specs.Fields.{AreKnown};
 
 use crate::fields::KnownFields;
 use crate::framing::body_length;
-use fedi_address::Refusal;
-use fedi_model::{BODY_LIMIT, Fields, Request};
+use fedi_model::{BODY_LIMIT, Fields, Refusal, Request};
 use fedi_objects::Bytes;
 use http::Method;
 use httparse::Status;
