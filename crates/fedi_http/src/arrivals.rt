@@ -13,7 +13,7 @@ use fedi_model::{BODY_LIMIT, Refusal, Request};
 use fedi_outside::Source;
 use std::alloc::Global;
 
-/// What arrived at the front of a stream.
+/// What stands at the front of a stream, or why reading it stopped.
 #[derive(Drop)]
 pub enum Arrived {
     /// A request. Its body is the bytes `body..end` of what is pending, and it takes the first `end` of them.
@@ -115,7 +115,7 @@ fn fill_up_to<S: Source>(source: &mut S, buffer: &mut Buffer, count: usize) -> R
     Ok(())
 }
 
-/// One thing arrives at the front of a stream.
+/// At most one answer is true of the front of a stream, if the answer tells of the stream at all.
 pub fn arrivals_are_determined()
     ensures { (limit most : ℕ) (stream : List ℕ) (a b : Arrived) → 0 < limit
         → IsArrival limit most stream a → IsArrival limit most stream b → TellsOfStream a → TellsOfStream b → a ≡ b }

@@ -1,4 +1,4 @@
-//! Reading the head of a request.
+//! The bytes that were read, and reading the head of a request from them.
 ghost use Rattle.std.specs.Prelude.{◌≡◌, ◌+◌, ◌<◌, ◌≤◌, ◌⊎◌, [], length, take, drop, min, IfOk, IfErr, OnOk, OnErr, IfSome, IfNone, MatchOption};
 ghost use Rattle.std.specs.Io.KnownBytes.{prepend_known, IsAtEnd};
 ghost use Rattle.fedi_outside.specs.Causes.{HasCause};

@@ -14,6 +14,6 @@ pub use arrivals::{Arrived, arrivals_are_determined, limits_are_fixed, read_requ
 pub use fields::is_same_name;
 pub use framing::without_back_blanks;
 pub use heads::{BUFFER_LIMIT, Buffer, HEAD_LIMIT};
-pub use replies::{MEMORY_TEXT, memory_text, reply_bytes};
+pub use replies::{memory_text, reply_bytes};
 pub use requests::{MOST_FIELDS, read_request_head, text_of};
 pub use sending::send;
