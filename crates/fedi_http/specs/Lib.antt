@@ -1,3 +1,5 @@
 pub mod Heads
 pub mod Arrivals
 pub mod Sending
+pub mod Fields
+pub mod Moves
