@@ -3,3 +3,4 @@ pub mod Arrivals
 pub mod Sending
 pub mod Fields
 pub mod Moves
+pub mod Spans

@@ -118,7 +118,8 @@ fn fill_up_to<S: Source>(source: &mut S, buffer: &mut Buffer, count: usize) -> R
 /// At most one answer is true of the front of a stream, if the answer tells of the stream at all.
 pub fn arrivals_are_determined()
     ensures { (limit most : ℕ) (stream : List ℕ) (a b : Arrived) → 0 < limit
-        → IsArrival limit most stream a → IsArrival limit most stream b → TellsOfStream a → TellsOfStream b → a ≡ b }
+        → IsArrival limit most stream a → IsArrival limit most stream b
+        → TellsOfStream a → TellsOfStream b → a ≡ b }
 {}
 
 /// The limits, in figures.

@@ -11,7 +11,8 @@ use httparse::spans::HeaderSpan;
 
 /// Whether the names are equal without case (RFC 9110, section 5.1).
 pub fn is_same_name(one: &[u8], other: &[u8]) -> bool
-    ensures { result ≡ bytes_eq (map to_ascii_lowercase one.now) (map to_ascii_lowercase other.now) }
+    ensures { result
+        ≡ bytes_eq (map to_ascii_lowercase one.now) (map to_ascii_lowercase other.now) }
 {
     one.eq_ignore_ascii_case(other)
 }

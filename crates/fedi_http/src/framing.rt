@@ -18,7 +18,8 @@ use http::Method;
 /// for a POST without a length, and `TooLong` for a length over `BODY_LIMIT`.
 pub(crate) fn body_length(method: &Method, known: &KnownFields) -> Result<usize, Refusal>
     ensures length { (fields : List Field) → AreKnown fields known.now → MatchResult result
-        (λ length. (model.fields_refusal method.now fields ≡ None) × (length ≡ model.body_length fields))
+        (λ length. (model.fields_refusal method.now fields ≡ None)
+        × (length ≡ model.body_length fields))
         (λ refusal. model.fields_refusal method.now fields ≡ Some refusal) }
     ensures short { IfOk result (λ length. length ≤ BODY_LIMIT) }
 {

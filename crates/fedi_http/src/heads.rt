@@ -43,7 +43,8 @@ impl Model for Buffer {
 
     ghost view = { λ b. take b.count (drop b.start b.bytes.items) };
 
-    ghost invariant = { λ b. (b.start + b.count ≤ length b.bytes.items) × (length b.bytes.items ≤ BUFFER_LIMIT) };
+    ghost invariant = { λ b. (b.start + b.count ≤ length b.bytes.items)
+        × (length b.bytes.items ≤ BUFFER_LIMIT) };
 }
 
 impl Buffer {
@@ -101,7 +102,7 @@ impl Buffer {
 
 /// Reads the head of a request (RFC 9112, sections 2.1 and 2.2): from the source into the buffer, until what is pending holds a
 /// head, or has `HEAD_LIMIT` bytes with none, or the input ends. What is pending already comes first, and the source is read only
-/// if it holds no head. The error is never `Refused` but for a head that is too long.
+/// if it holds no head. The error `Refused` says that the head is too long.
 ///
 /// Reading moves bytes from the source to the end of what is pending, and loses none on any answer. The head stays there, for
 /// `take_front`. After `ReadFault` and `Memory` no head stands in what is pending.
@@ -152,7 +153,8 @@ fn make_room(
     requires within { start + count ≤ length bytes.old.items }
     requires bound { limit ≤ BUFFER_LIMIT }
     requires bounded { length bytes.old.items ≤ BUFFER_LIMIT }
-    ensures moved { OnOk result (take count bytes.new.items ≡ take count (drop start bytes.old.items)) }
+    ensures moved { OnOk result
+        (take count bytes.new.items ≡ take count (drop start bytes.old.items)) }
     ensures fits { OnOk result (count ≤ length bytes.new.items) }
     ensures room { OnOk result (limit ≤ length bytes.new.items) }
     ensures bounded { OnOk result (length bytes.new.items ≤ BUFFER_LIMIT) }
@@ -172,7 +174,8 @@ fn read_behind<S: Source>(source: &mut S, bytes: &mut [u8], count: usize) -> Res
     requires { count < length bytes.old }
     ensures kept { take count bytes.new ≡ take count bytes.old }
     ensures bound { IfOk result (λ more. count + more ≤ length bytes.new) }
-    ensures stream { IfOk result (λ more. prepend_known (take (count + more) bytes.new) (S.left source.new)
+    ensures stream { IfOk result (λ more.
+        prepend_known (take (count + more) bytes.new) (S.left source.new)
         ≡ prepend_known (take count bytes.old) (S.left source.old)) }
     ensures ended { IfOk result (λ more. more ≡ 0 → IsAtEnd (S.left source.new)) }
     ensures failed { OnErr result (prepend_known (take count bytes.old) (S.left source.new)

@@ -40,7 +40,8 @@ pub fn reply_bytes(
     head_only: bool,
     closing: bool,
 ) -> Result<Vec<u8>, AllocError>
-    ensures { IfOk result (λ text. text.items ≡ model.reply_text moment head_only closing reply.now) }
+    ensures { IfOk result (λ text.
+        text.items ≡ model.reply_text moment head_only closing reply.now) }
 {
     let mut text = Vec::with_capacity(alloc, room_for(reply))?;
     push_start(&mut text, reply, moment)?;
@@ -63,7 +64,8 @@ fn room_for(reply: &Reply) -> usize {
 
 /// Appends the pieces, in order.
 fn push(text: &mut Vec<u8>, pieces: &[&[u8]]) -> Result<(), AllocError>
-    ensures { OnOk result (text.new.items ≡ text.old.items ++ flat_map (λ piece. piece.now) pieces.now) }
+    ensures { OnOk result
+        (text.new.items ≡ text.old.items ++ flat_map (λ piece. piece.now) pieces.now) }
 {
     for piece in pieces {
         text.extend_from_slice(piece)?;
@@ -173,7 +175,8 @@ fn origin_line(form: Form, status: StatusCode) -> &'static [u8]
 /// Appends the lines by the body.
 #[tactic(auto, unfolding(fedi_model::specs::ReplyText::content_text))]
 fn push_content(text: &mut Vec<u8>, reply: &Reply, closing: bool) -> Result<(), AllocError>
-    ensures { OnOk result (text.new.items ≡ text.old.items ++ model.content_text closing reply.now) }
+    ensures { OnOk result
+        (text.new.items ≡ text.old.items ++ model.content_text closing reply.now) }
 {
     text.extend_from_slice(type_line(reply.form, reply.body.bytes()))?;
     push_length(text, reply.body.bytes())?;

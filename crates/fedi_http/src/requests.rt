@@ -3,10 +3,11 @@
 ghost use Rattle.std.specs.Prelude.{◌≡◌, ◌≢◌, ℕ, ◌≤◌, List, MatchOption, true, false, ◌&&◌, length, All, IfOk, IfErr, IfSome, IsSome, if◌then◌else◌, option_copied};
 ghost use Rattle.std.specs.Str.{is_utf8};
 ghost use Rattle.httparse.specs.Grammar.{RequestHead, IsToken};
-ghost use Rattle.httparse.specs.Spans.{IsRequestAt, IsRequestWithin, IsHeaderWithin, span_bytes};
+ghost use Rattle.httparse.specs.Spans.{IsRequestAt, IsRequestWithin, IsHeaderWithin};
 ghost use Rattle.fedi_model.specs.Requests as model;
 ghost use Rattle.fedi_model.specs.Requests.{Field};
 ghost use Rattle.fedi_http.specs.Fields.{AreKnown};
+ghost use Rattle.fedi_http.specs.Spans.{refusal_by, request_by};
 
 use crate::fields::KnownFields;
 use crate::framing::body_length;
@@ -81,14 +82,10 @@ fn request_at(
     requires named_within { head.method.end ≤ length text.now }
     requires ordered { head.path.start ≤ head.path.end }
     requires in_range { head.path.end ≤ length text.now }
-    ensures ok { IfOk result (λ request.
-        (model.refusal_with (span_bytes text.now head.method) (span_bytes text.now head.path) head.version
-        (model.fields_at text.now spans.now) ≡ None)
-        × (request ≡ model.request_with (span_bytes text.now head.method) (span_bytes text.now head.path)
-        (model.fields_at text.now spans.now))) }
-    ensures refused { IfErr result (λ e. e ≢ Refusal.Memory →
-        model.refusal_with (span_bytes text.now head.method) (span_bytes text.now head.path) head.version
-        (model.fields_at text.now spans.now) ≡ Some e) }
+    ensures ok { IfOk result (λ request. (refusal_by text.now head spans.now ≡ None)
+        × (request ≡ request_by text.now head spans.now)) }
+    ensures refused { IfErr result (λ e.
+        e ≢ Refusal.Memory → refusal_by text.now head spans.now ≡ Some e) }
     ensures short { IfOk result (λ request. request.body_length ≤ BODY_LIMIT) }
 {
     let target = head.path.of(text);
@@ -111,7 +108,8 @@ fn request_at(
 
 /// Copies of the values that are read after the head.
 fn read_fields(alloc: Global, known: &KnownFields) -> Result<Fields, Refusal>
-    ensures ok { IfOk result (λ f. (fields : List Field) → AreKnown fields known.now → f ≡ model.known_fields fields) }
+    ensures ok { IfOk result (λ copies. (fields : List Field)
+        → AreKnown fields known.now → copies ≡ model.known_fields fields) }
     ensures err { IfErr result (λ e. e ≡ Refusal.Memory) }
 {
     Ok(Fields {
