@@ -1,4 +1,5 @@
-//! The objects and activities of ActivityStreams, the entries of a history, and the JSON in which objects are shown.
+//! The objects and activities of ActivityStreams, the entries of a history, and the JSON in which
+//! objects are shown.
 #![tactic(auto)]
 
 mod activity;
