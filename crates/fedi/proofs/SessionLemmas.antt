@@ -10,7 +10,7 @@ use Rattle.std.proofs.lemmas.List.{drop-append-le, map-append}
 use Rattle.std.proofs.lemmas.Slice.Eq.{bytes_eq-Decides}
 use Rattle.fedi_outside.specs.Causes.{Rose}
 use Rattle.fedi_address.specs.Recipients.{is_among}
-use Rattle.fedi_address.specs.declared.refusal.Refusal.{Refusal}
+use Rattle.fedi_model.specs.declared.refusal.Refusal.{Refusal}
 use Rattle.fedi_core.specs.Turns.{Kept as Keeping, MayDoubt, TurnOf, IsDropped}
 use Rattle.fedi_entry.specs.Codes.{code_of}
 use Rattle.fedi_http.specs.Arrivals.{LacksRequest}

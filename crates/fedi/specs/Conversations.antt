@@ -1,7 +1,7 @@
 -- What a connection reads, keeps and writes, request by request (RFC 9112, sections 2.2, 9.3 and 9.6).
 use Rattle.std.specs.Prelude.{◌≡◌, ◌⊎◌, ℕ, ◌+◌, ◌≤◌, min, nat_le, Bool, false, true, not, ◌||◌, List, [], ◌∷◌, ◌++◌, length, drop, Option, Some, None}
 use Rattle.std.specs.List.{fold, slice_range}
-use Rattle.fedi_address.specs.declared.refusal.Refusal.TheVariants.{JournalFull, KeeperFault}
+use Rattle.fedi_model.specs.declared.refusal.Refusal.TheVariants.{JournalFull, KeeperFault}
 use Rattle.fedi_core.specs.Turns.{HasRoom, IsFull}
 use Rattle.fedi_entry.specs.Codes.{code_of}
 use Rattle.fedi_http.specs.Arrivals.{IsArrival}

@@ -3,7 +3,7 @@ use Rattle.std.specs.Prelude.{◌≡◌, ◌⊎◌, ℕ, ◌+◌, ◌-◌, ◌^�
 use Rattle.std.specs.List.{list_any}
 use Rattle.std.specs.Io.KnownBytes.{Appends, prepend_known}
 use Rattle.fedi_address.specs.Recipients.{is_among}
-use Rattle.fedi_address.specs.declared.refusal.Refusal.{Refusal}
+use Rattle.fedi_model.specs.declared.refusal.Refusal.{Refusal}
 use Rattle.fedi_core.specs.Turns.{Kept as Keeping, TurnOf, IsDropped}
 use Rattle.fedi_entry.specs.Codes.{code_of}
 use Rattle.fedi_http.specs.Arrivals.{LacksRequest}

@@ -8,10 +8,9 @@ ghost use Rattle.fedi.specs.Conversations.{Progress};
 ghost use Rattle.fedi.specs.Endings.{AnswersOnce, AppendsFront, EndsWhereTold, IsAt, IsCaused, IsSaid, KeepsSome, RefusesOnce, Scene, Steps, end_by, scene_of, setting_of};
 
 use crate::answers::answer_request;
-use fedi_address::Refusal;
 use fedi_core::Core;
 use fedi_http::{Arrived, Buffer, memory_text, read_request, reply_bytes, send};
-use fedi_model::{Reply, Request, refusal_reply};
+use fedi_model::{Refusal, Reply, Request, refusal_reply};
 use fedi_objects::Moment;
 use fedi_outside::{Clock, Failed, Keeper, Sink, Source};
 use std::alloc::{AllocError, Global};

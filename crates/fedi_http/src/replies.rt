@@ -2,7 +2,6 @@
 
 ghost use Rattle.std.specs.Prelude.{◌≡◌, ◌++◌, ◌≤◌, ◌<◌, List, OnOk, IfOk, codes, Some, None, option_map};
 ghost use Rattle.std.specs.List.{flat_map};
-ghost use Rattle.http.specs.StatusCode.{IsStatusCode};
 ghost use Rattle.fedi_model.specs.ReplyText as model;
 
 use fedi_address::Iri;
@@ -18,11 +17,11 @@ const LINES: usize = 320;
 /// What ends a line.
 const END: &[u8] = b"\r\n";
 
-/// The reply for want of memory. It closes the connection.
-pub const MEMORY_TEXT: &[u8] =
+/// The reply when there is no memory for another. It closes the connection.
+const MEMORY_TEXT: &[u8] =
     b"HTTP/1.1 507 Insufficient Storage\r\nContent-Length: 0\r\nConnection: close\r\n\r\n";
 
-/// The reply for want of memory, of which nothing has to be made.
+/// The reply when there is no memory for another (RFC 4918, section 11.5): 507, which closes the connection. It takes no memory.
 #[tactic(auto, unfolding(fedi_model::specs::ReplyText::memory_text))]
 pub fn memory_text() -> &'static [u8]
     ensures { result.now ≡ model.memory_text }
@@ -32,8 +31,8 @@ pub fn memory_text() -> &'static [u8]
 
 /// The text of the reply at this moment (RFC 9112, section 4): the status line, the fields `Date`,
 /// `Location`, `Allow`, `WWW-Authenticate`, `Access-Control-Allow-Origin`, `Content-Type`,
-/// `Content-Length` and `Connection`, each where it applies, an empty line, and the body unless
-/// `head_only`. The connection is told to close where `closing`. The status has three digits.
+/// `Content-Length` and `Connection`, each if it applies, an empty line, and the body unless
+/// `head_only`. The connection is told to close if `closing`. The error is that there is no memory.
 pub fn reply_bytes(
     alloc: Global,
     reply: &Reply,
@@ -41,8 +40,8 @@ pub fn reply_bytes(
     head_only: bool,
     closing: bool,
 ) -> Result<Vec<u8>, AllocError>
-    requires { model.HasStatus reply.now }
-    ensures { IfOk result (λ text. text.items ≡ model.reply_text moment head_only closing reply.now) }
+    ensures { IfOk result (λ text.
+        text.items ≡ model.reply_text moment head_only closing reply.now) }
 {
     let mut text = Vec::with_capacity(alloc, room_for(reply))?;
     push_start(&mut text, reply, moment)?;
@@ -63,9 +62,10 @@ fn room_for(reply: &Reply) -> usize {
         .saturating_add(reply.body.bytes().len())
 }
 
-/// Puts the pieces at the end, in order.
+/// Appends the pieces, in order.
 fn push(text: &mut Vec<u8>, pieces: &[&[u8]]) -> Result<(), AllocError>
-    ensures { OnOk result (text.new.items ≡ text.old.items ++ flat_map (λ piece. piece.now) pieces.now) }
+    ensures { OnOk result
+        (text.new.items ≡ text.old.items ++ flat_map (λ piece. piece.now) pieces.now) }
 {
     for piece in pieces {
         text.extend_from_slice(piece)?;
@@ -73,10 +73,9 @@ fn push(text: &mut Vec<u8>, pieces: &[&[u8]]) -> Result<(), AllocError>
     Ok(())
 }
 
-/// Puts the status line, the date and the location at the end.
+/// Appends the status line, the date and the location.
 #[tactic(auto, unfolding(fedi_model::specs::ReplyText::start_text))]
 fn push_start(text: &mut Vec<u8>, reply: &Reply, moment: Moment) -> Result<(), AllocError>
-    requires { model.HasStatus reply.now }
     ensures { OnOk result (text.new.items ≡ text.old.items ++ model.start_text moment reply.now) }
 {
     push_status(text, reply.status)?;
@@ -84,10 +83,9 @@ fn push_start(text: &mut Vec<u8>, reply: &Reply, moment: Moment) -> Result<(), A
     push_location(text, &reply.location)
 }
 
-/// Puts the status line at the end.
+/// Appends the status line.
 #[tactic(auto, unfolding(fedi_model::specs::ReplyText::status_line))]
-fn push_status(text: &mut Vec<u8>, status: u16) -> Result<(), AllocError>
-    requires { IsStatusCode status }
+fn push_status(text: &mut Vec<u8>, status: StatusCode) -> Result<(), AllocError>
     ensures { OnOk result (text.new.items ≡ text.old.items ++ model.status_line status) }
 {
     let mut digits = Buffer::new();
@@ -95,7 +93,7 @@ fn push_status(text: &mut Vec<u8>, status: u16) -> Result<(), AllocError>
         text,
         &[
             b"HTTP/1.1 ",
-            digits.format(status).as_bytes(),
+            digits.format(status.as_u16()).as_bytes(),
             b" ",
             reason(status).as_bytes(),
             END,
@@ -104,17 +102,13 @@ fn push_status(text: &mut Vec<u8>, status: u16) -> Result<(), AllocError>
 }
 
 /// The reason of a status code.
-fn reason(status: u16) -> &'static str
-    requires { IsStatusCode status }
+fn reason(status: StatusCode) -> &'static str
     ensures { result.now ≡ model.reason_of status }
 {
-    match StatusCode::from_u16(status) {
-        Ok(code) => code.canonical_reason().unwrap_or("<unknown status code>"),
-        Err(_) => unreachable!(),
-    }
+    status.canonical_reason().unwrap_or("<unknown status code>")
 }
 
-/// Puts the date at the end.
+/// Appends the date.
 #[tactic(auto, unfolding(fedi_model::specs::ReplyText::date_line))]
 fn push_date(text: &mut Vec<u8>, moment: Moment) -> Result<(), AllocError>
     ensures { OnOk result (text.new.items ≡ text.old.items ++ model.date_line moment) }
@@ -122,7 +116,7 @@ fn push_date(text: &mut Vec<u8>, moment: Moment) -> Result<(), AllocError>
     push(text, &[b"Date: ", &moment.http_date(), END])
 }
 
-/// Puts the location at the end, where there is one.
+/// Appends the location, if there is one.
 #[tactic(auto, unfolding(fedi_model::specs::ReplyText::location_line))]
 fn push_location(text: &mut Vec<u8>, location: &Option<Iri>) -> Result<(), AllocError>
     ensures { OnOk result (text.new.items ≡ text.old.items ++ model.location_line location.now) }
@@ -133,7 +127,7 @@ fn push_location(text: &mut Vec<u8>, location: &Option<Iri>) -> Result<(), Alloc
     }
 }
 
-/// Puts the lines by the kind of reply at the end.
+/// Appends the lines by the kind of reply.
 #[tactic(auto, unfolding(fedi_model::specs::ReplyText::kind_text))]
 fn push_kind(text: &mut Vec<u8>, reply: &Reply) -> Result<(), AllocError>
     ensures { OnOk result (text.new.items ≡ text.old.items ++ model.kind_text reply.now) }
@@ -143,7 +137,7 @@ fn push_kind(text: &mut Vec<u8>, reply: &Reply) -> Result<(), AllocError>
     text.extend_from_slice(origin_line(reply.form, reply.status))
 }
 
-/// The line that names the methods, where there is one.
+/// The line that names the methods, if there are any to name.
 #[tactic(auto, unfolding(fedi_model::specs::ReplyText::allow_line))]
 fn allow_line(allow: Option<Allow>) -> &'static [u8]
     ensures { result.now ≡ model.allow_line allow }
@@ -155,12 +149,12 @@ fn allow_line(allow: Option<Allow>) -> &'static [u8]
     }
 }
 
-/// The line that asks for a key, where one is wanted.
+/// The line that asks for a key, if the reply says that one is missing or wrong.
 #[tactic(auto, unfolding(fedi_model::specs::ReplyText::challenge_line))]
-fn challenge_line(status: u16) -> &'static [u8]
+fn challenge_line(status: StatusCode) -> &'static [u8]
     ensures { result.now ≡ model.challenge_line status }
 {
-    if status == 401 {
+    if status == StatusCode::UNAUTHORIZED {
         b"WWW-Authenticate: Bearer\r\n"
     } else {
         b""
@@ -169,26 +163,27 @@ fn challenge_line(status: u16) -> &'static [u8]
 
 /// The line that lets each site read a JRD.
 #[tactic(auto, unfolding(fedi_model::specs::ReplyText::origin_line))]
-fn origin_line(form: Form, status: u16) -> &'static [u8]
+fn origin_line(form: Form, status: StatusCode) -> &'static [u8]
     ensures { result.now ≡ model.origin_line form status }
 {
     match form {
-        Form::Jrd if status == 200 => b"Access-Control-Allow-Origin: *\r\n",
+        Form::Jrd if status == StatusCode::OK => b"Access-Control-Allow-Origin: *\r\n",
         _ => b"",
     }
 }
 
-/// Puts the lines by the body at the end.
+/// Appends the lines by the body.
 #[tactic(auto, unfolding(fedi_model::specs::ReplyText::content_text))]
 fn push_content(text: &mut Vec<u8>, reply: &Reply, closing: bool) -> Result<(), AllocError>
-    ensures { OnOk result (text.new.items ≡ text.old.items ++ model.content_text closing reply.now) }
+    ensures { OnOk result
+        (text.new.items ≡ text.old.items ++ model.content_text closing reply.now) }
 {
     text.extend_from_slice(type_line(reply.form, reply.body.bytes()))?;
     push_length(text, reply.body.bytes())?;
     text.extend_from_slice(connection_line(closing))
 }
 
-/// The line that names the media type of the body, where there is one.
+/// The line that names the media type of the body, if there is one.
 #[tactic(auto, unfolding(fedi_model::specs::ReplyText::type_line))]
 fn type_line(form: Form, body: &[u8]) -> &'static [u8]
     ensures { result.now ≡ model.type_line form body.now }
@@ -208,7 +203,7 @@ fn type_of(form: Form) -> &'static [u8]
     }
 }
 
-/// Puts the length of the body at the end.
+/// Appends the length of the body.
 #[tactic(auto, unfolding(fedi_model::specs::ReplyText::length_line))]
 fn push_length(text: &mut Vec<u8>, body: &[u8]) -> Result<(), AllocError>
     ensures { OnOk result (text.new.items ≡ text.old.items ++ model.length_line body.now) }
@@ -224,7 +219,7 @@ fn push_length(text: &mut Vec<u8>, body: &[u8]) -> Result<(), AllocError>
     )
 }
 
-/// The line that tells that the connection is closed, where it is.
+/// The line that tells that the connection is closed, if it is.
 #[tactic(auto, unfolding(fedi_model::specs::ReplyText::connection_line))]
 fn connection_line(closing: bool) -> &'static [u8]
     ensures { result.now ≡ model.connection_line closing }
@@ -236,7 +231,7 @@ fn connection_line(closing: bool) -> &'static [u8]
     }
 }
 
-/// Puts the empty line and the body at the end.
+/// Appends the empty line and the body.
 fn push_end(text: &mut Vec<u8>, body: &[u8], head_only: bool) -> Result<(), AllocError>
     ensures { OnOk result (text.new.items
         ≡ text.old.items ++ (codes "\r\n" ++ model.body_text head_only body.now)) }

@@ -1,6 +1,7 @@
 //! The entries of a history.
 
 use crate::activity::Activity;
+use crate::boxed::Boxed;
 use crate::moment::Moment;
 use crate::repeat_key::RepeatKey;
 use crate::text::Text;
@@ -56,18 +57,19 @@ pub enum Entry {
         relay: bool,
         moment: Moment,
     },
-    /// A member posted an activity, as it was read, perhaps under a key for repeats with the digest of the body.
+    /// A member posted an activity, as it was read, perhaps under a key for repeats with the digest
+    /// of the body.
     Local {
         name: LocalName,
         repeat: Option<(RepeatKey, [u8; 32])>,
-        activity: Activity,
+        activity: Boxed<Activity>,
         moment: Moment,
     },
     /// A peer delivered an activity, as it was read, to a member's inbox.
     Remote {
         peer: Host,
         inbox: LocalName,
-        activity: Activity,
+        activity: Boxed<Activity>,
         moment: Moment,
     },
     /// A delivery was tried.

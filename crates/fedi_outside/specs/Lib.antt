@@ -1,4 +1,6 @@
 pub mod Causes
-pub mod Feeding
-pub mod Gathering
-pub mod Keeping
+pub mod Keepers
+pub mod MemoryKeepers
+pub mod Plans
+pub mod Sinks
+pub mod Sources
