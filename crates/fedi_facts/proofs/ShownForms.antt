@@ -1,22 +1,13 @@
 -- What is shown of an activity has the form of the activity.
 use Rattle.std.proofs.Common.{◌≡◌, ℕ, true, List, refl}
-use Rattle.serde_json.specs.Data.{Members}
 use Rattle.fedi_objects.specs.declared.activity.Activity.{Activity}
-use Rattle.fedi_objects.specs.declared.activity.ObjectRef.TheVariants.{Whole}
-use Rattle.fedi_objects.specs.declared.object.Object.{Object}
-use Rattle.fedi_objects.specs.Forms.{object_form, kind_members, with_links, tombstone_members, with_object, activity_kind_members, with_activity_links, activity_form}
-use Rattle.fedi_model.specs.Seeing.{stripped_object}
+use Rattle.fedi_objects.specs.Forms.{activity_kind_members, with_activity_links, activity_form}
 
--- the form of an object tells nothing of `bto` and `bcc`
-pub whole_shown : (o : Object) (ms : Members) → with_object true (Whole o) ms ≡ with_object true (Whole (stripped_object o)) ms
-unfolding with_object object_form kind_members with_links tombstone_members
-whole_shown o ms = refl
-
--- activities that differ in their recipients by `bto` and `bcc` alone, and in their objects by nothing that is shown
+-- activities that differ in their recipients by `bto` and `bcc` alone
 pub record IsAlike (a b : Activity) : Type 0 where
   pub id : a.id ≡ b.id
   pub kind : a.kind ≡ b.kind
-  pub object : (ms : Members) → with_object true a.object ms ≡ with_object true b.object ms
+  pub object : a.object ≡ b.object
   pub target : a.target ≡ b.target
   pub to : a.recipients.to ≡ b.recipients.to
   pub cc : a.recipients.cc ≡ b.recipients.cc

@@ -1,8 +1,7 @@
 //! What is shown of an activity.
 
 ghost use Rattle.std.specs.Prelude.{◌≡◌, ◌&&◌, Some, true, option_copied};
-ghost use Rattle.serde_json.specs.Data.{Members};
-ghost use Rattle.fedi_objects.specs.Forms.{activity_form, object_in, shown_in, with_object};
+ghost use Rattle.fedi_objects.specs.Forms.{activity_form, object_in, shown_in};
 ghost use Rattle.fedi_objects.specs.Kinds.{is_create};
 ghost use Rattle.fedi_model.specs.Activities.{is_done};
 ghost use Rattle.fedi_model.specs.Seeing.{ref_to, shown_activity, shown_ref};
@@ -10,7 +9,7 @@ ghost use Rattle.fedi_model.specs.Seeing.{ref_to, shown_activity, shown_ref};
 use crate::making::is_done;
 use fedi_address::Iri;
 use fedi_model::Act;
-use fedi_objects::{ObjectRef, Shown, ShownObject};
+use fedi_objects::{ObjectRef, Shown, ShownObject, StrippedObject};
 
 fn id_or_nothing(id: Option<&Iri>) -> ShownObject<'_>
     ensures { object_in result ≡ ref_to (option_copied id.entry) }
@@ -23,14 +22,14 @@ fn id_or_nothing(id: Option<&Iri>) -> ShownObject<'_>
 
 // What an activity is about, by whether the activity made it: the object itself, or its address.
 fn shown_object(object: &ObjectRef, made: bool) -> ShownObject<'_>
-    ensures { (ms : Members) → with_object true (object_in result) ms ≡ with_object true (shown_ref made object.now) ms }
+    ensures { object_in result ≡ shown_ref made object.now }
 {
     match object {
         ObjectRef::Nothing => ShownObject::Nothing,
         ObjectRef::Id(id) => ShownObject::Id(id),
         ObjectRef::Whole(object) => {
             if made {
-                ShownObject::Present(object.get())
+                ShownObject::Present(StrippedObject::new(object))
             } else {
                 id_or_nothing(object.id.as_ref())
             }
@@ -53,7 +52,8 @@ pub fn shown_of<'a>(act: &'a Act, id: &'a Iri) -> Shown<'a>
     ensures local { result.local ≡ true }
     ensures state { result.state ≡ act.now.state }
     ensures public { result.public ≡ act.now.is_public }
-    ensures form { activity_form true true result.author.now (shown_in result) ≡ activity_form true true act.now.author (shown_activity act.now) }
+    ensures form { activity_form true true result.author.now (shown_in result)
+        ≡ activity_form true true act.now.author (shown_activity act.now) }
 {
     let activity = &act.activity;
     Shown {

@@ -28,7 +28,8 @@ use Rattle.fedi_model.specs.Ids.{activity_id, object_id}
 use Rattle.fedi_model.specs.Posting.{is_nobody, is_self, judgement, post_reply_at, read_or_refused, reply_to, with_room}
 use Rattle.fedi_model.specs.Refusing.{refused}
 use Rattle.fedi_model.specs.Replies.{document, object_document, document_or_missing, seen_or_missing, activity_document, activity_or_missing, has_activity_id, reply}
-use Rattle.fedi_model.specs.Seeing.{Sight, shown_ref, stripped_object, sees, sight_of, view}
+use Rattle.fedi_objects.specs.Objects.{stripped_object}
+use Rattle.fedi_model.specs.Seeing.{Sight, shown_ref, sees, sight_of, view}
 use Rattle.fedi_model.specs.Towns.{Town, count_of, id_of, has_name}
 use Rattle.fedi_model.proofs.Finding.{seen_or, found_or, found_seen}
 use Rattle.fedi_model.proofs.MadeOnce.{MadeOnce, town_once}

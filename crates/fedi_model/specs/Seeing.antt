@@ -10,6 +10,7 @@ use Rattle.fedi_objects.specs.declared.activity.ObjectRef.TheVariants.{Nothing, 
 use Rattle.fedi_objects.specs.declared.kind.State.{State}
 use Rattle.fedi_objects.specs.declared.object.Object.{Object}
 use Rattle.fedi_objects.specs.Kinds.{is_create}
+use Rattle.fedi_objects.specs.Objects.{stripped_object}
 use Rattle.fedi_model.specs.declared.act.Act.{Act}
 use Rattle.fedi_model.specs.declared.caller.Caller.{Caller}
 use Rattle.fedi_model.specs.declared.caller.Caller.TheVariants as callers
@@ -34,10 +35,6 @@ sees t (callers.Actor name) x = is_seen_as (id_of t name) x
 sees t (callers.Peer host) x = x.is_public || (is_of_peer host x.author || list_any (is_of_peer host) x.recipients)
 
 -- ---- what is shown
-
--- the object without `bto` and `bcc` (ActivityPub, section 6)
-abbrev pub stripped_object : Object → Object
-stripped_object o = record o { recipients = stripped o.recipients }
 
 -- a mere id, where there is one
 abbrev pub ref_to : Option (List ℕ) → ObjectRef

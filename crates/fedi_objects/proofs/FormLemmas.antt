@@ -14,6 +14,7 @@ use Rattle.fedi_objects.specs.Kinds.{kind_name}
 use Rattle.fedi_objects.specs.declared.activity.Activity.{Activity}
 use Rattle.fedi_objects.specs.declared.activity.ObjectRef.{ObjectRef}
 use Rattle.fedi_objects.specs.declared.activity.ObjectRef.TheVariants as refs
+use Rattle.fedi_objects.specs.Objects.{stripped_object}
 use Rattle.fedi_objects.specs.Forms.{is_open, is_clean, items_are_clean, members_are_clean, with_text, with_list, with_context, with_collections, tag_form, with_audience, with_words, kind_members, with_id, with_links, live_members, tombstone_members, is_tombstone, object_form, with_object, activity_kind_members, with_activity_links, activity_members, activity_form}
 
 record IsShown (d : Data) : Type 0 where
@@ -197,3 +198,8 @@ is_clean-activity_form local context author a = (activity_form_shown local conte
 
 pub has_float-activity_form : (local context : Bool) (author : List ℕ) (a : Activity) → has_float (activity_form local context author a) ≡ false
 has_float-activity_form local context author a = (activity_form_shown local context author a).whole
+
+-- the form of an object tells nothing of `bto` and `bcc`
+pub object_form_stripped : (local context : Bool) (o : Object) → object_form local context (stripped_object o) ≡ object_form local context o
+unfolding object_form kind_members with_links tombstone_members
+object_form_stripped local context o = refl

@@ -135,7 +135,7 @@ activity_form local context author a = object (with_context context (activity_me
 abbrev pub object_in : ShownObject → ObjectRef
 object_in shows.Nothing = refs.Nothing
 object_in (shows.Id id) = refs.Id id.now
-object_in (shows.Present o) = refs.Whole o.now
+object_in (shows.Present o) = refs.Whole o
 
 -- the activity that is shown, which names nobody in `bto` and `bcc`
 abbrev pub shown_in : Shown → Activity

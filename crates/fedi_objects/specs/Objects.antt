@@ -1,6 +1,6 @@
--- Objects, activities and changes of few properties.
+-- Objects, activities and changes of few properties, and objects without what is hidden.
 use Rattle.std.specs.Prelude.{ℕ, List, [], None}
-use Rattle.fedi_address.specs.Recipients.{nobody}
+use Rattle.fedi_address.specs.Recipients.{nobody, stripped}
 use Rattle.fedi_objects.specs.declared.kind.Kind.{Kind}
 use Rattle.fedi_objects.specs.declared.kind.Kind.TheVariants.{Create}
 use Rattle.fedi_objects.specs.declared.activity.Activity.{Activity}
@@ -60,3 +60,7 @@ no_change id = record {
   in_reply_to = Keep;
   tags = Keep;
 }
+
+-- the object without `bto` and `bcc` (ActivityPub, section 6)
+abbrev pub stripped_object : Object → Object
+stripped_object o = record o { recipients = stripped o.recipients }

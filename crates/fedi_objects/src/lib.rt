@@ -22,5 +22,5 @@ pub use moment::Moment;
 pub use object::{Change, Edit, Object, Tag};
 pub use public::{CONTEXT, MENTION, TOMBSTONE, object_value, public_text, public_value};
 pub use repeat_key::RepeatKey;
-pub use shown::{Shown, ShownObject};
+pub use shown::{Shown, ShownObject, StrippedObject};
 pub use text::{Bytes, Text};

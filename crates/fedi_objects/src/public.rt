@@ -317,21 +317,21 @@ pub fn object_value(
     Ok(Value::Object(members))
 }
 
-#[tactic(auto, unfolding(crate::specs::Forms::with_object))]
+#[tactic(auto, unfolding(crate::specs::Forms::with_object), using(crate::proofs::FormLemmas::object_form_stripped))]
 fn put_object(
     members: &mut Map<String, Value>,
     alloc: Global,
     local: bool,
-    object: ShownObject,
+    object: &ShownObject,
 ) -> Result<(), AllocError>
     ensures { OnOk result (members_view members.new.entries
-        ≡ with_object local (object_in object.entry) (members_view members.old.entries)) }
+        ≡ with_object local (object_in object.now) (members_view members.old.entries)) }
 {
     match object {
         ShownObject::Nothing => Ok(()),
         ShownObject::Id(id) => put_str(members, alloc, "object", id.text()),
         ShownObject::Present(object) => {
-            let value = object_value(alloc, object, local, false)?;
+            let value = object_value(alloc, object.whole(), local, false)?;
             serde_json::put(members, alloc, "object", value)
         }
     }
@@ -355,7 +355,7 @@ fn activity_members(alloc: Global, shown: &Shown) -> Result<Map<String, Value>, 
         shown.tags,
     )?;
     put_audience(&mut members, alloc, shown.to, shown.cc, shown.audience)?;
-    put_object(&mut members, alloc, shown.local, shown.object)?;
+    put_object(&mut members, alloc, shown.local, &shown.object)?;
     put_iri(&mut members, alloc, "target", shown.target)?;
     put_iri(&mut members, alloc, "inReplyTo", shown.in_reply_to)?;
     put_iri(&mut members, alloc, "id", Some(shown.id))?;

@@ -1,21 +1,57 @@
 //! One activity as a reader may see it.
 
+ghost use Rattle.std.specs.Prelude.{◌≡◌};
+
 use crate::kind::{Kind, State};
 use crate::object::{Object, Tag};
 use crate::text::Text;
 use fedi_address::Iri;
+use std::marker::Model;
+
+/// An object without its `bto` and `bcc`, which nobody can read from here (ActivityPub, section 6).
+#[derive(Drop)]
+pub struct StrippedObject<'a> {
+    object: &'a Object,
+}
+
+impl<'a> Model for StrippedObject<'a> {
+    ghost use Rattle.fedi_objects.specs.declared.object.Object.{Object};
+    ghost use Rattle.fedi_objects.specs.Objects.{stripped_object};
+
+    ghost Value = { Object };
+
+    ghost view = { λ s. stripped_object s.object.now };
+}
+
+impl<'a> StrippedObject<'a> {
+    ghost use Rattle.fedi_objects.specs.Objects.{stripped_object};
+
+    /// The object without its `bto` and `bcc`.
+    pub fn new(object: &'a Object) -> StrippedObject<'a>
+        ensures { result ≡ stripped_object object.now }
+    {
+        StrippedObject { object }
+    }
+
+    // The object with all its fields, for what writes it.
+    pub(crate) fn whole(&self) -> &Object
+        ensures { self.now ≡ stripped_object result.now }
+    {
+        self.object
+    }
+}
 
 /// What a shown activity is about.
-#[derive(Clone, Copy)]
+#[derive(Drop)]
 pub enum ShownObject<'a> {
     Nothing,
     Id(&'a Iri),
     /// The object as it stands now, with empty `bto` and `bcc`.
-    Present(&'a Object),
+    Present(StrippedObject<'a>),
 }
 
 /// One activity as a reader may see it, without `bto` and `bcc` (ActivityPub, section 6).
-#[derive(Clone, Copy)]
+#[derive(Drop)]
 pub struct Shown<'a> {
     pub id: &'a Iri,
     pub author: &'a Iri,
