@@ -84,7 +84,8 @@ pub fn store_entry<P: Keeper>(
     ensures room { OnOk result (vec_len history.new + 1 ≤ vec_capacity history.new) }
     ensures facts_kept { OnErr result (facts.new ≡ facts.old) }
     ensures history { history.new.items ≡ history.old.items }
-    ensures fits { OnOk result (HasRoom P.room (P.shown keeper.old).end (length (code_of entry.now))) }
+    ensures fits { OnOk result
+        (HasRoom P.room (P.shown keeper.old).end (length (code_of entry.now))) }
     ensures added { OnOk result
         (HasAdded P.growth (code_of entry.now) (P.shown keeper.old) (P.shown keeper.new)) }
     ensures refused { IfErr result (λ fault.
