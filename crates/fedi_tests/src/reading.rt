@@ -1,20 +1,22 @@
 //! Bodies as clients write them.
 use fedi_objects::{Activity, ObjectRef, object_value, public_text};
-use fedi_reading::{ShapeFault, read_body, read_posted};
+use fedi_reading::{read_body, read_posted};
+use serde_json::Value;
 use std::alloc::Global;
 use std::test::Fail;
 
-fn read(alloc: Global, body: &str) -> Result<Result<Activity, ShapeFault>, Fail> {
-    let value = read_body(alloc, body.as_bytes())?;
-    Ok(read_posted(alloc, &value))
+// The name of the fault of what is posted, or `none`.
+fn fault_in(alloc: Global, value: &Value) -> &'static str {
+    match read_posted(alloc, value) {
+        Ok(_) => "none",
+        Err(fault) => fault.name(),
+    }
 }
 
-// The name of the fault of a body, or `none`.
+// The same of a body.
 fn fault_of(alloc: Global, body: &str) -> Result<&'static str, Fail> {
-    match read(alloc, body)? {
-        Ok(_) => Ok("none"),
-        Err(fault) => Ok(fault.name()),
-    }
+    let value = read_body(alloc, body.as_bytes())?;
+    Ok(fault_in(alloc, &value))
 }
 
 const FAULTS: [(&str, &str); 15] = [
@@ -113,12 +115,18 @@ fn text_of(alloc: Global, activity: &Activity) -> Result<Vec<u8>, Fail> {
     Ok(public_text(alloc, &value)?)
 }
 
-// The same of what is read of a body.
-fn object_text(alloc: Global, body: &str) -> Result<Vec<u8>, Fail> {
-    match read(alloc, body)? {
+// The same of what is posted.
+fn text_in(alloc: Global, value: &Value) -> Result<Vec<u8>, Fail> {
+    match read_posted(alloc, value) {
         Ok(activity) => text_of(alloc, &activity),
         Err(_) => Err(Fail::from("refused")),
     }
+}
+
+// The same of a body.
+fn object_text(alloc: Global, body: &str) -> Result<Vec<u8>, Fail> {
+    let value = read_body(alloc, body.as_bytes())?;
+    text_in(alloc, &value)
 }
 
 #[test]

@@ -69,10 +69,15 @@ fn name_and_number(ask: &Ask) -> (&'static str, u32) {
     }
 }
 
+// The same of a request.
+fn asked_by(alloc: Global, request: &Request) -> Result<(&'static str, u32), AllocError> {
+    Ok(name_and_number(&route(alloc, request, b"")?))
+}
+
 // The same of a first line.
 fn asked(alloc: Global, line: &str) -> Result<(&'static str, u32), AllocError> {
     match request_of(alloc, line, "Content-Length: 0\r\n")? {
-        Some(request) => Ok(name_and_number(&route(alloc, &request, b"")?)),
+        Some(request) => asked_by(alloc, &request),
         None => Ok(("refused", 0)),
     }
 }
@@ -119,47 +124,56 @@ fn of_post(ask: &Ask) -> (bool, bool, &'static str) {
     (post.is_typed, post.is_keyed, read)
 }
 
+// The same of a request and a body.
+fn of_request(
+    alloc: Global,
+    request: &Request,
+    body: &str,
+) -> Result<(bool, bool, &'static str), AllocError> {
+    Ok(of_post(&route(alloc, request, body.as_bytes())?))
+}
+
 // The same of a post with these fields and this body.
 fn posted(
     alloc: Global,
     fields: &str,
     body: &str,
 ) -> Result<(bool, bool, &'static str), AllocError> {
-    let fields = format!(in alloc; "Content-Length: {}\r\n{fields}", body.len())?;
-    match request_of(alloc, "POST /users/ana/outbox", fields.as_str())? {
-        Some(request) => Ok(of_post(&route(alloc, &request, body.as_bytes())?)),
+    match request_of(alloc, "POST /users/ana/outbox", fields)? {
+        Some(request) => of_request(alloc, &request, body),
         None => Ok((false, false, "refused")),
     }
 }
 
-const NOTE: &str = "{\"type\":\"Note\",\"content\":\"hello\"}";
+// The fields of a post and its body, and whether it is typed and keyed, and what is read of it.
+const POSTED: [(&str, &str, (bool, bool, &str)); 5] = [
+    (
+        "Content-Type: application/activity+json\r\nContent-Length: 33\r\n",
+        "{\"type\":\"Note\",\"content\":\"hello\"}",
+        (true, false, "ready"),
+    ),
+    (
+        "content-type: Application/LD+json \t; profile=\"x\"\r\nContent-Length: 15\r\n",
+        "{\"type\":\"Note\"}",
+        (true, false, "ready"),
+    ),
+    (
+        "Content-Type: application/json\r\nIdempotency-Key: k\r\nContent-Length: 2\r\n",
+        "{}",
+        (true, true, "bad"),
+    ),
+    (
+        "Content-Type: application/jsonx\r\nidempotency-key:\r\nContent-Length: 1\r\n",
+        "[",
+        (false, true, "no JSON"),
+    ),
+    ("Content-Length: 0\r\n", "", (false, false, "no JSON")),
+];
 
 #[test]
 fn posts_have_a_type_and_a_body(rt: HostRuntime) -> Result<(), Fail> {
-    for (fields, body, wanted) in [
-        (
-            "Content-Type: application/activity+json\r\n",
-            NOTE,
-            (true, false, "ready"),
-        ),
-        (
-            "content-type: Application/LD+json \t; profile=\"x\"\r\n",
-            NOTE,
-            (true, false, "ready"),
-        ),
-        (
-            "Content-Type: application/json\r\nIdempotency-Key: k\r\n",
-            "{}",
-            (true, true, "bad"),
-        ),
-        (
-            "Content-Type: application/jsonx\r\nidempotency-key:\r\n",
-            "[",
-            (false, true, "no JSON"),
-        ),
-        ("", "", (false, false, "no JSON")),
-    ] {
-        assert_eq!(rt; posted(rt.alloc(), fields, body)?, wanted, "{fields}");
+    for (fields, body, wanted) in &POSTED {
+        assert!(rt; posted(rt.alloc(), fields, body)? == *wanted, "{fields}");
     }
     Ok(())
 }
