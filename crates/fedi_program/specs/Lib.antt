@@ -1,0 +1,5 @@
+pub mod Commands
+pub mod Conversations
+pub mod Endings
+pub mod Keeping
+pub mod Usage
