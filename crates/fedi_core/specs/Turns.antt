@@ -1,6 +1,6 @@
 -- What a turn of the machine does: it answers one ask, and keeps the entry that the ask makes before it acknowledges it.
 use Rattle.std.specs.Prelude.{◌≡◌, ◌⊎◌, ℕ, ◌+◌, ◌^◌, ◌<◌, ◌≤◌, false, List, [], ◌∷◌, ◌++◌, length, Option, Some, None, option_map, Result, Ok, Err}
-use Rattle.fedi_address.specs.declared.refusal.Refusal.TheVariants.{JournalFull, KeeperFault}
+use Rattle.fedi_model.specs.declared.refusal.Refusal.TheVariants.{JournalFull, KeeperFault}
 use Rattle.fedi_entry.specs.Codes.{code_of}
 use Rattle.fedi_objects.specs.declared.activity.Activity.{Activity}
 use Rattle.fedi_objects.specs.declared.entry.Entry.{Entry}

@@ -8,7 +8,7 @@ ghost use Rattle.fedi_core.specs.Example as example;
 
 use fedi_address::{Host, HostFault, Iri, Items, LocalName, Recipients};
 use fedi_facts::actor_iri;
-use fedi_objects::{Activity, Entry, Kind, Moment, Object, ObjectRef, Text};
+use fedi_objects::{Activity, Boxed, Entry, Kind, Moment, Object, ObjectRef, Text};
 use std::alloc::{AllocError, Global};
 
 /// The SHA-256 digest of ana's key, which is 32 bytes 0.
@@ -155,7 +155,7 @@ fn creation(alloc: Global, content: &str, recipients: Recipients) -> Result<Acti
         id: None,
         kind: Kind::Create,
         actor: None,
-        object: ObjectRef::Whole(note),
+        object: ObjectRef::Whole(Boxed::new(alloc, note)?),
         target: None,
         recipients,
         in_reply_to: None,
@@ -170,7 +170,7 @@ fn creation(alloc: Global, content: &str, recipients: Recipients) -> Result<Acti
 fn posted(alloc: Global, content: &str, recipients: Recipients) -> Result<Entry, AllocError>
     ensures { IfOk result (λ e. e ≡ example.posted content.now recipients) }
 {
-    let activity = creation(alloc, content, recipients)?;
+    let activity = Boxed::new(alloc, creation(alloc, content, recipients)?)?;
     Ok(Entry::Local {
         name: named("ana"),
         repeat: None,

@@ -7,9 +7,9 @@ ghost use Rattle.fedi_model.specs.Posting.{IsReadPosted, is_nobody, is_self, jud
 ghost use Rattle.fedi_model.specs.Towns.{is_named};
 ghost use Rattle.fedi_core.specs.Judgements.{IsFit, IsPosted, Judges, judgement_in};
 
-use fedi_address::{LocalName, Refusal};
+use fedi_address::LocalName;
 use fedi_facts::Facts;
-use fedi_model::{Actor, Caller, Post, Read, Reply, misshapen_reply, refusal_reply};
+use fedi_model::{Actor, Caller, Post, Read, Refusal, Reply, misshapen_reply, refusal_reply};
 use fedi_objects::Activity;
 use std::alloc::{AllocError, Global};
 

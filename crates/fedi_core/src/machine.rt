@@ -14,10 +14,9 @@ ghost use Rattle.fedi_core.specs.Turns.{HidesPosts, IsDropped, IsPrivateTurn, Tu
 
 use crate::held::Held;
 use crate::turning::turn;
-use fedi_address::Refusal;
 use fedi_facts::Facts;
 use fedi_mac::digest;
-use fedi_model::{Ask, Caller, Credentials, Reply};
+use fedi_model::{Ask, Caller, Credentials, Refusal, Reply};
 use fedi_objects::{Entry, Moment};
 use fedi_outside::Keeper;
 use std::alloc::{AllocError, Global};

@@ -3,8 +3,8 @@ ghost use Rattle.fedi_model.specs.Posting.{IsPostable};
 
 use crate::fixture::{named, now};
 use crate::*;
-use fedi_address::{Host, LocalName, Refusal};
-use fedi_model::{Ask, Caller, Credentials, Reply};
+use fedi_address::{Host, LocalName};
+use fedi_model::{Ask, Caller, Credentials, Refusal, Reply};
 use fedi_objects::Entry;
 use fedi_outside::MemoryKeeper;
 use std::alloc::Global;

@@ -22,7 +22,7 @@ use fedi_address::{Host, Iri, LocalName, Refusal};
 use fedi_entry::encode;
 use fedi_facts::{activity_iri, activity_reply, object_reply};
 use fedi_model::{Ask, Caller, Form, Post, Reply, refusal_reply};
-use fedi_objects::{Activity, Bytes, Entry, Moment};
+use fedi_objects::{Activity, Boxed, Bytes, Entry, Moment};
 use fedi_outside::Keeper;
 use std::alloc::{AllocError, Global};
 
@@ -107,10 +107,10 @@ fn with_refusals(alloc: Global, kept: Reply) -> Result<Outcomes, AllocError>
 }
 
 // The entry of a post without a key for repeats.
-fn post_entry(name: &LocalName, activity: &Activity, moment: Moment) -> Result<Entry, AllocError>
+fn post_entry(alloc: Global, name: &LocalName, activity: &Activity, moment: Moment) -> Result<Entry, AllocError>
     ensures { IfOk result (λ e. e ≡ Local name.now None activity.now moment) }
 {
-    let activity = activity.copy()?;
+    let activity = Boxed::new(alloc, activity.copy()?)?;
     Ok(Entry::Local {
         name: name.copy(),
         repeat: None,
@@ -145,7 +145,7 @@ fn prepare(
     ensures { IfOk result (λ r. IsReady (created (option_copied host.entry) name.now number) (Local name.now None activity.now moment) r) }
 {
     let outcomes = with_refusals(alloc, created(alloc, host, name, number)?)?;
-    let entry = post_entry(name, activity, moment)?;
+    let entry = post_entry(alloc, name, activity, moment)?;
     let ready = with_code(alloc, entry, outcomes)?;
     Ok(ready)
 }

@@ -3,8 +3,8 @@
 ghost use Rattle.std.specs.Prelude.{◌≡◌, ◌++◌, ◌∷◌, [], ◌<◌, IsTrue, OnOk, OnErr, option_copied, length, take, Some};
 ghost use Rattle.std.specs.List.{find, list_any};
 ghost use Rattle.fedi_model.specs.Activities.{makes};
-ghost use Rattle.fedi_model.specs.Histories.{step, made, posted, may_post, is_admissible};
-ghost use Rattle.fedi_model.specs.Towns.{empty_town, count_of, id_of, has_digest, is_named, is_by, has_id};
+ghost use Rattle.fedi_model.specs.Histories.{step, member_made, acts_of_post, may_post, is_admissible};
+ghost use Rattle.fedi_model.specs.Towns.{empty_town, count_of, id_of, has_digest, has_name, is_by, has_id};
 
 use crate::ids::actor_iri;
 use crate::making::{makes, new_act};
@@ -63,7 +63,7 @@ impl Facts {
         self.acts.as_slice()
     }
 
-    /// Adds what an admissible entry makes. Where memory is wanted the facts are as before.
+    /// Adds what an admissible entry makes. Out of memory the facts are as before.
     pub fn apply(&mut self, alloc: Global, entry: &Entry) -> Result<(), AllocError>
         requires { IsTrue (is_admissible self.old entry.now) }
         ensures ok { OnOk result (self.new ≡ step self.old entry.now) }
@@ -105,7 +105,9 @@ impl Facts {
         digest: &[u8; 32],
         locked: bool,
     ) -> Result<(), AllocError>
-        ensures ok { OnOk result (self.new ≡ record self.old { actors = self.old.actors ++ made self.old.host name.now digest.now locked }) }
+        ensures ok { OnOk result (self.new ≡ record self.old {
+          actors = self.old.actors ++ member_made self.old.host name.now digest.now locked;
+        }) }
         ensures err { OnErr result (self.new ≡ self.old) }
     {
         let Some(host) = &self.host else {
@@ -121,8 +123,7 @@ impl Facts {
         Ok(())
     }
 
-    /// Adds the activity that an admissible post makes. Where memory is wanted the facts are as before.
-    pub fn add_act(
+    fn add_act(
         &mut self,
         alloc: Global,
         name: &LocalName,
@@ -131,7 +132,10 @@ impl Facts {
         moment: Moment,
     ) -> Result<(), AllocError>
         requires { IsTrue (may_post self.old.host self.old name.now repeat.now) }
-        ensures ok { OnOk result (self.new ≡ record self.old { acts = self.old.acts ++ posted self.old.host self.old name.now repeat.now activity.now moment }) }
+        ensures ok { OnOk result (self.new ≡ record self.old {
+          acts = self.old.acts
+              ++ acts_of_post self.old.host self.old name.now repeat.now activity.now moment;
+        }) }
         ensures err { OnErr result (self.new ≡ self.old) }
     {
         let Some(host) = &self.host else {
@@ -149,24 +153,24 @@ impl Facts {
         self.acts.truncate(count);
     }
 
-    /// The member of this name, or none where there is no such member.
+    /// The member of this name, or none if there is no such member.
     pub fn member(&self, name: &LocalName) -> Option<&Actor>
-        ensures { option_copied result ≡ find (is_named name.now) self.now.actors }
+        ensures { option_copied result ≡ find (has_name name.now) self.now.actors }
     {
-        self.actors.iter().find(|a| is_named(a, name))
+        self.actors.iter().find(|a| has_name(a, name))
     }
 
-    /// The id of the member of this name, or none where there is no such member.
+    /// The id of the member of this name, or none if there is no such member.
     pub fn id_of(&self, name: &LocalName) -> Option<&Iri>
         ensures { option_copied result ≡ id_of self.now name.now }
     {
         self.actors
             .iter()
-            .find(|a| is_named(a, name))
+            .find(|a| has_name(a, name))
             .map(|a| &a.id)
     }
 
-    /// The member whose key has this digest, or none where there is no such member.
+    /// The member whose key has this digest, or none if there is no such member.
     pub fn actor_with(&self, digest: &[u8; 32]) -> Option<&Actor>
         ensures { option_copied result ≡ find (has_digest digest.now) self.now.actors }
     {
@@ -180,7 +184,7 @@ impl Facts {
         self.acts.iter().filter(|x| is_by(x, author)).count()
     }
 
-    /// The activity that made the object of this id, or none where there is no such object.
+    /// The activity that made the object of this id, or none if there is no such object.
     pub fn maker_of(&self, id: &Iri) -> Option<&Act>
         ensures { option_copied result ≡ find (makes id.now) self.now.acts }
     {
@@ -195,9 +199,9 @@ impl Facts {
     }
 }
 
-#[tactic(auto, unfolding(fedi_model::specs::Towns::is_named))]
-fn is_named(actor: &Actor, name: &LocalName) -> bool
-    ensures { result ≡ is_named name.now actor.now }
+#[tactic(auto, unfolding(fedi_model::specs::Towns::has_name))]
+fn has_name(actor: &Actor, name: &LocalName) -> bool
+    ensures { result ≡ has_name name.now actor.now }
 {
     actor.name.is(name)
 }

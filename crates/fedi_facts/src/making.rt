@@ -11,7 +11,7 @@ use crate::facts::Facts;
 use crate::ids::{activity_iri, actor_iri, object_iri};
 use fedi_address::{Host, Iri, LocalName};
 use fedi_model::Act;
-use fedi_objects::{Activity, Moment, Object, ObjectRef, RepeatKey, State, Text};
+use fedi_objects::{Activity, Boxed, Moment, Object, ObjectRef, RepeatKey, State, Text};
 use std::alloc::{AllocError, Global};
 
 /// Whether the effect of an activity in this state has happened.
@@ -44,7 +44,7 @@ pub fn whole_of(object: &ObjectRef) -> Option<&Object>
     ensures { option_copied result ≡ whole_of object.now }
 {
     match object {
-        ObjectRef::Whole(object) => Some(object),
+        ObjectRef::Whole(object) => Some(object.get()),
         ObjectRef::Nothing | ObjectRef::Id(_) | ObjectRef::Changed(_) => None,
     }
 }
@@ -107,7 +107,7 @@ fn completed_ref(
     match object {
         ObjectRef::Whole(object) => {
             let own = completed_object(alloc, host, name, number, moment, object)?;
-            Ok(ObjectRef::Whole(own))
+            Ok(ObjectRef::Whole(Boxed::new(alloc, own)?))
         }
         ObjectRef::Nothing | ObjectRef::Id(_) | ObjectRef::Changed(_) => object.copy(),
     }

@@ -1,11 +1,10 @@
-//! The replies to what is read.
+//! The replies to what is read. Out of memory is the only error.
 
 ghost use Rattle.std.specs.Prelude.{◌≡◌, ◌&&◌, ◌^◌, ◌<◌, false, IfOk, IfSome, Some, filter, option_copied};
 ghost use Rattle.std.specs.List.{find};
 ghost use Rattle.serde_json.specs.View.{view};
 ghost use Rattle.serde_json.specs.Written.{has_float};
-ghost use Rattle.fedi_model.specs.Activities.{whole_of};
-ghost use Rattle.fedi_model.specs.Replies.{activity_document, activity_or_missing, document, document_or_missing, has_activity_id, maker_of, object_document, seen_activity, seen_or_missing};
+ghost use Rattle.fedi_model.specs.Replies.{activity_document, activity_or_missing, document, has_activity_id, maker_of, object_document, seen_activity, seen_or_missing};
 ghost use Rattle.fedi_model.specs.Seeing.{sees};
 
 use crate::facts::Facts;
@@ -13,9 +12,10 @@ use crate::ids::{activity_iri, object_iri};
 use crate::making::{is_own_id, whole_of};
 use crate::seeing::sees;
 use crate::showing::shown_of;
-use fedi_address::{Iri, LocalName, Refusal};
-use fedi_model::{Act, Caller, Form, Reply, refusal_reply};
-use fedi_objects::{Bytes, Object, object_value, public_text, public_value};
+use fedi_address::{Iri, LocalName};
+use fedi_model::{Act, Body, Caller, Form, Refusal, Reply, refusal_reply};
+use fedi_objects::{Object, object_value, public_text, public_value};
+use http::StatusCode;
 use serde_json::Value;
 use std::alloc::{AllocError, Global};
 
@@ -23,13 +23,13 @@ fn document(alloc: Global, value: &Value) -> Result<Reply, AllocError>
     requires { has_float (view value.now) ≡ false }
     ensures { IfOk result (λ r. r ≡ document (view value.now)) }
 {
-    let body = public_text(alloc, value)?;
+    let text = public_text(alloc, value)?;
     Ok(Reply {
-        status: 200,
+        status: StatusCode::OK,
         form: Form::Activity,
         location: None,
         allow: None,
-        body: Bytes::new(body),
+        body: Body::from(text),
     })
 }
 
@@ -37,9 +37,7 @@ fn document(alloc: Global, value: &Value) -> Result<Reply, AllocError>
 fn object_document(alloc: Global, object: &Object) -> Result<Reply, AllocError>
     ensures { IfOk result (λ r. r ≡ object_document object.now) }
 {
-    let value = object_value(alloc, object, true, true)?;
-    let reply = document(alloc, &value)?;
-    Ok(reply)
+    document(alloc, &object_value(alloc, object, true, true)?)
 }
 
 #[tactic(auto, unfolding(fedi_model::specs::Replies::activity_document))]
@@ -47,42 +45,32 @@ fn activity_document(alloc: Global, act: &Act, id: &Iri) -> Result<Reply, AllocE
     requires { act.now.activity.id ≡ Some id.now }
     ensures { IfOk result (λ r. r ≡ activity_document act.now) }
 {
-    let value = public_value(alloc, &shown_of(act, id), true)?;
-    let reply = document(alloc, &value)?;
-    Ok(reply)
+    document(alloc, &public_value(alloc, &shown_of(act, id), true)?)
 }
 
-fn document_or_missing(alloc: Global, object: Option<&Object>) -> Result<Reply, AllocError>
-    ensures { IfOk result (λ r. r ≡ document_or_missing (option_copied object.entry)) }
-{
-    match object {
-        Some(object) => object_document(alloc, object),
-        None => refusal_reply(alloc, Refusal::NotFound),
-    }
-}
-
+// The document of the object that the activity made, if the caller sees the activity.
 fn seen_or_missing(
     alloc: Global,
     facts: &Facts,
     caller: &Caller,
     found: Option<&Act>,
 ) -> Result<Reply, AllocError>
-    ensures { IfOk result (λ r. r ≡ seen_or_missing facts.now caller.now (option_copied found.entry)) }
+    ensures { IfOk result (λ r.
+        r ≡ seen_or_missing facts.now caller.now (option_copied found.entry)) }
 {
-    match found {
-        Some(act) => {
-            if sees(facts, caller, act) {
-                document_or_missing(alloc, whole_of(&act.activity.object))
-            } else {
-                refusal_reply(alloc, Refusal::NotFound)
-            }
-        }
-        None => refusal_reply(alloc, Refusal::NotFound),
+    let Some(act) = found else {
+        return Ok(refusal_reply(Refusal::NotFound));
+    };
+    if !sees(facts, caller, act) {
+        return Ok(refusal_reply(Refusal::NotFound));
+    }
+    match whole_of(&act.activity.object) {
+        Some(object) => object_document(alloc, object),
+        None => Ok(refusal_reply(Refusal::NotFound)),
     }
 }
 
-/// The reply to who asks for the object that the member's activity of this number made. The error
-/// is want of memory.
+/// The reply to who asks for the object that the member's activity of this number made.
 pub fn object_reply(
     alloc: Global,
     facts: &Facts,
@@ -90,10 +78,11 @@ pub fn object_reply(
     name: &LocalName,
     number: u32,
 ) -> Result<Reply, AllocError>
-    ensures { IfOk result (λ r. r ≡ seen_or_missing facts.now caller.now (maker_of facts.now name.now number)) }
+    ensures { IfOk result (λ r.
+        r ≡ seen_or_missing facts.now caller.now (maker_of facts.now name.now number)) }
 {
     let Some(host) = facts.host() else {
-        return refusal_reply(alloc, Refusal::NotFound);
+        return Ok(refusal_reply(Refusal::NotFound));
     };
     let id = object_iri(alloc, host, name, number)?;
     seen_or_missing(alloc, facts, caller, facts.maker_of(&id))
@@ -106,9 +95,11 @@ fn has_activity_id(act: &Act, id: &Iri) -> bool
     is_own_id(&act.activity.id, id)
 }
 
-// The first activity that has this id and that the caller sees.
+// The first activity that has this id and that the caller sees. It stands alone since the proof of
+// `seen_activity` needs what the search finds.
 fn first_seen<'a>(facts: &'a Facts, caller: &Caller, id: &Iri) -> Option<&'a Act>
-    ensures { option_copied result ≡ find (λ x. has_activity_id id.now x && sees facts.now caller.now x) facts.now.acts }
+    ensures { option_copied result
+        ≡ find (λ x. has_activity_id id.now x && sees facts.now caller.now x) facts.now.acts }
 {
     facts
         .acts()
@@ -118,13 +109,14 @@ fn first_seen<'a>(facts: &'a Facts, caller: &Caller, id: &Iri) -> Option<&'a Act
 
 // The activity of this id, among those that the caller sees.
 fn seen_activity<'a>(facts: &'a Facts, caller: &Caller, id: &Iri) -> Option<&'a Act>
-    ensures found { option_copied result ≡ find (has_activity_id id.now) (filter (sees facts.now caller.now) facts.now.acts) }
+    ensures found { option_copied result
+        ≡ find (has_activity_id id.now) (filter (sees facts.now caller.now) facts.now.acts) }
     ensures own { IfSome (option_copied result) (λ x. x.activity.id ≡ Some id.now) }
 {
     first_seen(facts, caller, id)
 }
 
-/// The reply to who asks for the member's activity of this number. The error is want of memory.
+/// The reply to who asks for the member's activity of this number.
 pub fn activity_reply(
     alloc: Global,
     facts: &Facts,
@@ -132,14 +124,15 @@ pub fn activity_reply(
     name: &LocalName,
     number: u32,
 ) -> Result<Reply, AllocError>
-    ensures { IfOk result (λ r. r ≡ activity_or_missing (seen_activity facts.now caller.now name.now number)) }
+    ensures { IfOk result (λ r.
+        r ≡ activity_or_missing (seen_activity facts.now caller.now name.now number)) }
 {
     let Some(host) = facts.host() else {
-        return refusal_reply(alloc, Refusal::NotFound);
+        return Ok(refusal_reply(Refusal::NotFound));
     };
     let id = activity_iri(alloc, host, name, number)?;
     match seen_activity(facts, caller, &id) {
         Some(act) => activity_document(alloc, act, &id),
-        None => refusal_reply(alloc, Refusal::NotFound),
+        None => Ok(refusal_reply(Refusal::NotFound)),
     }
 }

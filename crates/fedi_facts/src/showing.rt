@@ -30,7 +30,7 @@ fn shown_object(object: &ObjectRef, made: bool) -> ShownObject<'_>
         ObjectRef::Id(id) => ShownObject::Id(id),
         ObjectRef::Whole(object) => {
             if made {
-                ShownObject::Present(object)
+                ShownObject::Present(object.get())
             } else {
                 id_or_nothing(object.id.as_ref())
             }

@@ -8,8 +8,7 @@ ghost use Rattle.fedi_http.specs.Arrivals.{IsArrival, IsBodyRead, LacksRequest, 
 
 use crate::heads::{BUFFER_LIMIT, Buffer, Filled, HEAD_LIMIT, HeadRead, read_up_to};
 use crate::requests::{MOST_FIELDS, read_request_head};
-use fedi_address::Refusal;
-use fedi_model::Request;
+use fedi_model::{Refusal, Request};
 use fedi_outside::Source;
 use std::alloc::Global;
 

@@ -7,8 +7,7 @@ ghost use Rattle.std.specs.Str.Parse.{digits_value};
 ghost use Rattle.fedi_model.specs.Requests as model;
 
 use crate::fields::{count_named, field_value, has_no_repeats, is_named, is_same_name};
-use fedi_address::Refusal;
-use fedi_model::{BODY_LIMIT, Field};
+use fedi_model::{BODY_LIMIT, Field, Refusal};
 use http::Method;
 
 /// The length of the body of a request with this method and these fields, or why it is refused: it is `BadHead` where `Host` does not

@@ -2,7 +2,6 @@
 
 ghost use Rattle.std.specs.Prelude.{◌≡◌, ◌++◌, ◌≤◌, ◌<◌, List, OnOk, IfOk, codes, Some, None, option_map};
 ghost use Rattle.std.specs.List.{flat_map};
-ghost use Rattle.http.specs.StatusCode.{IsStatusCode};
 ghost use Rattle.fedi_model.specs.ReplyText as model;
 
 use fedi_address::Iri;
@@ -33,7 +32,7 @@ pub fn memory_text() -> &'static [u8]
 /// The text of the reply at this moment (RFC 9112, section 4): the status line, the fields `Date`,
 /// `Location`, `Allow`, `WWW-Authenticate`, `Access-Control-Allow-Origin`, `Content-Type`,
 /// `Content-Length` and `Connection`, each where it applies, an empty line, and the body unless
-/// `head_only`. The connection is told to close where `closing`. The status has three digits.
+/// `head_only`. The connection is told to close where `closing`.
 pub fn reply_bytes(
     alloc: Global,
     reply: &Reply,
@@ -41,7 +40,6 @@ pub fn reply_bytes(
     head_only: bool,
     closing: bool,
 ) -> Result<Vec<u8>, AllocError>
-    requires { model.HasStatus reply.now }
     ensures { IfOk result (λ text. text.items ≡ model.reply_text moment head_only closing reply.now) }
 {
     let mut text = Vec::with_capacity(alloc, room_for(reply))?;
@@ -76,7 +74,6 @@ fn push(text: &mut Vec<u8>, pieces: &[&[u8]]) -> Result<(), AllocError>
 /// Puts the status line, the date and the location at the end.
 #[tactic(auto, unfolding(fedi_model::specs::ReplyText::start_text))]
 fn push_start(text: &mut Vec<u8>, reply: &Reply, moment: Moment) -> Result<(), AllocError>
-    requires { model.HasStatus reply.now }
     ensures { OnOk result (text.new.items ≡ text.old.items ++ model.start_text moment reply.now) }
 {
     push_status(text, reply.status)?;
@@ -86,8 +83,7 @@ fn push_start(text: &mut Vec<u8>, reply: &Reply, moment: Moment) -> Result<(), A
 
 /// Puts the status line at the end.
 #[tactic(auto, unfolding(fedi_model::specs::ReplyText::status_line))]
-fn push_status(text: &mut Vec<u8>, status: u16) -> Result<(), AllocError>
-    requires { IsStatusCode status }
+fn push_status(text: &mut Vec<u8>, status: StatusCode) -> Result<(), AllocError>
     ensures { OnOk result (text.new.items ≡ text.old.items ++ model.status_line status) }
 {
     let mut digits = Buffer::new();
@@ -95,7 +91,7 @@ fn push_status(text: &mut Vec<u8>, status: u16) -> Result<(), AllocError>
         text,
         &[
             b"HTTP/1.1 ",
-            digits.format(status).as_bytes(),
+            digits.format(status.as_u16()).as_bytes(),
             b" ",
             reason(status).as_bytes(),
             END,
@@ -104,14 +100,10 @@ fn push_status(text: &mut Vec<u8>, status: u16) -> Result<(), AllocError>
 }
 
 /// The reason of a status code.
-fn reason(status: u16) -> &'static str
-    requires { IsStatusCode status }
+fn reason(status: StatusCode) -> &'static str
     ensures { result.now ≡ model.reason_of status }
 {
-    match StatusCode::from_u16(status) {
-        Ok(code) => code.canonical_reason().unwrap_or("<unknown status code>"),
-        Err(_) => unreachable!(),
-    }
+    status.canonical_reason().unwrap_or("<unknown status code>")
 }
 
 /// Puts the date at the end.
@@ -157,10 +149,10 @@ fn allow_line(allow: Option<Allow>) -> &'static [u8]
 
 /// The line that asks for a key, where one is wanted.
 #[tactic(auto, unfolding(fedi_model::specs::ReplyText::challenge_line))]
-fn challenge_line(status: u16) -> &'static [u8]
+fn challenge_line(status: StatusCode) -> &'static [u8]
     ensures { result.now ≡ model.challenge_line status }
 {
-    if status == 401 {
+    if status == StatusCode::UNAUTHORIZED {
         b"WWW-Authenticate: Bearer\r\n"
     } else {
         b""
@@ -169,11 +161,11 @@ fn challenge_line(status: u16) -> &'static [u8]
 
 /// The line that lets each site read a JRD.
 #[tactic(auto, unfolding(fedi_model::specs::ReplyText::origin_line))]
-fn origin_line(form: Form, status: u16) -> &'static [u8]
+fn origin_line(form: Form, status: StatusCode) -> &'static [u8]
     ensures { result.now ≡ model.origin_line form status }
 {
     match form {
-        Form::Jrd if status == 200 => b"Access-Control-Allow-Origin: *\r\n",
+        Form::Jrd if status == StatusCode::OK => b"Access-Control-Allow-Origin: *\r\n",
         _ => b"",
     }
 }

@@ -7,8 +7,8 @@ ghost use Rattle.httparse.specs.Spans.{IsRequestAt, IsRequestWithin, IsHeaderWit
 ghost use Rattle.fedi_model.specs.Requests as model;
 
 use crate::framing::{body_length, closes};
-use fedi_address::{Items, Refusal};
-use fedi_model::{BODY_LIMIT, Field, Request};
+use fedi_address::Items;
+use fedi_model::{BODY_LIMIT, Field, Refusal, Request};
 use fedi_objects::Bytes;
 use http::Method;
 use httparse::Status;

@@ -3,16 +3,15 @@ mod requests;
 mod streams;
 
 use crate::{memory_text, reply_bytes};
-use fedi_address::Refusal;
-use fedi_model::refusal_reply;
+use fedi_model::{Refusal, refusal_reply};
 use fedi_objects::Moment;
 use std::test::Fail;
 
 #[test]
 fn a_refusal_is_written(rt: HostRuntime) -> Result<(), Fail> {
-    let reply = refusal_reply(rt.alloc(), Refusal::WrongKey)?;
+    let reply = refusal_reply(Refusal::WrongKey);
     let moment = Moment::new(784_111_777).ok_or("no moment")?;
-    assert_eq!(rt; reply.status, 401);
+    assert_eq!(rt; reply.status.as_u16(), 401);
     let text = reply_bytes(rt.alloc(), &reply, moment, false, true)?;
     let wanted =
         b"HTTP/1.1 401 Unauthorized\r\nDate: Sun, 06 Nov 1994 08:49:37 GMT\r\nWWW-Authenticate: Bearer\r\nContent-Type: application/json\r\nContent-Length: 20\r\nConnection: close\r\n\r\n{\"error\":\"WrongKey\"}";

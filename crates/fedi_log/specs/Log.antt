@@ -67,6 +67,13 @@ items_of by (Kept e) = made_by by (Entered e) ∷ []
 items_of by (Full e) = []
 items_of by (Failed e) = made_by by (Marked e) ∷ []
 
+-- the entry that was kept
+abbrev pub kept_in : Outcome → List Entry
+kept_in NoEntry = []
+kept_in (Kept e) = e ∷ []
+kept_in (Full e) = []
+kept_in (Failed e) = []
+
 -- the entry that the keeper failed to keep
 abbrev pub failed_in : Outcome → List Entry
 failed_in NoEntry = []

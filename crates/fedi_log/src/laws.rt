@@ -5,6 +5,7 @@ ghost use Rattle.std.specs.List.{filter};
 ghost use Rattle.fedi_entry.specs.Codes.{code_of};
 ghost use Rattle.fedi_objects.specs.declared.entry.Entry.{Entry};
 ghost use Rattle.fedi_log.specs.declared.items.What.{What};
+ghost use Rattle.fedi_log.specs.Keeping.{Base, Follows, Holds, HoldsSince, State, base_of};
 ghost use Rattle.fedi_log.specs.Log.{Added, Goes, IsOthers, Log, Outcome, doubts_of, failed_in, given, history_of, items_of, made_by, marks_of};
 
 /// The log of a history that was kept before has this history, and no marks.
@@ -35,4 +36,15 @@ pub fn doubts_are_marked()
         → doubts_of before (log ++ items_of by (Outcome.Kept e)) ≡ [] }
     ensures failed { (by : Option ℕ) (e : Entry) (before : List (List ℕ)) (log : Log)
         → doubts_of before (log ++ items_of by (Outcome.Failed e)) ≡ doubts_of before log ++ code_of e ∷ [] }
+{}
+
+/// A machine that is opened stands for the log of its history. A turn leaves it standing for the log with
+/// the item that the turn added, and turns follow one another.
+pub fn machines_stand_for_logs()
+    ensures opened { (growth room : ℕ → ℕ) (by : Option ℕ) (opened : State)
+        → HoldsSince (base_of growth room opened) by (given opened.history) opened (given opened.history) }
+    ensures more { (b : Base) (by : Option ℕ) (before after : State) (log : Log) (o : Outcome) → Holds b before log
+        → Follows b before after o → HoldsSince b by log after (log ++ items_of by o) }
+    ensures on { (b : Base) (by : Option ℕ) (x y z : Log) (before after : State) → HoldsSince b by x before y
+        → HoldsSince b by y after z → HoldsSince b by x after z }
 {}

@@ -6,4 +6,7 @@ mod items;
 mod laws;
 
 pub use items::{Item, Pair, What};
-pub use laws::{doubts_are_marked, given_logs_hold_their_history, items_past_are_added, logs_go_on};
+pub use laws::{
+    doubts_are_marked, given_logs_hold_their_history, items_past_are_added, logs_go_on,
+    machines_stand_for_logs,
+};

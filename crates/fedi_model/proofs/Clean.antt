@@ -4,9 +4,9 @@ use Rattle.std.specs.Prelude.{codes}
 use Rattle.serde_json.specs.Data.{Data, object, string, put, no_members}
 use Rattle.serde_json.specs.Written.{compact_text}
 use Rattle.serde_json.proofs.OnLiterals.{serde_json_on_literals}
-use Rattle.fedi_address.specs.declared.refusal.Refusal.{Refusal}
-use Rattle.fedi_address.specs.declared.refusal.Refusal.TheVariants.{BadHead, BadBody, BadQuery, NoKey, WrongKey, WrongMac, NotOwner, Blocked, NotOrigin, NotPublic, NotFound, WrongMethod, KeyReused, NotStanding, Gone, NoLength, TooLong, WrongType, BadShape, HeadTooLong, NoCoding, ActorFull, KeeperFault, Memory, JournalFull}
-use Rattle.fedi_address.specs.Refusals.{name_of}
+use Rattle.fedi_model.specs.declared.refusal.Refusal.{Refusal}
+use Rattle.fedi_model.specs.declared.refusal.Refusal.TheVariants.{BadHead, BadBody, BadQuery, NoKey, WrongKey, WrongMac, NotOwner, Blocked, NotOrigin, NotPublic, NotFound, WrongMethod, KeyReused, NotStanding, Gone, NoLength, TooLong, WrongType, BadShape, HeadTooLong, NoCoding, ActorFull, KeeperFault, Memory, JournalFull}
+use Rattle.fedi_model.specs.Refusals.{name_of, refusal_body}
 use Rattle.fedi_objects.specs.declared.object.Object.{Object}
 use Rattle.fedi_objects.specs.Forms.{activity_form, object_form}
 use Rattle.fedi_objects.proofs.FormLemmas.{is_clean-activity_form, is_clean-object_form}
@@ -18,7 +18,7 @@ use Rattle.fedi_model.specs.declared.ask.Ask.{Ask}
 use Rattle.fedi_model.specs.declared.caller.Caller.{Caller}
 use Rattle.fedi_model.specs.declared.reply.Reply.{Reply}
 use Rattle.fedi_model.specs.Cleanness.{IsCleanBody}
-use Rattle.fedi_model.specs.Refusing.{fault_body, refusal_body, refused}
+use Rattle.fedi_model.specs.Refusing.{fault_body, refused}
 use Rattle.fedi_model.specs.Replies.{activity_document, object_document, reply}
 use Rattle.fedi_model.specs.Seeing.{shown_activity}
 use Rattle.fedi_model.specs.Towns.{Town}

@@ -15,7 +15,7 @@ use Rattle.fedi_objects.specs.declared.kind.Kind.{Kind}
 use Rattle.fedi_objects.specs.declared.kind.State.TheVariants.{Plain, Done}
 use Rattle.fedi_objects.specs.Kinds.{is_create}
 use Rattle.fedi_model.specs.Activities.{is_done, whole_of, completed_ref, has_object_id, makes, local_state, local_act}
-use Rattle.fedi_model.specs.Histories.{step, posted, town}
+use Rattle.fedi_model.specs.Histories.{step, acts_of_post, town}
 use Rattle.fedi_model.specs.Ids.{actor_id, object_id}
 use Rattle.fedi_model.specs.Towns.{Town, empty_town, count_of}
 use Rattle.fedi_model.proofs.Finding.{PassesOnce, PassesOnce-push}
@@ -58,7 +58,7 @@ done_is_new t host name repeat a moment id made =
     is_new_by t a.kind host name (count_of t (actor_id host name) + 1) moment id a.object made
 
 posted_once : (t : Town) (host : Option (List ℕ)) (name : List ℕ) (repeat : Option (List ℕ × List ℕ)) (a : Activity) (moment : ℕ)
-    → MadeOnce t → (id : List ℕ) → PassesOnce (makes id) (t.acts ++ posted host t name repeat a moment)
+    → MadeOnce t → (id : List ℕ) → PassesOnce (makes id) (t.acts ++ acts_of_post host t name repeat a moment)
 posted_once t None name repeat a moment h id = rw append-nil (h.once id)
 posted_once t (Some host) name repeat a moment h id =
     PassesOnce-push (makes id) t.acts (local_act t host name repeat a moment) (h.once id) (done_is_new t host name repeat a moment id)

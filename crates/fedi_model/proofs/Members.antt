@@ -1,18 +1,17 @@
 -- Each member of a legal history has the id that the host and the name give.
-use Rattle.std.proofs.Common.{◌≡◌, ℕ, Bool, true, false, List, [], ◌∷◌, ◌++◌, append-nil, Option, Some, None, refl, sym, subst, ◌∙◌}
-use Rattle.std.specs.Prelude.{◌&&◌, IsTrue, nat_lt, is_none, is_some}
+use Rattle.std.proofs.Common.{◌≡◌, ℕ, Bool, true, false, List, [], ◌∷◌, ◌++◌, append-nil, Option, Some, None, refl, subst, ◌∙◌}
+use Rattle.std.specs.Prelude.{nat_lt, is_none}
 use Rattle.std.specs.List.{fold, find, list_all, list_any}
 use Rattle.std.specs.Str.{bytes_eq}
 use Rattle.std.proofs.lemmas.Bool.{and_parts}
 use Rattle.std.proofs.lemmas.List.Folds.{list_all-append}
 use Rattle.std.proofs.lemmas.Slice.Eq.{bytes_eq-Decides}
-use Rattle.fedi_objects.specs.declared.activity.Activity.{Activity}
 use Rattle.fedi_objects.specs.declared.entry.Entry.{Entry}
 use Rattle.fedi_objects.specs.declared.entry.Entry.TheVariants.{Hosted, Made, PeerSet, Local, Remote, Tried}
 use Rattle.fedi_model.specs.declared.act.Actor.{Actor}
-use Rattle.fedi_model.specs.Histories.{step, town, made, may_post, is_admissible, is_legal_from, IsLegal}
+use Rattle.fedi_model.specs.Histories.{step, town, member_made, may_post, is_admissible, is_legal_from, IsLegal}
 use Rattle.fedi_model.specs.Ids.{actor_id}
-use Rattle.fedi_model.specs.Towns.{Town, empty_town, is_named, count_of}
+use Rattle.fedi_model.specs.Towns.{Town, empty_town, has_name, count_of}
 
 -- the actor has the id that the host and the name give
 abbrev pub is_of : Option (List ℕ) → Actor → Bool
@@ -32,10 +31,10 @@ hosted (a ∷ actors) None name none all = absurd cc
 hosted (a ∷ actors) (Some own) name none all = absurd cc
 
 made_member : (host : Option (List ℕ)) (actors : List Actor) (name digest : List ℕ) (locked : Bool)
-    → list_all (is_of host) actors ≡ true → list_all (is_of host) (actors ++ made host name digest locked) ≡ true
+    → list_all (is_of host) actors ≡ true → list_all (is_of host) (actors ++ member_made host name digest locked) ≡ true
 made_member None actors name digest locked all = rw (append-nil actors) all
 made_member (Some host) actors name digest locked all =
-    list_all-append (is_of (Some host)) actors (made (Some host) name digest locked) ∙ rw (all, bytes_eq-refl (actor_id host name)) refl
+    list_all-append (is_of (Some host)) actors (member_made (Some host) name digest locked) ∙ rw (all, bytes_eq-refl (actor_id host name)) refl
 
 step_members : (t : Town) (e : Entry) → is_admissible t e ≡ true → HasMembers t → HasMembers (step t e)
 step_members t (Hosted host moment) ok h = record { all = hosted t.actors t.host host ok h.all }
@@ -76,9 +75,9 @@ found_passes {A} p q (y ∷ xs) x all found =
           record { there = rw fails rest.there; passes = rest.passes; kept = rest.kept }
     ] refl
 
-member_posts : (t : Town) (host : Option (List ℕ)) (name : List ℕ) (member : Actor) → IsFound (is_named name) (is_of host) t.actors member
+member_posts : (t : Town) (host : Option (List ℕ)) (name : List ℕ) (member : Actor) → IsFound (has_name name) (is_of host) t.actors member
     → nat_lt (count_of t member.id) 4294967295 ≡ true → may_post host t name None ≡ true
-unfolding is_named
+unfolding has_name
 member_posts t None name member found room = absurd (let kept = found.kept in cc)
 member_posts t (Some host) name member found room =
     let named : member.name ≡ name = (bytes_eq-Decides member.name name).0 found.passes in
@@ -88,8 +87,8 @@ member_posts t (Some host) name member found room =
     rw (found.there, fewer) refl
 
 -- A member with room for one more activity may post it without a key for repeats.
-pub member_may_post : (history : List Entry) (name : List ℕ) (member : Actor) → IsLegal history → find (is_named name) (town history).actors ≡ Some member
+pub member_may_post : (history : List Entry) (name : List ℕ) (member : Actor) → IsLegal history → find (has_name name) (town history).actors ≡ Some member
     → nat_lt (count_of (town history) member.id) 4294967295 ≡ true → may_post (town history).host (town history) name None ≡ true
 member_may_post history name member legal found room =
     member_posts (town history) (town history).host name member
-    (found_passes (is_named name) (is_of (town history).host) (town history).actors member (town_members history legal).all found) room
+    (found_passes (has_name name) (is_of (town history).host) (town history).actors member (town_members history legal).all found) room

@@ -4,7 +4,7 @@ use Rattle.std.proofs.lemmas.Slice.Eq.{bytes_eq-Decides}
 use Rattle.std.specs.Prelude.{◌&&◌, not, map, filter, option_and_then, option_map, if◌then◌else◌}
 use Rattle.std.specs.List.{find}
 use Rattle.std.specs.Str.{bytes_eq}
-use Rattle.fedi_address.specs.declared.refusal.Refusal.TheVariants.{NotFound, BadQuery, NoKey, NotOwner, WrongType}
+use Rattle.fedi_model.specs.declared.refusal.Refusal.TheVariants.{NotFound, BadQuery, NoKey, NotOwner, WrongType}
 use Rattle.fedi_objects.specs.declared.activity.Activity.{Activity}
 use Rattle.fedi_objects.specs.declared.activity.ObjectRef.{ObjectRef}
 use Rattle.fedi_objects.specs.declared.activity.ObjectRef.TheVariants.{Nothing, Id, Whole, Changed}
@@ -25,11 +25,11 @@ use Rattle.fedi_model.specs.Activities.{is_done, is_own_id, whole_of, has_object
 use Rattle.fedi_model.specs.Agreement.{Agree, IsSameOwn}
 use Rattle.fedi_model.specs.Histories.{town}
 use Rattle.fedi_model.specs.Ids.{activity_id, object_id}
-use Rattle.fedi_model.specs.Posting.{is_nobody, is_self, judged, post_reply_at, read_or_refused, told, with_room}
+use Rattle.fedi_model.specs.Posting.{is_nobody, is_self, judgement, post_reply_at, read_or_refused, reply_to, with_room}
 use Rattle.fedi_model.specs.Refusing.{refused}
 use Rattle.fedi_model.specs.Replies.{document, object_document, document_or_missing, seen_or_missing, activity_document, activity_or_missing, has_activity_id, reply}
-use Rattle.fedi_model.specs.Seeing.{Sight, shown_ref, stripped_object, sees, shown, view}
-use Rattle.fedi_model.specs.Towns.{Town, count_of, id_of, is_named}
+use Rattle.fedi_model.specs.Seeing.{Sight, shown_ref, stripped_object, sees, sight_of, view}
+use Rattle.fedi_model.specs.Towns.{Town, count_of, id_of, has_name}
 use Rattle.fedi_model.proofs.Finding.{seen_or, found_or, found_seen}
 use Rattle.fedi_model.proofs.MadeOnce.{MadeOnce, town_once}
 
@@ -55,8 +55,8 @@ same_id true true id (Id iri) = refl
 same_id true true id (Whole o) = refl
 same_id true true id (Changed change) = refl
 
-same_maker : (t : Town) (c : Caller) (id : List ℕ) (x : Act) → is_shown_maker id (shown t c x) ≡ makes id x
-unfolding shown makes
+same_maker : (t : Town) (c : Caller) (id : List ℕ) (x : Act) → is_shown_maker id (sight_of t c x) ≡ makes id x
+unfolding sight_of makes
 same_maker t c id x = same_id (is_create x.activity.kind) (is_done x.state) id x.activity.object
 
 same_document : (create done : Bool) (id : List ℕ) (object : ObjectRef)
@@ -69,8 +69,8 @@ same_document true true id (Id iri) made = refl
 same_document true true id (Whole o) made = document-stripped o
 same_document true true id (Changed change) made = refl
 
-same_reply : (t : Town) (c : Caller) (id : List ℕ) (x : Act) → makes id x ≡ true → shown_document (shown t c x) ≡ document_or_missing (whole_of x.activity.object)
-unfolding shown makes
+same_reply : (t : Town) (c : Caller) (id : List ℕ) (x : Act) → makes id x ≡ true → shown_document (sight_of t c x) ≡ document_or_missing (whole_of x.activity.object)
+unfolding sight_of makes
 same_reply t c id x made = same_document (is_create x.activity.kind) (is_done x.state) id x.activity.object made
 
 -- ---- activities
@@ -79,24 +79,24 @@ same_reply t c id x made = same_document (is_create x.activity.kind) (is_done x.
 abbrev has_shown_id : List ℕ → Sight → Bool
 has_shown_id id s = is_own_id id s.activity.id
 
-same_activity : (t : Town) (c : Caller) (id : List ℕ) (x : Act) → has_shown_id id (shown t c x) ≡ has_activity_id id x
-unfolding shown has_activity_id
+same_activity : (t : Town) (c : Caller) (id : List ℕ) (x : Act) → has_shown_id id (sight_of t c x) ≡ has_activity_id id x
+unfolding sight_of has_activity_id
 same_activity t c id x = refl
 
 abbrev sight_or_missing : Option Sight → Reply
 sight_or_missing None = refused NotFound
 sight_or_missing (Some s) = document (activity_form true true s.author s.activity)
 
-same_activity_document : (t : Town) (c : Caller) (x : Act) → document (activity_form true true (shown t c x).author (shown t c x).activity) ≡ activity_document x
-unfolding shown activity_document
+same_activity_document : (t : Town) (c : Caller) (x : Act) → document (activity_form true true (sight_of t c x).author (sight_of t c x).activity) ≡ activity_document x
+unfolding sight_of activity_document
 same_activity_document t c x = refl
 
 activity_shown : (t : Town) (c : Caller) (id : List ℕ) (xs : List Act)
-    → activity_or_missing (find (has_activity_id id) xs) ≡ sight_or_missing (find (has_shown_id id) (map (shown t c) xs))
+    → activity_or_missing (find (has_activity_id id) xs) ≡ sight_or_missing (find (has_shown_id id) (map (sight_of t c) xs))
 activity_shown t c id [] = refl
 activity_shown t c id (x ∷ xs) =
     elim (has_activity_id id x) as (λ b. has_activity_id id x ≡ b
-    → activity_or_missing (find (has_activity_id id) (x ∷ xs)) ≡ sight_or_missing (find (has_shown_id id) (map (shown t c) (x ∷ xs)))) [
+    → activity_or_missing (find (has_activity_id id) (x ∷ xs)) ≡ sight_or_missing (find (has_shown_id id) (map (sight_of t c) (x ∷ xs)))) [
       | true ↦ λ has. rw (same_activity t c id x, has) (sym (same_activity_document t c x))
       | false ↦ λ lacks. rw (same_activity t c id x, lacks) (activity_shown t c id xs)
     ] refl
@@ -123,7 +123,7 @@ object_at t c None name number once = refl
 object_at t c (Some host) name number once =
     let id : List ℕ = object_id host name number in
     seen_is t c (find (makes id) t.acts)
-    ∙ found_seen (sees t c) (makes id) (shown t c) (is_shown_maker id) (same_maker t c id)
+    ∙ found_seen (sees t c) (makes id) (sight_of t c) (is_shown_maker id) (same_maker t c id)
     (λ x. document_or_missing (whole_of x.activity.object)) shown_document (same_reply t c id) (refused NotFound) t.acts (once.once id)
 
 activity_at : (t : Town) (c : Caller) (host : Option (List ℕ)) (name : List ℕ) (number : ℕ)
@@ -147,15 +147,15 @@ AreBoth (Some a) None = ⊥
 AreBoth (Some a) (Some b) = Unit {0}
 
 -- where the names are the same, both have a member of a name or neither
-both_found : (name : List ℕ) (gs hs : List Actor) → map (λ a. a.name) gs ≡ map (λ a. a.name) hs → AreBoth (find (is_named name) gs) (find (is_named name) hs)
-unfolding is_named
+both_found : (name : List ℕ) (gs hs : List Actor) → map (λ a. a.name) gs ≡ map (λ a. a.name) hs → AreBoth (find (has_name name) gs) (find (has_name name) hs)
+unfolding has_name
 both_found name [] [] same = tt
 both_found name [] (b ∷ hs) same = absurd cc
 both_found name (a ∷ gs) [] same = absurd cc
 both_found name (a ∷ gs) (b ∷ hs) same =
     let first : a.name ≡ b.name = cc in
     let rest : map (λ a. a.name) gs ≡ map (λ a. a.name) hs = cc in
-    elim (bytes_eq a.name name) as (λ s. bytes_eq a.name name ≡ s → AreBoth (find (is_named name) (a ∷ gs)) (find (is_named name) (b ∷ hs))) [
+    elim (bytes_eq a.name name) as (λ s. bytes_eq a.name name ≡ s → AreBoth (find (has_name name) (a ∷ gs)) (find (has_name name) (b ∷ hs))) [
       | true ↦ λ named. let other : bytes_eq b.name name ≡ true = rw (← first) named in rw (named, other) tt
       | false ↦ λ unnamed. let other : bytes_eq b.name name ≡ false = rw (← first) unnamed in rw (unnamed, other) (both_found name gs hs rest)
     ] refl
@@ -171,19 +171,19 @@ judged_by keyed nobody self typed count read =
 
 -- to a caller who is another the number of activities makes no difference
 told_other : (k l : Option (List ℕ)) (name : List ℕ) (m n : ℕ) (keyed nobody typed : Bool) (read : Read)
-    → told k name m (judged_by keyed nobody false typed m read) ≡ told l name n (judged_by keyed nobody false typed n read)
+    → reply_to k name m (judged_by keyed nobody false typed m read) ≡ reply_to l name n (judged_by keyed nobody false typed n read)
 told_other k l name m n true nobody typed read = refl
 told_other k l name m n false true typed read = refl
 told_other k l name m n false false typed read = refl
 
 told_same : (k l : Option (List ℕ)) (c : Caller) (name : List ℕ) (m n : ℕ) (post : Post) → k ≡ l → (is_self c name ≡ true → m ≡ n)
-    → told k name m (judged c name m post) ≡ told l name n (judged c name n post)
+    → reply_to k name m (judgement c name m post) ≡ reply_to l name n (judgement c name n post)
 told_same k l c name m n post host counts =
     elim (is_self c name) as (λ s. is_self c name ≡ s
-    → told k name m (judged_by post.is_keyed (is_nobody c) s post.is_typed m post.read) ≡ told l name n (judged_by post.is_keyed (is_nobody c) s post.is_typed n post.read)) [
+    → reply_to k name m (judged_by post.is_keyed (is_nobody c) s post.is_typed m post.read) ≡ reply_to l name n (judged_by post.is_keyed (is_nobody c) s post.is_typed n post.read)) [
       | true ↦ λ self. let same : m ≡ n = counts self in
-          ap (λ (x : Option (List ℕ)). told x name m (judged_by post.is_keyed (is_nobody c) true post.is_typed m post.read)) host
-          ∙ ap (λ (x : ℕ). told l name x (judged_by post.is_keyed (is_nobody c) true post.is_typed x post.read)) same
+          ap (λ (x : Option (List ℕ)). reply_to x name m (judged_by post.is_keyed (is_nobody c) true post.is_typed m post.read)) host
+          ∙ ap (λ (x : ℕ). reply_to l name x (judged_by post.is_keyed (is_nobody c) true post.is_typed x post.read)) same
       | false ↦ λ other. told_other k l name m n post.is_keyed (is_nobody c) post.is_typed post.read
     ] refl
 
@@ -205,9 +205,9 @@ own_counts g h (callers.Actor mine) name own self =
 own_counts g h (callers.Peer host) name own self = absurd cc
 
 post_agrees : (g h : Town) (c : Caller) (name : List ℕ) (post : Post) → Agree g h c
-    → post_reply_at g c name (find (is_named name) g.actors) post ≡ post_reply_at h c name (find (is_named name) h.actors) post
+    → post_reply_at g c name (find (has_name name) g.actors) post ≡ post_reply_at h c name (find (has_name name) h.actors) post
 post_agrees g h c name post agree =
-    post_same g h c name post (find (is_named name) g.actors) (find (is_named name) h.actors) agree.host
+    post_same g h c name post (find (has_name name) g.actors) (find (has_name name) h.actors) agree.host
     (both_found name g.actors h.actors agree.names) (own_counts g h c name agree.own)
 
 -- Histories that agree for a caller give the caller the same reply.

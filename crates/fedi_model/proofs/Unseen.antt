@@ -12,8 +12,8 @@ use Rattle.fedi_model.specs.declared.caller.Caller.{Caller}
 use Rattle.fedi_model.specs.declared.caller.Caller.TheVariants as callers
 use Rattle.fedi_model.specs.Activities.{local_act}
 use Rattle.fedi_model.specs.Agreement.{Agree, IsSameOwn, repeats_of}
-use Rattle.fedi_model.specs.Histories.{step, posted, town}
-use Rattle.fedi_model.specs.Seeing.{sees, shown, view, is_seen_as}
+use Rattle.fedi_model.specs.Histories.{step, acts_of_post, town}
+use Rattle.fedi_model.specs.Seeing.{sees, sight_of, view, is_seen_as}
 use Rattle.fedi_model.specs.Towns.{Town, empty_town, id_of, is_by, count_of}
 
 abbrev with_act : Town → Act → Town
@@ -28,10 +28,10 @@ filter-unpassed p (x ∷ xs) y fails =
     ] refl
 
 view-unseen : (t : Town) (c : Caller) (x : Act) → sees t c x ≡ false → view (with_act t x) c ≡ view t c
-unfolding sees shown
-view-unseen t callers.Nobody x unseen = ap (map (shown t callers.Nobody)) (filter-unpassed (sees t callers.Nobody) t.acts x unseen)
-view-unseen t (callers.Actor name) x unseen = ap (map (shown t (callers.Actor name))) (filter-unpassed (sees t (callers.Actor name)) t.acts x unseen)
-view-unseen t (callers.Peer host) x unseen = ap (map (shown t (callers.Peer host))) (filter-unpassed (sees t (callers.Peer host)) t.acts x unseen)
+unfolding sees sight_of
+view-unseen t callers.Nobody x unseen = ap (map (sight_of t callers.Nobody)) (filter-unpassed (sees t callers.Nobody) t.acts x unseen)
+view-unseen t (callers.Actor name) x unseen = ap (map (sight_of t (callers.Actor name))) (filter-unpassed (sees t (callers.Actor name)) t.acts x unseen)
+view-unseen t (callers.Peer host) x unseen = ap (map (sight_of t (callers.Peer host))) (filter-unpassed (sees t (callers.Peer host)) t.acts x unseen)
 
 first_false : (a b : Bool) → (a || b) ≡ false → a ≡ false
 first_false true b e = absurd cc
@@ -60,7 +60,7 @@ act_unseen t c x unseen = record { host = refl; names = refl; view = view-unseen
 
 posted_unseen : (t : Town) (host : Option (List ℕ)) (at : List ℕ) (name : List ℕ) (repeat : Option (List ℕ × List ℕ)) (a : Activity) (moment : ℕ) (c : Caller)
     → host ≡ Some at → sees t c (local_act t at name repeat a moment) ≡ false
-    → Agree (record t { acts = t.acts ++ posted host t name repeat a moment }) t c
+    → Agree (record t { acts = t.acts ++ acts_of_post host t name repeat a moment }) t c
 posted_unseen t None at name repeat a moment c is unseen = absurd cc
 posted_unseen t (Some own) at name repeat a moment c is unseen =
     let same : at ≡ own = cc in

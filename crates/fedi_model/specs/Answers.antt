@@ -1,7 +1,7 @@
 -- The answer to a request: the refusal of its caller, or the reply to the caller for what it asks. A body is that of the
 -- request, and is empty where it has none.
 use Rattle.std.specs.Prelude.{◌≡◌, ℕ, List, Option, None, Result, Ok, Err}
-use Rattle.fedi_address.specs.declared.refusal.Refusal.{Refusal}
+use Rattle.fedi_model.specs.declared.refusal.Refusal.{Refusal}
 use Rattle.fedi_objects.specs.declared.entry.Entry.{Entry}
 use Rattle.fedi_model.specs.declared.ask.Ask.{Ask}
 use Rattle.fedi_model.specs.declared.caller.Caller.{Caller}

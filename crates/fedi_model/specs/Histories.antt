@@ -14,27 +14,27 @@ use Rattle.fedi_objects.specs.Kinds.{is_create}
 use Rattle.fedi_model.specs.declared.act.Act.{Act}
 use Rattle.fedi_model.specs.declared.act.Actor.{Actor}
 use Rattle.fedi_model.specs.Ids.{actor_id}
-use Rattle.fedi_model.specs.Towns.{Town, empty_town, is_named, has_digest, is_by, count_of}
+use Rattle.fedi_model.specs.Towns.{Town, empty_town, has_name, has_digest, is_by, count_of}
 use Rattle.fedi_model.specs.Activities.{local_act, whole_of}
 
 -- ---- what entries make
 
 -- the member that an entry makes, once the server was set up
-abbrev pub made : Option (List ℕ) → List ℕ → List ℕ → Bool → List Actor
-made None name digest locked = []
-made (Some host) name digest locked = record { name = name; id = actor_id host name; digest = digest; locked = locked } ∷ []
+abbrev pub member_made : Option (List ℕ) → List ℕ → List ℕ → Bool → List Actor
+member_made None name digest locked = []
+member_made (Some host) name digest locked = record { name = name; id = actor_id host name; digest = digest; locked = locked } ∷ []
 
 -- the activity that a member's post makes, once the server was set up
-abbrev pub posted : Option (List ℕ) → Town → List ℕ → Option (List ℕ × List ℕ) → Activity → ℕ → List Act
-posted None t name repeat a moment = []
-posted (Some host) t name repeat a moment = local_act t host name repeat a moment ∷ []
+abbrev pub acts_of_post : Option (List ℕ) → Town → List ℕ → Option (List ℕ × List ℕ) → Activity → ℕ → List Act
+acts_of_post None t name repeat a moment = []
+acts_of_post (Some host) t name repeat a moment = local_act t host name repeat a moment ∷ []
 
 -- one more entry; peers, deliveries and outcomes make nothing yet
 abbrev pub step : Town → Entry → Town
 step t (Hosted host moment) = record t { host = Some host }
-step t (Made name digest locked moment) = record t { actors = t.actors ++ made t.host name digest locked }
+step t (Made name digest locked moment) = record t { actors = t.actors ++ member_made t.host name digest locked }
 step t (PeerSet host key address relay moment) = t
-step t (Local name repeat a moment) = record t { acts = t.acts ++ posted t.host t name repeat a moment }
+step t (Local name repeat a moment) = record t { acts = t.acts ++ acts_of_post t.host t name repeat a moment }
 step t (Remote peer inbox a moment) = t
 step t (Tried activity recipient came moment) = t
 
@@ -104,14 +104,14 @@ is_new_key acts (Some r) = not (list_any (λ x. has_key r.0 x.repeat) acts)
 abbrev pub may_post : Option (List ℕ) → Town → List ℕ → Option (List ℕ × List ℕ) → Bool
 may_post None t name repeat = false
 may_post (Some host) t name repeat =
-    list_any (is_named name) t.actors
+    list_any (has_name name) t.actors
     && (nat_lt (count_of t (actor_id host name)) 4294967295 && is_new_key (filter (is_by (actor_id host name)) t.acts) repeat)
 
 -- The server is set up first and once; a member's name and key are new; a post is a member's. Peers, deliveries
 -- and outcomes are not admitted yet.
 abbrev pub is_admissible : Town → Entry → Bool
 is_admissible t (Hosted host moment) = is_none t.host
-is_admissible t (Made name digest locked moment) = is_some t.host && (not (list_any (is_named name) t.actors) && not (list_any (has_digest digest) t.actors))
+is_admissible t (Made name digest locked moment) = is_some t.host && (not (list_any (has_name name) t.actors) && not (list_any (has_digest digest) t.actors))
 is_admissible t (PeerSet host key address relay moment) = false
 is_admissible t (Local name repeat a moment) = may_post t.host t name repeat && is_posted a
 is_admissible t (Remote peer inbox a moment) = false

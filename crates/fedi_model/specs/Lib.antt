@@ -8,6 +8,7 @@ pub mod Requests
 pub mod Credentials
 pub mod Callers
 pub mod Routes
+pub mod Refusals
 pub mod Refusing
 pub mod Posting
 pub mod Replies

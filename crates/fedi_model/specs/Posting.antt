@@ -1,7 +1,7 @@
 -- What becomes of a post to an outbox (ActivityPub, section 6).
 use Rattle.std.specs.Prelude.{ℕ, ◌+◌, Bool, true, false, not, nat_lt, IsTrue, List, [], Option, Some, None, option_map, Result, Ok, Err, if◌then◌else◌}
 use Rattle.std.specs.Str.{bytes_eq}
-use Rattle.fedi_address.specs.declared.refusal.Refusal.TheVariants.{BadBody, BadQuery, NoKey, NotOwner, NotFound, WrongType, ActorFull}
+use Rattle.fedi_model.specs.declared.refusal.Refusal.TheVariants.{BadBody, BadQuery, NoKey, NotOwner, NotFound, WrongType, ActorFull}
 use Rattle.fedi_objects.specs.declared.activity.Activity.{Activity}
 use Rattle.fedi_objects.specs.declared.entry.Entry.{Entry}
 use Rattle.fedi_objects.specs.declared.entry.Entry.TheVariants.{Local}
@@ -45,8 +45,8 @@ with_room count (Ok a) = if nat_lt count 4294967295 then Ok a else Err (refused 
 
 -- what a post at the name of a member with so many activities is: the activity that is accepted, or the first reason
 -- to refuse it, in this order. Posts under a key are not accepted yet.
-abbrev pub judged : Caller → List ℕ → ℕ → Post → Result Activity Reply
-judged c name count post =
+abbrev pub judgement : Caller → List ℕ → ℕ → Post → Result Activity Reply
+judgement c name count post =
     if post.is_keyed then Err (refused BadQuery) else (
     if is_nobody c then Err (refused NoKey) else (
     if not (is_self c name) then Err (refused NotOwner) else (
@@ -54,8 +54,8 @@ judged c name count post =
     with_room count (read_or_refused post.read))))
 
 -- the new activity's id is told (ActivityPub, section 6; RFC 9110, section 15.3.2)
-abbrev pub created : Option (List ℕ) → List ℕ → ℕ → Reply
-created host name number = record {
+abbrev pub created_reply : Option (List ℕ) → List ℕ → ℕ → Reply
+created_reply host name number = record {
   status = 201;
   form = forms.None;
   location = option_map (λ h. activity_id h name number) host;
@@ -64,14 +64,14 @@ created host name number = record {
 }
 
 -- the reply to what a post was judged to be, of a member with so many activities
-abbrev pub told : Option (List ℕ) → List ℕ → ℕ → Result Activity Reply → Reply
-told host name count (Err r) = r
-told host name count (Ok a) = created host name (count + 1)
+abbrev pub reply_to : Option (List ℕ) → List ℕ → ℕ → Result Activity Reply → Reply
+reply_to host name count (Err r) = r
+reply_to host name count (Ok a) = created_reply host name (count + 1)
 
 -- the reply to a post at a name, whose member was found or not
 abbrev pub post_reply_at : Town → Caller → List ℕ → Option Actor → Post → Reply
 post_reply_at t c name None post = refused NotFound
-post_reply_at t c name (Some member) post = told t.host name (count_of t member.id) (judged c name (count_of t member.id) post)
+post_reply_at t c name (Some member) post = reply_to t.host name (count_of t member.id) (judgement c name (count_of t member.id) post)
 
 -- the entry of a post that is accepted at this moment
 abbrev pub entry_by : List ℕ → ℕ → Result Activity Reply → Option Entry
@@ -81,7 +81,7 @@ entry_by name moment (Ok a) = Some (Local name None a moment)
 -- the entry that a post at a name makes at this moment, whose member was found or not
 abbrev pub post_entry_at : Town → Caller → List ℕ → Option Actor → Post → ℕ → Option Entry
 post_entry_at t c name None post moment = None
-post_entry_at t c name (Some member) post moment = entry_by name moment (judged c name (count_of t member.id) post)
+post_entry_at t c name (Some member) post moment = entry_by name moment (judgement c name (count_of t member.id) post)
 
 -- an activity that was read is one that a client may post
 abbrev pub IsReadPosted : Read → Type 0

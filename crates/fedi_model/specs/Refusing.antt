@@ -1,19 +1,15 @@
 -- The replies to what is refused (RFC 9110, sections 15.5 and 15.6).
 use Rattle.std.specs.Prelude.{ℕ, List, ◌++◌, codes, None}
-use Rattle.fedi_address.specs.declared.refusal.Refusal.{Refusal}
-use Rattle.fedi_address.specs.Refusals.{name_of, status_of}
 use Rattle.fedi_reading.specs.declared.shape_fault.ShapeFault.{ShapeFault}
 use Rattle.fedi_reading.specs.Shapes.{fault_name}
 use Rattle.fedi_model.specs.declared.reply.Form.TheVariants as forms
+use Rattle.fedi_model.specs.declared.refusal.Refusal.{Refusal}
 use Rattle.fedi_model.specs.declared.reply.Reply.{Reply}
+use Rattle.fedi_model.specs.Refusals.{refusal_body, status_of}
 
 -- a reply that tells in JSON what is wrong
 abbrev pub telling : ℕ → List ℕ → Reply
 telling status body = record { status = status; form = forms.Json; location = None; allow = None; body = body }
-
--- the body that names a refusal
-abbrev pub refusal_body : Refusal → List ℕ
-refusal_body r = codes "{\"error\":\"" ++ (name_of r ++ codes "\"}")
 
 -- the reply to what is refused
 abbrev pub refused : Refusal → Reply

@@ -3,7 +3,7 @@ use Rattle.std.specs.Prelude.{ℕ, Bool, true, List, filter, Option, Some, None,
 use Rattle.std.specs.List.{find}
 use Rattle.serde_json.specs.Data.{Data}
 use Rattle.serde_json.specs.Written.{compact_text}
-use Rattle.fedi_address.specs.declared.refusal.Refusal.TheVariants.{NotFound}
+use Rattle.fedi_model.specs.declared.refusal.Refusal.TheVariants.{NotFound}
 use Rattle.fedi_objects.specs.declared.entry.Entry.{Entry}
 use Rattle.fedi_objects.specs.declared.object.Object.{Object}
 use Rattle.fedi_objects.specs.Forms.{activity_form, object_form}
@@ -18,7 +18,7 @@ use Rattle.fedi_model.specs.Ids.{activity_id, object_id}
 use Rattle.fedi_model.specs.Posting.{post_reply_at, post_entry_at}
 use Rattle.fedi_model.specs.Refusing.{refused}
 use Rattle.fedi_model.specs.Seeing.{sees, shown_activity}
-use Rattle.fedi_model.specs.Towns.{Town, is_named}
+use Rattle.fedi_model.specs.Towns.{Town, has_name}
 
 -- a document of ActivityStreams (ActivityPub, section 3.2)
 abbrev pub document : Data → Reply
@@ -64,11 +64,11 @@ abbrev pub reply : Town → Caller → Ask → Reply
 reply t c asks.Nowhere = refused NotFound
 reply t c (asks.Activity name number) = activity_or_missing (seen_activity t c name number)
 reply t c (asks.Object name number) = seen_or_missing t c (maker_of t name number)
-reply t c (asks.Outbox name post) = post_reply_at t c name (find (is_named name) t.actors) post
+reply t c (asks.Outbox name post) = post_reply_at t c name (find (has_name name) t.actors) post
 
 -- the entry that the ask makes at this moment: that of a post that is accepted
 abbrev pub entry_of : Town → Caller → Ask → ℕ → Option Entry
 entry_of t c asks.Nowhere moment = None
 entry_of t c (asks.Activity name number) moment = None
 entry_of t c (asks.Object name number) moment = None
-entry_of t c (asks.Outbox name post) moment = post_entry_at t c name (find (is_named name) t.actors) post moment
+entry_of t c (asks.Outbox name post) moment = post_entry_at t c name (find (has_name name) t.actors) post moment

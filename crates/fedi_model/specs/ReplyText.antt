@@ -1,6 +1,6 @@
 -- The text of a reply (RFC 9112, section 4). Its lines end in CR LF.
 use Rattle.std.specs.Prelude.{ℕ, Bool, true, false, ◌&&◌, ◌==◌, List, [], ◌++◌, length, codes, decimal, Option, Some, None, unwrap_or, if◌then◌else◌}
-use Rattle.http.specs.StatusCode.{reason_phrase, IsStatusCode}
+use Rattle.http.specs.StatusCode.{reason_phrase}
 use Rattle.fedi_objects.specs.Dates.{http_date_text}
 use Rattle.fedi_model.specs.declared.reply.Allow.{Allow}
 use Rattle.fedi_model.specs.declared.reply.Allow.TheVariants.{GetHead, GetHeadPost}
@@ -89,10 +89,6 @@ reply_text moment head_only closing r =
     ++ (content_text closing r
     ++ (codes "\r\n"
     ++ body_text head_only r.body)))
-
--- the status is one of three digits (RFC 9110, section 15)
-abbrev pub HasStatus : Reply → Type 0
-HasStatus r = IsStatusCode r.status
 
 -- the reply for want of memory (RFC 4918, section 11.5), of which no part is computed
 unfoldable pub memory_text : List ℕ

@@ -79,8 +79,8 @@ id_of_caller t (callers.Actor name) = id_of t name
 id_of_caller t (callers.Peer host) = None
 
 -- what the caller is shown of an activity that the caller sees
-unfoldable pub shown : Town → Caller → Act → Sight
-shown t c x = record {
+unfoldable pub sight_of : Town → Caller → Act → Sight
+sight_of t c x = record {
   author = x.author;
   activity = shown_activity x;
   state = x.state;
@@ -90,4 +90,4 @@ shown t c x = record {
 
 -- all that the caller is shown, in order
 abbrev pub view : Town → Caller → List Sight
-view t c = map (shown t c) (filter (sees t c) t.acts)
+view t c = map (sight_of t c) (filter (sees t c) t.acts)

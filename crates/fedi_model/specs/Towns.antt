@@ -21,8 +21,8 @@ abbrev pub names : Town → List (List ℕ)
 names t = map (λ a. a.name) t.actors
 
 -- the member of this name
-unfoldable pub is_named : List ℕ → Actor → Bool
-is_named name a = bytes_eq a.name name
+unfoldable pub has_name : List ℕ → Actor → Bool
+has_name name a = bytes_eq a.name name
 
 -- the member of this id
 unfoldable pub has_id : List ℕ → Actor → Bool
@@ -34,7 +34,7 @@ has_digest digest a = bytes_eq a.digest digest
 
 -- the id of the member of this name
 abbrev pub id_of : Town → List ℕ → Option (List ℕ)
-id_of t name = option_map (λ a. a.id) (find (is_named name) t.actors)
+id_of t name = option_map (λ a. a.id) (find (has_name name) t.actors)
 
 -- the activity is this author's
 unfoldable pub is_by : List ℕ → Act → Bool

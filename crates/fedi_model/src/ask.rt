@@ -1,7 +1,7 @@
 //! What a request asks for.
 
 use fedi_address::LocalName;
-use fedi_objects::Activity;
+use fedi_objects::{Activity, Boxed};
 use fedi_reading::ShapeFault;
 
 /// What was read of the body of a post.
@@ -12,7 +12,7 @@ pub enum Read {
     /// The body has not the shape of what may be posted. It is never `ShapeFault::Memory`.
     Bad(ShapeFault),
     /// The body was read as this activity.
-    Ready(Activity),
+    Ready(Boxed<Activity>),
 }
 
 /// A post to an outbox (ActivityPub, section 6).

@@ -19,7 +19,8 @@ ghost use Rattle.fedi_model.specs.Towns.{Town};
 /// Histories that agree for a caller give the caller the same reply, whatever else stands in them.
 #[tactic(auto, using(crate::proofs::Privacy::reply_agrees))]
 pub fn replies_are_private()
-    ensures { (g h : List Entry) (c : Caller) (ask : Ask) → Agree (town g) (town h) c → reply (town g) c ask ≡ reply (town h) c ask }
+    ensures { (g h : List Entry) (c : Caller) (ask : Ask)
+        → Agree (town g) (town h) c → reply (town g) c ask ≡ reply (town h) c ask }
 {}
 
 /// No reply, to whomever and for whatever, names those whom `bto` and `bcc` hide (ActivityPub, section
@@ -33,8 +34,10 @@ pub fn replies_are_clean()
 /// who does not is another. So the agreement is no empty one: a private post changes no reply to a
 /// stranger.
 pub fn unseen_posts_tell_nothing()
-    ensures { (history : List Entry) (host name : List ℕ) (repeat : Option (List ℕ × List ℕ)) (a : Activity) (moment : ℕ) (c : Caller)
-        → (town history).host ≡ Some host → sees (town history) c (local_act (town history) host name repeat a moment) ≡ false
+    ensures { (history : List Entry) (host name : List ℕ) (repeat : Option (List ℕ × List ℕ))
+        (a : Activity) (moment : ℕ) (c : Caller)
+        → (town history).host ≡ Some host
+        → sees (town history) c (local_act (town history) host name repeat a moment) ≡ false
         → Agree (town (history ++ Local name repeat a moment ∷ [])) (town history) c }
 {}
 

@@ -5,6 +5,7 @@ mod act;
 mod ask;
 mod caller;
 mod laws;
+mod refusal;
 mod refusing;
 mod reply;
 mod request;
@@ -15,6 +16,7 @@ pub use caller::{Caller, Credentials, Signed};
 pub use laws::{
     replies_are_clean, replies_are_private, unseen_posts_tell_nothing, what_is_read_may_be_posted,
 };
+pub use refusal::Refusal;
 pub use refusing::{misshapen_reply, refusal_reply};
-pub use reply::{Allow, Form, Reply};
+pub use reply::{Allow, Body, Form, Reply};
 pub use request::{BODY_LIMIT, Field, Request};

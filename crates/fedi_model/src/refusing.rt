@@ -1,63 +1,55 @@
-//! The replies to what is refused.
+//! The replies to what is refused. They take no memory.
 
-ghost use Rattle.std.specs.Prelude.{◌≡◌, IfOk};
-ghost use Rattle.fedi_model.specs.Refusing.{fault_body, misshapen, refusal_body, refused, telling};
-ghost use Rattle.fedi_model.specs.ReplyText.{HasStatus};
+ghost use Rattle.std.specs.Prelude.{◌≡◌};
+ghost use Rattle.fedi_model.specs.Refusing.{fault_body, misshapen, refused, telling};
 
-use crate::reply::{Form, Reply};
-use fedi_address::Refusal;
-use fedi_objects::Bytes;
+use crate::refusal::Refusal;
+use crate::reply::{Body, Form, Reply};
 use fedi_reading::ShapeFault;
-use std::alloc::{AllocError, Global};
+use http::StatusCode;
 
-fn telling(status: u16, body: Bytes) -> Reply
-    ensures { result ≡ telling status body }
+fn telling(status: StatusCode, text: &'static [u8]) -> Reply
+    ensures { result ≡ telling status text.now }
 {
     Reply {
         status,
         form: Form::Json,
         location: None,
         allow: None,
-        body,
+        body: Body::from(text),
     }
 }
 
-fn refusal_body(alloc: Global, refusal: Refusal) -> Result<Bytes, AllocError>
-    ensures { IfOk result (λ body. body ≡ refusal_body refusal) }
+fn fault_body(fault: ShapeFault) -> &'static [u8]
+    ensures { result.now ≡ fault_body fault }
 {
-    let mut body = Vec::new(alloc);
-    body.extend_from_slice(b"{\"error\":\"")?;
-    body.extend_from_slice(refusal.name().as_bytes())?;
-    body.extend_from_slice(b"\"}")?;
-    Ok(Bytes::new(body))
+    match fault {
+        ShapeFault::NotObject => br#"{"error":"BadShape","fault":"NotObject"}"#,
+        ShapeFault::BadContext => br#"{"error":"BadShape","fault":"BadContext"}"#,
+        ShapeFault::NoType => br#"{"error":"BadShape","fault":"NoType"}"#,
+        ShapeFault::NoId => br#"{"error":"BadShape","fault":"NoId"}"#,
+        ShapeFault::NoActor => br#"{"error":"BadShape","fault":"NoActor"}"#,
+        ShapeFault::NoObject => br#"{"error":"BadShape","fault":"NoObject"}"#,
+        ShapeFault::BadIri => br#"{"error":"BadShape","fault":"BadIri"}"#,
+        ShapeFault::TooManyRecipients => br#"{"error":"BadShape","fault":"TooManyRecipients"}"#,
+        ShapeFault::BadText => br#"{"error":"BadShape","fault":"BadText"}"#,
+        ShapeFault::SelfTarget => br#"{"error":"BadShape","fault":"SelfTarget"}"#,
+        ShapeFault::Memory => br#"{"error":"BadShape","fault":"Memory"}"#,
+    }
 }
 
-fn fault_body(alloc: Global, fault: ShapeFault) -> Result<Bytes, AllocError>
-    ensures { IfOk result (λ body. body ≡ fault_body fault) }
+/// The reply that tells a refusal: its status (RFC 9110, section 15), and its name as JSON. It takes
+/// no memory.
+pub fn refusal_reply(refusal: Refusal) -> Reply
+    ensures { result ≡ refused refusal }
 {
-    let mut body = Vec::new(alloc);
-    body.extend_from_slice(b"{\"error\":\"BadShape\",\"fault\":\"")?;
-    body.extend_from_slice(fault.name().as_bytes())?;
-    body.extend_from_slice(b"\"}")?;
-    Ok(Bytes::new(body))
-}
-
-/// The reply that tells a refusal: its status (RFC 9110, section 15), and its name as JSON. The
-/// error is want of memory.
-#[tactic(auto, using(crate::proofs::Statuses::refused_has_status))]
-pub fn refusal_reply(alloc: Global, refusal: Refusal) -> Result<Reply, AllocError>
-    ensures reply { IfOk result (λ r. r ≡ refused refusal) }
-    ensures status { IfOk result (λ r. HasStatus r) }
-{
-    let body = refusal_body(alloc, refusal)?;
-    Ok(telling(refusal.status(), body))
+    telling(refusal.status(), refusal.body())
 }
 
 /// The reply to a post of the wrong shape (RFC 9110, section 15.5.21), which names the fault as
-/// JSON. The error is want of memory.
-pub fn misshapen_reply(alloc: Global, fault: ShapeFault) -> Result<Reply, AllocError>
-    ensures reply { IfOk result (λ r. r ≡ misshapen fault) }
+/// JSON. It takes no memory.
+pub fn misshapen_reply(fault: ShapeFault) -> Reply
+    ensures { result ≡ misshapen fault }
 {
-    let body = fault_body(alloc, fault)?;
-    Ok(telling(422, body))
+    telling(StatusCode::UNPROCESSABLE_ENTITY, fault_body(fault))
 }

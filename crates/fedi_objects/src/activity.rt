@@ -2,6 +2,7 @@
 
 ghost use Rattle.std.specs.Prelude.{◌≡◌, IfOk};
 
+use crate::boxed::Boxed;
 use crate::copies::{copy_items, copy_option};
 use crate::kind::Kind;
 use crate::object::{Change, Object, Tag};
@@ -15,7 +16,7 @@ pub enum ObjectRef {
     Nothing,
     Id(Iri),
     /// The object itself, of a Create or a peer's Update.
-    Whole(Object),
+    Whole(Boxed<Object>),
     /// What a client's Update changes.
     Changed(Change),
 }
@@ -28,7 +29,10 @@ impl ObjectRef {
         match self {
             ObjectRef::Nothing => Ok(ObjectRef::Nothing),
             ObjectRef::Id(id) => Ok(ObjectRef::Id(id.copy()?)),
-            ObjectRef::Whole(object) => Ok(ObjectRef::Whole(object.copy()?)),
+            ObjectRef::Whole(object) => {
+                let copied = object.copy()?;
+                Ok(ObjectRef::Whole(Boxed::new(object.allocator(), copied)?))
+            }
             ObjectRef::Changed(change) => Ok(ObjectRef::Changed(change.copy()?)),
         }
     }

@@ -1,6 +1,7 @@
 //! The entries of a history.
 
 use crate::activity::Activity;
+use crate::boxed::Boxed;
 use crate::moment::Moment;
 use crate::repeat_key::RepeatKey;
 use crate::text::Text;
@@ -60,14 +61,14 @@ pub enum Entry {
     Local {
         name: LocalName,
         repeat: Option<(RepeatKey, [u8; 32])>,
-        activity: Activity,
+        activity: Boxed<Activity>,
         moment: Moment,
     },
     /// A peer delivered an activity, as it was read, to a member's inbox.
     Remote {
         peer: Host,
         inbox: LocalName,
-        activity: Activity,
+        activity: Boxed<Activity>,
         moment: Moment,
     },
     /// A delivery was tried.

@@ -2,6 +2,7 @@
 #![tactic(auto)]
 
 mod activity;
+mod boxed;
 mod copies;
 mod entry;
 mod kind;
@@ -13,6 +14,7 @@ mod shown;
 mod text;
 
 pub use activity::{Activity, ObjectRef};
+pub use boxed::Boxed;
 pub use entry::{Came, Entry, Sent, What};
 pub use kind::{Kind, State};
 pub use moment::Moment;

@@ -1,5 +1,5 @@
 -- A source in memory, as its callers see it.
-use Rattle.std.specs.Prelude.{ℕ, ◌+◌, ◌-◌, ◌^◌, min, max, Bool, nat_eq, List, length, slice_get, Option, None, Some}
+use Rattle.std.specs.Prelude.{ℕ, min, max, Bool, nat_eq, List, length, slice_get, Option, None, Some}
 use Rattle.std.specs.List.{list_any}
 
 -- what a source in memory is to give, and what it has done
@@ -9,10 +9,6 @@ pub record Feed : Type 0 where
   pub failing : List ℕ  -- the numbers of the reads that fail
   pub calls : ℕ  -- how many reads there were
   pub faults : ℕ  -- how many of them failed
-
--- one more, up to the last value of a u64
-abbrev pub counted : ℕ → ℕ
-counted n = min (n + 1) (2 ^ 64 - 1)
 
 -- whether the call with this number is to fail
 abbrev pub is_failing : List ℕ → ℕ → Bool

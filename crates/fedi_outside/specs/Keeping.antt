@@ -1,22 +1,8 @@
--- Records that are kept, and what a crash leaves of them.
-use Rattle.std.specs.Prelude.{ℕ, ◌≡◌, ◌⊎◌, ◌≤◌, Bool, true, false, List, [], ◌∷◌, ◌++◌, Option, None, Some, if◌then◌else◌}
-use Rattle.fedi_outside.specs.Feeding.{counted, is_failing}
-
--- what a crash may leave of these records, where one more may be there
-abbrev pub MayLeave : List (List ℕ) → Option (List ℕ) → List (List ℕ) → Type 0
-MayLeave records None left = left ≡ records
-MayLeave records (Some more) left = (left ≡ records) ⊎ (left ≡ records ++ more ∷ [])
-
--- where crashes are told the records are told too, and they are so
-abbrev pub WhereTold : Bool → Option (List (List ℕ)) → (List (List ℕ) → Type 0) → Type 0
-WhereTold false records P = Unit {0}
-WhereTold true None P = ⊥
-WhereTold true (Some records) P = P records
-
--- the moments of a call add this alone to what a crash since an earlier moment might have left, and take nothing away
-pub record Adds (before : ℕ) (past since : ℕ → List (List ℕ) → Type 0) (added : List (List ℕ) → Type 0) : Type 0 where
-  pub nothing_else : (moment : ℕ) (left : List (List ℕ)) → moment ≤ before → since moment left → past moment left ⊎ added left
-  pub keeps : (moment : ℕ) (left : List (List ℕ)) → moment ≤ before → past moment left → since moment left
+-- Keepers in memory, as their callers see them.
+use Rattle.std.specs.Prelude.{ℕ, Bool, true, false, List, Option, None, Some, if◌then◌else◌}
+use Rattle.fedi_outside.specs.Causes.{next_count}
+use Rattle.fedi_outside.specs.Feeding.{is_failing}
+use Rattle.fedi_outside.specs.Keepers.{Crashes, KeeperState}
 
 -- records in memory
 pub record Piled : Type 0 where
@@ -46,4 +32,12 @@ is_to_fail k = is_failing k.failing k.calls
 
 -- after a call that can fail, which is counted, and its fault too
 abbrev pub called : Keeping → Keeping
-called k = record k { calls = counted k.calls; faults = if is_to_fail k then counted k.faults else k.faults }
+called k = record k { calls = next_count k.calls; faults = if is_to_fail k then next_count k.faults else k.faults }
+
+-- what a keeper in memory with such records shows, with this many faults
+abbrev pub state_of : List (List ℕ) → Option (List ℕ) → ℕ → ℕ → ℕ → KeeperState
+state_of records doubt spare end faults = record { records = Some records; doubt = doubt; spare = spare; end = end; faults = faults }
+
+-- a keeper in memory tells nothing of crashes
+abbrev pub no_crashes : Crashes
+no_crashes = record { clock = 0; told = false; left_since = λ _ _. ⊥ }

@@ -1,4 +1,5 @@
 pub mod Causes
 pub mod Feeding
 pub mod Gathering
+pub mod Keepers
 pub mod Keeping

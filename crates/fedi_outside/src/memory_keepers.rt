@@ -1,7 +1,7 @@
 //! Keepers in memory.
 ghost use Rattle.std.specs.Prelude.{ℕ, ◌≡◌, ◌↔◌, ◌+◌, ◌^◌, ◌<◌, ◌≤◌, max, min, Bool, true, false, not, List, [], ◌∷◌, ◌++◌, length, slice_get, is_ok, is_err, if◌then◌else◌, Option, Some, None, option_map, IsTrue, IsOk, IfOk, IfErr, OnOk, OnErr, IsErrOf};
 ghost use Rattle.fedi_outside.specs.Causes.{HasCause, Rose};
-ghost use Rattle.fedi_outside.specs.Keeping.{called, is_to_fail};
+ghost use Rattle.fedi_outside.specs.Keeping.{called, is_to_fail, no_crashes, state_of};
 
 use crate::Failed;
 use crate::keepers::{Keeper, LoadFault, ReserveFault};
@@ -89,25 +89,13 @@ impl MemoryKeeper {
 }
 
 impl Keeper for MemoryKeeper {
-    ghost records = { λ k. Some k.records };
+    ghost shown = { λ k. state_of k.records k.doubt k.spare k.end k.faults };
 
-    ghost doubt = { λ k. k.doubt };
-
-    ghost spare = { λ k. k.spare };
-
-    ghost end = { λ k. k.end };
+    ghost crashes = { λ _. no_crashes };
 
     ghost growth = { λ length. 9 + length };
 
     ghost room = { λ length. 10 + length };
-
-    ghost clock = { λ _. 0 };
-
-    ghost tells_crashes = { λ _. false };
-
-    ghost left_since = { λ _ _ _. ⊥ };
-
-    ghost faults = { λ k. k.faults };
 
     ghost crash_now = { λ _. tt };
 
@@ -201,25 +189,13 @@ impl CalmKeeper {
 }
 
 impl Keeper for CalmKeeper {
-    ghost records = { λ k. Some k.records };
+    ghost shown = { λ k. state_of k.records k.doubt k.spare k.end 0 };
 
-    ghost doubt = { λ k. k.doubt };
-
-    ghost spare = { λ k. k.spare };
-
-    ghost end = { λ k. k.end };
+    ghost crashes = { λ _. no_crashes };
 
     ghost growth = { λ length. 9 + length };
 
     ghost room = { λ length. 10 + length };
-
-    ghost clock = { λ _. 0 };
-
-    ghost tells_crashes = { λ _. false };
-
-    ghost left_since = { λ _ _ _. ⊥ };
-
-    ghost faults = { λ _. 0 };
 
     ghost crash_now = { λ _. tt };
 

@@ -2,8 +2,8 @@
 ghost use Rattle.std.specs.Prelude.{ℕ, ◌≡◌, ◌<◌, List, Option, Some, None, [], true, length, is_some, IsErr, IfOk};
 ghost use Rattle.std.specs.Io.{WritesAtMost};
 ghost use Rattle.std.specs.Io.KnownBytes.{WriteAppends};
-ghost use Rattle.fedi_outside.specs.Causes.{HasCause};
-ghost use Rattle.fedi_outside.specs.Feeding.{counted, is_failing, allowed};
+ghost use Rattle.fedi_outside.specs.Causes.{HasCause, next_count};
+ghost use Rattle.fedi_outside.specs.Feeding.{is_failing, allowed};
 
 use crate::Failed;
 use crate::plan::{allowed, is_failing};
@@ -110,7 +110,7 @@ impl Sink for MemorySink {
         ensures cause { HasCause self.old.faults self.new.faults result }
         ensures answer { is_failing self.old.failing self.old.calls ≡ true → IsErr result }
         ensures count { IfOk result (λ n. n ≡ allowed self.old.limit (length from.now)) }
-        ensures plan { self.new ≡ record self.old { sent = self.new.sent; calls = counted self.old.calls; faults = self.new.faults } }
+        ensures plan { self.new ≡ record self.old { sent = self.new.sent; calls = next_count self.old.calls; faults = self.new.faults } }
     {
         let call = self.calls;
         self.calls = call.saturating_add(1);

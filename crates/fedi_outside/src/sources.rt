@@ -2,8 +2,8 @@
 ghost use Rattle.std.specs.Prelude.{ℕ, ◌≡◌, ◌≤◌, List, Option, Some, None, [], drop, length, is_some, is_ok, not, min, take, slice_get, IsOkAnd, IfOk};
 ghost use Rattle.std.specs.Io.{ReadsAtMost};
 ghost use Rattle.std.specs.Io.KnownBytes.{ReadConsumes};
-ghost use Rattle.fedi_outside.specs.Causes.{HasCause};
-ghost use Rattle.fedi_outside.specs.Feeding.{counted, is_failing, allowed, given};
+ghost use Rattle.fedi_outside.specs.Causes.{HasCause, next_count};
+ghost use Rattle.fedi_outside.specs.Feeding.{is_failing, allowed, given};
 
 use crate::Failed;
 use crate::plan::{allowed, at_call, is_failing};
@@ -108,7 +108,7 @@ impl Source for MemorySource {
         ensures cause { HasCause self.old.faults self.new.faults result }
         ensures answer { is_ok result ≡ not (is_failing self.old.failing self.old.calls) }
         ensures count { IfOk result (λ n. n ≡ given self.old (length into.new)) }
-        ensures plan { self.new ≡ record self.old { left = self.new.left; calls = counted self.old.calls; faults = self.new.faults } }
+        ensures plan { self.new ≡ record self.old { left = self.new.left; calls = next_count self.old.calls; faults = self.new.faults } }
     {
         let call = self.calls;
         self.calls = call.saturating_add(1);

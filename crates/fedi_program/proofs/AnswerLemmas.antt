@@ -1,7 +1,7 @@
 -- From what the machine answers to a caller, to what a request is answered.
 use Rattle.std.proofs.Common.{◌≡◌, ℕ, List, Option, Some, None, IfOk, Result, Ok, Err, inl, inr, refl, sym, subst, ◌∙◌}
-use Rattle.fedi_address.specs.declared.refusal.Refusal.{Refusal}
-use Rattle.fedi_address.specs.declared.refusal.Refusal.TheVariants.{JournalFull, KeeperFault}
+use Rattle.fedi_model.specs.declared.refusal.Refusal.{Refusal}
+use Rattle.fedi_model.specs.declared.refusal.Refusal.TheVariants.{JournalFull, KeeperFault}
 use Rattle.fedi_core.specs.Turns.{Kept as KeeperState, IsPrivateTurn, TurnOf}
 use Rattle.fedi_objects.specs.declared.entry.Entry.{Entry}
 use Rattle.fedi_model.proofs.Clean.{refused_is_clean, reply_is_clean}

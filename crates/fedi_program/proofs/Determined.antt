@@ -1,7 +1,7 @@
 -- Over one input, at one moment and from one beginning there is one conversation with a keeper that never fails.
 use Rattle.std.proofs.Common.{◌≡◌, ℕ, Bool, drop, true, false, List, [], ◌∷◌, ◌++◌, Option, Some, None, Result, Ok, Err, inl, inr, refl, sym, ap, subst, ◌∙◌, arith, lit<}
 use Rattle.std.specs.List.{slice_range}
-use Rattle.fedi_address.specs.declared.refusal.Refusal.{Refusal}
+use Rattle.fedi_model.specs.declared.refusal.Refusal.{Refusal}
 use Rattle.fedi_http.proofs.ArrivalLemmas.{one_arrival}
 use Rattle.fedi_http.specs.Arrivals.{TellsOfStream}
 use Rattle.fedi_http.specs.declared.arrivals.Arrived.{Arrived}

@@ -14,7 +14,7 @@ use crate::properties::{
 };
 use crate::shape_fault::ShapeFault;
 use fedi_address::{Iri, Items, Recipients};
-use fedi_objects::{Activity, Kind, Object, ObjectRef, Tag, Text};
+use fedi_objects::{Activity, Boxed, Kind, Object, ObjectRef, Tag, Text};
 use serde_json::Value;
 use std::alloc::{AllocError, Global};
 
@@ -186,7 +186,7 @@ fn wrap(alloc: Global, object: Object) -> Result<Activity, AllocError>
         id: None,
         kind: Kind::Create,
         actor: None,
-        object: ObjectRef::Whole(object),
+        object: ObjectRef::Whole(Boxed::new(alloc, object)?),
         target: None,
         recipients,
         in_reply_to: None,

@@ -12,7 +12,7 @@ fn document(alloc: Global, object: &Object, local: bool, context: bool) -> Resul
 
 fn note_of(activity: &Activity) -> Option<&Object> {
     match &activity.object {
-        ObjectRef::Whole(note) => Some(note),
+        ObjectRef::Whole(note) => Some(note.get()),
         _ => None,
     }
 }

@@ -13,5 +13,4 @@ pub returns : goal.returns
 unfolding reason_of
 returns c =
     ap (λ (s : Bor (List ℕ)). s.now) c.unwrap_or.ensures
-    ∙ unwrap_or-now c.canonical_reason.result _ (reason_phrase c.args.status)
-    (c.canonical_reason.ensures.value ∙ ap reason_phrase c.in-Ok.ensures.1)
+    ∙ unwrap_or-now c.canonical_reason.result _ (reason_phrase c.args.status) c.canonical_reason.ensures.value

@@ -1,122 +1,35 @@
 -- A machine stands for a log, turn by turn.
-use Rattle.std.proofs.Common.{◌≡◌, ◌⊎◌, ℕ, ◌+◌, ◌-◌, ◌^◌, ◌≤◌, min, List, [], ◌∷◌, ◌++◌, length, map, drop, All, Option, Some, None, option_map, IfSome, inl, inr, refl, sym, ap, subst, ◌∙◌, append_assoc, append-nil, length-append, arith}
+use Rattle.std.proofs.Common.{◌≡◌, ◌⊎◌, ℕ, suc, ◌+◌, ◌-◌, ◌^◌, ◌≤◌, min, List, [], ◌∷◌, ◌++◌, length, map, drop, All, Option, Some, None, option_map, IfSome, inl, inr, refl, sym, ap, subst, ◌∙◌, append_assoc, append-nil, length-append, arith}
 use Rattle.std.specs.Prelude.{Contains, option_to_list}
 use Rattle.std.specs.List.{sum_by}
 use Rattle.std.proofs.lemmas.List.{drop-append-le, map-append}
 use Rattle.std.proofs.lemmas.List.Elements.{All-nil, All-cons, All-append, Contains-append_left, Contains-append_right}
 use Rattle.std.proofs.lemmas.List.Sums.{sum_by-append}
-use Rattle.fedi_outside.specs.Causes.{Rose}
-use Rattle.fedi_core.specs.Turns.{Kept as KeeperState, MayDoubt, TurnOf, IsDropped}
 use Rattle.fedi_entry.specs.Codes.{code_of}
+use Rattle.fedi_objects.specs.declared.entry.Entry.{Entry}
+use Rattle.fedi_outside.specs.Causes.{next_count}
+use Rattle.fedi_outside.specs.Keepers.{KeeperState}
 use Rattle.fedi_log.specs.declared.items.Item.{Item}
 use Rattle.fedi_log.specs.declared.items.What.TheVariants.{Entered, Marked}
-use Rattle.fedi_log.specs.Log.{Failed, Full, Kept, Log, NoEntry, Outcome, doubts_of, failed_in, given, history_of, items_of, made_by, marks_of}
+use Rattle.fedi_log.specs.Log.{Failed, Full, Kept, Log, NoEntry, Outcome, doubts_of, failed_in, given, history_of, items_of, kept_in, made_by, marks_of}
+use Rattle.fedi_log.specs.Keeping.{Base, DoubtAfter, FaultsAfter, Follows, GoesAlone, Holds, HoldsSince, IsDoubted, Keeps, State, end_of, growth_of, since, with_records}
 use Rattle.fedi_log.proofs.Growing.{doubts_failed, doubts_kept, given_history, history_append, marks_more}
-use Rattle.fedi_objects.specs.declared.entry.Entry.{Entry}
-use Rattle.fedi_model.specs.declared.reply.Reply.{Reply}
-use Rattle.fedi_program.specs.Conversations.{Setting, Settles}
-use Rattle.fedi_program.specs.Endings.{GoesAlone, Holds, HoldsSince, State, state_of}
-use Rattle.fedi_program.specs.Keeping.{Base, IsDoubted, Keeps, end_of, growth_of, since, with_records}
 
--- ---- what follows a turn
-
--- the entry that was kept
-abbrev pub kept_in : Outcome → List Entry
-kept_in NoEntry = []
-kept_in (Kept e) = e ∷ []
-kept_in (Full e) = []
-kept_in (Failed e) = []
-
-abbrev pub DoubtAfter : Option (List ℕ) → Option (List ℕ) → Outcome → Type 0
-DoubtAfter before after NoEntry = after ≡ before
-DoubtAfter before after (Kept e) = after ≡ None
-DoubtAfter before after (Full e) = after ≡ before
-DoubtAfter before after (Failed e) = MayDoubt (code_of e) before after
-
-abbrev pub FaultsAfter : ℕ → ℕ → Outcome → Type 0
-FaultsAfter before after NoEntry = before ≤ after
-FaultsAfter before after (Kept e) = before ≤ after
-FaultsAfter before after (Full e) = before ≤ after
-FaultsAfter before after (Failed e) = (before ≤ after) × Rose before after
-
--- the machine after this outcome
-pub record Follows (b : Base) (before after : State) (outcome : Outcome) : Type 0 where
-  pub history : after.history ≡ before.history ++ kept_in outcome
-  pub records : after.keeper.records ≡ with_records before.keeper.records (kept_in outcome)
-  pub end : after.keeper.end ≡ before.keeper.end + growth_of b (kept_in outcome)
-  pub doubt : DoubtAfter before.keeper.doubt after.keeper.doubt outcome
-  pub faults : FaultsAfter before.keeper.faults after.keeper.faults outcome
+-- ---- no turn
 
 same_records : (a : Option (List (List ℕ))) → a ≡ with_records a []
 same_records None = refl
 same_records (Some records) = ap Some (sym (append-nil records))
 
--- a turn settles the entry that the request makes
-pub settled : (b : Base) (before after : State) (r : Reply) (made : Option Entry) (given : Reply)
-    → TurnOf b.growth b.room before.history r made before.keeper after.keeper after.history given
-    → (outcome : Outcome) × Settles b.room before.keeper.end r made outcome given × Follows b before after outcome
-settled b before after r None given turn = (
-  NoEntry,
-  turn.reply,
-  record {
-    history = turn.history ∙ sym (append-nil before.history);
-    records = ap (λ (k : KeeperState). k.records) turn.keeper ∙ same_records before.keeper.records;
-    end = let same : after.keeper.end ≡ before.keeper.end = ap (λ (k : KeeperState). k.end) turn.keeper in omega (arith, same);
-    doubt = ap (λ (k : KeeperState). k.doubt) turn.keeper;
-    faults = let same : after.keeper.faults ≡ before.keeper.faults = ap (λ (k : KeeperState). k.faults) turn.keeper in omega (arith, same);
-  },
-)
-settled b before after r (Some e) given (inl turn) = (
-  Kept e,
-  (refl, turn.fits, turn.reply),
-  record {
-    history = turn.history;
-    records = turn.keeper.records;
-    end = omega (arith, turn.keeper.end);
-    doubt = turn.keeper.doubt;
-    faults = turn.keeper.faults;
-  },
-)
-settled b before after r (Some e) given (inr (inl turn)) = (
-  Full e,
-  (refl, turn.full, turn.reply),
-  record {
-    history = turn.history ∙ sym (append-nil before.history);
-    records = turn.keeper.same.records ∙ same_records before.keeper.records;
-    end = omega (arith, turn.keeper.same.end);
-    doubt = turn.keeper.doubt;
-    faults = turn.keeper.same.faults;
-  },
-)
-settled b before after r (Some e) given (inr (inr turn)) = (
-  Failed e,
-  (refl, turn.fits, turn.reply),
-  record {
-    history = turn.history ∙ sym (append-nil before.history);
-    records = turn.keeper.same.records ∙ same_records before.keeper.records;
-    end = omega (arith, turn.keeper.same.end);
-    doubt = turn.keeper.doubt;
-    faults = (turn.keeper.same.faults, turn.keeper.rose);
-  },
-)
-
--- out of memory, there was nothing to settle
-pub dropped : (b : Base) (before after : State) → IsDropped before.history before.keeper after.keeper after.history → Follows b before after NoEntry
-dropped b before after d = record {
-  history = d.history ∙ sym (append-nil before.history);
-  records = d.keeper.same.records ∙ same_records before.keeper.records;
-  end = omega (arith, d.keeper.same.end);
-  doubt = d.keeper.doubt;
-  faults = d.keeper.same.faults;
-}
-
-pub unchanged : (b : Base) (state : State) → Follows b state state NoEntry
-unchanged b state = record {
-  history = sym (append-nil state.history);
-  records = same_records state.keeper.records;
-  end = omega arith;
-  doubt = refl;
-  faults = omega arith;
+-- nothing was to be kept
+pub unchanged : (b : Base) (before after : State) → after.history ≡ before.history → after.keeper.records ≡ before.keeper.records
+    → after.keeper.end ≡ before.keeper.end → after.keeper.doubt ≡ before.keeper.doubt → after.keeper.faults ≡ before.keeper.faults → Follows b before after NoEntry
+unchanged b before after history records end doubt faults = record {
+  history = history ∙ sym (append-nil before.history);
+  records = records ∙ same_records before.keeper.records;
+  end = omega (arith, end);
+  doubt = doubt;
+  faults = omega (arith, faults);
 }
 
 -- ---- the keeper along a log
@@ -139,7 +52,7 @@ doubt_more doubts x None h = tt
 doubt_more doubts x (Some d) h = Contains-append_left doubts (x ∷ []) d h
 
 itself : (x : List ℕ) → Contains (x ∷ []) x
-itself x = (0, (omega arith, refl))
+itself x = (0, omega arith, refl)
 
 doubt_after : (by : Option ℕ) (first : List (List ℕ)) (log : Log) (before after : Option (List ℕ)) (o : Outcome) → IsDoubted (doubts_of first log) before
     → DoubtAfter before after o → IsDoubted (doubts_of first (log ++ items_of by o)) after
@@ -159,18 +72,21 @@ faults_later : (before after : ℕ) (o : Outcome) → FaultsAfter before after o
 faults_later before after NoEntry h = h
 faults_later before after (Kept e) h = h
 faults_later before after (Full e) h = h
-faults_later before after (Failed e) h = h.0
+faults_later before after (Failed e) h = omega (arith, h)
 
 -- a count with a last value
 counted_more : (f k before after most : ℕ) → min (f + k) most ≤ before → min (before + 1) most ≤ after → min (f + (k + 1)) most ≤ after
 counted_more f k before after most low rose = omega (arith, low, rose)
+
+rose_by : (before after : ℕ) → next_count before ≤ after → min (before + 1) (2 ^ 64 - 1) ≤ after
+rose_by before after h = omega (arith, h)
 
 faults_after : (f k before after most : ℕ) (o : Outcome) → most ≡ 2 ^ 64 - 1 → min (f + k) most ≤ before → FaultsAfter before after o
     → min (f + (k + length (failed_in o))) most ≤ after
 faults_after f k before after most NoEntry is low h = omega (arith, low, h)
 faults_after f k before after most (Kept e) is low h = omega (arith, low, h)
 faults_after f k before after most (Full e) is low h = omega (arith, low, h)
-faults_after f k before after most (Failed e) is low h = let rose : min (before + 1) most ≤ after = rw is h.1 in counted_more f k before after most low rose
+faults_after f k before after most (Failed e) is low h = let rose : min (before + 1) most ≤ after = rw is (rose_by before after h) in counted_more f k before after most low rose
 
 pub keeps_more : (b : Base) (by : Option ℕ) (before after : State) (log : Log) (o : Outcome) → Keeps b before.keeper log → Follows b before after o
     → Keeps b after.keeper (log ++ items_of by o)
@@ -223,27 +139,27 @@ alone_on by a b c f g = record {
   own = All-append (λ (i : Item). i.pass ≡ by) f.past g.past f.own g.own;
 }
 
-pub since_here : (w : Setting) (state : State) (log : Log) → Holds w.base state log → HoldsSince w log state log
-since_here w state log h = record { grown = alone_here w.by log; holds = h }
+pub since_here : (b : Base) (by : Option ℕ) (state : State) (log : Log) → Holds b state log → HoldsSince b by log state log
+since_here b by state log h = record { grown = alone_here by log; holds = h }
 
-pub since_more : (w : Setting) (before after : State) (log : Log) (o : Outcome) → Holds w.base before log → Follows w.base before after o
-    → HoldsSince w log after (log ++ items_of w.by o)
-since_more w before after log o h f = record {
-  grown = record { past = items_of w.by o; is = refl; own = alone_outcome w.by o };
-  holds = holds_more w.base w.by before after log o h f;
+pub since_more : (b : Base) (by : Option ℕ) (before after : State) (log : Log) (o : Outcome) → Holds b before log → Follows b before after o
+    → HoldsSince b by log after (log ++ items_of by o)
+since_more b by before after log o h f = record {
+  grown = record { past = items_of by o; is = refl; own = alone_outcome by o };
+  holds = holds_more b by before after log o h f;
 }
 
-pub since_still : (w : Setting) (before after : State) (log : Log) → Holds w.base before log → Follows w.base before after NoEntry → HoldsSince w log after log
-since_still w before after log h f = subst (λ (l : Log). HoldsSince w log after l) (append-nil log) (since_more w before after log NoEntry h f)
+pub since_still : (b : Base) (by : Option ℕ) (before after : State) (log : Log) → Holds b before log → Follows b before after NoEntry → HoldsSince b by log after log
+since_still b by before after log h f = subst (λ (l : Log). HoldsSince b by log after l) (append-nil log) (since_more b by before after log NoEntry h f)
 
-pub since_on : (w : Setting) (a b c : Log) (before after : State) → HoldsSince w a before b → HoldsSince w b after c → HoldsSince w a after c
-since_on w a b c before after f g = record { grown = alone_on w.by a b c f.grown g.grown; holds = g.holds }
+pub since_on : (b : Base) (by : Option ℕ) (x y z : Log) (before after : State) → HoldsSince b by x before y → HoldsSince b by y after z → HoldsSince b by x after z
+since_on b by x y z before after f g = record { grown = alone_on by x y z f.grown g.grown; holds = g.holds }
 
 -- ---- a machine that was opened
 
 given_length : (history : List Entry) → length (given history) ≡ length history
 given_length [] = refl
-given_length (e ∷ history) = ap (λ (n : ℕ). n + 1) (given_length history)
+given_length (e ∷ history) = ap (λ (n : ℕ). suc n) (given_length history)
 
 given_since : (history : List Entry) → drop (length history) (given history) ≡ []
 given_since [] = refl
@@ -266,10 +182,10 @@ keeps_given b history is =
       faults = let none : length (marks_of (since b (given history))) ≡ 0 = rw past refl in omega (arith, none);
     }
 
-pub holds_given : (w : Setting) (opened : State) → w.base.kept ≡ length opened.history → w.base.shown ≡ opened.keeper
-    → HoldsSince w (given opened.history) opened (given opened.history)
-holds_given w opened kept shown =
-    since_here w opened (given opened.history) (record {
+pub holds_given : (b : Base) (by : Option ℕ) (opened : State) → b.kept ≡ length opened.history → b.shown ≡ opened.keeper
+    → HoldsSince b by (given opened.history) opened (given opened.history)
+holds_given b by opened kept shown =
+    since_here b by opened (given opened.history) (record {
       history = sym (given_history opened.history);
-      keeper = subst (λ (k : KeeperState). Keeps w.base k (given opened.history)) shown (keeps_given w.base opened.history kept);
+      keeper = subst (λ (k : KeeperState). Keeps b k (given opened.history)) shown (keeps_given b opened.history kept);
     })

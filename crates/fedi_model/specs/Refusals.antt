@@ -1,0 +1,92 @@
+-- What a reply says of each reason for a refusal.
+use Rattle.std.specs.Prelude.{ℕ, List, ◌++◌, codes}
+use Rattle.fedi_model.specs.declared.refusal.Refusal.{Refusal}
+use Rattle.fedi_model.specs.declared.refusal.Refusal.TheVariants.{BadHead, BadBody, BadQuery, NoKey, WrongKey, WrongMac, NotOwner, Blocked, NotOrigin, NotPublic, NotFound, WrongMethod, KeyReused, NotStanding, Gone, NoLength, TooLong, WrongType, BadShape, HeadTooLong, NoCoding, ActorFull, KeeperFault, Memory, JournalFull}
+
+-- the number of each reason
+abbrev pub number_of : Refusal → ℕ
+number_of BadHead = 1
+number_of BadBody = 2
+number_of BadQuery = 3
+number_of NoKey = 4
+number_of WrongKey = 5
+number_of WrongMac = 6
+number_of NotOwner = 7
+number_of Blocked = 8
+number_of NotOrigin = 9
+number_of NotPublic = 10
+number_of NotFound = 11
+number_of WrongMethod = 12
+number_of KeyReused = 13
+number_of NotStanding = 14
+number_of Gone = 15
+number_of NoLength = 16
+number_of TooLong = 17
+number_of WrongType = 18
+number_of BadShape = 19
+number_of HeadTooLong = 20
+number_of NoCoding = 21
+number_of ActorFull = 22
+number_of KeeperFault = 23
+number_of Memory = 24
+number_of JournalFull = 25
+
+-- the status code (RFC 9110, section 15; RFC 6585, section 5 for 431; RFC 4918, section 11 for 422 and 507)
+abbrev pub status_of : Refusal → ℕ
+status_of BadHead = 400
+status_of BadBody = 400
+status_of BadQuery = 400
+status_of NoKey = 401
+status_of WrongKey = 401
+status_of WrongMac = 401
+status_of NotOwner = 403
+status_of Blocked = 403
+status_of NotOrigin = 403
+status_of NotPublic = 403
+status_of NotFound = 404
+status_of WrongMethod = 405
+status_of KeyReused = 409
+status_of NotStanding = 409
+status_of Gone = 410
+status_of NoLength = 411
+status_of TooLong = 413
+status_of WrongType = 415
+status_of BadShape = 422
+status_of HeadTooLong = 431
+status_of NoCoding = 501
+status_of ActorFull = 403
+status_of KeeperFault = 503
+status_of Memory = 507
+status_of JournalFull = 500
+
+-- the name of each reason
+abbrev pub name_of : Refusal → List ℕ
+name_of BadHead = codes "BadHead"
+name_of BadBody = codes "BadBody"
+name_of BadQuery = codes "BadQuery"
+name_of NoKey = codes "NoKey"
+name_of WrongKey = codes "WrongKey"
+name_of WrongMac = codes "WrongMac"
+name_of NotOwner = codes "NotOwner"
+name_of Blocked = codes "Blocked"
+name_of NotOrigin = codes "NotOrigin"
+name_of NotPublic = codes "NotPublic"
+name_of NotFound = codes "NotFound"
+name_of WrongMethod = codes "WrongMethod"
+name_of KeyReused = codes "KeyReused"
+name_of NotStanding = codes "NotStanding"
+name_of Gone = codes "Gone"
+name_of NoLength = codes "NoLength"
+name_of TooLong = codes "TooLong"
+name_of WrongType = codes "WrongType"
+name_of BadShape = codes "BadShape"
+name_of HeadTooLong = codes "HeadTooLong"
+name_of NoCoding = codes "NoCoding"
+name_of ActorFull = codes "ActorFull"
+name_of KeeperFault = codes "KeeperFault"
+name_of Memory = codes "Memory"
+name_of JournalFull = codes "JournalFull"
+
+-- the body that names a reason
+abbrev pub refusal_body : Refusal → List ℕ
+refusal_body r = codes "{\"error\":\"" ++ (name_of r ++ codes "\"}")

@@ -1,0 +1,61 @@
+//! A value on the heap that clauses see as the value itself.
+
+ghost use Rattle.std.specs.Prelude.{◌≡◌, IfOk};
+
+use std::alloc::{AllocError, Global};
+use std::marker::Model;
+use std::ops::Deref;
+
+/// A value on the heap. It keeps a type that holds it small; a clause sees the value itself.
+#[derive(Drop)]
+pub struct Boxed<T> {
+    inner: Box<T>,
+}
+
+impl<T> Model for Boxed<T> {
+    ghost Value = { T };
+
+    ghost view = { λ a. a.inner.value };
+}
+
+impl<T: Drop> Boxed<T> {
+    /// Moves a value to the heap. Out of memory it is dropped.
+    pub fn new(alloc: Global, value: T) -> Result<Boxed<T>, AllocError>
+        ensures { IfOk result (λ x. x ≡ value) }
+    {
+        let inner = Box::new(alloc, value)?;
+        Ok(Boxed { inner })
+    }
+
+    /// Moves the value out.
+    pub fn into_inner(self) -> T
+        ensures { result ≡ self }
+    {
+        let Boxed { inner } = self;
+        Box::into_inner(inner)
+    }
+}
+
+impl<T> Boxed<T> {
+    /// The value.
+    pub fn get(&self) -> &T
+        ensures { result.now ≡ self.now }
+    {
+        &*self.inner
+    }
+
+    /// The allocator that the value's memory is from.
+    pub fn allocator(&self) -> Global {
+        *Box::allocator(&self.inner)
+    }
+}
+
+impl<T> Deref for Boxed<T> {
+    type Target = T;
+
+    ghost deref_gives = { λ s v. v ≡ s };
+
+    fn deref(&self) -> &T {
+        self.get()
+    }
+}
