@@ -22,9 +22,9 @@ same_records None = refl
 same_records (Some records) = ap Some (sym (append-nil records))
 
 -- nothing was to be kept
-pub unchanged : (b : Base) (before after : State) → after.history ≡ before.history → after.keeper.records ≡ before.keeper.records
-    → after.keeper.end ≡ before.keeper.end → after.keeper.doubt ≡ before.keeper.doubt → after.keeper.faults ≡ before.keeper.faults → Follows b before after NoEntry
-unchanged b before after history records end doubt faults = record {
+pub unchanged : (growth : ℕ → ℕ) (before after : State) → after.history ≡ before.history → after.keeper.records ≡ before.keeper.records
+    → after.keeper.end ≡ before.keeper.end → after.keeper.doubt ≡ before.keeper.doubt → after.keeper.faults ≡ before.keeper.faults → Follows growth before after NoEntry
+unchanged growth before after history records end doubt faults = record {
   history = history ∙ sym (append-nil before.history);
   records = records ∙ same_records before.keeper.records;
   end = omega (arith, end);
@@ -88,7 +88,7 @@ faults_after f k before after most (Kept e) is low h = omega (arith, low, h)
 faults_after f k before after most (Full e) is low h = omega (arith, low, h)
 faults_after f k before after most (Failed e) is low h = let rose : min (before + 1) most ≤ after = rw is (rose_by before after h) in counted_more f k before after most low rose
 
-pub keeps_more : (b : Base) (by : Option ℕ) (before after : State) (log : Log) (o : Outcome) → Keeps b before.keeper log → Follows b before after o
+pub keeps_more : (b : Base) (by : Option ℕ) (before after : State) (log : Log) (o : Outcome) → Keeps b before.keeper log → Follows b.growth before after o
     → Keeps b after.keeper (log ++ items_of by o)
 keeps_more b by before after log o k f =
     let opened : b.kept ≤ length log = k.opened in
@@ -97,7 +97,7 @@ keeps_more b by before after log o k f =
       ap (λ (l : Log). history_of l) past ∙ history_more by o (since b log) in
     let marks : length (marks_of (since b (log ++ items_of by o))) ≡ length (marks_of (since b log)) + length (failed_in o) =
       ap (λ (l : Log). length (marks_of l)) past ∙ ap length (marks_more by o (since b log)) ∙ length-append (marks_of (since b log)) (failed_in o) in
-    let grown : growth_of b (history_of (since b log) ++ kept_in o) ≡ growth_of b (history_of (since b log)) + growth_of b (kept_in o) =
+    let grown : growth_of b.growth (history_of (since b log) ++ kept_in o) ≡ growth_of b.growth (history_of (since b log)) + growth_of b.growth (kept_in o) =
       sum_by-append (λ (e : Entry). b.growth (length (code_of e))) (history_of (since b log)) (kept_in o) in
     let later : before.keeper.faults ≤ after.keeper.faults = faults_later before.keeper.faults after.keeper.faults o f.faults in
     let marked = faults_after b.shown.faults (length (marks_of (since b log))) before.keeper.faults after.keeper.faults (2 ^ 64 - 1) o refl k.faults f.faults in
@@ -105,16 +105,16 @@ keeps_more b by before after log o k f =
       opened = let longer : length (log ++ items_of by o) ≡ length log + length (items_of by o) = length-append log (items_of by o) in omega (arith, opened, longer);
       records = f.records ∙ ap (λ (rs : Option (List (List ℕ))). with_records rs (kept_in o)) k.records
         ∙ with_more b.shown.records (history_of (since b log)) (kept_in o) ∙ ap (λ (es : List Entry). with_records b.shown.records es) (sym history);
-      end = f.end ∙ ap (λ (n : ℕ). n + growth_of b (kept_in o)) k.end
-        ∙ (let sum : (b.shown.end + growth_of b (history_of (since b log))) + growth_of b (kept_in o) ≡ b.shown.end + growth_of b (history_of (since b log) ++ kept_in o) = omega (arith, grown) in sum)
-        ∙ ap (λ (es : List Entry). b.shown.end + growth_of b es) (sym history);
+      end = f.end ∙ ap (λ (n : ℕ). n + growth_of b.growth (kept_in o)) k.end
+        ∙ (let sum : (b.shown.end + growth_of b.growth (history_of (since b log))) + growth_of b.growth (kept_in o) ≡ b.shown.end + growth_of b.growth (history_of (since b log) ++ kept_in o) = omega (arith, grown) in sum)
+        ∙ ap (λ (es : List Entry). b.shown.end + growth_of b.growth es) (sym history);
       doubt = subst (λ (l : Log). IsDoubted (doubts_of (option_to_list b.shown.doubt) l) after.keeper.doubt) (sym past)
         (doubt_after by (option_to_list b.shown.doubt) (since b log) before.keeper.doubt after.keeper.doubt o k.doubt f.doubt);
       later = let low = k.later in omega (arith, low, later);
       faults = rw marks marked;
     }
 
-pub holds_more : (b : Base) (by : Option ℕ) (before after : State) (log : Log) (o : Outcome) → Holds b before log → Follows b before after o
+pub holds_more : (b : Base) (by : Option ℕ) (before after : State) (log : Log) (o : Outcome) → Holds b before log → Follows b.growth before after o
     → Holds b after (log ++ items_of by o)
 holds_more b by before after log o h f = record {
   history = f.history ∙ ap (λ (es : List Entry). es ++ kept_in o) h.history ∙ sym (history_more by o log);
@@ -142,14 +142,14 @@ alone_on by a b c f g = record {
 pub since_here : (b : Base) (by : Option ℕ) (state : State) (log : Log) → Holds b state log → HoldsSince b by log state log
 since_here b by state log h = record { grown = alone_here by log; holds = h }
 
-pub since_more : (b : Base) (by : Option ℕ) (before after : State) (log : Log) (o : Outcome) → Holds b before log → Follows b before after o
+pub since_more : (b : Base) (by : Option ℕ) (before after : State) (log : Log) (o : Outcome) → Holds b before log → Follows b.growth before after o
     → HoldsSince b by log after (log ++ items_of by o)
 since_more b by before after log o h f = record {
   grown = record { past = items_of by o; is = refl; own = alone_outcome by o };
   holds = holds_more b by before after log o h f;
 }
 
-pub since_still : (b : Base) (by : Option ℕ) (before after : State) (log : Log) → Holds b before log → Follows b before after NoEntry → HoldsSince b by log after log
+pub since_still : (b : Base) (by : Option ℕ) (before after : State) (log : Log) → Holds b before log → Follows b.growth before after NoEntry → HoldsSince b by log after log
 since_still b by before after log h f = subst (λ (l : Log). HoldsSince b by log after l) (append-nil log) (since_more b by before after log NoEntry h f)
 
 pub since_on : (b : Base) (by : Option ℕ) (x y z : Log) (before after : State) → HoldsSince b by x before y → HoldsSince b by y after z → HoldsSince b by x after z
@@ -176,7 +176,7 @@ keeps_given b history is =
     record {
       opened = omega (arith, is, long);
       records = rw past (same_records b.shown.records);
-      end = let none : growth_of b (history_of (since b (given history))) ≡ 0 = rw past refl in omega (arith, none);
+      end = let none : growth_of b.growth (history_of (since b (given history))) ≡ 0 = rw past refl in omega (arith, none);
       doubt = subst (λ (l : Log). IsDoubted (doubts_of (option_to_list b.shown.doubt) l) b.shown.doubt) (sym past) (first_doubt b.shown.doubt);
       later = omega arith;
       faults = let none : length (marks_of (since b (given history))) ≡ 0 = rw past refl in omega (arith, none);

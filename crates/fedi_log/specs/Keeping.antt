@@ -23,12 +23,12 @@ abbrev pub since : Base → Log → Log
 since b log = drop b.kept log
 
 -- by how much entries move the end
-abbrev pub growth_of : Base → List Entry → ℕ
-growth_of b entries = sum_by (λ (e : Entry). b.growth (length (code_of e))) entries
+abbrev pub growth_of : (ℕ → ℕ) → List Entry → ℕ
+growth_of growth entries = sum_by (λ (e : Entry). growth (length (code_of e))) entries
 
 -- where the keeper ends: the records of the entries since the opening have moved it
 abbrev pub end_of : Base → Log → ℕ
-end_of b log = b.shown.end + growth_of b (history_of (since b log))
+end_of b log = b.shown.end + growth_of b.growth (history_of (since b log))
 
 -- a list of records, if it is known, with those of these entries behind them
 abbrev pub with_records : Option (List (List ℕ)) → List Entry → Option (List (List ℕ))
@@ -56,6 +56,7 @@ pub record State : Type 0 where
   pub history : List Entry
   pub keeper : KeeperState
 
+-- the state of these
 abbrev pub state_of : List Entry → KeeperState → State
 state_of history keeper = record { history = history; keeper = keeper }
 
@@ -85,10 +86,10 @@ FaultsAfter before after (Full e) = before ≤ after
 FaultsAfter before after (Failed e) = next_count before ≤ after
 
 -- the machine after this outcome
-pub record Follows (b : Base) (before after : State) (outcome : Outcome) : Type 0 where
+pub record Follows (growth : ℕ → ℕ) (before after : State) (outcome : Outcome) : Type 0 where
   pub history : after.history ≡ before.history ++ kept_in outcome
   pub records : after.keeper.records ≡ with_records before.keeper.records (kept_in outcome)
-  pub end : after.keeper.end ≡ before.keeper.end + growth_of b (kept_in outcome)
+  pub end : after.keeper.end ≡ before.keeper.end + growth_of growth (kept_in outcome)
   pub doubt : DoubtAfter before.keeper.doubt after.keeper.doubt outcome
   pub faults : FaultsAfter before.keeper.faults after.keeper.faults outcome
 

@@ -7,6 +7,7 @@ use Rattle.fedi_log.specs.declared.items.Item.{Item}
 use Rattle.fedi_log.specs.declared.items.What.{What}
 use Rattle.fedi_log.specs.declared.items.What.TheVariants.{Entered, Marked, Claimed, Released}
 
+-- the items, the first one first
 abbrev pub Log : Type 0
 Log = List Item
 
@@ -20,6 +21,7 @@ given history = map (λ (e : Entry). made_by None (Entered e)) history
 
 -- ---- what a log says
 
+-- the entry that was kept
 abbrev pub entry_in : What → List Entry
 entry_in (Entered e) = e ∷ []
 entry_in (Marked e) = []
@@ -30,6 +32,7 @@ entry_in (Released p) = []
 abbrev pub history_of : Log → List Entry
 history_of log = flat_map (λ (i : Item). entry_in i.what) log
 
+-- the entry that the keeper failed to keep
 abbrev pub mark_in : What → List Entry
 mark_in (Entered e) = []
 mark_in (Marked e) = e ∷ []
@@ -67,7 +70,7 @@ items_of by (Kept e) = made_by by (Entered e) ∷ []
 items_of by (Full e) = []
 items_of by (Failed e) = made_by by (Marked e) ∷ []
 
--- the entry that was kept
+-- the entry that was kept of it
 abbrev pub kept_in : Outcome → List Entry
 kept_in NoEntry = []
 kept_in (Kept e) = e ∷ []
@@ -93,6 +96,7 @@ pub record Goes (by : Option ℕ) (seen log : Log) : Type 0 where
   pub is : log ≡ seen ++ rest
   pub others : All (IsOthers by) rest
 
+-- two passes, or two times none, are the same
 abbrev pub is_same_pass : Option ℕ → Option ℕ → Bool
 is_same_pass None None = true
 is_same_pass None (Some n) = false

@@ -44,7 +44,7 @@ pub fn machines_stand_for_logs()
     ensures opened { (growth room : ℕ → ℕ) (by : Option ℕ) (opened : State)
         → HoldsSince (base_of growth room opened) by (given opened.history) opened (given opened.history) }
     ensures more { (b : Base) (by : Option ℕ) (before after : State) (log : Log) (o : Outcome) → Holds b before log
-        → Follows b before after o → HoldsSince b by log after (log ++ items_of by o) }
+        → Follows b.growth before after o → HoldsSince b by log after (log ++ items_of by o) }
     ensures on { (b : Base) (by : Option ℕ) (x y z : Log) (before after : State) → HoldsSince b by x before y
         → HoldsSince b by y after z → HoldsSince b by x after z }
 {}
