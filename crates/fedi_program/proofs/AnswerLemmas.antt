@@ -1,15 +1,21 @@
--- From what the machine answers to a caller, to what a request is answered.
-use Rattle.std.proofs.Common.{◌≡◌, ℕ, List, Option, Some, None, IfOk, Result, Ok, Err, inl, inr, refl, sym, subst, ◌∙◌}
-use Rattle.fedi_model.specs.declared.refusal.Refusal.{Refusal}
-use Rattle.fedi_model.specs.declared.refusal.Refusal.TheVariants.{JournalFull, KeeperFault}
-use Rattle.fedi_core.specs.Turns.{Kept as KeeperState, IsPrivateTurn, TurnOf}
+-- From what the machine decides for a caller, and what its keeper does, to the answer to a request.
+use Rattle.std.proofs.Common.{◌≡◌, ℕ, ◌+◌, ◌<◌, ◌≤◌, List, [], ◌∷◌, ◌++◌, length, Option, Some, None, Result, Ok, Err, inl, inr, refl, sym, subst, ap, ◌∙◌, arith}
+use Rattle.fedi_core.specs.Keeping.{IsKept, Refuses}
+use Rattle.fedi_core.specs.declared.keeping.KeepFault.TheVariants as faults
+use Rattle.fedi_entry.specs.Codes.{code_of}
+use Rattle.fedi_log.specs.Keeping.{Follows, State}
+use Rattle.fedi_log.specs.Log.{Failed, Full, Kept, NoEntry, Outcome}
+use Rattle.fedi_log.proofs.Keeping.{unchanged}
 use Rattle.fedi_objects.specs.declared.entry.Entry.{Entry}
+use Rattle.fedi_outside.specs.Keepers.{HasAdded, OnlyRoomChanged}
 use Rattle.fedi_model.proofs.Clean.{refused_is_clean, reply_is_clean}
 use Rattle.fedi_model.specs.declared.ask.Ask.{Ask}
 use Rattle.fedi_model.specs.declared.caller.Caller.{Caller}
+use Rattle.fedi_model.specs.declared.refusal.Refusal.{Refusal}
+use Rattle.fedi_model.specs.declared.refusal.Refusal.TheVariants.{JournalFull, KeeperFault}
 use Rattle.fedi_model.specs.declared.reply.Reply.{Reply}
 use Rattle.fedi_model.specs.declared.request.Request.{Request}
-use Rattle.fedi_model.specs.Agreement.{Agree}
+use Rattle.fedi_model.specs.Agreement.{Agree, IsPrivate}
 use Rattle.fedi_model.specs.Answers.{AgreeFor, AgreeOn, Answers, AnswersTo, caller_of}
 use Rattle.fedi_model.specs.Cleanness.{IsCleanBody}
 use Rattle.fedi_model.specs.Histories.{town}
@@ -17,20 +23,29 @@ use Rattle.fedi_model.specs.Refusing.{refused}
 use Rattle.fedi_model.specs.Replies.{entry_of, reply}
 use Rattle.fedi_model.specs.Routes.{Asks}
 use Rattle.fedi_model.specs.Towns.{Town}
-use Rattle.fedi_program.specs.Conversations.{IsPrivateReply}
-use Rattle.fedi_program.specs.Endings.{IsTurn, State}
+use Rattle.fedi_program.specs.Conversations.{IsPrivateReply, IsReply, Settles}
+use Rattle.fedi_program.specs.Endings.{IsTurn, IsUnanswered}
+
+-- ---- who may not be taken for a caller
 
 -- the refusal of a caller is the answer, and nothing is kept
-refused_answer : (t : Town) (moment : ℕ) (q : Request) (body : List ℕ) (e : Refusal) (r : Reply) → caller_of t q body ≡ Err e → r ≡ refused e → Answers t moment q body r None
-refused_answer t moment q body e r caller is = subst (λ (c : Result Caller Refusal). AnswersTo t moment c q body r None) (sym caller) (is, refl)
+refused_answer : (t : Town) (moment : ℕ) (q : Request) (body : List ℕ) (e : Refusal) → caller_of t q body ≡ Err e → Answers t moment q body (refused e) None
+refused_answer t moment q body e caller = subst (λ (c : Result Caller Refusal). AnswersTo t moment c q body (refused e) None) (sym caller) (refl, refl)
 
 pub refused_turn : (growth room : ℕ → ℕ) (state : State) (moment : ℕ) (q : Request) (body : List ℕ) (e : Refusal) (r : Reply)
     → caller_of (town state.history) q body ≡ Err e → r ≡ refused e → IsTurn growth room state state moment q body r
-refused_turn growth room state moment q body e r caller is = record {
-  turn = (r, None, refused_answer (town state.history) moment q body e r caller is, record { reply = refl; history = refl; keeper = refl });
-  private = inl (λ g legal agree. (None, refused_answer (town g) moment q body e r (agree.caller ∙ caller) is));
-  clean = subst (λ (x : Reply). IsCleanBody x.body) (sym is) (refused_is_clean e);
-}
+refused_turn growth room state moment q body e r caller is =
+    subst (λ (x : Reply). IsTurn growth room state state moment q body x) (sym is) (record {
+      outcome = NoEntry;
+      reply = record {
+        answer = (refused e, None, refused_answer (town state.history) moment q body e caller, refl);
+        private = inl (λ g legal agree. (None, refused_answer (town g) moment q body e (agree.caller ∙ caller)));
+        clean = refused_is_clean e;
+      };
+      follows = unchanged growth state state refl refl refl refl refl;
+    })
+
+-- ---- what is decided for a caller
 
 -- the reply to a caller for what the request asks
 asked_answer : (t : Town) (moment : ℕ) (q : Request) (body : List ℕ) (c : Caller) (ask : Ask) (r : Reply) → caller_of t q body ≡ Ok c → Asks q body ask → r ≡ reply t c ask
@@ -44,40 +59,113 @@ private_answer h g moment q body c ask r caller asks same agree =
     let known : Agree (town g) (town h) c = subst (λ (x : Result Caller Refusal). AgreeFor (town g) (town h) x) caller agree.known in
     (entry_of (town g) c ask moment, asked_answer (town g) moment q body c ask r (agree.caller ∙ caller) asks (sym (same known)))
 
-private_reply : (h : List Entry) (moment : ℕ) (q : Request) (body : List ℕ) (c : Caller) (ask : Ask) (r : Reply) → caller_of (town h) q body ≡ Ok c → Asks q body ask
-    → IsPrivateTurn h c ask r → IsPrivateReply h moment q body r
-private_reply h moment q body c ask r caller asks (inl private) = inl (λ g legal agree. private_answer h g moment q body c ask r caller asks (private g legal) agree)
-private_reply h moment q body c ask r caller asks (inr told) = inr told
+-- what was decided for the caller of a request
+pub record IsDecided (state : State) (moment : ℕ) (q : Request) (body : List ℕ) (c : Caller) (ask : Ask) (r : Reply) (made : Option Entry) : Type 0 where
+  pub caller : caller_of (town state.history) q body ≡ Ok c
+  pub asks : Asks q body ask
+  pub reply_is : r ≡ reply (town state.history) c ask
+  pub made_is : made ≡ entry_of (town state.history) c ask moment
+  pub private : IsPrivate state.history c ask r
 
--- what the keeper does leaves the reply clean
-turn_is_clean : (growth room : ℕ → ℕ) (h h' : List Entry) (r : Reply) (made : Option Entry) (before after : KeeperState) (given : Reply) → IsCleanBody r.body
-    → TurnOf growth room h r made before after h' given → IsCleanBody given.body
-turn_is_clean growth room h h' r None before after given clean turn = subst (λ (x : Reply). IsCleanBody x.body) (sym turn.reply) clean
-turn_is_clean growth room h h' r (Some e) before after given clean (inl turn) = subst (λ (x : Reply). IsCleanBody x.body) (sym turn.reply) clean
-turn_is_clean growth room h h' r (Some e) before after given clean (inr (inl turn)) = subst (λ (x : Reply). IsCleanBody x.body) (sym turn.reply) (refused_is_clean JournalFull)
-turn_is_clean growth room h h' r (Some e) before after given clean (inr (inr turn)) = subst (λ (x : Reply). IsCleanBody x.body) (sym turn.reply) (refused_is_clean KeeperFault)
+-- the reply that is then given, by what became of the entry
+settled_reply : (room : ℕ → ℕ) (state : State) (moment : ℕ) (q : Request) (body : List ℕ) (c : Caller) (ask : Ask) (r : Reply) (made : Option Entry) (outcome : Outcome) (given : Reply)
+    → IsDecided state moment q body c ask r made → Settles room state.keeper.end r made outcome given
+    → IsPrivateReply state.history moment q body given → IsCleanBody given.body → IsReply room state.history state.keeper.end moment q body outcome given
+settled_reply room state moment q body c ask r made outcome given d settles private clean =
+    let answer = subst (λ (m : Option Entry). Answers (town state.history) moment q body r m) (sym d.made_is)
+      (asked_answer (town state.history) moment q body c ask r d.caller d.asks d.reply_is) in
+    record { answer = (r, made, answer, settles); private = private; clean = clean }
 
-answered_turn : (growth room : ℕ → ℕ) (before after : State) (moment : ℕ) (q : Request) (body : List ℕ) (c : Caller) (ask : Ask) (r : Reply)
-    → caller_of (town before.history) q body ≡ Ok c → Asks q body ask
-    → TurnOf growth room before.history (reply (town before.history) c ask) (entry_of (town before.history) c ask moment) before.keeper after.keeper after.history r
-    → IsPrivateTurn before.history c ask r → IsTurn growth room before after moment q body r
-answered_turn growth room before after moment q body c ask r caller asks turn private =
-    let h = before.history in
+decided_private : (state : State) (moment : ℕ) (q : Request) (body : List ℕ) (c : Caller) (ask : Ask) (r : Reply) (made : Option Entry)
+    → IsDecided state moment q body c ask r made → IsPrivateReply state.history moment q body r
+decided_private state moment q body c ask r made d =
+    inl (λ g legal agree. private_answer state.history g moment q body c ask r d.caller d.asks (d.private g legal) agree)
+
+decided_clean : (state : State) (moment : ℕ) (q : Request) (body : List ℕ) (c : Caller) (ask : Ask) (r : Reply) (made : Option Entry)
+    → IsDecided state moment q body c ask r made → IsCleanBody r.body
+decided_clean state moment q body c ask r made d = subst (λ (x : Reply). IsCleanBody x.body) (sym d.reply_is) (reply_is_clean (town state.history) c ask)
+
+-- ---- nothing is to be kept
+
+pub read_turn : (growth room : ℕ → ℕ) (state : State) (moment : ℕ) (q : Request) (body : List ℕ) (c : Caller) (ask : Ask) (r : Reply)
+    → IsDecided state moment q body c ask r None → IsTurn growth room state state moment q body r
+read_turn growth room state moment q body c ask r d = record {
+  outcome = NoEntry;
+  reply = settled_reply room state moment q body c ask r None NoEntry r d refl (decided_private state moment q body c ask r None d) (decided_clean state moment q body c ask r None d);
+  follows = unchanged growth state state refl refl refl refl refl;
+}
+
+-- ---- an entry is to be kept
+
+pub kept_turn : (growth room : ℕ → ℕ) (before after : State) (moment : ℕ) (q : Request) (body : List ℕ) (c : Caller) (ask : Ask) (r : Reply) (e : Entry)
+    → IsDecided before moment q body c ask r (Some e) → IsKept growth room before.history e before.keeper after.keeper after.history
+    → IsTurn growth room before after moment q body r
+kept_turn growth room before after moment q body c ask r e d k = record {
+  outcome = Kept e;
+  reply = settled_reply room before moment q body c ask r (Some e) (Kept e) r d (refl, k.fits, refl)
+    (decided_private before moment q body c ask r (Some e) d) (decided_clean before moment q body c ask r (Some e) d);
+  follows = record {
+    history = k.history;
+    records = k.keeper.records;
+    end = let moved = k.keeper.end in omega (arith, moved);
+    doubt = k.keeper.doubt;
+    faults = let same = k.keeper.faults in omega (arith, same);
+  };
+}
+
+still : (growth : ℕ → ℕ) (before after : State) → after.history ≡ before.history → OnlyRoomChanged before.keeper after.keeper → Follows growth before after NoEntry
+still growth before after same k = unchanged growth before after same k.records k.end k.doubt k.faults
+
+still_full : (growth : ℕ → ℕ) (before after : State) (e : Entry) → Follows growth before after NoEntry → Follows growth before after (Full e)
+still_full growth before after e f = record { history = f.history; records = f.records; end = f.end; doubt = f.doubt; faults = f.faults }
+
+pub full_turn : (growth room : ℕ → ℕ) (before after : State) (moment : ℕ) (q : Request) (body : List ℕ) (c : Caller) (ask : Ask) (r : Reply) (e : Entry)
+    → IsDecided before moment q body c ask r (Some e) → after.history ≡ before.history → Refuses room (code_of e) faults.Full before.keeper after.keeper
+    → IsTurn growth room before after moment q body (refused JournalFull)
+full_turn growth room before after moment q body c ask r e d same k = record {
+  outcome = Full e;
+  reply = settled_reply room before moment q body c ask r (Some e) (Full e) (refused JournalFull) d (refl, k.0, refl) (inr (inl refl)) (refused_is_clean JournalFull);
+  follows = still_full growth before after e (still growth before after same k.1);
+}
+
+failed_follows : (growth room : ℕ → ℕ) (before after : State) (e : Entry) → after.history ≡ before.history → Refuses room (code_of e) faults.Failed before.keeper after.keeper
+    → Follows growth before after (Failed e)
+failed_follows growth room before after e same k =
+    let quiet : Follows growth before (record after { keeper = before.keeper }) NoEntry = unchanged growth before (record after { keeper = before.keeper }) same refl refl refl refl in
     record {
-      turn = (reply (town h) c ask, entry_of (town h) c ask moment, asked_answer (town h) moment q body c ask (reply (town h) c ask) caller asks refl, turn);
-      private = private_reply h moment q body c ask r caller asks private;
-      clean = turn_is_clean growth room h after.history (reply (town h) c ask) (entry_of (town h) c ask moment) before.keeper after.keeper r (reply_is_clean (town h) c ask) turn;
+      history = quiet.history;
+      records = k.1.records ∙ quiet.records;
+      end = let moved = k.1.end in omega (arith, moved);
+      doubt = k.1.doubt;
+      faults = let rose = k.1.faults in omega (arith, rose);
     }
 
-pub refused_turns : {E : Type 0} (growth room : ℕ → ℕ) (state : State) (moment : ℕ) (q : Request) (body : List ℕ) (e : Refusal) (r : Result Reply E)
-    → caller_of (town state.history) q body ≡ Err e → IfOk r (λ x. x ≡ refused e) → IfOk r (IsTurn growth room state state moment q body)
-refused_turns growth room state moment q body e (Ok r) caller is = refused_turn growth room state moment q body e r caller is
-refused_turns growth room state moment q body e (Err x) caller is = tt
+failed_reply : (room : ℕ → ℕ) (before : State) (moment : ℕ) (q : Request) (body : List ℕ) (c : Caller) (ask : Ask) (r : Reply) (e : Entry) (after : State)
+    → IsDecided before moment q body c ask r (Some e) → Refuses room (code_of e) faults.Failed before.keeper after.keeper
+    → IsReply room before.history before.keeper.end moment q body (Failed e) (refused KeeperFault)
+failed_reply room before moment q body c ask r e after d k =
+    settled_reply room before moment q body c ask r (Some e) (Failed e) (refused KeeperFault) d (refl, k.0, refl) (inr (inr refl)) (refused_is_clean KeeperFault)
 
-pub answered_turns : {E : Type 0} (growth room : ℕ → ℕ) (before after : State) (moment : ℕ) (q : Request) (body : List ℕ) (c : Caller) (ask : Ask) (r : Result Reply E)
-    → caller_of (town before.history) q body ≡ Ok c → Asks q body ask
-    → IfOk r (λ x. TurnOf growth room before.history (reply (town before.history) c ask) (entry_of (town before.history) c ask moment) before.keeper after.keeper after.history x)
-    → IfOk r (λ x. IsPrivateTurn before.history c ask x) → IfOk r (IsTurn growth room before after moment q body)
-answered_turns growth room before after moment q body c ask (Ok r) caller asks turn private =
-    answered_turn growth room before after moment q body c ask r caller asks turn private
-answered_turns growth room before after moment q body c ask (Err x) caller asks turn private = tt
+pub failed_turn : (growth room : ℕ → ℕ) (before after : State) (moment : ℕ) (q : Request) (body : List ℕ) (c : Caller) (ask : Ask) (r : Reply) (e : Entry)
+    → IsDecided before moment q body c ask r (Some e) → after.history ≡ before.history → Refuses room (code_of e) faults.Failed before.keeper after.keeper
+    → IsTurn growth room before after moment q body (refused KeeperFault)
+failed_turn growth room before after moment q body c ask r e d same k = record {
+  outcome = Failed e;
+  reply = failed_reply room before moment q body c ask r e after d k;
+  follows = failed_follows growth room before after e same k;
+}
+
+-- ---- out of memory
+
+pub nothing_done : (growth room : ℕ → ℕ) (state : State) (moment : ℕ) (q : Request) (body : List ℕ) → IsUnanswered growth room state state moment q body
+nothing_done growth room state moment q body = inl (unchanged growth state state refl refl refl refl refl)
+
+pub nothing_kept : (growth room : ℕ → ℕ) (before after : State) (moment : ℕ) (q : Request) (body : List ℕ) → after.history ≡ before.history
+    → OnlyRoomChanged before.keeper after.keeper → IsUnanswered growth room before after moment q body
+nothing_kept growth room before after moment q body same k = inl (still growth before after same k)
+
+pub failed_untold : (growth room : ℕ → ℕ) (before after : State) (moment : ℕ) (q : Request) (body : List ℕ) (c : Caller) (ask : Ask) (r : Reply) (e : Entry)
+    → IsDecided before moment q body c ask r (Some e) → after.history ≡ before.history → Refuses room (code_of e) faults.Failed before.keeper after.keeper
+    → IsUnanswered growth room before after moment q body
+failed_untold growth room before after moment q body c ask r e d same k =
+    inr (e, failed_reply room before moment q body c ask r e after d k, failed_follows growth room before after e same k)

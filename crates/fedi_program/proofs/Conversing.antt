@@ -3,14 +3,15 @@ use Rattle.std.proofs.Common.{◌≡◌, ℕ, ◌+◌, ◌<◌, ◌≤◌, Bool,
 use Rattle.std.specs.Prelude.{nat_le, ◌||◌}
 use Rattle.std.proofs.KnownBytes.{Appends-nil, prepend_known-nil}
 use Rattle.std.proofs.lemmas.Bool.{leb-false}
+use Rattle.fedi_log.specs.Keeping.{Holds, HoldsSince, State}
 use Rattle.fedi_log.specs.Log.{Log, given}
 use Rattle.fedi_model.specs.declared.request.Request.{Request}
 use Rattle.fedi_model.specs.declared.refusal.Refusal.{Refusal}
 use Rattle.fedi_program.specs.declared.sessions.SessionEnd.{SessionEnd}
 use Rattle.fedi_program.specs.declared.sessions.SessionEnd.TheVariants.{End, CutShort, Closed, ReadFault, WriteFault, Memory}
 use Rattle.fedi_program.specs.Conversations.{Setting, Exchange, Progress, IsExchange, Converses, after, beginning, closes, ends_by, progress}
-use Rattle.fedi_program.specs.Endings.{EndsSession, Exchanges, Finishes, Holds, HoldsSince, IsAt, Output, Scene, Serves, State, Steps, StepsOn}
-use Rattle.fedi_program.proofs.KeepLemmas.{holds_given, since_on}
+use Rattle.fedi_program.specs.Endings.{EndsSession, Exchanges, Finishes, IsAt, Output, Scene, Serves, Steps, StepsOn}
+use Rattle.fedi_log.proofs.Keeping.{holds_given, since_on}
 use Rattle.fedi_program.proofs.Talks.{converses-more, progress-more}
 
 -- a session stands after some exchanges, and the connection is open for another
@@ -25,7 +26,7 @@ pub record Stands (w : Setting) (seen : Log) (first : Output) (now : Scene) (log
 -- it does, if the input is told, over a log that the machine stands for
 abbrev pub StandsFor : Setting → Log → Scene → Scene → List ℕ → State → ℕ → Type 0
 StandsFor w seen first now pending state count =
-    (log : Log) × HoldsSince w seen state log × IfSome first.input (Stands w seen first.output now log pending count)
+    (log : Log) × HoldsSince w.base w.by seen state log × IfSome first.input (Stands w seen first.output now log pending count)
 
 -- a session begins
 begins : (w : Setting) (seen : Log) (first : Scene) (known : Option (List ℕ)) → first.input ≡ known → IfSome known (Stands w seen first.output first seen [] 0)
@@ -38,8 +39,7 @@ begins w seen first (Some input) is = record {
   at = record {
     open_yet = refl;
     input = prepend_known-nil first.input ∙ is;
-    written = Appends-nil first.output.sent;
-    faults = omega arith;
+    written = record { sent = Appends-nil first.output.sent; calm = refl };
   };
   below = lit< tt;
 }
@@ -47,7 +47,7 @@ begins w seen first (Some input) is = record {
 pub stands_first : (w : Setting) (opened : State) (first : Scene) → w.base.kept ≡ length opened.history → w.base.shown ≡ opened.keeper
     → StandsFor w (given opened.history) first first [] opened 0
 stands_first w opened first kept shown =
-    (given opened.history, holds_given w opened kept shown, begins w (given opened.history) first first.input refl)
+    (given opened.history, holds_given w.base w.by opened kept shown, begins w (given opened.history) first first.input refl)
 
 -- ---- one exchange more
 
@@ -88,7 +88,7 @@ pub stands_next : (w : Setting) (seen : Log) (first before now : Scene) (old pen
 stands_next w seen first before now old pending state after_it count held steps =
     let x = steps held.0 held.1.holds in (
       x.0,
-      since_on w seen held.0 x.0 state after_it held.1 x.1,
+      since_on w.base w.by seen held.0 x.0 state after_it held.1 x.1,
       on_told w seen first.output before now held.0 x.0 old pending count first.input held.2 x.2,
     )
 
@@ -134,7 +134,7 @@ pub stands_over : (w : Setting) (seen : Log) (first before now : Scene) (old pen
 stands_over w seen first before now old pending state after_it count e held steps =
     let x = steps held.0 held.1.holds in (
       x.0,
-      since_on w seen held.0 x.0 state after_it held.1 x.1,
+      since_on w.base w.by seen held.0 x.0 state after_it held.1 x.1,
       ends_told w seen first.output before now held.0 x.0 old pending count e first.input held.2 x.2,
     )
 

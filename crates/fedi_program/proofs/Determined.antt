@@ -20,7 +20,7 @@ use Rattle.fedi_model.specs.Towns.{Town}
 use Rattle.fedi_routes.proofs.AskLemmas.{asked_once}
 use Rattle.fedi_log.specs.Log.{Log, Outcome, NoEntry, Kept, Full, Failed, history_of}
 use Rattle.fedi_program.specs.Conversations.{Setting, Exchange, Progress, Arrives, AreCalm, Converses, IsAnswered, IsAtEnd, IsCalm, IsExchange, IsNow, IsReply, NoGaps, Settles, StandsAtFront, after, progress}
-use Rattle.fedi_program.specs.Keeping.{Base, end_of}
+use Rattle.fedi_log.specs.Keeping.{Base, end_of}
 
 -- ---- one answer
 

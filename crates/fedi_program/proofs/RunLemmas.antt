@@ -1,18 +1,19 @@
 -- From the end of a session to that of the program.
 use Rattle.std.proofs.Common.{◌≡◌, ℕ, List, [], length, Option, Some, None, IfSome, inl, inr, refl, sym, subst, ◌∙◌}
+use Rattle.fedi_log.specs.Keeping.{State}
 use Rattle.fedi_log.specs.Log.{Log, given}
 use Rattle.fedi_program.specs.declared.sessions.SessionEnd.{SessionEnd}
 use Rattle.fedi_program.specs.declared.sessions.SessionEnd.TheVariants.{End, CutShort, Closed, ReadFault, WriteFault, Memory}
 use Rattle.fedi_program.specs.Conversations.{Setting}
-use Rattle.fedi_program.specs.Endings.{EndsSession, HoldsALog, Output, RunsTo, Scene, Serves, State, Talks, TalksIfTold, status_of}
-use Rattle.fedi_program.proofs.KeepLemmas.{holds_given}
+use Rattle.fedi_program.specs.Endings.{EndsSession, HoldsALog, Output, RunsTo, Scene, Serves, Talks, TalksIfTold, status_of}
+use Rattle.fedi_log.proofs.Keeping.{holds_given}
 
 -- whatever became of it, the machine stands for a log
 pub run_holds : (w : Setting) (opened : State) (first now : Scene) (state : State) (status : ℕ) → w.base.kept ≡ length opened.history → w.base.shown ≡ opened.keeper
     → RunsTo w opened first now state status → HoldsALog w (given opened.history) state
 run_holds w opened first now state status kept shown (inl ran) = (ran.2.0, ran.2.1)
 run_holds w opened first now state status kept shown (inr none) =
-    subst (λ (s : State). HoldsALog w (given opened.history) s) (sym none.2) (given opened.history, holds_given w opened kept shown)
+    subst (λ (s : State). HoldsALog w (given opened.history) s) (sym none.2) (given opened.history, holds_given w.base w.by opened kept shown)
 
 ended_talks : (w : Setting) (seen : Log) (first : Output) (now : Scene) (log : Log) (known : Option (List ℕ)) → IfSome known (Serves w seen first now log End) → IfSome known (Talks w seen first now log)
 ended_talks w seen first now log None s = tt

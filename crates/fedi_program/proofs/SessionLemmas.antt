@@ -4,7 +4,7 @@ use Rattle.std.specs.List.{slice_range}
 use Rattle.std.specs.Io.KnownBytes.{Appends, prepend_known}
 use Rattle.std.proofs.KnownBytes.{Appends-trans}
 use Rattle.std.proofs.lemmas.List.{drop-append-le}
-use Rattle.fedi_outside.specs.Causes.{Rose}
+use Rattle.fedi_outside.specs.Causes.{next_count}
 use Rattle.fedi_model.specs.declared.refusal.Refusal.{Refusal}
 use Rattle.fedi_http.specs.Arrivals.{LacksRequest}
 use Rattle.fedi_http.specs.declared.arrivals.Arrived.{Arrived}
@@ -12,9 +12,11 @@ use Rattle.fedi_http.specs.declared.arrivals.Arrived.TheVariants as arrivals
 use Rattle.fedi_http.specs.declared.heads.TheConstants.{HEAD_LIMIT}
 use Rattle.fedi_http.specs.declared.requests.TheConstants.{MOST_FIELDS}
 use Rattle.fedi_http.proofs.HeadLemmas.{slice_range-append}
-use Rattle.fedi_log.specs.Log.{Goes, Log, NoEntry, Outcome, history_of, items_of}
+use Rattle.fedi_log.specs.Keeping.{Base, Follows, Holds, State, end_of}
+use Rattle.fedi_log.specs.Log.{Failed, Goes, Log, NoEntry, Outcome, history_of, items_of}
 use Rattle.fedi_log.proofs.Growing.{goes_here}
 use Rattle.fedi_objects.specs.declared.entry.Entry.{Entry}
+use Rattle.fedi_model.specs.declared.refusal.Refusal.TheVariants.{KeeperFault}
 use Rattle.fedi_model.specs.declared.reply.Reply.{Reply}
 use Rattle.fedi_model.specs.declared.request.Request.{Request}
 use Rattle.fedi_model.specs.Refusing.{refused}
@@ -22,9 +24,8 @@ use Rattle.fedi_model.specs.ReplyText.{memory_text, reply_text}
 use Rattle.fedi_program.specs.declared.sessions.SessionEnd.{SessionEnd}
 use Rattle.fedi_program.specs.declared.sessions.SessionEnd.TheVariants as ends
 use Rattle.fedi_program.specs.Conversations.{Setting, Exchange, Progress, IsNow, IsReply, IsExchange, StandsAtFront, after, closes, text_of}
-use Rattle.fedi_program.specs.Endings.{BreaksOff, Exchanges, GivesUp, Holds, IsAnswerText, IsAt, IsTurn, IsUnanswered, Output, Replies, Scene, State, Steps, Writes, WritesUnlessFailed}
-use Rattle.fedi_program.specs.Keeping.{Base, end_of}
-use Rattle.fedi_program.proofs.KeepLemmas.{Follows, dropped, settled, since_here, since_more, since_still, unchanged}
+use Rattle.fedi_program.specs.Endings.{BreaksOff, Exchanges, GivesUp, IsAnswerText, IsAt, IsTurn, IsUnanswered, Output, Replies, Scene, Steps, Writes, WritesUnlessFailed}
+use Rattle.fedi_log.proofs.Keeping.{since_here, since_more, since_still, unchanged}
 
 -- ---- the bytes of the input
 
@@ -51,29 +52,27 @@ told_of P known left is h = subst (λ (k : Option (List ℕ)). IfSome k P) is h
 
 -- ---- the output
 
--- a count that rose since then rose since before that
-pub rose_since : (first before now : ℕ) → first ≤ before → Rose before now → Rose first now
-rose_since first before now low rose = omega (arith, low, rose)
-
 writes_on : (first before now : Output) (written text : List ℕ) → Writes first before written → Writes before now text → Writes first now (written ++ text)
-writes_on first before now written text was more = Appends-trans first.sent before.sent now.sent written text was more
+writes_on first before now written text was more = record {
+  sent = Appends-trans first.sent before.sent now.sent written text was.sent more.sent;
+  calm = more.calm ∙ was.calm;
+}
 
 writes_still : (first before now : Output) (written : List ℕ) → Writes first before written → now ≡ before → Writes first now written
 writes_still first before now written was same = subst (λ (o : Output). Writes first o written) (sym same) was
 
-breaks_on : (first before now : Output) (written text : List ℕ) → first.faults ≤ before.faults → Writes first before written → BreaksOff before now [] text
-    → BreaksOff first now written text
-breaks_on first before now written text low was b = record {
+breaks_on : (first before now : Output) (written text : List ℕ) → Writes first before written → BreaksOff before now [] text → BreaksOff first now written text
+breaks_on first before now written text was b = record {
   prefix = b.prefix;
   short = b.short;
-  sent = writes_on first before now written (take b.prefix text) was b.sent;
-  cause = rose_since first.faults before.faults now.faults low b.cause;
+  sent = Appends-trans first.sent before.sent now.sent written (take b.prefix text) was.sent b.sent;
+  cause = b.cause ∙ ap next_count was.calm;
 }
 
-unless_failed_on : (first before now : Output) (written text : List ℕ) → first.faults ≤ before.faults → Writes first before written
+unless_failed_on : (first before now : Output) (written text : List ℕ) → Writes first before written
     → WritesUnlessFailed before now [] text → WritesUnlessFailed first now written text
-unless_failed_on first before now written text low was (inl sent) = inl (writes_on first before now written text was sent)
-unless_failed_on first before now written text low was (inr broken) = inr (breaks_on first before now written text low was broken)
+unless_failed_on first before now written text was (inl sent) = inl (writes_on first before now written text was sent)
+unless_failed_on first before now written text was (inr broken) = inr (breaks_on first before now written text was broken)
 
 -- ---- one step
 
@@ -82,33 +81,32 @@ goes_to by seen log same = subst (λ (l : Log). Goes by seen l) same (goes_here 
 
 -- this exchange was made, and its text was sent so
 replied : (w : Setting) (first : Output) (before now : Scene) (log : Log) (old pending : List ℕ) (p : Progress) (x : Exchange) (closing : Bool) (ending : Option SessionEnd)
-    → closing ≡ closes p.count x.arrived → IsExchange w p x → (after w p x).log ≡ log → IsAt first before old p → before.output.faults ≤ now.output.faults
+    → closing ≡ closes p.count x.arrived → IsExchange w p x → (after w p x).log ≡ log → IsAt first before old p
     → StandsIn pending now.input x.rest → Replies before.output now.output (reply_text x.moment false closing x.reply) closing ending
     → Steps w first now log pending p ending
-replied w first before now log old pending p x true ending is next same at low stands (inl sent) =
+replied w first before now log old pending p x true ending is next same at stands (inl sent) =
     let text : Writes before.output now.output (text_of p.count x) = rw (← is) sent.1 in
     subst (λ (e : Option SessionEnd). Steps w first now log pending p e) (sym sent.0)
     (x, next, (sym is, record {
       written = writes_on first before.output now.output p.written (text_of p.count x) at.written text;
       later = goes_to w.by (after w p x).log log same;
     }))
-replied w first before now log old pending p x false ending is next same at low stands (inl sent) =
+replied w first before now log old pending p x false ending is next same at stands (inl sent) =
     let text : Writes before.output now.output (text_of p.count x) = rw (← is) sent.1 in
     subst (λ (e : Option SessionEnd). Steps w first now log pending p e) (sym sent.0)
     (x, next, same, record {
       open_yet = sym is;
       input = stands;
       written = writes_on first before.output now.output p.written (text_of p.count x) at.written text;
-      faults = let f = at.faults in omega (arith, f, low);
     })
-replied w first before now log old pending p x closing ending is next same at low stands (inr sent) =
+replied w first before now log old pending p x closing ending is next same at stands (inr sent) =
     let broken : BreaksOff before.output now.output [] (text_of p.count x) = rw (← is) sent.1 in
     subst (λ (e : Option SessionEnd). Steps w first now log pending p e) (sym sent.0)
     (record {
       exchange = x;
       next = next;
       later = goes_to w.by (after w p x).log log same;
-      broken = breaks_on first before.output now.output p.written (text_of p.count x) at.faults at.written broken;
+      broken = breaks_on first before.output now.output p.written (text_of p.count x) at.written broken;
     })
 
 -- ---- a request
@@ -121,24 +119,18 @@ exchange_of : (w : Setting) (first : Output) (before now : Scene) (state after_i
     (turn : IsTurn w.base.growth w.base.room state after_it moment q (slice_range read start end) r)
     → Holds w.base state log → p.log ≡ log → IsAt first before old p → prepend_known read now.input ≡ prepend_known old before.input
     → IfSome (prepend_known old before.input) (λ stream. StandsAtFront stream (arrivals.Request q start end)) → start ≤ end → end ≤ length read → IsNow w.told moment
-    → IsExchange w p (asked q (slice_range p.left start end) (drop end p.left) log moment (settled w.base state after_it turn.turn.0 turn.turn.1 r turn.turn.3).0 r)
+    → IsExchange w p (asked q (slice_range p.left start end) (drop end p.left) log moment turn.outcome r)
 exchange_of w first before now state after_it log old read p q start end moment r turn holds same at stream told low high is_now =
     let stands : StandsIn read now.input p.left = stream ∙ at.input in
     let text : slice_range read start end ≡ slice_range p.left start end = same_slice read now.input p.left start end stands low high in
-    let s = settled w.base state after_it turn.turn.0 turn.turn.1 r turn.turn.3 in
-    let reply : IsReply w.base.room state.history state.keeper.end moment q (slice_range read start end) s.0 r = record {
-      answer = (turn.turn.0, turn.turn.1, turn.turn.2, s.1);
-      private = turn.private;
-      clean = turn.clean;
-    } in
-    let here = subst (λ (h : List Entry). IsReply w.base.room h state.keeper.end moment q (slice_range read start end) s.0 r) holds.history reply in
-    let ended = subst (λ (n : ℕ). IsReply w.base.room (history_of log) n moment q (slice_range read start end) s.0 r) holds.keeper.end here in
+    let here = subst (λ (h : List Entry). IsReply w.base.room h state.keeper.end moment q (slice_range read start end) turn.outcome r) holds.history turn.reply in
+    let ended = subst (λ (n : ℕ). IsReply w.base.room (history_of log) n moment q (slice_range read start end) turn.outcome r) holds.keeper.end here in
     record {
       open_yet = at.open_yet;
       arrival = (start, end, told_of (λ bytes. StandsAtFront bytes (arrivals.Request q start end)) (prepend_known old before.input) p.left at.input told, refl, refl);
       now = is_now;
       later = goes_to w.by p.log log same;
-      reply = subst (λ (b : List ℕ). IsReply w.base.room (history_of log) (end_of w.base log) moment q b s.0 r) text ended;
+      reply = subst (λ (b : List ℕ). IsReply w.base.room (history_of log) (end_of w.base log) moment q b turn.outcome r) text ended;
     }
 
 pub answered_steps : (w : Setting) (before now : Scene) (state after_it : State) (log : Log) (count : ℕ) (old read : List ℕ) (q : Request) (start end moment : ℕ) (closing : Bool) (text : List ℕ) (ending : Option SessionEnd)
@@ -146,20 +138,20 @@ pub answered_steps : (w : Setting) (before now : Scene) (state after_it : State)
     → IfSome (prepend_known old before.input) (λ stream. StandsAtFront stream (arrivals.Request q start end)) → start ≤ end → end ≤ length read
     → closing ≡ closes count (Ok q) → IsNow w.told moment
     → IsAnswerText w.base.growth w.base.room state after_it moment q (slice_range read start end) closing text
-    → before.output.faults ≤ now.output.faults → Replies before.output now.output text closing ending
+    → Replies before.output now.output text closing ending
     → Exchanges w log count before old now (drop end read) after_it ending
-answered_steps w before now state after_it log count old read q start end moment closing text ending holds stream told low high is is_now a later sent =
+answered_steps w before now state after_it log count old read q start end moment closing text ending holds stream told low high is is_now a sent =
     let r : Reply = a.0 in
     let turn = a.1 in
-    let s = settled w.base state after_it turn.turn.0 turn.turn.1 r turn.turn.3 in
+    let o : Outcome = turn.outcome in
     let reply = subst (λ (t : List ℕ). Replies before.output now.output t closing ending) a.2 sent in (
-      log ++ items_of w.by s.0,
-      since_more w state after_it log s.0 holds s.2,
+      log ++ items_of w.by o,
+      since_more w.base w.by state after_it log o holds turn.follows,
       λ first p same counted at.
-        replied w first before now (log ++ items_of w.by s.0) old (drop end read) p (asked q (slice_range p.left start end) (drop end p.left) log moment s.0 r) closing ending
+        replied w first before now (log ++ items_of w.by o) old (drop end read) p (asked q (slice_range p.left start end) (drop end p.left) log moment o r) closing ending
         (is ∙ ap (λ (n : ℕ). closes n (Ok q)) (sym counted))
         (exchange_of w first before now state after_it log old read p q start end moment r turn holds same at stream told low high is_now)
-        refl at later (taken_off read now.input p.left end (stream ∙ at.input) high) reply,
+        refl at (taken_off read now.input p.left end (stream ∙ at.input) high) reply,
     )
 
 -- out of memory: the other side was told so
@@ -169,13 +161,13 @@ given_up : (w : Setting) (first : Output) (before now : Scene) (log : Log) (old 
     → Steps w first now log pending p ending
 given_up w first before now log old pending p ending at gives f =
     subst (λ (e : Option SessionEnd). Steps w first now log pending p e) (sym gives.0)
-    (f (unless_failed_on first before.output now.output p.written memory_text at.faults at.written gives.1))
+    (f (unless_failed_on first before.output now.output p.written memory_text at.written gives.1))
 
 pub memory_steps : (w : Setting) (before now : Scene) (state after_it : State) (log : Log) (count : ℕ) (old pending : List ℕ) (ending : Option SessionEnd)
-    → Holds w.base state log → Follows w.base state after_it NoEntry → GivesUp before.output now.output ending → Exchanges w log count before old now pending after_it ending
+    → Holds w.base state log → Follows w.base.growth state after_it NoEntry → GivesUp before.output now.output ending → Exchanges w log count before old now pending after_it ending
 memory_steps w before now state after_it log count old pending ending holds still gives = (
   log,
-  since_still w state after_it log holds still,
+  since_still w.base w.by state after_it log holds still,
   λ first p same counted at. given_up w first before now log old pending p ending at gives (λ told. record {
     more = None;
     open_yet = at.open_yet;
@@ -190,20 +182,21 @@ pub unanswered_steps : (w : Setting) (before now : Scene) (state after_it : Stat
     → IfSome (prepend_known old before.input) (λ stream. StandsAtFront stream (arrivals.Request q start end)) → start ≤ end → end ≤ length read → IsNow w.told moment
     → IsUnanswered w.base.growth w.base.room state after_it moment q (slice_range read start end) → GivesUp before.output now.output ending
     → Exchanges w log count before old now pending after_it ending
-unanswered_steps w before now state after_it log count old read pending q start end moment ending holds stream told low high is_now (inl d) gives =
-    memory_steps w before now state after_it log count old pending ending holds (dropped w.base state after_it d) gives
+unanswered_steps w before now state after_it log count old read pending q start end moment ending holds stream told low high is_now (inl still) gives =
+    memory_steps w before now state after_it log count old pending ending holds still gives
 unanswered_steps w before now state after_it log count old read pending q start end moment ending holds stream told low high is_now (inr a) gives =
-    let turn = a.1 in
-    let s = settled w.base state after_it turn.turn.0 turn.turn.1 a.0 turn.turn.3 in (
-      log ++ items_of w.by s.0,
-      since_more w state after_it log s.0 holds s.2,
+    let o : Outcome = Failed a.0 in
+    let r : Reply = refused KeeperFault in
+    let turn : IsTurn w.base.growth w.base.room state after_it moment q (slice_range read start end) r = record { outcome = o; reply = a.1; follows = a.2 } in (
+      log ++ items_of w.by o,
+      since_more w.base w.by state after_it log o holds a.2,
       λ first p same counted at.
-        let x = asked q (slice_range p.left start end) (drop end p.left) log moment s.0 a.0 in
-        given_up w first before now (log ++ items_of w.by s.0) old pending p ending at gives (λ text. record {
+        let x = asked q (slice_range p.left start end) (drop end p.left) log moment o r in
+        given_up w first before now (log ++ items_of w.by o) old pending p ending at gives (λ text. record {
           more = Some x;
           open_yet = at.open_yet;
-          next = exchange_of w first before now state after_it log old read p q start end moment a.0 turn holds same at stream told low high is_now;
-          later = goes_here w.by (log ++ items_of w.by s.0);
+          next = (exchange_of w first before now state after_it log old read p q start end moment r turn holds same at stream told low high is_now, refl);
+          later = goes_here w.by (log ++ items_of w.by o);
           told = text;
         }),
     )
@@ -216,12 +209,12 @@ turned_away e rest log moment = record { arrived = Err e; body = []; rest = rest
 pub refusal_steps : (w : Setting) (before now : Scene) (state : State) (log : Log) (count : ℕ) (old pending : List ℕ) (e : Refusal) (moment : ℕ) (text : List ℕ) (ending : Option SessionEnd)
     → Holds w.base state log → prepend_known pending now.input ≡ prepend_known old before.input
     → IfSome (prepend_known old before.input) (λ stream. StandsAtFront stream (arrivals.Refused e)) → IsNow w.told moment
-    → text ≡ reply_text moment false true (refused e) → before.output.faults ≤ now.output.faults → Replies before.output now.output text true ending
+    → text ≡ reply_text moment false true (refused e) → Replies before.output now.output text true ending
     → Exchanges w log count before old now pending state ending
-refusal_steps w before now state log count old pending e moment text ending holds stream told is_now is later sent =
+refusal_steps w before now state log count old pending e moment text ending holds stream told is_now is sent =
     let reply = subst (λ (t : List ℕ). Replies before.output now.output t true ending) is sent in (
       log ++ items_of w.by NoEntry,
-      since_more w state state log NoEntry holds (unchanged w.base state),
+      since_more w.base w.by state state log NoEntry holds (unchanged w.base.growth state state refl refl refl refl refl),
       λ first p same counted at.
         replied w first before now (log ++ items_of w.by NoEntry) old pending p (turned_away e p.left log moment) true ending refl
         (record {
@@ -231,7 +224,7 @@ refusal_steps w before now state log count old pending e moment text ending hold
           later = goes_to w.by p.log log same;
           reply = (refl, refl);
         })
-        refl at later (stream ∙ at.input) reply,
+        refl at (stream ∙ at.input) reply,
     )
 
 -- ---- nothing more is to be answered, and nothing was sent
@@ -241,7 +234,7 @@ pub end_steps : (w : Setting) (before now : Scene) (state : State) (log : Log) (
     → Exchanges w log count before old now pending state (Some ends.End)
 end_steps w before now state log count old pending holds told quiet = (
   log,
-  since_here w state log holds,
+  since_here w.base w.by state log holds,
   λ first p same counted at. (
     at.open_yet,
     told_of (λ bytes. StandsAtFront bytes arrivals.End) (prepend_known old before.input) p.left at.input told,
@@ -254,7 +247,7 @@ pub cut_steps : (w : Setting) (before now : Scene) (state : State) (log : Log) (
     → Exchanges w log count before old now pending state (Some ends.CutShort)
 cut_steps w before now state log count old pending holds told quiet = (
   log,
-  since_here w state log holds,
+  since_here w.base w.by state log holds,
   λ first p same counted at. (
     (at.open_yet, told_of (λ bytes. StandsAtFront bytes arrivals.CutShort) (prepend_known old before.input) p.left at.input told),
     record { written = writes_still first before.output now.output p.written at.written quiet; later = goes_to w.by p.log log same },
@@ -266,14 +259,13 @@ pub fault_steps : (w : Setting) (before now : Scene) (state : State) (log : Log)
     → Exchanges w log count before old now pending state (Some ends.ReadFault)
 fault_steps w before now state log count old pending holds stream lacks quiet = (
   log,
-  since_here w state log holds,
+  since_here w.base w.by state log holds,
   λ first p same counted at. record {
     pending = pending;
     at = record {
       open_yet = at.open_yet;
       input = stream ∙ at.input;
       written = writes_still first before.output now.output p.written at.written quiet;
-      faults = let f = at.faults in let q : now.output.faults ≡ before.output.faults = ap (λ (o : Output). o.faults) quiet in omega (arith, f, q);
     };
     lacks = lacks;
     later = goes_to w.by p.log log same;

@@ -4,13 +4,13 @@ use Rattle.std.specs.Prelude.{◌≡◌, ◌⊎◌, ℕ, ◌+◌, ◌-◌, ◌�
 use Rattle.std.specs.List.{flat_map, fold, slice_range}
 use Rattle.fedi_model.specs.declared.refusal.Refusal.{Refusal}
 use Rattle.fedi_model.specs.declared.refusal.Refusal.TheVariants.{JournalFull, KeeperFault}
-use Rattle.fedi_core.specs.Turns.{HasRoom, IsFull}
 use Rattle.fedi_entry.specs.Codes.{code_of}
 use Rattle.fedi_http.specs.Arrivals.{IsArrival}
 use Rattle.fedi_http.specs.declared.arrivals.Arrived.{Arrived}
 use Rattle.fedi_http.specs.declared.arrivals.Arrived.TheVariants as arrivals
 use Rattle.fedi_http.specs.declared.heads.TheConstants.{HEAD_LIMIT}
 use Rattle.fedi_http.specs.declared.requests.TheConstants.{MOST_FIELDS}
+use Rattle.fedi_log.specs.Keeping.{Base, end_of}
 use Rattle.fedi_log.specs.Log.{Log, Goes, Outcome, NoEntry, Kept, Full, Failed, failed_in, history_of, items_of}
 use Rattle.fedi_model.specs.declared.reply.Reply.{Reply}
 use Rattle.fedi_model.specs.declared.request.Request.{Request}
@@ -20,7 +20,7 @@ use Rattle.fedi_model.specs.Histories.{town}
 use Rattle.fedi_model.specs.Refusing.{refused}
 use Rattle.fedi_model.specs.ReplyText.{reply_text}
 use Rattle.fedi_objects.specs.declared.entry.Entry.{Entry}
-use Rattle.fedi_program.specs.Keeping.{Base, end_of}
+use Rattle.fedi_outside.specs.Keepers.{HasRoom, IsFull}
 
 -- ---- what a conversation is made of
 
@@ -112,7 +112,7 @@ most_requests = 1000
 
 -- what asks to close the connection, and what is refused, is the last on it (RFC 9112, section 9.6)
 abbrev pub ends_by : Result Request Refusal → Bool
-ends_by (Ok q) = not q.keep
+ends_by (Ok q) = not q.keep_alive
 ends_by (Err e) = true
 
 -- and so is the thousandth request

@@ -2,63 +2,32 @@
 use Rattle.std.specs.Prelude.{◌≡◌, ◌⊎◌, ℕ, ◌<◌, ◌≤◌, Bool, false, true, ◌==◌, List, [], ◌∷◌, ◌++◌, length, take, All, Option, Some, None, IfSome, IsTrue, if◌then◌else◌}
 use Rattle.std.specs.List.{list_any}
 use Rattle.std.specs.Io.KnownBytes.{Appends, prepend_known}
-use Rattle.fedi_core.specs.Turns.{Kept as KeeperState, TurnOf, IsDropped}
 use Rattle.fedi_http.specs.Arrivals.{LacksRequest}
 use Rattle.fedi_http.specs.declared.arrivals.Arrived.TheVariants as arrivals
 use Rattle.fedi_http.specs.declared.heads.TheConstants.{HEAD_LIMIT}
 use Rattle.fedi_http.specs.declared.requests.TheConstants.{MOST_FIELDS}
-use Rattle.fedi_log.specs.declared.items.Item.{Item}
-use Rattle.fedi_log.specs.Log.{Log, Goes, given, history_of}
+use Rattle.fedi_log.specs.Keeping.{Follows, HoldsSince, State, base_of}
+use Rattle.fedi_log.specs.Log.{Failed, Goes, Log, NoEntry, Outcome, given, kept_in}
+use Rattle.fedi_model.specs.declared.refusal.Refusal.TheVariants.{KeeperFault}
 use Rattle.fedi_model.specs.declared.reply.Reply.{Reply}
 use Rattle.fedi_model.specs.declared.request.Request.{Request}
-use Rattle.fedi_model.specs.Answers.{Answers}
-use Rattle.fedi_model.specs.Cleanness.{IsCleanBody}
-use Rattle.fedi_model.specs.Histories.{town}
+use Rattle.fedi_model.specs.Refusing.{refused}
 use Rattle.fedi_model.specs.ReplyText.{memory_text, reply_text}
 use Rattle.fedi_objects.specs.declared.entry.Entry.{Entry}
-use Rattle.fedi_outside.specs.Causes.{Rose}
-use Rattle.fedi_program.specs.Conversations.{Setting, Exchange, Progress, IsExchange, Converses, StandsAtFront, IsCutShort, IsOver, after, beginning, progress, text_of, IsPrivateReply}
-use Rattle.fedi_program.specs.Keeping.{Base, Keeps}
+use Rattle.fedi_outside.specs.Causes.{next_count}
+use Rattle.fedi_program.specs.Conversations.{Setting, Exchange, Progress, IsExchange, IsReply, Converses, StandsAtFront, IsCutShort, IsOver, after, beginning, progress, text_of}
 use Rattle.fedi_program.specs.declared.sessions.SessionEnd.{SessionEnd}
 use Rattle.fedi_program.specs.declared.sessions.SessionEnd.TheVariants.{End, CutShort, Closed, ReadFault, WriteFault, Memory}
 
 -- ---- the machine and its log
 
--- the history of the machine, and what its keeper shows
-pub record State : Type 0 where
-  pub history : List Entry
-  pub keeper : KeeperState
-
-abbrev pub state_of : List Entry → KeeperState → State
-state_of history keeper = record { history = history; keeper = keeper }
-
 -- the setting of one who alone adds to the log, over the machine that was opened so
 abbrev pub setting_of : (ℕ → ℕ) → (ℕ → ℕ) → Option ℕ → State → Setting
-setting_of growth room told opened = record {
-  by = None;
-  told = told;
-  base = record { kept = length opened.history; shown = opened.keeper; growth = growth; room = room };
-}
-
--- the machine stands for this log
-pub record Holds (b : Base) (now : State) (log : Log) : Type 0 where
-  pub history : now.history ≡ history_of log
-  pub keeper : Keeps b now.keeper log
-
--- the log goes on from what was seen, by one's own items alone
-pub record GoesAlone (by : Option ℕ) (seen log : Log) : Type 0 where
-  pub past : Log
-  pub is : log ≡ seen ++ past
-  pub own : All (λ (i : Item). i.pass ≡ by) past
-
--- the machine stands for a log that goes on so
-pub record HoldsSince (w : Setting) (seen : Log) (now : State) (log : Log) : Type 0 where
-  pub grown : GoesAlone w.by seen log
-  pub holds : Holds w.base now log
+setting_of growth room told opened = record { by = None; told = told; base = base_of growth room opened }
 
 -- it stands for some log that goes on so
 abbrev pub HoldsALog : Setting → Log → State → Type 0
-HoldsALog w seen now = (log : Log) × HoldsSince w seen now log
+HoldsALog w seen now = (log : Log) × HoldsSince w.base w.by seen now log
 
 -- ---- what stands at a moment
 
@@ -81,16 +50,17 @@ scene_of input output = record { input = input; output = output }
 
 -- ---- what is sent
 
--- the text was sent
-abbrev pub Writes : Output → Output → List ℕ → Type 0
-Writes before now text = Appends before.sent now.sent text
+-- the text was sent, and no write failed
+pub record Writes (before now : Output) (text : List ℕ) : Type 0 where
+  pub sent : Appends before.sent now.sent text
+  pub calm : now.faults ≡ before.faults
 
--- the text was sent behind this one, up to where a write failed: a proper prefix of it
+-- a text was sent behind this one up to a write that failed: a proper prefix of it
 pub record BreaksOff (before now : Output) (written text : List ℕ) : Type 0 where
   pub prefix : ℕ
   pub short : prefix < length text
-  pub sent : Writes before now (written ++ take prefix text)
-  pub cause : Rose before.faults now.faults
+  pub sent : Appends before.sent now.sent (written ++ take prefix text)
+  pub cause : now.faults ≡ next_count before.faults
 
 -- the text was sent behind this one whole, unless a write failed
 abbrev pub WritesUnlessFailed : Output → Output → List ℕ → List ℕ → Type 0
@@ -111,22 +81,23 @@ GivesUp before now ending = (ending ≡ Some Memory) × WritesUnlessFailed befor
 
 -- ---- one answer
 
--- the request with this body was answered in one turn of the machine
+-- the request with this body was answered so in one turn of the machine
 pub record IsTurn (growth room : ℕ → ℕ) (before after : State) (moment : ℕ) (q : Request) (body : List ℕ) (given : Reply) : Type 0 where
-  pub turn : (r : Reply) × (made : Option Entry) × Answers (town before.history) moment q body r made
-      × TurnOf growth room before.history r made before.keeper after.keeper after.history given
-  pub private : IsPrivateReply before.history moment q body given
-  pub clean : IsCleanBody given.body
+  pub outcome : Outcome
+  pub reply : IsReply room before.history before.keeper.end moment q body outcome given
+  pub follows : Follows growth before after outcome
 
 -- the text is that of the reply of one turn
 abbrev pub IsAnswerText : (ℕ → ℕ) → (ℕ → ℕ) → State → State → ℕ → Request → List ℕ → Bool → List ℕ → Type 0
 IsAnswerText growth room before after moment q body closing text =
     (r : Reply) × IsTurn growth room before after moment q body r × (text ≡ reply_text moment false closing r)
 
--- out of memory: there was no turn, or its reply found no memory for its text
+-- out of memory: nothing was kept, since there was no turn, or since the keeper failed and the reply that tells so found no
+-- memory for its text
 abbrev pub IsUnanswered : (ℕ → ℕ) → (ℕ → ℕ) → State → State → ℕ → Request → List ℕ → Type 0
 IsUnanswered growth room before after moment q body =
-    IsDropped before.history before.keeper after.keeper after.history ⊎ ((r : Reply) × IsTurn growth room before after moment q body r)
+    Follows growth before after NoEntry
+    ⊎ ((e : Entry) × IsReply room before.history before.keeper.end moment q body (Failed e) (refused KeeperFault) × Follows growth before after (Failed e))
 
 -- ---- how a session ends
 
@@ -135,17 +106,16 @@ pub record IsAt (first : Output) (now : Scene) (pending : List ℕ) (p : Progres
   pub open_yet : p.closed ≡ false
   pub input : prepend_known pending now.input ≡ Some p.left
   pub written : Writes first now.output p.written
-  pub faults : first.faults ≤ now.output.faults
 
 -- all that this progress has written was sent, and the log is the one that was seen, or goes on from there
 pub record IsDone (w : Setting) (first now : Output) (log : Log) (p : Progress) : Type 0 where
   pub written : Writes first now p.written
   pub later : Goes w.by p.log log
 
--- one more exchange, or none
-abbrev pub IsMaybeExchange : Setting → Progress → Option Exchange → Type 0
-IsMaybeExchange w p None = Unit {0}
-IsMaybeExchange w p (Some x) = IsExchange w p x
+-- one more exchange, at which nothing was kept, or none
+abbrev pub IsUnkept : Setting → Progress → Option Exchange → Type 0
+IsUnkept w p None = Unit {0}
+IsUnkept w p (Some x) = IsExchange w p x × (kept_in x.outcome ≡ [])
 
 -- the progress after one more exchange, or the same
 abbrev pub after_maybe : Setting → Progress → Option Exchange → Progress
@@ -166,12 +136,11 @@ pub record IsBrokenOff (w : Setting) (first now : Output) (log : Log) (p : Progr
   pub later : Goes w.by (after w p exchange).log log
   pub broken : BreaksOff first now p.written (text_of p.count exchange)
 
--- out of memory, perhaps after an answer was found: its item stays in the log, and in place of its text the other side was
--- told so, unless a write failed
+-- out of memory: nothing was kept, and instead of a reply the other side was told so, unless a write failed
 pub record IsGivenUp (w : Setting) (first now : Output) (log : Log) (p : Progress) : Type 0 where
   pub more : Option Exchange
   pub open_yet : p.closed ≡ false
-  pub next : IsMaybeExchange w p more
+  pub next : IsUnkept w p more
   pub later : Goes w.by (after_maybe w p more).log log
   pub told : WritesUnlessFailed first now p.written memory_text
 
@@ -194,7 +163,7 @@ pub record Serves (w : Setting) (seen : Log) (first : Output) (now : Scene) (log
 -- read and written is one conversation over it.
 abbrev pub EndsSession : Setting → Log → Scene → Scene → State → SessionEnd → Type 0
 EndsSession w seen first now state ending =
-    (log : Log) × HoldsSince w seen state log × IfSome first.input (Serves w seen first.output now log ending)
+    (log : Log) × HoldsSince w.base w.by seen state log × IfSome first.input (Serves w seen first.output now log ending)
 
 -- one exchange went well and the connection goes on, or a session ended so
 abbrev pub Steps : Setting → Output → Scene → Log → List ℕ → Progress → Option SessionEnd → Type 0
@@ -215,16 +184,30 @@ StepsOn w seen count before old now pending log ending =
 -- what one exchange does, after so many: the log goes on, and the machine stands for it
 abbrev pub Exchanges : Setting → Log → ℕ → Scene → List ℕ → Scene → List ℕ → State → Option SessionEnd → Type 0
 Exchanges w seen count before old now pending state ending =
-    (log : Log) × HoldsSince w seen state log × StepsOn w seen count before old now pending log ending
+    (log : Log) × HoldsSince w.base w.by seen state log × StepsOn w seen count before old now pending log ending
 
--- an end that tells of a fault has its cause: the two say that the count of failed reads rose, and that of failed writes
-abbrev pub IsCaused : Type 0 → Type 0 → SessionEnd → Type 0
-IsCaused read write End = Unit {0}
-IsCaused read write CutShort = Unit {0}
-IsCaused read write Closed = Unit {0}
-IsCaused read write ReadFault = read
-IsCaused read write WriteFault = write
-IsCaused read write Memory = Unit {0}
+-- how many reads failed, and how many writes
+pub record Faults : Type 0 where
+  pub reads : ℕ
+  pub writes : ℕ
+
+-- the counts of these
+abbrev pub faults_of : ℕ → ℕ → Faults
+faults_of reads writes = record { reads = reads; writes = writes }
+
+-- an end that tells of a fault has its cause: that count rose by one, and no other did
+abbrev pub IsCaused : Faults → Faults → SessionEnd → Type 0
+IsCaused before now End = now ≡ before
+IsCaused before now CutShort = now ≡ before
+IsCaused before now Closed = now ≡ before
+IsCaused before now ReadFault = now ≡ record before { reads = next_count before.reads }
+IsCaused before now WriteFault = now ≡ record before { writes = next_count before.writes }
+IsCaused before now Memory = (now ≡ before) ⊎ (now ≡ record before { writes = next_count before.writes })
+
+-- a step that goes on counts no fault
+abbrev pub IsCounted : Faults → Faults → Option SessionEnd → Type 0
+IsCounted before now None = now ≡ before
+IsCounted before now (Some ending) = IsCaused before now ending
 
 -- ---- the program
 
@@ -256,7 +239,15 @@ pub record Talks (w : Setting) (seen : Log) (first : Output) (now : Scene) (log 
 
 -- it was, if the input is told, over a log that the machine stands for
 abbrev pub TalksIfTold : Setting → Log → Scene → Scene → State → Type 0
-TalksIfTold w seen first now state = (log : Log) × HoldsSince w seen state log × IfSome first.input (Talks w seen first.output now log)
+TalksIfTold w seen first now state = (log : Log) × HoldsSince w.base w.by seen state log × IfSome first.input (Talks w seen first.output now log)
+
+-- A run with this status has its cause: the count of failed reads rose exactly at 6, that of failed writes at 7 and not at
+-- 0, 6 and 8.
+pub record HasCauses (before now : Faults) (status : ℕ) : Type 0 where
+  pub reads : now.reads ≡ (if status == 6 then next_count before.reads else before.reads)
+  pub writes : (now.writes ≡ before.writes) ⊎ (now.writes ≡ next_count before.writes)
+  pub failed : status ≡ 7 → now.writes ≡ next_count before.writes
+  pub calm : (status ≡ 0) ⊎ ((status ≡ 6) ⊎ (status ≡ 8)) → now.writes ≡ before.writes
 
 -- a text was printed at status 0, and a prefix of it at 7, if a write failed
 abbrev pub Prints : Output → Output → List ℕ → ℕ → Type 0

@@ -12,7 +12,7 @@ mod sessions;
 mod usage;
 
 pub use adapters::{Reading, SystemClock, Writing};
-pub use answers::{answer_request, answer_text};
+pub use answers::answer;
 pub use commands::{Command, command_of};
 pub use connection::Connection;
 pub use laws::{

@@ -1,12 +1,11 @@
 //! The whole program, over whatever lies outside.
 
-ghost use Rattle.std.specs.Prelude.{◌≡◌, ◌≢◌, ◌↔◌, IsTrue, Some, None, map, string_bytes};
-ghost use Rattle.fedi_outside.specs.Causes.{Rose};
-ghost use Rattle.fedi_core.specs.Turns.{shown_by};
+ghost use Rattle.std.specs.Prelude.{◌≡◌, ◌≢◌, ◌↔◌, [], IsTrue, Some, None, map, string_bytes};
+ghost use Rattle.fedi_log.specs.Keeping.{state_of};
 ghost use Rattle.fedi_log.specs.Log.{given};
 ghost use Rattle.fedi_model.specs.Histories.{IsLegal};
 ghost use Rattle.fedi_program.specs.Commands.{command_of};
-ghost use Rattle.fedi_program.specs.Endings.{HoldsALog, Prints, RunsTo, TalksIfTold, WritesUnlessFailed, is_status, output_by, scene_of, setting_of, state_of, status_of};
+ghost use Rattle.fedi_program.specs.Endings.{HasCauses, HoldsALog, Prints, RunsTo, TalksIfTold, WritesUnlessFailed, faults_of, is_status, output_by, scene_of, setting_of, status_of};
 ghost use Rattle.fedi_program.specs.Usage.{usage_text};
 
 use crate::commands::{Command, command_of};
@@ -63,7 +62,8 @@ fn status_of(end: SessionEnd) -> u8
 
 /// Prints the arguments that the program takes.
 fn print_usage<O: Sink>(out: &mut O) -> u8
-    ensures { Prints (output_by O.sent O.write_faults out.old) (output_by O.sent O.write_faults out.new) usage_text result }
+    ensures { Prints (output_by O.sent O.write_faults out.old)
+        (output_by O.sent O.write_faults out.new) usage_text result }
 {
     match send(out, usage().as_bytes()) {
         Ok(()) => DONE,
@@ -80,14 +80,15 @@ fn inetd<S: Source, O: Sink, P: Keeper, C: Clock>(
 ) -> Ended<P>
     requires { IsLegal history.items }
     ensures session {
-        let opened = state_of history.items (shown_by P.records P.doubt P.end P.faults keeper) in
+        let opened = state_of history.items (P.shown keeper) in
         RunsTo (setting_of P.growth P.room (C.told connection.old.clock) opened) opened
             (scene_of (S.left connection.old.input) (output_by O.sent O.write_faults connection.old.out))
             (scene_of (S.left connection.new.input) (output_by O.sent O.write_faults connection.new.out))
-            (state_of result.history.items (shown_by P.records P.doubt P.end P.faults result.keeper)) result.status }
+            (state_of result.history.items (P.shown result.keeper)) result.status }
     ensures legal { IsLegal result.history.items }
-    ensures read { result.status ≡ 6 → Rose (S.read_faults connection.old.input) (S.read_faults connection.new.input) }
-    ensures write { result.status ≡ 7 → Rose (O.write_faults connection.old.out) (O.write_faults connection.new.out) }
+    ensures causes { HasCauses
+        (faults_of (S.read_faults connection.old.input) (O.write_faults connection.old.out))
+        (faults_of (S.read_faults connection.new.input) (O.write_faults connection.new.out)) result.status }
     ensures statuses { IsTrue (is_status result.status) }
     ensures accepted { result.status ≢ 2 }
     ensures clock { connection.new.clock ≡ connection.old.clock }
@@ -145,29 +146,29 @@ pub fn run<S: Source, O: Sink, P: Keeper, C: Clock>(
     // know gives too, or one that tells of the keeper and has its cause there. What was kept are the
     // entries that were acknowledged.
     ensures talk {
-        let opened = state_of history.items (shown_by P.records P.doubt P.end P.faults keeper) in
+        let opened = state_of history.items (P.shown keeper) in
         command_of (map string_bytes arguments.now) ≡ Some Command.Inetd → result.status ≡ 0
         → TalksIfTold (setting_of P.growth P.room (C.told connection.old.clock) opened) (given history.items)
             (scene_of (S.left connection.old.input) (output_by O.sent O.write_faults connection.old.out))
             (scene_of (S.left connection.new.input) (output_by O.sent O.write_faults connection.new.out))
-            (state_of result.history.items (shown_by P.records P.doubt P.end P.faults result.keeper)) }
+            (state_of result.history.items (P.shown result.keeper)) }
 
     // At every other status, too, it is a conversation as far as it went.
     ensures session {
-        let opened = state_of history.items (shown_by P.records P.doubt P.end P.faults keeper) in
+        let opened = state_of history.items (P.shown keeper) in
         command_of (map string_bytes arguments.now) ≡ Some Command.Inetd
         → RunsTo (setting_of P.growth P.room (C.told connection.old.clock) opened) opened
             (scene_of (S.left connection.old.input) (output_by O.sent O.write_faults connection.old.out))
             (scene_of (S.left connection.new.input) (output_by O.sent O.write_faults connection.new.out))
-            (state_of result.history.items (shown_by P.records P.doubt P.end P.faults result.keeper)) result.status }
+            (state_of result.history.items (P.shown result.keeper)) result.status }
 
     // Whatever the input, the history comes back legal, and the entries that the run made are the
     // records that came to the keeper.
     ensures legal { IsLegal result.history.items }
     ensures kept {
-        let opened = state_of history.items (shown_by P.records P.doubt P.end P.faults keeper) in
+        let opened = state_of history.items (P.shown keeper) in
         HoldsALog (setting_of P.growth P.room (C.told connection.old.clock) opened) (given history.items)
-            (state_of result.history.items (shown_by P.records P.doubt P.end P.faults result.keeper)) }
+            (state_of result.history.items (P.shown result.keeper)) }
 
     // The usage is printed whole, unless a write failed. Nothing is read, and nothing is kept.
     ensures usage { command_of (map string_bytes arguments.now) ≡ Some Command.Usage
@@ -180,11 +181,11 @@ pub fn run<S: Source, O: Sink, P: Keeper, C: Clock>(
         → (connection.new.input ≡ connection.old.input) × (result.history.items ≡ history.items)
             × (result.keeper ≡ keeper) }
 
-    // A failure has its cause outside.
-    ensures read { result.status ≡ 6
-        → Rose (S.read_faults connection.old.input) (S.read_faults connection.new.input) }
-    ensures write { result.status ≡ 7
-        → Rose (O.write_faults connection.old.out) (O.write_faults connection.new.out) }
+    // A failure has its cause outside: the count of failed reads rose exactly at 6, and that of failed
+    // writes at 7.
+    ensures causes { HasCauses
+        (faults_of (S.read_faults connection.old.input) (O.write_faults connection.old.out))
+        (faults_of (S.read_faults connection.new.input) (O.write_faults connection.new.out)) result.status }
     ensures clock { connection.new.clock ≡ connection.old.clock }
 {
     match command_of(arguments) {

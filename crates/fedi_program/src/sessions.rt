@@ -1,20 +1,19 @@
 //! One connection, request by request (RFC 9112, section 9.3).
 
 ghost use Rattle.std.specs.Prelude.{◌≡◌, ◌≤◌, ◌<◌, ◌||◌, ◌-◌, ℕ, nat_le, not, IfSome, IfOk, MatchResult};
-ghost use Rattle.fedi_outside.specs.Causes.{Rose};
-ghost use Rattle.fedi_core.specs.Turns.{shown_by};
+ghost use Rattle.fedi_log.specs.Keeping.{Holds, State, base_of, state_of};
 ghost use Rattle.fedi_log.specs.Log.{Log, given};
 ghost use Rattle.fedi_model.specs.Refusing.{refused};
 ghost use Rattle.fedi_model.specs.ReplyText.{reply_text};
+ghost use Rattle.fedi_outside.specs.Causes.{next_count};
 ghost use Rattle.fedi_program.specs.Conversations.{most_requests};
-ghost use Rattle.fedi_program.specs.Endings.{EndsSession, Exchanges, GivesUp, Holds, IsCaused, Replies, State, output_by, scene_of, setting_of, state_of};
+ghost use Rattle.fedi_program.specs.Endings.{EndsSession, Exchanges, GivesUp, IsCaused, IsCounted, Replies, faults_of, output_by, scene_of, setting_of};
 
-use crate::answers::answer_text;
+use crate::answers::answer;
 use crate::connection::Connection;
-use fedi_address::Refusal;
 use fedi_core::Core;
 use fedi_http::{Arrived, Buffer, memory_text, read_request, reply_bytes, send};
-use fedi_model::{Request, refusal_reply};
+use fedi_model::{Refusal, Request, refusal_reply};
 use fedi_objects::Moment;
 use fedi_outside::{Clock, Failed, Keeper, Sink, Source};
 use std::alloc::{AllocError, Global};
@@ -47,10 +46,12 @@ fn send_reply<O: Sink>(
     closing: bool,
 ) -> Option<SessionEnd>
     ensures sent { MatchResult text
-        (λ text. Replies (output_by O.sent O.write_faults out.old) (output_by O.sent O.write_faults out.new) text.items closing result)
-        (λ _. GivesUp (output_by O.sent O.write_faults out.old) (output_by O.sent O.write_faults out.new) result) }
-    ensures later { O.write_faults out.old ≤ O.write_faults out.new }
-    ensures causes { IfSome result (IsCaused (Unit {0}) (Rose (O.write_faults out.old) (O.write_faults out.new))) }
+        (λ text. Replies (output_by O.sent O.write_faults out.old)
+            (output_by O.sent O.write_faults out.new) text.items closing result)
+        (λ _. GivesUp (output_by O.sent O.write_faults out.old)
+            (output_by O.sent O.write_faults out.new) result) }
+    ensures counted { (reads : ℕ) → IsCounted (faults_of reads (O.write_faults out.old))
+        (faults_of reads (O.write_faults out.new)) result }
 {
     match text {
         Ok(text) => match send(out, &text) {
@@ -70,16 +71,15 @@ fn send_reply<O: Sink>(
 fn refusal_text(alloc: Global, refusal: Refusal, moment: Moment) -> Result<Vec<u8>, AllocError>
     ensures { IfOk result (λ text. text.items ≡ reply_text moment false true (refused refusal)) }
 {
-    let reply = refusal_reply(alloc, refusal)?;
-    reply_bytes(alloc, &reply, moment, false, true)
+    reply_bytes(alloc, &refusal_reply(refusal), moment, false, true)
 }
 
 /// Whether a request is the last on its connection, after so many were served: it asks to close, or no
 /// more are served (RFC 9112, section 9.6).
 fn is_last(request: &Request, served: u64) -> bool
-    ensures { result ≡ (not request.now.keep || nat_le (most_requests - 1) served) }
+    ensures { result ≡ (not request.now.keep_alive || nat_le (most_requests - 1) served) }
 {
-    !request.keep || served >= MOST_REQUESTS - 1
+    !request.keep_alive || served >= MOST_REQUESTS - 1
 }
 
 /// Reads the next request and answers it, after so many were served. The bytes that it takes leave
@@ -92,17 +92,15 @@ fn exchange<S: Source, O: Sink, P: Keeper, C: Clock>(
     served: u64,
 ) -> Option<SessionEnd>
     // From each log for which the machine stands, it goes on.
-    ensures steps { (opened : State) (log : Log) → let w = setting_of P.growth P.room (C.told connection.old.clock) opened in
-        Holds w.base (state_of core.old.history (shown_by P.records P.doubt P.end P.faults core.old.keeper)) log
-        → Exchanges w log served
+    ensures steps { (opened : State) (log : Log)
+        → Holds (base_of P.growth P.room opened) (state_of core.old.history (P.shown core.old.keeper)) log
+        → Exchanges (setting_of P.growth P.room (C.told connection.old.clock) opened) log served
             (scene_of (S.left connection.old.input) (output_by O.sent O.write_faults connection.old.out)) buffer.old
             (scene_of (S.left connection.new.input) (output_by O.sent O.write_faults connection.new.out)) buffer.new
-            (state_of core.new.history (shown_by P.records P.doubt P.end P.faults core.new.keeper)) result }
-    ensures reads { S.read_faults connection.old.input ≤ S.read_faults connection.new.input }
-    ensures writes { O.write_faults connection.old.out ≤ O.write_faults connection.new.out }
-    ensures causes { IfSome result (IsCaused
-        (Rose (S.read_faults connection.old.input) (S.read_faults connection.new.input))
-        (Rose (O.write_faults connection.old.out) (O.write_faults connection.new.out))) }
+            (state_of core.new.history (P.shown core.new.keeper)) result }
+    ensures counted { IsCounted
+        (faults_of (S.read_faults connection.old.input) (O.write_faults connection.old.out))
+        (faults_of (S.read_faults connection.new.input) (O.write_faults connection.new.out)) result }
     ensures clock { connection.new.clock ≡ connection.old.clock }
 {
     match read_request(alloc, &mut connection.input, buffer) {
@@ -110,7 +108,7 @@ fn exchange<S: Source, O: Sink, P: Keeper, C: Clock>(
             let closing = is_last(&request, served);
             let moment = Moment::clamped(connection.clock.now());
             let body = &buffer.pending()[body..end];
-            let text = answer_text(alloc, core, &request, body, moment, closing);
+            let text = answer(alloc, core, &request, body, moment, closing);
             buffer.take_front(end);
             send_reply(&mut connection.out, text, closing)
         }
@@ -136,14 +134,14 @@ pub fn session<S: Source, O: Sink, P: Keeper, C: Clock>(
     // From the history that the machine has, the log goes on by what is kept and what the keeper
     // fails to keep. If the input is told, what was read and written is one conversation over it.
     ensures ends {
-        let opened = state_of core.old.history (shown_by P.records P.doubt P.end P.faults core.old.keeper) in
+        let opened = state_of core.old.history (P.shown core.old.keeper) in
         EndsSession (setting_of P.growth P.room (C.told connection.old.clock) opened) (given core.old.history)
             (scene_of (S.left connection.old.input) (output_by O.sent O.write_faults connection.old.out))
             (scene_of (S.left connection.new.input) (output_by O.sent O.write_faults connection.new.out))
-            (state_of core.new.history (shown_by P.records P.doubt P.end P.faults core.new.keeper)) result }
+            (state_of core.new.history (P.shown core.new.keeper)) result }
     ensures causes { IsCaused
-        (Rose (S.read_faults connection.old.input) (S.read_faults connection.new.input))
-        (Rose (O.write_faults connection.old.out) (O.write_faults connection.new.out)) result }
+        (faults_of (S.read_faults connection.old.input) (O.write_faults connection.old.out))
+        (faults_of (S.read_faults connection.new.input) (O.write_faults connection.new.out)) result }
     ensures clock { connection.new.clock ≡ connection.old.clock }
 {
     let mut buffer = Buffer::new(alloc);
