@@ -1,4 +1,2 @@
-pub mod Club
-pub mod ExampleTown
+pub mod Accepting
 pub mod Growing
-pub mod TurnLemmas

@@ -1,5 +1,2 @@
-pub mod Example
 pub mod Machines
-pub mod Judgements
-pub mod Turns
-pub mod Outcomes
+pub mod Keeping

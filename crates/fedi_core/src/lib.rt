@@ -1,15 +1,11 @@
 //! The machine over one history: who a caller is, what becomes of a post, and what is kept.
 #![tactic(auto)]
 
-mod fixture;
-mod held;
-mod judging;
+mod deciding;
+mod keeping;
 mod machine;
-mod storing;
-mod turning;
+mod posts;
 
-pub use fixture::example_history;
+pub use deciding::Decision;
+pub use keeping::{KeepError, KeepFault};
 pub use machine::Core;
-
-#[cfg(test)]
-mod tests;

@@ -4,7 +4,7 @@ ghost use Rattle.std.specs.Prelude.{◌≡◌, [], ◌∷◌, IfOk, OnOk, IsTrue
 ghost use Rattle.fedi_address.specs.Names.{is_name};
 ghost use Rattle.fedi_objects.specs.declared.entry.Entry.TheVariants.{Hosted};
 ghost use Rattle.fedi_model.specs.Histories.{IsLegal};
-ghost use Rattle.fedi_core.specs.Example as example;
+ghost use Rattle.fedi_example.specs.Example as example;
 
 use fedi_address::{Host, HostFault, Iri, Items, LocalName, Recipients};
 use fedi_facts::actor_iri;

@@ -14,7 +14,7 @@ use Rattle.url.proofs.OnLiterals.{url_on_literals}
 use Rattle.fedi_address.specs.Hosts.{address, is_domain_byte, IsHost}
 use Rattle.fedi_address.specs.Iris.{IsIri}
 use Rattle.fedi_address.proofs.Urls.{plain_path, IsScheme_https, IsHost-from_root}
-use Rattle.fedi_core.specs.Example.{host}
+use Rattle.fedi_example.specs.Example.{host}
 
 abbrev club_url : Parts
 club_url = record {

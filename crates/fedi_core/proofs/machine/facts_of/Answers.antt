@@ -6,7 +6,7 @@ use Rattle.std.proofs.lemmas.List.Sums.{fold_more}
 use Rattle.fedi_objects.specs.declared.entry.Entry.{Entry}
 use Rattle.fedi_model.specs.Histories.{step, is_admissible, is_legal_from}
 use Rattle.fedi_model.specs.Towns.{Town, empty_town}
-use Rattle.fedi_core.proofs.held.facts_of.Goals as goal
+use Rattle.fedi_core.proofs.machine.facts_of.Goals as goal
 
 -- what is left is legal after the next entry
 legal_next : (t : Town) (e : Entry) (left next : List Entry) → left ≡ e ∷ next → is_legal_from t left ≡ true → is_legal_from (step t e) next ≡ true

@@ -2,7 +2,7 @@ use Rattle.std.proofs.Common.{◌≡◌, take, drop, true}
 use Rattle.std.specs.List.{fold}
 use Rattle.fedi_model.specs.Histories.{step, is_legal_from}
 use Rattle.fedi_model.specs.Towns.{empty_town}
-use Rattle.fedi_core.proofs.held.facts_of.Given as goal
+use Rattle.fedi_core.proofs.machine.facts_of.Given as goal
 
 abbrev pub invariant-loop-entry : goal.invariant-loop-entry
 invariant-loop-entry l = record {

@@ -1,0 +1,102 @@
+//! Keeping an entry.
+
+ghost use Rattle.std.specs.Prelude.{◌≡◌, ◌++◌, ◌∷◌, [], ◌+◌, ◌≤◌, IsTrue, OnOk, OnErr, vec_capacity, vec_len};
+ghost use Rattle.fedi_entry.specs.Codes.{code_of};
+ghost use Rattle.fedi_model.specs.Histories.{step};
+ghost use Rattle.fedi_core.specs.Keeping.{MayAdd, Stores};
+ghost use Rattle.fedi_core.specs.declared.keeping.KeepFault.TheVariants.{Full, Memory};
+
+use fedi_entry::encode;
+use fedi_facts::Facts;
+use fedi_objects::Entry;
+use fedi_outside::{Failed, Keeper, ReserveFault};
+use std::alloc::{AllocError, Global};
+use thiserror::Error;
+
+/// Why an entry was not kept.
+#[derive(Clone, Copy, Debug, PartialEq, Eq, Error)]
+pub enum KeepFault {
+    /// The keeper has no room for it.
+    #[error("the keeper has no room")]
+    Full,
+    /// The keeper failed, and the entry may be in doubt.
+    #[error("the keeper failed")]
+    Failed,
+    /// Out of memory. The keeper counts no fault.
+    #[error("out of memory")]
+    Memory,
+}
+
+impl From<AllocError> for KeepFault {
+    ghost from_gives = { λ _ fault. fault ≡ Memory };
+
+    fn from(_: AllocError) -> Self {
+        KeepFault::Memory
+    }
+}
+
+/// An entry that was not kept, with the reason.
+#[derive(Drop)]
+pub struct KeepError {
+    /// Why it was not kept.
+    pub fault: KeepFault,
+    /// The entry.
+    pub entry: Entry,
+}
+
+/// Keeps one more record. Room is made first, so that nothing takes memory once the doubt is settled.
+pub fn store<P: Keeper>(keeper: &mut P, code: &[u8]) -> Result<(), KeepFault>
+    ensures { Stores P.growth P.room code.now result (P.shown keeper.old) (P.shown keeper.new) }
+{
+    match keeper.reserve(code.len()) {
+        Ok(()) => {}
+        Err(ReserveFault::Full) => return Err(KeepFault::Full),
+        Err(ReserveFault::Memory) => return Err(KeepFault::Memory),
+    }
+    let Ok(()) = keeper.settle() else {
+        return Err(KeepFault::Failed);
+    };
+    match keeper.append(code) {
+        Ok(()) => Ok(()),
+        Err(Failed) => Err(KeepFault::Failed),
+    }
+}
+
+/// Keeps the bytes of a post's entry, after all that takes memory. Then the facts have what the entry
+/// makes and the history has room for it; after an error both are as before.
+pub fn store_entry<P: Keeper>(
+    alloc: Global,
+    facts: &mut Facts,
+    history: &mut Vec<Entry>,
+    keeper: &mut P,
+    entry: &Entry,
+) -> Result<(), KeepFault>
+    requires { MayAdd facts.old entry.now }
+    ensures facts { OnOk result (facts.new ≡ step facts.old entry.now) }
+    ensures room { OnOk result (vec_len history.new + 1 ≤ vec_capacity history.new) }
+    ensures facts_kept { OnErr result (facts.new ≡ facts.old) }
+    ensures history { history.new.items ≡ history.old.items }
+    ensures keeper { Stores P.growth P.room (code_of entry.now) result
+        (P.shown keeper.old) (P.shown keeper.new) }
+{
+    let code = encode(alloc, entry)?;
+    history.reserve(1)?;
+    let count = facts.acts().len();
+    facts.apply(alloc, entry)?;
+    let stored = store(keeper, &code);
+    if stored.is_err() {
+        facts.keep_acts(count);
+    }
+    stored
+}
+
+/// Appends an entry to a history that has room for one more.
+pub fn push(history: &mut Vec<Entry>, entry: Entry)
+    requires { vec_len history.old + 1 ≤ vec_capacity history.old }
+    ensures { history.new.items ≡ history.old.items ++ entry ∷ [] }
+{
+    match history.push(entry) {
+        Ok(()) => {}
+        Err(_) => unreachable!(),
+    }
+}

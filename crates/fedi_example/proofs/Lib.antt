@@ -1,0 +1,2 @@
+pub mod Club
+pub mod ExampleTown

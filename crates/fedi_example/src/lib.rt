@@ -1,0 +1,6 @@
+//! The example town, which is served as long as there are no stores.
+#![tactic(auto)]
+
+mod town;
+
+pub use town::example_history;
