@@ -1,5 +1,5 @@
 -- From what the machine decides for a caller, and what its keeper does, to the answer to a request.
-use Rattle.std.proofs.Common.{◌≡◌, ℕ, ◌+◌, ◌<◌, ◌≤◌, List, [], ◌∷◌, ◌++◌, length, Option, Some, None, Result, Ok, Err, inl, inr, refl, sym, subst, ap, ◌∙◌, arith}
+use Rattle.std.proofs.Common.{◌≡◌, ℕ, ◌+◌, ◌<◌, ◌≤◌, List, [], ◌∷◌, ◌++◌, length, Bool, false, Option, Some, None, Result, Ok, Err, Vec, IfOk, OnErr, inl, inr, refl, sym, subst, ap, ◌∙◌, arith}
 use Rattle.fedi_core.specs.Keeping.{IsKept, Refuses}
 use Rattle.fedi_core.specs.declared.keeping.KeepFault.TheVariants as faults
 use Rattle.fedi_entry.specs.Codes.{code_of}
@@ -20,11 +20,12 @@ use Rattle.fedi_model.specs.Answers.{AgreeFor, AgreeOn, Answers, AnswersTo, call
 use Rattle.fedi_model.specs.Cleanness.{IsCleanBody}
 use Rattle.fedi_model.specs.Histories.{town}
 use Rattle.fedi_model.specs.Refusing.{refused}
+use Rattle.fedi_model.specs.ReplyText.{reply_text}
 use Rattle.fedi_model.specs.Replies.{entry_of, reply}
 use Rattle.fedi_model.specs.Routes.{Asks}
 use Rattle.fedi_model.specs.Towns.{Town}
 use Rattle.fedi_program.specs.Conversations.{IsPrivateReply, IsReply, Settles}
-use Rattle.fedi_program.specs.Endings.{IsTurn, IsUnanswered}
+use Rattle.fedi_program.specs.Endings.{IsAnswerText, IsTurn, IsUnanswered}
 
 -- ---- who may not be taken for a caller
 
@@ -169,3 +170,30 @@ pub failed_untold : (growth room : ℕ → ℕ) (before after : State) (moment :
     → IsUnanswered growth room before after moment q body
 failed_untold growth room before after moment q body c ask r e d same k =
     inr (e, failed_reply room before moment q body c ask r e after d k, failed_follows growth room before after e same k)
+
+-- ---- texts
+
+-- the text, if there was memory for it, is that of a turn's reply
+pub texted : {A E : Type 0} (growth room : ℕ → ℕ) (before after : State) (moment : ℕ) (q : Request) (body : List ℕ) (closing : Bool) (given : Reply) (r : Result (Vec ℕ A) E)
+    → IsTurn growth room before after moment q body given → IfOk r (λ t. t.items ≡ reply_text moment false closing given)
+    → IfOk r (λ t. IsAnswerText growth room before after moment q body closing t.items)
+texted growth room before after moment q body closing given (Ok t) turn is = (given, turn, is)
+texted growth room before after moment q body closing given (Err e) turn is = tt
+
+-- or, if there was none, nothing was kept
+pub untexted : {T E : Type 0} (growth room : ℕ → ℕ) (before after : State) (moment : ℕ) (q : Request) (body : List ℕ) (r : Result T E)
+    → IsUnanswered growth room before after moment q body → OnErr r (IsUnanswered growth room before after moment q body)
+untexted growth room before after moment q body (Ok t) u = tt
+untexted growth room before after moment q body (Err e) u = u
+
+-- what was decided, with the parts of the decision
+pub decided : (state : State) (moment : ℕ) (q : Request) (body : List ℕ) (caller : Result Caller Refusal) (c : Caller) (ask : Ask) (r : Reply) (made : Option Entry) (other : Option Entry)
+    → caller_of (town state.history) q body ≡ caller → caller ≡ Ok c → Asks q body ask → r ≡ reply (town state.history) c ask → made ≡ entry_of (town state.history) c ask moment
+    → made ≡ other → IsPrivate state.history c ask r → IsDecided state moment q body c ask r other
+decided state moment q body caller c ask r made other is ok asks reply_is made_is same private = record {
+  caller = is ∙ ok;
+  asks = asks;
+  reply_is = reply_is;
+  made_is = sym same ∙ made_is;
+  private = private;
+}

@@ -82,7 +82,7 @@ abbrev IsSameArrival : Result Request Refusal → Result Request Refusal → Lis
 IsSameArrival a b body text rest more = (a ≡ b) × (body ≡ text) × (rest ≡ more)
 
 -- what of an arrival is a request, and where its body stands
-request_in : Arrived → Request → Request
+abbrev request_in : Arrived → Request → Request
 request_in (arrivals.Request q start end) d = q
 request_in (arrivals.Refused e) d = d
 request_in arrivals.End d = d
@@ -90,7 +90,7 @@ request_in arrivals.CutShort d = d
 request_in arrivals.ReadFault d = d
 request_in arrivals.Memory d = d
 
-start_in : Arrived → ℕ
+abbrev start_in : Arrived → ℕ
 start_in (arrivals.Request q start end) = start
 start_in (arrivals.Refused e) = 0
 start_in arrivals.End = 0
@@ -98,7 +98,7 @@ start_in arrivals.CutShort = 0
 start_in arrivals.ReadFault = 0
 start_in arrivals.Memory = 0
 
-end_in : Arrived → ℕ
+abbrev end_in : Arrived → ℕ
 end_in (arrivals.Request q start end) = end
 end_in (arrivals.Refused e) = 0
 end_in arrivals.End = 0
@@ -106,7 +106,7 @@ end_in arrivals.CutShort = 0
 end_in arrivals.ReadFault = 0
 end_in arrivals.Memory = 0
 
-refusal_in : Arrived → Refusal → Refusal
+abbrev refusal_in : Arrived → Refusal → Refusal
 refusal_in (arrivals.Request q start end) d = d
 refusal_in (arrivals.Refused e) d = e
 refusal_in arrivals.End d = d
@@ -114,7 +114,7 @@ refusal_in arrivals.CutShort d = d
 refusal_in arrivals.ReadFault d = d
 refusal_in arrivals.Memory d = d
 
-is_request : Arrived → Bool
+abbrev is_request : Arrived → Bool
 is_request (arrivals.Request q start end) = true
 is_request (arrivals.Refused e) = false
 is_request arrivals.End = false
@@ -154,10 +154,10 @@ IsNoRefusal arrivals.Memory = Unit {0}
 -- where nothing more is answered, nothing arrives
 none_arrives : (left : List ℕ) (a : Result Request Refusal) (body rest : List ℕ) (b : Arrived) → is_request b ≡ false → IsNoRefusal b → TellsOfStream b
     → Arrives left a body rest → StandsAtFront left b → ⊥
-none_arrives left (Ok q) body rest b no none tells x y =
+none_arrives left (Ok q) body rest b other none tells x y =
     let same = same_at_front left (arrivals.Request q x.0 x.1) b x.2 y tt tells in
-    let clash : true ≡ false = ap is_request same ∙ no in cc
-none_arrives left (Err e) body rest b no none tells x y =
+    let clash : true ≡ false = ap is_request same ∙ other in cc
+none_arrives left (Err e) body rest b other none tells x y =
     let same : b ≡ arrivals.Refused e = sym (same_at_front left (arrivals.Refused e) b x.0 y tt tells) in
     subst (λ (z : Arrived). IsNoRefusal z) same none
 

@@ -111,7 +111,7 @@ replied w first before now log old pending p x closing ending is next same at st
 
 -- ---- a request
 
-asked : Request → List ℕ → List ℕ → Log → ℕ → Outcome → Reply → Exchange
+abbrev asked : Request → List ℕ → List ℕ → Log → ℕ → Outcome → Reply → Exchange
 asked q body rest log moment outcome r = record { arrived = Ok q; body = body; rest = rest; log = log; moment = moment; outcome = outcome; reply = r }
 
 -- the exchange of a request that was answered in one turn
@@ -203,7 +203,7 @@ unanswered_steps w before now state after_it log count old read pending q start 
 
 -- ---- what is refused
 
-turned_away : Refusal → List ℕ → Log → ℕ → Exchange
+abbrev turned_away : Refusal → List ℕ → Log → ℕ → Exchange
 turned_away e rest log moment = record { arrived = Err e; body = []; rest = rest; log = log; moment = moment; outcome = NoEntry; reply = refused e }
 
 pub refusal_steps : (w : Setting) (before now : Scene) (state : State) (log : Log) (count : ℕ) (old pending : List ℕ) (e : Refusal) (moment : ℕ) (text : List ℕ) (ending : Option SessionEnd)

@@ -1,19 +1,16 @@
 //! One connection, request by request (RFC 9112, section 9.3).
 
-ghost use Rattle.std.specs.Prelude.{◌≡◌, ◌≤◌, ◌<◌, ◌||◌, ◌-◌, ℕ, nat_le, not, IfSome, IfOk, MatchResult};
+ghost use Rattle.std.specs.Prelude.{◌≡◌, ◌||◌, ◌-◌, ℕ, nat_le, not, MatchResult};
 ghost use Rattle.fedi_log.specs.Keeping.{Holds, State, base_of, state_of};
 ghost use Rattle.fedi_log.specs.Log.{Log, given};
-ghost use Rattle.fedi_model.specs.Refusing.{refused};
-ghost use Rattle.fedi_model.specs.ReplyText.{reply_text};
-ghost use Rattle.fedi_outside.specs.Causes.{next_count};
 ghost use Rattle.fedi_program.specs.Conversations.{most_requests};
 ghost use Rattle.fedi_program.specs.Endings.{EndsSession, Exchanges, GivesUp, IsCaused, IsCounted, Replies, faults_of, output_by, scene_of, setting_of};
 
-use crate::answers::answer;
+use crate::answers::{answer, refusal_text};
 use crate::connection::Connection;
 use fedi_core::Core;
-use fedi_http::{Arrived, Buffer, memory_text, read_request, reply_bytes, send};
-use fedi_model::{Refusal, Request, refusal_reply};
+use fedi_http::{Arrived, Buffer, memory_text, read_request, send};
+use fedi_model::Request;
 use fedi_objects::Moment;
 use fedi_outside::{Clock, Failed, Keeper, Sink, Source};
 use std::alloc::{AllocError, Global};
@@ -66,14 +63,6 @@ fn send_reply<O: Sink>(
     }
 }
 
-/// The text of the reply to what is refused as no request. It closes the connection. The error is out
-/// of memory.
-fn refusal_text(alloc: Global, refusal: Refusal, moment: Moment) -> Result<Vec<u8>, AllocError>
-    ensures { IfOk result (λ text. text.items ≡ reply_text moment false true (refused refusal)) }
-{
-    reply_bytes(alloc, &refusal_reply(refusal), moment, false, true)
-}
-
 /// Whether a request is the last on its connection, after so many were served: it asks to close, or no
 /// more are served (RFC 9112, section 9.6).
 fn is_last(request: &Request, served: u64) -> bool
@@ -114,7 +103,7 @@ fn exchange<S: Source, O: Sink, P: Keeper, C: Clock>(
         }
         Arrived::Refused(refusal) => {
             let moment = Moment::clamped(connection.clock.now());
-            let text = refusal_text(alloc, refusal, moment);
+            let text = refusal_text(alloc, refusal, moment, true);
             send_reply(&mut connection.out, text, true)
         }
         Arrived::End => Some(SessionEnd::End),
