@@ -1,5 +1,4 @@
 pub mod Parts
 pub mod Public
 pub mod Audience
-pub mod Texts
 pub mod Urls

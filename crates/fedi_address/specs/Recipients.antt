@@ -8,6 +8,10 @@ use Rattle.fedi_address.specs.Iris.{public_iri}
 unfoldable pub is_among : List ℕ → List (List ℕ) → Bool
 is_among text texts = list_any (λ u. bytes_eq u text) texts
 
+-- no recipient
+abbrev pub nobody : Recipients
+nobody = record { to = []; cc = []; bto = []; bcc = []; audience = [] }
+
 -- all five fields, one after another
 abbrev pub all_of : Recipients → List (List ℕ)
 all_of r = r.to ++ (r.cc ++ (r.bto ++ (r.bcc ++ r.audience)))

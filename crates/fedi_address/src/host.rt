@@ -6,12 +6,17 @@ ghost use Rattle.fedi_address.specs.Hosts.{address, IsHost};
 ghost use Rattle.fedi_address.specs.Hosts as hosts;
 ghost use Rattle.fedi_address.specs.Names as names;
 ghost use Rattle.fedi_address.specs.Iris.{IsIri};
+ghost use Rattle.std.specs.Cmp.{partial_equiv_from_equiv};
+ghost use Rattle.std.specs.Cmp.Lexicographic.{nat_list_eq_equiv};
+ghost use Rattle.fedi_address.specs.declared.host.HostFault.TheVariants.{Memory};
 
 use crate::iri::is_normal;
 use std::alloc::{AllocError, Global};
 use std::marker::Model;
+use std::ops::DerefStr;
+use thiserror::Error;
 
-/// A host: 1 to 253 bytes of `a` to `z`, `0` to `9`, `.` and `-`, and where it has a port, `:` and
+/// A host: 1 to 253 bytes of `a` to `z`, `0` to `9`, `.` and `-`, and if it has a port, `:` and
 /// 1 to 5 digits. `https://HOST/` is its own normal text (URL Standard, 4.5), so that a number of a
 /// known port, as 443, and an address that is written in another way are no hosts.
 #[derive(Drop)]
@@ -28,16 +33,27 @@ impl Model for Host {
 
     ghost view = { λ a. string_bytes a.text };
 
-    ghost invariant = { λ a. IsHost (string_bytes a.text) × IsIri (address (string_bytes a.text) (codes "/")) };
+    ghost invariant = { λ a. IsHost (string_bytes a.text)
+        × IsIri (address (string_bytes a.text) (codes "/")) };
 }
 
 /// Why a text gives no host.
-#[derive(Clone, Copy, Debug, PartialEq, Eq)]
+#[derive(Clone, Copy, Debug, PartialEq, Eq, Error)]
 pub enum HostFault {
     /// The text is no host.
+    #[error("the text is no host")]
     BadHost,
-    /// Memory was wanted.
+    /// Out of memory.
+    #[error("out of memory")]
     Memory,
+}
+
+impl From<AllocError> for HostFault {
+    ghost from_gives = { λ _ fault. fault ≡ Memory };
+
+    fn from(_error: AllocError) -> HostFault {
+        HostFault::Memory
+    }
 }
 
 fn is_domain_byte(byte: u8) -> bool
@@ -99,8 +115,8 @@ pub(crate) fn address_text(alloc: Global, host: &str, path: &str) -> Result<Stri
 }
 
 impl Host {
-    /// The host with this text. `BadHost` where the text is no host, `Memory` where memory is
-    /// wanted.
+    /// The host with this text. The errors are `BadHost`, if the text is no host, and `Memory`, out
+    /// of memory.
     pub fn parse(alloc: Global, text: &str) -> Result<Host, HostFault>
         ensures ok { IfOk result (λ host. host ≡ text.now) }
         ensures host { IfOk result (λ host. IsHost host) }
@@ -109,16 +125,16 @@ impl Host {
         if !is_host_text(text) {
             return Err(HostFault::BadHost);
         }
-        let root = address_text(alloc, text, "/").map_err(|_| HostFault::Memory)?;
-        let own = is_normal(alloc, root.as_str()).map_err(|_| HostFault::Memory)?;
+        let root = address_text(alloc, text, "/")?;
+        let own = is_normal(alloc, root.as_str())?;
         if !own {
             return Err(HostFault::BadHost);
         }
-        let text = String::from_str(alloc, text).map_err(|_| HostFault::Memory)?;
+        let text = String::from_str(alloc, text)?;
         Ok(Host { text })
     }
 
-    /// The text of the host, with its port where it has one.
+    /// The text of the host, with its port if it has one.
     pub fn text(&self) -> &str
         ensures value { result.now ≡ self.now }
         ensures host { IsHost self.now }
@@ -131,14 +147,45 @@ impl Host {
     pub fn is(&self, other: &Host) -> bool
         ensures { result ≡ bytes_eq self.now other.now }
     {
-        self.text.as_str() == other.text.as_str()
+        self == other
     }
 
-    /// An equal host. The error is want of memory.
+    /// A copy. The error is out of memory.
     pub fn copy(&self) -> Result<Host, AllocError>
         ensures { IfOk result (λ host. host ≡ self.now) }
     {
-        let text = self.text.clone()?;
-        Ok(Host { text })
+        self.clone()
+    }
+}
+
+impl Clone for Host {
+    ghost is_clone = { λ host copy. copy ≡ host };
+
+    fn clone(&self) -> Result<Host, AllocError> {
+        Ok(Host {
+            text: self.text.clone()?,
+        })
+    }
+}
+
+impl PartialEq for Host {
+    ghost eq = { bytes_eq };
+
+    ghost laws = { partial_equiv_from_equiv nat_list_eq_equiv };
+
+    fn eq(&self, other: &Host) -> bool {
+        self.text.as_str() == other.text.as_str()
+    }
+}
+
+impl Eq for Host {
+    ghost laws = { nat_list_eq_equiv };
+}
+
+impl DerefStr for Host {
+    ghost deref_gives = { λ host text. text ≡ host };
+
+    fn deref(&self) -> &str {
+        self.text.as_str()
     }
 }

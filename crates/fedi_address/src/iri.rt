@@ -5,16 +5,21 @@ ghost use Rattle.std.specs.Prelude.{◌≢◌, true, false};
 ghost use Rattle.fedi_address.specs.Hosts.{address, is_plain_path};
 ghost use Rattle.fedi_address.specs.Iris.{IsIri, host_of, host_and_port, normal, path_and_query, target_of, public_iri, web_url};
 ghost use Rattle.fedi_address.specs.Iris as iris;
+ghost use Rattle.std.specs.Cmp.{partial_equiv_from_equiv};
+ghost use Rattle.std.specs.Cmp.Lexicographic.{nat_list_eq_equiv};
+ghost use Rattle.fedi_address.specs.declared.iri.IriFault.TheVariants.{Memory};
 ghost use Rattle.url.specs.Parts.{Parts};
 
 use crate::host::{Host, address_text};
 use crate::pieces::{after, after_any, before, from};
 use std::alloc::{AllocError, Global};
 use std::marker::Model;
+use std::ops::DerefStr;
+use thiserror::Error;
 use url::{ParseError, Url};
 
 /// An IRI: the normal text of an `http` or `https` URL (URL Standard, 4.4 and 4.5), of at most
-/// 2,048 bytes. Two IRIs are the same where their texts are.
+/// 2,048 bytes. Two IRIs are the same if their texts are.
 #[derive(Drop)]
 pub struct Iri {
     text: String,
@@ -32,14 +37,25 @@ impl Model for Iri {
 }
 
 /// Why a text gives no IRI.
-#[derive(Clone, Copy, Debug, PartialEq, Eq)]
+#[derive(Clone, Copy, Debug, PartialEq, Eq, Error)]
 pub enum IriFault {
     /// The text is no URL, or its scheme is neither `http` nor `https`.
+    #[error("the text is no http or https URL")]
     NotIri,
     /// The normal text has more than 2,048 bytes.
+    #[error("the normal text has more than 2,048 bytes")]
     TooLong,
-    /// Memory was wanted.
+    /// Out of memory.
+    #[error("out of memory")]
     Memory,
+}
+
+impl From<AllocError> for IriFault {
+    ghost from_gives = { λ _ fault. fault ≡ Memory };
+
+    fn from(_error: AllocError) -> IriFault {
+        IriFault::Memory
+    }
 }
 
 fn is_web(url: &Url) -> bool
@@ -49,7 +65,7 @@ fn is_web(url: &Url) -> bool
     scheme == "https" || scheme == "http"
 }
 
-// `url` answers that it had no room where memory is wanted, or where a text would have 4 GB.
+// `url` answers that it had no room if memory runs out, or if a text would have 4 GB.
 fn is_out_of_room(fault: &ParseError) -> bool
     ensures { result ≡ iris.is_out_of_room fault.now }
 {
@@ -91,7 +107,7 @@ fn after_slashes(text: &str) -> &str
     after(after(text, '/'), '/')
 }
 
-// Whether a text is its own normal text. The error is want of memory.
+// Whether a text is its own normal text. The error is out of memory.
 pub(crate) fn is_normal(alloc: Global, text: &str) -> Result<bool, AllocError>
     requires { length text.now ≤ 2048 }
     ensures iri { IfOk result (λ own. own ≡ true → IsIri text.now) }
@@ -112,25 +128,27 @@ impl Iri {
     /// The text of the IRI that stands for everyone (W3C ActivityPub, 5.6).
     pub const PUBLIC: &'static str = "https://www.w3.org/ns/activitystreams#Public";
 
-    /// The IRI that the text is read as, with no base (URL Standard, 4.4). `NotIri` where it is no
-    /// URL or its scheme is neither `http` nor `https`, `TooLong` where its normal text has more
-    /// than 2,048 bytes, `Memory` where memory is wanted.
+    /// The IRI that the text is read as, with no base (URL Standard, 4.4).
+    ///
+    /// The errors are `NotIri`, if the text is no URL or its scheme is neither `http` nor `https`,
+    /// `TooLong`, if its normal text has more than 2,048 bytes, and `Memory`, out of memory.
     #[tactic(auto, unfolding(crate::specs::Iris::normal))]
     pub fn parse(alloc: Global, text: &str) -> Result<Iri, IriFault>
         ensures ok { IfOk result (λ iri. normal text.now ≡ Some iri) }
         ensures short { IfOk result (λ iri. length iri ≤ 2048) }
         ensures not_iri { IfErr result (λ e. e ≡ IriFault.NotIri → normal text.now ≡ None) }
-        ensures too_long { IfErr result (λ e. e ≡ IriFault.TooLong → (long : List ℕ) × (normal text.now ≡ Some long) × (2048 < length long)) }
+        ensures too_long { IfErr result (λ e. e ≡ IriFault.TooLong
+            → (long : List ℕ) × (normal text.now ≡ Some long) × (2048 < length long)) }
     {
         let url = web_address(alloc, text)?;
         if url.as_str().len() > Self::LONGEST {
             return Err(IriFault::TooLong);
         }
-        let text = String::from_str(alloc, url.as_str()).map_err(|_| IriFault::Memory)?;
+        let text = String::from_str(alloc, url.as_str())?;
         Ok(Iri { text })
     }
 
-    /// The IRI of a plain path at a host: `https://`, the host and the path. The error is want of
+    /// The IRI of a plain path at a host: `https://`, the host and the path. The error is out of
     /// memory.
     pub fn at(alloc: Global, host: &Host, path: &str) -> Result<Iri, AllocError>
         requires { IsTrue (is_plain_path path.now) }
@@ -142,7 +160,7 @@ impl Iri {
         Ok(Iri { text })
     }
 
-    /// The IRI that stands for everyone (W3C ActivityPub, 5.6). The error is want of memory.
+    /// The IRI that stands for everyone (W3C ActivityPub, 5.6). The error is out of memory.
     pub fn public(alloc: Global) -> Result<Iri, AllocError>
         ensures { IfOk result (λ iri. iri ≡ public_iri) }
     {
@@ -160,11 +178,12 @@ impl Iri {
         self.text.as_str()
     }
 
-    /// The host, with the port where there is one. User information is no part of it.
+    /// The host, with the port if there is one. User information is no part of it.
     #[tactic(auto, unfolding(crate::specs::Iris::host_of))]
     pub fn host(&self) -> &str
         ensures value { result.now ≡ host_of self.now }
-        ensures of_url { (url : Parts) → web_url self.now ≡ Some url → result.now ≡ host_and_port url }
+        ensures of_url { (url : Parts) → web_url self.now ≡ Some url
+            → result.now ≡ host_and_port url }
     {
         let onward = after_slashes(self.text.as_str());
         after_any(before(onward, '/'), '@')
@@ -174,7 +193,8 @@ impl Iri {
     #[tactic(auto, unfolding(crate::specs::Iris::target_of))]
     pub fn target(&self) -> &str
         ensures value { result.now ≡ target_of self.now }
-        ensures of_url { (url : Parts) → web_url self.now ≡ Some url → result.now ≡ path_and_query url }
+        ensures of_url { (url : Parts) → web_url self.now ≡ Some url
+            → result.now ≡ path_and_query url }
     {
         let onward = after_slashes(self.text.as_str());
         before(from(onward, '/'), '#')
@@ -184,14 +204,45 @@ impl Iri {
     pub fn is(&self, other: &Iri) -> bool
         ensures { result ≡ bytes_eq self.now other.now }
     {
-        self.text.as_str() == other.text.as_str()
+        self == other
     }
 
-    /// An equal IRI. The error is want of memory.
+    /// A copy. The error is out of memory.
     pub fn copy(&self) -> Result<Iri, AllocError>
         ensures { IfOk result (λ iri. iri ≡ self.now) }
     {
-        let text = self.text.clone()?;
-        Ok(Iri { text })
+        self.clone()
+    }
+}
+
+impl Clone for Iri {
+    ghost is_clone = { λ iri copy. copy ≡ iri };
+
+    fn clone(&self) -> Result<Iri, AllocError> {
+        Ok(Iri {
+            text: self.text.clone()?,
+        })
+    }
+}
+
+impl PartialEq for Iri {
+    ghost eq = { bytes_eq };
+
+    ghost laws = { partial_equiv_from_equiv nat_list_eq_equiv };
+
+    fn eq(&self, other: &Iri) -> bool {
+        self.text.as_str() == other.text.as_str()
+    }
+}
+
+impl Eq for Iri {
+    ghost laws = { nat_list_eq_equiv };
+}
+
+impl DerefStr for Iri {
+    ghost deref_gives = { λ iri text. text ≡ iri };
+
+    fn deref(&self) -> &str {
+        self.text.as_str()
     }
 }

@@ -1,14 +1,15 @@
-//! Lists that hide how they are kept.
+//! Lists whose capacity no clause sees.
 
 ghost use Rattle.std.specs.Prelude.{◌≡◌, ◌==◌, [], ◌∷◌, ◌++◌, length, OnOk, OnErr};
 
 use std::alloc::{AllocError, Global};
 use std::marker::Model;
+use std::ops::DerefSlice;
 
 /// A list. It is made from a `Vec` and gives it back without taking memory.
 #[derive(Drop)]
 pub struct Items<T> {
-    kept: Vec<T>,
+    values: Vec<T>,
 }
 
 impl<T> Model for Items<T> {
@@ -16,7 +17,7 @@ impl<T> Model for Items<T> {
 
     ghost Value = { List T };
 
-    ghost view = { λ a. a.kept.items };
+    ghost view = { λ a. a.values.items };
 }
 
 impl<T> Items<T> {
@@ -24,7 +25,7 @@ impl<T> Items<T> {
     pub fn new(values: Vec<T>) -> Self
         ensures { result ≡ values.items }
     {
-        Items { kept: values }
+        Items { values }
     }
 
     /// A list without values. It takes no memory.
@@ -32,7 +33,7 @@ impl<T> Items<T> {
         ensures { result ≡ [] }
     {
         Items {
-            kept: Vec::new(alloc),
+            values: Vec::new(alloc),
         }
     }
 
@@ -40,54 +41,75 @@ impl<T> Items<T> {
     pub fn len(&self) -> usize
         ensures { result ≡ length self.now }
     {
-        self.kept.len()
+        self.values.len()
     }
 
     /// Whether the list has no value.
     pub fn is_empty(&self) -> bool
         ensures { result ≡ (length self.now == 0) }
     {
-        self.kept.is_empty()
+        self.values.is_empty()
     }
 
     /// The values, in order.
     pub fn as_slice(&self) -> &[T]
         ensures { result.now ≡ self.now }
     {
-        self.kept.as_slice()
+        self.values.as_slice()
     }
 
-    /// Adds a value at the end. Where memory is wanted the list is as before, and the value is let
-    /// go.
+    /// Appends a value. Out of memory the list is as before, and the value is dropped.
     pub fn push(&mut self, value: T) -> Result<(), AllocError>
     where
         T: Drop,
         ensures ok { OnOk result (self.new ≡ self.old ++ value ∷ []) }
         ensures err { OnErr result (self.new ≡ self.old) }
     {
-        self.kept.push(value)?;
+        self.values.push(value)?;
         Ok(())
     }
 
-    /// Lets each value go. The room stays.
+    /// Clears the list and keeps its capacity.
     pub fn clear(&mut self)
     where
         T: Drop,
         ensures { self.new ≡ [] }
     {
-        self.kept.clear();
+        self.values.clear();
     }
 
     /// The allocator that the list takes its memory from.
     pub fn allocator(&self) -> Global {
-        *self.kept.allocator()
+        *self.values.allocator()
     }
 
-    /// The values again.
+    /// The list as a `Vec`. It takes no memory.
     pub fn into_vec(self) -> Vec<T>
         ensures { result.items ≡ self }
     {
-        let Items { kept } = self;
-        kept
+        let Items { values } = self;
+        values
+    }
+}
+
+// If each value's clone is equal to it, the list's clone is equal to the list.
+impl<T: Clone + Drop> Clone for Items<T> {
+    ghost is_clone = { λ xs ys. ((x y : T) → T.is_clone x y → y ≡ x) → ys ≡ xs };
+
+    #[tactic(auto, using(std::proofs::lemmas::List::Elements::same_from_all_zip))]
+    fn clone(&self) -> Result<Items<T>, AllocError> {
+        Ok(Items {
+            values: self.values.clone()?,
+        })
+    }
+}
+
+impl<T> DerefSlice for Items<T> {
+    type Elem = T;
+
+    ghost deref_gives = { λ list values. values ≡ list };
+
+    fn deref(&self) -> &[T] {
+        self.values.as_slice()
     }
 }

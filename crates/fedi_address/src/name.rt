@@ -4,25 +4,29 @@ ghost use Rattle.std.specs.Prelude.{◌≡◌, IsTrue, IsSome, IfSome, ◌↔◌
 ghost use Rattle.std.specs.List.{list_all};
 ghost use Rattle.fedi_address.specs.Names.{is_name};
 ghost use Rattle.fedi_address.specs.Names as names;
+ghost use Rattle.std.specs.Cmp.{partial_equiv_from_equiv};
+ghost use Rattle.std.specs.Cmp.Lexicographic.{nat_list_eq_equiv};
 
+use arrayvec::ArrayString;
+use std::alloc::AllocError;
 use std::marker::Model;
+use std::ops::DerefStr;
 
-/// The name of a member: 1 to 30 bytes of `a` to `z`, `0` to `9` and `_`.
+/// The name of a member: 1 to 30 bytes of `a` to `z`, `0` to `9` and `_`. It takes no memory.
 #[derive(Drop)]
 pub struct LocalName {
-    bytes: [u8; 30],
-    len: u8,
+    text: ArrayString<30>,
 }
 
 impl Model for LocalName {
-    ghost use Rattle.std.specs.Prelude.{◌≡◌, ◌≤◌, ℕ, List, take, IsTrue};
+    ghost use Rattle.std.specs.Prelude.{ℕ, List, IsTrue};
     ghost use Rattle.fedi_address.specs.Names.{is_name};
 
     ghost Value = { List ℕ };
 
-    ghost view = { λ a. take a.len a.bytes };
+    ghost view = { λ a. a.text.bytes };
 
-    ghost invariant = { λ a. (a.len ≤ 30) × IsTrue (is_name (take a.len a.bytes)) };
+    ghost invariant = { λ a. IsTrue (is_name a.text.bytes) };
 }
 
 fn is_name_byte(byte: u8) -> bool
@@ -50,22 +54,17 @@ impl LocalName {
     /// The longest name, in bytes.
     pub const LONGEST: usize = 30;
 
-    /// The name with this text. `None` where the text is not 1 to 30 bytes of `a` to `z`, `0` to
-    /// `9` and `_`. It takes no memory.
+    /// The name with this text. `None` if the text is not 1 to 30 bytes of `a` to `z`, `0` to `9`
+    /// and `_`.
     pub fn parse(text: &str) -> Option<LocalName>
         ensures name { IsSome result ↔ IsTrue (is_name text.now) }
         ensures same { IfSome result (λ name. name ≡ text.now) }
     {
-        let given = text.as_bytes();
-        if !is_name(given) {
+        if !is_name(text.as_bytes()) {
             return None;
         }
-        let mut bytes = [0; 30];
-        bytes[..given.len()].copy_from_slice(given);
-        Some(LocalName {
-            bytes,
-            len: given.len() as u8,
-        })
+        let text = ArrayString::from(text).ok()?;
+        Some(LocalName { text })
     }
 
     /// The text of the name.
@@ -73,25 +72,50 @@ impl LocalName {
         ensures value { result.now ≡ self.now }
         ensures name { IsTrue (is_name self.now) }
     {
-        let bytes = &self.bytes[..self.len as usize];
-        // A name is ASCII, so its bytes are UTF-8.
-        unsafe { str::from_utf8_unchecked(bytes) }
+        self.text.as_str()
     }
 
     /// Whether the two names have the same text.
     pub fn is(&self, other: &LocalName) -> bool
         ensures { result ≡ bytes_eq self.now other.now }
     {
-        self.text() == other.text()
+        self == other
     }
 
-    /// An equal name.
+    /// A copy. It takes no memory.
     pub fn copy(&self) -> LocalName
         ensures { result ≡ self.now }
     {
-        LocalName {
-            bytes: self.bytes,
-            len: self.len,
-        }
+        LocalName { text: self.text }
+    }
+}
+
+impl Clone for LocalName {
+    ghost is_clone = { λ name copy. copy ≡ name };
+
+    fn clone(&self) -> Result<LocalName, AllocError> {
+        Ok(LocalName { text: self.text })
+    }
+}
+
+impl PartialEq for LocalName {
+    ghost eq = { bytes_eq };
+
+    ghost laws = { partial_equiv_from_equiv nat_list_eq_equiv };
+
+    fn eq(&self, other: &LocalName) -> bool {
+        self.text.as_str() == other.text.as_str()
+    }
+}
+
+impl Eq for LocalName {
+    ghost laws = { nat_list_eq_equiv };
+}
+
+impl DerefStr for LocalName {
+    ghost deref_gives = { λ name text. text ≡ name };
+
+    fn deref(&self) -> &str {
+        self.text.as_str()
     }
 }

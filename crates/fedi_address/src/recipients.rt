@@ -5,7 +5,7 @@ ghost use Rattle.fedi_address.specs.Recipients as recipients;
 
 use crate::iri::Iri;
 use crate::items::Items;
-use std::alloc::AllocError;
+use std::alloc::{AllocError, Global};
 
 /// To whom an activity or an object is addressed: the five fields for audience targeting (Activity
 /// Vocabulary, 4; W3C ActivityPub, 6).
@@ -31,31 +31,20 @@ pub fn is_among(text: &str, iris: &[Iri]) -> bool
     iris.iter().any(|iri| iri.text() == text)
 }
 
-// An equal list.
-fn copy_list(list: &Items<Iri>) -> Result<Items<Iri>, AllocError>
-    ensures { IfOk result (λ copied. copied ≡ list.now) }
-{
-    let iris = list.as_slice();
-    let mut copied = Vec::with_capacity(list.allocator(), iris.len())?;
-    for iri in iris {
-        copied.push(iri.copy()?)?;
-    }
-    Ok(Items::new(copied))
-}
-
-// Two equal lists.
-fn copy_both(
-    first: &Items<Iri>,
-    second: &Items<Iri>,
-) -> Result<(Items<Iri>, Items<Iri>), AllocError>
-    ensures { IfOk result (λ both. both ≡ (first.now, second.now)) }
-{
-    let first = copy_list(first)?;
-    let second = copy_list(second)?;
-    Ok((first, second))
-}
-
 impl Recipients {
+    /// No recipient. It takes no memory.
+    pub fn empty(alloc: Global) -> Recipients
+        ensures { result ≡ recipients.nobody }
+    {
+        Recipients {
+            to: Items::empty(alloc),
+            cc: Items::empty(alloc),
+            bto: Items::empty(alloc),
+            bcc: Items::empty(alloc),
+            audience: Items::empty(alloc),
+        }
+    }
+
     /// How many recipients the five fields have together.
     pub fn count(&self) -> usize
         ensures { result ≡ length (recipients.all_of self.now) }
@@ -85,11 +74,11 @@ impl Recipients {
     fn has(&self, text: &str) -> bool
         ensures { result ≡ recipients.names self.now text.now }
     {
-        is_among(text, self.to.as_slice())
-            || is_among(text, self.cc.as_slice())
-            || is_among(text, self.bto.as_slice())
-            || is_among(text, self.bcc.as_slice())
-            || is_among(text, self.audience.as_slice())
+        is_among(text, &self.to)
+            || is_among(text, &self.cc)
+            || is_among(text, &self.bto)
+            || is_among(text, &self.bcc)
+            || is_among(text, &self.audience)
     }
 
     /// The same recipients without `bto` and `bcc` (W3C ActivityPub, 6 and 7).
@@ -102,19 +91,24 @@ impl Recipients {
         left
     }
 
-    /// Equal recipients. The error is want of memory.
+    /// A copy. The error is out of memory.
     pub fn copy(&self) -> Result<Recipients, AllocError>
         ensures { IfOk result (λ copied. copied ≡ self.now) }
     {
-        let (to, cc) = copy_both(&self.to, &self.cc)?;
-        let (bto, bcc) = copy_both(&self.bto, &self.bcc)?;
-        let audience = copy_list(&self.audience)?;
+        self.clone()
+    }
+}
+
+impl Clone for Recipients {
+    ghost is_clone = { λ recipients copy. copy ≡ recipients };
+
+    fn clone(&self) -> Result<Recipients, AllocError> {
         Ok(Recipients {
-            to,
-            cc,
-            bto,
-            bcc,
-            audience,
+            to: self.to.clone()?,
+            cc: self.cc.clone()?,
+            bto: self.bto.clone()?,
+            bcc: self.bcc.clone()?,
+            audience: self.audience.clone()?,
         })
     }
 }

@@ -63,9 +63,9 @@ fn no_iris(rt: HostRuntime) {
 }
 
 fn iri_of_length(alloc: Global, length: usize) -> Result<Iri, IriFault> {
-    let mut text = String::from_str(alloc, "https://h/").map_err(|_| IriFault::Memory)?;
+    let mut text = String::from_str(alloc, "https://h/")?;
     for _ in 10..length {
-        text.push('a').map_err(|_| IriFault::Memory)?;
+        text.push('a')?;
     }
     Iri::parse(alloc, text.as_str())
 }
@@ -80,9 +80,7 @@ fn longest_iri(rt: HostRuntime) {
 }
 
 fn has_paths(rt: &impl Abort, alloc: Global, host: &Host) -> Result<(), AllocError> {
-    let copied = host.copy()?;
-    assert!(rt; copied.is(host));
-    let iri = Iri::at(alloc, &copied, "/users/ann/a/7")?;
+    let iri = Iri::at(alloc, host, "/users/ann/a/7")?;
     assert_eq!(rt; iri.host(), host.text());
     assert_eq!(rt; iri.target(), "/users/ann/a/7");
     Ok(())
@@ -126,10 +124,10 @@ fn no_hosts(rt: HostRuntime) {
 }
 
 #[test]
-fn member_names(rt: HostRuntime) {
+fn member_names(rt: HostRuntime) -> Result<(), Fail> {
     for text in ["a", "ann_2", "abcdefghijklmnopqrstuvwxyz0123"] {
         let name = LocalName::parse(text).expect(&rt, text);
-        assert!(rt; name.is(&name.copy()) && name.text() == text);
+        assert!(rt; name.clone()? == name && name.text() == text);
     }
     for text in [
         "",
@@ -140,25 +138,16 @@ fn member_names(rt: HostRuntime) {
     ] {
         assert!(rt; LocalName::parse(text).is_none(), "{text}");
     }
-}
-
-fn hidden_to_everyone(alloc: Global) -> Result<Recipients, AllocError> {
-    let mut bcc = Items::empty(alloc);
-    bcc.push(Iri::public(alloc)?)?;
-    Ok(Recipients {
-        to: Items::empty(alloc),
-        cc: Items::empty(alloc),
-        bto: Items::empty(alloc),
-        bcc,
-        audience: Items::empty(alloc),
-    })
+    Ok(())
 }
 
 #[test]
 fn audience(rt: HostRuntime) -> Result<(), Fail> {
-    let copied = hidden_to_everyone(rt.alloc())?.copy()?;
-    assert!(rt; copied.is_public());
-    assert_eq!(rt; copied.count(), 1);
-    assert_eq!(rt; copied.strip().count(), 0);
+    let mut recipients = Recipients::empty(rt.alloc());
+    recipients.bcc.push(Iri::public(rt.alloc())?)?;
+    let recipients = recipients.clone()?;
+    assert!(rt; recipients.is_public());
+    assert_eq!(rt; recipients.count(), 1);
+    assert_eq!(rt; recipients.strip().count(), 0);
     Ok(())
 }

@@ -16,8 +16,8 @@ abbrev pub host : List ℕ
 host = codes "club.example"
 
 -- a member that is made
-abbrev pub made : List ℕ → List ℕ → Bool → Entry
-made name digest locked = Made name digest locked SECONDS
+abbrev pub member : List ℕ → List ℕ → Bool → Entry
+member name digest locked = Made name digest locked SECONDS
 
 -- a note as a client's Create leaves it: its content, and to whom it goes (Activity Vocabulary, section 3.3)
 abbrev pub note : List ℕ → Recipients → Object
@@ -56,8 +56,8 @@ creation content r = record {
 }
 
 -- ana posts a note
-abbrev pub posted : List ℕ → Recipients → Entry
-posted content r = Local (codes "ana") None (creation content r) SECONDS
+abbrev pub post : List ℕ → Recipients → Entry
+post content r = Local (codes "ana") None (creation content r) SECONDS
 
 -- everybody
 abbrev pub to_public : Recipients
@@ -71,12 +71,12 @@ to_ben = record { to = []; cc = []; bto = []; bcc = actor_id host (codes "ben") 
 abbrev pub members : List Entry
 members =
     Hosted host SECONDS
-    ∷ made (codes "ana") ANA_DIGEST false
-    ∷ made (codes "ben") BEN_DIGEST false
-    ∷ made (codes "cleo") CLEO_DIGEST false
-    ∷ made (codes "dan") DAN_DIGEST true
+    ∷ member (codes "ana") ANA_DIGEST false
+    ∷ member (codes "ben") BEN_DIGEST false
+    ∷ member (codes "cleo") CLEO_DIGEST false
+    ∷ member (codes "dan") DAN_DIGEST true
     ∷ []
 
 -- and ana's two posts
 abbrev pub history : List Entry
-history = members ++ posted (codes "Hello") to_public ∷ posted (codes "Psst") to_ben ∷ []
+history = members ++ post (codes "Hello") to_public ∷ post (codes "Psst") to_ben ∷ []

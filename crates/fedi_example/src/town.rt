@@ -38,7 +38,7 @@ const DAN_DIGEST: [u8; 32] = [
 /// When all of it happened: 1994-11-06T08:49:37Z.
 const SECONDS: u64 = 784_111_777;
 
-fn club(alloc: Global) -> Result<Host, AllocError>
+fn host(alloc: Global) -> Result<Host, AllocError>
     ensures { IfOk result (λ host. host ≡ example.host) }
 {
     match Host::parse(alloc, "club.example") {
@@ -48,16 +48,15 @@ fn club(alloc: Global) -> Result<Host, AllocError>
     }
 }
 
-/// The member's name that this text is.
-pub fn named(text: &str) -> LocalName
+fn name_of(text: &str) -> LocalName
     requires { IsTrue (is_name text.now) }
     ensures { result ≡ text.now }
 {
     LocalName::parse(text).unwrap()
 }
 
-/// When the example town was made.
-pub fn now() -> Moment
+// When all of it happened.
+fn moment() -> Moment
     ensures { result ≡ SECONDS }
 {
     Moment::clamped(SECONDS)
@@ -66,22 +65,22 @@ pub fn now() -> Moment
 fn hosted(alloc: Global) -> Result<Entry, AllocError>
     ensures { IfOk result (λ e. e ≡ Hosted example.host SECONDS) }
 {
-    let host = club(alloc)?;
+    let host = host(alloc)?;
     Ok(Entry::Hosted {
         host,
-        moment: now(),
+        moment: moment(),
     })
 }
 
-fn made(name: &str, digest: &[u8; 32], locked: bool) -> Entry
+fn member(name: &str, digest: &[u8; 32], locked: bool) -> Entry
     requires { IsTrue (is_name name.now) }
-    ensures { result ≡ example.made name.now digest.now locked }
+    ensures { result ≡ example.member name.now digest.now locked }
 {
     Entry::Made {
-        name: named(name),
+        name: name_of(name),
         digest: *digest,
         locked,
-        moment: now(),
+        moment: moment(),
     }
 }
 
@@ -94,7 +93,7 @@ fn only(alloc: Global, iri: Iri) -> Result<Items<Iri>, AllocError>
     Ok(list)
 }
 
-/// What goes to everybody (ActivityPub, section 5.6).
+// What goes to everybody (ActivityPub, section 5.6).
 fn to_public(alloc: Global) -> Result<Recipients, AllocError>
     ensures { IfOk result (λ r. r ≡ example.to_public) }
 {
@@ -111,8 +110,8 @@ fn to_public(alloc: Global) -> Result<Recipients, AllocError>
 fn to_ben(alloc: Global) -> Result<Recipients, AllocError>
     ensures { IfOk result (λ r. r ≡ example.to_ben) }
 {
-    let host = club(alloc)?;
-    let ben = actor_iri(alloc, &host, &named("ben"))?;
+    let host = host(alloc)?;
+    let ben = actor_iri(alloc, &host, &name_of("ben"))?;
     let bcc = only(alloc, ben)?;
     Ok(Recipients {
         to: Items::empty(alloc),
@@ -146,7 +145,7 @@ fn note(alloc: Global, content: &str, recipients: Recipients) -> Result<Object, 
     })
 }
 
-/// The Create of a note with this content (ActivityPub, section 6.2). The error is want of memory.
+// The Create of a note with this content (ActivityPub, section 6.2).
 fn creation(alloc: Global, content: &str, recipients: Recipients) -> Result<Activity, AllocError>
     ensures { IfOk result (λ a. a ≡ example.creation content.now recipients) }
 {
@@ -167,15 +166,15 @@ fn creation(alloc: Global, content: &str, recipients: Recipients) -> Result<Acti
     })
 }
 
-fn posted(alloc: Global, content: &str, recipients: Recipients) -> Result<Entry, AllocError>
-    ensures { IfOk result (λ e. e ≡ example.posted content.now recipients) }
+fn post(alloc: Global, content: &str, recipients: Recipients) -> Result<Entry, AllocError>
+    ensures { IfOk result (λ e. e ≡ example.post content.now recipients) }
 {
     let activity = Boxed::new(alloc, creation(alloc, content, recipients)?)?;
     Ok(Entry::Local {
-        name: named("ana"),
+        name: name_of("ana"),
         repeat: None,
         activity,
-        moment: now(),
+        moment: moment(),
     })
 }
 
@@ -185,16 +184,16 @@ fn add_members(alloc: Global, history: &mut Vec<Entry>) -> Result<(), AllocError
     ensures { OnOk result (history.new.items ≡ example.members) }
 {
     history.push(hosted(alloc)?)?;
-    history.push(made("ana", &ANA_DIGEST, false))?;
-    history.push(made("ben", &BEN_DIGEST, false))?;
-    history.push(made("cleo", &CLEO_DIGEST, false))?;
-    history.push(made("dan", &DAN_DIGEST, true))?;
+    history.push(member("ana", &ANA_DIGEST, false))?;
+    history.push(member("ben", &BEN_DIGEST, false))?;
+    history.push(member("cleo", &CLEO_DIGEST, false))?;
+    history.push(member("dan", &DAN_DIGEST, true))?;
     Ok(())
 }
 
 /// The history of the example town, which is served as long as there are no stores: `club.example`
 /// with its members ana, ben, cleo and dan, and ana's two posts, `Hello` to everybody and `Psst` to
-/// ben alone. The keys of the members are 32 bytes 0, 1, 2 and 3. The error is want of memory.
+/// ben alone. The keys of the members are 32 bytes 0, 1, 2 and 3. The error is out of memory.
 #[tactic(auto, using(crate::proofs::ExampleTown::example_is_legal))]
 pub fn example_history(alloc: Global) -> Result<Vec<Entry>, AllocError>
     ensures exact { IfOk result (λ history. history.items ≡ example.history) }
@@ -202,7 +201,7 @@ pub fn example_history(alloc: Global) -> Result<Vec<Entry>, AllocError>
 {
     let mut history = Vec::new(alloc);
     add_members(alloc, &mut history)?;
-    history.push(posted(alloc, "Hello", to_public(alloc)?)?)?;
-    history.push(posted(alloc, "Psst", to_ben(alloc)?)?)?;
+    history.push(post(alloc, "Hello", to_public(alloc)?)?)?;
+    history.push(post(alloc, "Psst", to_ben(alloc)?)?)?;
     Ok(history)
 }

@@ -9,9 +9,11 @@ use Rattle.fedi_model.specs.declared.request.Request.{Request}
 use Rattle.fedi_model.specs.Requests.{ReadsAs}
 use Rattle.fedi_http.specs.declared.arrivals.Arrived.{Arrived}
 use Rattle.fedi_http.specs.declared.arrivals.Arrived.TheVariants as arrived
-use Rattle.fedi_http.specs.declared.heads.HeadRead.TheVariants.{TooLong}
-use Rattle.fedi_http.specs.Arrivals.{HasHead, IsWhole, HasPartOfBody, LacksRequest, IsRefused, IsArrival, IsBodyRead, OnInputEnd, OnFailedRead, TellsOfStream}
-use Rattle.fedi_http.specs.Heads.{head_end, IsHeadUpTo, LacksHead}
+use Rattle.fedi_http.specs.Arrivals.{HasHead, IsWhole, HasPartOfBody, LacksRequest, IsRefused, IsArrival, OnFailedRead, OnInputEnd, TellsOfStream, arrived_by, is_read_fault}
+use Rattle.fedi_http.specs.Heads.{head_end, HasLongHead, HasNoHead, LacksHead, OnEnd}
+use Rattle.fedi_http.specs.Moves.{StopsReading, is_fault}
+use Rattle.fedi_http.specs.declared.read_error.ReadError.{ReadError}
+use Rattle.fedi_http.specs.declared.read_error.ReadError.TheVariants as errors
 use Rattle.fedi_http.proofs.HeadLemmas.{is_head-append, slice_range-append}
 use Rattle.fedi_http.proofs.RequestLemmas.{reads_once}
 use Rattle.fedi_http.proofs.StreamLemmas.{stream-more, stream-end}
@@ -27,7 +29,7 @@ has_head-append limit most xs ys outcome end has = record {
   reads = subst (λ (text : List ℕ). ReadsAs most text outcome) (sym (slice_range-append xs ys has.start end (omega (arith, has.head.ordered)) has.head.within)) has.reads;
 }
 
-has_head_more : (limit most : ℕ) (xs ys : List ℕ) (outcome : Result Request Refusal) (end : ℕ) → StartsWith ys xs
+pub has_head_more : (limit most : ℕ) (xs ys : List ℕ) (outcome : Result Request Refusal) (end : ℕ) → StartsWith ys xs
     → HasHead limit most xs outcome end → HasHead limit most ys outcome end
 has_head_more limit most xs ys outcome end more has =
     let split : xs ++ drop (length xs) ys ≡ ys = ap (λ (front : List ℕ). front ++ drop (length xs) ys) (sym more) ∙ take-append-drop (length xs) ys in
@@ -40,7 +42,7 @@ whole-append limit most xs ys q body end whole = record {
   within = omega (arith, whole.within, length-append xs ys);
 }
 
-too_long-append : (limit : ℕ) (xs ys : List ℕ) → IsHeadUpTo limit xs TooLong → IsHeadUpTo limit (xs ++ ys) TooLong
+too_long-append : (limit : ℕ) (xs ys : List ℕ) → HasLongHead limit xs → HasLongHead limit (xs ++ ys)
 too_long-append limit xs ys long = (omega (arith, long.0, length-append xs ys), ap head_end (take-append-le limit xs ys long.0) ∙ long.1)
 
 refused-append : (limit most : ℕ) (xs ys : List ℕ) (e : Refusal) → IsRefused limit most xs e → IsRefused limit most (xs ++ ys) e
@@ -62,42 +64,66 @@ told_arrival limit most pending left arrived.Memory is at_end = stream-more (λ 
 
 -- ---- the body
 
-part_of_body : (limit most : ℕ) (bytes : List ℕ) (q : Request) (body : ℕ) → HasHead limit most bytes (Ok q) body → length bytes < body + q.body_length
+pub part_of_body : (limit most : ℕ) (bytes : List ℕ) (q : Request) (body : ℕ) → HasHead limit most bytes (Ok q) body → length bytes < body + q.body_length
     → HasPartOfBody limit most bytes
 part_of_body limit most bytes q body has short = record { request = q; body = body; head = has; short = short }
 
-some_byte : (limit most : ℕ) (bytes : List ℕ) (outcome : Result Request Refusal) (end : ℕ) → HasHead limit most bytes outcome end → 0 < length bytes
+pub some_byte : (limit most : ℕ) (bytes : List ℕ) (outcome : Result Request Refusal) (end : ℕ) → HasHead limit most bytes outcome end → 0 < length bytes
 some_byte limit most bytes outcome end has = omega (arith, has.head.ordered, has.head.within)
 
--- what became of the body behind a head is what arrived
-pub body_arrival : (limit most : ℕ) (xs ys : List ℕ) (q : Request) (body : ℕ) (a : Arrived) → StartsWith ys xs → HasHead limit most xs (Ok q) body
-    → IsBodyRead q body ys a → IsArrival limit most ys a
-body_arrival limit most xs ys q body (arrived.Request r from end) more has read =
-    let here : HasHead limit most ys (Ok q) body = has_head_more limit most xs ys (Ok q) body more has in
-    let ends : end ≡ from + r.body_length = cc (read.0, read.1, read.2) in
-    record {
-      head = subst (λ (p : Request). HasHead limit most ys (Ok p) from) (sym read.0) (subst (HasHead limit most ys (Ok q)) (sym read.1) here);
-      ends = ends;
-      within = read.3;
-    }
-body_arrival limit most xs ys q body arrived.End more has read = absurd read
-body_arrival limit most xs ys q body arrived.CutShort more has read =
-    let here : HasHead limit most ys (Ok q) body = has_head_more limit most xs ys (Ok q) body more has in
-    (some_byte limit most ys (Ok q) body here, inr (part_of_body limit most ys q body here read))
-body_arrival limit most xs ys q body (arrived.Refused e) more has read = absurd read
-body_arrival limit most xs ys q body arrived.ReadFault more has read = tt
-body_arrival limit most xs ys q body arrived.Memory more has read = tt
+-- the same, by what was moved
+pub told_by : (limit most : ℕ) (before pending : List ℕ) (old left : Option (List ℕ)) (a : Arrived) → prepend_known pending left ≡ prepend_known before old
+    → IsArrival limit most pending a → OnInputEnd a (IsAtEnd left) → IfSome (prepend_known before old) (λ stream. IsArrival limit most stream a)
+told_by limit most before pending old left a stream is at_end =
+    subst (λ (known : Option (List ℕ)). IfSome known (λ s. IsArrival limit most s a)) stream (told_arrival limit most pending left a is at_end)
 
--- where a read of it failed, it is not there whole
-pub body_stopped : (limit most : ℕ) (xs ys : List ℕ) (q : Request) (body : ℕ) (a : Arrived) → StartsWith ys xs → HasHead limit most xs (Ok q) body
-    → IsBodyRead q body ys a → OnFailedRead a (LacksRequest limit most ys)
-body_stopped limit most xs ys q body (arrived.Request r from end) more has read = tt
-body_stopped limit most xs ys q body arrived.End more has read = tt
-body_stopped limit most xs ys q body arrived.CutShort more has read = tt
-body_stopped limit most xs ys q body (arrived.Refused e) more has read = tt
-body_stopped limit most xs ys q body arrived.ReadFault more has read =
-    inr (part_of_body limit most ys q body (has_head_more limit most xs ys (Ok q) body more has) read)
-body_stopped limit most xs ys q body arrived.Memory more has read = tt
+-- ---- no head, or not all of the body
+
+-- what arrived where no head was read
+pub no_head_arrives : (limit most : ℕ) (bytes : List ℕ) (e : ReadError) → HasNoHead limit bytes e → IsArrival limit most bytes (arrived_by e)
+no_head_arrives limit most bytes errors.End h = h
+no_head_arrives limit most bytes errors.CutShort h = (h.0, inl h.1)
+no_head_arrives limit most bytes (errors.Refused refusal) h = inr h
+no_head_arrives limit most bytes errors.ReadFault h = tt
+no_head_arrives limit most bytes errors.Memory h = tt
+
+pub no_head_stopped : (limit most : ℕ) (bytes : List ℕ) (e : ReadError) → HasNoHead limit bytes e → OnFailedRead (arrived_by e) (LacksRequest limit most bytes)
+no_head_stopped limit most bytes errors.End h = tt
+no_head_stopped limit most bytes errors.CutShort h = tt
+no_head_stopped limit most bytes (errors.Refused refusal) h = tt
+no_head_stopped limit most bytes errors.ReadFault h = inl h
+no_head_stopped limit most bytes errors.Memory h = tt
+
+pub short_arrives : (limit most : ℕ) (bytes : List ℕ) (q : Request) (body : ℕ) (e : ReadError) → HasHead limit most bytes (Ok q) body
+    → length bytes < body + q.body_length → StopsReading e → IsArrival limit most bytes (arrived_by e)
+short_arrives limit most bytes q body errors.End has short stops = absurd stops
+short_arrives limit most bytes q body errors.CutShort has short stops =
+    (some_byte limit most bytes (Ok q) body has, inr (part_of_body limit most bytes q body has short))
+short_arrives limit most bytes q body (errors.Refused refusal) has short stops = absurd stops
+short_arrives limit most bytes q body errors.ReadFault has short stops = tt
+short_arrives limit most bytes q body errors.Memory has short stops = tt
+
+pub short_stopped : (limit most : ℕ) (bytes : List ℕ) (q : Request) (body : ℕ) (e : ReadError) → HasHead limit most bytes (Ok q) body
+    → length bytes < body + q.body_length → OnFailedRead (arrived_by e) (LacksRequest limit most bytes)
+short_stopped limit most bytes q body errors.End has short = tt
+short_stopped limit most bytes q body errors.CutShort has short = tt
+short_stopped limit most bytes q body (errors.Refused refusal) has short = tt
+short_stopped limit most bytes q body errors.ReadFault has short = inr (part_of_body limit most bytes q body has short)
+short_stopped limit most bytes q body errors.Memory has short = tt
+
+pub error_ended : (e : ReadError) (P : Type 0) → OnEnd e P → OnInputEnd (arrived_by e) P
+error_ended errors.End P h = h
+error_ended errors.CutShort P h = h
+error_ended (errors.Refused refusal) P h = tt
+error_ended errors.ReadFault P h = tt
+error_ended errors.Memory P h = tt
+
+pub fault-is : (e : ReadError) → is_read_fault (arrived_by e) ≡ is_fault e
+fault-is errors.End = refl
+fault-is errors.CutShort = refl
+fault-is (errors.Refused refusal) = refl
+fault-is errors.ReadFault = refl
+fault-is errors.Memory = refl
 
 -- ---- one thing arrives
 
@@ -115,7 +141,7 @@ head_not_lacking limit most bytes outcome end has (few, none) =
     let all : take limit bytes ≡ bytes = take_all limit bytes (omega arith) in
     let e : Some end ≡ None = sym has.head.ends ∙ ap head_end all ∙ none in cc
 
-head_not_long : (limit most : ℕ) (bytes : List ℕ) (outcome : Result Request Refusal) (end : ℕ) → HasHead limit most bytes outcome end → IsHeadUpTo limit bytes TooLong → ⊥
+head_not_long : (limit most : ℕ) (bytes : List ℕ) (outcome : Result Request Refusal) (end : ℕ) → HasHead limit most bytes outcome end → HasLongHead limit bytes → ⊥
 head_not_long limit most bytes outcome end has (many, none) = let e : Some end ≡ None = sym has.head.ends ∙ none in cc
 
 ok_not_err : (limit most : ℕ) (bytes : List ℕ) (q : Request) (e : Refusal) (end last : ℕ) → HasHead limit most bytes (Ok q) end → HasHead limit most bytes (Err e) last → ⊥

@@ -1,18 +1,18 @@
 -- Lemmas on where a head ends.
 use Rattle.std.proofs.Common.{◌≡◌, ℕ, ◌+◌, ◌-◌, ◌<◌, ◌≤◌, zero, suc, Bool, true, false, cond, not, List, [], ◌∷◌, ◌++◌, length, take, drop, get_or, find, min, Option, None, Some, option_map, IfSome, inl, inr, refl, sym, ap, ◌∙◌, arith, length-take, length-append, eqb, eq-eqb, add-zero}
+use Rattle.std.proofs.Math.Nat.{sub_self}
 use Rattle.std.specs.List.{ends_with, range_with_len, slice_range}
 use Rattle.std.specs.Prelude.{nat_eq}
 use Rattle.std.proofs.lemmas.Slice.Eq.{ends_is}
 use Rattle.std.proofs.lemmas.Bool.Decides.{Decides-eqb}
 use Rattle.std.proofs.lemmas.List.{take-take, take-append-le, take_more, take_all, length-take-le, drop-take, take_min, take_all, drop-append-le, length-drop, get_or-append-add, get_or-take, get_or-drop}
-use Rattle.std.proofs.lemmas.Bool.{cases_eq, ne_eqb, or_cases}
+use Rattle.std.proofs.lemmas.Bool.{cases_eq, cases_lt, ne_eqb, or_cases}
+use Rattle.memchr.specs.Find.{Nowhere, Passes, is_byte}
 use Rattle.std.proofs.lemmas.List.Sums.{prefix_len-le-length}
 use Rattle.std.proofs.lemmas.List.Folds.{position_or_len_push}
-use Rattle.fedi_http.specs.Heads.{is_line_end, leading, after_leading, ends_in_empty_line, is_end, head_end, IsHeadAt, IsLookedAt, LacksHead}
+use Rattle.fedi_http.specs.Heads.{is_line_end, leading, after_leading, ends_in_empty_line, is_end, head_end, IsHeadAt, IsLookedAt, IsSettled, LacksHead}
 use Rattle.std.specs.Io.{StartsWith}
-use Rattle.std.specs.Io.KnownBytes.{prepend_known}
 use Rattle.std.proofs.Transfers.{starts_with_length}
-use Rattle.fedi_http.proofs.StreamLemmas.{stream-more, stream-end}
 
 -- ---- the first number that passes a test
 
@@ -214,6 +214,88 @@ is_head limit xs at start low inside none here holds =
           ∙ ap Some (text-is xs (at + 1) start here (omega arith));
     }
 
+-- ---- many bytes more
+
+-- no head ends where none did before and none does behind
+none-to : (xs : List ℕ) (a b : ℕ) → b ≤ length xs → head_end (take a xs) ≡ None → a ≤ length xs → ((m : ℕ) → a < m → m ≤ b → is_end xs m ≡ false) → head_end (take b xs) ≡ None
+none-to xs a b high none low here =
+    head_end-None (take b xs) (λ n le.
+    let inside : n ≤ b = omega (arith, le, length-take b xs) in
+    is_end-take xs b n inside ∙ elim (cases_lt a n) [
+      | inl large ↦ here n large inside
+      | inr small ↦ sym (is_end-take xs a n small) ∙ head_end-None-below (take a xs) none n (omega (arith, length-take a xs))
+    ])
+
+-- bytes that are no LF end no head
+pub looked-on : (xs : List ℕ) (looked start upto b : ℕ) → IsLookedAt xs looked start → IsSettled xs looked upto start → looked ≤ b → b ≤ upto → upto ≤ length xs
+    → ((i : ℕ) → looked ≤ i → i < b → get_or xs i 0 ≡ 10 → ⊥) → IsLookedAt xs b start
+looked-on xs looked start upto b is settled low high inside other = record {
+  within = omega arith;
+  front = sym (settled b low high);
+  none = none-to xs looked b (omega arith) is.none is.within (λ m large small.
+      let at : ℕ = m - 1 in
+      let same : at + 1 ≡ m = omega arith in
+      let here : start ≡ leading (take (at + 1) xs) = sym (settled (at + 1) (omega arith) (omega arith)) in
+      ap (is_end xs) (sym same) ∙ is_end-is xs (at + 1) start here (omega arith) ∙ no-empty_line xs at start (omega arith) (other at (omega arith) (omega arith)));
+}
+
+-- the bytes from `looked` on have no LF before the one at k
+pub no_lf : (xs : List ℕ) (looked upto k : ℕ) → looked ≤ upto → upto ≤ length xs → k ≤ upto - looked → Nowhere (Passes (is_byte 10) (slice_range xs looked upto)) 0 k
+    → (i : ℕ) → looked ≤ i → i < looked + k → get_or xs i 0 ≡ 10 → ⊥
+no_lf xs looked upto k low inside short none i from to here =
+    let there : looked + (i - looked) ≡ i = omega arith in
+    let byte : get_or (slice_range xs looked upto) (i - looked) 0 ≡ 10 =
+    get_or-take (upto - looked) (drop looked xs) (i - looked) 0 (omega arith) ∙ get_or-drop looked xs (i - looked) 0 ∙ ap (λ n. get_or xs n 0) there ∙ here in
+    none (i - looked) (omega arith) (omega arith) (eq-eqb (get_or (slice_range xs looked upto) (i - looked) 0) 10 byte)
+
+pub no_lf_at_all : (xs : List ℕ) (looked upto : ℕ) → looked ≤ upto → upto ≤ length xs → Nowhere (Passes (is_byte 10) (slice_range xs looked upto)) 0 (upto - looked)
+    → (i : ℕ) → looked ≤ i → i < upto → get_or xs i 0 ≡ 10 → ⊥
+no_lf_at_all xs looked upto low inside none i from to = no_lf xs looked upto (upto - looked) low inside (omega arith) none i from (omega arith)
+
+pub slice-length : (xs : List ℕ) (from upto : ℕ) → upto ≤ length xs → length (slice_range xs from upto) ≡ upto - from
+slice-length xs from upto inside = omega (arith, length-take (upto - from) (drop from xs), length-drop from xs)
+
+pub start-low : (xs : List ℕ) (looked start : ℕ) → IsLookedAt xs looked start → start ≤ looked
+start-low xs looked start is = omega (arith, is.front, leading-take-le xs looked is.within)
+
+-- where the text starts is settled once a byte is no line end
+settled-by : (xs : List ℕ) (looked start upto d : ℕ) → start ≡ leading (take looked xs) → upto ≤ length xs
+    → (start ≡ looked → looked < upto → is_line_end (get_or xs looked 0) ≡ false) → looked + d ≤ upto → leading (take (looked + d) xs) ≡ start
+settled-by xs looked start upto zero here inside text high = ap (λ n. leading (take n xs)) (add-zero looked) ∙ sym here
+settled-by xs looked start upto (suc d) here inside text high =
+    let before : leading (take (looked + d) xs) ≡ start = settled-by xs looked start upto d here inside text (omega arith) in
+    let next : looked + suc d ≡ looked + d + 1 = omega arith in
+    let low : start ≤ looked = omega (arith, here, leading-take-le xs looked (omega arith)) in
+    ap (λ n. leading (take n xs)) next ∙ elim (cases_eq start (looked + d)) [
+      | inl all ↦
+          let same : looked ≡ looked + d = omega arith in
+          let byte : is_line_end (get_or xs (looked + d) 0) ≡ false = ap (λ n. is_line_end (get_or xs n 0)) (sym same) ∙ text (omega arith) (omega arith) in
+          leading-more-text xs (looked + d) (omega arith) (before ∙ all) byte ∙ sym all
+      | inr other ↦ leading-more-other xs (looked + d) (omega arith) (λ e. other (sym before ∙ e)) ∙ before
+    ]
+
+pub settled-from : (xs : List ℕ) (looked start upto : ℕ) → start ≡ leading (take looked xs) → upto ≤ length xs
+    → (start ≡ looked → looked < upto → is_line_end (get_or xs looked 0) ≡ false) → IsSettled xs looked upto start
+settled-from xs looked start upto here inside text n low high =
+    let there : looked + (n - looked) ≡ n = omega arith in
+    ap (λ m. leading (take m xs)) (sym there) ∙ settled-by xs looked start upto (n - looked) here inside text (omega arith)
+
+-- one line end more in front
+pub looked-end : (xs : List ℕ) (at : ℕ) → at < length xs → IsLookedAt xs at at → is_line_end (get_or xs at 0) ≡ true → IsLookedAt xs (at + 1) (at + 1)
+looked-end xs at inside is here =
+    let front : leading (take (at + 1) xs) ≡ at + 1 = leading-more-end xs at inside (sym is.front) here in
+    let empty : slice_range xs (at + 1) (at + 1) ≡ [] = ap (λ k. take k (drop (at + 1) xs)) (sub_self (at + 1)) in
+    record {
+      within = omega arith;
+      front = sym front;
+      none = none-more xs at (at + 1) inside (sym front) is.none (ap ends_in_empty_line empty);
+    }
+
+-- a line more, with which the head does not end
+pub looked-line : (xs : List ℕ) (at start : ℕ) → at < length xs → IsLookedAt xs at start → start ≡ leading (take (at + 1) xs)
+    → ends_in_empty_line (slice_range xs start (at + 1)) ≡ false → IsLookedAt xs (at + 1) start
+looked-line xs at start inside is here fails = record { within = omega arith; front = here; none = none-more xs at start inside here is.none fails }
+
 pub slice_range-append : (xs ys : List ℕ) (start end : ℕ) → start ≤ end → end ≤ length xs → slice_range (xs ++ ys) start end ≡ slice_range xs start end
 slice_range-append xs ys start end low high =
     ap (take (end - start)) (drop-append-le start xs ys (omega arith)) ∙ take-append-le (end - start) (drop start xs) ys (omega (arith, length-drop start xs))
@@ -262,28 +344,10 @@ pub too_long : (limit : ℕ) (xs : List ℕ) (looked start : ℕ) → IsLookedAt
     → (limit ≤ length xs) × (head_end (take limit xs) ≡ None)
 too_long limit xs looked start is all full = (omega arith, ap (λ k. head_end (take k xs)) (sym full) ∙ is.none)
 
--- ---- what the stream tells
-
-pub told-text : (limit : ℕ) (pending : List ℕ) (left : Option (List ℕ)) (start end : ℕ) → IsHeadAt limit pending start end
-    → IfSome (prepend_known pending left) (λ stream. IsHeadAt limit stream start end)
-told-text limit pending left start end head = stream-more (λ stream. IsHeadAt limit stream start end) left pending (λ rest. is_head-append limit pending rest start end head)
-
-pub told-long : (limit : ℕ) (pending : List ℕ) (left : Option (List ℕ)) → (limit ≤ length pending) × (head_end (take limit pending) ≡ None)
-    → IfSome (prepend_known pending left) (λ stream. (limit ≤ length stream) × (head_end (take limit stream) ≡ None))
-told-long limit pending left long =
-    stream-more (λ stream. (limit ≤ length stream) × (head_end (take limit stream) ≡ None)) left pending
-    (λ rest. (omega (arith, long.0, length-append pending rest), ap head_end (take-append-le limit pending rest long.0) ∙ long.1))
-
 -- a head has at most `limit` bytes
 pub head-near : (limit : ℕ) (xs : List ℕ) (start end : ℕ) → IsHeadAt limit xs start end → end ≤ limit
 head-near limit xs start end h =
     let is = head_end-Some-is (take limit xs) end h.ends in
     omega (arith, is.0, length-take limit xs)
 
-pub ruleset line_ends = (leading-more-end, leading-more-text, leading-more-other, leading-take-le)
-
-pub ruleset looks = (none-more, is_head)
-
-pub ruleset reading = (looked-more, lacks_head, too_long, told-long, stream-end)
-
-pub ruleset other_bytes = no-empty_line
+pub ruleset reading = (looked-more, lacks_head, too_long)

@@ -1,3 +1,5 @@
+pub mod FieldLemmas
+pub mod MoveLemmas
 pub mod FramingLemmas
 pub mod RequestLemmas
 pub mod HeadLemmas

@@ -1,5 +1,5 @@
 -- What arrives at the front of a stream: a request with its body (RFC 9112, sections 2.1, 2.2 and 6.2), or why there is none.
-use Rattle.std.specs.Prelude.{ℕ, ◌≡◌, ◌+◌, ◌<◌, ◌≤◌, List, [], length, Result, Ok, Err, ◌⊎◌}
+use Rattle.std.specs.Prelude.{ℕ, Bool, true, false, ◌≡◌, ◌+◌, ◌<◌, ◌≤◌, List, [], length, Result, Ok, Err, ◌⊎◌}
 use Rattle.std.specs.List.{slice_range}
 use Rattle.fedi_model.specs.declared.refusal.Refusal.{Refusal}
 use Rattle.fedi_model.specs.declared.refusal.Refusal.TheVariants.{BadHead}
@@ -7,8 +7,9 @@ use Rattle.fedi_model.specs.declared.request.Request.{Request}
 use Rattle.fedi_model.specs.Requests.{ReadsAs}
 use Rattle.fedi_http.specs.declared.arrivals.Arrived.{Arrived}
 use Rattle.fedi_http.specs.declared.arrivals.Arrived.TheVariants as arrived
-use Rattle.fedi_http.specs.declared.heads.HeadRead.TheVariants.{TooLong}
-use Rattle.fedi_http.specs.Heads.{IsHeadAt, LacksHead, IsHeadUpTo}
+use Rattle.fedi_http.specs.declared.read_error.ReadError.{ReadError}
+use Rattle.fedi_http.specs.declared.read_error.ReadError.TheVariants as errors
+use Rattle.fedi_http.specs.Heads.{IsHeadAt, LacksHead, HasLongHead}
 
 -- the head of the first `limit` bytes takes `end` of them, and its text is read so
 pub record HasHead (limit most : ℕ) (bytes : List ℕ) (outcome : Result Request Refusal) (end : ℕ) : Type 0 where
@@ -36,7 +37,7 @@ LacksRequest limit most bytes = LacksHead limit bytes ⊎ HasPartOfBody limit mo
 -- the head is refused for this reason; it is bad where none ends in the first `limit` bytes
 abbrev pub IsRefused : ℕ → ℕ → List ℕ → Refusal → Type 0
 IsRefused limit most bytes refusal =
-    ((end : ℕ) × HasHead limit most bytes (Err refusal) end) ⊎ ((refusal ≡ BadHead) × IsHeadUpTo limit bytes TooLong)
+    ((end : ℕ) × HasHead limit most bytes (Err refusal) end) ⊎ ((refusal ≡ BadHead) × HasLongHead limit bytes)
 
 -- what arrives at the front of the bytes that are there, of which a head takes at most `limit` and has at most `most` fields
 abbrev pub IsArrival : ℕ → ℕ → List ℕ → Arrived → Type 0
@@ -74,12 +75,19 @@ TellsOfStream (arrived.Refused refusal) = Unit {0}
 TellsOfStream arrived.ReadFault = ⊥
 TellsOfStream arrived.Memory = ⊥
 
--- what became of the body that follows the first `body` bytes: it is there whole, or the bytes end before it does
-abbrev pub IsBodyRead : Request → ℕ → List ℕ → Arrived → Type 0
-IsBodyRead request body bytes (arrived.Request read from end) =
-    (read ≡ request) × (from ≡ body) × (end ≡ body + request.body_length) × (end ≤ length bytes)
-IsBodyRead request body bytes arrived.End = ⊥
-IsBodyRead request body bytes arrived.CutShort = length bytes < body + request.body_length
-IsBodyRead request body bytes (arrived.Refused refusal) = ⊥
-IsBodyRead request body bytes arrived.ReadFault = length bytes < body + request.body_length
-IsBodyRead request body bytes arrived.Memory = Unit {0}
+-- a read failed
+abbrev pub is_read_fault : Arrived → Bool
+is_read_fault (arrived.Request request body end) = false
+is_read_fault arrived.End = false
+is_read_fault arrived.CutShort = false
+is_read_fault (arrived.Refused refusal) = false
+is_read_fault arrived.ReadFault = true
+is_read_fault arrived.Memory = false
+
+-- the answer that tells the error
+abbrev pub arrived_by : ReadError → Arrived
+arrived_by errors.End = arrived.End
+arrived_by errors.CutShort = arrived.CutShort
+arrived_by (errors.Refused refusal) = arrived.Refused refusal
+arrived_by errors.ReadFault = arrived.ReadFault
+arrived_by errors.Memory = arrived.Memory

@@ -1,8 +1,9 @@
 -- Where the head of a request ends.
-use Rattle.std.specs.Prelude.{ℕ, ◌≡◌, ◌+◌, ◌<◌, ◌≤◌, Bool, ◌||◌, not, nat_eq, List, [], ◌∷◌, length, take, drop, find, Option, None, Some, option_map}
+use Rattle.std.specs.Prelude.{ℕ, ◌≡◌, ◌≢◌, slice_index, ◌+◌, ◌<◌, ◌≤◌, Bool, ◌||◌, not, nat_eq, List, [], ◌∷◌, length, take, drop, find, Option, None, Some, option_map}
 use Rattle.std.specs.List.{ends_with, position_or_len, range_with_len, slice_range}
-use Rattle.fedi_http.specs.declared.heads.HeadRead.{HeadRead}
-use Rattle.fedi_http.specs.declared.heads.HeadRead.TheVariants.{Text, Empty, CutShort, TooLong, ReadFault, Memory}
+use Rattle.fedi_model.specs.declared.refusal.Refusal.TheVariants.{BadHead}
+use Rattle.fedi_http.specs.declared.read_error.ReadError.{ReadError}
+use Rattle.fedi_http.specs.declared.read_error.ReadError.TheVariants.{End, CutShort, Refused, ReadFault, Memory}
 
 -- CR and LF
 abbrev pub is_line_end : ℕ → Bool
@@ -43,44 +44,36 @@ pub record IsHeadAt (limit : ℕ) (bytes : List ℕ) (start end : ℕ) : Type 0 
 abbrev pub LacksHead : ℕ → List ℕ → Type 0
 LacksHead limit bytes = (length bytes < limit) × (head_end bytes ≡ None)
 
--- what stands at the front of the bytes that are there, of which a head takes at most `limit`
-abbrev pub IsHeadUpTo : ℕ → List ℕ → HeadRead → Type 0
-IsHeadUpTo limit bytes (Text start end) = IsHeadAt limit bytes start end
-IsHeadUpTo limit bytes Empty = bytes ≡ []
-IsHeadUpTo limit bytes CutShort = (0 < length bytes) × LacksHead limit bytes
-IsHeadUpTo limit bytes TooLong = (limit ≤ length bytes) × (head_end (take limit bytes) ≡ None)
-IsHeadUpTo limit bytes ReadFault = Unit {0}
-IsHeadUpTo limit bytes Memory = Unit {0}
+-- no head ends in the first `limit` bytes
+abbrev pub HasLongHead : ℕ → List ℕ → Type 0
+HasLongHead limit bytes = (limit ≤ length bytes) × (head_end (take limit bytes) ≡ None)
 
--- a fact for the answers that come where the input ended
-abbrev pub OnEnd : HeadRead → Type 0 → Type 0
-OnEnd (Text start end) P = Unit {0}
-OnEnd Empty P = P
+-- why no head was read at the front of the bytes, of which a head takes at most `limit`
+abbrev pub HasNoHead : ℕ → List ℕ → ReadError → Type 0
+HasNoHead limit bytes End = bytes ≡ []
+HasNoHead limit bytes CutShort = (0 < length bytes) × LacksHead limit bytes
+HasNoHead limit bytes (Refused refusal) = (refusal ≡ BadHead) × HasLongHead limit bytes
+HasNoHead limit bytes ReadFault = LacksHead limit bytes
+HasNoHead limit bytes Memory = LacksHead limit bytes
+
+-- a fact for the errors that come where the input ended
+abbrev pub OnEnd : ReadError → Type 0 → Type 0
+OnEnd End P = P
 OnEnd CutShort P = P
-OnEnd TooLong P = Unit {0}
+OnEnd (Refused refusal) P = Unit {0}
 OnEnd ReadFault P = Unit {0}
 OnEnd Memory P = Unit {0}
-
--- a fact for the answers by which reading stopped before the stream was known
-abbrev pub OnStopped : HeadRead → Type 0 → Type 0
-OnStopped (Text start end) P = Unit {0}
-OnStopped Empty P = Unit {0}
-OnStopped CutShort P = Unit {0}
-OnStopped TooLong P = Unit {0}
-OnStopped ReadFault P = P
-OnStopped Memory P = P
-
--- a fact for a read that failed
-abbrev pub OnReadFault : HeadRead → Type 0 → Type 0
-OnReadFault (Text start end) P = Unit {0}
-OnReadFault Empty P = Unit {0}
-OnReadFault CutShort P = Unit {0}
-OnReadFault TooLong P = Unit {0}
-OnReadFault ReadFault P = P
-OnReadFault Memory P = Unit {0}
 
 -- no head ends in the first `looked` bytes, and the first `start` of these are the line ends in front
 pub record IsLookedAt (bytes : List ℕ) (looked start : ℕ) : Type 0 where
   pub within : looked ≤ length bytes
   pub front : start ≡ leading (take looked bytes)
   pub none : head_end (take looked bytes) ≡ None
+
+-- wherever the bytes are cut from `looked` to `upto` on, the line ends in front are the first `start`
+abbrev pub IsSettled : List ℕ → ℕ → ℕ → ℕ → Type 0
+IsSettled bytes looked upto start = (n : ℕ) → looked ≤ n → n ≤ upto → leading (take n bytes) ≡ start
+
+-- no byte from `from` up to `upto` is LF
+abbrev pub LacksLineFeed : List ℕ → ℕ → ℕ → Type 0
+LacksLineFeed bytes from upto = (i : ℕ) → from ≤ i → i < upto → slice_index bytes i ≢ 10

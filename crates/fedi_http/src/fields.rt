@@ -1,76 +1,142 @@
-//! What the fields of a head say (RFC 9110, section 5).
+//! What the fields of a head say (RFC 9110, section 5), found in one pass over them.
 
-ghost use Rattle.std.specs.Prelude.{◌≡◌, map, bytes_eq, option_copied};
+ghost use Rattle.std.specs.Prelude.{◌≡◌, ◌++◌, ◌∷◌, [], List, length, map, bytes_eq, All};
 ghost use Rattle.std.specs.Char.{to_ascii_lowercase};
-ghost use Rattle.fedi_model.specs.Requests as model;
+ghost use Rattle.httparse.specs.Spans.{IsHeaderWithin};
+ghost use Rattle.fedi_model.specs.Requests.{Field, field_of, fields_at};
+ghost use Rattle.fedi_http.specs.Fields.{AreKnown, IsSlot, has_no_repeats};
 
-use fedi_model::Field;
+use crate::framing::lists_close;
+use httparse::spans::HeaderSpan;
 
 /// Whether the names are equal without case (RFC 9110, section 5.1).
 pub fn is_same_name(one: &[u8], other: &[u8]) -> bool
-    ensures { result ≡ bytes_eq (map to_ascii_lowercase one.now) (map to_ascii_lowercase other.now) }
+    ensures { result
+        ≡ bytes_eq (map to_ascii_lowercase one.now) (map to_ascii_lowercase other.now) }
 {
     one.eq_ignore_ascii_case(other)
 }
 
-/// Whether the field has this name.
-pub fn is_named(field: &Field, name: &str) -> bool
-    ensures { result ≡ model.is_named name.now field.now }
-{
-    is_same_name(field.name.bytes(), name.as_bytes())
+/// What the fields of one name say.
+#[derive(Clone, Copy)]
+pub(crate) struct Slot<'a> {
+    /// The value of the first of them.
+    pub(crate) value: Option<&'a [u8]>,
+    /// Whether there is another.
+    pub(crate) is_repeated: bool,
 }
 
-/// The value of the first field of this name. Names are compared without case (RFC 9110, section
-/// 5.1).
-#[tactic(auto, unfolding(fedi_model::specs::Requests::field_value))]
-pub fn field_value<'a>(fields: &'a [Field], name: &str) -> Option<&'a [u8]>
-    ensures { option_copied result ≡ model.field_value name.now fields.now }
-{
-    let field = fields.iter().find(|field| is_named(field, name))?;
-    Some(field.value.bytes())
+impl<'a> Slot<'a> {
+    /// What no field says.
+    fn new(name: &str) -> Self
+        ensures { IsSlot name.now [] result }
+    {
+        Slot {
+            value: None,
+            is_repeated: false,
+        }
+    }
+
+    /// With one field more, which counts if it has the name.
+    #[tactic(auto, using(crate::proofs::FieldLemmas::slots))]
+    fn with(self, wanted: &str, name: &[u8], value: &'a [u8]) -> Self
+        ensures { (fields : List Field) → IsSlot wanted.now fields self.entry
+            → IsSlot wanted.now (fields ++ field_of (name.now, value.now) ∷ []) result }
+    {
+        if !is_same_name(name, wanted.as_bytes()) {
+            return self;
+        }
+        match self.value {
+            None => Slot {
+                value: Some(value),
+                is_repeated: false,
+            },
+            Some(first) => Slot {
+                value: Some(first),
+                is_repeated: true,
+            },
+        }
+    }
 }
 
-/// How many of the fields have this name.
-#[tactic(auto, unfolding(fedi_model::specs::Requests::count_named))]
-pub fn count_named(fields: &[Field], name: &str) -> usize
-    ensures { result ≡ model.count_named name.now fields.now }
-{
-    fields.iter().filter(|field| is_named(field, name)).count()
+/// What the fields of a head say that the server reads.
+#[derive(Clone, Copy)]
+pub(crate) struct KnownFields<'a> {
+    pub(crate) host: Slot<'a>,
+    pub(crate) content_length: Slot<'a>,
+    pub(crate) transfer_encoding: Slot<'a>,
+    pub(crate) content_type: Slot<'a>,
+    pub(crate) authorization: Slot<'a>,
+    pub(crate) peer_host: Slot<'a>,
+    pub(crate) peer_mac: Slot<'a>,
+    pub(crate) idempotency_key: Slot<'a>,
+    /// Whether some field `Connection` lists `close` (RFC 9112, section 9.6).
+    pub(crate) closes: bool,
 }
 
-/// Whether at most one of the fields has this name.
-fn is_single(fields: &[Field], name: &str) -> bool
-    ensures { result ≡ model.is_single name.now fields.now }
-{
-    count_named(fields, name) <= 1
-}
+impl<'a> KnownFields<'a> {
+    /// What the fields at these places say.
+    #[tactic(auto, using(crate::proofs::RequestLemmas::fields_more))]
+    pub(crate) fn read(text: &'a [u8], spans: &[HeaderSpan]) -> Self
+        requires { All (IsHeaderWithin (length text.now)) spans.now }
+        ensures { AreKnown (fields_at text.now spans.now) result }
+    {
+        let mut known = KnownFields::new(text);
+        for span in spans {
+            known = known.with(span.name.of(text), span.value.of(text));
+        }
+        known
+    }
 
-/// Whether the fields that say who asks stand once each at most.
-#[tactic(auto, unfolding(fedi_model::specs::Requests::has_single_credentials))]
-fn has_single_credentials(fields: &[Field]) -> bool
-    ensures { result ≡ model.has_single_credentials fields.now }
-{
-    is_single(fields, "Authorization")
-        && is_single(fields, "Peer-Host")
-        && is_single(fields, "Peer-Mac")
-}
+    /// What no field of the text says. The text is named so that the values may be lent from it.
+    fn new(_text: &'a [u8]) -> Self
+        ensures { AreKnown [] result }
+    {
+        KnownFields {
+            host: Slot::new("Host"),
+            content_length: Slot::new("Content-Length"),
+            transfer_encoding: Slot::new("Transfer-Encoding"),
+            content_type: Slot::new("Content-Type"),
+            authorization: Slot::new("Authorization"),
+            peer_host: Slot::new("Peer-Host"),
+            peer_mac: Slot::new("Peer-Mac"),
+            idempotency_key: Slot::new("Idempotency-Key"),
+            closes: false,
+        }
+    }
 
-/// Whether the fields that speak of the body stand once each at most.
-#[tactic(auto, unfolding(fedi_model::specs::Requests::has_single_content))]
-fn has_single_content(fields: &[Field]) -> bool
-    ensures { result ≡ model.has_single_content fields.now }
-{
-    is_single(fields, "Content-Length")
-        && is_single(fields, "Transfer-Encoding")
-        && is_single(fields, "Content-Type")
-}
+    /// With one field more.
+    fn with(self, name: &[u8], value: &'a [u8]) -> Self
+        ensures { (fields : List Field) → AreKnown fields self.entry
+            → AreKnown (fields ++ field_of (name.now, value.now) ∷ []) result }
+    {
+        let closes = self.closes || (is_same_name(name, b"Connection") && lists_close(value));
+        KnownFields {
+            host: self.host.with("Host", name, value),
+            content_length: self.content_length.with("Content-Length", name, value),
+            transfer_encoding: self
+                .transfer_encoding
+                .with("Transfer-Encoding", name, value),
+            content_type: self.content_type.with("Content-Type", name, value),
+            authorization: self.authorization.with("Authorization", name, value),
+            peer_host: self.peer_host.with("Peer-Host", name, value),
+            peer_mac: self.peer_mac.with("Peer-Mac", name, value),
+            idempotency_key: self.idempotency_key.with("Idempotency-Key", name, value),
+            closes,
+        }
+    }
 
-/// Whether no field is repeated that stands once at most.
-#[tactic(auto, unfolding(fedi_model::specs::Requests::has_no_repeats))]
-pub fn has_no_repeats(fields: &[Field]) -> bool
-    ensures { result ≡ model.has_no_repeats fields.now }
-{
-    has_single_credentials(fields)
-        && has_single_content(fields)
-        && is_single(fields, "Idempotency-Key")
+    /// Whether no field is repeated that stands once at most.
+    pub(crate) fn has_no_repeats(&self) -> bool
+        ensures { result ≡ has_no_repeats self.now }
+    {
+        !(self.host.is_repeated
+            || self.authorization.is_repeated
+            || self.peer_host.is_repeated
+            || self.peer_mac.is_repeated
+            || self.content_length.is_repeated
+            || self.transfer_encoding.is_repeated
+            || self.content_type.is_repeated
+            || self.idempotency_key.is_repeated)
+    }
 }

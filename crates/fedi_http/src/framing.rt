@@ -1,60 +1,49 @@
 //! How long a request is, and whether another may follow it (RFC 9112, sections 6 and 9).
 
-ghost use Rattle.std.specs.Prelude.{◌≡◌, ◌≤◌, true, not, Some, None, IfOk, MatchResult, position};
+ghost use Rattle.std.specs.Prelude.{◌≡◌, ◌≤◌, List, true, not, Some, None, IfOk, MatchResult, position};
 ghost use Rattle.std.specs.Char.{is_ascii_digit};
 ghost use Rattle.std.specs.List.{list_all};
 ghost use Rattle.std.specs.Str.Parse.{digits_value};
 ghost use Rattle.fedi_model.specs.Requests as model;
+ghost use Rattle.fedi_model.specs.Requests.{Field};
+ghost use Rattle.fedi_http.specs.Fields.{AreKnown};
 
-use crate::fields::{count_named, field_value, has_no_repeats, is_named, is_same_name};
-use fedi_model::{BODY_LIMIT, Field, Refusal};
+use crate::fields::{KnownFields, is_same_name};
+use fedi_model::{BODY_LIMIT, Refusal};
 use http::Method;
 
-/// The length of the body of a request with this method and these fields, or why it is refused: it is `BadHead` where `Host` does not
-/// stand exactly once, a field is repeated that stands once at most, both `Content-Length` and `Transfer-Encoding` stand, or the
-/// length is no number of 1 to 19 digits; then `NoCoding` for any `Transfer-Encoding`, `NoLength` for a POST without a length, and
-/// `TooLong` for a length over `BODY_LIMIT`.
-#[tactic(auto, unfolding(fedi_model::specs::Requests::has_served_fields))]
-pub fn body_length(method: &Method, fields: &[Field]) -> Result<usize, Refusal>
-    ensures length { MatchResult result
-        (λ length. (model.fields_refusal method.now fields.now ≡ None) × (length ≡ model.body_length fields.now))
-        (λ refusal. model.fields_refusal method.now fields.now ≡ Some refusal) }
+/// The length of the body of a request with this method and these fields, or why it is refused. It is `BadHead` unless `Host` stands
+/// exactly once, no field is repeated that stands once at most, the body is not measured by both `Content-Length` and
+/// `Transfer-Encoding`, and the length is a number of 1 to 19 digits. Then it is `NoCoding` for any `Transfer-Encoding`, `NoLength`
+/// for a POST without a length, and `TooLong` for a length over `BODY_LIMIT`.
+pub(crate) fn body_length(method: &Method, known: &KnownFields) -> Result<usize, Refusal>
+    ensures length { (fields : List Field) → AreKnown fields known.now → MatchResult result
+        (λ length. (model.fields_refusal method.now fields ≡ None)
+        × (length ≡ model.body_length fields))
+        (λ refusal. model.fields_refusal method.now fields ≡ Some refusal) }
     ensures short { IfOk result (λ length. length ≤ BODY_LIMIT) }
 {
-    if !has_served_fields(fields) {
+    let is_coded = known.transfer_encoding.value.is_some();
+    if known.host.value.is_none() || !known.has_no_repeats() {
         return Err(Refusal::BadHead);
     }
-    allowed_length(method, fields)
-}
-
-/// Whether `Host` stands once, no field is repeated that stands once at most, and the body is measured in one way, by a number.
-#[tactic(auto, unfolding(fedi_model::specs::Requests::has_served_fields))]
-fn has_served_fields(fields: &[Field]) -> bool
-    ensures { result ≡ model.has_served_fields fields.now }
-{
-    count_named(fields, "Host") == 1
-        && has_no_repeats(fields)
-        && has_one_measure(fields)
-        && has_plain_length(fields)
-}
-
-/// Whether the body is not measured in both ways.
-#[tactic(auto, unfolding(fedi_model::specs::Requests::has_one_measure))]
-fn has_one_measure(fields: &[Field]) -> bool
-    ensures { result ≡ model.has_one_measure fields.now }
-{
-    count_named(fields, "Content-Length") == 0 || count_named(fields, "Transfer-Encoding") == 0
-}
-
-/// Whether a `Content-Length` that is there is a number.
-#[tactic(auto, unfolding(fedi_model::specs::Requests::has_plain_length))]
-fn has_plain_length(fields: &[Field]) -> bool
-    ensures { result ≡ model.has_plain_length fields.now }
-{
-    match field_value(fields, "Content-Length") {
-        Some(value) => is_length(value),
-        None => true,
+    let Some(value) = known.content_length.value else {
+        return if is_coded {
+            Err(Refusal::NoCoding)
+        } else if *method == Method::POST {
+            Err(Refusal::NoLength)
+        } else {
+            Ok(0)
+        };
+    };
+    if is_coded || !is_length(value) {
+        return Err(Refusal::BadHead);
     }
+    let length = number_of(value);
+    if length > BODY_LIMIT {
+        return Err(Refusal::TooLong);
+    }
+    Ok(length)
 }
 
 /// Whether the value has 1 to 19 digits, and nothing else.
@@ -72,46 +61,6 @@ fn has_digits_alone(value: &[u8]) -> bool
     value.iter().all(|byte| byte.is_ascii_digit())
 }
 
-/// The length of the body after good fields, or why no body is read.
-fn allowed_length(method: &Method, fields: &[Field]) -> Result<usize, Refusal>
-    requires { model.has_plain_length fields.now ≡ true }
-    ensures length { MatchResult result
-        (λ length. (model.body_refusal method.now fields.now ≡ None) × (length ≡ model.body_length fields.now))
-        (λ refusal. model.body_refusal method.now fields.now ≡ Some refusal) }
-    ensures short { IfOk result (λ length. length ≤ BODY_LIMIT) }
-{
-    if count_named(fields, "Transfer-Encoding") != 0 {
-        return Err(Refusal::NoCoding);
-    }
-    if is_post(method) && count_named(fields, "Content-Length") == 0 {
-        return Err(Refusal::NoLength);
-    }
-    let length = content_length(fields);
-    if length > BODY_LIMIT {
-        return Err(Refusal::TooLong);
-    }
-    Ok(length)
-}
-
-/// Whether the method is POST.
-fn is_post(method: &Method) -> bool
-    ensures { result ≡ model.is_post method.now }
-{
-    method.as_str().as_bytes() == b"POST".as_slice()
-}
-
-/// The number that `Content-Length` writes, or 0 where there is no such field.
-#[tactic(auto, unfolding(fedi_model::specs::Requests::has_plain_length, fedi_model::specs::Requests::body_length))]
-fn content_length(fields: &[Field]) -> usize
-    requires { model.has_plain_length fields.now ≡ true }
-    ensures { result ≡ model.body_length fields.now }
-{
-    match field_value(fields, "Content-Length") {
-        Some(value) => number_of(value),
-        None => 0,
-    }
-}
-
 /// The number that the digits write.
 fn number_of(digits: &[u8]) -> usize
     requires { model.is_length digits.now ≡ true }
@@ -124,24 +73,9 @@ fn number_of(digits: &[u8]) -> usize
     number
 }
 
-/// Whether some field `Connection` lists `close` (RFC 9112, section 9.6).
-#[tactic(auto, unfolding(fedi_model::specs::Requests::closes))]
-pub fn closes(fields: &[Field]) -> bool
-    ensures { result ≡ model.closes fields.now }
-{
-    fields.iter().any(is_closing)
-}
-
-/// Whether this is a field `Connection` that lists `close`.
-fn is_closing(field: &Field) -> bool
-    ensures { result ≡ model.is_closing field.now }
-{
-    is_named(field, "Connection") && lists_close(field.value.bytes())
-}
-
 /// Whether one of the elements between the commas is `close`.
 #[tactic(auto, unfolding(fedi_model::specs::Requests::lists_close))]
-fn lists_close(value: &[u8]) -> bool
+pub(crate) fn lists_close(value: &[u8]) -> bool
     ensures { result ≡ model.lists_close value.now }
 {
     value.split(|byte| *byte == b',').any(is_close)

@@ -1,13 +1,14 @@
-//! Reading the head of a request.
-ghost use Rattle.std.specs.Prelude.{◌≡◌, ◌≢◌, ◌+◌, ◌-◌, ◌<◌, ◌≤◌, List, ℕ, [], length, take, drop, is_some, min, vec_len, IfOk, OnOk, OnErr, IfSome, IfNone};
-ghost use Rattle.std.specs.Io.{StartsWith};
+//! The bytes that were read, and reading the head of a request from them.
+ghost use Rattle.std.specs.Prelude.{◌≡◌, ◌+◌, ◌<◌, ◌≤◌, ◌⊎◌, [], length, take, drop, min, IfOk, IfErr, OnOk, OnErr, IfSome, IfNone, MatchOption};
 ghost use Rattle.std.specs.Io.KnownBytes.{prepend_known, IsAtEnd};
-ghost use Rattle.std.specs.List.{slice_range};
-ghost use Rattle.fedi_outside.specs.Causes.{HasCause, Rose};
-ghost use Rattle.fedi_http.specs.Heads.{is_line_end as line_end, ends_in_empty_line as empty_line, leading, IsHeadAt, IsHeadUpTo, IsLookedAt, LacksHead, OnEnd, OnReadFault, OnStopped};
+ghost use Rattle.fedi_outside.specs.Causes.{HasCause};
+ghost use Rattle.fedi_http.specs.Heads.{is_line_end as line_end, ends_in_empty_line as empty_line, HasNoHead, IsHeadAt, IsLookedAt, IsSettled, LacksHead, LacksLineFeed, OnEnd};
+ghost use Rattle.fedi_http.specs.Moves.{IsFailure, MovesBytes, has_fault};
 
-use fedi_model::BODY_LIMIT;
+use crate::read_error::ReadError;
+use fedi_model::{BODY_LIMIT, Refusal};
 use fedi_outside::{Failed, Source};
+use memchr::memchr;
 use std::alloc::{AllocError, Global};
 use std::marker::Model;
 
@@ -17,21 +18,11 @@ pub const HEAD_LIMIT: usize = 16_384;
 /// How many bytes a buffer has at most, read or room: those of one head and one body.
 pub const BUFFER_LIMIT: usize = HEAD_LIMIT + BODY_LIMIT;
 
-/// How a head was read.
-#[derive(Clone, Copy, Debug, PartialEq, Eq)]
-pub enum HeadRead {
-    /// The head's text is the bytes `start..end` of what is pending, and the head takes the first `end` of them.
-    Text { start: usize, end: usize },
-    /// The input ended before its first byte.
-    Empty,
-    /// The input ended before the head did.
-    CutShort,
-    /// No head ends in the first `HEAD_LIMIT` bytes.
-    TooLong,
-    /// A read failed.
-    ReadFault,
-    /// Memory is wanting.
-    Memory,
+/// Where a head stands in what is pending: its text is the bytes `start..end`, and it takes the first `end` of them.
+#[derive(Clone, Copy)]
+pub(crate) struct HeadPlace {
+    pub(crate) start: usize,
+    pub(crate) end: usize,
 }
 
 /// Bytes that were read and are not yet used up, in order: those that are pending. It has at most
@@ -52,7 +43,8 @@ impl Model for Buffer {
 
     ghost view = { λ b. take b.count (drop b.start b.bytes.items) };
 
-    ghost invariant = { λ b. (b.start + b.count ≤ length b.bytes.items) × (length b.bytes.items ≤ BUFFER_LIMIT) };
+    ghost invariant = { λ b. (b.start + b.count ≤ length b.bytes.items)
+        × (length b.bytes.items ≤ BUFFER_LIMIT) };
 }
 
 impl Buffer {
@@ -84,99 +76,71 @@ impl Buffer {
         self.count -= count;
     }
 
-    // Reads once into the room behind what is pending, with room for `limit` bytes in all.
-    pub(crate) fn fill<S: Source>(&mut self, source: &mut S, limit: usize) -> Filled
+    // Reads once into the room behind what is pending, with room for `limit` bytes in all. It answers how many bytes came, and 0 at
+    // the end of the input. The error is `ReadFault` or `Memory`.
+    pub(crate) fn fill<S: Source>(
+        &mut self,
+        source: &mut S,
+        limit: usize,
+    ) -> Result<usize, ReadError>
         requires short { length self.old < limit }
         requires bound { limit ≤ BUFFER_LIMIT }
-        ensures stream { prepend_known self.new (S.left source.new) ≡ prepend_known self.old (S.left source.old) }
-        ensures kept { StartsWith self.new self.old }
-        ensures more { result ≡ Filled.More → length self.old < length self.new }
-        ensures same { result ≢ Filled.More → self.new ≡ self.old }
-        ensures ended { result ≡ Filled.End → IsAtEnd (S.left source.new) }
-        ensures beside { S.beside_source source.new ≡ S.beside_source source.old }
-        ensures faults { S.read_faults source.old ≤ S.read_faults source.new }
-        ensures cause { result ≡ Filled.ReadFault → Rose (S.read_faults source.old) (S.read_faults source.new) }
+        ensures moves { MovesBytes S.left S.read_faults S.beside_source source.old source.new
+            self.old self.new (has_fault result) }
+        ensures count { IfOk result (λ more. length self.new ≡ length self.old + more) }
+        ensures ended { IfOk result (λ more. more ≡ 0 → IsAtEnd (S.left source.new)) }
+        ensures same { OnErr result (self.new ≡ self.old) }
+        ensures failed { IfErr result IsFailure }
     {
-        if make_room(&mut self.bytes, self.start, self.count, limit).is_err() {
-            return Filled::Memory;
-        }
+        make_room(&mut self.bytes, self.start, self.count, limit)?;
         self.start = 0;
-        match read_behind(source, &mut self.bytes, self.count) {
-            Ok(0) => Filled::End,
-            Ok(count) => {
-                self.count += count;
-                Filled::More
-            }
-            Err(Failed) => Filled::ReadFault,
-        }
+        let more = read_behind(source, &mut self.bytes, self.count)?;
+        self.count += more;
+        Ok(more)
     }
 }
 
 /// Reads the head of a request (RFC 9112, sections 2.1 and 2.2): from the source into the buffer, until what is pending holds a
 /// head, or has `HEAD_LIMIT` bytes with none, or the input ends. What is pending already comes first, and the source is read only
-/// where it holds no head.
+/// if it holds no head. The error `Refused` says that the head is too long.
 ///
-/// Reading moves bytes from the source to the end of what is pending, and loses none on any answer. `Text` leaves the head there, for
+/// Reading moves bytes from the source to the end of what is pending, and loses none on any answer. The head stays there, for
 /// `take_front`. After `ReadFault` and `Memory` no head stands in what is pending.
-pub fn read_head<S: Source>(source: &mut S, buffer: &mut Buffer) -> HeadRead
-    ensures stream { prepend_known buffer.new (S.left source.new) ≡ prepend_known buffer.old (S.left source.old) }
-    ensures kept { StartsWith buffer.new buffer.old }
-    ensures pending { IsHeadUpTo HEAD_LIMIT buffer.new result }
-    ensures told { IfSome (prepend_known buffer.old (S.left source.old)) (λ stream. IsHeadUpTo HEAD_LIMIT stream result) }
-    ensures ended { OnEnd result (IsAtEnd (S.left source.new)) }
-    ensures stopped { OnStopped result (LacksHead HEAD_LIMIT buffer.new) }
-    ensures beside { S.beside_source source.new ≡ S.beside_source source.old }
-    ensures faults { S.read_faults source.old ≤ S.read_faults source.new }
-    ensures cause { OnReadFault result (Rose (S.read_faults source.old) (S.read_faults source.new)) }
-{
-    read_up_to(source, buffer, HEAD_LIMIT)
-}
-
-// Reads a head of at most `limit` bytes.
 #[tactic(auto, using(crate::proofs::HeadLemmas::reading))]
-pub(crate) fn read_up_to<S: Source>(source: &mut S, buffer: &mut Buffer, limit: usize) -> HeadRead
-    requires { limit ≤ HEAD_LIMIT }
-    ensures stream { prepend_known buffer.new (S.left source.new) ≡ prepend_known buffer.old (S.left source.old) }
-    ensures kept { StartsWith buffer.new buffer.old }
-    ensures pending { IsHeadUpTo limit buffer.new result }
-    ensures told { IfSome (prepend_known buffer.old (S.left source.old)) (λ stream. IsHeadUpTo limit stream result) }
-    ensures ended { OnEnd result (IsAtEnd (S.left source.new)) }
-    ensures stopped { OnStopped result (LacksHead limit buffer.new) }
-    ensures beside { S.beside_source source.new ≡ S.beside_source source.old }
-    ensures faults { S.read_faults source.old ≤ S.read_faults source.new }
-    ensures cause { OnReadFault result (Rose (S.read_faults source.old) (S.read_faults source.new)) }
+pub(crate) fn read_head<S: Source>(
+    source: &mut S,
+    buffer: &mut Buffer,
+) -> Result<HeadPlace, ReadError>
+    ensures moves { MovesBytes S.left S.read_faults S.beside_source source.old source.new
+        buffer.old buffer.new (has_fault result) }
+    ensures head { IfOk result (λ head. IsHeadAt HEAD_LIMIT buffer.new head.start head.end) }
+    ensures none { IfErr result (HasNoHead HEAD_LIMIT buffer.new) }
+    ensures ended { IfErr result (λ e. OnEnd e (IsAtEnd (S.left source.new))) }
+    ensures idle { LacksHead HEAD_LIMIT buffer.old
+        ⊎ ((source.new ≡ source.old) × (buffer.new ≡ buffer.old)) }
 {
     let mut search = Search {
         looked: 0,
         start: 0,
     };
     'reads: loop {
-        if let Some(end) = search.look(buffer.pending(), limit) {
-            return HeadRead::Text {
+        if let Some(end) = search.look(buffer.pending()) {
+            return Ok(HeadPlace {
                 start: search.start,
                 end,
-            };
+            });
         }
-        if search.looked == limit {
-            return HeadRead::TooLong;
+        if search.looked == HEAD_LIMIT {
+            return Err(ReadError::Refused(Refusal::BadHead));
         }
-        match buffer.fill(source, limit) {
-            Filled::More => {}
-            Filled::End if search.looked == 0 => return HeadRead::Empty,
-            Filled::End => return HeadRead::CutShort,
-            Filled::ReadFault => return HeadRead::ReadFault,
-            Filled::Memory => return HeadRead::Memory,
+        if buffer.fill(source, HEAD_LIMIT)? == 0 {
+            return Err(if search.looked == 0 {
+                ReadError::End
+            } else {
+                ReadError::CutShort
+            });
         }
     }
-}
-
-// What became of one read into a buffer.
-#[derive(Clone, Copy)]
-pub(crate) enum Filled {
-    More,
-    End,
-    ReadFault,
-    Memory,
 }
 
 // Moves the `count` bytes from `start` on to the front, with room for `limit` bytes in all.
@@ -189,7 +153,8 @@ fn make_room(
     requires within { start + count ≤ length bytes.old.items }
     requires bound { limit ≤ BUFFER_LIMIT }
     requires bounded { length bytes.old.items ≤ BUFFER_LIMIT }
-    ensures moved { OnOk result (take count bytes.new.items ≡ take count (drop start bytes.old.items)) }
+    ensures moved { OnOk result
+        (take count bytes.new.items ≡ take count (drop start bytes.old.items)) }
     ensures fits { OnOk result (count ≤ length bytes.new.items) }
     ensures room { OnOk result (limit ≤ length bytes.new.items) }
     ensures bounded { OnOk result (length bytes.new.items ≤ BUFFER_LIMIT) }
@@ -209,7 +174,8 @@ fn read_behind<S: Source>(source: &mut S, bytes: &mut [u8], count: usize) -> Res
     requires { count < length bytes.old }
     ensures kept { take count bytes.new ≡ take count bytes.old }
     ensures bound { IfOk result (λ more. count + more ≤ length bytes.new) }
-    ensures stream { IfOk result (λ more. prepend_known (take (count + more) bytes.new) (S.left source.new)
+    ensures stream { IfOk result (λ more.
+        prepend_known (take (count + more) bytes.new) (S.left source.new)
         ≡ prepend_known (take count bytes.old) (S.left source.old)) }
     ensures ended { IfOk result (λ more. more ≡ 0 → IsAtEnd (S.left source.new)) }
     ensures failed { OnErr result (prepend_known (take count bytes.old) (S.left source.new)
@@ -224,45 +190,61 @@ fn read_behind<S: Source>(source: &mut S, bytes: &mut [u8], count: usize) -> Res
 #[derive(Clone, Copy)]
 struct Search {
     looked: usize,
+    // How many of these are the line ends in front.
     start: usize,
 }
 
 impl Search {
-    // Looks for the end of a head in the first `limit` bytes. `start` is then where its text starts.
-    #[tactic(auto, using(crate::proofs::HeadLemmas::looks))]
-    fn look(&mut self, bytes: &[u8], limit: usize) -> Option<usize>
+    // Looks for the end of a head in the first `HEAD_LIMIT` bytes. `start` is then where its text starts.
+    fn look(&mut self, bytes: &[u8]) -> Option<usize>
         requires known { IsLookedAt bytes.now self.old.looked self.old.start }
-        requires within { self.old.looked ≤ limit }
-        ensures found { IfSome result (λ end. IsHeadAt limit bytes.now self.new.start end) }
+        requires within { self.old.looked ≤ HEAD_LIMIT }
+        ensures found { IfSome result (λ end. IsHeadAt HEAD_LIMIT bytes.now self.new.start end) }
         ensures none { IfNone result (IsLookedAt bytes.now self.new.looked self.new.start) }
-        ensures all { IfNone result (self.new.looked ≡ min limit (length bytes.now)) }
+        ensures all { IfNone result (self.new.looked ≡ min HEAD_LIMIT (length bytes.now)) }
     {
-        let upto = bytes.len().min(limit);
-        for at in self.looked..upto {
-            self.start = start_after(bytes, at, self.start);
-            if empty_line_ends_at(bytes, at, self.start) {
+        let upto = bytes.len().min(HEAD_LIMIT);
+        self.skip_line_ends(bytes, upto);
+        'lines: while let Some(at) = next_line_feed(bytes, self.looked, upto) {
+            if ends_in_empty_line(&bytes[self.start..at + 1]) {
                 return Some(at + 1);
             }
+            self.looked = at + 1;
         }
         self.looked = upto;
         None
     }
+
+    // Looks at the line ends in front, as far as `upto`. Where the text starts is then settled for all of these bytes.
+    fn skip_line_ends(&mut self, bytes: &[u8], upto: usize)
+        requires known { IsLookedAt bytes.now self.old.looked self.old.start }
+        requires within { self.old.looked ≤ upto }
+        requires inside { upto ≤ length bytes.now }
+        ensures known { IsLookedAt bytes.now self.new.looked self.new.start }
+        ensures within { self.new.looked ≤ upto }
+        ensures settled { IsSettled bytes.now self.new.looked upto self.new.start }
+    {
+        'ends: while self.start == self.looked && self.looked < upto {
+            if !is_line_end(bytes[self.looked]) {
+                return;
+            }
+            self.looked += 1;
+            self.start = self.looked;
+        }
+    }
 }
 
-// How many line ends are in front of the first `at + 1` bytes, where they are `start` in front of the first `at`.
-#[tactic(auto, using(crate::proofs::HeadLemmas::line_ends))]
-fn start_after(bytes: &[u8], at: usize, start: usize) -> usize
-    requires within { at < length bytes.now }
-    requires front { start ≡ leading (take at bytes.now) }
-    ensures front { result ≡ leading (take (at + 1) bytes.now) }
-    ensures low { result ≤ at + 1 }
+// Where the next LF stands, from `from` up to `upto`.
+fn next_line_feed(bytes: &[u8], from: usize, upto: usize) -> Option<usize>
+    requires ordered { from ≤ upto }
+    requires inside { upto ≤ length bytes.now }
+    ensures { MatchOption result
+        (LacksLineFeed bytes.now from upto)
+        (λ at. (from ≤ at) × (at < upto) × LacksLineFeed bytes.now from at) }
 {
-    if start != at {
-        start
-    } else if is_line_end(bytes[at]) {
-        at + 1
-    } else {
-        at
+    match memchr(b'\n', &bytes[from..upto]) {
+        Some(more) => Some(from + more),
+        None => None,
     }
 }
 
@@ -273,136 +255,9 @@ fn is_line_end(byte: u8) -> bool
     byte == b'\r' || byte == b'\n'
 }
 
-// Whether the text from `start` to `at`, that byte with it, ends with an empty line. Most bytes are no LF, and are passed over quickly.
-#[tactic(auto, using(crate::proofs::HeadLemmas::other_bytes))]
-fn empty_line_ends_at(bytes: &[u8], at: usize, start: usize) -> bool
-    requires within { at < length bytes.now }
-    requires low { start ≤ at + 1 }
-    ensures { result ≡ empty_line (slice_range bytes.now start (at + 1)) }
-{
-    if bytes[at] == b'\n' {
-        ends_in_empty_line(&bytes[start..at + 1])
-    } else {
-        false
-    }
-}
-
 // Whether a text ends with an empty line.
 fn ends_in_empty_line(text: &[u8]) -> bool
     ensures { result ≡ empty_line text.now }
 {
     text.ends_with(b"\n\n") || text.ends_with(b"\n\r\n")
-}
-
-#[cfg(test)]
-mod tests {
-    use super::*;
-    use fedi_outside::MemorySource;
-    use std::test::Fail;
-
-    // What is read of these bytes where the first two reads give at most so many.
-    fn read_cut(alloc: Global, bytes: &[u8], pieces: [usize; 2]) -> Result<HeadRead, Fail> {
-        let mut source = MemorySource::new(alloc, bytes.to_vec(alloc)?).cut(pieces.to_vec(alloc)?);
-        let mut buffer = Buffer::new(alloc);
-        Ok(read_head(&mut source, &mut buffer))
-    }
-
-    // As many letters, and then the end.
-    fn long(alloc: Global, letters: usize, end: &[u8]) -> Result<Vec<u8>, Fail> {
-        let mut bytes = vec![in alloc; b'a'; letters]?;
-        bytes.extend_from_slice(end)?;
-        Ok(bytes)
-    }
-
-    #[test]
-    fn a_head_is_found_wherever_it_is_cut(rt: HostRuntime) -> Result<(), Fail> {
-        let alloc = rt.alloc();
-        let rows: [(&[u8], HeadRead); 10] = [
-            (
-                b"GET / HTTP/1.1\r\nHost: a\r\n\r\n",
-                HeadRead::Text { start: 0, end: 27 },
-            ),
-            (
-                b"GET / HTTP/1.1\r\n\r\nbody",
-                HeadRead::Text { start: 0, end: 18 },
-            ),
-            (b"\r\n\n\rA\n\nB\n\n", HeadRead::Text { start: 4, end: 7 }),
-            (b"A\r\n\nB", HeadRead::Text { start: 0, end: 4 }),
-            (b"A\n\r\n", HeadRead::Text { start: 0, end: 4 }),
-            (b"A\n\r\r\n\n", HeadRead::Text { start: 0, end: 6 }),
-            (b"\r\n\r\n", HeadRead::CutShort),
-            (b"A\r\n\r", HeadRead::CutShort),
-            (b"A\r\r", HeadRead::CutShort),
-            (b"", HeadRead::Empty),
-        ];
-        for (bytes, wanted) in rows {
-            for first in 0..bytes.len() {
-                assert_eq!(rt; read_cut(alloc, bytes, [first, 1])?, wanted);
-            }
-            assert_eq!(rt; read_cut(alloc, bytes, [99, 99])?, wanted);
-        }
-        Ok(())
-    }
-
-    #[test]
-    fn a_head_has_a_limit(rt: HostRuntime) -> Result<(), Fail> {
-        let alloc = rt.alloc();
-        let whole = HeadRead::Text {
-            start: 0,
-            end: 16_384,
-        };
-        let rows: [(usize, &[u8], HeadRead); 5] = [
-            (16_380, b"\r\n\r\n", whole),
-            (16_381, b"\r\n\r\n", HeadRead::TooLong),
-            (16_382, b"\r\n", HeadRead::TooLong),
-            (16_381, b"\r\n", HeadRead::CutShort),
-            (16_382, b"\n\n\n", whole),
-        ];
-        for (letters, end, wanted) in rows {
-            let bytes = long(alloc, letters, end)?;
-            assert_eq!(rt; read_cut(alloc, &bytes, [9_999, 6_384])?, wanted);
-        }
-        Ok(())
-    }
-
-    #[test]
-    fn a_failed_read_loses_nothing(rt: HostRuntime) -> Result<(), Fail> {
-        let alloc = rt.alloc();
-        let text = b"A\r\n\r\n";
-        for call in 0..5 {
-            let pieces = [1, 1, 1, 1, 1, 1].to_vec(alloc)?;
-            let mut source = MemorySource::new(alloc, text.to_vec(alloc)?)
-                .cut(pieces)
-                .failing([call].to_vec(alloc)?);
-            let mut buffer = Buffer::new(alloc);
-            assert_eq!(rt; read_head(&mut source, &mut buffer), HeadRead::ReadFault);
-            assert_eq!(rt; buffer.pending().len() as u64, call);
-            assert_eq!(rt;
-                read_head(&mut source, &mut buffer),
-                HeadRead::Text { start: 0, end: 5 }
-            );
-        }
-        Ok(())
-    }
-
-    #[test]
-    fn what_is_pending_comes_first(rt: HostRuntime) -> Result<(), Fail> {
-        let alloc = rt.alloc();
-        let mut source = MemorySource::new(alloc, b"A\n\nBC\n\n\nD".to_vec(alloc)?).cut([5].to_vec(
-            alloc,
-        )?);
-        let mut buffer = Buffer::new(alloc);
-        let rows = [
-            (HeadRead::Text { start: 0, end: 3 }, 3),
-            (HeadRead::Text { start: 0, end: 4 }, 4),
-            (HeadRead::CutShort, 2),
-            (HeadRead::Empty, 0),
-        ];
-        for (wanted, taken) in rows {
-            assert_eq!(rt; read_head(&mut source, &mut buffer), wanted);
-            assert!(rt; taken <= buffer.pending().len());
-            buffer.take_front(taken);
-        }
-        Ok(())
-    }
 }

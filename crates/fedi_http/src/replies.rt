@@ -17,11 +17,11 @@ const LINES: usize = 320;
 /// What ends a line.
 const END: &[u8] = b"\r\n";
 
-/// The reply for want of memory. It closes the connection.
-pub const MEMORY_TEXT: &[u8] =
+/// The reply when there is no memory for another. It closes the connection.
+const MEMORY_TEXT: &[u8] =
     b"HTTP/1.1 507 Insufficient Storage\r\nContent-Length: 0\r\nConnection: close\r\n\r\n";
 
-/// The reply for want of memory, of which nothing has to be made.
+/// The reply when there is no memory for another (RFC 4918, section 11.5): 507, which closes the connection. It takes no memory.
 #[tactic(auto, unfolding(fedi_model::specs::ReplyText::memory_text))]
 pub fn memory_text() -> &'static [u8]
     ensures { result.now ≡ model.memory_text }
@@ -31,8 +31,8 @@ pub fn memory_text() -> &'static [u8]
 
 /// The text of the reply at this moment (RFC 9112, section 4): the status line, the fields `Date`,
 /// `Location`, `Allow`, `WWW-Authenticate`, `Access-Control-Allow-Origin`, `Content-Type`,
-/// `Content-Length` and `Connection`, each where it applies, an empty line, and the body unless
-/// `head_only`. The connection is told to close where `closing`.
+/// `Content-Length` and `Connection`, each if it applies, an empty line, and the body unless
+/// `head_only`. The connection is told to close if `closing`. The error is that there is no memory.
 pub fn reply_bytes(
     alloc: Global,
     reply: &Reply,
@@ -40,7 +40,8 @@ pub fn reply_bytes(
     head_only: bool,
     closing: bool,
 ) -> Result<Vec<u8>, AllocError>
-    ensures { IfOk result (λ text. text.items ≡ model.reply_text moment head_only closing reply.now) }
+    ensures { IfOk result (λ text.
+        text.items ≡ model.reply_text moment head_only closing reply.now) }
 {
     let mut text = Vec::with_capacity(alloc, room_for(reply))?;
     push_start(&mut text, reply, moment)?;
@@ -61,9 +62,10 @@ fn room_for(reply: &Reply) -> usize {
         .saturating_add(reply.body.bytes().len())
 }
 
-/// Puts the pieces at the end, in order.
+/// Appends the pieces, in order.
 fn push(text: &mut Vec<u8>, pieces: &[&[u8]]) -> Result<(), AllocError>
-    ensures { OnOk result (text.new.items ≡ text.old.items ++ flat_map (λ piece. piece.now) pieces.now) }
+    ensures { OnOk result
+        (text.new.items ≡ text.old.items ++ flat_map (λ piece. piece.now) pieces.now) }
 {
     for piece in pieces {
         text.extend_from_slice(piece)?;
@@ -71,7 +73,7 @@ fn push(text: &mut Vec<u8>, pieces: &[&[u8]]) -> Result<(), AllocError>
     Ok(())
 }
 
-/// Puts the status line, the date and the location at the end.
+/// Appends the status line, the date and the location.
 #[tactic(auto, unfolding(fedi_model::specs::ReplyText::start_text))]
 fn push_start(text: &mut Vec<u8>, reply: &Reply, moment: Moment) -> Result<(), AllocError>
     ensures { OnOk result (text.new.items ≡ text.old.items ++ model.start_text moment reply.now) }
@@ -81,7 +83,7 @@ fn push_start(text: &mut Vec<u8>, reply: &Reply, moment: Moment) -> Result<(), A
     push_location(text, &reply.location)
 }
 
-/// Puts the status line at the end.
+/// Appends the status line.
 #[tactic(auto, unfolding(fedi_model::specs::ReplyText::status_line))]
 fn push_status(text: &mut Vec<u8>, status: StatusCode) -> Result<(), AllocError>
     ensures { OnOk result (text.new.items ≡ text.old.items ++ model.status_line status) }
@@ -106,7 +108,7 @@ fn reason(status: StatusCode) -> &'static str
     status.canonical_reason().unwrap_or("<unknown status code>")
 }
 
-/// Puts the date at the end.
+/// Appends the date.
 #[tactic(auto, unfolding(fedi_model::specs::ReplyText::date_line))]
 fn push_date(text: &mut Vec<u8>, moment: Moment) -> Result<(), AllocError>
     ensures { OnOk result (text.new.items ≡ text.old.items ++ model.date_line moment) }
@@ -114,7 +116,7 @@ fn push_date(text: &mut Vec<u8>, moment: Moment) -> Result<(), AllocError>
     push(text, &[b"Date: ", &moment.http_date(), END])
 }
 
-/// Puts the location at the end, where there is one.
+/// Appends the location, if there is one.
 #[tactic(auto, unfolding(fedi_model::specs::ReplyText::location_line))]
 fn push_location(text: &mut Vec<u8>, location: &Option<Iri>) -> Result<(), AllocError>
     ensures { OnOk result (text.new.items ≡ text.old.items ++ model.location_line location.now) }
@@ -125,7 +127,7 @@ fn push_location(text: &mut Vec<u8>, location: &Option<Iri>) -> Result<(), Alloc
     }
 }
 
-/// Puts the lines by the kind of reply at the end.
+/// Appends the lines by the kind of reply.
 #[tactic(auto, unfolding(fedi_model::specs::ReplyText::kind_text))]
 fn push_kind(text: &mut Vec<u8>, reply: &Reply) -> Result<(), AllocError>
     ensures { OnOk result (text.new.items ≡ text.old.items ++ model.kind_text reply.now) }
@@ -135,7 +137,7 @@ fn push_kind(text: &mut Vec<u8>, reply: &Reply) -> Result<(), AllocError>
     text.extend_from_slice(origin_line(reply.form, reply.status))
 }
 
-/// The line that names the methods, where there is one.
+/// The line that names the methods, if there are any to name.
 #[tactic(auto, unfolding(fedi_model::specs::ReplyText::allow_line))]
 fn allow_line(allow: Option<Allow>) -> &'static [u8]
     ensures { result.now ≡ model.allow_line allow }
@@ -147,7 +149,7 @@ fn allow_line(allow: Option<Allow>) -> &'static [u8]
     }
 }
 
-/// The line that asks for a key, where one is wanted.
+/// The line that asks for a key, if the reply says that one is missing or wrong.
 #[tactic(auto, unfolding(fedi_model::specs::ReplyText::challenge_line))]
 fn challenge_line(status: StatusCode) -> &'static [u8]
     ensures { result.now ≡ model.challenge_line status }
@@ -170,17 +172,18 @@ fn origin_line(form: Form, status: StatusCode) -> &'static [u8]
     }
 }
 
-/// Puts the lines by the body at the end.
+/// Appends the lines by the body.
 #[tactic(auto, unfolding(fedi_model::specs::ReplyText::content_text))]
 fn push_content(text: &mut Vec<u8>, reply: &Reply, closing: bool) -> Result<(), AllocError>
-    ensures { OnOk result (text.new.items ≡ text.old.items ++ model.content_text closing reply.now) }
+    ensures { OnOk result
+        (text.new.items ≡ text.old.items ++ model.content_text closing reply.now) }
 {
     text.extend_from_slice(type_line(reply.form, reply.body.bytes()))?;
     push_length(text, reply.body.bytes())?;
     text.extend_from_slice(connection_line(closing))
 }
 
-/// The line that names the media type of the body, where there is one.
+/// The line that names the media type of the body, if there is one.
 #[tactic(auto, unfolding(fedi_model::specs::ReplyText::type_line))]
 fn type_line(form: Form, body: &[u8]) -> &'static [u8]
     ensures { result.now ≡ model.type_line form body.now }
@@ -200,7 +203,7 @@ fn type_of(form: Form) -> &'static [u8]
     }
 }
 
-/// Puts the length of the body at the end.
+/// Appends the length of the body.
 #[tactic(auto, unfolding(fedi_model::specs::ReplyText::length_line))]
 fn push_length(text: &mut Vec<u8>, body: &[u8]) -> Result<(), AllocError>
     ensures { OnOk result (text.new.items ≡ text.old.items ++ model.length_line body.now) }
@@ -216,7 +219,7 @@ fn push_length(text: &mut Vec<u8>, body: &[u8]) -> Result<(), AllocError>
     )
 }
 
-/// The line that tells that the connection is closed, where it is.
+/// The line that tells that the connection is closed, if it is.
 #[tactic(auto, unfolding(fedi_model::specs::ReplyText::connection_line))]
 fn connection_line(closing: bool) -> &'static [u8]
     ensures { result.now ≡ model.connection_line closing }
@@ -228,7 +231,7 @@ fn connection_line(closing: bool) -> &'static [u8]
     }
 }
 
-/// Puts the empty line and the body at the end.
+/// Appends the empty line and the body.
 fn push_end(text: &mut Vec<u8>, body: &[u8], head_only: bool) -> Result<(), AllocError>
     ensures { OnOk result (text.new.items
         ≡ text.old.items ++ (codes "\r\n" ++ model.body_text head_only body.now)) }

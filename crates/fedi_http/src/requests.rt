@@ -3,27 +3,30 @@
 ghost use Rattle.std.specs.Prelude.{◌≡◌, ◌≢◌, ℕ, ◌≤◌, List, MatchOption, true, false, ◌&&◌, length, All, IfOk, IfErr, IfSome, IsSome, if◌then◌else◌, option_copied};
 ghost use Rattle.std.specs.Str.{is_utf8};
 ghost use Rattle.httparse.specs.Grammar.{RequestHead, IsToken};
-ghost use Rattle.httparse.specs.Spans.{IsRequestAt, IsRequestWithin, IsHeaderWithin, span_bytes, header_bytes};
+ghost use Rattle.httparse.specs.Spans.{IsRequestAt, IsRequestWithin, IsHeaderWithin};
 ghost use Rattle.fedi_model.specs.Requests as model;
+ghost use Rattle.fedi_model.specs.Requests.{Field};
+ghost use Rattle.fedi_http.specs.Fields.{AreKnown};
+ghost use Rattle.fedi_http.specs.Spans.{refusal_by, request_by};
 
-use crate::framing::{body_length, closes};
-use fedi_address::Items;
-use fedi_model::{BODY_LIMIT, Field, Refusal, Request};
+use crate::fields::KnownFields;
+use crate::framing::body_length;
+use fedi_model::{BODY_LIMIT, Fields, Refusal, Request};
 use fedi_objects::Bytes;
 use http::Method;
 use httparse::Status;
-use httparse::spans::{EMPTY_HEADER_SPAN, HeaderSpan, RequestSpans, Span, parse_request};
+use httparse::spans::{EMPTY_HEADER_SPAN, HeaderSpan, RequestSpans, parse_request};
 use std::alloc::{AllocError, Global};
 
 /// The most fields that a head may have.
 pub const MOST_FIELDS: usize = 64;
 
-/// Reads the text of one whole head as a request, whose body is still to come. It is `BadHead` where the text is not one head of at
+/// Reads the text of one whole head as a request, whose body is still to come. It is `BadHead` if the text is not one head of at
 /// most 64 fields, or one that is not served: whose method is neither GET nor POST, whose version is not 1.1, whose target does not
 /// begin with a slash, which has not exactly one `Host`, which repeats a field that stands once, which has both `Content-Length` and
-/// `Transfer-Encoding`, or whose `Content-Length` is no number of 1 to 19 digits. Then it is `NoCoding` where the body is coded for
-/// its transfer, `NoLength` for a POST without `Content-Length`, and `TooLong` where the body has over 262,144 bytes. It is `Memory`
-/// where memory is wanted.
+/// `Transfer-Encoding`, or whose `Content-Length` is no number of 1 to 19 digits. Then it is `NoCoding` if the body is coded for
+/// its transfer, `NoLength` for a POST without `Content-Length`, `TooLong` if the body has over 262,144 bytes, and `Memory` if there
+/// is no memory for the request.
 #[tactic(auto, using(crate::proofs::RequestLemmas::reads_once))]
 pub fn read_request_head(alloc: Global, text: &[u8]) -> Result<Request, Refusal>
     ensures ok { IfOk result (λ request. model.ReadsAs MOST_FIELDS text.now (Ok request)) }
@@ -39,7 +42,7 @@ pub fn read_request_head(alloc: Global, text: &[u8]) -> Result<Request, Refusal>
     }
 }
 
-/// The places of the parts of the head, where the text is one whole head whose fields have room.
+/// The places of the parts of the head, if the text is one whole head whose fields have room.
 fn whole_head(text: &[u8], spans: &mut [HeaderSpan]) -> Option<RequestSpans>
     ensures within { IfSome result (IsRequestWithin text.now spans.new) }
     ensures head { IfSome result (λ head. (h : RequestHead)
@@ -54,26 +57,17 @@ fn whole_head(text: &[u8], spans: &mut [HeaderSpan]) -> Option<RequestSpans>
     }
 }
 
-/// The method of this name, where it is served.
+/// The method of this name, if it is served.
 fn served_method(name: &[u8]) -> Option<Method>
     ensures { MatchOption result
         (model.is_served_method name.now ≡ false)
         (λ method. (model.is_served_method name.now ≡ true) × (method ≡ name.now)) }
 {
-    if name == b"GET".as_slice() {
-        Some(Method::GET)
-    } else if name == b"POST".as_slice() {
-        Some(Method::POST)
-    } else {
-        None
+    match name {
+        b"GET" => Some(Method::GET),
+        b"POST" => Some(Method::POST),
+        _ => None,
     }
-}
-
-/// Whether the version and the target are served.
-fn is_served(version: u8, target: &[u8]) -> bool
-    ensures { result ≡ (model.is_served_version version && model.is_served_target target.now) }
-{
-    version == 1 && target.starts_with(b"/")
 }
 
 /// The request of the head at these places.
@@ -88,89 +82,68 @@ fn request_at(
     requires named_within { head.method.end ≤ length text.now }
     requires ordered { head.path.start ≤ head.path.end }
     requires in_range { head.path.end ≤ length text.now }
-    ensures ok { IfOk result (λ request.
-        (model.refusal_with (span_bytes text.now head.method) (span_bytes text.now head.path) head.version
-        (model.fields_at text.now spans.now) ≡ None)
-        × (request ≡ model.request_with (span_bytes text.now head.method) (span_bytes text.now head.path)
-        (model.fields_at text.now spans.now))) }
-    ensures refused { IfErr result (λ e. e ≢ Refusal.Memory →
-        model.refusal_with (span_bytes text.now head.method) (span_bytes text.now head.path) head.version
-        (model.fields_at text.now spans.now) ≡ Some e) }
+    ensures ok { IfOk result (λ request. (refusal_by text.now head spans.now ≡ None)
+        × (request ≡ request_by text.now head spans.now)) }
+    ensures refused { IfErr result (λ e.
+        e ≢ Refusal.Memory → refusal_by text.now head spans.now ≡ Some e) }
     ensures short { IfOk result (λ request. request.body_length ≤ BODY_LIMIT) }
 {
     let target = head.path.of(text);
     let Some(method) = served_method(head.method.of(text)) else {
         return Err(Refusal::BadHead);
     };
-    if !is_served(head.version, target) {
+    if head.version != 1 || !target.starts_with(b"/") {
         return Err(Refusal::BadHead);
     }
-    match fields_at(alloc, text, spans) {
-        Ok(fields) => request_with(alloc, method, target, fields),
+    let known = KnownFields::read(text, spans);
+    let body_length = body_length(&method, &known)?;
+    Ok(Request {
+        method,
+        target: copied(alloc, target)?,
+        fields: read_fields(alloc, &known)?,
+        body_length,
+        keep_alive: !known.closes,
+    })
+}
+
+/// Copies of the values that are read after the head.
+fn read_fields(alloc: Global, known: &KnownFields) -> Result<Fields, Refusal>
+    ensures ok { IfOk result (λ copies. (fields : List Field)
+        → AreKnown fields known.now → copies ≡ model.known_fields fields) }
+    ensures err { IfErr result (λ e. e ≡ Refusal.Memory) }
+{
+    Ok(Fields {
+        authorization: copied_if_any(alloc, known.authorization.value)?,
+        peer_host: copied_if_any(alloc, known.peer_host.value)?,
+        peer_mac: copied_if_any(alloc, known.peer_mac.value)?,
+        content_type: copied_if_any(alloc, known.content_type.value)?,
+        idempotency_key: copied_if_any(alloc, known.idempotency_key.value)?,
+    })
+}
+
+/// A copy of the value, if there is one.
+fn copied_if_any(alloc: Global, value: Option<&[u8]>) -> Result<Option<Bytes>, Refusal>
+    ensures ok { IfOk result (λ bytes. bytes ≡ option_copied value.entry) }
+    ensures err { IfErr result (λ e. e ≡ Refusal.Memory) }
+{
+    match value {
+        Some(value) => Ok(Some(copied(alloc, value)?)),
+        None => Ok(None),
+    }
+}
+
+/// A copy of the bytes.
+fn copied(alloc: Global, bytes: &[u8]) -> Result<Bytes, Refusal>
+    ensures ok { IfOk result (λ copy. copy ≡ bytes.now) }
+    ensures err { IfErr result (λ e. e ≡ Refusal.Memory) }
+{
+    match Vec::from_slice(alloc, bytes) {
+        Ok(copy) => Ok(Bytes::new(copy)),
         Err(AllocError) => Err(Refusal::Memory),
     }
 }
 
-/// The request of these parts, whose request line is served.
-fn request_with(
-    alloc: Global,
-    method: Method,
-    target: &[u8],
-    fields: Vec<Field>,
-) -> Result<Request, Refusal>
-    ensures ok { IfOk result (λ request. (model.fields_refusal method fields.items ≡ None)
-        × (request ≡ model.request_with method target.now fields.items)) }
-    ensures refused { IfErr result (λ e. e ≢ Refusal.Memory → model.fields_refusal method fields.items ≡ Some e) }
-    ensures short { IfOk result (λ request. request.body_length ≤ BODY_LIMIT) }
-{
-    let body_length = body_length(&method, &fields)?;
-    let keep = !closes(&fields);
-    let Ok(target) = Vec::from_slice(alloc, target) else {
-        return Err(Refusal::Memory);
-    };
-    Ok(Request {
-        method,
-        target: Bytes::new(target),
-        fields: Items::new(fields),
-        body_length,
-        keep,
-    })
-}
-
-/// The bytes at this place.
-fn bytes_at(alloc: Global, text: &[u8], span: Span) -> Result<Bytes, AllocError>
-    requires ordered { span.start ≤ span.end }
-    requires in_range { span.end ≤ length text.now }
-    ensures { IfOk result (λ bytes. bytes ≡ span_bytes text.now span) }
-{
-    let bytes = Vec::from_slice(alloc, span.of(text))?;
-    Ok(Bytes::new(bytes))
-}
-
-/// The field at this place.
-fn field_at(alloc: Global, text: &[u8], span: HeaderSpan) -> Result<Field, AllocError>
-    requires { IsHeaderWithin (length text.now) span }
-    ensures { IfOk result (λ field. field ≡ model.field_of (header_bytes text.now span)) }
-{
-    let name = bytes_at(alloc, text, span.name)?;
-    let value = bytes_at(alloc, text, span.value)?;
-    Ok(Field { name, value })
-}
-
-/// The fields at these places, in order.
-#[tactic(auto, using(crate::proofs::RequestLemmas::fields_more))]
-fn fields_at(alloc: Global, text: &[u8], spans: &[HeaderSpan]) -> Result<Vec<Field>, AllocError>
-    requires { All (IsHeaderWithin (length text.now)) spans.now }
-    ensures { IfOk result (λ fields. fields.items ≡ model.fields_at text.now spans.now) }
-{
-    let mut fields = Vec::with_capacity(alloc, spans.len())?;
-    for span in spans {
-        fields.push(field_at(alloc, text, *span)?)?;
-    }
-    Ok(fields)
-}
-
-/// The text that these bytes are, where they are UTF-8.
+/// The text that these bytes are, if they are UTF-8 (RFC 3629).
 pub fn text_of(bytes: &[u8]) -> Option<&str>
     ensures { option_copied result ≡ (if is_utf8 bytes.now then Some bytes.now else None) }
 {

@@ -1,4 +1,4 @@
-//! Keys, their digests and their texts. Nothing here takes memory.
+//! What the authentication of messages rests on: keys, their digests and their texts. Nothing here takes memory.
 #![tactic(auto)]
 
 ghost use Rattle.std.specs.Prelude.{◌≡◌, ◌↔◌, length, IsTrue, IsSome, IfSome};
@@ -6,9 +6,6 @@ ghost use Rattle.std.specs.List.{AllPass};
 ghost use Rattle.hex.specs.Hex.{decode_of, encode_lower, is_hex_digit};
 ghost use Rattle.sha2.specs.Sha256.{sha256};
 ghost use Rattle.fedi_mac.specs.Keys.{key_of};
-
-#[cfg(test)]
-mod tests;
 
 use hex::FromHex;
 use sha2::{Digest, Sha256};
@@ -20,8 +17,10 @@ pub fn digest(bytes: &[u8]) -> [u8; 32]
     Sha256::digest(bytes)
 }
 
-/// Whether the two are equal. Each byte is looked at whatever the bytes before it were, so that the
-/// time does not tell a caller where a wrong key first differs. No clause speaks of time.
+/// Whether the two are equal. Each byte is compared whatever the bytes before it were, so that the time
+/// does not tell where a wrong code first differs. It is for codes that a caller shows and the server
+/// computes (RFC 2104), of which none are built yet. A key is found by its SHA-256 digest, of which the
+/// time tells nothing that helps to guess the key, so digests are compared by `==`. No clause speaks of time.
 pub fn matches(a: &[u8; 32], b: &[u8; 32]) -> bool
     ensures { IsTrue result ↔ (a.now ≡ b.now) }
 {
@@ -33,7 +32,7 @@ pub fn matches(a: &[u8; 32], b: &[u8; 32]) -> bool
 }
 
 /// The key that the text writes in hexadecimal digits of either case (RFC 4648, section 8), or none
-/// exactly where the text is not 64 such digits.
+/// exactly if the text is not 64 such digits.
 pub fn read_key(text: &[u8]) -> Option<[u8; 32]>
     ensures key { result ≡ key_of text.now }
     ensures found { IsSome result ↔ ((length text.now ≡ 64) × AllPass is_hex_digit text.now) }
@@ -48,6 +47,7 @@ pub fn hex_text(bytes: &[u8; 32]) -> [u8; 64]
     ensures back { key_of result ≡ Some bytes.now }
 {
     let mut text = [0; 64];
+    // It does not fail: the text has two digits for each byte.
     let _ = hex::encode_to_slice(bytes, &mut text);
     text
 }

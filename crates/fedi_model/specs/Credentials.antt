@@ -9,7 +9,6 @@ use Rattle.fedi_model.specs.declared.caller.Credentials.{Credentials}
 use Rattle.fedi_model.specs.declared.caller.Credentials.TheVariants.{Nothing as NoneShown, Bearer as BearerShown, Mac as MacShown}
 use Rattle.fedi_model.specs.declared.caller.Signed.{Signed}
 use Rattle.fedi_model.specs.declared.request.Request.{Request}
-use Rattle.fedi_model.specs.Requests.{field_value}
 
 -- the 32 bytes that 64 hexadecimal digits, of either case, write (RFC 4648, section 8)
 unfoldable pub key_of : List ℕ → Option (List ℕ)
@@ -65,11 +64,7 @@ credentials_by q body None (Some host) code = Mac (signature_of q body (Some hos
 
 -- what a request with this body shows of who makes it
 abbrev pub credentials_of : Request → List ℕ → Shows
-credentials_of q body =
-    credentials_by q body
-    (field_value (codes "Authorization") q.fields)
-    (field_value (codes "Peer-Host") q.fields)
-    (field_value (codes "Peer-Mac") q.fields)
+credentials_of q body = credentials_by q body q.fields.authorization q.fields.peer_host q.fields.peer_mac
 
 -- what another server signed, without the references
 abbrev pub signature_in : Signed → Signature

@@ -8,7 +8,7 @@ use Rattle.httparse.specs.Spans.{name_and_value, header_bytes}
 use Rattle.httparse.specs.declared.spans.HeaderSpan.{HeaderSpan}
 use Rattle.fedi_model.specs.declared.refusal.Refusal.{Refusal}
 use Rattle.fedi_model.specs.declared.refusal.Refusal.TheVariants.{BadHead, NoCoding, NoLength, TooLong}
-use Rattle.fedi_model.specs.declared.request.Field.{Field}
+use Rattle.fedi_model.specs.declared.request.Fields.{Fields}
 use Rattle.fedi_model.specs.declared.request.Request.{Request}
 use Rattle.fedi_model.specs.declared.request.TheConstants.{BODY_LIMIT}
 
@@ -18,11 +18,16 @@ IsHead most text h = ReadsRequest text h [] × (length h.fields ≤ most)
 
 -- ---- the fields
 
+-- one field: its name as it was written, and its value without the white space around it (RFC 9110, sections 5.1 and 5.5)
+pub record Field : Type 0 where
+  pub name : List ℕ
+  pub value : List ℕ
+
 -- a field of this name and value
 abbrev pub field_of : List ℕ × List ℕ → Field
 field_of pair = record { name = pair.0; value = pair.1 }
 
--- the fields of a head, in order, their values without the white space around them (RFC 9110, section 5.5)
+-- the fields of a head, in order
 abbrev pub fields_of : RequestHead → List Field
 fields_of h = map field_of (map name_and_value h.fields)
 
@@ -114,10 +119,25 @@ is_get method = bytes_eq method (codes "GET")
 abbrev pub is_post : List ℕ → Bool
 is_post method = bytes_eq method (codes "POST")
 
+-- what the fields say that is read after the head
+abbrev pub known_fields : List Field → Fields
+known_fields fields = record {
+  authorization = field_value (codes "Authorization") fields;
+  peer_host = field_value (codes "Peer-Host") fields;
+  peer_mac = field_value (codes "Peer-Mac") fields;
+  content_type = field_value (codes "Content-Type") fields;
+  idempotency_key = field_value (codes "Idempotency-Key") fields;
+}
+
 -- a request of these parts
 abbrev pub request_with : List ℕ → List ℕ → List Field → Request
-request_with method target fields =
-    record { method = method; target = target; fields = fields; body_length = body_length fields; keep = not (closes fields) }
+request_with method target fields = record {
+  method = method;
+  target = target;
+  fields = known_fields fields;
+  body_length = body_length fields;
+  keep_alive = not (closes fields);
+}
 
 -- the request that a head writes
 abbrev pub request_of : RequestHead → Request

@@ -1,6 +1,6 @@
 -- What a request asks for, by its method and its path (RFC 9110, section 9.3; ActivityPub, sections 3.2 and 6). Paths are
 -- compared byte for byte and never decoded.
-use Rattle.std.specs.Prelude.{◌≡◌, ℕ, ◌≤◌, ◌<◌, ◌^◌, ◌==◌, Bool, false, not, ◌||◌, List, map, codes, bytes_eq, IsTrue, Option, Some, None, Ok, Err}
+use Rattle.std.specs.Prelude.{◌≡◌, ℕ, ◌≤◌, ◌<◌, ◌^◌, ◌==◌, Bool, false, ◌||◌, List, map, codes, bytes_eq, IsTrue, Option, Some, None, Ok, Err, is_some}
 use Rattle.std.specs.Char.{to_ascii_lowercase}
 use Rattle.std.specs.List.{before_first}
 use Rattle.serde_json.specs.Data.{Data}
@@ -8,7 +8,7 @@ use Rattle.fedi_address.specs.Names.{is_name}
 use Rattle.fedi_reading.specs.Bodies.{IsBodyOf}
 use Rattle.fedi_reading.specs.Reading.{reads_posted}
 use Rattle.fedi_model.specs.Ids.{activity_path, object_path, outbox_path}
-use Rattle.fedi_model.specs.Requests.{field_value, is_get, is_missing, is_post, without_back_blanks}
+use Rattle.fedi_model.specs.Requests.{is_get, is_post, without_back_blanks}
 use Rattle.fedi_model.specs.declared.ask.Ask.{Ask}
 use Rattle.fedi_model.specs.declared.ask.Ask.TheVariants.{Nowhere, Activity, Object, Outbox}
 use Rattle.fedi_model.specs.declared.ask.Post.{Post}
@@ -49,8 +49,8 @@ ReadsBody body (Ready a) = (d : Data) × IsBodyOf body d × (reads_posted d ≡ 
 
 -- the post that a request with this body makes
 pub record IsPost (q : Request) (body : List ℕ) (post : Post) : Type 0 where
-  pub typed : post.is_typed ≡ is_typed (field_value (codes "Content-Type") q.fields)
-  pub keyed : post.is_keyed ≡ not (is_missing (codes "Idempotency-Key") q.fields)
+  pub typed : post.is_typed ≡ is_typed q.fields.content_type
+  pub keyed : post.is_keyed ≡ is_some q.fields.idempotency_key
   pub read : ReadsBody body post.read
 
 -- ---- asks

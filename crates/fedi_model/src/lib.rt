@@ -19,4 +19,4 @@ pub use laws::{
 pub use refusal::Refusal;
 pub use refusing::{misshapen_reply, refusal_reply};
 pub use reply::{Allow, Body, Form, Reply};
-pub use request::{BODY_LIMIT, Field, Request};
+pub use request::{BODY_LIMIT, Fields, Request};

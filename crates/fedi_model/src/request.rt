@@ -1,16 +1,22 @@
 //! Requests as they are read.
 
-use fedi_address::Items;
 use fedi_objects::Bytes;
 use http::Method;
 
-/// One field of a head (RFC 9110, section 5).
+/// The values of the fields of a head that are read after it, each of the first field of its name (RFC 9110, section 5.1), without the
+/// white space around it (RFC 9110, section 5.5).
 #[derive(Drop)]
-pub struct Field {
-    /// The name, as it was written (RFC 9110, section 5.1).
-    pub name: Bytes,
-    /// The value without the white space around it (RFC 9110, section 5.5).
-    pub value: Bytes,
+pub struct Fields {
+    /// `Authorization`: a key (RFC 9110, section 11.6.2).
+    pub authorization: Option<Bytes>,
+    /// `Peer-Host`: the host of a server that signs.
+    pub peer_host: Option<Bytes>,
+    /// `Peer-Mac`: its code over the request.
+    pub peer_mac: Option<Bytes>,
+    /// `Content-Type`: the media type of the body (RFC 9110, section 8.3).
+    pub content_type: Option<Bytes>,
+    /// `Idempotency-Key`: the key under which a repeat of the request is known.
+    pub idempotency_key: Option<Bytes>,
 }
 
 /// The most bytes that a body may have.
@@ -23,10 +29,10 @@ pub struct Request {
     pub method: Method,
     /// The target (RFC 9112, section 3.2).
     pub target: Bytes,
-    /// The fields of the head, in order.
-    pub fields: Items<Field>,
+    /// What the fields of the head say.
+    pub fields: Fields,
     /// How many bytes the body has (RFC 9112, section 6.2).
     pub body_length: usize,
     /// Whether the connection goes on after the reply, as far as the fields say (RFC 9112, section 9.3).
-    pub keep: bool,
+    pub keep_alive: bool,
 }

@@ -1,5 +1,6 @@
 pub mod Causes
-pub mod Feeding
-pub mod Gathering
 pub mod Keepers
-pub mod Keeping
+pub mod MemoryKeepers
+pub mod Plans
+pub mod Sinks
+pub mod Sources

@@ -5,7 +5,7 @@ use std::marker::Model;
 
 /// A clock.
 pub trait Clock {
-    /// The moment that the clock stands at, where it tells.
+    /// The moment that the clock stands at, if it tells it.
     ghost told: { Self → Option ℕ };
 
     /// The moment, in seconds since 1970-01-01T00:00:00Z.

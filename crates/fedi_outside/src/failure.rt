@@ -1,16 +1,7 @@
 //! The error of the outside.
-use std::error::Error;
-use std::fmt;
+use thiserror::Error;
 
-/// A read or a write failed. It comes only where the count of faults of the object rose in that call, or stands at its last
-/// value, 2^64 - 1.
-#[derive(Clone, Copy, Debug, PartialEq, Eq)]
+/// A read, a write or a call of a keeper failed, and the object has counted it. The count saturates at 2^64 - 1.
+#[derive(Clone, Copy, Debug, PartialEq, Eq, Error)]
+#[error("the outside failed")]
 pub struct Failed;
-
-impl fmt::Display for Failed {
-    fn fmt<W: fmt::Write>(&self, f: &mut fmt::Formatter<W>) -> fmt::Result {
-        f.write_str("the outside failed")
-    }
-}
-
-impl Error for Failed {}

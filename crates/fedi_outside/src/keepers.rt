@@ -4,49 +4,50 @@ ghost use Rattle.fedi_outside.specs.Keepers.{Crashes, KeeperState, LeavesRecords
 ghost use Rattle.fedi_outside.specs.Keepers.{Finds, HasAdded, HasFailed, HasRoom, IsFull, OnlyRoomChanged, after_fault, after_load};
 
 use crate::Failed;
-use std::alloc::Global;
-use std::error::Error;
-use std::fmt;
+use std::alloc::{AllocError, Global};
+use thiserror::Error;
 
 /// Why a record was not loaded.
-#[derive(Clone, Copy, Debug, PartialEq, Eq)]
+#[derive(Clone, Copy, Debug, PartialEq, Eq, Error)]
 pub enum LoadFault {
-    /// The keeper failed. It comes only where its count of faults rose in that call.
+    /// The keeper failed, and has counted it.
+    #[error("the keeper failed")]
     Failed,
-    /// Memory was wanting.
+    /// Out of memory.
+    #[error("out of memory")]
     Memory,
 }
 
-impl fmt::Display for LoadFault {
-    fn fmt<W: fmt::Write>(&self, f: &mut fmt::Formatter<W>) -> fmt::Result {
-        match self {
-            LoadFault::Failed => f.write_str("the keeper failed"),
-            LoadFault::Memory => f.write_str("out of memory"),
-        }
+impl From<AllocError> for LoadFault {
+    ghost use Rattle.fedi_outside.specs.declared.keepers.LoadFault.TheVariants.{Memory};
+
+    ghost from_gives = { λ _ fault. fault ≡ Memory };
+
+    fn from(_: AllocError) -> Self {
+        LoadFault::Memory
     }
 }
-
-impl Error for LoadFault {}
 
 /// Why no room was made for a record.
-#[derive(Clone, Copy, Debug, PartialEq, Eq)]
+#[derive(Clone, Copy, Debug, PartialEq, Eq, Error)]
 pub enum ReserveFault {
     /// The keeper would grow past its limit.
+    #[error("the keeper is full")]
     Full,
-    /// Memory was wanting.
+    /// Out of memory.
+    #[error("out of memory")]
     Memory,
 }
 
-impl fmt::Display for ReserveFault {
-    fn fmt<W: fmt::Write>(&self, f: &mut fmt::Formatter<W>) -> fmt::Result {
-        match self {
-            ReserveFault::Full => f.write_str("the keeper is full"),
-            ReserveFault::Memory => f.write_str("out of memory"),
-        }
+impl From<AllocError> for ReserveFault {
+    ghost use Rattle.fedi_outside.specs.declared.keepers.ReserveFault.TheVariants.{Memory};
+
+    ghost from_gives = { λ _ fault. fault ≡ Memory };
+
+    fn from(_: AllocError) -> Self {
+        ReserveFault::Memory
     }
 }
-
-impl Error for ReserveFault {}
 
 /// A list of records, each of them bytes, that only grows. A record goes in by three calls: `reserve` makes room, `settle` removes
 /// the doubt that a failed append left, and `append` adds it. The keeper ends at 2^62.
@@ -70,7 +71,8 @@ pub trait Keeper {
     /// The record at this place, counted from 0, or none exactly if the place is at least the count. All is as before, also after
     /// an error: `Failed` if the keeper failed, `Memory` if out of memory.
     fn load(&mut self, alloc: Global, place: u64) -> Result<Option<Vec<u8>>, LoadFault>
-        ensures found { IfSome (shown self.old).records (λ records. IfOk result (Finds records place)) }
+        ensures found { IfSome (shown self.old).records
+            (λ records. IfOk result (Finds records place)) }
         ensures shown { shown self.new ≡ after_load result (shown self.old) }
         ensures time { PassesTime (shown self.old).records (shown self.old).doubt
             (crashes self.old) (crashes self.new) };
@@ -99,7 +101,8 @@ pub trait Keeper {
         requires settled { (shown self.old).doubt ≡ None }
         requires spare { length payload.now < (shown self.old).spare }
         requires room { HasRoom room (shown self.old).end (length payload.now) }
-        ensures added { OnOk result (HasAdded growth payload.now (shown self.old) (shown self.new)) }
+        ensures added { OnOk result
+            (HasAdded growth payload.now (shown self.old) (shown self.new)) }
         ensures refused { OnErr result (HasFailed payload.now (shown self.old) (shown self.new)) }
         ensures time { PassesTime (shown self.old).records (Some payload.now)
             (crashes self.old) (crashes self.new) };

@@ -1,23 +1,22 @@
 //! What lies outside the server: where bytes come from, where they go, and what time it is.
 //!
-//! Each trait says what a caller may rely on, and each has an implementation in memory that tells all that it does.
+//! Each trait says what a caller may rely on. Its ghost members are what contracts see of a value: some are optional, and a value
+//! that has one is said to tell it. Each trait has an implementation in memory, which tells all that it does.
 #![tactic(auto)]
 
+mod calm_keepers;
 mod clocks;
 mod failure;
 mod keepers;
 mod memory_keepers;
-mod piles;
-mod plan;
+mod plans;
 mod sinks;
 mod sources;
-#[cfg(test)]
-mod tests;
 
+pub use calm_keepers::{CalmKeeper, Record};
 pub use clocks::{Clock, FixedClock};
 pub use failure::Failed;
 pub use keepers::{Keeper, LoadFault, ReserveFault};
-pub use memory_keepers::{CalmKeeper, MemoryKeeper};
-pub use piles::Record;
+pub use memory_keepers::MemoryKeeper;
 pub use sinks::{MemorySink, Sink};
 pub use sources::{CalmSource, MemorySource, Source};

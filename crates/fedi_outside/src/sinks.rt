@@ -3,25 +3,25 @@ ghost use Rattle.std.specs.Prelude.{ℕ, ◌≡◌, ◌<◌, List, Option, Some,
 ghost use Rattle.std.specs.Io.{WritesAtMost};
 ghost use Rattle.std.specs.Io.KnownBytes.{WriteAppends};
 ghost use Rattle.fedi_outside.specs.Causes.{HasCause, next_count};
-ghost use Rattle.fedi_outside.specs.Feeding.{is_failing, allowed};
+ghost use Rattle.fedi_outside.specs.Plans.{is_to_fail, moved, no_faults};
 
 use crate::Failed;
-use crate::plan::{allowed, is_failing};
+use crate::plans::{FaultPlan, allowed};
 use std::alloc::Global;
 use std::marker::Model;
 
 /// Something that bytes are written to.
 pub trait Sink {
-    /// The bytes that were written, where it tells.
+    /// The bytes that were written, if it tells them.
     ghost sent: { Self → Option (List ℕ) };
 
-    /// How many writes failed. It stays at 2^64 - 1.
+    /// How many writes failed. The count saturates at 2^64 - 1.
     ghost write_faults: { Self → ℕ };
 
     /// A further meaning that a write leaves as it was: of a connection, what is to be read from it and its count of failed reads.
     ghost beside_sink: { Self → Option (List ℕ) × ℕ };
 
-    /// Takes bytes from the front of `from`, and answers how many: at least one where there is one. After an error none were taken.
+    /// Takes bytes from the front of `from`, and returns how many: at least one if there is one. After an error none were taken.
     fn write(&mut self, from: &[u8]) -> Result<usize, Failed>
         ensures bound { WritesAtMost result from.now }
         ensures some { 0 < length from.now → IfOk result (λ count. 0 < count) }
@@ -32,41 +32,33 @@ pub trait Sink {
 }
 
 /// A sink that keeps what is written in memory, and may be made to take little at once and to fail. It tells its bytes and counts its
-/// faults. A growth that memory refuses is a fault of that write.
+/// faults. A write that finds no memory for its bytes fails.
 #[derive(Drop)]
 pub struct MemorySink {
     bytes: Vec<u8>,
     limit: Option<usize>,
-    failing: Vec<u64>,
-    calls: u64,
-    faults: u64,
+    plan: FaultPlan,
 }
 
 impl Model for MemorySink {
-    ghost use Rattle.fedi_outside.specs.Gathering.{Gathered};
+    ghost use Rattle.fedi_outside.specs.Sinks.{MemorySinkState};
 
-    ghost Value = { Gathered };
+    ghost Value = { MemorySinkState };
 
-    ghost view = { λ s. record {
-      sent = s.bytes.items;
-      limit = s.limit;
-      failing = s.failing.items;
-      calls = s.calls;
-      faults = s.faults;
-    } };
+    ghost view = { λ s. record { sent = s.bytes.items; limit = s.limit; plan = s.plan } };
 }
 
 impl MemorySink {
-    /// An empty sink that takes all that it is given, and fails only where memory is wanting.
+    /// An empty sink that takes all that it is given, and fails only if out of memory.
     pub fn new(alloc: Global) -> Self
-        ensures { result ≡ record { sent = []; limit = None; failing = []; calls = 0; faults = 0 } }
+        ensures sent { result.sent ≡ [] }
+        ensures limit { result.limit ≡ None }
+        ensures plan { result.plan ≡ no_faults }
     {
         MemorySink {
             bytes: Vec::new(alloc),
             limit: None,
-            failing: Vec::new(alloc),
-            calls: 0,
-            faults: 0,
+            plan: FaultPlan::new(alloc),
         }
     }
 
@@ -81,10 +73,10 @@ impl MemorySink {
 
     /// The same sink, whose writes with these numbers, counted from 0, fail.
     pub fn failing(self, calls: Vec<u64>) -> Self
-        ensures { result ≡ record self { failing = calls.items } }
+        ensures { result ≡ record self { plan = record self.plan { failing = calls.items } } }
     {
         let mut sink = self;
-        sink.failing = calls;
+        sink.plan.set_failing(calls);
         sink
     }
 
@@ -99,26 +91,27 @@ impl MemorySink {
 impl Sink for MemorySink {
     ghost sent = { λ s. Some s.sent };
 
-    ghost write_faults = { λ s. s.faults };
+    ghost write_faults = { λ s. s.plan.faults };
 
     ghost beside_sink = { λ _. record { 0 = None; 1 = 0 } };
 
     fn write(&mut self, from: &[u8]) -> Result<usize, Failed>
-        ensures bound { WritesAtMost result from.now }
-        ensures some { 0 < length from.now → IfOk result (λ count. 0 < count) }
         ensures bytes { WriteAppends (Some self.old.sent) (Some self.new.sent) result from.now }
-        ensures cause { HasCause self.old.faults self.new.faults result }
-        ensures answer { is_failing self.old.failing self.old.calls ≡ true → IsErr result }
-        ensures count { IfOk result (λ n. n ≡ allowed self.old.limit (length from.now)) }
-        ensures plan { self.new ≡ record self.old { sent = self.new.sent; calls = next_count self.old.calls; faults = self.new.faults } }
+        ensures count { IfOk result (λ n. n ≡ moved self.old.limit (length from.now)) }
+        ensures limit { self.new.limit ≡ self.old.limit }
+        ensures failing { is_to_fail self.old.plan ≡ true → IsErr result }
+        ensures plan { self.new.plan ≡ record self.old.plan {
+          calls = next_count self.old.plan.calls;
+          faults = self.new.plan.faults;
+        } }
+        ensures cause { HasCause self.old.plan.faults self.new.plan.faults result }
     {
-        let call = self.calls;
-        self.calls = call.saturating_add(1);
+        if self.plan.next_fails() {
+            return Err(Failed);
+        }
         let count = allowed(self.limit, from.len());
-        if is_failing(&self.failing, call)
-            || self.bytes.extend_from_slice(&from[..count]).is_err()
-        {
-            self.faults = self.faults.saturating_add(1);
+        if self.bytes.extend_from_slice(&from[..count]).is_err() {
+            self.plan.count_fault();
             return Err(Failed);
         }
         Ok(count)

@@ -11,9 +11,8 @@ use Rattle.std.proofs.lemmas.Str.Parse.{IsNumeralModel, numerals_by_value, tells
 use Rattle.std.proofs.lemmas.Bool.{and_parts}
 use Rattle.std.proofs.lemmas.Bool.Decides.{nat_tests}
 use Rattle.std.specs.List.{list_all, position_or_len, before_first}
-use Rattle.std.specs.Str.{is_utf8}
+use Rattle.std.specs.Str.{is_utf8, IsUtf8, IsAscii}
 use Rattle.std.specs.Str.Parse.{ParsesUnsigned, AllDigits, digits_value}
-use Rattle.fedi_address.proofs.Texts.{name_is_utf8}
 use Rattle.fedi_address.specs.Names.{is_name, is_name_byte}
 use Rattle.fedi_model.specs.Routes.{IsNumber}
 use Rattle.fedi_routes.specs.Places.{part_of, place_path, IsPlace}
@@ -86,6 +85,18 @@ slice_to_end k xs = ap (λ (n : ℕ). take n (drop k xs)) (sym (length-drop k xs
 pub text_same : (bytes text : List ℕ) (u : Bool) → Some text ≡ (if u then Some bytes else None) → text ≡ bytes
 text_same bytes text true e = cc
 text_same bytes text false e = cc
+
+name_bytes_ascii : (xs : List ℕ) → list_all is_name_byte xs ≡ true → IsAscii xs
+name_bytes_ascii [] h i = grind arith
+name_bytes_ascii (x ∷ xs) h zero = grind (arith, nat_tests)
+name_bytes_ascii (x ∷ xs) h (suc i) =
+    name_bytes_ascii xs (and_parts (is_name_byte x) (list_all is_name_byte xs) h).1 i
+
+-- a name is ASCII, so it is UTF-8
+name_is_utf8 : (text : List ℕ) → is_name text ≡ true → IsUtf8 text
+name_is_utf8 text h =
+    IsUtf8-from_ascii text
+    (name_bytes_ascii text (and_parts (nat_le 1 (length text) && nat_le (length text) 30) (list_all is_name_byte text) h).1)
 
 -- what is no text is no name
 pub name_is_text : (bytes : List ℕ) → is_name bytes ≡ true → is_utf8 bytes ≡ true

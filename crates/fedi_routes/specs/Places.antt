@@ -1,7 +1,10 @@
 -- Where a path leads behind a member's name.
-use Rattle.std.specs.Prelude.{ℕ, Bool, List, ◌++◌, codes, decimal}
+use Rattle.std.specs.Prelude.{ℕ, ◌≡◌, Bool, List, ◌++◌, codes, decimal, IsTrue}
+use Rattle.fedi_address.specs.Names.{is_name}
+use Rattle.fedi_model.specs.Ids.{outbox_path}
 use Rattle.fedi_model.specs.Requests.{is_get, is_post}
-use Rattle.fedi_model.specs.Routes.{IsNumber}
+use Rattle.fedi_model.specs.Routes.{IsNumber, path_of}
+use Rattle.fedi_model.specs.declared.request.Request.{Request}
 use Rattle.fedi_routes.specs.declared.places.Place.{Place}
 use Rattle.fedi_routes.specs.declared.places.Place.TheVariants.{Activity, Object, Outbox}
 
@@ -26,3 +29,7 @@ abbrev pub takes : Place → List ℕ → Bool
 takes (Activity number) method = is_get method
 takes (Object number) method = is_get method
 takes Outbox method = is_post method
+
+-- the request is a post to a member's outbox (ActivityPub, section 6)
+abbrev pub IsToOutbox : Request → Type 0
+IsToOutbox q = IsTrue (is_post q.method) × ((name : List ℕ) × IsTrue (is_name name) × (path_of q.target ≡ outbox_path name))

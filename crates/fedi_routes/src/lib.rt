@@ -9,6 +9,3 @@ mod texts;
 
 pub use routes::route;
 pub use shown::credentials;
-
-#[cfg(test)]
-mod tests;

@@ -1,6 +1,6 @@
-//! Where a path leads behind a member's name.
+//! What stands at a path behind a member's name.
 
-ghost use Rattle.std.specs.Prelude.{◌≡◌, ◌≢◌, ◌↔◌, ℕ, ◌<◌, List, ◌++◌, decimal, IsTrue, IsSome, IfSome, MatchOption, bytes_eq, slice_index};
+ghost use Rattle.std.specs.Prelude.{◌≡◌, ◌≢◌, ◌↔◌, ℕ, ◌<◌, List, ◌++◌, decimal, IsTrue, IsSome, IfSome, MatchOption, slice_index};
 ghost use Rattle.fedi_address.specs.Names.{is_name};
 ghost use Rattle.fedi_model.specs.Requests as requests;
 ghost use Rattle.fedi_model.specs.Routes.{IsNumber};
@@ -12,7 +12,7 @@ use fedi_address::LocalName;
 use fedi_http::text_of;
 use http::Method;
 
-/// What of a member has a path.
+/// What stands at a path behind a member's name.
 #[derive(Clone, Copy)]
 pub(crate) enum Place {
     /// The activity of this number.
@@ -30,17 +30,10 @@ impl Place {
         ensures { result ≡ places.takes self method.now }
     {
         match self {
-            Place::Activity(_) | Place::Object(_) => is_method(method, "GET"),
-            Place::Outbox => is_method(method, "POST"),
+            Place::Activity(_) | Place::Object(_) => *method == Method::GET,
+            Place::Outbox => *method == Method::POST,
         }
     }
-}
-
-/// Whether this is the method's name.
-fn is_method(method: &Method, name: &str) -> bool
-    ensures { result ≡ bytes_eq method.now name.now }
-{
-    method.as_str() == name
 }
 
 /// The member and the place with this path.
@@ -94,7 +87,7 @@ fn place_in(rest: &[u8]) -> Option<Place>
     None
 }
 
-/// The number, from 1, that these digits write without a zero in front.
+/// The number, from 1 to 4,294,967,295, that these digits write without a zero in front.
 fn number_of(digits: &[u8]) -> Option<u32>
     ensures { MatchOption result
         ((number : ℕ) → IsNumber number → digits.now ≢ decimal number)
@@ -112,12 +105,15 @@ fn number_of(digits: &[u8]) -> Option<u32>
     }
 }
 
+/// The digit that stands in front of no number.
+const ZERO: u8 = b'0';
+
 /// Whether there is a first byte, and it is above the digit 0.
 fn begins_above_zero(digits: &[u8]) -> bool
-    ensures { IsTrue result ↔ (48 < slice_index digits.now 0) }
+    ensures { IsTrue result ↔ (ZERO < slice_index digits.now 0) }
 {
     match digits.first() {
-        Some(byte) => *byte > b'0',
+        Some(byte) => *byte > ZERO,
         None => false,
     }
 }

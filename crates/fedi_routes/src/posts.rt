@@ -1,29 +1,27 @@
 //! What a post holds (ActivityPub, section 6).
 
-ghost use Rattle.std.specs.Prelude.{◌≡◌, codes, map, IfOk};
+ghost use Rattle.std.specs.Prelude.{◌≡◌, map, IfOk};
 ghost use Rattle.std.specs.Char.{to_ascii_lowercase};
 ghost use Rattle.serde_json.specs.View.{view};
-ghost use Rattle.fedi_model.specs.Requests.{field_value};
 ghost use Rattle.fedi_model.specs.Routes as model;
 ghost use Rattle.fedi_routes.specs.Posts.{ReadsValue};
 
 use crate::texts::up_to;
-use fedi_http::{count_named, field_value, is_same_name, without_back_blanks};
-use fedi_model::{Field, Post, Read, Request};
+use fedi_http::{is_same_name, without_back_blanks};
+use fedi_model::{Fields, Post, Read, Request};
+use fedi_objects::Boxed;
 use fedi_reading::{BodyFault, ShapeFault, read_body, read_posted};
 use serde_json::Value;
 use std::alloc::{AllocError, Global};
 
-/// The post that the request with this body makes. `AllocError` where memory was wanted.
+/// The post that the request with this body makes. The error is that there is no memory for it.
 pub(crate) fn post_of(alloc: Global, request: &Request, body: &[u8]) -> Result<Post, AllocError>
     ensures { IfOk result (λ post. model.IsPost request.now body.now post) }
 {
-    let fields = request.fields.as_slice();
-    let read = body_of(alloc, body)?;
     Ok(Post {
-        is_typed: is_typed(fields),
-        is_keyed: count_named(fields, "Idempotency-Key") != 0,
-        read,
+        is_typed: is_typed(&request.fields),
+        is_keyed: request.fields.idempotency_key.is_some(),
+        read: body_of(alloc, body)?,
     })
 }
 
@@ -43,18 +41,18 @@ fn value_of(alloc: Global, value: &Value) -> Result<Read, AllocError>
     ensures { IfOk result (λ read. ReadsValue (view value.now) read) }
 {
     match read_posted(alloc, value) {
-        Ok(activity) => Ok(Read::Ready(activity)),
+        Ok(activity) => Ok(Read::Ready(Boxed::new(alloc, activity)?)),
         Err(ShapeFault::Memory) => Err(AllocError),
         Err(fault) => Ok(Read::Bad(fault)),
     }
 }
 
 /// Whether the body is said to be JSON or ActivityStreams.
-fn is_typed(fields: &[Field]) -> bool
-    ensures { result ≡ model.is_typed (field_value (codes "Content-Type") fields.now) }
+fn is_typed(fields: &Fields) -> bool
+    ensures { result ≡ model.is_typed fields.now.content_type }
 {
-    match field_value(fields, "Content-Type") {
-        Some(value) => is_read_type(media_type(value)),
+    match &fields.content_type {
+        Some(value) => is_read_type(media_type(value.bytes())),
         None => false,
     }
 }

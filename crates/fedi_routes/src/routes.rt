@@ -1,6 +1,6 @@
 //! What a request asks for, by its method and its path.
 
-ghost use Rattle.std.specs.Prelude.{◌≡◌, true, IsTrue, IfOk};
+ghost use Rattle.std.specs.Prelude.{◌≡◌, true, IsTrue, IfOk, OnErr};
 ghost use Rattle.fedi_address.specs.Names.{is_name};
 ghost use Rattle.fedi_model.specs.Posting.{IsPostable};
 ghost use Rattle.fedi_model.specs.Routes as model;
@@ -16,14 +16,15 @@ use std::alloc::{AllocError, Global};
 /// What the request with this body asks for, by its method and its path: a GET reads an activity or an
 /// object, a POST is for an outbox, and all else asks for `Ask::Nowhere`. The path is the target up to
 /// its first question mark (RFC 3986, section 3.3). Paths are compared byte for byte and never decoded.
-/// The body is read of a post to an outbox alone. `AllocError` where memory was wanted, which only the
-/// reading of a body takes.
+/// The body is read of a post to an outbox alone, and only that takes memory: the error is that there
+/// was none.
 #[tactic(auto, using(crate::proofs::AskLemmas::asked_once))]
 pub fn route(alloc: Global, request: &Request, body: &[u8]) -> Result<Ask, AllocError>
     ensures asks { IfOk result (λ ask. model.Asks request.now body.now ask) }
     ensures once { model.IsAskedOnce request.now body.now }
     // An activity to be posted is one that a history may take.
     ensures postable { IfOk result IsPostable }
+    ensures memory { OnErr result (places.IsToOutbox request.now) }
 {
     let Some((name, place)) = place_of(path_of(request)) else {
         return Ok(Ask::Nowhere);
@@ -41,7 +42,7 @@ fn path_of(request: &Request) -> &[u8]
     up_to(request.target.bytes(), b'?')
 }
 
-/// What is asked at the member's place, where the method is served.
+/// What is asked at the member's place, whose method is served.
 fn ask_of(
     alloc: Global,
     request: &Request,
@@ -53,14 +54,12 @@ fn ask_of(
     requires place { places.IsPlace place }
     requires path { model.path_of request.now.target ≡ places.place_path name place }
     requires taken { places.takes place request.now.method ≡ true }
-    ensures { IfOk result (λ ask. model.Asks request.now body.now ask) }
+    ensures asks { IfOk result (λ ask. model.Asks request.now body.now ask) }
+    ensures memory { OnErr result (places.IsToOutbox request.now) }
 {
     match place {
         Place::Activity(number) => Ok(Ask::Activity(name, number)),
         Place::Object(number) => Ok(Ask::Object(name, number)),
-        Place::Outbox => {
-            let post = post_of(alloc, request, body)?;
-            Ok(Ask::Outbox(name, post))
-        }
+        Place::Outbox => Ok(Ask::Outbox(name, post_of(alloc, request, body)?)),
     }
 }

@@ -3,7 +3,7 @@
 ghost use Rattle.std.specs.Prelude.{◌≡◌, Some, option_map};
 ghost use Rattle.fedi_model.specs.Credentials as model;
 
-use fedi_http::{field_value, text_of};
+use fedi_http::text_of;
 use fedi_mac::read_key;
 use fedi_model::{Credentials, Request, Signed};
 
@@ -11,23 +11,22 @@ use fedi_model::{Credentials, Request, Signed};
 const SCHEME: &[u8] = b"bearer ";
 
 /// What the request with this body shows of who makes it, by the fields `Authorization`, `Peer-Host`
-/// and `Peer-Mac`. Where `Authorization` stands it alone counts: the key is there exactly where the
+/// and `Peer-Mac`. If `Authorization` stands, it alone counts: the key is there exactly if the
 /// value is `Bearer`, in any case, one space and 64 hexadecimal digits (RFC 6750, section 2.1). A
-/// code is there exactly where both other fields stand, the host is UTF-8 and the code has 64
+/// code is there exactly if both other fields stand, the host is UTF-8 and the code has 64
 /// hexadecimal digits, none in upper case. It takes no memory.
 pub fn credentials<'a>(request: &'a Request, body: &'a [u8]) -> Credentials<'a>
     ensures { model.shown_by result ≡ model.credentials_of request.now body.now }
 {
-    let fields = request.fields.as_slice();
-    if let Some(value) = field_value(fields, "Authorization") {
-        return Credentials::Bearer(bearer_key(value));
+    let fields = &request.fields;
+    if let Some(value) = &fields.authorization {
+        return Credentials::Bearer(bearer_key(value.bytes()));
     }
-    match (
-        field_value(fields, "Peer-Host"),
-        field_value(fields, "Peer-Mac"),
-    ) {
+    match (&fields.peer_host, &fields.peer_mac) {
         (None, None) => Credentials::Nothing,
-        (Some(host), Some(code)) => Credentials::Mac(signed(request, body, host, code)),
+        (Some(host), Some(code)) => {
+            Credentials::Mac(signed(request, body, host.bytes(), code.bytes()))
+        }
         (_, _) => Credentials::Mac(None),
     }
 }

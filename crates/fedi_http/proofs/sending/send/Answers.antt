@@ -12,5 +12,5 @@ writes-preserved g c =
       sent = Appends-next _ _ _ _ _ _ c.writes.invariant.sent (rw (take_rest c.args.bytes.now c.writes.done) at told.bytes);
       told = told.told ∙ c.writes.invariant.told;
       beside = told.beside ∙ c.writes.invariant.beside;
-      later = omega (arith, c.writes.invariant.later, told.cause.later);
+      calm = told.cause.calm ∙ c.writes.invariant.calm;
     }

@@ -8,7 +8,7 @@ invariant-writes g l = record {
   sent : Appends (g.K.Sink.sent l.fn.sink) (g.K.Sink.sent l.sink) (take l.done l.bytes);
   told : is_some (g.K.Sink.sent l.sink) ≡ is_some (g.K.Sink.sent l.fn.sink);
   beside : g.K.Sink.beside_sink l.sink ≡ g.K.Sink.beside_sink l.fn.sink;
-  later : g.K.Sink.write_faults l.fn.sink ≤ g.K.Sink.write_faults l.sink;
+  calm : g.K.Sink.write_faults l.sink ≡ g.K.Sink.write_faults l.fn.sink;
 }
 
 abbrev pub decreases-writes : goal.decreases-writes

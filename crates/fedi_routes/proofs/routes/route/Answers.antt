@@ -13,4 +13,4 @@ returns-then-not-takes-clause-asks c =
     (sym c.path_of.ensures ∙ c.in-Some.ensures.2) (sym c.takes.ensures ∙ c.if-not-takes.true)
 
 pub returns-clause-postable : goal.returns-clause-postable
-returns-clause-postable c = postable c.args.request.now c.args.body.now c.ask_of.result c.ask_of.ensures
+returns-clause-postable c = postable c.args.request.now c.args.body.now c.ask_of.result c.ask_of.ensures.asks
