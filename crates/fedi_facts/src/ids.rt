@@ -1,52 +1,23 @@
-//! The ids of this server's actors, activities and objects.
+//! The ids of this server's actors, activities and objects. Out of memory is the only error.
 
-ghost use Rattle.std.specs.Prelude.{◌≡◌, ◌<◌, ◌^◌, IfOk, IsTrue, string_bytes};
-ghost use Rattle.fedi_address.specs.Hosts.{is_plain_path};
-ghost use Rattle.fedi_address.specs.Names.{is_name};
-ghost use Rattle.fedi_model.specs.Ids.{actor_path, activity_path, object_path, actor_id, activity_id, object_id};
+ghost use Rattle.std.specs.Prelude.{◌≡◌, IfOk};
+ghost use Rattle.fedi_model.specs.Ids.{actor_id, activity_id, object_id};
 
 use fedi_address::{Host, Iri, LocalName};
 use std::alloc::{AllocError, Global};
 
-#[tactic(auto, using(crate::proofs::Paths::actor_path_is_plain))]
-fn actor_path(alloc: Global, name: &LocalName) -> Result<String, AllocError>
-    ensures path { IfOk result (λ text. string_bytes text ≡ actor_path name.now) }
-    ensures plain { IfOk result (λ text. IsTrue (is_plain_path (string_bytes text))) }
-{
-    let name = name.text();
-    format!(in alloc; "/users/{name}")
-}
-
-#[tactic(auto, using(crate::proofs::Paths::activity_path_is_plain))]
-fn activity_path(alloc: Global, name: &LocalName, number: u32) -> Result<String, AllocError>
-    ensures path { IfOk result (λ text. string_bytes text ≡ activity_path name.now number) }
-    ensures plain { IfOk result (λ text. IsTrue (is_plain_path (string_bytes text))) }
-{
-    let name = name.text();
-    format!(in alloc; "/users/{name}/a/{number}")
-}
-
-#[tactic(auto, using(crate::proofs::Paths::object_path_is_plain))]
-fn object_path(alloc: Global, name: &LocalName, number: u32) -> Result<String, AllocError>
-    ensures path { IfOk result (λ text. string_bytes text ≡ object_path name.now number) }
-    ensures plain { IfOk result (λ text. IsTrue (is_plain_path (string_bytes text))) }
-{
-    let name = name.text();
-    format!(in alloc; "/users/{name}/o/{number}")
-}
-
-/// The id of a member. The error is want of memory.
-#[tactic(auto, unfolding(fedi_model::specs::Ids::actor_id))]
+/// The id of a member (ActivityPub, section 3.1).
+#[tactic(auto, using(crate::proofs::Paths::actor_path_is_plain), unfolding(fedi_model::specs::Ids::actor_id))]
 pub fn actor_iri(alloc: Global, host: &Host, name: &LocalName) -> Result<Iri, AllocError>
     ensures { IfOk result (λ iri. iri ≡ actor_id host.now name.now) }
 {
-    let path = actor_path(alloc, name)?;
-    let iri = Iri::at(alloc, host, path.as_str())?;
-    Ok(iri)
+    let name = name.text();
+    let path = format!(in alloc; "/users/{name}")?;
+    Iri::at(alloc, host, &path)
 }
 
-/// The id of a member's activity of a number. The error is want of memory.
-#[tactic(auto, unfolding(fedi_model::specs::Ids::activity_id))]
+/// The id of a member's activity of a number.
+#[tactic(auto, using(crate::proofs::Paths::activity_path_is_plain), unfolding(fedi_model::specs::Ids::activity_id))]
 pub fn activity_iri(
     alloc: Global,
     host: &Host,
@@ -55,13 +26,13 @@ pub fn activity_iri(
 ) -> Result<Iri, AllocError>
     ensures { IfOk result (λ iri. iri ≡ activity_id host.now name.now number) }
 {
-    let path = activity_path(alloc, name, number)?;
-    let iri = Iri::at(alloc, host, path.as_str())?;
-    Ok(iri)
+    let name = name.text();
+    let path = format!(in alloc; "/users/{name}/a/{number}")?;
+    Iri::at(alloc, host, &path)
 }
 
-/// The id of the object that a member's activity of a number made. The error is want of memory.
-#[tactic(auto, unfolding(fedi_model::specs::Ids::object_id))]
+/// The id of the object that a member's activity of a number made.
+#[tactic(auto, using(crate::proofs::Paths::object_path_is_plain), unfolding(fedi_model::specs::Ids::object_id))]
 pub fn object_iri(
     alloc: Global,
     host: &Host,
@@ -70,7 +41,7 @@ pub fn object_iri(
 ) -> Result<Iri, AllocError>
     ensures { IfOk result (λ iri. iri ≡ object_id host.now name.now number) }
 {
-    let path = object_path(alloc, name, number)?;
-    let iri = Iri::at(alloc, host, path.as_str())?;
-    Ok(iri)
+    let name = name.text();
+    let path = format!(in alloc; "/users/{name}/o/{number}")?;
+    Iri::at(alloc, host, &path)
 }

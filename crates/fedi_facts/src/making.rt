@@ -1,8 +1,8 @@
 //! What the server makes of a posted activity.
 
 ghost use Rattle.std.specs.Prelude.{◌≡◌, ◌<◌, ◌+◌, IfOk, Some, option_copied};
-ghost use Rattle.fedi_model.specs.Activities.{makes, is_done, is_own_id, completed, completed_object, completed_ref, local_state, local_act, whole_of};
-ghost use Rattle.fedi_model.specs.Ids.{actor_id, activity_id, object_id};
+ghost use Rattle.fedi_model.specs.Activities.{makes, is_done, is_own_id, completed, completed_ref, local_state, local_act, whole_of};
+ghost use Rattle.fedi_model.specs.Ids.{actor_id, object_id};
 ghost use Rattle.fedi_model.specs.Towns.{count_of};
 ghost use Rattle.fedi_objects.specs.Dates.{moment_text};
 
@@ -13,6 +13,7 @@ use fedi_address::{Host, Iri, LocalName};
 use fedi_model::Act;
 use fedi_objects::{Activity, Boxed, Moment, Object, ObjectRef, RepeatKey, State, Text};
 use std::alloc::{AllocError, Global};
+use std::mem;
 
 /// Whether the effect of an activity in this state has happened.
 pub fn is_done(state: State) -> bool
@@ -77,83 +78,81 @@ fn local_state(facts: &Facts, activity: &Activity, id: &Iri) -> State
     }
 }
 
-fn completed_object(
-    alloc: Global,
-    host: &Host,
-    name: &LocalName,
-    number: u32,
-    moment: Moment,
-    object: &Object,
-) -> Result<Object, AllocError>
-    ensures { IfOk result (λ o. o ≡ completed_object host.now name.now number moment object.now) }
+fn completed_object(object: Object, id: Iri, author: Iri, published: Text) -> Object
+    ensures { result ≡ record object {
+      id = Some id;
+      attributed_to = Some author;
+      published = Some published;
+    } }
 {
-    let mut own = object.copy()?;
-    own.id = Some(object_iri(alloc, host, name, number)?);
-    own.attributed_to = Some(actor_iri(alloc, host, name)?);
-    own.published = Some(moment.to_text(alloc)?);
-    Ok(own)
-}
-
-fn completed_ref(
-    alloc: Global,
-    host: &Host,
-    name: &LocalName,
-    number: u32,
-    moment: Moment,
-    object: &ObjectRef,
-) -> Result<ObjectRef, AllocError>
-    ensures { IfOk result (λ r. r ≡ completed_ref host.now name.now number moment object.now) }
-{
-    match object {
-        ObjectRef::Whole(object) => {
-            let own = completed_object(alloc, host, name, number, moment, object)?;
-            Ok(ObjectRef::Whole(Boxed::new(alloc, own)?))
-        }
-        ObjectRef::Nothing | ObjectRef::Id(_) | ObjectRef::Changed(_) => object.copy(),
-    }
-}
-
-// What the server sets in an activity: its id, its actor and when it was published.
-fn stamp(
-    alloc: Global,
-    host: &Host,
-    name: &LocalName,
-    number: u32,
-    moment: Moment,
-) -> Result<(Iri, Iri, Text), AllocError>
-    ensures { IfOk result (λ s. s ≡ (activity_id host.now name.now number, actor_id host.now name.now, moment_text moment)) }
-{
-    let id = activity_iri(alloc, host, name, number)?;
-    let actor = actor_iri(alloc, host, name)?;
-    let published = moment.to_text(alloc)?;
-    Ok((id, actor, published))
-}
-
-fn completed(
-    alloc: Global,
-    host: &Host,
-    name: &LocalName,
-    number: u32,
-    moment: Moment,
-    activity: &Activity,
-) -> Result<Activity, AllocError>
-    ensures { IfOk result (λ a. a ≡ completed host.now name.now number moment activity.now) }
-{
-    let (id, actor, published) = stamp(alloc, host, name, number, moment)?;
-    let object = completed_ref(alloc, host, name, number, moment, &activity.object)?;
-    let own = activity.copy()?;
-    Ok(with_stamp(own, id, actor, published, object))
-}
-
-fn with_stamp(own: Activity, id: Iri, actor: Iri, published: Text, object: ObjectRef) -> Activity
-    ensures { result ≡ record own { id = Some id; actor = Some actor; published = Some published; object = object } }
-{
-    let mut own = own;
+    let mut own = object;
     own.id = Some(id);
-    own.actor = Some(actor);
+    own.attributed_to = Some(author);
     own.published = Some(published);
-    own.object = object;
     own
+}
+
+// From what follows all that the server sets in a new activity: its author, its number among the
+// author's, and when it was accepted.
+#[derive(Clone, Copy)]
+struct Stamp<'a> {
+    host: &'a Host,
+    name: &'a LocalName,
+    number: u32,
+    moment: Moment,
+}
+
+impl<'a> Stamp<'a> {
+    // The object that the activity carries, with its id, its author and its moment.
+    fn completed_ref(
+        &self,
+        alloc: Global,
+        object: ObjectRef,
+        id: Iri,
+        author: Iri,
+        published: Text,
+    ) -> Result<ObjectRef, AllocError>
+        requires id { id ≡ object_id self.now.host.now self.now.name.now self.now.number }
+        requires author { author ≡ actor_id self.now.host.now self.now.name.now }
+        requires published { published ≡ moment_text self.now.moment }
+        ensures { IfOk result (λ r. r ≡ completed_ref self.now.host.now self.now.name.now
+            self.now.number self.now.moment object) }
+    {
+        match object {
+            ObjectRef::Whole(object) => {
+                let own = completed_object(object.into_inner(), id, author, published);
+                Ok(ObjectRef::Whole(Boxed::new(alloc, own)?))
+            }
+            ObjectRef::Nothing | ObjectRef::Id(_) | ObjectRef::Changed(_) => Ok(object),
+        }
+    }
+
+    // The activity with its id, its actor and its moment, and its object likewise.
+    fn completed(
+        &self,
+        alloc: Global,
+        activity: &Activity,
+        author: &Iri,
+        object: Iri,
+    ) -> Result<Activity, AllocError>
+        requires author { author.now ≡ actor_id self.now.host.now self.now.name.now }
+        requires object { object ≡ object_id self.now.host.now self.now.name.now self.now.number }
+        ensures { IfOk result (λ a. a ≡ completed self.now.host.now self.now.name.now
+            self.now.number self.now.moment activity.now) }
+    {
+        let id = activity_iri(alloc, self.host, self.name, self.number)?;
+        let actor = author.copy()?;
+        let published = self.moment.to_text(alloc)?;
+        let attributed_to = author.copy()?;
+        let published_object = published.copy()?;
+        let mut own = activity.copy()?;
+        let carried = mem::replace(&mut own.object, ObjectRef::Nothing);
+        own.id = Some(id);
+        own.actor = Some(actor);
+        own.published = Some(published);
+        own.object = self.completed_ref(alloc, carried, object, attributed_to, published_object)?;
+        Ok(own)
+    }
 }
 
 fn copy_repeat(repeat: &Option<(RepeatKey, [u8; 32])>) -> Option<(RepeatKey, [u8; 32])>
@@ -170,7 +169,7 @@ fn copy_repeat(repeat: &Option<(RepeatKey, [u8; 32])>) -> Option<(RepeatKey, [u8
     }
 }
 
-/// The next activity of a member, accepted at the moment. The error is want of memory.
+/// The next activity of a member, accepted at the moment. The error is out of memory.
 pub fn new_act(
     alloc: Global,
     facts: &Facts,
@@ -181,22 +180,27 @@ pub fn new_act(
     moment: Moment,
 ) -> Result<Act, AllocError>
     requires { count_of facts.now (actor_id host.now name.now) < 4294967295 }
-    ensures { IfOk result (λ x. x ≡ local_act facts.now host.now name.now repeat.now activity.now moment) }
+    ensures { IfOk result (λ x.
+        x ≡ local_act facts.now host.now name.now repeat.now activity.now moment) }
 {
     let author = actor_iri(alloc, host, name)?;
     let number = facts.count_of(&author) as u32 + 1;
-    let object = object_iri(alloc, host, name, number)?;
-    let state = local_state(facts, activity, &object);
+    let object_id = object_iri(alloc, host, name, number)?;
+    let state = local_state(facts, activity, &object_id);
     let recipients = recipients_of(alloc, facts, &author, &activity.recipients)?;
-    let is_public = activity.recipients.is_public();
-    let activity = completed(alloc, host, name, number, moment, activity)?;
+    let stamp = Stamp {
+        host,
+        name,
+        number,
+        moment,
+    };
     Ok(Act {
+        activity: stamp.completed(alloc, activity, &author, object_id)?,
         author,
-        activity,
         repeat: copy_repeat(repeat),
         moment,
         recipients,
-        is_public,
+        is_public: activity.recipients.is_public(),
         state,
     })
 }
