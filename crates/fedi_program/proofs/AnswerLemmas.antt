@@ -165,6 +165,10 @@ pub nothing_kept : (growth room : ℕ → ℕ) (before after : State) (moment : 
     → OnlyRoomChanged before.keeper after.keeper → IsUnanswered growth room before after moment q body
 nothing_kept growth room before after moment q body same k = inl (still growth before after same k)
 
+pub full_untold : (growth room : ℕ → ℕ) (before after : State) (moment : ℕ) (q : Request) (body : List ℕ) (e : Entry)
+    → after.history ≡ before.history → Refuses room (code_of e) faults.Full before.keeper after.keeper → IsUnanswered growth room before after moment q body
+full_untold growth room before after moment q body e same k = inl (still growth before after same k.1)
+
 pub failed_untold : (growth room : ℕ → ℕ) (before after : State) (moment : ℕ) (q : Request) (body : List ℕ) (c : Caller) (ask : Ask) (r : Reply) (e : Entry)
     → IsDecided before moment q body c ask r (Some e) → after.history ≡ before.history → Refuses room (code_of e) faults.Failed before.keeper after.keeper
     → IsUnanswered growth room before after moment q body
@@ -186,14 +190,14 @@ pub untexted : {T E : Type 0} (growth room : ℕ → ℕ) (before after : State)
 untexted growth room before after moment q body (Ok t) u = tt
 untexted growth room before after moment q body (Err e) u = u
 
--- what was decided, with the parts of the decision
-pub decided : (state : State) (moment : ℕ) (q : Request) (body : List ℕ) (caller : Result Caller Refusal) (c : Caller) (ask : Ask) (r : Reply) (made : Option Entry) (other : Option Entry)
-    → caller_of (town state.history) q body ≡ caller → caller ≡ Ok c → Asks q body ask → r ≡ reply (town state.history) c ask → made ≡ entry_of (town state.history) c ask moment
-    → made ≡ other → IsPrivate state.history c ask r → IsDecided state moment q body c ask r other
-decided state moment q body caller c ask r made other is ok asks reply_is made_is same private = record {
-  caller = is ∙ ok;
+-- what was decided, by the parts of the decision
+pub decided : (state : State) (moment : ℕ) (q : Request) (body : List ℕ) (c : Caller) (ask : Ask) (given r : Reply) (made other : Option Entry)
+    → caller_of (town state.history) q body ≡ Ok c → Asks q body ask → given ≡ reply (town state.history) c ask → made ≡ entry_of (town state.history) c ask moment
+    → IsPrivate state.history c ask given → given ≡ r → made ≡ other → IsDecided state moment q body c ask r other
+decided state moment q body c ask given r made other is asks reply_is made_is private same so = record {
+  caller = is;
   asks = asks;
-  reply_is = reply_is;
-  made_is = sym same ∙ made_is;
-  private = private;
+  reply_is = sym same ∙ reply_is;
+  made_is = sym so ∙ made_is;
+  private = subst (λ (x : Reply). IsPrivate state.history c ask x) same private;
 }

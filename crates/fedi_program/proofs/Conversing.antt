@@ -10,7 +10,7 @@ use Rattle.fedi_model.specs.declared.refusal.Refusal.{Refusal}
 use Rattle.fedi_program.specs.declared.sessions.SessionEnd.{SessionEnd}
 use Rattle.fedi_program.specs.declared.sessions.SessionEnd.TheVariants.{End, CutShort, Closed, ReadFault, WriteFault, Memory}
 use Rattle.fedi_program.specs.Conversations.{Setting, Exchange, Progress, IsExchange, Converses, after, beginning, closes, ends_by, progress}
-use Rattle.fedi_program.specs.Endings.{EndsSession, Exchanges, Finishes, IsAt, Output, Scene, Serves, Steps, StepsOn}
+use Rattle.fedi_program.specs.Endings.{EndsSession, Exchanges, Faults, Finishes, IsAt, IsCaused, Output, Scene, Serves, Steps, StepsOn, setting_of}
 use Rattle.fedi_log.proofs.Keeping.{holds_given, since_on}
 use Rattle.fedi_program.proofs.Talks.{converses-more, progress-more}
 
@@ -148,3 +148,14 @@ pub stands_not : (w : Setting) (seen : Log) (first now : Scene) (pending : List 
     → StandsFor w seen first now pending state count → EndsSession w seen first now state Closed
 stands_not w seen first now pending state count many held =
     (held.0, held.1, none_open w seen first.output now held.0 pending count first.input many held.2)
+
+-- the clock stays as it was
+pub told_on : (growth room : ℕ → ℕ) (told now : Option ℕ) (opened : State) (log : Log) (count : ℕ) (before : Scene) (old : List ℕ) (after_it : Scene) (pending : List ℕ) (state : State) (e : Option SessionEnd)
+    → now ≡ told → Exchanges (setting_of growth room now opened) log count before old after_it pending state e
+    → Exchanges (setting_of growth room told opened) log count before old after_it pending state e
+told_on growth room told now opened log count before old after_it pending state e same x =
+    subst (λ (t : Option ℕ). Exchanges (setting_of growth room t opened) log count before old after_it pending state e) same x
+
+-- and so do the counts of faults, up to the last step
+pub caused_on : (first before now : Faults) (e : SessionEnd) → before ≡ first → IsCaused before now e → IsCaused first now e
+caused_on first before now e same x = subst (λ (f : Faults). IsCaused f now e) same x

@@ -1,5 +1,5 @@
 -- From the answer to one request to a step of a session.
-use Rattle.std.proofs.Common.{◌≡◌, ℕ, ◌+◌, ◌-◌, ◌^◌, ◌<◌, ◌≤◌, min, Bool, true, false, List, [], ◌∷◌, ◌++◌, length, take, drop, Option, Some, None, IfSome, Result, Ok, Err, inl, inr, refl, sym, ap, subst, ◌∙◌, append-nil, arith}
+use Rattle.std.proofs.Common.{◌≡◌, ℕ, ◌+◌, ◌-◌, ◌^◌, ◌<◌, ◌≤◌, min, Bool, true, false, List, [], ◌∷◌, ◌++◌, length, take, drop, Option, Some, None, IfSome, IfOk, OnErr, MatchResult, Result, Ok, Err, Vec, inl, inr, refl, sym, ap, subst, ◌∙◌, append-nil, arith}
 use Rattle.std.specs.List.{slice_range}
 use Rattle.std.specs.Io.KnownBytes.{Appends, prepend_known}
 use Rattle.std.proofs.KnownBytes.{Appends-trans}
@@ -271,3 +271,39 @@ fault_steps w before now state log count old pending holds stream lacks quiet = 
     later = goes_to w.by p.log log same;
   },
 )
+
+-- ---- with a text, or without memory for one
+
+pub request_steps : {A E : Type 0} (w : Setting) (before now : Scene) (state after_it : State) (log : Log) (count : ℕ) (old read : List ℕ) (q : Request) (start end moment : ℕ) (closing : Bool)
+    (text : Result (Vec ℕ A) E) (ending : Option SessionEnd) → Holds w.base state log → prepend_known read now.input ≡ prepend_known old before.input
+    → IfSome (prepend_known old before.input) (λ stream. StandsAtFront stream (arrivals.Request q start end)) → start ≤ end → end ≤ length read
+    → closing ≡ closes count (Ok q) → IsNow w.told moment
+    → IfOk text (λ t. IsAnswerText w.base.growth w.base.room state after_it moment q (slice_range read start end) closing t.items)
+    → OnErr text (IsUnanswered w.base.growth w.base.room state after_it moment q (slice_range read start end))
+    → MatchResult text (λ t. Replies before.output now.output t.items closing ending) (λ _. GivesUp before.output now.output ending)
+    → Exchanges w log count before old now (drop end read) after_it ending
+request_steps w before now state after_it log count old read q start end moment closing (Ok t) ending holds stream told low high is is_now a u sent =
+    answered_steps w before now state after_it log count old read q start end moment closing t.items ending holds stream told low high is is_now a sent
+request_steps w before now state after_it log count old read q start end moment closing (Err e) ending holds stream told low high is is_now a u gives =
+    unanswered_steps w before now state after_it log count old read (drop end read) q start end moment ending holds stream told low high is_now u gives
+
+pub refused_steps : {A E : Type 0} (w : Setting) (before now : Scene) (state : State) (log : Log) (count : ℕ) (old pending : List ℕ) (e : Refusal) (moment : ℕ)
+    (text : Result (Vec ℕ A) E) (ending : Option SessionEnd) → Holds w.base state log → prepend_known pending now.input ≡ prepend_known old before.input
+    → IfSome (prepend_known old before.input) (λ stream. StandsAtFront stream (arrivals.Refused e)) → IsNow w.told moment
+    → IfOk text (λ t. t.items ≡ reply_text moment false true (refused e))
+    → MatchResult text (λ t. Replies before.output now.output t.items true ending) (λ _. GivesUp before.output now.output ending)
+    → Exchanges w log count before old now pending state ending
+refused_steps w before now state log count old pending e moment (Ok t) ending holds stream told is_now is sent =
+    refusal_steps w before now state log count old pending e moment t.items ending holds stream told is_now is sent
+refused_steps w before now state log count old pending e moment (Err x) ending holds stream told is_now is gives =
+    memory_steps w before now state state log count old pending ending holds (unchanged w.base.growth state state refl refl refl refl refl) gives
+
+pub no_memory_steps : (w : Setting) (before now : Scene) (state : State) (log : Log) (count : ℕ) (old pending : List ℕ) (ending : Option SessionEnd)
+    → Holds w.base state log → GivesUp before.output now.output ending → Exchanges w log count before old now pending state ending
+no_memory_steps w before now state log count old pending ending holds gives =
+    memory_steps w before now state state log count old pending ending holds (unchanged w.base.growth state state refl refl refl refl refl) gives
+
+-- the moment that a clock gives
+pub now_of : (told : Option ℕ) (now moment : ℕ) → IfSome told (λ (m : ℕ). now ≡ m) → moment ≡ min now 253402300799 → IsNow told moment
+now_of None now moment same is = omega (arith, is)
+now_of (Some told) now moment same is = is ∙ ap (λ (n : ℕ). min n 253402300799) same
