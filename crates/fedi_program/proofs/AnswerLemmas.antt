@@ -1,13 +1,14 @@
 -- From what the machine decides for a caller, and what its keeper does, to the answer to a request.
 use Rattle.std.proofs.Common.{◌≡◌, ℕ, ◌+◌, ◌<◌, ◌≤◌, List, [], ◌∷◌, ◌++◌, length, Bool, false, Option, Some, None, Result, Ok, Err, Vec, IfOk, OnErr, inl, inr, refl, sym, subst, ap, ◌∙◌, arith}
 use Rattle.fedi_core.specs.Keeping.{IsKept, Refuses}
+use Rattle.fedi_core.specs.declared.keeping.KeepFault.{KeepFault}
 use Rattle.fedi_core.specs.declared.keeping.KeepFault.TheVariants as faults
 use Rattle.fedi_entry.specs.Codes.{code_of}
 use Rattle.fedi_log.specs.Keeping.{Follows, State}
 use Rattle.fedi_log.specs.Log.{Failed, Full, Kept, NoEntry, Outcome}
 use Rattle.fedi_log.proofs.Keeping.{unchanged}
 use Rattle.fedi_objects.specs.declared.entry.Entry.{Entry}
-use Rattle.fedi_outside.specs.Keepers.{HasAdded, OnlyRoomChanged}
+use Rattle.fedi_outside.specs.Keepers.{HasAdded, KeeperState, OnlyRoomChanged}
 use Rattle.fedi_model.proofs.Clean.{refused_is_clean, reply_is_clean}
 use Rattle.fedi_model.specs.declared.ask.Ask.{Ask}
 use Rattle.fedi_model.specs.declared.caller.Caller.{Caller}
@@ -191,13 +192,24 @@ untexted growth room before after moment q body (Ok t) u = tt
 untexted growth room before after moment q body (Err e) u = u
 
 -- what was decided, by the parts of the decision
-pub decided : (state : State) (moment : ℕ) (q : Request) (body : List ℕ) (c : Caller) (ask : Ask) (given r : Reply) (made other : Option Entry)
-    → caller_of (town state.history) q body ≡ Ok c → Asks q body ask → given ≡ reply (town state.history) c ask → made ≡ entry_of (town state.history) c ask moment
-    → IsPrivate state.history c ask given → given ≡ r → made ≡ other → IsDecided state moment q body c ask r other
-decided state moment q body c ask given r made other is asks reply_is made_is private same so = record {
+pub decided : (state : State) (moment : ℕ) (q : Request) (body : List ℕ) (c : Caller) (ask : Ask) (r : Reply) (made other : Option Entry)
+    → caller_of (town state.history) q body ≡ Ok c → Asks q body ask → r ≡ reply (town state.history) c ask → made ≡ entry_of (town state.history) c ask moment
+    → IsPrivate state.history c ask r → made ≡ other → IsDecided state moment q body c ask r other
+decided state moment q body c ask r made other is asks reply_is made_is private so = record {
   caller = is;
   asks = asks;
-  reply_is = sym same ∙ reply_is;
+  reply_is = reply_is;
   made_is = sym so ∙ made_is;
-  private = subst (λ (x : Reply). IsPrivate state.history c ask x) same private;
+  private = private;
 }
+
+-- ---- why an entry was not kept
+
+pub full_by : (room : ℕ → ℕ) (code : List ℕ) (f : KeepFault) (before after : KeeperState) → f ≡ faults.Full → Refuses room code f before after → Refuses room code faults.Full before after
+full_by room code f before after is k = subst (λ (x : KeepFault). Refuses room code x before after) is k
+
+pub failed_by : (room : ℕ → ℕ) (code : List ℕ) (f : KeepFault) (before after : KeeperState) → f ≡ faults.Failed → Refuses room code f before after → Refuses room code faults.Failed before after
+failed_by room code f before after is k = subst (λ (x : KeepFault). Refuses room code x before after) is k
+
+pub memory_by : (room : ℕ → ℕ) (code : List ℕ) (f : KeepFault) (before after : KeeperState) → f ≡ faults.Memory → Refuses room code f before after → OnlyRoomChanged before after
+memory_by room code f before after is k = subst (λ (x : KeepFault). Refuses room code x before after) is k

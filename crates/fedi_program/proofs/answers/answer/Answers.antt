@@ -1,6 +1,6 @@
 use Rattle.std.proofs.Common.{◌≡◌, None, Some, refl, sym}
 use Rattle.fedi_log.specs.Keeping.{state_of}
-use Rattle.fedi_program.proofs.AnswerLemmas.{IsDecided, decided, failed_turn, failed_untold, full_turn, full_untold, kept_turn, nothing_done, read_turn, refused_turn, texted, untexted}
+use Rattle.fedi_program.proofs.AnswerLemmas.{IsDecided, decided, failed_by, failed_turn, failed_untold, full_by, full_turn, full_untold, kept_turn, memory_by, nothing_done, nothing_kept, read_turn, refused_turn, texted, untexted}
 use Rattle.fedi_program.proofs.answers.answer.Goals as goal
 
 pub returns-in-Err-clause-text : goal.returns-in-Err-clause-text
@@ -16,80 +16,68 @@ pub returns-in_default-clause-text : goal.returns-in_default-clause-text
 returns-in_default-clause-text g c =
     let caller = rw c.credentials.ensures at c.in-Ok.ensures in
     let e = c.in_ok-reply.ensures in
-    let x = c.in_ok-reply.reply-is in
     let y = c.in_ok-reply.entry-is in
     let z = c.in_default.is in
-    let r : c.in_ok-reply.field-0.reply ≡ c.in_ok-reply.reply = cc in
     let n : c.in_ok-reply.field-0.entry ≡ None = cc in
-    let d : IsDecided (state_of c.args.core.now.history (g.P.Keeper.shown c.args.core.now.keeper)) c.args.moment c.args.request.now c.args.body.now c.in-Ok.caller c.in_ok-ask.ask c.in_ok-reply.reply (None) =
-      decided _ _ c.args.request.now c.args.body.now c.in-Ok.caller c.in_ok-ask.ask _ c.in_ok-reply.reply _ _ (sym caller) c.in_ok-ask.ensures.asks e.reply e.entry e.private r n in
-    (c.in_ok-reply.reply, read_turn _ _ _ _ c.args.request.now c.args.body.now c.in-Ok.caller c.in_ok-ask.ask c.in_ok-reply.reply d, c.in_ok-text.ensures)
+    let d : IsDecided (state_of c.args.core.now.history (g.P.Keeper.shown c.args.core.now.keeper)) c.args.moment c.args.request.now c.args.body.now c.in-Ok.caller c.in_ok-ask.ask c.in_ok-reply.field-0.reply (None) =
+      decided _ _ c.args.request.now c.args.body.now c.in-Ok.caller c.in_ok-ask.ask c.in_ok-reply.field-0.reply _ _ (sym caller) c.in_ok-ask.ensures.asks e.reply e.entry e.private n in
+    (c.in_ok-reply.field-0.reply, read_turn _ _ _ _ c.args.request.now c.args.body.now c.in-Ok.caller c.in_ok-ask.ask c.in_ok-reply.field-0.reply d, c.in_ok-text.ensures)
 
 pub returns-in-Ok-keep-clause-text : goal.returns-in-Ok-keep-clause-text
 returns-in-Ok-keep-clause-text g c =
     let caller = rw c.credentials.ensures at c.in-Ok.ensures in
     let e = c.in_ok-reply.ensures in
-    let x = c.in_ok-reply.reply-is in
     let y = c.in_ok-reply.entry-is in
     let z = c.in-Some.is in
-    let r : c.in_ok-reply.field-0.reply ≡ c.in_ok-reply.reply = cc in
     let n : c.in_ok-reply.field-0.entry ≡ Some c.in-Some.entry = cc in
-    let d : IsDecided (state_of c.args.core.now.history (g.P.Keeper.shown c.args.core.now.keeper)) c.args.moment c.args.request.now c.args.body.now c.in-Ok.caller c.in_ok-ask.ask c.in_ok-reply.reply (Some c.in-Some.entry) =
-      decided _ _ c.args.request.now c.args.body.now c.in-Ok.caller c.in_ok-ask.ask _ c.in_ok-reply.reply _ _ (sym caller) c.in_ok-ask.ensures.asks e.reply e.entry e.private r n in
-    (c.in_ok-reply.reply, kept_turn _ _ _ _ _ c.args.request.now c.args.body.now c.in-Ok.caller c.in_ok-ask.ask c.in_ok-reply.reply c.in-Some.entry d c.in-Ok-keep.ensures.kept, c.in_ok-text.ensures)
+    let d : IsDecided (state_of c.args.core.now.history (g.P.Keeper.shown c.args.core.now.keeper)) c.args.moment c.args.request.now c.args.body.now c.in-Ok.caller c.in_ok-ask.ask c.in_ok-reply.field-0.reply (Some c.in-Some.entry) =
+      decided _ _ c.args.request.now c.args.body.now c.in-Ok.caller c.in_ok-ask.ask c.in_ok-reply.field-0.reply _ _ (sym caller) c.in_ok-ask.ensures.asks e.reply e.entry e.private n in
+    (c.in_ok-reply.field-0.reply, kept_turn _ _ _ _ _ c.args.request.now c.args.body.now c.in-Ok.caller c.in_ok-ask.ask c.in_ok-reply.field-0.reply c.in-Some.entry d c.in-Ok-keep.ensures.kept, c.in_ok-text.ensures)
 
 pub returns-in-Full-clause-text : goal.returns-in-Full-clause-text
 returns-in-Full-clause-text g c =
     let caller = rw c.credentials.ensures at c.in-Ok.ensures in
     let e = c.in_ok-reply.ensures in
-    let x = c.in_ok-reply.reply-is in
     let y = c.in_ok-reply.entry-is in
     let z = c.in-Some.is in
-    let r : c.in_ok-reply.field-0.reply ≡ c.in_ok-reply.reply = cc in
     let n : c.in_ok-reply.field-0.entry ≡ Some c.in-Some.entry = cc in
-    let d : IsDecided (state_of c.args.core.now.history (g.P.Keeper.shown c.args.core.now.keeper)) c.args.moment c.args.request.now c.args.body.now c.in-Ok.caller c.in_ok-ask.ask c.in_ok-reply.reply (Some c.in-Some.entry) =
-      decided _ _ c.args.request.now c.args.body.now c.in-Ok.caller c.in_ok-ask.ask _ c.in_ok-reply.reply _ _ (sym caller) c.in_ok-ask.ensures.asks e.reply e.entry e.private r n in
-    let k = rw (c.in-Err-keep.fault-is, c.in-Full.is) at c.in-Err-keep.ensures.refused in
+    let d : IsDecided (state_of c.args.core.now.history (g.P.Keeper.shown c.args.core.now.keeper)) c.args.moment c.args.request.now c.args.body.now c.in-Ok.caller c.in_ok-ask.ask c.in_ok-reply.field-0.reply (Some c.in-Some.entry) =
+      decided _ _ c.args.request.now c.args.body.now c.in-Ok.caller c.in_ok-ask.ask c.in_ok-reply.field-0.reply _ _ (sym caller) c.in_ok-ask.ensures.asks e.reply e.entry e.private n in
+    let k = full_by _ _ c.in-Err-keep.field-0.fault _ _ c.in-Full.is c.in-Err-keep.ensures.refused in
     texted _ _ _ _ _ c.args.request.now c.args.body.now _ _ c.refusal_text-in-Full.result
-    (full_turn _ _ _ _ _ c.args.request.now c.args.body.now c.in-Ok.caller c.in_ok-ask.ask c.in_ok-reply.reply c.in-Some.entry d c.in-Err-keep.ensures.same k) c.refusal_text-in-Full.ensures
+    (full_turn _ _ _ _ _ c.args.request.now c.args.body.now c.in-Ok.caller c.in_ok-ask.ask c.in_ok-reply.field-0.reply c.in-Some.entry d c.in-Err-keep.ensures.same k) c.refusal_text-in-Full.ensures
 
 pub returns-in-Full-clause-unanswered : goal.returns-in-Full-clause-unanswered
 returns-in-Full-clause-unanswered g c =
-    let k = rw (c.in-Err-keep.fault-is, c.in-Full.is) at c.in-Err-keep.ensures.refused in
+    let k = full_by _ _ c.in-Err-keep.field-0.fault _ _ c.in-Full.is c.in-Err-keep.ensures.refused in
     untexted _ _ _ _ _ c.args.request.now c.args.body.now c.refusal_text-in-Full.result (full_untold _ _ _ _ _ c.args.request.now c.args.body.now c.in-Some.entry c.in-Err-keep.ensures.same k)
 
 pub returns-in-Failed-clause-text : goal.returns-in-Failed-clause-text
 returns-in-Failed-clause-text g c =
     let caller = rw c.credentials.ensures at c.in-Ok.ensures in
     let e = c.in_ok-reply.ensures in
-    let x = c.in_ok-reply.reply-is in
     let y = c.in_ok-reply.entry-is in
     let z = c.in-Some.is in
-    let r : c.in_ok-reply.field-0.reply ≡ c.in_ok-reply.reply = cc in
     let n : c.in_ok-reply.field-0.entry ≡ Some c.in-Some.entry = cc in
-    let d : IsDecided (state_of c.args.core.now.history (g.P.Keeper.shown c.args.core.now.keeper)) c.args.moment c.args.request.now c.args.body.now c.in-Ok.caller c.in_ok-ask.ask c.in_ok-reply.reply (Some c.in-Some.entry) =
-      decided _ _ c.args.request.now c.args.body.now c.in-Ok.caller c.in_ok-ask.ask _ c.in_ok-reply.reply _ _ (sym caller) c.in_ok-ask.ensures.asks e.reply e.entry e.private r n in
-    let k = rw (c.in-Err-keep.fault-is, c.in-Failed.is) at c.in-Err-keep.ensures.refused in
+    let d : IsDecided (state_of c.args.core.now.history (g.P.Keeper.shown c.args.core.now.keeper)) c.args.moment c.args.request.now c.args.body.now c.in-Ok.caller c.in_ok-ask.ask c.in_ok-reply.field-0.reply (Some c.in-Some.entry) =
+      decided _ _ c.args.request.now c.args.body.now c.in-Ok.caller c.in_ok-ask.ask c.in_ok-reply.field-0.reply _ _ (sym caller) c.in_ok-ask.ensures.asks e.reply e.entry e.private n in
+    let k = failed_by _ _ c.in-Err-keep.field-0.fault _ _ c.in-Failed.is c.in-Err-keep.ensures.refused in
     texted _ _ _ _ _ c.args.request.now c.args.body.now _ _ c.refusal_text-in-Failed.result
-    (failed_turn _ _ _ _ _ c.args.request.now c.args.body.now c.in-Ok.caller c.in_ok-ask.ask c.in_ok-reply.reply c.in-Some.entry d c.in-Err-keep.ensures.same k) c.refusal_text-in-Failed.ensures
+    (failed_turn _ _ _ _ _ c.args.request.now c.args.body.now c.in-Ok.caller c.in_ok-ask.ask c.in_ok-reply.field-0.reply c.in-Some.entry d c.in-Err-keep.ensures.same k) c.refusal_text-in-Failed.ensures
 
 pub returns-in-Failed-clause-unanswered : goal.returns-in-Failed-clause-unanswered
 returns-in-Failed-clause-unanswered g c =
     let caller = rw c.credentials.ensures at c.in-Ok.ensures in
     let e = c.in_ok-reply.ensures in
-    let x = c.in_ok-reply.reply-is in
     let y = c.in_ok-reply.entry-is in
     let z = c.in-Some.is in
-    let r : c.in_ok-reply.field-0.reply ≡ c.in_ok-reply.reply = cc in
     let n : c.in_ok-reply.field-0.entry ≡ Some c.in-Some.entry = cc in
-    let d : IsDecided (state_of c.args.core.now.history (g.P.Keeper.shown c.args.core.now.keeper)) c.args.moment c.args.request.now c.args.body.now c.in-Ok.caller c.in_ok-ask.ask c.in_ok-reply.reply (Some c.in-Some.entry) =
-      decided _ _ c.args.request.now c.args.body.now c.in-Ok.caller c.in_ok-ask.ask _ c.in_ok-reply.reply _ _ (sym caller) c.in_ok-ask.ensures.asks e.reply e.entry e.private r n in
-    let k = rw (c.in-Err-keep.fault-is, c.in-Failed.is) at c.in-Err-keep.ensures.refused in
-    untexted _ _ _ _ _ c.args.request.now c.args.body.now c.refusal_text-in-Failed.result (failed_untold _ _ _ _ _ c.args.request.now c.args.body.now c.in-Ok.caller c.in_ok-ask.ask c.in_ok-reply.reply c.in-Some.entry d c.in-Err-keep.ensures.same k)
+    let d : IsDecided (state_of c.args.core.now.history (g.P.Keeper.shown c.args.core.now.keeper)) c.args.moment c.args.request.now c.args.body.now c.in-Ok.caller c.in_ok-ask.ask c.in_ok-reply.field-0.reply (Some c.in-Some.entry) =
+      decided _ _ c.args.request.now c.args.body.now c.in-Ok.caller c.in_ok-ask.ask c.in_ok-reply.field-0.reply _ _ (sym caller) c.in_ok-ask.ensures.asks e.reply e.entry e.private n in
+    let k = failed_by _ _ c.in-Err-keep.field-0.fault _ _ c.in-Failed.is c.in-Err-keep.ensures.refused in
+    untexted _ _ _ _ _ c.args.request.now c.args.body.now c.refusal_text-in-Failed.result (failed_untold _ _ _ _ _ c.args.request.now c.args.body.now c.in-Ok.caller c.in_ok-ask.ask c.in_ok-reply.field-0.reply c.in-Some.entry d c.in-Err-keep.ensures.same k)
 
 pub returns-clause-unanswered : goal.returns-clause-unanswered
 returns-clause-unanswered g c =
-    let h = c.in-Err-keep.fault-is in
-    let i = c.in-Memory.is in
-    let j = c.in-Err-keep.ensures.refused in
-    ?
+    nothing_kept _ _ _ _ _ c.args.request.now c.args.body.now c.in-Err-keep.ensures.same
+    (memory_by _ _ c.in-Err-keep.field-0.fault _ _ c.in-Memory.is c.in-Err-keep.ensures.refused)
