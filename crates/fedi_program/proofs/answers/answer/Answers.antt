@@ -1,4 +1,5 @@
 use Rattle.std.proofs.Common.{◌≡◌, None, Some, refl, sym}
+use Rattle.fedi_entry.specs.Codes.{code_of}
 use Rattle.fedi_log.specs.Keeping.{state_of}
 use Rattle.fedi_program.proofs.AnswerLemmas.{IsDecided, decided, failed_by, failed_turn, failed_untold, full_by, full_turn, full_untold, kept_turn, memory_by, nothing_done, nothing_kept, read_turn, refused_turn, texted, untexted}
 use Rattle.fedi_program.proofs.answers.answer.Goals as goal
@@ -43,13 +44,13 @@ returns-in-Full-clause-text g c =
     let n : c.in_ok-reply.field-0.entry ≡ Some c.in-Some.entry = cc in
     let d : IsDecided (state_of c.args.core.now.history (g.P.Keeper.shown c.args.core.now.keeper)) c.args.moment c.args.request.now c.args.body.now c.in-Ok.caller c.in_ok-ask.ask c.in_ok-reply.field-0.reply (Some c.in-Some.entry) =
       decided _ _ c.args.request.now c.args.body.now c.in-Ok.caller c.in_ok-ask.ask c.in_ok-reply.field-0.reply _ _ (sym caller) c.in_ok-ask.ensures.asks e.reply e.entry e.private n in
-    let k = full_by _ _ c.in-Err-keep.field-0.fault _ _ c.in-Full.is c.in-Err-keep.ensures.refused in
+    let k = full_by g.P.Keeper.room (code_of c.in-Some.entry) c.in-Err-keep.field-0.fault _ _ c.in-Full.is c.in-Err-keep.ensures.refused in
     texted _ _ _ _ _ c.args.request.now c.args.body.now _ _ c.refusal_text-in-Full.result
     (full_turn _ _ _ _ _ c.args.request.now c.args.body.now c.in-Ok.caller c.in_ok-ask.ask c.in_ok-reply.field-0.reply c.in-Some.entry d c.in-Err-keep.ensures.same k) c.refusal_text-in-Full.ensures
 
 pub returns-in-Full-clause-unanswered : goal.returns-in-Full-clause-unanswered
 returns-in-Full-clause-unanswered g c =
-    let k = full_by _ _ c.in-Err-keep.field-0.fault _ _ c.in-Full.is c.in-Err-keep.ensures.refused in
+    let k = full_by g.P.Keeper.room (code_of c.in-Some.entry) c.in-Err-keep.field-0.fault _ _ c.in-Full.is c.in-Err-keep.ensures.refused in
     untexted _ _ _ _ _ c.args.request.now c.args.body.now c.refusal_text-in-Full.result (full_untold _ _ _ _ _ c.args.request.now c.args.body.now c.in-Some.entry c.in-Err-keep.ensures.same k)
 
 pub returns-in-Failed-clause-text : goal.returns-in-Failed-clause-text
@@ -61,7 +62,7 @@ returns-in-Failed-clause-text g c =
     let n : c.in_ok-reply.field-0.entry ≡ Some c.in-Some.entry = cc in
     let d : IsDecided (state_of c.args.core.now.history (g.P.Keeper.shown c.args.core.now.keeper)) c.args.moment c.args.request.now c.args.body.now c.in-Ok.caller c.in_ok-ask.ask c.in_ok-reply.field-0.reply (Some c.in-Some.entry) =
       decided _ _ c.args.request.now c.args.body.now c.in-Ok.caller c.in_ok-ask.ask c.in_ok-reply.field-0.reply _ _ (sym caller) c.in_ok-ask.ensures.asks e.reply e.entry e.private n in
-    let k = failed_by _ _ c.in-Err-keep.field-0.fault _ _ c.in-Failed.is c.in-Err-keep.ensures.refused in
+    let k = failed_by g.P.Keeper.room (code_of c.in-Some.entry) c.in-Err-keep.field-0.fault _ _ c.in-Failed.is c.in-Err-keep.ensures.refused in
     texted _ _ _ _ _ c.args.request.now c.args.body.now _ _ c.refusal_text-in-Failed.result
     (failed_turn _ _ _ _ _ c.args.request.now c.args.body.now c.in-Ok.caller c.in_ok-ask.ask c.in_ok-reply.field-0.reply c.in-Some.entry d c.in-Err-keep.ensures.same k) c.refusal_text-in-Failed.ensures
 
@@ -74,10 +75,10 @@ returns-in-Failed-clause-unanswered g c =
     let n : c.in_ok-reply.field-0.entry ≡ Some c.in-Some.entry = cc in
     let d : IsDecided (state_of c.args.core.now.history (g.P.Keeper.shown c.args.core.now.keeper)) c.args.moment c.args.request.now c.args.body.now c.in-Ok.caller c.in_ok-ask.ask c.in_ok-reply.field-0.reply (Some c.in-Some.entry) =
       decided _ _ c.args.request.now c.args.body.now c.in-Ok.caller c.in_ok-ask.ask c.in_ok-reply.field-0.reply _ _ (sym caller) c.in_ok-ask.ensures.asks e.reply e.entry e.private n in
-    let k = failed_by _ _ c.in-Err-keep.field-0.fault _ _ c.in-Failed.is c.in-Err-keep.ensures.refused in
+    let k = failed_by g.P.Keeper.room (code_of c.in-Some.entry) c.in-Err-keep.field-0.fault _ _ c.in-Failed.is c.in-Err-keep.ensures.refused in
     untexted _ _ _ _ _ c.args.request.now c.args.body.now c.refusal_text-in-Failed.result (failed_untold _ _ _ _ _ c.args.request.now c.args.body.now c.in-Ok.caller c.in_ok-ask.ask c.in_ok-reply.field-0.reply c.in-Some.entry d c.in-Err-keep.ensures.same k)
 
 pub returns-clause-unanswered : goal.returns-clause-unanswered
 returns-clause-unanswered g c =
     nothing_kept _ _ _ _ _ c.args.request.now c.args.body.now c.in-Err-keep.ensures.same
-    (memory_by _ _ c.in-Err-keep.field-0.fault _ _ c.in-Memory.is c.in-Err-keep.ensures.refused)
+    (memory_by g.P.Keeper.room (code_of c.in-Some.entry) c.in-Err-keep.field-0.fault _ _ c.in-Memory.is c.in-Err-keep.ensures.refused)
