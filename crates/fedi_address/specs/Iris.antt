@@ -13,7 +13,7 @@ use Rattle.url.specs.declared.slicing.Position.TheVariants.{BeforeHost, AfterPor
 abbrev pub is_web : Parts → Bool
 is_web url = bytes_eq url.scheme (codes "https") || bytes_eq url.scheme (codes "http")
 
--- the URL, where it is a web address
+-- the URL, if it is a web address
 abbrev pub web_only : Option Parts → Option Parts
 web_only (Some url) = if is_web url then Some url else None
 web_only None = None
@@ -22,7 +22,7 @@ web_only None = None
 unfoldable pub web_url : List ℕ → Option Parts
 web_url text = web_only (result_ok (parse_url None text))
 
--- the normal text of a web address, where the text is one
+-- the normal text of a web address, if the text is one
 unfoldable pub normal : List ℕ → Option (List ℕ)
 normal text = option_map serialize (web_url text)
 
@@ -32,11 +32,11 @@ is_out_of_room OutOfMemory = true
 is_out_of_room Overflow = true
 is_out_of_room _ = false
 
--- the host of a URL, with its port where it has one (URL Standard, 4.1)
+-- the host of a URL, with its port if it has one (URL Standard, 4.1)
 abbrev pub host_and_port : Parts → List ℕ
 host_and_port url = text_between url BeforeHost AfterPort
 
--- its path, with its query where it has one (URL Standard, 4.1)
+-- its path, with its query if it has one (URL Standard, 4.1)
 abbrev pub path_and_query : Parts → List ℕ
 path_and_query url = text_between url BeforePath AfterQuery
 
@@ -72,7 +72,7 @@ after_slashes text = after_first is_slash (after_first is_slash text)
 abbrev pub authority_of : List ℕ → List ℕ
 authority_of text = before_first is_slash (after_slashes text)
 
--- the host, and the port where there is one: what follows the user information and its `@` (RFC 3986, 3.2.1 to 3.2.3)
+-- the host, and the port if there is one: what follows the user information and its `@` (RFC 3986, 3.2.1 to 3.2.3)
 unfoldable pub host_of : List ℕ → List ℕ
 host_of text = after_any is_at (authority_of text)
 

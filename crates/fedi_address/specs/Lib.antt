@@ -3,4 +3,3 @@ pub mod Iris
 pub mod Names
 pub mod Pieces
 pub mod Recipients
-pub mod Refusals

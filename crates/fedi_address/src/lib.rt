@@ -7,14 +7,9 @@ mod items;
 mod name;
 mod pieces;
 mod recipients;
-mod refusal;
 
 pub use host::{Host, HostFault};
 pub use iri::{Iri, IriFault};
 pub use items::Items;
 pub use name::LocalName;
 pub use recipients::{Recipients, is_among};
-pub use refusal::Refusal;
-
-#[cfg(test)]
-mod tests;

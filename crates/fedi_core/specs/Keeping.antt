@@ -1,5 +1,5 @@
 -- What becomes of an entry that is to be kept: of the history, and of the keeper of its records.
-use Rattle.std.specs.Prelude.{◌≡◌, ◌⊎◌, ℕ, false, List, [], ◌∷◌, ◌++◌, length, IsTrue, Option, None, Some, Result, Ok, Err}
+use Rattle.std.specs.Prelude.{◌≡◌, ◌⊎◌, ℕ, false, List, [], ◌∷◌, ◌++◌, length, IsTrue, Option, None, Some}
 use Rattle.fedi_entry.specs.Codes.{code_of}
 use Rattle.fedi_objects.specs.declared.activity.Activity.{Activity}
 use Rattle.fedi_objects.specs.declared.entry.Entry.{Entry}
@@ -49,11 +49,6 @@ abbrev pub Refuses : (ℕ → ℕ) → List ℕ → KeepFault → KeeperState �
 Refuses room code Full before after = IsFull room before.end (length code) × OnlyRoomChanged before after
 Refuses room code Failed before after = HasRoom room before.end (length code) × HasFailedOnce code before after
 Refuses room code Memory before after = OnlyRoomChanged before after
-
--- what became of a keeper that was to keep a record with this code
-abbrev pub Stores : (ℕ → ℕ) → (ℕ → ℕ) → List ℕ → Result (Unit {0}) KeepFault → KeeperState → KeeperState → Type 0
-Stores growth room code (Ok done) before after = HasRoom room before.end (length code) × HasAdded growth code before after
-Stores growth room code (Err fault) before after = Refuses room code fault before after
 
 -- ---- entries
 

@@ -1,10 +1,11 @@
 //! Keeping an entry.
 
-ghost use Rattle.std.specs.Prelude.{◌≡◌, ◌++◌, ◌∷◌, [], ◌+◌, ◌≤◌, IsTrue, OnOk, OnErr, vec_capacity, vec_len};
+ghost use Rattle.std.specs.Prelude.{◌≡◌, ◌++◌, ◌∷◌, [], ◌+◌, ◌≤◌, IfErr, IsErrOf, OnOk, OnErr, length, vec_capacity, vec_len};
 ghost use Rattle.fedi_entry.specs.Codes.{code_of};
 ghost use Rattle.fedi_model.specs.Histories.{step};
-ghost use Rattle.fedi_core.specs.Keeping.{MayAdd, Stores};
-ghost use Rattle.fedi_core.specs.declared.keeping.KeepFault.TheVariants.{Full, Memory};
+ghost use Rattle.fedi_outside.specs.Keepers.{HasAdded, HasRoom};
+ghost use Rattle.fedi_core.specs.Keeping.{MayAdd, Refuses};
+ghost use Rattle.fedi_core.specs.declared.keeping.KeepFault.TheVariants.{Memory};
 
 use fedi_entry::encode;
 use fedi_facts::Facts;
@@ -46,7 +47,14 @@ pub struct KeepError {
 
 /// Keeps one more record. Room is made first, so that nothing takes memory once the doubt is settled.
 pub fn store<P: Keeper>(keeper: &mut P, code: &[u8]) -> Result<(), KeepFault>
-    ensures { Stores P.growth P.room code.now result (P.shown keeper.old) (P.shown keeper.new) }
+    ensures fits { OnOk result (HasRoom P.room (P.shown keeper.old).end (length code.now)) }
+    ensures added { OnOk result
+        (HasAdded P.growth code.now (P.shown keeper.old) (P.shown keeper.new)) }
+    ensures refused { IfErr result (λ fault.
+        Refuses P.room code.now fault (P.shown keeper.old) (P.shown keeper.new)) }
+    // The keeper was asked for room, and there was room.
+    ensures memory { IsErrOf result KeepFault.Memory
+        → HasRoom P.room (P.shown keeper.old).end (length code.now) }
 {
     match keeper.reserve(code.len()) {
         Ok(()) => {}
@@ -76,8 +84,12 @@ pub fn store_entry<P: Keeper>(
     ensures room { OnOk result (vec_len history.new + 1 ≤ vec_capacity history.new) }
     ensures facts_kept { OnErr result (facts.new ≡ facts.old) }
     ensures history { history.new.items ≡ history.old.items }
-    ensures keeper { Stores P.growth P.room (code_of entry.now) result
-        (P.shown keeper.old) (P.shown keeper.new) }
+    ensures fits { OnOk result
+        (HasRoom P.room (P.shown keeper.old).end (length (code_of entry.now))) }
+    ensures added { OnOk result
+        (HasAdded P.growth (code_of entry.now) (P.shown keeper.old) (P.shown keeper.new)) }
+    ensures refused { IfErr result (λ fault.
+        Refuses P.room (code_of entry.now) fault (P.shown keeper.old) (P.shown keeper.new)) }
 {
     let code = encode(alloc, entry)?;
     history.reserve(1)?;

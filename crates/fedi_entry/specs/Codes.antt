@@ -172,7 +172,7 @@ abbrev pub HasStatus : What → Type 0
 HasStatus (Status status) = status < 2 ^ 16
 HasStatus _ = Unit {0}
 
--- a digest has 32 bytes, where there is one
+-- a digest has 32 bytes, if there is one
 abbrev pub HasDigest : Option (List ℕ × List ℕ) → Type 0
 HasDigest None = Unit {0}
 HasDigest (Some repeat) = length repeat.1 ≡ 32

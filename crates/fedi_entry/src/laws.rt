@@ -10,7 +10,7 @@ pub fn codes_begin_with_the_kind()
     ensures { (entry : Entry) → (fields : List ℕ) × (code_of entry ≡ entry_number entry ∷ fields) }
 {}
 
-/// No two entries have the same code, where nothing in them is too large for its bytes.
+/// No two entries have the same code, if nothing in them is too large for its bytes.
 #[tactic(auto, using(crate::proofs::EntryLemmas::code_of_injective))]
 pub fn codes_are_unique()
     ensures { (a b : Entry) → Fits a → Fits b → code_of a ≡ code_of b → a ≡ b }

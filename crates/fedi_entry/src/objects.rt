@@ -1,14 +1,14 @@
-//! Objects and changes as bytes.
+//! Objects, changes and activities as bytes.
 
 ghost use Rattle.std.specs.Prelude.{◌≡◌, ◌++◌, OnOk};
-ghost use Rattle.fedi_entry.specs.Codes.{hidden_code, recipients_code, words_code, object_head, object_words, object_times, edits_code};
+ghost use Rattle.fedi_entry.specs.Codes.{activity_words, object_times, object_words, words_code};
 
-use crate::coded::Coded;
+use crate::values::{Encode, put_byte};
 use fedi_address::Recipients;
-use fedi_objects::{Change, Edit, Object, Tag, Text};
+use fedi_objects::{Activity, Change, Object, ObjectRef, Tag, Text};
 use std::alloc::AllocError;
 
-impl Coded for Tag {
+impl Encode for Tag {
     ghost use Rattle.fedi_entry.specs.Codes.{tag_code};
 
     ghost code = { tag_code };
@@ -20,32 +20,24 @@ impl Coded for Tag {
     }
 }
 
-/// Puts the hidden recipients and the audience at the end.
-#[tactic(auto, unfolding(crate::specs::Codes::hidden_code))]
-fn put_hidden(bytes: &mut Vec<u8>, recipients: &Recipients) -> Result<(), AllocError>
-    ensures { OnOk result (bytes.new.items ≡ bytes.old.items ++ hidden_code recipients.now) }
-{
-    recipients.bto.put(bytes)?;
-    recipients.bcc.put(bytes)?;
-    recipients.audience.put(bytes)
-}
-
-impl Coded for Recipients {
+impl Encode for Recipients {
     ghost use Rattle.fedi_entry.specs.Codes.{recipients_code};
 
     ghost code = { recipients_code };
 
-    #[tactic(auto, unfolding(crate::specs::Codes::recipients_code))]
+    #[tactic(auto, unfolding(crate::specs::Codes::recipients_code, crate::specs::Codes::hidden_code))]
     fn put(&self, bytes: &mut Vec<u8>) -> Result<(), AllocError> {
         self.to.put(bytes)?;
         self.cc.put(bytes)?;
-        put_hidden(bytes, self)
+        self.bto.put(bytes)?;
+        self.bcc.put(bytes)?;
+        self.audience.put(bytes)
     }
 }
 
-/// Puts three texts at the end, each of which may be absent.
+/// Appends three texts, each of which may be absent.
 #[tactic(auto, unfolding(crate::specs::Codes::words_code))]
-pub fn put_words(
+fn put_words(
     bytes: &mut Vec<u8>,
     content: &Option<Text>,
     summary: &Option<Text>,
@@ -59,19 +51,9 @@ pub fn put_words(
     name.put(bytes)
 }
 
-/// Puts what an object is, and whose, at the end.
-#[tactic(auto, unfolding(crate::specs::Codes::object_head))]
-fn put_head(bytes: &mut Vec<u8>, object: &Object) -> Result<(), AllocError>
-    ensures { OnOk result (bytes.new.items ≡ bytes.old.items ++ object_head object.now) }
-{
-    object.id.put(bytes)?;
-    object.kind.put(bytes)?;
-    object.attributed_to.put(bytes)
-}
-
-/// Puts what an object says at the end.
+/// Appends what an object says.
 #[tactic(auto, unfolding(crate::specs::Codes::object_words))]
-fn put_contents(bytes: &mut Vec<u8>, object: &Object) -> Result<(), AllocError>
+fn put_object_words(bytes: &mut Vec<u8>, object: &Object) -> Result<(), AllocError>
     ensures { OnOk result (bytes.new.items ≡ bytes.old.items ++ object_words object.now) }
 {
     object.in_reply_to.put(bytes)?;
@@ -79,7 +61,7 @@ fn put_contents(bytes: &mut Vec<u8>, object: &Object) -> Result<(), AllocError>
     object.url.put(bytes)
 }
 
-/// Puts when an object came, changed and went at the end.
+/// Appends when an object was published, updated and deleted, and its former type.
 #[tactic(auto, unfolding(crate::specs::Codes::object_times))]
 fn put_times(bytes: &mut Vec<u8>, object: &Object) -> Result<(), AllocError>
     ensures { OnOk result (bytes.new.items ≡ bytes.old.items ++ object_times object.now) }
@@ -90,48 +72,89 @@ fn put_times(bytes: &mut Vec<u8>, object: &Object) -> Result<(), AllocError>
     object.deleted.put(bytes)
 }
 
-impl Coded for Object {
+impl Encode for Object {
     ghost use Rattle.fedi_entry.specs.Codes.{object_code};
 
     ghost code = { object_code };
 
-    #[tactic(auto, unfolding(crate::specs::Codes::object_code))]
+    #[tactic(auto, unfolding(crate::specs::Codes::object_code, crate::specs::Codes::object_head))]
     fn put(&self, bytes: &mut Vec<u8>) -> Result<(), AllocError> {
-        put_head(bytes, self)?;
+        self.id.put(bytes)?;
+        self.kind.put(bytes)?;
+        self.attributed_to.put(bytes)?;
         self.recipients.put(bytes)?;
-        put_contents(bytes, self)?;
+        put_object_words(bytes, self)?;
         put_times(bytes, self)?;
         self.tags.put(bytes)
     }
 }
 
-/// Puts what is done to three texts at the end.
-#[tactic(auto, unfolding(crate::specs::Codes::edits_code))]
-fn put_edits(
-    bytes: &mut Vec<u8>,
-    content: &Edit<Text>,
-    summary: &Edit<Text>,
-    name: &Edit<Text>,
-) -> Result<(), AllocError>
-    ensures { OnOk result (bytes.new.items
-        ≡ bytes.old.items ++ edits_code content.now summary.now name.now) }
-{
-    content.put(bytes)?;
-    summary.put(bytes)?;
-    name.put(bytes)
-}
-
-impl Coded for Change {
+impl Encode for Change {
     ghost use Rattle.fedi_entry.specs.Codes.{change_code};
 
     ghost code = { change_code };
 
-    #[tactic(auto, unfolding(crate::specs::Codes::change_code))]
+    #[tactic(auto, unfolding(crate::specs::Codes::change_code, crate::specs::Codes::edits_code))]
     fn put(&self, bytes: &mut Vec<u8>) -> Result<(), AllocError> {
         self.id.put(bytes)?;
-        put_edits(bytes, &self.content, &self.summary, &self.name)?;
+        self.content.put(bytes)?;
+        self.summary.put(bytes)?;
+        self.name.put(bytes)?;
         self.url.put(bytes)?;
         self.in_reply_to.put(bytes)?;
         self.tags.put(bytes)
+    }
+}
+
+impl Encode for ObjectRef {
+    ghost use Rattle.fedi_entry.specs.Codes.{object_ref_code};
+
+    ghost code = { object_ref_code };
+
+    #[tactic(auto, unfolding(crate::specs::Codes::object_ref_code))]
+    fn put(&self, bytes: &mut Vec<u8>) -> Result<(), AllocError> {
+        match self {
+            ObjectRef::Nothing => put_byte(bytes, 0),
+            ObjectRef::Id(id) => {
+                put_byte(bytes, 1)?;
+                id.put(bytes)
+            }
+            ObjectRef::Whole(object) => {
+                put_byte(bytes, 2)?;
+                object.put(bytes)
+            }
+            ObjectRef::Changed(change) => {
+                put_byte(bytes, 3)?;
+                change.put(bytes)
+            }
+        }
+    }
+}
+
+/// Appends what an activity itself says.
+#[tactic(auto, unfolding(crate::specs::Codes::activity_words))]
+fn put_activity_words(bytes: &mut Vec<u8>, activity: &Activity) -> Result<(), AllocError>
+    ensures { OnOk result (bytes.new.items ≡ bytes.old.items ++ activity_words activity.now) }
+{
+    activity.in_reply_to.put(bytes)?;
+    put_words(bytes, &activity.content, &activity.summary, &activity.name)?;
+    activity.published.put(bytes)?;
+    activity.tags.put(bytes)
+}
+
+impl Encode for Activity {
+    ghost use Rattle.fedi_entry.specs.Codes.{activity_code};
+
+    ghost code = { activity_code };
+
+    #[tactic(auto, unfolding(crate::specs::Codes::activity_code, crate::specs::Codes::activity_head))]
+    fn put(&self, bytes: &mut Vec<u8>) -> Result<(), AllocError> {
+        self.id.put(bytes)?;
+        put_byte(bytes, self.kind.number())?;
+        self.actor.put(bytes)?;
+        self.object.put(bytes)?;
+        self.target.put(bytes)?;
+        self.recipients.put(bytes)?;
+        put_activity_words(bytes, self)
     }
 }

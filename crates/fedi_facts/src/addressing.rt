@@ -66,7 +66,8 @@ fn gather_one(
     found: &mut Vec<Iri>,
     iri: &Iri,
 ) -> Result<(), AllocError>
-    ensures { OnOk result (found.new.items ≡ with_recipient facts.now author.now found.old.items iri.now) }
+    ensures { OnOk result (found.new.items
+        ≡ with_recipient facts.now author.now found.old.items iri.now) }
 {
     if is_no_recipient(facts, author, iri) || is_among(iri.text(), found) {
         return Ok(());
@@ -77,7 +78,8 @@ fn gather_one(
 }
 
 fn gather(facts: &Facts, author: &Iri, found: &mut Vec<Iri>, iris: &[Iri]) -> Result<(), AllocError>
-    ensures { OnOk result (found.new.items ≡ fold (with_recipient facts.now author.now) found.old.items iris.now) }
+    ensures { OnOk result (found.new.items
+        ≡ fold (with_recipient facts.now author.now) found.old.items iris.now) }
 {
     for iri in iris {
         gather_one(facts, author, found, iri)?;
@@ -86,7 +88,7 @@ fn gather(facts: &Facts, author: &Iri, found: &mut Vec<Iri>, iris: &[Iri]) -> Re
 }
 
 /// The recipients of a local activity: those of `to`, `cc`, `bto`, `bcc` and `audience` in this
-/// order, each once (ActivityPub, sections 6 and 7.1). The error is want of memory.
+/// order, each once (ActivityPub, sections 6 and 7.1). The error is out of memory.
 pub fn recipients_of(
     alloc: Global,
     facts: &Facts,

@@ -65,7 +65,8 @@ pub fn makes(act: &Act, id: &Iri) -> bool
 }
 
 fn local_state(facts: &Facts, activity: &Activity, id: &Iri) -> State
-    ensures { result ≡ local_state facts.now activity.now.kind id.now (whole_of activity.now.object) }
+    ensures { result
+        ≡ local_state facts.now activity.now.kind id.now (whole_of activity.now.object) }
 {
     let is_carried = match &activity.object {
         ObjectRef::Whole(_) => true,

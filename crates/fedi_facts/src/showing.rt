@@ -23,7 +23,8 @@ fn id_or_nothing(id: Option<&Iri>) -> ShownObject<'_>
 
 // What an activity is about, by whether the activity made it: the object itself, or its address.
 fn shown_object(object: &ObjectRef, made: bool) -> ShownObject<'_>
-    ensures { (ms : Members) → with_object true (object_in result) ms ≡ with_object true (shown_ref made object.now) ms }
+    ensures { (ms : Members)
+        → with_object true (object_in result) ms ≡ with_object true (shown_ref made object.now) ms }
 {
     match object {
         ObjectRef::Nothing => ShownObject::Nothing,
@@ -53,7 +54,8 @@ pub fn shown_of<'a>(act: &'a Act, id: &'a Iri) -> Shown<'a>
     ensures local { result.local ≡ true }
     ensures state { result.state ≡ act.now.state }
     ensures public { result.public ≡ act.now.is_public }
-    ensures form { activity_form true true result.author.now (shown_in result) ≡ activity_form true true act.now.author (shown_activity act.now) }
+    ensures form { activity_form true true result.author.now (shown_in result)
+        ≡ activity_form true true act.now.author (shown_activity act.now) }
 {
     let activity = &act.activity;
     Shown {

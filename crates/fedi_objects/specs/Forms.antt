@@ -14,7 +14,7 @@ use Rattle.fedi_objects.specs.declared.shown.Shown.{Shown}
 use Rattle.fedi_objects.specs.declared.shown.ShownObject.{ShownObject}
 use Rattle.fedi_objects.specs.declared.shown.ShownObject.TheVariants as shows
 
--- the members, with a text where there is one
+-- the members, with a text if there is one
 unfoldable pub with_text : List ℕ → Option (List ℕ) → Members → Members
 with_text key None ms = ms
 with_text key (Some text) ms = put key (string text) ms

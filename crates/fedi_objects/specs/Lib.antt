@@ -2,3 +2,4 @@ pub mod Dates
 pub mod Forms
 pub mod Keys
 pub mod Kinds
+pub mod Objects

@@ -1,14 +1,14 @@
 //! Activities.
 
-ghost use Rattle.std.specs.Prelude.{◌≡◌, IfOk};
+ghost use Rattle.std.specs.Prelude.{◌≡◌, IfOk, OnOk};
 
 use crate::boxed::Boxed;
-use crate::copies::{copy_items, copy_option};
 use crate::kind::Kind;
 use crate::object::{Change, Object, Tag};
+use crate::options::clone_option;
 use crate::text::Text;
 use fedi_address::{Iri, Items, Recipients};
-use std::alloc::AllocError;
+use std::alloc::{AllocError, Global};
 
 /// What an activity is about.
 #[derive(Drop)]
@@ -22,18 +22,23 @@ pub enum ObjectRef {
 }
 
 impl ObjectRef {
-    /// An equal value. The error is want of memory.
+    /// A copy. The error is out of memory.
     pub fn copy(&self) -> Result<ObjectRef, AllocError>
         ensures { IfOk result (λ x. x ≡ self.now) }
     {
+        self.clone()
+    }
+}
+
+impl Clone for ObjectRef {
+    ghost is_clone = { λ object copy. copy ≡ object };
+
+    fn clone(&self) -> Result<ObjectRef, AllocError> {
         match self {
             ObjectRef::Nothing => Ok(ObjectRef::Nothing),
-            ObjectRef::Id(id) => Ok(ObjectRef::Id(id.copy()?)),
-            ObjectRef::Whole(object) => {
-                let copied = object.copy()?;
-                Ok(ObjectRef::Whole(Boxed::new(object.allocator(), copied)?))
-            }
-            ObjectRef::Changed(change) => Ok(ObjectRef::Changed(change.copy()?)),
+            ObjectRef::Id(id) => Ok(ObjectRef::Id(id.clone()?)),
+            ObjectRef::Whole(object) => Ok(ObjectRef::Whole(object.clone()?)),
+            ObjectRef::Changed(change) => Ok(ObjectRef::Changed(change.clone()?)),
         }
     }
 }
@@ -56,62 +61,83 @@ pub struct Activity {
 }
 
 impl Activity {
-    /// An equal activity. The error is want of memory.
-    pub fn copy(&self) -> Result<Activity, AllocError>
-        ensures { IfOk result (λ x. x ≡ self.now) }
+    ghost use Rattle.fedi_objects.specs.Objects.{activity_of_kind, creation};
+
+    /// The activity of this type about nothing and for nobody, with no other property. It takes no
+    /// memory.
+    pub fn new(alloc: Global, kind: Kind) -> Activity
+        ensures { result ≡ activity_of_kind kind }
     {
-        let (id, actor, target) = self.copy_links()?;
-        let (content, summary, name) = self.copy_words()?;
-        let (in_reply_to, published) = self.copy_rest()?;
-        let (object, recipients, tags) = self.copy_parts()?;
+        Activity {
+            id: None,
+            kind,
+            actor: None,
+            object: ObjectRef::Nothing,
+            target: None,
+            recipients: Recipients::empty(alloc),
+            in_reply_to: None,
+            content: None,
+            summary: None,
+            name: None,
+            published: None,
+            tags: Items::empty(alloc),
+        }
+    }
+
+    /// The Create of an object, for the same recipients (ActivityPub, section 6.2.1). The error is
+    /// out of memory.
+    pub fn create(alloc: Global, object: Object) -> Result<Activity, AllocError>
+        ensures { IfOk result (λ activity. activity ≡ creation object) }
+    {
+        let recipients = object.recipients.clone()?;
         Ok(Activity {
-            id,
-            kind: self.kind,
-            actor,
-            object,
-            target,
+            id: None,
+            kind: Kind::Create,
+            actor: None,
+            object: ObjectRef::Whole(Boxed::new(alloc, object)?),
+            target: None,
             recipients,
-            in_reply_to,
-            content,
-            summary,
-            name,
-            published,
-            tags,
+            in_reply_to: None,
+            content: None,
+            summary: None,
+            name: None,
+            published: None,
+            tags: Items::empty(alloc),
         })
     }
 
-    fn copy_links(&self) -> Result<(Option<Iri>, Option<Iri>, Option<Iri>), AllocError>
-        ensures { IfOk result (λ x. x ≡ (self.now.id, self.now.actor, self.now.target)) }
+    // Copies all but the type. To own one activity over many exits is dear to prove, so it is lent.
+    fn fill_from(&mut self, other: &Activity) -> Result<(), AllocError>
+        ensures { OnOk result (self.new ≡ record other.now { kind = self.old.kind }) }
     {
-        let id = copy_option(&self.id)?;
-        let actor = copy_option(&self.actor)?;
-        let target = copy_option(&self.target)?;
-        Ok((id, actor, target))
+        self.id = clone_option(&other.id)?;
+        self.actor = clone_option(&other.actor)?;
+        self.object = other.object.clone()?;
+        self.target = clone_option(&other.target)?;
+        self.recipients = other.recipients.clone()?;
+        self.in_reply_to = clone_option(&other.in_reply_to)?;
+        self.content = clone_option(&other.content)?;
+        self.summary = clone_option(&other.summary)?;
+        self.name = clone_option(&other.name)?;
+        self.published = clone_option(&other.published)?;
+        self.tags = other.tags.clone()?;
+        Ok(())
     }
 
-    fn copy_words(&self) -> Result<(Option<Text>, Option<Text>, Option<Text>), AllocError>
-        ensures { IfOk result (λ x. x ≡ (self.now.content, self.now.summary, self.now.name)) }
+    /// A copy. The error is out of memory.
+    pub fn copy(&self) -> Result<Activity, AllocError>
+        ensures { IfOk result (λ x. x ≡ self.now) }
     {
-        let content = copy_option(&self.content)?;
-        let summary = copy_option(&self.summary)?;
-        let name = copy_option(&self.name)?;
-        Ok((content, summary, name))
+        self.clone()
     }
+}
 
-    fn copy_rest(&self) -> Result<(Option<Iri>, Option<Text>), AllocError>
-        ensures { IfOk result (λ x. x ≡ (self.now.in_reply_to, self.now.published)) }
-    {
-        let in_reply_to = copy_option(&self.in_reply_to)?;
-        let published = copy_option(&self.published)?;
-        Ok((in_reply_to, published))
-    }
+impl Clone for Activity {
+    ghost is_clone = { λ activity copy. copy ≡ activity };
 
-    fn copy_parts(&self) -> Result<(ObjectRef, Recipients, Items<Tag>), AllocError>
-        ensures { IfOk result (λ x. x ≡ (self.now.object, self.now.recipients, self.now.tags)) }
-    {
-        let object = self.object.copy()?;
-        let recipients = self.recipients.copy()?;
-        let tags = copy_items(&self.tags)?;
-        Ok((object, recipients, tags))
+    fn clone(&self) -> Result<Activity, AllocError> {
+        let mut copy = Activity::new(self.tags.allocator(), self.kind);
+        copy.fill_from(self)?;
+        Ok(copy)
     }
 }

@@ -26,14 +26,6 @@ impl<T: Drop> Boxed<T> {
         let inner = Box::new(alloc, value)?;
         Ok(Boxed { inner })
     }
-
-    /// Moves the value out.
-    pub fn into_inner(self) -> T
-        ensures { result ≡ self }
-    {
-        let Boxed { inner } = self;
-        Box::into_inner(inner)
-    }
 }
 
 impl<T> Boxed<T> {
@@ -44,9 +36,25 @@ impl<T> Boxed<T> {
         &*self.inner
     }
 
+    /// Moves the value out.
+    pub fn into_inner(self) -> T
+        ensures { result ≡ self }
+    {
+        let Boxed { inner } = self;
+        Box::into_inner(inner)
+    }
+
     /// The allocator that the value's memory is from.
     pub fn allocator(&self) -> Global {
         *Box::allocator(&self.inner)
+    }
+}
+
+impl<T: Clone + Drop> Clone for Boxed<T> {
+    ghost is_clone = { λ a b. T.is_clone a b };
+
+    fn clone(&self) -> Result<Boxed<T>, AllocError> {
+        Boxed::new(self.allocator(), self.get().clone()?)
     }
 }
 

@@ -57,7 +57,8 @@ pub enum Entry {
         relay: bool,
         moment: Moment,
     },
-    /// A member posted an activity, as it was read, perhaps under a key for repeats with the digest of the body.
+    /// A member posted an activity, as it was read, perhaps under a key for repeats with the digest
+    /// of the body.
     Local {
         name: LocalName,
         repeat: Option<(RepeatKey, [u8; 32])>,

@@ -3,36 +3,36 @@
 ghost use Rattle.std.specs.Prelude.{◌≡◌};
 
 /// The 28 types of activities (ActivityStreams 2.0 Vocabulary, section 3.1).
-#[derive(Clone, Copy, Debug)]
+#[derive(Clone, Copy, Debug, PartialEq, Eq)]
 pub enum Kind {
-    Accept,
-    Add,
-    Announce,
-    Arrive,
-    Block,
-    Create,
-    Delete,
-    Dislike,
-    Flag,
-    Follow,
-    Ignore,
-    Invite,
-    Join,
-    Leave,
-    Like,
-    Listen,
-    Move,
-    Offer,
-    Question,
-    Read,
-    Reject,
-    Remove,
-    TentativeAccept,
-    TentativeReject,
-    Travel,
-    Undo,
-    Update,
-    View,
+    Accept = 1,
+    Add = 2,
+    Announce = 3,
+    Arrive = 4,
+    Block = 5,
+    Create = 6,
+    Delete = 7,
+    Dislike = 8,
+    Flag = 9,
+    Follow = 10,
+    Ignore = 11,
+    Invite = 12,
+    Join = 13,
+    Leave = 14,
+    Like = 15,
+    Listen = 16,
+    Move = 17,
+    Offer = 18,
+    Question = 19,
+    Read = 20,
+    Reject = 21,
+    Remove = 22,
+    TentativeAccept = 23,
+    TentativeReject = 24,
+    Travel = 25,
+    Undo = 26,
+    Update = 27,
+    View = 28,
 }
 
 impl Kind {
@@ -42,36 +42,7 @@ impl Kind {
     pub fn number(self) -> u8
         ensures { result ≡ kind_number self }
     {
-        match self {
-            Kind::Accept => 1,
-            Kind::Add => 2,
-            Kind::Announce => 3,
-            Kind::Arrive => 4,
-            Kind::Block => 5,
-            Kind::Create => 6,
-            Kind::Delete => 7,
-            Kind::Dislike => 8,
-            Kind::Flag => 9,
-            Kind::Follow => 10,
-            Kind::Ignore => 11,
-            Kind::Invite => 12,
-            Kind::Join => 13,
-            Kind::Leave => 14,
-            Kind::Like => 15,
-            Kind::Listen => 16,
-            Kind::Move => 17,
-            Kind::Offer => 18,
-            Kind::Question => 19,
-            Kind::Read => 20,
-            Kind::Reject => 21,
-            Kind::Remove => 22,
-            Kind::TentativeAccept => 23,
-            Kind::TentativeReject => 24,
-            Kind::Travel => 25,
-            Kind::Undo => 26,
-            Kind::Update => 27,
-            Kind::View => 28,
-        }
+        self as u8
     }
 
     /// The type as the vocabulary spells it.
@@ -122,7 +93,7 @@ impl Kind {
 }
 
 /// What became of an activity.
-#[derive(Clone, Copy, Debug)]
+#[derive(Clone, Copy, Debug, PartialEq, Eq)]
 pub enum State {
     /// It has no effect beyond being there.
     Plain,

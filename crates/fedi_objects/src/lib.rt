@@ -1,13 +1,14 @@
-//! The objects and activities of ActivityStreams, the entries of a history, and the JSON in which objects are shown.
+//! The objects and activities of ActivityStreams, the entries of a history, and the JSON in which
+//! objects are shown.
 #![tactic(auto)]
 
 mod activity;
 mod boxed;
-mod copies;
 mod entry;
 mod kind;
 mod moment;
 mod object;
+mod options;
 mod public;
 mod repeat_key;
 mod shown;
@@ -19,10 +20,7 @@ pub use entry::{Came, Entry, Sent, What};
 pub use kind::{Kind, State};
 pub use moment::Moment;
 pub use object::{Change, Edit, Object, Tag};
-pub use public::{object_value, public_text, public_value};
+pub use public::{CONTEXT, MENTION, TOMBSTONE, object_value, public_text, public_value};
 pub use repeat_key::RepeatKey;
 pub use shown::{Shown, ShownObject};
 pub use text::{Bytes, Text};
-
-#[cfg(test)]
-mod tests;

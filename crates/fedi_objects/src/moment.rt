@@ -53,7 +53,7 @@ fn month_of(letters: &[u8]) -> u8
 impl Moment {
     ghost use Rattle.fedi_objects.specs.Dates.{moment_text, http_date_text};
 
-    /// The moment this many seconds after 1970 began. `None` exactly where it is after the year 9999.
+    /// The moment this many seconds after 1970 began. `None` exactly if it is after the year 9999.
     pub fn new(seconds: u64) -> Option<Moment>
         ensures some { IsSome result ↔ (seconds ≤ 253_402_300_799) }
         ensures value { IfSome result (λ moment. moment ≡ seconds) }
@@ -65,7 +65,7 @@ impl Moment {
         }
     }
 
-    /// The moment this many seconds after 1970 began, or the last second of 9999 where that is earlier.
+    /// The moment this many seconds after 1970 began, or the last second of 9999 if that is earlier.
     pub fn clamped(seconds: u64) -> Moment
         ensures { result ≡ min seconds 253_402_300_799 }
     {
@@ -82,7 +82,8 @@ impl Moment {
         self.seconds
     }
 
-    /// The moment as HTTP writes it: `Sun, 06 Nov 1994 08:49:37 GMT` (RFC 9110, section 5.6.7, IMF-fixdate).
+    /// The moment as HTTP writes it: `Sun, 06 Nov 1994 08:49:37 GMT` (RFC 9110, section 5.6.7,
+    /// IMF-fixdate).
     #[tactic(auto, using(crate::proofs::DateLemmas::date_text_of))]
     pub fn http_date(self) -> [u8; 29]
         ensures { result ≡ http_date_text self }
@@ -97,7 +98,8 @@ impl Moment {
     pub fn text(self) -> [u8; 20]
         ensures { result ≡ moment_text self }
     {
-        // The proof needs that the year has four digits.
+        // Shows the proof that the moment lies before the year 10000, so that the year has four
+        // digits.
         let _ = &self.seconds;
         let date = self.http_date();
         let month = month_of(&date[8..11]);
@@ -125,10 +127,11 @@ impl Moment {
         ]
     }
 
-    /// The text of [`Moment::text`]. The error is want of memory.
+    /// The text of [`Moment::text`]. The error is out of memory.
     pub fn to_text(self, alloc: Global) -> Result<Text, AllocError>
         ensures { IfOk result (λ text. text ≡ moment_text self) }
     {
+        // Shows the proof that the moment lies before the year 10000, so that its text is ASCII.
         let _ = &self.seconds;
         match str::from_utf8(&self.text()) {
             Ok(text) => Text::from_text(alloc, text),

@@ -1,11 +1,11 @@
 //! Objects, and what a client asks to change in one.
 
-ghost use Rattle.std.specs.Prelude.{◌≡◌, IfOk};
+ghost use Rattle.std.specs.Prelude.{◌≡◌, IfOk, OnOk};
 
-use crate::copies::{Duplicate, copy_edit, copy_items, copy_option};
+use crate::options::clone_option;
 use crate::text::Text;
 use fedi_address::{Iri, Items, Recipients};
-use std::alloc::AllocError;
+use std::alloc::{AllocError, Global};
 
 /// A mention of somebody (ActivityStreams 2.0 Vocabulary, section 5.5).
 #[derive(Drop)]
@@ -14,20 +14,14 @@ pub struct Tag {
     pub name: Text,
 }
 
-impl Tag {
-    /// An equal mention. The error is want of memory.
-    pub fn copy(&self) -> Result<Tag, AllocError>
-        ensures { IfOk result (λ x. x ≡ self.now) }
-    {
-        let href = self.href.copy()?;
-        let name = self.name.copy()?;
-        Ok(Tag { href, name })
-    }
-}
+impl Clone for Tag {
+    ghost is_clone = { λ tag copy. copy ≡ tag };
 
-impl Duplicate for Tag {
-    fn duplicate(&self) -> Result<Tag, AllocError> {
-        self.copy()
+    fn clone(&self) -> Result<Tag, AllocError> {
+        Ok(Tag {
+            href: self.href.clone()?,
+            name: self.name.clone()?,
+        })
     }
 }
 
@@ -54,76 +48,65 @@ pub struct Object {
 }
 
 impl Object {
-    /// An equal object. The error is want of memory.
+    ghost use Rattle.fedi_objects.specs.Objects.{object_of_kind};
+
+    /// The object of this type for nobody, with no other property. It takes no memory.
+    pub fn new(alloc: Global, kind: Text) -> Object
+        ensures { result ≡ object_of_kind kind }
+    {
+        Object {
+            id: None,
+            kind,
+            attributed_to: None,
+            recipients: Recipients::empty(alloc),
+            in_reply_to: None,
+            content: None,
+            summary: None,
+            name: None,
+            url: None,
+            published: None,
+            updated: None,
+            former_kind: None,
+            deleted: None,
+            tags: Items::empty(alloc),
+        }
+    }
+
+    // Copies all but the type. To own one object over many exits is dear to prove, so it is lent.
+    fn fill_from(&mut self, other: &Object) -> Result<(), AllocError>
+        ensures { OnOk result (self.new ≡ record other.now { kind = self.old.kind }) }
+    {
+        self.id = clone_option(&other.id)?;
+        self.attributed_to = clone_option(&other.attributed_to)?;
+        self.recipients = other.recipients.clone()?;
+        self.in_reply_to = clone_option(&other.in_reply_to)?;
+        self.content = clone_option(&other.content)?;
+        self.summary = clone_option(&other.summary)?;
+        self.name = clone_option(&other.name)?;
+        self.url = clone_option(&other.url)?;
+        self.published = clone_option(&other.published)?;
+        self.updated = clone_option(&other.updated)?;
+        self.former_kind = clone_option(&other.former_kind)?;
+        self.deleted = clone_option(&other.deleted)?;
+        self.tags = other.tags.clone()?;
+        Ok(())
+    }
+
+    /// A copy. The error is out of memory.
     pub fn copy(&self) -> Result<Object, AllocError>
         ensures { IfOk result (λ x. x ≡ self.now) }
     {
-        let (id, attributed_to, in_reply_to) = self.copy_links()?;
-        let (content, summary, name) = self.copy_words()?;
-        let (published, updated, deleted) = self.copy_times()?;
-        let (kind, former_kind, url) = self.copy_kinds()?;
-        let (recipients, tags) = self.copy_people()?;
-        Ok(Object {
-            id,
-            kind,
-            attributed_to,
-            recipients,
-            in_reply_to,
-            content,
-            summary,
-            name,
-            url,
-            published,
-            updated,
-            former_kind,
-            deleted,
-            tags,
-        })
+        self.clone()
     }
+}
 
-    fn copy_links(&self) -> Result<(Option<Iri>, Option<Iri>, Option<Iri>), AllocError>
-        ensures { IfOk result
-            (λ x. x ≡ (self.now.id, self.now.attributed_to, self.now.in_reply_to)) }
-    {
-        let id = copy_option(&self.id)?;
-        let attributed_to = copy_option(&self.attributed_to)?;
-        let in_reply_to = copy_option(&self.in_reply_to)?;
-        Ok((id, attributed_to, in_reply_to))
-    }
+impl Clone for Object {
+    ghost is_clone = { λ object copy. copy ≡ object };
 
-    fn copy_words(&self) -> Result<(Option<Text>, Option<Text>, Option<Text>), AllocError>
-        ensures { IfOk result (λ x. x ≡ (self.now.content, self.now.summary, self.now.name)) }
-    {
-        let content = copy_option(&self.content)?;
-        let summary = copy_option(&self.summary)?;
-        let name = copy_option(&self.name)?;
-        Ok((content, summary, name))
-    }
-
-    fn copy_times(&self) -> Result<(Option<Text>, Option<Text>, Option<Text>), AllocError>
-        ensures { IfOk result (λ x. x ≡ (self.now.published, self.now.updated, self.now.deleted)) }
-    {
-        let published = copy_option(&self.published)?;
-        let updated = copy_option(&self.updated)?;
-        let deleted = copy_option(&self.deleted)?;
-        Ok((published, updated, deleted))
-    }
-
-    fn copy_kinds(&self) -> Result<(Text, Option<Text>, Option<Iri>), AllocError>
-        ensures { IfOk result (λ x. x ≡ (self.now.kind, self.now.former_kind, self.now.url)) }
-    {
-        let kind = self.kind.copy()?;
-        let former_kind = copy_option(&self.former_kind)?;
-        let url = copy_option(&self.url)?;
-        Ok((kind, former_kind, url))
-    }
-
-    fn copy_people(&self) -> Result<(Recipients, Items<Tag>), AllocError>
-        ensures { IfOk result (λ x. x ≡ (self.now.recipients, self.now.tags)) }
-    {
-        let recipients = self.recipients.copy()?;
-        let tags = copy_items(&self.tags)?;
-        Ok((recipients, tags))
+    fn clone(&self) -> Result<Object, AllocError> {
+        let mut copy = Object::new(self.tags.allocator(), self.kind.clone()?);
+        copy.fill_from(self)?;
+        Ok(copy)
     }
 }
 
@@ -133,6 +116,19 @@ pub enum Edit<T> {
     Keep,
     Remove,
     Give(T),
+}
+
+// If the value's clone is equal to it, the edit's clone is equal to the edit.
+impl<T: Clone + Drop> Clone for Edit<T> {
+    ghost is_clone = { λ edit copy. ((x y : T) → T.is_clone x y → y ≡ x) → copy ≡ edit };
+
+    fn clone(&self) -> Result<Edit<T>, AllocError> {
+        match self {
+            Edit::Keep => Ok(Edit::Keep),
+            Edit::Remove => Ok(Edit::Remove),
+            Edit::Give(value) => Ok(Edit::Give(value.clone()?)),
+        }
+    }
 }
 
 /// What a client's Update does to an object.
@@ -148,46 +144,43 @@ pub struct Change {
 }
 
 impl Change {
-    /// An equal change. The error is want of memory.
-    pub fn copy(&self) -> Result<Change, AllocError>
-        ensures { IfOk result (λ x. x ≡ self.now) }
+    ghost use Rattle.fedi_objects.specs.Objects.{no_change};
+
+    /// The change of the object of this id that keeps each property.
+    pub fn new(id: Iri) -> Change
+        ensures { result ≡ no_change id }
     {
-        let (content, summary, name) = self.copy_words()?;
-        let (url, in_reply_to) = self.copy_links()?;
-        let (id, tags) = self.copy_rest()?;
-        Ok(Change {
+        Change {
             id,
-            content,
-            summary,
-            name,
-            url,
-            in_reply_to,
-            tags,
-        })
+            content: Edit::Keep,
+            summary: Edit::Keep,
+            name: Edit::Keep,
+            url: Edit::Keep,
+            in_reply_to: Edit::Keep,
+            tags: Edit::Keep,
+        }
     }
 
-    fn copy_words(&self) -> Result<(Edit<Text>, Edit<Text>, Edit<Text>), AllocError>
-        ensures { IfOk result (λ x. x ≡ (self.now.content, self.now.summary, self.now.name)) }
+    // Copies all but the id.
+    fn fill_from(&mut self, other: &Change) -> Result<(), AllocError>
+        ensures { OnOk result (self.new ≡ record other.now { id = self.old.id }) }
     {
-        let content = copy_edit(&self.content)?;
-        let summary = copy_edit(&self.summary)?;
-        let name = copy_edit(&self.name)?;
-        Ok((content, summary, name))
+        self.content = other.content.clone()?;
+        self.summary = other.summary.clone()?;
+        self.name = other.name.clone()?;
+        self.url = other.url.clone()?;
+        self.in_reply_to = other.in_reply_to.clone()?;
+        self.tags = other.tags.clone()?;
+        Ok(())
     }
+}
 
-    fn copy_links(&self) -> Result<(Edit<Iri>, Edit<Iri>), AllocError>
-        ensures { IfOk result (λ x. x ≡ (self.now.url, self.now.in_reply_to)) }
-    {
-        let url = copy_edit(&self.url)?;
-        let in_reply_to = copy_edit(&self.in_reply_to)?;
-        Ok((url, in_reply_to))
-    }
+impl Clone for Change {
+    ghost is_clone = { λ change copy. copy ≡ change };
 
-    fn copy_rest(&self) -> Result<(Iri, Edit<Items<Tag>>), AllocError>
-        ensures { IfOk result (λ x. x ≡ (self.now.id, self.now.tags)) }
-    {
-        let id = self.id.copy()?;
-        let tags = copy_edit(&self.tags)?;
-        Ok((id, tags))
+    fn clone(&self) -> Result<Change, AllocError> {
+        let mut copy = Change::new(self.id.clone()?);
+        copy.fill_from(self)?;
+        Ok(copy)
     }
 }

@@ -6,7 +6,7 @@ ghost use Rattle.std.specs.String.{string_bytes};
 ghost use Rattle.serde_json.specs.Data.{string, put, object};
 ghost use Rattle.serde_json.specs.View.{view, members_view};
 ghost use Rattle.serde_json.specs.Written.{compact_text, has_float};
-ghost use Rattle.fedi_objects.specs.Forms.{with_text, with_list, with_context, with_collections, tag_form, with_audience, with_words, kind_members, with_id, with_links, live_members, tombstone_members, object_members, object_form, with_object, activity_kind_members, with_activity_links, activity_members, activity_form, object_in, shown_in, is_clean};
+ghost use Rattle.fedi_objects.specs.Forms.{with_text, with_list, with_context, with_collections, tag_form, with_audience, with_words, with_links, live_members, tombstone_members, object_members, object_form, with_object, activity_members, activity_form, object_in, shown_in, is_clean};
 
 use crate::object::{Object, Tag};
 use crate::shown::{Shown, ShownObject};
@@ -16,13 +16,13 @@ use serde_json::{Map, Value};
 use std::alloc::{AllocError, Global};
 
 /// The context of ActivityStreams (ActivityStreams 2.0 Core, section 2.1).
-const CONTEXT: &str = "https://www.w3.org/ns/activitystreams";
+pub const CONTEXT: &str = "https://www.w3.org/ns/activitystreams";
 
-/// The type of a mention.
-const MENTION: &str = "Mention";
+/// The type of a mention (ActivityStreams 2.0 Vocabulary, section 5.5).
+pub const MENTION: &str = "Mention";
 
-/// The type of what is left of a deleted object.
-const TOMBSTONE: &str = "Tombstone";
+/// The type of what is left of a deleted object (ActivityStreams 2.0 Vocabulary, section 3.3).
+pub const TOMBSTONE: &str = "Tombstone";
 
 fn put_str(
     members: &mut Map<String, Value>,
@@ -84,16 +84,6 @@ fn put_list(
     serde_json::put(members, alloc, key, Value::Array(values))
 }
 
-fn iri_values(alloc: Global, iris: &[Iri]) -> Result<Vec<Value>, AllocError>
-    ensures { IfOk result (λ values. map view values.items ≡ map string iris.now) }
-{
-    let mut values = Vec::new(alloc);
-    for iri in iris {
-        values.push(Value::try_from_str(alloc, iri.text())?)?;
-    }
-    Ok(values)
-}
-
 fn put_iris(
     members: &mut Map<String, Value>,
     alloc: Global,
@@ -103,7 +93,10 @@ fn put_iris(
     ensures { OnOk result (members_view members.new.entries
         ≡ with_list key.now (map string iris.now) (members_view members.old.entries)) }
 {
-    let values = iri_values(alloc, iris)?;
+    let mut values = Vec::new(alloc);
+    for iri in iris {
+        values.push(Value::try_from_str(alloc, iri)?)?;
+    }
     put_list(members, alloc, key, values)
 }
 
@@ -118,21 +111,14 @@ fn tag_value(alloc: Global, tag: &Tag) -> Result<Value, AllocError>
     Ok(Value::Object(members))
 }
 
-fn tag_values(alloc: Global, tags: &[Tag]) -> Result<Vec<Value>, AllocError>
-    ensures { IfOk result (λ values. map view values.items ≡ map tag_form tags.now) }
+fn put_tags(members: &mut Map<String, Value>, alloc: Global, tags: &[Tag]) -> Result<(), AllocError>
+    ensures { OnOk result (members_view members.new.entries
+        ≡ with_list (codes "tag") (map tag_form tags.now) (members_view members.old.entries)) }
 {
     let mut values = Vec::new(alloc);
     for tag in tags {
         values.push(tag_value(alloc, tag)?)?;
     }
-    Ok(values)
-}
-
-fn put_tags(members: &mut Map<String, Value>, alloc: Global, tags: &[Tag]) -> Result<(), AllocError>
-    ensures { OnOk result (members_view members.new.entries
-        ≡ with_list (codes "tag") (map tag_form tags.now) (members_view members.old.entries)) }
-{
-    let values = tag_values(alloc, tags)?;
     put_list(members, alloc, "tag", values)
 }
 
@@ -219,32 +205,7 @@ fn put_words(
     put_text(members, alloc, "content", content)
 }
 
-/// The members that say an object's type and times.
-#[tactic(auto, unfolding(crate::specs::Forms::kind_members))]
-fn kind_members(alloc: Global, object: &Object) -> Result<Map<String, Value>, AllocError>
-    ensures { IfOk result (λ members. members_view members.entries ≡ kind_members object.now) }
-{
-    let mut members = Map::new(alloc);
-    put_text(&mut members, alloc, "updated", object.updated.as_ref())?;
-    put_str(&mut members, alloc, "type", object.kind.text())?;
-    put_text(&mut members, alloc, "published", object.published.as_ref())?;
-    Ok(members)
-}
-
-#[tactic(auto, unfolding(crate::specs::Forms::with_id))]
-fn put_id(
-    members: &mut Map<String, Value>,
-    alloc: Global,
-    local: bool,
-    id: Option<&Iri>,
-) -> Result<(), AllocError>
-    ensures { OnOk result (members_view members.new.entries
-        ≡ with_id local (option_copied id.entry) (members_view members.old.entries)) }
-{
-    put_collections(members, alloc, local, id)?;
-    put_iri(members, alloc, "id", id)
-}
-
+/// Puts the addresses that an object names.
 #[tactic(auto, unfolding(crate::specs::Forms::with_links))]
 fn put_links(
     members: &mut Map<String, Value>,
@@ -265,6 +226,7 @@ fn put_links(
 }
 
 /// The members of an object as it stands.
+#[tactic(auto, unfolding(crate::specs::Forms::kind_members, crate::specs::Forms::with_id))]
 fn live_members(
     alloc: Global,
     object: &Object,
@@ -273,24 +235,29 @@ fn live_members(
     ensures { IfOk result
         (λ members. members_view members.entries ≡ live_members local object.now) }
 {
-    let mut members = kind_members(alloc, object)?;
+    let mut members = Map::new(alloc);
+    put_text(&mut members, alloc, "updated", object.updated.as_ref())?;
+    put_str(&mut members, alloc, "type", &object.kind)?;
+    put_text(&mut members, alloc, "published", object.published.as_ref())?;
     put_words(
         &mut members,
         alloc,
         object.content.as_ref(),
         object.summary.as_ref(),
         object.name.as_ref(),
-        object.tags.as_slice(),
+        &object.tags,
     )?;
     let recipients = &object.recipients;
     put_audience(
         &mut members,
         alloc,
-        recipients.to.as_slice(),
-        recipients.cc.as_slice(),
-        recipients.audience.as_slice(),
+        &recipients.to,
+        &recipients.cc,
+        &recipients.audience,
     )?;
-    put_id(&mut members, alloc, local, object.id.as_ref())?;
+    let id = object.id.as_ref();
+    put_collections(&mut members, alloc, local, id)?;
+    put_iri(&mut members, alloc, "id", id)?;
     put_links(&mut members, alloc, object)?;
     Ok(members)
 }
@@ -329,24 +296,12 @@ fn object_members(
     }
 }
 
+/// An object as everybody who may see it sees it (ActivityStreams 2.0 Core, sections 2 to 4): never
+/// with `bto` and `bcc` (ActivityPub, section 6). `likes` and `shares` stand on a local object that
+/// has an id, and `@context` if it is a document of its own. What is left of a deleted object, of
+/// the type `Tombstone`, has its id, its types and the time of the deletion alone. The error is out
+/// of memory.
 #[tactic(auto, unfolding(crate::specs::Forms::object_form))]
-fn built_object(
-    alloc: Global,
-    object: &Object,
-    local: bool,
-    context: bool,
-) -> Result<Value, AllocError>
-    ensures { IfOk result (λ value. view value ≡ object_form local context object.now) }
-{
-    let mut members = object_members(alloc, object, local)?;
-    put_context(&mut members, alloc, context)?;
-    Ok(Value::Object(members))
-}
-
-/// An object as everybody who may see it sees it (ActivityStreams 2.0 Core, sections 2 to 4): never with `bto` and
-/// `bcc` (ActivityPub, section 6). `likes` and `shares` stand on a local object that has an id, and `@context` where
-/// it is a document of its own. What is left of a deleted object, of the type `Tombstone`, has its id, its types and
-/// the time of the deletion alone. The error is want of memory.
 pub fn object_value(
     alloc: Global,
     object: &Object,
@@ -357,8 +312,9 @@ pub fn object_value(
     ensures clean { IfOk result (λ value. is_clean (view value) ≡ true) }
     ensures whole { IfOk result (λ value. has_float (view value) ≡ false) }
 {
-    let value = built_object(alloc, object, local, context)?;
-    Ok(value)
+    let mut members = object_members(alloc, object, local)?;
+    put_context(&mut members, alloc, context)?;
+    Ok(Value::Object(members))
 }
 
 #[tactic(auto, unfolding(crate::specs::Forms::with_object))]
@@ -381,38 +337,15 @@ fn put_object(
     }
 }
 
-/// The members that say an activity's type and time.
-#[tactic(auto, unfolding(crate::specs::Forms::activity_kind_members))]
-fn activity_kind_members(alloc: Global, shown: &Shown) -> Result<Map<String, Value>, AllocError>
-    ensures { IfOk result
-        (λ members. members_view members.entries ≡ activity_kind_members (shown_in shown.now)) }
-{
-    let mut members = Map::new(alloc);
-    put_str(&mut members, alloc, "type", shown.kind.name())?;
-    put_text(&mut members, alloc, "published", shown.published)?;
-    Ok(members)
-}
-
-#[tactic(auto, unfolding(crate::specs::Forms::with_activity_links))]
-fn put_activity_links(
-    members: &mut Map<String, Value>,
-    alloc: Global,
-    shown: &Shown,
-) -> Result<(), AllocError>
-    ensures { OnOk result (members_view members.new.entries
-        ≡ with_activity_links shown.now.author.now (shown_in shown.now) (members_view members.old.entries)) }
-{
-    put_iri(members, alloc, "target", shown.target)?;
-    put_iri(members, alloc, "inReplyTo", shown.in_reply_to)?;
-    put_iri(members, alloc, "id", Some(shown.id))?;
-    put_str(members, alloc, "actor", shown.author.text())
-}
-
+/// The members of an activity.
+#[tactic(auto, unfolding(crate::specs::Forms::activity_kind_members, crate::specs::Forms::with_activity_links))]
 fn activity_members(alloc: Global, shown: &Shown) -> Result<Map<String, Value>, AllocError>
     ensures { IfOk result (λ members. members_view members.entries
         ≡ activity_members shown.now.local shown.now.author.now (shown_in shown.now)) }
 {
-    let mut members = activity_kind_members(alloc, shown)?;
+    let mut members = Map::new(alloc);
+    put_str(&mut members, alloc, "type", shown.kind.name())?;
+    put_text(&mut members, alloc, "published", shown.published)?;
     put_words(
         &mut members,
         alloc,
@@ -423,34 +356,30 @@ fn activity_members(alloc: Global, shown: &Shown) -> Result<Map<String, Value>, 
     )?;
     put_audience(&mut members, alloc, shown.to, shown.cc, shown.audience)?;
     put_object(&mut members, alloc, shown.local, shown.object)?;
-    put_activity_links(&mut members, alloc, shown)?;
+    put_iri(&mut members, alloc, "target", shown.target)?;
+    put_iri(&mut members, alloc, "inReplyTo", shown.in_reply_to)?;
+    put_iri(&mut members, alloc, "id", Some(shown.id))?;
+    put_str(&mut members, alloc, "actor", shown.author)?;
     Ok(members)
 }
 
+/// An activity as everybody who may see it sees it (ActivityStreams 2.0 Core, section 4.2): never
+/// with `bto` and `bcc` (ActivityPub, section 6). `object` is an address, or the object as it
+/// stands, and `@context` stands there if the activity is a document of its own. The error is out
+/// of memory.
 #[tactic(auto, unfolding(crate::specs::Forms::activity_form))]
-fn built_activity(alloc: Global, shown: &Shown, context: bool) -> Result<Value, AllocError>
-    ensures { IfOk result (λ value. view value
-        ≡ activity_form shown.now.local context shown.now.author.now (shown_in shown.now)) }
-{
-    let mut members = activity_members(alloc, shown)?;
-    put_context(&mut members, alloc, context)?;
-    Ok(Value::Object(members))
-}
-
-/// An activity as everybody who may see it sees it (ActivityStreams 2.0 Core, section 4.2): never with `bto` and `bcc`
-/// (ActivityPub, section 6). `object` is an address, or the object as it stands, and `@context` stands where the
-/// activity is a document of its own. The error is want of memory.
 pub fn public_value(alloc: Global, shown: &Shown, context: bool) -> Result<Value, AllocError>
     ensures form { IfOk result (λ value. view value
         ≡ activity_form shown.now.local context shown.now.author.now (shown_in shown.now)) }
     ensures clean { IfOk result (λ value. is_clean (view value) ≡ true) }
     ensures whole { IfOk result (λ value. has_float (view value) ≡ false) }
 {
-    let value = built_activity(alloc, shown, context)?;
-    Ok(value)
+    let mut members = activity_members(alloc, shown)?;
+    put_context(&mut members, alloc, context)?;
+    Ok(Value::Object(members))
 }
 
-/// The bytes of a value as JSON, with no space. The error is want of memory.
+/// The bytes of a value as JSON, with no space. The error is out of memory.
 pub fn public_text(alloc: Global, value: &Value) -> Result<Vec<u8>, AllocError>
     requires { has_float (view value.now) ≡ false }
     ensures { IfOk result (λ bytes. bytes.items ≡ compact_text (view value.now)) }

@@ -1,30 +1,35 @@
 //! Keys by which a client marks a repeated post.
 
-ghost use Rattle.std.specs.Prelude.{◌≡◌, IsTrue, IsSome, IfSome, ◌↔◌};
+ghost use Rattle.std.specs.Prelude.{◌≡◌, IsTrue, IsSome, IfSome, ◌↔◌, bytes_eq};
+ghost use Rattle.std.specs.Cmp.{partial_equiv_from_equiv};
+ghost use Rattle.std.specs.Cmp.Lexicographic.{nat_list_eq_equiv};
 ghost use Rattle.std.specs.List.{list_all};
 ghost use Rattle.fedi_objects.specs.Keys.{is_repeat_key, is_key_byte};
 
+use arrayvec::ArrayString;
+use std::alloc::AllocError;
 use std::marker::Model;
+use std::str;
 
 /// The longest key, in bytes.
 const LONGEST: usize = 64;
 
-/// The key of a post that may come again: 1 to 64 bytes 33 to 126 (Idempotency-Key).
+/// The key of a post that may come again: 1 to 64 bytes 33 to 126 (Idempotency-Key). It takes no
+/// memory.
 #[derive(Drop)]
 pub struct RepeatKey {
-    kept: [u8; 64],
-    len: u8,
+    text: ArrayString<64>,
 }
 
 impl Model for RepeatKey {
-    ghost use Rattle.std.specs.Prelude.{◌≤◌, ℕ, List, take, IsTrue};
+    ghost use Rattle.std.specs.Prelude.{ℕ, List, IsTrue};
     ghost use Rattle.fedi_objects.specs.Keys.{is_repeat_key};
 
     ghost Value = { List ℕ };
 
-    ghost view = { λ a. take a.len a.kept };
+    ghost view = { λ a. a.text.bytes };
 
-    ghost invariant = { λ a. (a.len ≤ 64) × IsTrue (is_repeat_key (take a.len a.kept)) };
+    ghost invariant = { λ a. IsTrue (is_repeat_key a.text.bytes) };
 }
 
 fn is_key_byte(byte: u8) -> bool
@@ -46,7 +51,8 @@ fn is_repeat_key(text: &[u8]) -> bool
 }
 
 impl RepeatKey {
-    /// The key of this text. `None` exactly where it is not 1 to 64 bytes 33 to 126.
+    /// The key of this text. `None` exactly if it is not 1 to 64 bytes 33 to 126.
+    #[tactic(auto, using(crate::proofs::KeyLemmas::key_is_utf8))]
     pub fn parse(text: &[u8]) -> Option<RepeatKey>
         ensures some { IsSome result ↔ IsTrue (is_repeat_key text.now) }
         ensures value { IfSome result (λ key. key ≡ text.now) }
@@ -54,12 +60,9 @@ impl RepeatKey {
         if !is_repeat_key(text) {
             return None;
         }
-        let mut kept = [0; LONGEST];
-        kept[..text.len()].copy_from_slice(text);
-        Some(RepeatKey {
-            kept,
-            len: text.len() as u8,
-        })
+        let text = str::from_utf8(text).ok()?;
+        let text = ArrayString::from(text).ok()?;
+        Some(RepeatKey { text })
     }
 
     /// The bytes of the key: 1 to 64 bytes 33 to 126.
@@ -67,16 +70,35 @@ impl RepeatKey {
         ensures value { result.now ≡ self.now }
         ensures shape { IsTrue (is_repeat_key self.now) }
     {
-        &self.kept[..self.len as usize]
+        self.text.as_str().as_bytes()
     }
 
-    /// An equal key. It takes no memory.
+    /// A copy. It takes no memory.
     pub fn copy(&self) -> RepeatKey
         ensures { result ≡ self.now }
     {
-        RepeatKey {
-            kept: self.kept,
-            len: self.len,
-        }
+        RepeatKey { text: self.text }
     }
+}
+
+impl Clone for RepeatKey {
+    ghost is_clone = { λ key copy. copy ≡ key };
+
+    fn clone(&self) -> Result<RepeatKey, AllocError> {
+        Ok(RepeatKey { text: self.text })
+    }
+}
+
+impl PartialEq for RepeatKey {
+    ghost eq = { bytes_eq };
+
+    ghost laws = { partial_equiv_from_equiv nat_list_eq_equiv };
+
+    fn eq(&self, other: &RepeatKey) -> bool {
+        self.bytes() == other.bytes()
+    }
+}
+
+impl Eq for RepeatKey {
+    ghost laws = { nat_list_eq_equiv };
 }

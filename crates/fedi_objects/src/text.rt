@@ -1,15 +1,18 @@
-//! Texts and bytes that hide how they are kept.
+//! Texts and bytes whose capacity no clause sees.
 
-ghost use Rattle.std.specs.Prelude.{◌≡◌, IfOk};
+ghost use Rattle.std.specs.Prelude.{◌≡◌, IfOk, bytes_eq};
 ghost use Rattle.std.specs.String.{string_bytes};
+ghost use Rattle.std.specs.Cmp.{partial_equiv_from_equiv};
+ghost use Rattle.std.specs.Cmp.Lexicographic.{nat_list_eq_equiv};
 
 use std::alloc::{AllocError, Global};
 use std::marker::Model;
+use std::ops::{DerefSlice, DerefStr};
 
 /// A text in UTF-8. It is made from a `String` without taking memory.
 #[derive(Drop)]
 pub struct Text {
-    kept: String,
+    text: String,
 }
 
 impl Model for Text {
@@ -18,44 +21,77 @@ impl Model for Text {
 
     ghost Value = { List ℕ };
 
-    ghost view = { λ a. string_bytes a.kept };
+    ghost view = { λ a. string_bytes a.text };
 }
 
 impl Text {
-    /// The same text.
+    /// The text of a `String`.
     pub fn new(text: String) -> Text
         ensures { result ≡ string_bytes text }
     {
-        Text { kept: text }
+        Text { text }
     }
 
-    /// A text of its own with these bytes. The error is want of memory.
+    /// A text of its own with these bytes. The error is out of memory.
     pub fn from_text(alloc: Global, text: &str) -> Result<Text, AllocError>
         ensures { IfOk result (λ x. x ≡ text.now) }
     {
-        let kept = String::from_str(alloc, text)?;
-        Ok(Text { kept })
+        Ok(Text {
+            text: String::from_str(alloc, text)?,
+        })
     }
 
-    /// An equal text. The error is want of memory.
+    /// A copy. The error is out of memory.
     pub fn copy(&self) -> Result<Text, AllocError>
         ensures { IfOk result (λ x. x ≡ self.now) }
     {
-        Text::from_text(*self.kept.allocator(), self.kept.as_str())
+        self.clone()
     }
 
-    /// The text again.
+    /// The text as a `&str`.
     pub fn text(&self) -> &str
         ensures { result.now ≡ self.now }
     {
-        self.kept.as_str()
+        self.text.as_str()
+    }
+}
+
+impl Clone for Text {
+    ghost is_clone = { λ text copy. copy ≡ text };
+
+    fn clone(&self) -> Result<Text, AllocError> {
+        Ok(Text {
+            text: self.text.clone()?,
+        })
+    }
+}
+
+impl PartialEq for Text {
+    ghost eq = { bytes_eq };
+
+    ghost laws = { partial_equiv_from_equiv nat_list_eq_equiv };
+
+    fn eq(&self, other: &Text) -> bool {
+        self.text() == other.text()
+    }
+}
+
+impl Eq for Text {
+    ghost laws = { nat_list_eq_equiv };
+}
+
+impl DerefStr for Text {
+    ghost deref_gives = { λ text bytes. bytes ≡ text };
+
+    fn deref(&self) -> &str {
+        self.text()
     }
 }
 
 /// A list of bytes. It is made from a `Vec` without taking memory.
 #[derive(Drop)]
 pub struct Bytes {
-    kept: Vec<u8>,
+    bytes: Vec<u8>,
 }
 
 impl Model for Bytes {
@@ -63,21 +99,31 @@ impl Model for Bytes {
 
     ghost Value = { List ℕ };
 
-    ghost view = { λ a. a.kept.items };
+    ghost view = { λ a. a.bytes.items };
 }
 
 impl Bytes {
-    /// The same bytes.
+    /// The bytes of a `Vec`.
     pub fn new(bytes: Vec<u8>) -> Bytes
         ensures { result ≡ bytes.items }
     {
-        Bytes { kept: bytes }
+        Bytes { bytes }
     }
 
-    /// The bytes again.
+    /// The bytes as a slice.
     pub fn bytes(&self) -> &[u8]
         ensures { result.now ≡ self.now }
     {
-        self.kept.as_slice()
+        self.bytes.as_slice()
+    }
+}
+
+impl DerefSlice for Bytes {
+    type Elem = u8;
+
+    ghost deref_gives = { λ list bytes. bytes ≡ list };
+
+    fn deref(&self) -> &[u8] {
+        self.bytes()
     }
 }

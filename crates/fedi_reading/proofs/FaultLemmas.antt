@@ -164,10 +164,12 @@ pub posted_fault : (d : Data) → result_err (reads_posted d) ≡ first_fault d
 unfolding reads_posted first_fault
 posted_fault d = top_fault (as_object d) (has_context d) (reads_object d) (λ o. wrapped o) _ (object_fault d)
 
+-- what is refused is refused for the first fault
 pub least_fault : (d : Data) (r : Result Activity ShapeFault) → Gives r (reads_posted d) → IfErr r (λ e. e ≢ Memory → first_fault d ≡ Some e)
 least_fault d (Ok a) h = tt
 least_fault d (Err e) h = λ other. sym (posted_fault d) ∙ ap result_err (h other)
 
+-- what is read has no fault
 pub no_fault : (d : Data) (r : Result Activity ShapeFault) → Gives r (reads_posted d) → OnOk r (first_fault d ≡ None)
 no_fault d (Ok a) h = sym (posted_fault d) ∙ ap result_err h
 no_fault d (Err e) h = tt

@@ -16,11 +16,11 @@ abbrev pub present : Data → Option Data
 present null = None
 present d = Some d
 
--- the value of a property, where it is there
+-- the value of a property, if it is there
 unfoldable pub property : List ℕ → Data → Option Data
 property key d = option_and_then present (get key d)
 
--- the text of a property, where it is one (Core, section 4.7)
+-- the text of a property, if it is one (Core, section 4.7)
 unfoldable pub text_at : List ℕ → Data → Option (List ℕ)
 text_at key d = option_and_then as_str (get key d)
 
@@ -33,11 +33,11 @@ list_of (item d ds) = d ∷ list_of ds
 unfoldable pub entries : Data → List Data
 entries d = option_map_or list_of (as_array d) (d ∷ [])
 
--- the values of the property of this name: none where it is absent
+-- the values of the property of this name: none if it is absent
 unfoldable pub entries_at : List ℕ → Data → List Data
 entries_at key d = option_map_or entries (property key d) []
 
--- where one value is wanted, a list stands for its first entry
+-- if one value is wanted, a list stands for its first entry
 unfoldable pub first_of : Data → Data
 first_of d = unwrap_or (at 0 d) d
 
@@ -63,7 +63,7 @@ has_context d = option_map_or (λ value. list_any is_context (entries value)) (p
 unfoldable pub type_text : List ℕ → Option (List ℕ)
 type_text text = if nat_le 1 (length text) && nat_le (length text) 64 then Some text else None
 
--- the type of a thing: the first, where it has many (Core, section 4.1)
+-- the type of a thing: the first, if it has many (Core, section 4.1)
 unfoldable pub type_of : Data → Option (List ℕ)
 type_of d = option_and_then type_text (option_and_then (λ value. as_str (first_of value)) (property (codes "type") d))
 
@@ -82,7 +82,7 @@ is_activity_type text = list_any (λ kind. bytes_eq (kind_name kind) text) kinds
 unfoldable pub makes_nothing : List ℕ → Bool
 makes_nothing text = is_activity_type text || bytes_eq text (codes "Tombstone")
 
--- the type, where a client may post an object of it
+-- the type, if a client may post an object of it
 abbrev pub made_type : Option (List ℕ) → Result (List ℕ) ShapeFault
 made_type None = Err NoType
 made_type (Some text) = if makes_nothing text then Err NoType else Ok text

@@ -11,9 +11,8 @@ use Rattle.fedi_reading.specs.Properties.{text_at, entries_at, named, reference_
 use Rattle.fedi_reading.specs.Shapes.{◌>>=◌}
 use Rattle.fedi_objects.specs.declared.object.Tag.{Tag}
 use Rattle.fedi_objects.specs.declared.object.Object.{Object}
-use Rattle.fedi_objects.specs.declared.activity.ObjectRef.TheVariants.{Whole}
 use Rattle.fedi_objects.specs.declared.activity.Activity.{Activity}
-use Rattle.fedi_objects.specs.declared.kind.Kind.TheVariants.{Create}
+use Rattle.fedi_objects.specs.Objects.{creation}
 use Rattle.fedi_reading.specs.declared.shape_fault.ShapeFault.{ShapeFault}
 use Rattle.fedi_reading.specs.declared.shape_fault.ShapeFault.TheVariants.{NotObject, BadContext, BadIri, TooManyRecipients, Memory}
 
@@ -33,7 +32,7 @@ recipient_of d = option_and_then recipient (named d)
 unfoldable pub is_bad : Data → Bool
 is_bad d = is_some (named d) && is_none (recipient_of d)
 
--- an entry: it is bad, or names somebody, or is read past
+-- an entry: it is bad, or names somebody, or is skipped
 unfoldable pub reads_entry : Data → Result (Option (List ℕ)) ShapeFault
 reads_entry d = if is_bad d then Err BadIri else Ok (recipient_of d)
 
@@ -70,7 +69,7 @@ reads_recipients d = do
   audience ← reads_entries (entries_at (codes "audience") d)
   Ok (record { to = told.0; cc = told.1; bto = hidden.0; bcc = hidden.1; audience = audience })
 
--- no entry is bad, or one is, or memory was wanted
+-- no entry is bad, or one is, or memory ran out
 abbrev pub Checks : Result (Unit {0}) ShapeFault → List Data → Type 0
 Checks (Ok done) ds = list_any is_bad ds ≡ false
 Checks (Err e) ds = e ≢ Memory → (e ≡ BadIri) × (list_any is_bad ds ≡ true)
@@ -99,7 +98,7 @@ reads_words d = do
   name ← reads_text (codes "name") d
   Ok (content, summary, name)
 
--- the address of a property: what is no address is read past
+-- the address of a property: what is no address is skipped
 abbrev pub iri_at : List ℕ → Data → Option (List ℕ)
 iri_at key d = option_and_then iri (text_at key d)
 
@@ -120,7 +119,7 @@ mention name href = record { href = href; name = name }
 abbrev pub is_mention : Data → Bool
 is_mention d = option_map_or (λ text. bytes_eq text (codes "Mention")) (text_at (codes "type") d) false
 
--- a mention with an address: every other tag is read past
+-- a mention with an address: every other tag is skipped
 unfoldable pub tag_of : Data → Option Tag
 tag_of d =
     if is_mention d then option_map (mention (short_text (text_at (codes "name") d))) (iri_at (codes "href") d) else None
@@ -159,20 +158,7 @@ reads_object d = do
 
 -- the Create that an object alone is wrapped in, for the same recipients (ActivityPub, section 6.2.1)
 abbrev pub wrapped : Object → Activity
-wrapped o = record {
-  id = None;
-  kind = Create;
-  actor = None;
-  object = Whole o;
-  target = None;
-  recipients = o.recipients;
-  in_reply_to = None;
-  content = None;
-  summary = None;
-  name = None;
-  published = None;
-  tags = [];
-}
+wrapped o = creation o
 
 -- What a client posts, read as an activity: the first fault, in the order of the faults' numbers, or the Create.
 unfoldable pub reads_posted : Data → Result Activity ShapeFault

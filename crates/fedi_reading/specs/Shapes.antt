@@ -3,7 +3,7 @@ use Rattle.std.specs.Prelude.{◌≡◌, ◌≢◌, ℕ, List, codes, Option, So
 use Rattle.fedi_reading.specs.declared.shape_fault.ShapeFault.{ShapeFault}
 use Rattle.fedi_reading.specs.declared.shape_fault.ShapeFault.TheVariants.{NotObject, BadContext, NoType, NoId, NoActor, NoObject, BadIri, TooManyRecipients, BadText, SelfTarget, Memory}
 
--- the place of a fault in the order in which they are looked for: want of memory has none
+-- the place of a fault in the order in which they are looked for: `Memory` has none
 abbrev pub fault_number : ShapeFault → Option ℕ
 fault_number NotObject = Some 1
 fault_number BadContext = Some 2
@@ -37,7 +37,7 @@ abbrev pub ◌>>=◌ : {A B : Type 0} → Result A ShapeFault → (A → Result 
 (Ok x) >>= f = f x
 (Err e) >>= f = Err e
 
--- A function returned what is read, or memory was wanted.
+-- A function returned what is read, or ran out of memory.
 abbrev pub Gives : {X : Type 0} → Result X ShapeFault → Result X ShapeFault → Type 0
 Gives (Ok x) read = read ≡ Ok x
 Gives (Err e) read = e ≢ Memory → read ≡ Err e

@@ -12,27 +12,19 @@ use fedi_address::{Iri, Items, Recipients, is_among};
 use serde_json::Value;
 use std::alloc::{AllocError, Global};
 
-// Whether the text is a short name of everyone (ActivityPub, section 5.6).
-#[tactic(auto, unfolding(crate::specs::Reading::is_everyone))]
-fn is_everyone(text: &str) -> bool
-    ensures { result ≡ reading.is_everyone text.now }
-{
-    text == "Public" || text == "as:Public"
-}
-
-// Whom a text names.
-#[tactic(auto, unfolding(crate::specs::Reading::recipient))]
+// Whom a text names: the short names stand for everyone (ActivityPub, section 5.6).
+#[tactic(auto, unfolding(crate::specs::Reading::recipient, crate::specs::Reading::is_everyone))]
 fn recipient(alloc: Global, text: &str) -> Result<Option<Iri>, AllocError>
     ensures { IfOk result (λ iri. iri ≡ reading.recipient text.now) }
 {
-    if is_everyone(text) {
+    if text == "Public" || text == "as:Public" {
         Ok(Some(Iri::public(alloc)?))
     } else {
         iri_of(alloc, text)
     }
 }
 
-// Whom an entry names. One that names nothing is read past.
+// Whom an entry names. One that names nothing is skipped.
 #[tactic(auto, unfolding(crate::specs::Reading::reads_entry, crate::specs::Reading::is_bad, crate::specs::Reading::recipient_of))]
 fn read_entry(alloc: Global, entry: &Value) -> Result<Option<Iri>, ShapeFault>
     ensures { Gives result (reading.reads_entry (view entry.now)) }
@@ -40,18 +32,17 @@ fn read_entry(alloc: Global, entry: &Value) -> Result<Option<Iri>, ShapeFault>
     let Some(text) = named(entry) else {
         return Ok(None);
     };
-    let found = recipient(alloc, text)?;
-    if found.is_none() {
-        return Err(ShapeFault::BadIri);
+    match recipient(alloc, text)? {
+        Some(iri) => Ok(Some(iri)),
+        None => Err(ShapeFault::BadIri),
     }
-    Ok(found)
 }
 
 // Adds an address that is not there yet.
 fn add_new(kept: &mut Items<Iri>, iri: Iri) -> Result<(), AllocError>
     ensures { OnOk result (kept.new ≡ reading.add_new kept.old iri) }
 {
-    if is_among(iri.text(), kept.as_slice()) {
+    if is_among(&iri, kept) {
         return Ok(());
     }
     kept.push(iri)
@@ -67,8 +58,8 @@ fn check_entries(alloc: Global, entries: &[Value]) -> Result<(), ShapeFault>
     Ok(())
 }
 
-// Refuses such an entry of any of the five fields. It takes time that grows with the entries alone, where
-// `read_recipients` looks for each among all.
+// Refuses such an entry of any of the five fields. Its time grows with the entries alone, while
+// `read_recipients` looks for each among all before it.
 #[tactic(auto, unfolding(crate::specs::Reading::all_entries))]
 pub(crate) fn check_recipients(alloc: Global, value: &Value) -> Result<(), ShapeFault>
     ensures { Checks result (reading.all_entries (view value.now)) }
@@ -93,35 +84,17 @@ fn read_entries(alloc: Global, entries: &[Value]) -> Result<Items<Iri>, ShapeFau
     Ok(kept)
 }
 
-// The addresses of two fields.
-#[tactic(auto, unfolding(crate::specs::Reading::reads_fields))]
-fn read_fields(
-    alloc: Global,
-    value: &Value,
-    first: &str,
-    second: &str,
-) -> Result<(Items<Iri>, Items<Iri>), ShapeFault>
-    ensures { Gives result (reading.reads_fields first.now second.now (view value.now)) }
-{
-    let first = read_entries(alloc, entries_at(value, first))?;
-    let second = read_entries(alloc, entries_at(value, second))?;
-    Ok((first, second))
-}
-
 // The five fields of recipients.
-#[tactic(auto, unfolding(crate::specs::Reading::reads_recipients))]
+#[tactic(auto, unfolding(crate::specs::Reading::reads_recipients, crate::specs::Reading::reads_fields))]
 pub(crate) fn read_recipients(alloc: Global, value: &Value) -> Result<Recipients, ShapeFault>
     ensures { Gives result (reading.reads_recipients (view value.now)) }
 {
-    let (to, cc) = read_fields(alloc, value, "to", "cc")?;
-    let (bto, bcc) = read_fields(alloc, value, "bto", "bcc")?;
-    let audience = read_entries(alloc, entries_at(value, "audience"))?;
     Ok(Recipients {
-        to,
-        cc,
-        bto,
-        bcc,
-        audience,
+        to: read_entries(alloc, entries_at(value, "to"))?,
+        cc: read_entries(alloc, entries_at(value, "cc"))?,
+        bto: read_entries(alloc, entries_at(value, "bto"))?,
+        bcc: read_entries(alloc, entries_at(value, "bcc"))?,
+        audience: read_entries(alloc, entries_at(value, "audience"))?,
     })
 }
 

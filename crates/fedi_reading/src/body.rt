@@ -7,22 +7,26 @@ ghost use Rattle.fedi_reading.specs.Bodies.{IsBodyOf};
 
 use serde_json::Value;
 use std::alloc::Global;
+use thiserror::Error;
 
 /// Why a body is not read.
-#[derive(Clone, Copy, Debug)]
+#[derive(Clone, Copy, Debug, PartialEq, Eq, Error)]
 pub enum BodyFault {
     /// The bytes are no JSON text in UTF-8, or it is nested more than 127 deep.
+    #[error("the body is no JSON in UTF-8, or it is nested more than 127 deep")]
     BadBody,
-    /// Memory was wanted.
+    /// Out of memory.
+    #[error("out of memory")]
     Memory,
 }
 
-/// The value of a body that is JSON in UTF-8 (RFC 8259), nested at most 127 deep. `BadBody` where
-/// the bytes are no such text, `Memory` where memory was wanted.
+/// The value of a body that is JSON in UTF-8 (RFC 8259), nested at most 127 deep. The errors are
+/// `BadBody`, if the bytes are no such text, and `Memory`, out of memory.
 pub fn read_body(alloc: Global, bytes: &[u8]) -> Result<Value, BodyFault>
     ensures ok { IfOk result (λ value. IsBodyOf bytes.now (view value)) }
     ensures nests { IfOk result (λ value. depth (view value) ≤ 127) }
-    ensures bad { IfErr result (λ e. e ≡ BodyFault.BadBody → (d : Data) → ¬ (IsBodyOf bytes.now d)) }
+    ensures bad { IfErr result
+        (λ e. e ≡ BodyFault.BadBody → (d : Data) → ¬ (IsBodyOf bytes.now d)) }
 {
     match Value::from_slice(alloc, bytes) {
         Ok(value) => Ok(value),

@@ -10,6 +10,3 @@ mod shape_fault;
 pub use body::{BodyFault, read_body};
 pub use posted::read_posted;
 pub use shape_fault::ShapeFault;
-
-#[cfg(test)]
-mod tests;

@@ -9,15 +9,9 @@ ghost use Rattle.fedi_reading.specs.Shapes.{Gives};
 
 use crate::shape_fault::ShapeFault;
 use fedi_address::{Iri, IriFault};
-use fedi_objects::{Kind, Text};
+use fedi_objects::{CONTEXT, Kind, TOMBSTONE, Text};
 use serde_json::Value;
 use std::alloc::{AllocError, Global};
-
-/// The context of ActivityStreams (ActivityStreams 2.0 Core, section 2.1).
-const CONTEXT: &str = "https://www.w3.org/ns/activitystreams";
-
-/// The type of what is left of a deleted object.
-const TOMBSTONE: &str = "Tombstone";
 
 /// The longest type, in bytes.
 const LONGEST_TYPE: usize = 64;
@@ -60,7 +54,8 @@ const KINDS: [Kind; 28] = [
 // The value of a property. One that is null is absent.
 #[tactic(auto, unfolding(crate::specs::Properties::property))]
 pub(crate) fn property<'a>(value: &'a Value, key: &str) -> Option<&'a Value>
-    ensures { option_map (λ v. view v.now) result ≡ properties.property key.now (view value.now) }
+    ensures { option_map (λ v. view v.now) result
+        ≡ properties.property key.now (view value.now) }
 {
     match value.get(key) {
         None => None,
@@ -69,7 +64,7 @@ pub(crate) fn property<'a>(value: &'a Value, key: &str) -> Option<&'a Value>
     }
 }
 
-// The text of a property, where it is one.
+// The text of a property, if it is one.
 #[tactic(auto, unfolding(crate::specs::Properties::text_at))]
 pub(crate) fn text_at<'a>(value: &'a Value, key: &str) -> Option<&'a str>
     ensures { option_copied result ≡ properties.text_at key.now (view value.now) }
@@ -139,7 +134,7 @@ fn is_context(value: &Value) -> bool
     }
 }
 
-fn hold_context(values: &[Value]) -> bool
+fn contains_context(values: &[Value]) -> bool
     ensures { result ≡ list_any (λ value. properties.is_context (view value)) values.now }
 {
     values.iter().any(|value| is_context(value))
@@ -152,28 +147,22 @@ pub(crate) fn has_context(value: &Value) -> bool
 {
     match property(value, "@context") {
         None => true,
-        Some(context) => hold_context(entries(context)),
+        Some(context) => contains_context(entries(context)),
     }
 }
 
-#[tactic(auto, unfolding(crate::specs::Properties::type_text))]
-fn type_text(text: &str) -> Option<&str>
-    ensures { option_copied result ≡ properties.type_text text.now }
-{
-    if 1 <= text.len() && text.len() <= LONGEST_TYPE {
-        Some(text)
-    } else {
-        None
-    }
-}
-
-#[tactic(auto, unfolding(crate::specs::Properties::type_of))]
+// The type of a thing: the first, if it has many.
+#[tactic(auto, unfolding(crate::specs::Properties::type_of, crate::specs::Properties::type_text))]
 fn type_of(value: &Value) -> Option<&str>
     ensures { option_copied result ≡ properties.type_of (view value.now) }
 {
     let found = property(value, "type")?;
     let text = first_of(found).as_str()?;
-    type_text(text)
+    if 1 <= text.len() && text.len() <= LONGEST_TYPE {
+        Some(text)
+    } else {
+        None
+    }
 }
 
 // Whether the text is one of the types of activities.
@@ -184,6 +173,7 @@ fn is_activity_type(text: &str) -> bool
     KINDS.iter().any(|kind| kind.name() == text)
 }
 
+// Whether a client may post no object of this type: one of activities, or that of a deleted object.
 #[tactic(auto, unfolding(crate::specs::Properties::makes_nothing))]
 fn makes_nothing(text: &str) -> bool
     ensures { result ≡ properties.makes_nothing text.now }

@@ -4,55 +4,57 @@ ghost use Rattle.std.specs.Prelude.{◌≡◌};
 ghost use Rattle.fedi_reading.specs.declared.shape_fault.ShapeFault.TheVariants.{Memory};
 
 use std::alloc::AllocError;
+use thiserror::Error;
 
-/// Why a thing that was posted is refused for its shape. Where several faults hold, the answer is
-/// the one with the least number.
-#[derive(Clone, Copy, Debug)]
+/// Why a thing that was posted is refused for its shape. If several faults hold, the answer is the
+/// first of them in this order.
+#[derive(Clone, Copy, Debug, PartialEq, Eq, Error)]
 pub enum ShapeFault {
     /// It is no JSON object.
-    NotObject,
+    #[error("the body is no JSON object")]
+    NotObject = 1,
     /// Its `@context` is there, and is not that of ActivityStreams (Core, section 2.1).
+    #[error("the context is not that of ActivityStreams")]
     BadContext,
     /// Its type is missing, has not 1 to 64 bytes, or is none that may be posted.
+    #[error("the type is missing, or is none that may be posted")]
     NoType,
     /// An `id` is missing.
+    #[error("the id is missing")]
     NoId,
     /// The actor is missing.
+    #[error("the actor is missing")]
     NoActor,
     /// The object is missing.
+    #[error("the object is missing")]
     NoObject,
     /// An address that is read is no web address of at most 2,048 bytes.
+    #[error("an address is no web address of at most 2,048 bytes")]
     BadIri,
     /// The five fields of recipients have more than 500 entries as written.
+    #[error("there are more than 500 recipients")]
     TooManyRecipients,
     /// The content, the summary or the name has more than 65,536 bytes.
+    #[error("the content, the summary or the name has more than 65,536 bytes")]
     BadText,
     /// The one who posts is also the target.
+    #[error("the actor is also the target")]
     SelfTarget,
-    /// Memory was wanted.
+    /// Out of memory.
+    #[error("out of memory")]
     Memory,
 }
 
 impl ShapeFault {
     ghost use Rattle.fedi_reading.specs.Shapes.{fault_number, fault_name};
 
-    /// The fault's place in the order in which faults are looked for, from 1 on. Want of memory has
-    /// none.
+    /// The fault's place in the order in which faults are looked for, from 1 on. `Memory` has none.
     pub fn number(self) -> Option<u8>
         ensures { result ≡ fault_number self }
     {
         match self {
-            ShapeFault::NotObject => Some(1),
-            ShapeFault::BadContext => Some(2),
-            ShapeFault::NoType => Some(3),
-            ShapeFault::NoId => Some(4),
-            ShapeFault::NoActor => Some(5),
-            ShapeFault::NoObject => Some(6),
-            ShapeFault::BadIri => Some(7),
-            ShapeFault::TooManyRecipients => Some(8),
-            ShapeFault::BadText => Some(9),
-            ShapeFault::SelfTarget => Some(10),
             ShapeFault::Memory => None,
+            fault => Some(fault as u8),
         }
     }
 

@@ -1,4 +1,4 @@
-//! Writing values at the end of a buffer.
+//! Appending values to a buffer.
 
 ghost use Rattle.std.specs.Prelude.{◌≡◌, ◌<◌, ◌^◌, ◌∷◌, [], ◌++◌, length, OnOk};
 ghost use Rattle.std.specs.List.{flat_map};
@@ -9,17 +9,17 @@ use fedi_objects::{Edit, Moment, Text};
 use std::alloc::AllocError;
 
 /// A value that has a code.
-pub trait Coded {
+pub trait Encode {
     ghost use Rattle.std.specs.Prelude.{List, ℕ};
 
     ghost code: { Self → List ℕ };
 
-    /// Puts the code of the value at the end. The error is want of memory.
+    /// Appends the code of the value. After an error the buffer ends with a part of it.
     fn put(&self, bytes: &mut Vec<u8>) -> Result<(), AllocError>
         ensures { OnOk result (bytes.new.items ≡ bytes.old.items ++ code self.now) };
 }
 
-/// Puts one byte at the end.
+/// Appends one byte.
 pub fn put_byte(bytes: &mut Vec<u8>, byte: u8) -> Result<(), AllocError>
     ensures { OnOk result (bytes.new.items ≡ bytes.old.items ++ byte ∷ []) }
 {
@@ -27,18 +27,14 @@ pub fn put_byte(bytes: &mut Vec<u8>, byte: u8) -> Result<(), AllocError>
     Ok(())
 }
 
-/// Puts yes or no at the end.
+/// Appends a byte: 1 for yes, 0 for no.
 pub fn put_bool(bytes: &mut Vec<u8>, value: bool) -> Result<(), AllocError>
     ensures { OnOk result (bytes.new.items ≡ bytes.old.items ++ bool_code value) }
 {
-    if value {
-        put_byte(bytes, 1)
-    } else {
-        put_byte(bytes, 0)
-    }
+    put_byte(bytes, if value { 1 } else { 0 })
 }
 
-/// Puts a status at the end.
+/// Appends a status.
 #[tactic(auto, unfolding(crate::specs::Codes::u16_code))]
 pub fn put_status(bytes: &mut Vec<u8>, status: u16) -> Result<(), AllocError>
     ensures code { OnOk result (bytes.new.items ≡ bytes.old.items ++ u16_code status) }
@@ -47,7 +43,7 @@ pub fn put_status(bytes: &mut Vec<u8>, status: u16) -> Result<(), AllocError>
     bytes.extend_from_slice(&status.to_be_bytes())
 }
 
-/// Puts a length or a count at the end. Where it does not fit in four bytes it is answered as want of memory.
+/// Appends a length or a count. One that does not fit in four bytes is refused as out of memory.
 #[tactic(auto, unfolding(crate::specs::Codes::u32_code))]
 fn put_count(bytes: &mut Vec<u8>, count: usize) -> Result<(), AllocError>
     ensures { OnOk result (bytes.new.items ≡ bytes.old.items ++ u32_code count) }
@@ -58,7 +54,7 @@ fn put_count(bytes: &mut Vec<u8>, count: usize) -> Result<(), AllocError>
     }
 }
 
-/// Puts a moment at the end.
+/// Appends a moment.
 #[tactic(auto, unfolding(crate::specs::Codes::u64_code))]
 pub fn put_moment(bytes: &mut Vec<u8>, moment: Moment) -> Result<(), AllocError>
     ensures code { OnOk result (bytes.new.items ≡ bytes.old.items ++ u64_code moment) }
@@ -67,7 +63,7 @@ pub fn put_moment(bytes: &mut Vec<u8>, moment: Moment) -> Result<(), AllocError>
     bytes.extend_from_slice(&moment.seconds().to_be_bytes())
 }
 
-/// Puts a key or a digest at the end.
+/// Appends a key or a digest.
 pub fn put_key(bytes: &mut Vec<u8>, key: &[u8; 32]) -> Result<(), AllocError>
     ensures code { OnOk result (bytes.new.items ≡ bytes.old.items ++ key.now) }
     ensures size { OnOk result (length key.now ≡ 32) }
@@ -75,7 +71,7 @@ pub fn put_key(bytes: &mut Vec<u8>, key: &[u8; 32]) -> Result<(), AllocError>
     bytes.extend_from_slice(key)
 }
 
-/// Puts the bytes of a text, or of a key for repeats, at the end.
+/// Appends a text, or a repeat key, with its length before it.
 #[tactic(auto, unfolding(crate::specs::Codes::text_code))]
 pub fn put_text(bytes: &mut Vec<u8>, text: &[u8]) -> Result<(), AllocError>
     ensures { OnOk result (bytes.new.items ≡ bytes.old.items ++ text_code text.now) }
@@ -84,7 +80,7 @@ pub fn put_text(bytes: &mut Vec<u8>, text: &[u8]) -> Result<(), AllocError>
     bytes.extend_from_slice(text)
 }
 
-impl Coded for Iri {
+impl Encode for Iri {
     ghost use Rattle.fedi_entry.specs.Codes.{text_code};
 
     ghost code = { text_code };
@@ -94,7 +90,7 @@ impl Coded for Iri {
     }
 }
 
-impl Coded for Text {
+impl Encode for Text {
     ghost use Rattle.fedi_entry.specs.Codes.{text_code};
 
     ghost code = { text_code };
@@ -104,7 +100,7 @@ impl Coded for Text {
     }
 }
 
-impl Coded for Host {
+impl Encode for Host {
     ghost use Rattle.fedi_entry.specs.Codes.{text_code};
 
     ghost code = { text_code };
@@ -114,7 +110,7 @@ impl Coded for Host {
     }
 }
 
-impl Coded for LocalName {
+impl Encode for LocalName {
     ghost use Rattle.fedi_entry.specs.Codes.{text_code};
 
     ghost code = { text_code };
@@ -124,7 +120,7 @@ impl Coded for LocalName {
     }
 }
 
-impl<T: Coded> Coded for Option<T> {
+impl<T: Encode> Encode for Option<T> {
     ghost use Rattle.fedi_entry.specs.Codes.{option_code};
 
     ghost code = { option_code T.code };
@@ -141,7 +137,7 @@ impl<T: Coded> Coded for Option<T> {
     }
 }
 
-impl<T: Coded> Coded for Edit<T> {
+impl<T: Encode> Encode for Edit<T> {
     ghost use Rattle.fedi_entry.specs.Codes.{edit_code};
 
     ghost code = { edit_code T.code };
@@ -159,8 +155,8 @@ impl<T: Coded> Coded for Edit<T> {
     }
 }
 
-/// Puts each value at the end.
-fn put_each<T: Coded>(bytes: &mut Vec<u8>, items: &[T]) -> Result<(), AllocError>
+// Appends each value.
+fn put_each<T: Encode>(bytes: &mut Vec<u8>, items: &[T]) -> Result<(), AllocError>
     ensures { OnOk result (bytes.new.items ≡ bytes.old.items ++ flat_map T.code items.now) }
 {
     for item in items {
@@ -169,7 +165,7 @@ fn put_each<T: Coded>(bytes: &mut Vec<u8>, items: &[T]) -> Result<(), AllocError
     Ok(())
 }
 
-impl<T: Coded> Coded for Items<T> {
+impl<T: Encode> Encode for Items<T> {
     ghost use Rattle.fedi_entry.specs.Codes.{list_code};
 
     ghost code = { list_code T.code };

@@ -1,6 +1,0 @@
-use Rattle.std.proofs.Common.{◌≡◌, ◌++◌, take}
-use Rattle.std.specs.List.{flat_map}
-use Rattle.fedi_entry.proofs.coded.put_each.Given as goal
-
-abbrev pub invariant-loop-item : goal.invariant-loop-item
-invariant-loop-item g l = l.bytes.items ≡ l.initial.bytes.items ++ flat_map g.T.Coded.code (take l.item-index l.items)
