@@ -1,3 +1,0 @@
-pub mod Conversations
-pub mod Commands
-pub mod Endings

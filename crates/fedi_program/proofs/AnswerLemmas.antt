@@ -1,0 +1,215 @@
+-- From what the machine decides for a caller, and what its keeper does, to the answer to a request.
+use Rattle.std.proofs.Common.{◌≡◌, ℕ, ◌+◌, ◌<◌, ◌≤◌, List, [], ◌∷◌, ◌++◌, length, Bool, false, Option, Some, None, Result, Ok, Err, Vec, IfOk, OnErr, inl, inr, refl, sym, subst, ap, ◌∙◌, arith}
+use Rattle.fedi_core.specs.Keeping.{IsKept, Refuses}
+use Rattle.fedi_core.specs.declared.keeping.KeepFault.{KeepFault}
+use Rattle.fedi_core.specs.declared.keeping.KeepFault.TheVariants as faults
+use Rattle.fedi_entry.specs.Codes.{code_of}
+use Rattle.fedi_log.specs.Keeping.{Follows, State}
+use Rattle.fedi_log.specs.Log.{Failed, Full, Kept, NoEntry, Outcome}
+use Rattle.fedi_log.proofs.Keeping.{unchanged}
+use Rattle.fedi_objects.specs.declared.entry.Entry.{Entry}
+use Rattle.fedi_outside.specs.Keepers.{HasAdded, KeeperState, OnlyRoomChanged}
+use Rattle.fedi_model.proofs.Clean.{refused_is_clean, reply_is_clean}
+use Rattle.fedi_model.specs.declared.ask.Ask.{Ask}
+use Rattle.fedi_model.specs.declared.caller.Caller.{Caller}
+use Rattle.fedi_model.specs.declared.refusal.Refusal.{Refusal}
+use Rattle.fedi_model.specs.declared.refusal.Refusal.TheVariants.{JournalFull, KeeperFault}
+use Rattle.fedi_model.specs.declared.reply.Reply.{Reply}
+use Rattle.fedi_model.specs.declared.request.Request.{Request}
+use Rattle.fedi_model.specs.Agreement.{Agree, IsPrivate}
+use Rattle.fedi_model.specs.Answers.{AgreeFor, AgreeOn, Answers, AnswersTo, caller_of}
+use Rattle.fedi_model.specs.Cleanness.{IsCleanBody}
+use Rattle.fedi_model.specs.Histories.{town}
+use Rattle.fedi_model.specs.Refusing.{refused}
+use Rattle.fedi_model.specs.ReplyText.{reply_text}
+use Rattle.fedi_model.specs.Replies.{entry_of, reply}
+use Rattle.fedi_model.specs.Routes.{Asks}
+use Rattle.fedi_model.specs.Towns.{Town}
+use Rattle.fedi_program.specs.Conversations.{IsPrivateReply, IsReply, Settles}
+use Rattle.fedi_program.specs.Endings.{IsAnswerText, IsTurn, IsUnanswered}
+
+-- ---- who may not be taken for a caller
+
+-- the refusal of a caller is the answer, and nothing is kept
+refused_answer : (t : Town) (moment : ℕ) (q : Request) (body : List ℕ) (e : Refusal) → caller_of t q body ≡ Err e → Answers t moment q body (refused e) None
+refused_answer t moment q body e caller = subst (λ (c : Result Caller Refusal). AnswersTo t moment c q body (refused e) None) (sym caller) (refl, refl)
+
+pub refused_turn : (growth room : ℕ → ℕ) (state : State) (moment : ℕ) (q : Request) (body : List ℕ) (e : Refusal) (r : Reply)
+    → caller_of (town state.history) q body ≡ Err e → r ≡ refused e → IsTurn growth room state state moment q body r
+refused_turn growth room state moment q body e r caller is =
+    subst (λ (x : Reply). IsTurn growth room state state moment q body x) (sym is) (record {
+      outcome = NoEntry;
+      reply = record {
+        answer = (refused e, None, refused_answer (town state.history) moment q body e caller, refl);
+        private = inl (λ g legal agree. (None, refused_answer (town g) moment q body e (agree.caller ∙ caller)));
+        clean = refused_is_clean e;
+      };
+      follows = unchanged growth state state refl refl refl refl refl;
+    })
+
+-- ---- what is decided for a caller
+
+-- the reply to a caller for what the request asks
+asked_answer : (t : Town) (moment : ℕ) (q : Request) (body : List ℕ) (c : Caller) (ask : Ask) (r : Reply) → caller_of t q body ≡ Ok c → Asks q body ask → r ≡ reply t c ask
+    → Answers t moment q body r (entry_of t c ask moment)
+asked_answer t moment q body c ask r caller asks is =
+    subst (λ (x : Result Caller Refusal). AnswersTo t moment x q body r (entry_of t c ask moment)) (sym caller) (ask, asks, is, refl)
+
+private_answer : (h g : List Entry) (moment : ℕ) (q : Request) (body : List ℕ) (c : Caller) (ask : Ask) (r : Reply) → caller_of (town h) q body ≡ Ok c → Asks q body ask
+    → (Agree (town g) (town h) c → reply (town g) c ask ≡ r) → AgreeOn (town g) (town h) q body → (made : Option Entry) × Answers (town g) moment q body r made
+private_answer h g moment q body c ask r caller asks same agree =
+    let known : Agree (town g) (town h) c = subst (λ (x : Result Caller Refusal). AgreeFor (town g) (town h) x) caller agree.known in
+    (entry_of (town g) c ask moment, asked_answer (town g) moment q body c ask r (agree.caller ∙ caller) asks (sym (same known)))
+
+-- what was decided for the caller of a request
+pub record IsDecided (state : State) (moment : ℕ) (q : Request) (body : List ℕ) (c : Caller) (ask : Ask) (r : Reply) (made : Option Entry) : Type 0 where
+  pub caller : caller_of (town state.history) q body ≡ Ok c
+  pub asks : Asks q body ask
+  pub reply_is : r ≡ reply (town state.history) c ask
+  pub made_is : made ≡ entry_of (town state.history) c ask moment
+  pub private : IsPrivate state.history c ask r
+
+-- the reply that is then given, by what became of the entry
+settled_reply : (room : ℕ → ℕ) (state : State) (moment : ℕ) (q : Request) (body : List ℕ) (c : Caller) (ask : Ask) (r : Reply) (made : Option Entry) (outcome : Outcome) (given : Reply)
+    → IsDecided state moment q body c ask r made → Settles room state.keeper.end r made outcome given
+    → IsPrivateReply state.history moment q body given → IsCleanBody given.body → IsReply room state.history state.keeper.end moment q body outcome given
+settled_reply room state moment q body c ask r made outcome given d settles private clean =
+    let answer = subst (λ (m : Option Entry). Answers (town state.history) moment q body r m) (sym d.made_is)
+      (asked_answer (town state.history) moment q body c ask r d.caller d.asks d.reply_is) in
+    record { answer = (r, made, answer, settles); private = private; clean = clean }
+
+decided_private : (state : State) (moment : ℕ) (q : Request) (body : List ℕ) (c : Caller) (ask : Ask) (r : Reply) (made : Option Entry)
+    → IsDecided state moment q body c ask r made → IsPrivateReply state.history moment q body r
+decided_private state moment q body c ask r made d =
+    inl (λ g legal agree. private_answer state.history g moment q body c ask r d.caller d.asks (d.private g legal) agree)
+
+decided_clean : (state : State) (moment : ℕ) (q : Request) (body : List ℕ) (c : Caller) (ask : Ask) (r : Reply) (made : Option Entry)
+    → IsDecided state moment q body c ask r made → IsCleanBody r.body
+decided_clean state moment q body c ask r made d = subst (λ (x : Reply). IsCleanBody x.body) (sym d.reply_is) (reply_is_clean (town state.history) c ask)
+
+-- ---- nothing is to be kept
+
+pub read_turn : (growth room : ℕ → ℕ) (state : State) (moment : ℕ) (q : Request) (body : List ℕ) (c : Caller) (ask : Ask) (r : Reply)
+    → IsDecided state moment q body c ask r None → IsTurn growth room state state moment q body r
+read_turn growth room state moment q body c ask r d = record {
+  outcome = NoEntry;
+  reply = settled_reply room state moment q body c ask r None NoEntry r d refl (decided_private state moment q body c ask r None d) (decided_clean state moment q body c ask r None d);
+  follows = unchanged growth state state refl refl refl refl refl;
+}
+
+-- ---- an entry is to be kept
+
+pub kept_turn : (growth room : ℕ → ℕ) (before after : State) (moment : ℕ) (q : Request) (body : List ℕ) (c : Caller) (ask : Ask) (r : Reply) (e : Entry)
+    → IsDecided before moment q body c ask r (Some e) → IsKept growth room before.history e before.keeper after.keeper after.history
+    → IsTurn growth room before after moment q body r
+kept_turn growth room before after moment q body c ask r e d k = record {
+  outcome = Kept e;
+  reply = settled_reply room before moment q body c ask r (Some e) (Kept e) r d (refl, k.fits, refl)
+    (decided_private before moment q body c ask r (Some e) d) (decided_clean before moment q body c ask r (Some e) d);
+  follows = record {
+    history = k.history;
+    records = k.keeper.records;
+    end = let moved = k.keeper.end in omega (arith, moved);
+    doubt = k.keeper.doubt;
+    faults = let same = k.keeper.faults in omega (arith, same);
+  };
+}
+
+still : (growth : ℕ → ℕ) (before after : State) → after.history ≡ before.history → OnlyRoomChanged before.keeper after.keeper → Follows growth before after NoEntry
+still growth before after same k = unchanged growth before after same k.records k.end k.doubt k.faults
+
+still_full : (growth : ℕ → ℕ) (before after : State) (e : Entry) → Follows growth before after NoEntry → Follows growth before after (Full e)
+still_full growth before after e f = record { history = f.history; records = f.records; end = f.end; doubt = f.doubt; faults = f.faults }
+
+pub full_turn : (growth room : ℕ → ℕ) (before after : State) (moment : ℕ) (q : Request) (body : List ℕ) (c : Caller) (ask : Ask) (r : Reply) (e : Entry)
+    → IsDecided before moment q body c ask r (Some e) → after.history ≡ before.history → Refuses room (code_of e) faults.Full before.keeper after.keeper
+    → IsTurn growth room before after moment q body (refused JournalFull)
+full_turn growth room before after moment q body c ask r e d same k = record {
+  outcome = Full e;
+  reply = settled_reply room before moment q body c ask r (Some e) (Full e) (refused JournalFull) d (refl, k.0, refl) (inr (inl refl)) (refused_is_clean JournalFull);
+  follows = still_full growth before after e (still growth before after same k.1);
+}
+
+failed_follows : (growth room : ℕ → ℕ) (before after : State) (e : Entry) → after.history ≡ before.history → Refuses room (code_of e) faults.Failed before.keeper after.keeper
+    → Follows growth before after (Failed e)
+failed_follows growth room before after e same k =
+    let quiet : Follows growth before (record after { keeper = before.keeper }) NoEntry = unchanged growth before (record after { keeper = before.keeper }) same refl refl refl refl in
+    record {
+      history = quiet.history;
+      records = k.1.records ∙ quiet.records;
+      end = let moved = k.1.end in omega (arith, moved);
+      doubt = k.1.doubt;
+      faults = let rose = k.1.faults in omega (arith, rose);
+    }
+
+failed_reply : (room : ℕ → ℕ) (before : State) (moment : ℕ) (q : Request) (body : List ℕ) (c : Caller) (ask : Ask) (r : Reply) (e : Entry) (after : State)
+    → IsDecided before moment q body c ask r (Some e) → Refuses room (code_of e) faults.Failed before.keeper after.keeper
+    → IsReply room before.history before.keeper.end moment q body (Failed e) (refused KeeperFault)
+failed_reply room before moment q body c ask r e after d k =
+    settled_reply room before moment q body c ask r (Some e) (Failed e) (refused KeeperFault) d (refl, k.0, refl) (inr (inr refl)) (refused_is_clean KeeperFault)
+
+pub failed_turn : (growth room : ℕ → ℕ) (before after : State) (moment : ℕ) (q : Request) (body : List ℕ) (c : Caller) (ask : Ask) (r : Reply) (e : Entry)
+    → IsDecided before moment q body c ask r (Some e) → after.history ≡ before.history → Refuses room (code_of e) faults.Failed before.keeper after.keeper
+    → IsTurn growth room before after moment q body (refused KeeperFault)
+failed_turn growth room before after moment q body c ask r e d same k = record {
+  outcome = Failed e;
+  reply = failed_reply room before moment q body c ask r e after d k;
+  follows = failed_follows growth room before after e same k;
+}
+
+-- ---- out of memory
+
+pub nothing_done : (growth room : ℕ → ℕ) (state : State) (moment : ℕ) (q : Request) (body : List ℕ) → IsUnanswered growth room state state moment q body
+nothing_done growth room state moment q body = inl (unchanged growth state state refl refl refl refl refl)
+
+pub nothing_kept : (growth room : ℕ → ℕ) (before after : State) (moment : ℕ) (q : Request) (body : List ℕ) → after.history ≡ before.history
+    → OnlyRoomChanged before.keeper after.keeper → IsUnanswered growth room before after moment q body
+nothing_kept growth room before after moment q body same k = inl (still growth before after same k)
+
+pub full_untold : (growth room : ℕ → ℕ) (before after : State) (moment : ℕ) (q : Request) (body : List ℕ) (e : Entry)
+    → after.history ≡ before.history → Refuses room (code_of e) faults.Full before.keeper after.keeper → IsUnanswered growth room before after moment q body
+full_untold growth room before after moment q body e same k = inl (still growth before after same k.1)
+
+pub failed_untold : (growth room : ℕ → ℕ) (before after : State) (moment : ℕ) (q : Request) (body : List ℕ) (c : Caller) (ask : Ask) (r : Reply) (e : Entry)
+    → IsDecided before moment q body c ask r (Some e) → after.history ≡ before.history → Refuses room (code_of e) faults.Failed before.keeper after.keeper
+    → IsUnanswered growth room before after moment q body
+failed_untold growth room before after moment q body c ask r e d same k =
+    inr (e, failed_reply room before moment q body c ask r e after d k, failed_follows growth room before after e same k)
+
+-- ---- texts
+
+-- the text, if there was memory for it, is that of a turn's reply
+pub texted : {A E : Type 0} (growth room : ℕ → ℕ) (before after : State) (moment : ℕ) (q : Request) (body : List ℕ) (closing : Bool) (given : Reply) (r : Result (Vec ℕ A) E)
+    → IsTurn growth room before after moment q body given → IfOk r (λ t. t.items ≡ reply_text moment false closing given)
+    → IfOk r (λ t. IsAnswerText growth room before after moment q body closing t.items)
+texted growth room before after moment q body closing given (Ok t) turn is = (given, turn, is)
+texted growth room before after moment q body closing given (Err e) turn is = tt
+
+-- or, if there was none, nothing was kept
+pub untexted : {T E : Type 0} (growth room : ℕ → ℕ) (before after : State) (moment : ℕ) (q : Request) (body : List ℕ) (r : Result T E)
+    → IsUnanswered growth room before after moment q body → OnErr r (IsUnanswered growth room before after moment q body)
+untexted growth room before after moment q body (Ok t) u = tt
+untexted growth room before after moment q body (Err e) u = u
+
+-- what was decided, by the parts of the decision
+pub decided : (state : State) (moment : ℕ) (q : Request) (body : List ℕ) (c : Caller) (ask : Ask) (r : Reply) (made other : Option Entry)
+    → caller_of (town state.history) q body ≡ Ok c → Asks q body ask → r ≡ reply (town state.history) c ask → made ≡ entry_of (town state.history) c ask moment
+    → IsPrivate state.history c ask r → made ≡ other → IsDecided state moment q body c ask r other
+decided state moment q body c ask r made other is asks reply_is made_is private so = record {
+  caller = is;
+  asks = asks;
+  reply_is = reply_is;
+  made_is = sym so ∙ made_is;
+  private = private;
+}
+
+-- ---- why an entry was not kept
+
+pub full_by : (room : ℕ → ℕ) (code : List ℕ) (f : KeepFault) (before after : KeeperState) → f ≡ faults.Full → Refuses room code f before after → Refuses room code faults.Full before after
+full_by room code f before after is k = subst (λ (x : KeepFault). Refuses room code x before after) is k
+
+pub failed_by : (room : ℕ → ℕ) (code : List ℕ) (f : KeepFault) (before after : KeeperState) → f ≡ faults.Failed → Refuses room code f before after → Refuses room code faults.Failed before after
+failed_by room code f before after is k = subst (λ (x : KeepFault). Refuses room code x before after) is k
+
+pub memory_by : (room : ℕ → ℕ) (code : List ℕ) (f : KeepFault) (before after : KeeperState) → f ≡ faults.Memory → Refuses room code f before after → OnlyRoomChanged before after
+memory_by room code f before after is k = subst (λ (x : KeepFault). Refuses room code x before after) is k

@@ -1,0 +1,6 @@
+pub mod AnswerLemmas
+pub mod Conversing
+pub mod Determined
+pub mod RunLemmas
+pub mod SessionLemmas
+pub mod Talks

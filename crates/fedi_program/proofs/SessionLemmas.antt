@@ -1,0 +1,309 @@
+-- From the answer to one request to a step of a session.
+use Rattle.std.proofs.Common.{◌≡◌, ℕ, ◌+◌, ◌-◌, ◌^◌, ◌<◌, ◌≤◌, min, Bool, true, false, List, [], ◌∷◌, ◌++◌, length, take, drop, Option, Some, None, IfSome, IfOk, OnErr, MatchResult, Result, Ok, Err, Vec, inl, inr, refl, sym, ap, subst, ◌∙◌, append-nil, arith}
+use Rattle.std.specs.List.{slice_range}
+use Rattle.std.specs.Io.KnownBytes.{Appends, prepend_known}
+use Rattle.std.proofs.KnownBytes.{Appends-trans}
+use Rattle.std.proofs.lemmas.List.{drop-append-le}
+use Rattle.fedi_outside.specs.Causes.{next_count}
+use Rattle.fedi_model.specs.declared.refusal.Refusal.{Refusal}
+use Rattle.fedi_http.specs.Arrivals.{LacksRequest}
+use Rattle.fedi_http.specs.declared.arrivals.Arrived.{Arrived}
+use Rattle.fedi_http.specs.declared.arrivals.Arrived.TheVariants as arrivals
+use Rattle.fedi_http.specs.declared.heads.TheConstants.{HEAD_LIMIT}
+use Rattle.fedi_http.specs.declared.requests.TheConstants.{MOST_FIELDS}
+use Rattle.fedi_http.proofs.HeadLemmas.{slice_range-append}
+use Rattle.fedi_log.specs.Keeping.{Base, Follows, Holds, State, end_of}
+use Rattle.fedi_log.specs.Log.{Failed, Goes, Log, NoEntry, Outcome, history_of, items_of}
+use Rattle.fedi_log.proofs.Growing.{goes_here}
+use Rattle.fedi_objects.specs.declared.entry.Entry.{Entry}
+use Rattle.fedi_model.specs.declared.refusal.Refusal.TheVariants.{KeeperFault}
+use Rattle.fedi_model.specs.declared.reply.Reply.{Reply}
+use Rattle.fedi_model.specs.declared.request.Request.{Request}
+use Rattle.fedi_model.specs.Refusing.{refused}
+use Rattle.fedi_model.specs.ReplyText.{memory_text, reply_text}
+use Rattle.fedi_program.specs.declared.sessions.SessionEnd.{SessionEnd}
+use Rattle.fedi_program.specs.declared.sessions.SessionEnd.TheVariants as ends
+use Rattle.fedi_program.specs.Conversations.{Setting, Exchange, Progress, IsNow, IsReply, IsExchange, StandsAtFront, after, closes, text_of}
+use Rattle.fedi_program.specs.Endings.{BreaksOff, Exchanges, GivesUp, IsAnswerText, IsAt, IsTurn, IsUnanswered, Output, Replies, Scene, Steps, Writes, WritesUnlessFailed}
+use Rattle.fedi_log.proofs.Keeping.{since_here, since_more, since_still, unchanged}
+
+-- ---- the bytes of the input
+
+-- what is pending is a front of what is left
+abbrev StandsIn : List ℕ → Option (List ℕ) → List ℕ → Type 0
+StandsIn pending input left = prepend_known pending input ≡ Some left
+
+same_slice : (pending : List ℕ) (input : Option (List ℕ)) (left : List ℕ) (start end : ℕ) → StandsIn pending input left → start ≤ end → end ≤ length pending
+    → slice_range pending start end ≡ slice_range left start end
+same_slice pending None left start end stands low high = absurd cc
+same_slice pending (Some rest) left start end stands low high =
+    let whole : pending ++ rest ≡ left = cc in
+    sym (slice_range-append pending rest start end low high) ∙ ap (λ (xs : List ℕ). slice_range xs start end) whole
+
+taken_off : (pending : List ℕ) (input : Option (List ℕ)) (left : List ℕ) (count : ℕ) → StandsIn pending input left → count ≤ length pending
+    → StandsIn (drop count pending) input (drop count left)
+taken_off pending None left count stands high = absurd cc
+taken_off pending (Some rest) left count stands high =
+    let whole : pending ++ rest ≡ left = cc in
+    ap Some (sym (drop-append-le count pending rest high) ∙ ap (drop count) whole)
+
+told_of : (P : List ℕ → Type 0) (known : Option (List ℕ)) (left : List ℕ) → known ≡ Some left → IfSome known P → P left
+told_of P known left is h = subst (λ (k : Option (List ℕ)). IfSome k P) is h
+
+-- ---- the output
+
+writes_on : (first before now : Output) (written text : List ℕ) → Writes first before written → Writes before now text → Writes first now (written ++ text)
+writes_on first before now written text was more = record {
+  sent = Appends-trans first.sent before.sent now.sent written text was.sent more.sent;
+  calm = more.calm ∙ was.calm;
+}
+
+writes_still : (first before now : Output) (written : List ℕ) → Writes first before written → now ≡ before → Writes first now written
+writes_still first before now written was same = subst (λ (o : Output). Writes first o written) (sym same) was
+
+breaks_on : (first before now : Output) (written text : List ℕ) → Writes first before written → BreaksOff before now [] text → BreaksOff first now written text
+breaks_on first before now written text was b = record {
+  prefix = b.prefix;
+  short = b.short;
+  sent = Appends-trans first.sent before.sent now.sent written (take b.prefix text) was.sent b.sent;
+  cause = b.cause ∙ ap next_count was.calm;
+}
+
+unless_failed_on : (first before now : Output) (written text : List ℕ) → Writes first before written
+    → WritesUnlessFailed before now [] text → WritesUnlessFailed first now written text
+unless_failed_on first before now written text was (inl sent) = inl (writes_on first before now written text was sent)
+unless_failed_on first before now written text was (inr broken) = inr (breaks_on first before now written text was broken)
+
+-- ---- one step
+
+goes_to : (by : Option ℕ) (seen log : Log) → seen ≡ log → Goes by seen log
+goes_to by seen log same = subst (λ (l : Log). Goes by seen l) same (goes_here by seen)
+
+-- this exchange was made, and its text was sent so
+replied : (w : Setting) (first : Output) (before now : Scene) (log : Log) (old pending : List ℕ) (p : Progress) (x : Exchange) (closing : Bool) (ending : Option SessionEnd)
+    → closing ≡ closes p.count x.arrived → IsExchange w p x → (after w p x).log ≡ log → IsAt first before old p
+    → StandsIn pending now.input x.rest → Replies before.output now.output (reply_text x.moment false closing x.reply) closing ending
+    → Steps w first now log pending p ending
+replied w first before now log old pending p x true ending is next same at stands (inl sent) =
+    let text : Writes before.output now.output (text_of p.count x) = rw (← is) sent.1 in
+    subst (λ (e : Option SessionEnd). Steps w first now log pending p e) (sym sent.0)
+    (x, next, (sym is, record {
+      written = writes_on first before.output now.output p.written (text_of p.count x) at.written text;
+      later = goes_to w.by (after w p x).log log same;
+    }))
+replied w first before now log old pending p x false ending is next same at stands (inl sent) =
+    let text : Writes before.output now.output (text_of p.count x) = rw (← is) sent.1 in
+    subst (λ (e : Option SessionEnd). Steps w first now log pending p e) (sym sent.0)
+    (x, next, same, record {
+      open_yet = sym is;
+      input = stands;
+      written = writes_on first before.output now.output p.written (text_of p.count x) at.written text;
+    })
+replied w first before now log old pending p x closing ending is next same at stands (inr sent) =
+    let broken : BreaksOff before.output now.output [] (text_of p.count x) = rw (← is) sent.1 in
+    subst (λ (e : Option SessionEnd). Steps w first now log pending p e) (sym sent.0)
+    (record {
+      exchange = x;
+      next = next;
+      later = goes_to w.by (after w p x).log log same;
+      broken = breaks_on first before.output now.output p.written (text_of p.count x) at.written broken;
+    })
+
+-- ---- a request
+
+abbrev asked : Request → List ℕ → List ℕ → Log → ℕ → Outcome → Reply → Exchange
+asked q body rest log moment outcome r = record { arrived = Ok q; body = body; rest = rest; log = log; moment = moment; outcome = outcome; reply = r }
+
+-- the exchange of a request that was answered in one turn
+exchange_of : (w : Setting) (first : Output) (before now : Scene) (state after_it : State) (log : Log) (old read : List ℕ) (p : Progress) (q : Request) (start end moment : ℕ) (r : Reply)
+    (turn : IsTurn w.base.growth w.base.room state after_it moment q (slice_range read start end) r)
+    → Holds w.base state log → p.log ≡ log → IsAt first before old p → prepend_known read now.input ≡ prepend_known old before.input
+    → IfSome (prepend_known old before.input) (λ stream. StandsAtFront stream (arrivals.Request q start end)) → start ≤ end → end ≤ length read → IsNow w.told moment
+    → IsExchange w p (asked q (slice_range p.left start end) (drop end p.left) log moment turn.outcome r)
+exchange_of w first before now state after_it log old read p q start end moment r turn holds same at stream told low high is_now =
+    let stands : StandsIn read now.input p.left = stream ∙ at.input in
+    let text : slice_range read start end ≡ slice_range p.left start end = same_slice read now.input p.left start end stands low high in
+    let here = subst (λ (h : List Entry). IsReply w.base.room h state.keeper.end moment q (slice_range read start end) turn.outcome r) holds.history turn.reply in
+    let ended = subst (λ (n : ℕ). IsReply w.base.room (history_of log) n moment q (slice_range read start end) turn.outcome r) holds.keeper.end here in
+    record {
+      open_yet = at.open_yet;
+      arrival = (start, end, told_of (λ bytes. StandsAtFront bytes (arrivals.Request q start end)) (prepend_known old before.input) p.left at.input told, refl, refl);
+      now = is_now;
+      later = goes_to w.by p.log log same;
+      reply = subst (λ (b : List ℕ). IsReply w.base.room (history_of log) (end_of w.base log) moment q b turn.outcome r) text ended;
+    }
+
+pub answered_steps : (w : Setting) (before now : Scene) (state after_it : State) (log : Log) (count : ℕ) (old read : List ℕ) (q : Request) (start end moment : ℕ) (closing : Bool) (text : List ℕ) (ending : Option SessionEnd)
+    → Holds w.base state log → prepend_known read now.input ≡ prepend_known old before.input
+    → IfSome (prepend_known old before.input) (λ stream. StandsAtFront stream (arrivals.Request q start end)) → start ≤ end → end ≤ length read
+    → closing ≡ closes count (Ok q) → IsNow w.told moment
+    → IsAnswerText w.base.growth w.base.room state after_it moment q (slice_range read start end) closing text
+    → Replies before.output now.output text closing ending
+    → Exchanges w log count before old now (drop end read) after_it ending
+answered_steps w before now state after_it log count old read q start end moment closing text ending holds stream told low high is is_now a sent =
+    let r : Reply = a.0 in
+    let turn = a.1 in
+    let o : Outcome = turn.outcome in
+    let reply = subst (λ (t : List ℕ). Replies before.output now.output t closing ending) a.2 sent in (
+      log ++ items_of w.by o,
+      since_more w.base w.by state after_it log o holds turn.follows,
+      λ first p same counted at.
+        replied w first before now (log ++ items_of w.by o) old (drop end read) p (asked q (slice_range p.left start end) (drop end p.left) log moment o r) closing ending
+        (is ∙ ap (λ (n : ℕ). closes n (Ok q)) (sym counted))
+        (exchange_of w first before now state after_it log old read p q start end moment r turn holds same at stream told low high is_now)
+        refl at (taken_off read now.input p.left end (stream ∙ at.input) high) reply,
+    )
+
+-- out of memory: the other side was told so
+given_up : (w : Setting) (first : Output) (before now : Scene) (log : Log) (old pending : List ℕ) (p : Progress) (ending : Option SessionEnd)
+    → IsAt first before old p → GivesUp before.output now.output ending
+    → (WritesUnlessFailed first now.output p.written memory_text → Steps w first now log pending p (Some ends.Memory))
+    → Steps w first now log pending p ending
+given_up w first before now log old pending p ending at gives f =
+    subst (λ (e : Option SessionEnd). Steps w first now log pending p e) (sym gives.0)
+    (f (unless_failed_on first before.output now.output p.written memory_text at.written gives.1))
+
+pub memory_steps : (w : Setting) (before now : Scene) (state after_it : State) (log : Log) (count : ℕ) (old pending : List ℕ) (ending : Option SessionEnd)
+    → Holds w.base state log → Follows w.base.growth state after_it NoEntry → GivesUp before.output now.output ending → Exchanges w log count before old now pending after_it ending
+memory_steps w before now state after_it log count old pending ending holds still gives = (
+  log,
+  since_still w.base w.by state after_it log holds still,
+  λ first p same counted at. given_up w first before now log old pending p ending at gives (λ told. record {
+    more = None;
+    open_yet = at.open_yet;
+    next = tt;
+    later = goes_to w.by p.log log same;
+    told = told;
+  }),
+)
+
+pub unanswered_steps : (w : Setting) (before now : Scene) (state after_it : State) (log : Log) (count : ℕ) (old read pending : List ℕ) (q : Request) (start end moment : ℕ) (ending : Option SessionEnd)
+    → Holds w.base state log → prepend_known read now.input ≡ prepend_known old before.input
+    → IfSome (prepend_known old before.input) (λ stream. StandsAtFront stream (arrivals.Request q start end)) → start ≤ end → end ≤ length read → IsNow w.told moment
+    → IsUnanswered w.base.growth w.base.room state after_it moment q (slice_range read start end) → GivesUp before.output now.output ending
+    → Exchanges w log count before old now pending after_it ending
+unanswered_steps w before now state after_it log count old read pending q start end moment ending holds stream told low high is_now (inl still) gives =
+    memory_steps w before now state after_it log count old pending ending holds still gives
+unanswered_steps w before now state after_it log count old read pending q start end moment ending holds stream told low high is_now (inr a) gives =
+    let o : Outcome = Failed a.0 in
+    let r : Reply = refused KeeperFault in
+    let turn : IsTurn w.base.growth w.base.room state after_it moment q (slice_range read start end) r = record { outcome = o; reply = a.1; follows = a.2 } in (
+      log ++ items_of w.by o,
+      since_more w.base w.by state after_it log o holds a.2,
+      λ first p same counted at.
+        let x = asked q (slice_range p.left start end) (drop end p.left) log moment o r in
+        given_up w first before now (log ++ items_of w.by o) old pending p ending at gives (λ text. record {
+          more = Some x;
+          open_yet = at.open_yet;
+          next = (exchange_of w first before now state after_it log old read p q start end moment r turn holds same at stream told low high is_now, refl);
+          later = goes_here w.by (log ++ items_of w.by o);
+          told = text;
+        }),
+    )
+
+-- ---- what is refused
+
+abbrev turned_away : Refusal → List ℕ → Log → ℕ → Exchange
+turned_away e rest log moment = record { arrived = Err e; body = []; rest = rest; log = log; moment = moment; outcome = NoEntry; reply = refused e }
+
+pub refusal_steps : (w : Setting) (before now : Scene) (state : State) (log : Log) (count : ℕ) (old pending : List ℕ) (e : Refusal) (moment : ℕ) (text : List ℕ) (ending : Option SessionEnd)
+    → Holds w.base state log → prepend_known pending now.input ≡ prepend_known old before.input
+    → IfSome (prepend_known old before.input) (λ stream. StandsAtFront stream (arrivals.Refused e)) → IsNow w.told moment
+    → text ≡ reply_text moment false true (refused e) → Replies before.output now.output text true ending
+    → Exchanges w log count before old now pending state ending
+refusal_steps w before now state log count old pending e moment text ending holds stream told is_now is sent =
+    let reply = subst (λ (t : List ℕ). Replies before.output now.output t true ending) is sent in (
+      log ++ items_of w.by NoEntry,
+      since_more w.base w.by state state log NoEntry holds (unchanged w.base.growth state state refl refl refl refl refl),
+      λ first p same counted at.
+        replied w first before now (log ++ items_of w.by NoEntry) old pending p (turned_away e p.left log moment) true ending refl
+        (record {
+          open_yet = at.open_yet;
+          arrival = (told_of (λ bytes. StandsAtFront bytes (arrivals.Refused e)) (prepend_known old before.input) p.left at.input told, refl, refl);
+          now = is_now;
+          later = goes_to w.by p.log log same;
+          reply = (refl, refl);
+        })
+        refl at (stream ∙ at.input) reply,
+    )
+
+-- ---- nothing more is to be answered, and nothing was sent
+
+pub end_steps : (w : Setting) (before now : Scene) (state : State) (log : Log) (count : ℕ) (old pending : List ℕ) → Holds w.base state log
+    → IfSome (prepend_known old before.input) (λ stream. StandsAtFront stream arrivals.End) → now.output ≡ before.output
+    → Exchanges w log count before old now pending state (Some ends.End)
+end_steps w before now state log count old pending holds told quiet = (
+  log,
+  since_here w.base w.by state log holds,
+  λ first p same counted at. (
+    at.open_yet,
+    told_of (λ bytes. StandsAtFront bytes arrivals.End) (prepend_known old before.input) p.left at.input told,
+    record { written = writes_still first before.output now.output p.written at.written quiet; later = goes_to w.by p.log log same },
+  ),
+)
+
+pub cut_steps : (w : Setting) (before now : Scene) (state : State) (log : Log) (count : ℕ) (old pending : List ℕ) → Holds w.base state log
+    → IfSome (prepend_known old before.input) (λ stream. StandsAtFront stream arrivals.CutShort) → now.output ≡ before.output
+    → Exchanges w log count before old now pending state (Some ends.CutShort)
+cut_steps w before now state log count old pending holds told quiet = (
+  log,
+  since_here w.base w.by state log holds,
+  λ first p same counted at. (
+    (at.open_yet, told_of (λ bytes. StandsAtFront bytes arrivals.CutShort) (prepend_known old before.input) p.left at.input told),
+    record { written = writes_still first before.output now.output p.written at.written quiet; later = goes_to w.by p.log log same },
+  ),
+)
+
+pub fault_steps : (w : Setting) (before now : Scene) (state : State) (log : Log) (count : ℕ) (old pending : List ℕ) → Holds w.base state log
+    → prepend_known pending now.input ≡ prepend_known old before.input → LacksRequest HEAD_LIMIT MOST_FIELDS pending → now.output ≡ before.output
+    → Exchanges w log count before old now pending state (Some ends.ReadFault)
+fault_steps w before now state log count old pending holds stream lacks quiet = (
+  log,
+  since_here w.base w.by state log holds,
+  λ first p same counted at. record {
+    pending = pending;
+    at = record {
+      open_yet = at.open_yet;
+      input = stream ∙ at.input;
+      written = writes_still first before.output now.output p.written at.written quiet;
+    };
+    lacks = lacks;
+    later = goes_to w.by p.log log same;
+  },
+)
+
+-- ---- with a text, or without memory for one
+
+pub request_steps : {A E : Type 0} (w : Setting) (before now : Scene) (state after_it : State) (log : Log) (count : ℕ) (old read : List ℕ) (q : Request) (start end moment : ℕ) (closing : Bool)
+    (text : Result (Vec ℕ A) E) (ending : Option SessionEnd) → Holds w.base state log → prepend_known read now.input ≡ prepend_known old before.input
+    → IfSome (prepend_known old before.input) (λ stream. StandsAtFront stream (arrivals.Request q start end)) → start ≤ end → end ≤ length read
+    → closing ≡ closes count (Ok q) → IsNow w.told moment
+    → IfOk text (λ t. IsAnswerText w.base.growth w.base.room state after_it moment q (slice_range read start end) closing t.items)
+    → OnErr text (IsUnanswered w.base.growth w.base.room state after_it moment q (slice_range read start end))
+    → MatchResult text (λ t. Replies before.output now.output t.items closing ending) (λ _. GivesUp before.output now.output ending)
+    → Exchanges w log count before old now (drop end read) after_it ending
+request_steps w before now state after_it log count old read q start end moment closing (Ok t) ending holds stream told low high is is_now a u sent =
+    answered_steps w before now state after_it log count old read q start end moment closing t.items ending holds stream told low high is is_now a sent
+request_steps w before now state after_it log count old read q start end moment closing (Err e) ending holds stream told low high is is_now a u gives =
+    unanswered_steps w before now state after_it log count old read (drop end read) q start end moment ending holds stream told low high is_now u gives
+
+pub refused_steps : {A E : Type 0} (w : Setting) (before now : Scene) (state : State) (log : Log) (count : ℕ) (old pending : List ℕ) (e : Refusal) (moment : ℕ)
+    (text : Result (Vec ℕ A) E) (ending : Option SessionEnd) → Holds w.base state log → prepend_known pending now.input ≡ prepend_known old before.input
+    → IfSome (prepend_known old before.input) (λ stream. StandsAtFront stream (arrivals.Refused e)) → IsNow w.told moment
+    → IfOk text (λ t. t.items ≡ reply_text moment false true (refused e))
+    → MatchResult text (λ t. Replies before.output now.output t.items true ending) (λ _. GivesUp before.output now.output ending)
+    → Exchanges w log count before old now pending state ending
+refused_steps w before now state log count old pending e moment (Ok t) ending holds stream told is_now is sent =
+    refusal_steps w before now state log count old pending e moment t.items ending holds stream told is_now is sent
+refused_steps w before now state log count old pending e moment (Err x) ending holds stream told is_now is gives =
+    memory_steps w before now state state log count old pending ending holds (unchanged w.base.growth state state refl refl refl refl refl) gives
+
+pub no_memory_steps : (w : Setting) (before now : Scene) (state : State) (log : Log) (count : ℕ) (old pending : List ℕ) (ending : Option SessionEnd)
+    → Holds w.base state log → GivesUp before.output now.output ending → Exchanges w log count before old now pending state ending
+no_memory_steps w before now state log count old pending ending holds gives =
+    memory_steps w before now state state log count old pending ending holds (unchanged w.base.growth state state refl refl refl refl refl) gives
+
+-- the moment that a clock gives
+pub now_of : (told : Option ℕ) (now moment : ℕ) → IfSome told (λ (m : ℕ). now ≡ m) → moment ≡ min now 253402300799 → IsNow told moment
+now_of None now moment same is = omega (arith, is)
+now_of (Some told) now moment same is = is ∙ ap (λ (n : ℕ). min n 253402300799) same

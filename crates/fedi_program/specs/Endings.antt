@@ -1,0 +1,254 @@
+-- How a session and a run may end, each with what has then happened.
+use Rattle.std.specs.Prelude.{◌≡◌, ◌⊎◌, ℕ, ◌<◌, ◌≤◌, Bool, false, true, ◌==◌, List, [], ◌∷◌, ◌++◌, length, take, All, Option, Some, None, IfSome, IsTrue, if◌then◌else◌}
+use Rattle.std.specs.List.{list_any}
+use Rattle.std.specs.Io.KnownBytes.{Appends, prepend_known}
+use Rattle.fedi_http.specs.Arrivals.{LacksRequest}
+use Rattle.fedi_http.specs.declared.arrivals.Arrived.TheVariants as arrivals
+use Rattle.fedi_http.specs.declared.heads.TheConstants.{HEAD_LIMIT}
+use Rattle.fedi_http.specs.declared.requests.TheConstants.{MOST_FIELDS}
+use Rattle.fedi_log.specs.Keeping.{Follows, HoldsSince, State, base_of}
+use Rattle.fedi_log.specs.Log.{Failed, Goes, Log, NoEntry, Outcome, given, kept_in}
+use Rattle.fedi_model.specs.declared.refusal.Refusal.TheVariants.{KeeperFault}
+use Rattle.fedi_model.specs.declared.reply.Reply.{Reply}
+use Rattle.fedi_model.specs.declared.request.Request.{Request}
+use Rattle.fedi_model.specs.Refusing.{refused}
+use Rattle.fedi_model.specs.ReplyText.{memory_text, reply_text}
+use Rattle.fedi_objects.specs.declared.entry.Entry.{Entry}
+use Rattle.fedi_outside.specs.Causes.{next_count}
+use Rattle.fedi_program.specs.Conversations.{Setting, Exchange, Progress, IsExchange, IsReply, Converses, StandsAtFront, IsCutShort, IsOver, after, beginning, progress, text_of}
+use Rattle.fedi_program.specs.declared.sessions.SessionEnd.{SessionEnd}
+use Rattle.fedi_program.specs.declared.sessions.SessionEnd.TheVariants.{End, CutShort, Closed, ReadFault, WriteFault, Memory}
+
+-- ---- the machine and its log
+
+-- the setting of one who alone adds to the log, over the machine that was opened so
+abbrev pub setting_of : (ℕ → ℕ) → (ℕ → ℕ) → Option ℕ → State → Setting
+setting_of growth room told opened = record { by = None; told = told; base = base_of growth room opened }
+
+-- it stands for some log that goes on so
+abbrev pub HoldsALog : Setting → Log → State → Type 0
+HoldsALog w seen now = (log : Log) × HoldsSince w.base w.by seen now log
+
+-- ---- what stands at a moment
+
+-- what was written, if it is told, and how many writes failed
+pub record Output : Type 0 where
+  pub sent : Option (List ℕ)
+  pub faults : ℕ
+
+-- the output of this sink, by what tells of sinks of its kind
+abbrev pub output_by : {O : Type 0} → (O → Option (List ℕ)) → (O → ℕ) → O → Output
+output_by sent faults out = record { sent = sent out; faults = faults out }
+
+-- the input that is to come, if it is told, and the output
+pub record Scene : Type 0 where
+  pub input : Option (List ℕ)
+  pub output : Output
+
+abbrev pub scene_of : Option (List ℕ) → Output → Scene
+scene_of input output = record { input = input; output = output }
+
+-- ---- what is sent
+
+-- the text was sent, and no write failed
+pub record Writes (before now : Output) (text : List ℕ) : Type 0 where
+  pub sent : Appends before.sent now.sent text
+  pub calm : now.faults ≡ before.faults
+
+-- a text was sent behind this one up to a write that failed: a proper prefix of it
+pub record BreaksOff (before now : Output) (written text : List ℕ) : Type 0 where
+  pub prefix : ℕ
+  pub short : prefix < length text
+  pub sent : Appends before.sent now.sent (written ++ take prefix text)
+  pub cause : now.faults ≡ next_count before.faults
+
+-- the text was sent behind this one whole, unless a write failed
+abbrev pub WritesUnlessFailed : Output → Output → List ℕ → List ℕ → Type 0
+WritesUnlessFailed before now written text = Writes before now (written ++ text) ⊎ BreaksOff before now written text
+
+-- how the session ends after a reply that was sent, if it does
+abbrev pub end_by : Bool → Option SessionEnd
+end_by closing = if closing then Some Closed else None
+
+-- a reply of this text was sent, and the session then ends so, if it does
+abbrev pub Replies : Output → Output → List ℕ → Bool → Option SessionEnd → Type 0
+Replies before now text closing ending =
+    ((ending ≡ end_by closing) × Writes before now text) ⊎ ((ending ≡ Some WriteFault) × BreaksOff before now [] text)
+
+-- there was no memory for the reply, and the other side was told so
+abbrev pub GivesUp : Output → Output → Option SessionEnd → Type 0
+GivesUp before now ending = (ending ≡ Some Memory) × WritesUnlessFailed before now [] memory_text
+
+-- ---- one answer
+
+-- the request with this body was answered so in one turn of the machine
+pub record IsTurn (growth room : ℕ → ℕ) (before after : State) (moment : ℕ) (q : Request) (body : List ℕ) (given : Reply) : Type 0 where
+  pub outcome : Outcome
+  pub reply : IsReply room before.history before.keeper.end moment q body outcome given
+  pub follows : Follows growth before after outcome
+
+-- the text is that of the reply of one turn
+abbrev pub IsAnswerText : (ℕ → ℕ) → (ℕ → ℕ) → State → State → ℕ → Request → List ℕ → Bool → List ℕ → Type 0
+IsAnswerText growth room before after moment q body closing text =
+    (r : Reply) × IsTurn growth room before after moment q body r × (text ≡ reply_text moment false closing r)
+
+-- out of memory: nothing was kept, since there was no turn, or since the keeper failed and the reply that tells so found no
+-- memory for its text
+abbrev pub IsUnanswered : (ℕ → ℕ) → (ℕ → ℕ) → State → State → ℕ → Request → List ℕ → Type 0
+IsUnanswered growth room before after moment q body =
+    Follows growth before after NoEntry
+    ⊎ ((e : Entry) × IsReply room before.history before.keeper.end moment q body (Failed e) (refused KeeperFault) × Follows growth before after (Failed e))
+
+-- ---- how a session ends
+
+-- the connection is open after this progress, and these bytes of the input are pending
+pub record IsAt (first : Output) (now : Scene) (pending : List ℕ) (p : Progress) : Type 0 where
+  pub open_yet : p.closed ≡ false
+  pub input : prepend_known pending now.input ≡ Some p.left
+  pub written : Writes first now.output p.written
+
+-- all that this progress has written was sent, and the log is the one that was seen, or goes on from there
+pub record IsDone (w : Setting) (first now : Output) (log : Log) (p : Progress) : Type 0 where
+  pub written : Writes first now p.written
+  pub later : Goes w.by p.log log
+
+-- one more exchange, at which nothing was kept, or none
+abbrev pub IsUnkept : Setting → Progress → Option Exchange → Type 0
+IsUnkept w p None = Unit {0}
+IsUnkept w p (Some x) = IsExchange w p x × (kept_in x.outcome ≡ [])
+
+-- the progress after one more exchange, or the same
+abbrev pub after_maybe : Setting → Progress → Option Exchange → Progress
+after_maybe w p None = p
+after_maybe w p (Some x) = after w p x
+
+-- a read failed, and no request and no refusal stands in the bytes that were read
+pub record IsUnread (w : Setting) (first : Output) (now : Scene) (log : Log) (p : Progress) : Type 0 where
+  pub pending : List ℕ
+  pub at : IsAt first now pending p
+  pub lacks : LacksRequest HEAD_LIMIT MOST_FIELDS pending
+  pub later : Goes w.by p.log log
+
+-- a reply was begun, and a write failed
+pub record IsBrokenOff (w : Setting) (first now : Output) (log : Log) (p : Progress) : Type 0 where
+  pub exchange : Exchange
+  pub next : IsExchange w p exchange
+  pub later : Goes w.by (after w p exchange).log log
+  pub broken : BreaksOff first now p.written (text_of p.count exchange)
+
+-- out of memory: nothing was kept, and instead of a reply the other side was told so, unless a write failed
+pub record IsGivenUp (w : Setting) (first now : Output) (log : Log) (p : Progress) : Type 0 where
+  pub more : Option Exchange
+  pub open_yet : p.closed ≡ false
+  pub next : IsUnkept w p more
+  pub later : Goes w.by (after_maybe w p more).log log
+  pub told : WritesUnlessFailed first now p.written memory_text
+
+-- a session ends so after this progress
+abbrev pub Finishes : Setting → Output → Scene → Log → Progress → SessionEnd → Type 0
+Finishes w first now log p End = (p.closed ≡ false) × StandsAtFront p.left arrivals.End × IsDone w first now.output log p
+Finishes w first now log p Closed = (p.closed ≡ true) × IsDone w first now.output log p
+Finishes w first now log p CutShort = IsCutShort p × IsDone w first now.output log p
+Finishes w first now log p ReadFault = IsUnread w first now log p
+Finishes w first now log p WriteFault = IsBrokenOff w first now.output log p
+Finishes w first now log p Memory = IsGivenUp w first now.output log p
+
+-- a session ended so over this input and this log, from what was seen of it
+pub record Serves (w : Setting) (seen : Log) (first : Output) (now : Scene) (log : Log) (ending : SessionEnd) (input : List ℕ) : Type 0 where
+  pub exchanges : List Exchange
+  pub each : Converses w (beginning input seen) exchanges
+  pub ends : Finishes w first now log (progress w (beginning input seen) exchanges) ending
+
+-- A session ended so: the machine stands for a log that goes on from what was seen, and if the input is told, what was
+-- read and written is one conversation over it.
+abbrev pub EndsSession : Setting → Log → Scene → Scene → State → SessionEnd → Type 0
+EndsSession w seen first now state ending =
+    (log : Log) × HoldsSince w.base w.by seen state log × IfSome first.input (Serves w seen first.output now log ending)
+
+-- one exchange went well and the connection goes on, or a session ended so
+abbrev pub Steps : Setting → Output → Scene → Log → List ℕ → Progress → Option SessionEnd → Type 0
+Steps w first now log pending p None =
+    (x : Exchange) × IsExchange w p x × ((after w p x).log ≡ log) × IsAt first now pending (after w p x)
+Steps w first now log pending p (Some Closed) = (x : Exchange) × IsExchange w p x × Finishes w first now log (after w p x) Closed
+Steps w first now log pending p (Some End) = Finishes w first now log p End
+Steps w first now log pending p (Some CutShort) = Finishes w first now log p CutShort
+Steps w first now log pending p (Some ReadFault) = Finishes w first now log p ReadFault
+Steps w first now log pending p (Some WriteFault) = Finishes w first now log p WriteFault
+Steps w first now log pending p (Some Memory) = Finishes w first now log p Memory
+
+-- from each progress whose log and count these are
+abbrev pub StepsOn : Setting → Log → ℕ → Scene → List ℕ → Scene → List ℕ → Log → Option SessionEnd → Type 0
+StepsOn w seen count before old now pending log ending =
+    (first : Output) (p : Progress) → p.log ≡ seen → p.count ≡ count → IsAt first before old p → Steps w first now log pending p ending
+
+-- what one exchange does, after so many: the log goes on, and the machine stands for it
+abbrev pub Exchanges : Setting → Log → ℕ → Scene → List ℕ → Scene → List ℕ → State → Option SessionEnd → Type 0
+Exchanges w seen count before old now pending state ending =
+    (log : Log) × HoldsSince w.base w.by seen state log × StepsOn w seen count before old now pending log ending
+
+-- how many reads failed, and how many writes
+pub record Faults : Type 0 where
+  pub reads : ℕ
+  pub writes : ℕ
+
+-- the counts of these
+abbrev pub faults_of : ℕ → ℕ → Faults
+faults_of reads writes = record { reads = reads; writes = writes }
+
+-- an end that tells of a fault has its cause: that count rose by one, and no other did
+abbrev pub IsCaused : Faults → Faults → SessionEnd → Type 0
+IsCaused before now End = now ≡ before
+IsCaused before now CutShort = now ≡ before
+IsCaused before now Closed = now ≡ before
+IsCaused before now ReadFault = now ≡ record before { reads = next_count before.reads }
+IsCaused before now WriteFault = now ≡ record before { writes = next_count before.writes }
+IsCaused before now Memory = (now ≡ before) ⊎ (now ≡ record before { writes = next_count before.writes })
+
+-- a step that goes on counts no fault
+abbrev pub IsCounted : Faults → Faults → Option SessionEnd → Type 0
+IsCounted before now None = now ≡ before
+IsCounted before now (Some ending) = IsCaused before now ending
+
+-- ---- the program
+
+-- the statuses of the program
+abbrev pub is_status : ℕ → Bool
+is_status status = list_any (λ s. s == status) (0 ∷ 2 ∷ 6 ∷ 7 ∷ 8 ∷ 12 ∷ [])
+
+-- the status of each end of a session
+abbrev pub status_of : SessionEnd → ℕ
+status_of End = 0
+status_of Closed = 0
+status_of CutShort = 8
+status_of ReadFault = 6
+status_of WriteFault = 7
+status_of Memory = 12
+
+-- a session ended with this status, or none began since there was no memory
+abbrev pub RunsTo : Setting → State → Scene → Scene → State → ℕ → Type 0
+RunsTo w opened first now state status =
+    ((ending : SessionEnd) × (status ≡ status_of ending) × EndsSession w (given opened.history) first now state ending)
+    ⊎ ((status ≡ 12) × (now ≡ first) × (state ≡ opened))
+
+-- the whole conversation over this input was held: each request has its reply, and nothing else was written
+pub record Talks (w : Setting) (seen : Log) (first : Output) (now : Scene) (log : Log) (input : List ℕ) : Type 0 where
+  pub exchanges : List Exchange
+  pub each : Converses w (beginning input seen) exchanges
+  pub over : IsOver (progress w (beginning input seen) exchanges)
+  pub done : IsDone w first now.output log (progress w (beginning input seen) exchanges)
+
+-- it was, if the input is told, over a log that the machine stands for
+abbrev pub TalksIfTold : Setting → Log → Scene → Scene → State → Type 0
+TalksIfTold w seen first now state = (log : Log) × HoldsSince w.base w.by seen state log × IfSome first.input (Talks w seen first.output now log)
+
+-- A run with this status has its cause: the count of failed reads rose exactly at 6, that of failed writes at 7 and not at
+-- 0, 6 and 8.
+pub record HasCauses (before now : Faults) (status : ℕ) : Type 0 where
+  pub reads : now.reads ≡ (if status == 6 then next_count before.reads else before.reads)
+  pub writes : (now.writes ≡ before.writes) ⊎ (now.writes ≡ next_count before.writes)
+  pub failed : status ≡ 7 → now.writes ≡ next_count before.writes
+  pub calm : (status ≡ 0) ⊎ ((status ≡ 6) ⊎ (status ≡ 8)) → now.writes ≡ before.writes
+
+-- a text was printed at status 0, and a prefix of it at 7, if a write failed
+abbrev pub Prints : Output → Output → List ℕ → ℕ → Type 0
+Prints before now text status = ((status ≡ 0) × Writes before now text) ⊎ ((status ≡ 7) × BreaksOff before now [] text)

@@ -1,0 +1,4 @@
+pub mod Commands
+pub mod Conversations
+pub mod Endings
+pub mod Usage

@@ -1,0 +1,68 @@
+//! The answer to a request.
+
+ghost use Rattle.std.specs.Prelude.{◌≡◌, IfOk, OnErr, false};
+ghost use Rattle.fedi_log.specs.Keeping.{state_of};
+ghost use Rattle.fedi_model.specs.Refusing.{refused};
+ghost use Rattle.fedi_model.specs.ReplyText.{reply_text};
+ghost use Rattle.fedi_program.specs.Endings.{IsAnswerText, IsUnanswered};
+
+use fedi_core::{Core, Decision, KeepError, KeepFault};
+use fedi_http::reply_bytes;
+use fedi_model::{Refusal, Request, refusal_reply};
+use fedi_objects::Moment;
+use fedi_outside::Keeper;
+use fedi_routes::{credentials, route};
+use std::alloc::{AllocError, Global};
+
+/// The text of the reply that tells a refusal; the connection is told to close if `closing`. The error
+/// is out of memory.
+pub fn refusal_text(
+    alloc: Global,
+    refusal: Refusal,
+    moment: Moment,
+    closing: bool,
+) -> Result<Vec<u8>, AllocError>
+    ensures { IfOk result (λ text. text.items ≡ reply_text moment false closing (refused refusal)) }
+{
+    reply_bytes(alloc, &refusal_reply(refusal), moment, false, closing)
+}
+
+/// Answers a request that has this body in one turn of the machine, and hands back the text of the
+/// reply; the connection is told to close if `closing`. The reply to a post is made before the post is
+/// kept. The error is out of memory, and then nothing was kept.
+pub fn answer<P: Keeper>(
+    alloc: Global,
+    core: &mut Core<P>,
+    request: &Request,
+    body: &[u8],
+    moment: Moment,
+    closing: bool,
+) -> Result<Vec<u8>, AllocError>
+    ensures text { IfOk result (λ text. IsAnswerText P.growth P.room
+        (state_of core.old.history (P.shown core.old.keeper))
+        (state_of core.new.history (P.shown core.new.keeper))
+        moment request.now body.now closing text.items) }
+    ensures unanswered { OnErr result (IsUnanswered P.growth P.room
+        (state_of core.old.history (P.shown core.old.keeper))
+        (state_of core.new.history (P.shown core.new.keeper))
+        moment request.now body.now) }
+{
+    let caller = match core.caller_of(&credentials(request, body)) {
+        Ok(caller) => caller,
+        Err(refusal) => return refusal_text(alloc, refusal, moment, closing),
+    };
+    let ask = route(alloc, request, body)?;
+    let Decision { reply, entry } = core.decide(alloc, &caller, ask, moment)?;
+    let text = reply_bytes(alloc, &reply, moment, false, closing)?;
+    let Some(entry) = entry else {
+        return Ok(text);
+    };
+    match core.keep(alloc, entry) {
+        Ok(()) => Ok(text),
+        Err(KeepError { fault, .. }) => match fault {
+            KeepFault::Full => refusal_text(alloc, Refusal::JournalFull, moment, closing),
+            KeepFault::Failed => refusal_text(alloc, Refusal::KeeperFault, moment, closing),
+            KeepFault::Memory => Err(AllocError),
+        },
+    }
+}

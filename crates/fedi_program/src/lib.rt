@@ -1,0 +1,23 @@
+//! The program over whatever lies outside: its commands, the sessions that it serves, and the adapters to the real input,
+//! output and clock.
+#![tactic(auto)]
+
+mod adapters;
+mod answers;
+mod commands;
+mod connection;
+mod laws;
+mod running;
+mod sessions;
+mod usage;
+
+pub use adapters::{Reading, SystemClock, Writing};
+pub use answers::answer;
+pub use commands::{Command, command_of};
+pub use connection::Connection;
+pub use laws::{
+    conversations_are_determined, conversations_have_no_gaps, conversations_own_their_items,
+    conversations_stand_in_the_log, conversations_stay, failures_are_marked,
+};
+pub use running::{Ended, OUT_OF_MEMORY, run};
+pub use sessions::{SessionEnd, session};
