@@ -45,6 +45,7 @@ pub record Scene : Type 0 where
   pub input : Option (List ℕ)
   pub output : Output
 
+-- the scene of these
 abbrev pub scene_of : Option (List ℕ) → Output → Scene
 scene_of input output = record { input = input; output = output }
 
