@@ -537,6 +537,9 @@ const RECORD: &str =
 const ACTIVITY: &str =
     "HTTP/1.1 200 OK\r\nDate: Sun, 06 Nov 1994 08:49:37 GMT\r\nContent-Type: application/activity+json\r\nContent-Length: 566\r\n\r\n{\"@context\":\"https://www.w3.org/ns/activitystreams\",\"actor\":\"https://club.example/users/ana\",\"id\":\"https://club.example/users/ana/a/1\",\"object\":{\"attributedTo\":\"https://club.example/users/ana\",\"content\":\"Hello\",\"id\":\"https://club.example/users/ana/o/1\",\"likes\":\"https://club.example/users/ana/o/1/likes\",\"published\":\"1994-11-06T08:49:37Z\",\"shares\":\"https://club.example/users/ana/o/1/shares\",\"to\":[\"https://www.w3.org/ns/activitystreams#Public\"],\"type\":\"Note\"},\"published\":\"1994-11-06T08:49:37Z\",\"to\":[\"https://www.w3.org/ns/activitystreams#Public\"],\"type\":\"Create\"}";
 
+const PSST_ACTIVITY: &str =
+    "HTTP/1.1 200 OK\r\nDate: Sun, 06 Nov 1994 08:49:37 GMT\r\nContent-Type: application/activity+json\r\nContent-Length: 457\r\n\r\n{\"@context\":\"https://www.w3.org/ns/activitystreams\",\"actor\":\"https://club.example/users/ana\",\"id\":\"https://club.example/users/ana/a/1\",\"object\":{\"attributedTo\":\"https://club.example/users/ana\",\"content\":\"Psst\",\"id\":\"https://club.example/users/ana/o/1\",\"likes\":\"https://club.example/users/ana/o/1/likes\",\"published\":\"1994-11-06T08:49:37Z\",\"shares\":\"https://club.example/users/ana/o/1/shares\",\"type\":\"Note\"},\"published\":\"1994-11-06T08:49:37Z\",\"type\":\"Create\"}";
+
 const PSST: &str =
     "HTTP/1.1 200 OK\r\nDate: Sun, 06 Nov 1994 08:49:37 GMT\r\nContent-Type: application/activity+json\r\nContent-Length: 312\r\n\r\n{\"@context\":\"https://www.w3.org/ns/activitystreams\",\"attributedTo\":\"https://club.example/users/ana\",\"content\":\"Psst\",\"id\":\"https://club.example/users/ana/o/1\",\"likes\":\"https://club.example/users/ana/o/1/likes\",\"published\":\"1994-11-06T08:49:37Z\",\"shares\":\"https://club.example/users/ana/o/1/shares\",\"type\":\"Note\"}";
 
@@ -564,8 +567,10 @@ const POST_CLEO: &str = "POST /users/cleo/outbox HTTP/1.1\r\nHost: club.example\
 
 const POST_DAN: &str = "POST /users/dan/outbox HTTP/1.1\r\nHost: club.example\r\n";
 
-/// What a reading of ana's first object begins with.
-const GET_FIRST: &str = "GET /users/ana/o/1 HTTP/1.1\r\nHost: club.example\r\n";
+/// What readings of ana's first object and of her first activity begin with.
+const GET_OBJECT: &str = "GET /users/ana/o/1 HTTP/1.1\r\nHost: club.example\r\n";
+
+const GET_ACTIVITY: &str = "GET /users/ana/a/1 HTTP/1.1\r\nHost: club.example\r\n";
 
 /// The end of a post of a public note, and that of a note to ben alone.
 const HELLO: &str =
@@ -576,31 +581,28 @@ const WHISPER: &str =
 
 /// Conversations with a town without posts: what is sent, what is replied, and how many entries are kept.
 const CONVERSATIONS: [(&[&str], &[&str], usize); 4] = [
-    (
-        &[
-            NOTE,
-            "GET /users/ana/a/1 HTTP/1.1\r\nHost: club.example\r\n\r\n",
-        ],
-        &[FIRST, ACTIVITY],
-        1,
-    ),
+    (&[NOTE, GET_ACTIVITY, "\r\n"], &[FIRST, ACTIVITY], 1),
     (
         &[
             POST_ANA,
             ANA,
             WHISPER,
-            GET_FIRST,
+            GET_OBJECT,
             ANA,
             "\r\n",
-            GET_FIRST,
+            GET_OBJECT,
             BEN,
             "\r\n",
-            GET_FIRST,
+            GET_OBJECT,
             CLEO,
             "\r\n",
-            "GET /users/ana/a/1 HTTP/1.1\r\nHost: club.example\r\n\r\n",
+            GET_ACTIVITY,
+            BEN,
+            "\r\n",
+            GET_ACTIVITY,
+            "\r\n",
         ],
-        &[FIRST, PSST, PSST, NOT_FOUND, NOT_FOUND],
+        &[FIRST, PSST, PSST, NOT_FOUND, PSST_ACTIVITY, NOT_FOUND],
         1,
     ),
     (
@@ -839,8 +841,13 @@ const WRONG_MAC: &str =
     "HTTP/1.1 401 Unauthorized\r\nDate: Sun, 06 Nov 1994 08:49:37 GMT\r\nWWW-Authenticate: Bearer\r\nContent-Type: application/json\r\nContent-Length: 20\r\nConnection: close\r\n\r\n{\"error\":\"WrongMac\"}";
 
 /// A target, further lines of the last request of a connection, and the reply.
-const SIGHTS: [(&str, &str, &str); 29] = [
+const SIGHTS: [(&str, &str, &str); 33] = [
     ("/users/ana/o/1", "", HELLO_LAST),
+    (
+        "/users/ana/o/1",
+        "Accept: a\r\nAccept: b\r\nContent-Type: a\r\nIdempotency-Key: b\r\n",
+        HELLO_LAST,
+    ),
     ("/users/ana/o/1?page=2", "", HELLO_LAST),
     ("/users/ana/o/1", CLEO, HELLO_LAST),
     ("/users/ana/o/2", ANA, PSST_LAST),
@@ -853,6 +860,9 @@ const SIGHTS: [(&str, &str, &str); 29] = [
     ("/users/ana/o/2", CLEO, NOT_FOUND_LAST),
     ("/users/ana/o/2", DAN, NOT_FOUND_LAST),
     ("/users/ana/o/2", "", NOT_FOUND_LAST),
+    ("/users/ana/a/2", "", NOT_FOUND_LAST),
+    ("/users/ana/a/2", CLEO, NOT_FOUND_LAST),
+    ("/users/ana/a/3", ANA, NOT_FOUND_LAST),
     ("/users/ana/o/3", "", NOT_FOUND_LAST),
     ("/users/ben/o/1", "", NOT_FOUND_LAST),
     ("/users/eve/o/1", "", NOT_FOUND_LAST),
