@@ -1,0 +1,16 @@
+-- Lists in which each thing stands once.
+use Rattle.std.specs.Prelude.{ℕ, Bool, not, List, [], ◌∷◌, filter}
+use Rattle.std.specs.Str.{bytes_eq}
+
+-- it is another than this
+unfoldable pub is_other : {A : Type 0} → (A → A → Bool) → A → A → Bool
+is_other same x y = not (same x y)
+
+-- the first of each: an element, and of the firsts after it those that are others
+abbrev pub firsts : {A : Type 0} → (A → A → Bool) → List A → List A
+firsts same [] = []
+firsts same (x ∷ xs) = x ∷ filter (is_other same x) (firsts same xs)
+
+-- each text once, where it stands first
+abbrev pub each_once : List (List ℕ) → List (List ℕ)
+each_once texts = firsts bytes_eq texts
