@@ -1,0 +1,12 @@
+pub mod Texts
+pub mod Finding
+pub mod Kept
+pub mod Lists
+pub mod Members
+pub mod Paths
+pub mod Steps
+pub mod Quiet
+pub mod Grounded
+pub mod Inboxes
+pub mod Told
+pub mod Unseen
