@@ -10,3 +10,11 @@ pub mod Grounded
 pub mod Inboxes
 pub mod Told
 pub mod Unseen
+pub mod Answered
+pub mod Reached
+pub mod Alike
+pub mod Due
+pub mod IdsOnce
+pub mod MadeOnce
+pub mod Posted
+pub mod Sound
