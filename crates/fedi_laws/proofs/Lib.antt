@@ -18,3 +18,9 @@ pub mod IdsOnce
 pub mod MadeOnce
 pub mod Posted
 pub mod Sound
+pub mod Pages
+pub mod Privacy
+pub mod People
+pub mod Isolation
+pub mod IdsTown
+pub mod Next
