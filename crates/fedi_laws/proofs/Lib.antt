@@ -24,3 +24,4 @@ pub mod People
 pub mod Isolation
 pub mod IdsTown
 pub mod Next
+pub mod Clean
