@@ -56,7 +56,7 @@ second : (a b : Bool) → (a && b) ≡ true → b ≡ true
 second true b e = e
 second false b e = absurd cc
 
-about_it : (id : List ℕ) (m : Act) → makes id m ≡ true → ref_id m.activity.object ≡ Some id
+pub about_it : (id : List ℕ) (m : Act) → makes id m ≡ true → ref_id m.activity.object ≡ Some id
 unfolding makes is_about
 about_it id m made = it_is id (ref_id m.activity.object) (second (is_create (deed m) && is_done m.state) (is_id id (ref_id m.activity.object)) made)
 

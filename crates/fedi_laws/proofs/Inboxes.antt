@@ -103,7 +103,7 @@ carried-inbox : (id owner : List ℕ) (m : Option Act) → object_of (option_map
 carried-inbox id owner None = refl
 carried-inbox id owner (Some y) = also-same (λ z. object_of (Some z)) id owner y refl
 
-maker-inbox : (t : Town) (id owner : List ℕ) (i : Option (List ℕ)) → object_of (maker_of (with_owner t id owner) i) ≡ object_of (maker_of t i)
+pub maker-inbox : (t : Town) (id owner : List ℕ) (i : Option (List ℕ)) → object_of (maker_of (with_owner t id owner) i) ≡ object_of (maker_of t i)
 maker-inbox t id owner None = refl
 maker-inbox t id owner (Some i) =
     ap (λ (m : Option Act). object_of m) (find-through (with_recipient id owner) (makes i) (makes i) (made-inbox i id owner) t.acts)

@@ -25,3 +25,4 @@ pub mod Isolation
 pub mod IdsTown
 pub mod Next
 pub mod Clean
+pub mod Replaying

@@ -62,12 +62,12 @@ new_made t local author d r id made =
     let inner = and_parts (is_create d) (is_done (state_with t local author d (is_whole r) (ref_id r))) parts.0 in
     new_by t local author d (is_whole r) (ref_id r) id inner.0 inner.1 parts.1
 
-local_new : (t : Town) (host name : List ℕ) (repeat : Option (List ℕ × List ℕ)) (a : Activity) (moment : ℕ) (id : List ℕ)
+pub local_new : (t : Town) (host name : List ℕ) (repeat : Option (List ℕ × List ℕ)) (a : Activity) (moment : ℕ) (id : List ℕ)
     → makes id (local_act t host name repeat a moment) ≡ true → list_any (makes id) t.acts ≡ false
 unfolding makes is_about
 local_new t host name repeat a moment id made = new_made t true _ (deed_of a.kind) _ id made
 
-remote_new : (t : Town) (owner author : List ℕ) (a : Activity) (moment : ℕ) (id : List ℕ)
+pub remote_new : (t : Town) (owner author : List ℕ) (a : Activity) (moment : ℕ) (id : List ℕ)
     → makes id (remote_act t owner author a moment) ≡ true → list_any (makes id) t.acts ≡ false
 unfolding makes is_about
 remote_new t owner author a moment id made = new_made t false author (deed_of a.kind) a.object id (rw (ref_id-received author moment a.object) at made)

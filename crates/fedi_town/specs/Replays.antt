@@ -31,8 +31,8 @@ acts_from t [] = []
 acts_from t (e ∷ entries) = acts_in (addition_of t e) ++ acts_from (step t e) entries
 
 -- the activities of a history, each as it was accepted
-abbrev pub accepted_acts : List Entry → List Act
-accepted_acts history = acts_from empty_town history
+abbrev pub acts_of : List Entry → List Act
+acts_of history = acts_from empty_town history
 
 -- ---- the object
 
@@ -45,20 +45,20 @@ unfoldable pub deletes : List ℕ → Act → Bool
 deletes id x = (is_delete (deed x) && is_done x.state) && is_about id x
 
 -- the object of this id after one more activity, where there was none: a Create that is done makes it
-abbrev pub made_by : List ℕ → Act → Option Object
-made_by id x = if makes id x then whole_of x.activity.object else None
+abbrev pub first_form : List ℕ → Act → Option Object
+first_form id x = if makes id x then whole_of x.activity.object else None
 
 -- where there was one: an Update that is done changes it, and a Delete that is done leaves a Tombstone
-abbrev pub changed_by : List ℕ → Act → Object → Object
-changed_by id x o =
+abbrev pub next_form : List ℕ → Act → Object → Object
+next_form id x o =
     if updates id x then update_object x.activity.object (moment_text x.moment) o else (
     if deletes id x then tombstone_of (codes "Tombstone") (moment_text x.moment) o else o)
 
 -- the object after one more activity
-abbrev pub replay_one : List ℕ → Option Object → Act → Option Object
-replay_one id None x = made_by id x
-replay_one id (Some o) x = Some (changed_by id x o)
+abbrev pub replay_act : List ℕ → Option Object → Act → Option Object
+replay_act id None x = first_form id x
+replay_act id (Some o) x = Some (next_form id x o)
 
 -- the object of this id after all these activities
 abbrev pub replay : List ℕ → List Act → Option Object
-replay id acts = fold (replay_one id) None acts
+replay id acts = fold (replay_act id) None acts
