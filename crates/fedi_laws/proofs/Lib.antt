@@ -26,3 +26,4 @@ pub mod IdsTown
 pub mod Next
 pub mod Clean
 pub mod Replaying
+pub mod Burial

@@ -208,7 +208,7 @@ choice_forms true z id p e = e
 choice_forms false z id p e = refl
 
 -- the answer makes and changes no object
-answers_forms : (t : Town) (x : Act) (id : List ℕ) (p : Option Object) → fold (replay_act id) p (answers t x) ≡ p
+pub answers_forms : (t : Town) (x : Act) (id : List ℕ) (p : Option Object) → fold (replay_act id) p (answers t x) ≡ p
 answers_forms t x id p =
     choice_forms (is_follow (deed x) && is_accepted x.state) (accept_for t.host t x (followee t (ref_id x.activity.object))) id p
     (found_forms t.host t x (followee t (ref_id x.activity.object)) id p)
@@ -341,7 +341,7 @@ member_replays : (host : Option (List ℕ)) (t : Town) (name digest : List ℕ) 
 member_replays None t name digest locked id = refl
 member_replays (Some host) t name digest locked id = refl
 
-step_replays : (t : Town) (e : Entry) (id : List ℕ) → object_at (step t e) id ≡ fold (replay_act id) (object_at t id) (acts_in (addition_of t e))
+pub step_replays : (t : Town) (e : Entry) (id : List ℕ) → object_at (step t e) id ≡ fold (replay_act id) (object_at t id) (acts_in (addition_of t e))
 step_replays t (Hosted host moment) id = refl
 step_replays t (Made name digest locked moment) id = member_replays t.host t name digest locked id
 step_replays t (PeerSet host key address relay moment) id = refl
