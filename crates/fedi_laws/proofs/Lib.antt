@@ -27,3 +27,6 @@ pub mod Next
 pub mod Clean
 pub mod Replaying
 pub mod Burial
+pub mod InFollows
+pub mod InObjects
+pub mod InPeers

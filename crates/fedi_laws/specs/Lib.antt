@@ -1,0 +1,4 @@
+pub mod Fixture
+pub mod WorkedFollows
+pub mod WorkedObjects
+pub mod WorkedPeers
