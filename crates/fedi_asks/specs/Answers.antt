@@ -1,7 +1,7 @@
 -- What a request may be answered, before it is written as HTTP.
 use Rattle.std.specs.Prelude.{ℕ, List, Option, Some, None}
 use Rattle.serde_json.specs.Data.{Data}
-use Rattle.fedi_address.specs.declared.refusal.Refusal.{Refusal}
+use Rattle.fedi_town.specs.declared.refusal.Refusal.{Refusal}
 use Rattle.fedi_reading.specs.declared.shape_fault.ShapeFault.{ShapeFault}
 use Rattle.fedi_asks.specs.declared.ask.Allow.{Allow}
 

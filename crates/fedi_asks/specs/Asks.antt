@@ -1,6 +1,6 @@
 -- The answer to an ask, and the entry that it makes (ActivityPub, sections 3.2, 5, 6 and 7).
 use Rattle.std.specs.Prelude.{◌≡◌, ℕ, Bool, true, List, Option, Some, None, option_map}
-use Rattle.fedi_address.specs.declared.refusal.Refusal.TheVariants.{NotFound}
+use Rattle.fedi_town.specs.declared.refusal.Refusal.TheVariants.{NotFound}
 use Rattle.fedi_objects.specs.declared.activity.Activity as activities
 use Rattle.fedi_objects.specs.declared.entry.Entry.{Entry}
 use Rattle.fedi_town.specs.declared.caller.Caller.{Caller}

@@ -2,8 +2,8 @@
 use Rattle.std.specs.Prelude.{ℕ, ◌+◌, Bool, true, false, not, nat_lt, List, Option, Some, None, option_map, if◌then◌else◌}
 use Rattle.std.specs.List.{find}
 use Rattle.std.specs.Str.{bytes_eq}
-use Rattle.fedi_address.specs.declared.refusal.Refusal.{Refusal}
-use Rattle.fedi_address.specs.declared.refusal.Refusal.TheVariants.{NotFound, BadQuery, NoKey, NotOwner, WrongType, BadBody, KeyReused, ActorFull, NotOrigin}
+use Rattle.fedi_town.specs.declared.refusal.Refusal.{Refusal}
+use Rattle.fedi_town.specs.declared.refusal.Refusal.TheVariants.{NotFound, BadQuery, NoKey, NotOwner, WrongType, BadBody, KeyReused, ActorFull, NotOrigin}
 use Rattle.fedi_objects.specs.declared.activity.Activity.{Activity}
 use Rattle.fedi_objects.specs.declared.entry.Entry.{Entry}
 use Rattle.fedi_objects.specs.declared.entry.Entry.TheVariants.{Local, Remote}

@@ -11,7 +11,7 @@ use Rattle.fedi_laws.proofs.Lists.{find-none}
 use Rattle.fedi_town.specs.Deeds.{is_create, is_update, is_done}
 use Rattle.fedi_town.specs.Objects.{makes, maker, maker_of, whole_of, is_buried, is_tombstone_in, object_of}
 use Rattle.fedi_town.specs.Relations.{ref_id, is_id, is_about, has_activity_id}
-use Rattle.fedi_town.specs.Showing.{shown, shown_ref, shown_activity, present_object, object_or_id, ref_to, stripped_object}
+use Rattle.fedi_town.specs.Showing.{sight_of, shown_ref, shown_activity, present_object, object_or_id, ref_to, stripped_object}
 use Rattle.fedi_town.specs.Towns.{Town, is_by, deed}
 use Rattle.fedi_town.specs.declared.act.Act.{Act}
 use Rattle.fedi_town.specs.declared.caller.Caller.{Caller}
@@ -113,12 +113,12 @@ same_buried : (a b : Bool) (r : ObjectRef) (y : Option Object) (id : Option (Lis
 same_buried true b r y id = buried_present (whole_of r) id
 same_buried false b r y id = refl
 
-shown_buried : (t : Town) (c : Caller) (x : Act) → is_buried (shown t c x) ≡ is_buried x
-unfolding is_buried shown shown_activity shown_ref present_object
+shown_buried : (t : Town) (c : Caller) (x : Act) → is_buried (sight_of t c x) ≡ is_buried x
+unfolding is_buried sight_of shown_activity shown_ref present_object
 shown_buried t c x = same_buried (is_create (deed x) && is_done x.state) (is_update (deed x) && is_done x.state) x.activity.object _ (ref_id x.activity.object)
 
-pub shown_alike : (t : Town) (c : Caller) (x : Act) → IsAlike x (shown t c x)
-unfolding shown shown_activity
+pub shown_alike : (t : Town) (c : Caller) (x : Act) → IsAlike x (sight_of t c x)
+unfolding sight_of shown_activity
 shown_alike t c x = record {
   author = refl; kind = refl; own = refl; state = refl; is_public = refl;
   about = shown_named t x;

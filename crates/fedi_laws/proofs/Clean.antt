@@ -8,8 +8,8 @@ use Rattle.std.specs.Cmp.Lexicographic.{slice_cmp}
 use Rattle.std.specs.Str.{bytes_eq}
 use Rattle.serde_json.specs.Data.{Data, Num, unsigned, number, string, array, object, Items, item, Members, no_members, member, put}
 use Rattle.serde_json.specs.View.{items_of}
-use Rattle.fedi_address.specs.declared.refusal.Refusal.{Refusal}
-use Rattle.fedi_address.specs.declared.refusal.Refusal.TheVariants.{NotFound, BadQuery, ActorFull, KeyReused, NotOrigin}
+use Rattle.fedi_town.specs.declared.refusal.Refusal.{Refusal}
+use Rattle.fedi_town.specs.declared.refusal.Refusal.TheVariants.{NotFound, BadQuery, ActorFull, KeyReused, NotOrigin}
 use Rattle.fedi_address.specs.Recipients.{is_among}
 use Rattle.fedi_objects.specs.Forms.{is_open, is_clean, items_are_clean, members_are_clean, with_context, activity_form, object_form, is_tombstone}
 use Rattle.fedi_objects.specs.declared.object.Object as objects

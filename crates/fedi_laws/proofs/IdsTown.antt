@@ -34,7 +34,7 @@ use Rattle.fedi_town.specs.Objects.{is_whole}
 use Rattle.fedi_town.specs.Relations.{ref_id, has_activity_id, is_actor, has_block_between}
 use Rattle.fedi_town.specs.Shapes.{is_delivered, is_posted}
 use Rattle.fedi_town.specs.States.{state_of, state_with, state_about, follow_state, has_room, is_locked, only_where}
-use Rattle.fedi_town.specs.Towns.{Town, deed, empty_town, has_id, is_named, is_by, has_host, id_of, count_of, count_after}
+use Rattle.fedi_town.specs.Towns.{Town, deed, empty_town, has_id, has_name, is_by, has_host, id_of, count_of, count_after}
 use Rattle.fedi_town.specs.declared.act.Act.{Act}
 use Rattle.fedi_town.specs.declared.act.Actor.{Actor}
 use Rattle.fedi_town.specs.declared.act.Peer.{Peer}
@@ -250,7 +250,7 @@ found_any p (x ∷ xs) id e =
 poster_name : (t : Town) (host name : List ℕ) (repeat : Option (List ℕ × List ℕ)) (a : Activity) (id : Option (List ℕ)) → list_all (is_member (Some host)) t.actors ≡ true
     → id_of t name ≡ id → may_post t name repeat a id ≡ true → is_name name ≡ true
 poster_name t host name repeat a None all is ok = absurd cc
-poster_name t host name repeat a (Some author) all is ok = named_is name (Some host) t.actors all (found_any (is_named name) t.actors author is)
+poster_name t host name repeat a (Some author) all is ok = named_is name (Some host) t.actors all (found_any (has_name name) t.actors author is)
 
 set_already : (own : Option (List ℕ)) (host : List ℕ) → own ≡ Some host → is_none own ≡ true → ⊥
 set_already None host is e = absurd cc
@@ -296,7 +296,7 @@ step_at t host (Tried activity recipient came moment) s ok h = rw s.hosted h
 
 -- ---- before the server was set up
 
-no_members : (xs : List Actor) → list_all (is_member None) xs ≡ true → (name : List ℕ) → option_map (λ a. a.id) (find (is_named name) xs) ≡ None
+no_members : (xs : List Actor) → list_all (is_member None) xs ≡ true → (name : List ℕ) → option_map (λ a. a.id) (find (has_name name) xs) ≡ None
 no_members [] all name = refl
 no_members (x ∷ xs) all name = absurd (let first : is_member None x ≡ true = (and_parts (is_member None x) (list_all (is_member None) xs) all).0 in cc)
 

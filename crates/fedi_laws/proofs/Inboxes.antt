@@ -13,7 +13,7 @@ use Rattle.fedi_town.specs.Histories.{with_recipient}
 use Rattle.fedi_town.specs.Objects.{makes, maker_of, object_of}
 use Rattle.fedi_town.specs.Relations.{ref_id, has_activity_id, is_id, is_about, is_block_of, blocks, has_block_between}
 use Rattle.fedi_town.specs.Seeing.{sees, sees_as, sees_with, seen, reaches, is_of_peer}
-use Rattle.fedi_town.specs.Showing.{shown, shown_ref, shown_activity, present_object, object_or_id, ref_to, id_of_caller, own_among, view}
+use Rattle.fedi_town.specs.Showing.{sight_of, shown_ref, shown_activity, present_object, object_or_id, ref_to, id_of_caller, own_among, view}
 use Rattle.fedi_town.specs.Towns.{Town, id_of, is_by, deed}
 use Rattle.fedi_town.specs.declared.act.Act.{Act}
 use Rattle.fedi_town.specs.declared.caller.Caller.{Caller}
@@ -120,21 +120,21 @@ ref-inbox t id owner y =
     also-same (shown_ref (with_owner t id owner)) id owner y refl ∙ rw (maker-inbox t id owner (ref_id y.activity.object)) refl
 
 shown_to-inbox : (t : Town) (id owner : List ℕ) (c : Caller) (y : Act) → own_among (id_of_caller t c) (with_recipient id owner y).recipients ≡ own_among (id_of_caller t c) y.recipients
-    → id_of_caller (with_owner t id owner) c ≡ id_of_caller t c → shown (with_owner t id owner) c (with_recipient id owner y) ≡ shown t c y
-unfolding shown shown_activity
+    → id_of_caller (with_owner t id owner) c ≡ id_of_caller t c → sight_of (with_owner t id owner) c (with_recipient id owner y) ≡ sight_of t c y
+unfolding sight_of shown_activity
 shown_to-inbox t id owner c y own me =
     rw (me, own, ref-inbox t id owner y, also-same (λ z. z.author) id owner y refl, also-same (λ z. z.activity) id owner y refl,
     also-same (λ z. z.is_public) id owner y refl, also-same (λ z. z.state) id owner y refl) refl
 
-shown-inbox : (t : Town) (id owner : List ℕ) (c : Caller) → IsOther t c owner → (y : Act) → shown (with_owner t id owner) c (with_recipient id owner y) ≡ shown t c y
+shown-inbox : (t : Town) (id owner : List ℕ) (c : Caller) → IsOther t c owner → (y : Act) → sight_of (with_owner t id owner) c (with_recipient id owner y) ≡ sight_of t c y
 shown-inbox t id owner Nobody other y = shown_to-inbox t id owner Nobody y refl refl
 shown-inbox t id owner (Actor name) other y = shown_to-inbox t id owner (Actor name) y (own-inbox id owner (id_of t name) y other) refl
 shown-inbox t id owner (Peer host) other y = shown_to-inbox t id owner (Peer host) y refl refl
 
 view-inbox : (t : Town) (id owner : List ℕ) (c : Caller) → IsOther t c owner → view (with_owner t id owner) c ≡ view t c
 view-inbox t id owner c other =
-    ap (map (shown (with_owner t id owner) c)) (filter-through (with_recipient id owner) (sees (with_owner t id owner) c) (sees t c) (sees-inbox t id owner c other) t.acts)
-    ∙ map-through (with_recipient id owner) (shown (with_owner t id owner) c) (shown t c) (shown-inbox t id owner c other) (seen t c)
+    ap (map (sight_of (with_owner t id owner) c)) (filter-through (with_recipient id owner) (sees (with_owner t id owner) c) (sees t c) (sees-inbox t id owner c other) t.acts)
+    ∙ map-through (with_recipient id owner) (sight_of (with_owner t id owner) c) (sight_of t c) (shown-inbox t id owner c other) (seen t c)
 
 -- ---- one's own
 

@@ -33,7 +33,7 @@ use Rattle.fedi_town.specs.Ids.{actor_id}
 use Rattle.fedi_town.specs.Legal.{is_other_host, IsLegal, is_caller}
 use Rattle.fedi_town.specs.Relations.{is_id}
 use Rattle.fedi_town.specs.Seeing.{sees, is_of_peer}
-use Rattle.fedi_town.specs.Towns.{Town, empty_town, is_named, has_host, id_of}
+use Rattle.fedi_town.specs.Towns.{Town, empty_town, has_name, has_host, id_of}
 use Rattle.fedi_town.specs.declared.act.Actor.{Actor}
 use Rattle.fedi_town.specs.declared.act.Peer.{Peer}
 use Rattle.fedi_town.specs.declared.caller.Caller.{Caller}
@@ -85,7 +85,7 @@ posted_agrees t (Some host) at name repeat a moment c g s own is named told unse
 
 -- A member's post of a kind that changes nothing earlier, which the caller does not see.
 pub unseen_posts : (history : List Entry) (host name : List ℕ) (repeat : Option (List ℕ × List ℕ)) (a : Activity) (moment : ℕ) (c : Caller)
-    → IsLegal history → (town history).host ≡ Some host → list_any (is_named name) (town history).actors ≡ true → changes_nothing (deed_of a.kind) ≡ true
+    → IsLegal history → (town history).host ≡ Some host → list_any (has_name name) (town history).actors ≡ true → changes_nothing (deed_of a.kind) ≡ true
     → sees (town history) c (local_act (town history) host name repeat a moment) ≡ false
     → Agree (town (history ++ Local name repeat a moment ∷ [])) (town history) c
 unseen_posts history host name repeat a moment c legal hosted member told unseen =
@@ -172,7 +172,7 @@ is_other t own inbox (callers.Peer host) shape named all apart caller other =
 
 -- A delivery of a known id changes nothing for callers other than the inbox's owner.
 pub known_deliveries : (history : List Entry) (host peer inbox author id : List ℕ) (a : Activity) (moment : ℕ) (c : Caller)
-    → IsLegal history → (town history).host ≡ Some host → list_any (is_named inbox) (town history).actors ≡ true → a.actor ≡ Some author → a.id ≡ Some id
+    → IsLegal history → (town history).host ≡ Some host → list_any (has_name inbox) (town history).actors ≡ true → a.actor ≡ Some author → a.id ≡ Some id
     → is_known (town history) id ≡ true → is_caller (town history) c ≡ true → is_self c inbox ≡ false
     → Agree (town (history ++ Remote peer inbox a moment ∷ [])) (town history) c
 known_deliveries history host peer inbox author id a moment c legal hosted member of_author of_id known caller other =

@@ -8,7 +8,7 @@ use Rattle.fedi_address.specs.Hosts.{is_host_text}
 use Rattle.fedi_address.specs.Names.{is_name}
 use Rattle.fedi_town.specs.declared.act.Actor.{Actor}
 use Rattle.fedi_town.specs.Ids.{actor_id}
-use Rattle.fedi_town.specs.Towns.{Town, is_named, id_of}
+use Rattle.fedi_town.specs.Towns.{Town, has_name, id_of}
 use Rattle.fedi_laws.proofs.Members.{is_member, IsFound, found}
 use Rattle.fedi_laws.proofs.Texts.{bytes_eq-is}
 
@@ -30,8 +30,8 @@ name_of (Some host) a is =
     (and_parts (is_name a.name) (bytes_eq a.id (actor_id host a.name)) rest).0
 
 -- the name of a member is one
-pub named_is : (name : List ℕ) (host : Option (List ℕ)) (xs : List Actor) → list_all (is_member host) xs ≡ true → list_any (is_named name) xs ≡ true → is_name name ≡ true
-unfolding is_named
+pub named_is : (name : List ℕ) (host : Option (List ℕ)) (xs : List Actor) → list_all (is_member host) xs ≡ true → list_any (has_name name) xs ≡ true → is_name name ≡ true
+unfolding has_name
 named_is name host [] all any = absurd cc
 named_is name host (a ∷ xs) all any =
     let parts = and_parts (is_member host a) (list_all (is_member host) xs) all in
@@ -41,9 +41,9 @@ named_is name host (a ∷ xs) all any =
     ] refl
 
 -- the id of a found member is that of its name
-found_id : (own name : List ℕ) (found_one : Option Actor) (id : List ℕ) → ((a : Actor) → found_one ≡ Some a → IsFound (is_named name) (is_member (Some own)) a)
+found_id : (own name : List ℕ) (found_one : Option Actor) (id : List ℕ) → ((a : Actor) → found_one ≡ Some a → IsFound (has_name name) (is_member (Some own)) a)
     → option_map (λ a. a.id) found_one ≡ Some id → id ≡ actor_id own name
-unfolding is_named
+unfolding has_name
 found_id own name None id h is = absurd cc
 found_id own name (Some a) id h is =
     let f = h a refl in
@@ -52,7 +52,7 @@ found_id own name (Some a) id h is =
 
 pub id_of-is : (t : Town) (own name id : List ℕ) → list_all (is_member (Some own)) t.actors ≡ true → id_of t name ≡ Some id → id ≡ actor_id own name
 id_of-is t own name id all is =
-    found_id own name (find (is_named name) t.actors) id (λ a e. found (is_named name) (is_member (Some own)) t.actors a all e) is
+    found_id own name (find (has_name name) t.actors) id (λ a e. found (has_name name) (is_member (Some own)) t.actors a all e) is
 
 -- a member of the name is found
 pub some_found : {A : Type 0} (p : A → Bool) (xs : List A) → list_any p xs ≡ true → (x : A) × (find p xs ≡ Some x)
@@ -63,8 +63,8 @@ some_found {A} p (x ∷ xs) any =
       | false ↦ λ e. let rest = some_found p xs (rw e at any) in (rest.0, rw e rest.1)
     ] refl
 
-pub there_is : (t : Town) (own name : List ℕ) → list_all (is_member (Some own)) t.actors ≡ true → list_any (is_named name) t.actors ≡ true → id_of t name ≡ Some (actor_id own name)
+pub there_is : (t : Town) (own name : List ℕ) → list_all (is_member (Some own)) t.actors ≡ true → list_any (has_name name) t.actors ≡ true → id_of t name ≡ Some (actor_id own name)
 there_is t own name all any =
-    let f = some_found (is_named name) t.actors any in
+    let f = some_found (has_name name) t.actors any in
     let id : id_of t name ≡ Some f.0.id = ap (λ (m : Option Actor). option_map (λ a. a.id) m) f.1 in
     id ∙ ap (λ (i : List ℕ). Some i) (id_of-is t own name f.0.id all id)

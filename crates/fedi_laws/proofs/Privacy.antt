@@ -5,8 +5,8 @@ use Rattle.std.specs.List.{list_any, list_all, find}
 use Rattle.std.specs.Str.{bytes_eq}
 use Rattle.std.proofs.lemmas.List.{length-map}
 use Rattle.serde_json.specs.Data.{Data, string}
-use Rattle.fedi_address.specs.declared.refusal.Refusal.{Refusal}
-use Rattle.fedi_address.specs.declared.refusal.Refusal.TheVariants.{NotFound, NotOwner, BadQuery, NoKey, WrongType, ActorFull, NotOrigin}
+use Rattle.fedi_town.specs.declared.refusal.Refusal.{Refusal}
+use Rattle.fedi_town.specs.declared.refusal.Refusal.TheVariants.{NotFound, NotOwner, BadQuery, NoKey, WrongType, ActorFull, NotOrigin}
 use Rattle.fedi_objects.specs.declared.activity.Activity as activities
 use Rattle.fedi_objects.specs.declared.kind.State.{State}
 use Rattle.fedi_objects.specs.Forms.{activity_form}
@@ -37,9 +37,9 @@ use Rattle.fedi_town.specs.Objects.{makes, is_buried, whole_of}
 use Rattle.fedi_town.specs.Relations.{blocks, ref_id, is_about, is_id, has_activity_id, is_block_of, has_block_between, is_actor, is_following}
 use Rattle.fedi_town.specs.Rules.{refuse_if, change_rule, like_rule, announce_rule, answer_rule, undo_rule, seen_maker, seen_act, broken, broken_about}
 use Rattle.fedi_town.specs.Seeing.{sees, sees_as, sees_with, seen}
-use Rattle.fedi_town.specs.Showing.{shown, shown_activity, id_of_caller, own_among, view}
+use Rattle.fedi_town.specs.Showing.{sight_of, shown_activity, id_of_caller, own_among, view}
 use Rattle.fedi_town.specs.States.{can_be_undone}
-use Rattle.fedi_town.specs.Towns.{Town, deed, is_by, has_id, is_named, id_of, count_of}
+use Rattle.fedi_town.specs.Towns.{Town, deed, is_by, has_id, has_name, id_of, count_of}
 use Rattle.fedi_town.specs.declared.act.Act.{Act}
 use Rattle.fedi_town.specs.declared.caller.Caller.{Caller}
 use Rattle.fedi_town.specs.declared.caller.Caller.TheVariants as callers
@@ -98,39 +98,39 @@ undoable_alike x y k = rw (k.kind, k.state) refl
 
 -- ---- rules by what is found
 
-change_alike : (t : Town) (c : Caller) (author : List ℕ) (m : Option Act) → change_rule author (option_map (shown t c) m) ≡ change_rule author m
+change_alike : (t : Town) (c : Caller) (author : List ℕ) (m : Option Act) → change_rule author (option_map (sight_of t c) m) ≡ change_rule author m
 change_alike t c author None = refl
-change_alike t c author (Some m) = let k = shown_alike t c m in rw (by_alike author m (shown t c m) k, k.buried) refl
+change_alike t c author (Some m) = let k = shown_alike t c m in rw (by_alike author m (sight_of t c m) k, k.buried) refl
 
-like_alike : (t : Town) (c : Caller) (m : Option Act) → like_rule (option_map (shown t c) m) ≡ like_rule m
+like_alike : (t : Town) (c : Caller) (m : Option Act) → like_rule (option_map (sight_of t c) m) ≡ like_rule m
 like_alike t c None = refl
 like_alike t c (Some m) = rw (shown_alike t c m).buried refl
 
-share_alike : (t : Town) (c : Caller) (m : Option Act) → announce_rule (option_map (shown t c) m) ≡ announce_rule m
+share_alike : (t : Town) (c : Caller) (m : Option Act) → announce_rule (option_map (sight_of t c) m) ≡ announce_rule m
 share_alike t c None = refl
 share_alike t c (Some m) = let k = shown_alike t c m in rw (k.buried, k.is_public) refl
 
-answer_alike : (t : Town) (c : Caller) (p : State → Bool) (author : List ℕ) (m : Option Act) → answer_rule p author (option_map (shown t c) m) ≡ answer_rule p author m
+answer_alike : (t : Town) (c : Caller) (p : State → Bool) (author : List ℕ) (m : Option Act) → answer_rule p author (option_map (sight_of t c) m) ≡ answer_rule p author m
 answer_alike t c p author None = refl
-answer_alike t c p author (Some m) = let k = shown_alike t c m in rw (of_alike author m (shown t c m) k, k.kind, k.state) refl
+answer_alike t c p author (Some m) = let k = shown_alike t c m in rw (of_alike author m (sight_of t c m) k, k.kind, k.state) refl
 
-undo_alike : (t : Town) (c : Caller) (author : List ℕ) (m : Option Act) → undo_rule author (option_map (shown t c) m) ≡ undo_rule author m
+undo_alike : (t : Town) (c : Caller) (author : List ℕ) (m : Option Act) → undo_rule author (option_map (sight_of t c) m) ≡ undo_rule author m
 undo_alike t c author None = refl
-undo_alike t c author (Some m) = let k = shown_alike t c m in rw (by_alike author m (shown t c m) k, undoable_alike m (shown t c m) k) refl
+undo_alike t c author (Some m) = let k = shown_alike t c m in rw (by_alike author m (sight_of t c m) k, undoable_alike m (sight_of t c m) k) refl
 
-marks_alike : (t : Town) (c : Caller) (m : Option Act) → marks_rule (option_map (shown t c) m) ≡ marks_rule m
+marks_alike : (t : Town) (c : Caller) (m : Option Act) → marks_rule (option_map (sight_of t c) m) ≡ marks_rule m
 marks_alike t c None = refl
 marks_alike t c (Some m) = rw (shown_alike t c m).buried refl
 
 -- ---- what is found among what the caller sees
 
 -- found in a view as in what is seen
-view_find : (p : Act → Bool) → ((x y : Act) → IsAlike x y → p y ≡ p x) → (t : Town) (c : Caller) → find p (view t c) ≡ option_map (shown t c) (find p (seen t c))
-view_find p alike t c = find-through (shown t c) p p (λ x. alike x (shown t c x) (shown_alike t c x)) (seen t c)
+view_find : (p : Act → Bool) → ((x y : Act) → IsAlike x y → p y ≡ p x) → (t : Town) (c : Caller) → find p (view t c) ≡ option_map (sight_of t c) (find p (seen t c))
+view_find p alike t c = find-through (sight_of t c) p p (λ x. alike x (sight_of t c x) (shown_alike t c x)) (seen t c)
 
 -- what is made of the one that is found is made of what is shown of it
 found_agrees : {R : Type 0} (p : Act → Bool) → ((x y : Act) → IsAlike x y → p y ≡ p x) → (q f k : Option Act → R) (g h : Town) (c : Caller)
-    → ((m : Option Act) → q (option_map (shown g c) m) ≡ f m) → ((m : Option Act) → q (option_map (shown h c) m) ≡ k m)
+    → ((m : Option Act) → q (option_map (sight_of g c) m) ≡ f m) → ((m : Option Act) → q (option_map (sight_of h c) m) ≡ k m)
     → view g c ≡ view h c → f (find p (seen g c)) ≡ k (find p (seen h c))
 found_agrees p alike q f k g h c of_g of_h same =
     sym (of_g (find p (seen g c))) ∙ ap q (sym (view_find p alike g c))
@@ -142,8 +142,8 @@ abbrev shown_document : Option Act → Answer
 shown_document None = Refuse NotFound
 shown_document (Some y) = Document (activity_form true true y.author y.activity)
 
-act_document-shown : (t : Town) (c : Caller) (m : Option Act) → shown_document (option_map (shown t c) m) ≡ activity_or_missing t m
-unfolding activity_document shown
+act_document-shown : (t : Town) (c : Caller) (m : Option Act) → shown_document (option_map (sight_of t c) m) ≡ activity_or_missing t m
+unfolding activity_document sight_of
 act_document-shown t c None = refl
 act_document-shown t c (Some x) = refl
 
@@ -151,8 +151,8 @@ abbrev shown_object : Option Act → Answer
 shown_object None = Refuse NotFound
 shown_object (Some y) = object_document (whole_of y.activity.object)
 
-object_document-shown : (t : Town) (c : Caller) (m : Option Act) → shown_object (option_map (shown t c) m) ≡ object_or_missing t m
-unfolding made_document shown
+object_document-shown : (t : Town) (c : Caller) (m : Option Act) → shown_object (option_map (sight_of t c) m) ≡ object_or_missing t m
+unfolding made_document sight_of
 object_document-shown t c None = refl
 object_document-shown t c (Some x) = refl
 
@@ -183,15 +183,15 @@ own_inbox b rs =
       | false ↦ λ e. refl
     ] refl
 
-shown_recipients : (t : Town) (c : Caller) (x : Act) → (shown t c x).recipients ≡ own_among (id_of_caller t c) x.recipients
-unfolding shown
+shown_recipients : (t : Town) (c : Caller) (x : Act) → (sight_of t c x).recipients ≡ own_among (id_of_caller t c) x.recipients
+unfolding sight_of
 shown_recipients t c x = refl
 
-own_alone : (t : Town) (c : Caller) (b : List ℕ) (x : Act) → id_of_caller t c ≡ Some b → is_among b (shown t c x).recipients ≡ is_among b x.recipients
+own_alone : (t : Town) (c : Caller) (b : List ℕ) (x : Act) → id_of_caller t c ≡ Some b → is_among b (sight_of t c x).recipients ≡ is_among b x.recipients
 own_alone t c b x own =
     ap (is_among b) (shown_recipients t c x ∙ ap (λ (i : Option (List ℕ)). own_among i x.recipients) own) ∙ own_inbox b x.recipients
 
-item_alike : (t : Town) (c : Caller) (which : Which) (b : List ℕ) → ((name : List ℕ) → which ≡ whiches.Inbox name → id_of_caller t c ≡ Some b) → (x : Act) → is_item which b (shown t c x) ≡ is_item which b x
+item_alike : (t : Town) (c : Caller) (which : Which) (b : List ℕ) → ((name : List ℕ) → which ≡ whiches.Inbox name → id_of_caller t c ≡ Some b) → (x : Act) → is_item which b (sight_of t c x) ≡ is_item which b x
 unfolding is_item is_following is_by is_about
 item_alike t c (whiches.Inbox name) b own x = own_alone t c b x (own name refl)
 item_alike t c (whiches.Outbox name) b own x = let k = shown_alike t c x in rw k.author refl
@@ -201,10 +201,10 @@ item_alike t c (whiches.Liked name) b own x = let k = shown_alike t c x in rw (k
 item_alike t c (whiches.Likes name n) b own x = let k = shown_alike t c x in rw (k.kind, k.state, k.about) refl
 item_alike t c (whiches.Shares name n) b own x = let k = shown_alike t c x in rw (k.kind, k.state, k.about) refl
 
-object_key-alike : (t : Town) (c : Caller) (x : Act) → object_key (shown t c x) ≡ object_key x
+object_key-alike : (t : Town) (c : Caller) (x : Act) → object_key (sight_of t c x) ≡ object_key x
 object_key-alike t c x = rw (shown_alike t c x).about refl
 
-same_item-alike : (t : Town) (c : Caller) (which : Which) (x y : Act) → is_same_item which (shown t c x) (shown t c y) ≡ is_same_item which x y
+same_item-alike : (t : Town) (c : Caller) (which : Which) (x y : Act) → is_same_item which (sight_of t c x) (sight_of t c y) ≡ is_same_item which x y
 unfolding is_same_item
 same_item-alike t c (whiches.Inbox name) x y = refl
 same_item-alike t c (whiches.Outbox name) x y = refl
@@ -219,10 +219,10 @@ abbrev view_list : Which → List ℕ → List Act → List Act
 view_list which b ys = firsts (is_same_item which) (filter (is_item which b) ys)
 
 view_items : (t : Town) (c : Caller) (which : Which) (b : List ℕ) → ((name : List ℕ) → which ≡ whiches.Inbox name → id_of_caller t c ≡ Some b)
-    → view_list which b (view t c) ≡ map (shown t c) (items t c which b)
+    → view_list which b (view t c) ≡ map (sight_of t c) (items t c which b)
 view_items t c which b own =
-    ap (firsts (is_same_item which)) (filter-through (shown t c) (is_item which b) (is_item which b) (item_alike t c which b own) (seen t c))
-    ∙ firsts-map (shown t c) (is_same_item which) (is_same_item which) (same_item-alike t c which) (filter (is_item which b) (seen t c))
+    ap (firsts (is_same_item which)) (filter-through (sight_of t c) (is_item which b) (is_item which b) (item_alike t c which b own) (seen t c))
+    ∙ firsts-map (sight_of t c) (is_same_item which) (is_same_item which) (same_item-alike t c which) (filter (is_item which b) (seen t c))
 
 -- how an item is shown, by what is shown of it
 abbrev shown_item : Option (List ℕ) → Which → Act → Data
@@ -234,8 +234,8 @@ shown_item host (whiches.Liked name) y = string (object_key y)
 shown_item host (whiches.Likes name n) y = string (text_of y.activity.id)
 shown_item host (whiches.Shares name n) y = string (text_of y.activity.id)
 
-item_shown : (t : Town) (c : Caller) (which : Which) (x : Act) → shown_item t.host which (shown t c x) ≡ item_form t which x
-unfolding embedded_form shown
+item_shown : (t : Town) (c : Caller) (which : Which) (x : Act) → shown_item t.host which (sight_of t c x) ≡ item_form t which x
+unfolding embedded_form sight_of
 item_shown t c (whiches.Inbox name) x = refl
 item_shown t c (whiches.Outbox name) x = refl
 item_shown t c (whiches.Followers name) x = refl
@@ -252,7 +252,7 @@ items_shown : (t : Town) (c : Caller) (which : Which) (b : List ℕ) (ask : Page
     → items_answer t c which b ask ≡ list_answer ask t.host which b (view_list which b (view t c))
 unfolding items_answer
 items_shown t c which b ask own =
-    sym (list_reply-map (shown t c) (shown_item t.host which) (item_form t which) (item_shown t c which) ask (collection_id which b) (items t c which b))
+    sym (list_reply-map (sight_of t c) (shown_item t.host which) (item_form t which) (item_shown t c which) ask (collection_id which b) (items t c which b))
     ∙ ap (list_answer ask t.host which b) (sym (view_items t c which b own))
 
 items_agree : (g h : Town) (c : Caller) (which : Which) (b : List ℕ) (ask : PageAsk) → g.host ≡ h.host → view g c ≡ view h c
@@ -277,18 +277,18 @@ rule_on_object g h c (whiches.Shares name n) b same = found_agrees (makes b) (ma
 -- ---- names and ids
 
 found_id : (name : List ℕ) (actors : List Member)
-    → id_among (map (λ a. (a.name, a.id)) actors) name ≡ option_map (λ a. a.id) (find (is_named name) actors)
-unfolding is_named
+    → id_among (map (λ a. (a.name, a.id)) actors) name ≡ option_map (λ a. a.id) (find (has_name name) actors)
+unfolding has_name
 found_id name [] = refl
 found_id name (a ∷ actors) =
     elim (bytes_eq a.name name) as (λ s. bytes_eq a.name name ≡ s
-    → id_among (map (λ a. (a.name, a.id)) (a ∷ actors)) name ≡ option_map (λ a. a.id) (find (is_named name) (a ∷ actors))) [
+    → id_among (map (λ a. (a.name, a.id)) (a ∷ actors)) name ≡ option_map (λ a. a.id) (find (has_name name) (a ∷ actors))) [
       | true ↦ λ e. rw e refl
       | false ↦ λ e. rw e (found_id name actors)
     ] refl
 
 known_id : (t : Town) (name : List ℕ) → id_among (members t) name ≡ id_of t name
-unfolding is_named
+unfolding has_name
 known_id t name = found_id name t.actors
 
 ids_agree : (g h : Town) (c : Caller) (name : List ℕ) → Knows g h c → id_of g name ≡ id_of h name
@@ -410,7 +410,7 @@ own_blocks : (t : Town) (name a b : List ℕ) → id_of t name ≡ Some a → bl
 own_blocks t name a b id =
     let c : Caller = callers.Actor name in
     sym (any_kept (is_block_of a b) (sees t c) (λ x e. own_seen t name a x id (block_is_own a b x e)) t.acts)
-    ∙ sym (list_any-through (shown t c) (is_block_of a b) (is_block_of a b) (λ x. block_alike a b x (shown t c x) (shown_alike t c x)) (seen t c))
+    ∙ sym (list_any-through (sight_of t c) (is_block_of a b) (is_block_of a b) (λ x. block_alike a b x (sight_of t c x) (shown_alike t c x)) (seen t c))
 
 between_agrees : (g h : Town) (name a b : List ℕ) → view g (callers.Actor name) ≡ view h (callers.Actor name) → id_of g name ≡ Some a → id_of h name ≡ Some a
     → SameOwn g h a → has_block_between g a b ≡ has_block_between h a b
@@ -425,11 +425,11 @@ record Same (g h : Town) (name a : List ℕ) : Type 0 where
   of_h : id_of h name ≡ Some a
   own : SameOwn g h a
 
-maker_agrees : {R : Type 0} (rule : Option Act → R) (c : Caller) (alike : (t : Town) (m : Option Act) → rule (option_map (shown t c) m) ≡ rule m)
+maker_agrees : {R : Type 0} (rule : Option Act → R) (c : Caller) (alike : (t : Town) (m : Option Act) → rule (option_map (sight_of t c) m) ≡ rule m)
     → (g h : Town) (id : List ℕ) → view g c ≡ view h c → rule (seen_maker g c id) ≡ rule (seen_maker h c id)
 maker_agrees rule c alike g h id same = found_agrees (makes id) (made_alike id) rule rule rule g h c (alike g) (alike h) same
 
-own_agrees : {R : Type 0} (rule : Option Act → R) (c : Caller) (alike : (t : Town) (m : Option Act) → rule (option_map (shown t c) m) ≡ rule m)
+own_agrees : {R : Type 0} (rule : Option Act → R) (c : Caller) (alike : (t : Town) (m : Option Act) → rule (option_map (sight_of t c) m) ≡ rule m)
     → (g h : Town) (id : List ℕ) → view g c ≡ view h c → rule (seen_act g c id) ≡ rule (seen_act h c id)
 own_agrees rule c alike g h id same = found_agrees (has_activity_id id) (own_alike id) rule rule rule g h c (alike g) (alike h) same
 

@@ -24,7 +24,7 @@ use Rattle.fedi_town.specs.Ids.{actor_id}
 use Rattle.fedi_town.specs.Legal.{is_admissible, is_legal_from, is_other_host, IsLegal, is_caller}
 use Rattle.fedi_town.specs.Relations.{is_id}
 use Rattle.fedi_town.specs.Seeing.{is_of_peer}
-use Rattle.fedi_town.specs.Towns.{Town, empty_town, is_named, has_host, id_of}
+use Rattle.fedi_town.specs.Towns.{Town, empty_town, has_name, has_host, id_of}
 use Rattle.fedi_town.specs.declared.act.Actor.{Actor}
 use Rattle.fedi_town.specs.declared.act.Peer.{Peer}
 use Rattle.fedi_town.specs.declared.caller.Caller.{Caller}

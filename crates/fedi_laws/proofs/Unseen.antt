@@ -12,7 +12,7 @@ use Rattle.fedi_town.specs.Deeds.{is_create, is_update, is_done}
 use Rattle.fedi_town.specs.Objects.{makes, maker_of, object_of}
 use Rattle.fedi_town.specs.Relations.{ref_id}
 use Rattle.fedi_town.specs.Seeing.{sees, sees_as, sees_with, seen}
-use Rattle.fedi_town.specs.Showing.{shown, shown_ref, shown_activity, present_object, object_or_id, ref_to, id_of_caller, view}
+use Rattle.fedi_town.specs.Showing.{sight_of, shown_ref, shown_activity, present_object, object_or_id, ref_to, id_of_caller, view}
 use Rattle.fedi_town.specs.Towns.{Town, id_of, is_by, deed}
 use Rattle.fedi_town.specs.declared.act.Act.{Act}
 use Rattle.fedi_town.specs.declared.caller.Caller.{Caller}
@@ -38,8 +38,8 @@ shown_ref-stays t xs x grounded =
     rw (ref-stays t (with_acts t xs) x (is_update (deed x) && is_done x.state)
     (λ changing. maker-stays t xs (ref_id x.activity.object) (not_first (is_update (deed x) && is_done x.state) (is_made t.acts (ref_id x.activity.object)) grounded changing))) refl
 
-shown-stays : (t : Town) (xs : List Act) (c : Caller) (x : Act) → is_grounded t.acts x ≡ true → shown (with_acts t xs) c x ≡ shown t c x
-unfolding shown shown_activity
+shown-stays : (t : Town) (xs : List Act) (c : Caller) (x : Act) → is_grounded t.acts x ≡ true → sight_of (with_acts t xs) c x ≡ sight_of t c x
+unfolding sight_of shown_activity
 shown-stays t xs Nobody x grounded = rw (shown_ref-stays t xs x grounded) refl
 shown-stays t xs (Actor name) x grounded = rw (shown_ref-stays t xs x grounded) refl
 shown-stays t xs (Peer host) x grounded = rw (shown_ref-stays t xs x grounded) refl
@@ -53,7 +53,7 @@ seen-stays t xs c q unseen =
 view-stays : (t : Town) (xs : List Act) (c : Caller) → AreGrounded t.acts → AreQuiet xs → list_any (sees t c) xs ≡ false → view (with_acts t xs) c ≡ view t c
 view-stays t xs c g q unseen =
     rw (seen-stays t xs c q unseen)
-    (map-where (is_grounded t.acts) (shown (with_acts t xs) c) (shown t c) (shown-stays t xs c) (seen t c) (list_all-filter (is_grounded t.acts) (sees t c) t.acts g.all))
+    (map-where (is_grounded t.acts) (sight_of (with_acts t xs) c) (sight_of t c) (shown-stays t xs c) (seen t c) (list_all-filter (is_grounded t.acts) (sees t c) t.acts g.all))
 
 own_unseen : (t : Town) (id : List ℕ) (x : Act) → sees_as t id x ≡ false → is_by id x ≡ false
 unfolding sees_as

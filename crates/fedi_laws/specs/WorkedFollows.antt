@@ -1,6 +1,6 @@
 -- Follows and Blocks in the club.
 use Rattle.std.specs.Prelude.{◌≡◌, ℕ, Bool, true, false, List, [], ◌∷◌, ◌++◌, codes, Option, Some, None}
-use Rattle.fedi_address.specs.declared.refusal.Refusal.TheVariants.{NotStanding, Blocked}
+use Rattle.fedi_town.specs.declared.refusal.Refusal.TheVariants.{NotStanding, Blocked}
 use Rattle.fedi_address.specs.Iris.{public_iri}
 use Rattle.fedi_objects.specs.declared.activity.ObjectRef.TheVariants.{Id, Whole}
 use Rattle.fedi_objects.specs.declared.entry.Entry.{Entry}

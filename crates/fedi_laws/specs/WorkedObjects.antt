@@ -1,6 +1,6 @@
 -- Objects in the club: who sees them, and what becomes of them.
 use Rattle.std.specs.Prelude.{◌≡◌, ℕ, Bool, true, false, List, [], ◌∷◌, ◌++◌, map, codes, Option, Some, None, option_map}
-use Rattle.fedi_address.specs.declared.refusal.Refusal.TheVariants.{Gone, NotFound, NotOwner, NotPublic}
+use Rattle.fedi_town.specs.declared.refusal.Refusal.TheVariants.{Gone, NotFound, NotOwner, NotPublic}
 use Rattle.fedi_address.specs.declared.recipients.Recipients.{Recipients}
 use Rattle.fedi_address.specs.Iris.{public_iri}
 use Rattle.fedi_objects.specs.declared.activity.ObjectRef.TheVariants.{Id, Whole, Changed}

@@ -1,7 +1,7 @@
 -- What other servers deliver to the club, and what goes to them.
 use Rattle.std.specs.Prelude.{◌≡◌, ℕ, Bool, true, false, List, [], ◌∷◌, ◌++◌, map, codes, Option, Some, None, option_map}
 use Rattle.fedi_address.specs.declared.recipients.Recipients.{Recipients}
-use Rattle.fedi_address.specs.declared.refusal.Refusal.TheVariants.{NotFound}
+use Rattle.fedi_town.specs.declared.refusal.Refusal.TheVariants.{NotFound}
 use Rattle.fedi_address.specs.Iris.{public_iri}
 use Rattle.fedi_objects.specs.declared.activity.Activity.{Activity}
 use Rattle.fedi_objects.specs.declared.activity.ObjectRef.TheVariants.{Id, Whole}

@@ -18,7 +18,7 @@ use Rattle.fedi_town.specs.Queues.{is_due}
 use Rattle.fedi_town.specs.Relations.{ref_id}
 use Rattle.fedi_town.specs.Rules.{broken}
 use Rattle.fedi_town.specs.Shapes.{is_posted, is_delivered}
-use Rattle.fedi_town.specs.Towns.{Town, empty_town, is_named, has_digest, has_host, is_by, count_of, id_of}
+use Rattle.fedi_town.specs.Towns.{Town, empty_town, has_name, has_digest, has_host, is_by, count_of, id_of}
 
 -- ---- a member's post
 
@@ -72,7 +72,7 @@ is_address text = (nat_le 1 (length text) && nat_le (length text) 255) && list_a
 abbrev pub is_admissible : Town → Entry → Bool
 is_admissible t (Hosted host moment) = is_none t.host && is_host_text host
 is_admissible t (Made name digest locked moment) =
-    (is_some t.host && is_name name) && (not (list_any (is_named name) t.actors) && not (list_any (has_digest digest) t.actors))
+    (is_some t.host && is_name name) && (not (list_any (has_name name) t.actors) && not (list_any (has_digest digest) t.actors))
 is_admissible t (PeerSet host key address relay moment) =
     is_other_host t.host host && ((is_host_text host && is_address address) && not (list_any (has_host host) t.peers))
 is_admissible t (Local name repeat a moment) = may_post t name repeat a (id_of t name)
@@ -94,5 +94,5 @@ pub record IsLegal (history : List Entry) : Type 0 where
 -- the caller is nobody, a member or a peer
 abbrev pub is_caller : Town → Caller → Bool
 is_caller t callers.Nobody = true
-is_caller t (callers.Actor name) = list_any (is_named name) t.actors
+is_caller t (callers.Actor name) = list_any (has_name name) t.actors
 is_caller t (callers.Peer host) = list_any (has_host host) t.peers

@@ -2,8 +2,8 @@
 -- is missing to the author (section 3.2).
 use Rattle.std.specs.Prelude.{ℕ, Bool, true, false, not, ◌&&◌, List, Option, Some, None}
 use Rattle.std.specs.List.{find}
-use Rattle.fedi_address.specs.declared.refusal.Refusal.{Refusal}
-use Rattle.fedi_address.specs.declared.refusal.Refusal.TheVariants.{NotFound, NotOwner, Gone, Blocked, NotPublic, NotStanding}
+use Rattle.fedi_town.specs.declared.refusal.Refusal.{Refusal}
+use Rattle.fedi_town.specs.declared.refusal.Refusal.TheVariants.{NotFound, NotOwner, Gone, Blocked, NotPublic, NotStanding}
 use Rattle.fedi_objects.specs.declared.kind.State.{State}
 use Rattle.fedi_town.specs.declared.act.Act.{Act}
 use Rattle.fedi_town.specs.declared.caller.Caller.{Caller}

@@ -55,8 +55,8 @@ own_among (Some id) recipients = if is_among id recipients then id ∷ [] else [
 
 -- What the caller is shown: the activity again, of which the parts that no caller may know are empty. So each test on an
 -- activity is a test on what is shown of it too.
-unfoldable pub shown : Town → Caller → Act → Act
-shown t c x = record {
+unfoldable pub sight_of : Town → Caller → Act → Act
+sight_of t c x = record {
   author = x.author;
   activity = shown_activity t x;
   repeat = None;
@@ -70,4 +70,4 @@ shown t c x = record {
 
 -- all that the caller is shown, in the order of acceptance
 abbrev pub view : Town → Caller → List Act
-view t c = map (shown t c) (seen t c)
+view t c = map (sight_of t c) (seen t c)

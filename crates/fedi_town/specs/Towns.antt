@@ -25,8 +25,8 @@ empty_town = record { host = None; actors = []; peers = []; acts = []; attempts 
 -- ---- members and peers
 
 -- the member of this name
-unfoldable pub is_named : List ℕ → Actor → Bool
-is_named name a = bytes_eq a.name name
+unfoldable pub has_name : List ℕ → Actor → Bool
+has_name name a = bytes_eq a.name name
 
 -- the member of this id
 unfoldable pub has_id : List ℕ → Actor → Bool
@@ -42,7 +42,7 @@ has_host host p = bytes_eq p.host host
 
 -- the id of the member of this name
 abbrev pub id_of : Town → List ℕ → Option (List ℕ)
-id_of t name = option_map (λ a. a.id) (find (is_named name) t.actors)
+id_of t name = option_map (λ a. a.id) (find (has_name name) t.actors)
 
 -- ---- activities
 

@@ -8,6 +8,7 @@ mod caller;
 mod deed;
 mod effect;
 mod outcome;
+mod refusal;
 
 pub use act::{Act, Actor, Attempt, Peer};
 pub use addition::{Acceptance, Addition};
@@ -15,3 +16,4 @@ pub use caller::{Caller, Which};
 pub use deed::Deed;
 pub use effect::Effect;
 pub use outcome::Outcome;
+pub use refusal::Refusal;
