@@ -39,7 +39,7 @@ pub record GoesOn (y z : Act) : Type 0 where
   forwards : z.forwards ≡ y.forwards
   to : (r : List ℕ) → is_among r y.recipients ≡ true → is_among r z.recipients ≡ true
 
-same : (y : Act) → GoesOn y y
+pub same : (y : Act) → GoesOn y y
 same y = record { own = refl; author = refl; moment = refl; forwards = refl; to = λ r h. h }
 
 then_on : (x y z : Act) → GoesOn x y → GoesOn y z → GoesOn x z
@@ -76,7 +76,7 @@ also_on id owner y =
 -- ---- later towns
 
 -- the same host, no fewer peers, and no attempt of this pair
-record IsLater (t u : Town) (id r : List ℕ) : Type 0 where
+pub record IsLater (t u : Town) (id r : List ℕ) : Type 0 where
   host : u.host ≡ t.host
   peer : is_at_peer t r ≡ true → is_at_peer u r ≡ true
   progress : (moment : ℕ) → progress_of u id r moment ≡ progress_of t id r moment
@@ -128,7 +128,7 @@ mapped_on : (t u : Town) (id r : List ℕ) (m n : ℕ) (f : Act → Act) (more :
 mapped_on t u id r m n f more l le g e =
     any_more (is_due_in u id r n) (map f t.acts) more (any_on (is_due_in t id r m) (is_due_in u id r n) f (λ y h. due_on t u id r m n y (f y) l le (g y) h) t.acts e)
 
-same_later : (t u : Town) (id r : List ℕ) → u.host ≡ t.host → u.peers ≡ t.peers → u.attempts ≡ t.attempts → IsLater t u id r
+pub same_later : (t u : Town) (id r : List ℕ) → u.host ≡ t.host → u.peers ≡ t.peers → u.attempts ≡ t.attempts → IsLater t u id r
 unfolding is_at_peer progress_of
 same_later t u id r host peers attempts = record { host = host; peer = λ e. rw peers e; progress = λ m. rw attempts refl }
 
@@ -151,7 +151,7 @@ map-same [] = refl
 map-same (x ∷ xs) = rw (map-same xs) refl
 
 -- what does not touch activities
-held_on : (t u : Town) (id r : List ℕ) (m n : ℕ) → IsLater t u id r → u.acts ≡ t.acts → m ≤ n → is_due t id r m ≡ true → is_due u id r n ≡ true
+pub held_on : (t u : Town) (id r : List ℕ) (m n : ℕ) → IsLater t u id r → u.acts ≡ t.acts → m ≤ n → is_due t id r m ≡ true → is_due u id r n ≡ true
 held_on t u id r m n l acts le e =
     subst (λ (xs : List Act). list_any (is_due_in u id r n) xs ≡ true) (map-same t.acts ∙ sym acts)
     (any_on (is_due_in t id r m) (is_due_in u id r n) (λ y. y) (λ y h. due_on t u id r m n y y l le (same y) h) t.acts e)

@@ -12,7 +12,8 @@ use Rattle.fedi_address.specs.Hosts.{is_host_text}
 use Rattle.fedi_address.specs.Iris.{host_of}
 use Rattle.fedi_address.specs.Names.{is_name, is_name_byte}
 use Rattle.fedi_address.proofs.Parts.{host_of-address}
-use Rattle.fedi_laws.proofs.Finding.{PassesOnce, PassesOnce-push, PassesOnce-map}
+use Rattle.fedi_laws.proofs.Finding.{PassesOnce-push, PassesOnce-map}
+use Rattle.fedi_town.specs.Lists.{PassesOnce}
 use Rattle.fedi_laws.proofs.Lists.{list_any-through, filter-through}
 use Rattle.fedi_laws.proofs.Members.{name_bytes}
 use Rattle.fedi_laws.proofs.Paths.{activity_path_is_plain}

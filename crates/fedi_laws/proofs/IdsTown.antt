@@ -14,7 +14,7 @@ use Rattle.fedi_objects.specs.declared.entry.Entry.{Entry}
 use Rattle.fedi_objects.specs.declared.entry.Entry.TheVariants.{Hosted, Made, PeerSet, Local, Remote, Tried}
 use Rattle.fedi_objects.specs.declared.kind.State.TheVariants.{Accepted, Pending, Rejected}
 use Rattle.fedi_laws.proofs.Due.{GoesOn, affected_on, also_on}
-use Rattle.fedi_laws.proofs.Finding.{PassesOnce}
+use Rattle.fedi_town.specs.Lists.{PassesOnce}
 use Rattle.fedi_laws.proofs.Grounded.{ref_id-received}
 use Rattle.fedi_laws.proofs.IdsOnce.{AreOnce, IsFresh, next_once, foreign_once, mapped_once, count-push, count-map}
 use Rattle.fedi_laws.proofs.Lists.{list_any-through}
@@ -316,7 +316,7 @@ step_before t (Tried activity recipient came moment) none all ok h = rw none h
 
 -- ---- histories
 
-step_by : (t : Town) (host : Option (List ℕ)) (e : Entry) → t.host ≡ host → IsHosted t → is_admissible t e ≡ true → HasIds host t.acts → HasIds (step t e).host (step t e).acts
+pub step_by : (t : Town) (host : Option (List ℕ)) (e : Entry) → t.host ≡ host → IsHosted t → is_admissible t e ≡ true → HasIds host t.acts → HasIds (step t e).host (step t e).acts
 step_by t None e is s ok h = step_before t e is (subst (λ (k : Option (List ℕ)). list_all (is_member k) t.actors ≡ true) is s.sound.members) ok h
 step_by t (Some host) e is s ok h =
     step_at t host e (record {

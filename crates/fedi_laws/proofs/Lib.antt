@@ -30,3 +30,4 @@ pub mod Burial
 pub mod InFollows
 pub mod InObjects
 pub mod InPeers
+pub mod Legality

@@ -9,7 +9,8 @@ use Rattle.fedi_objects.specs.declared.activity.ObjectRef.{ObjectRef}
 use Rattle.fedi_objects.specs.declared.entry.Entry.{Entry}
 use Rattle.fedi_objects.specs.declared.entry.Entry.TheVariants.{Hosted, Made, PeerSet, Local, Remote, Tried}
 use Rattle.fedi_objects.specs.declared.kind.State.TheVariants.{Done}
-use Rattle.fedi_laws.proofs.Finding.{PassesOnce, PassesOnce-push, PassesOnce-map}
+use Rattle.fedi_laws.proofs.Finding.{PassesOnce-push, PassesOnce-map}
+use Rattle.fedi_town.specs.Lists.{PassesOnce}
 use Rattle.fedi_laws.proofs.Grounded.{ref_id-received}
 use Rattle.fedi_laws.proofs.Inboxes.{made-inbox}
 use Rattle.fedi_laws.proofs.Kept.{IsKept, changed-kept, made-kept}

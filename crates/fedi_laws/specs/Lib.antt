@@ -1,3 +1,4 @@
+pub mod Statements
 pub mod Fixture
 pub mod WorkedFollows
 pub mod WorkedObjects
