@@ -20,7 +20,7 @@ use Rattle.fedi_laws.proofs.Inboxes.{IsOther, inbox_agrees}
 use Rattle.fedi_laws.proofs.Members.{is_member, HasMembers, IsFound, found, host_of-actor_id}
 use Rattle.fedi_laws.proofs.People.{id_at, member_id, named_is, id_of-is, there_is}
 use Rattle.fedi_laws.proofs.Posted.{post_agrees}
-use Rattle.fedi_laws.proofs.Privacy.{members, Knows, answers_agree}
+use Rattle.fedi_laws.proofs.Knowledge.{members, Knows, answers_agree}
 use Rattle.fedi_laws.proofs.Sound.{IsSound, IsHosted, is_apart, is_set, town_sound}
 use Rattle.fedi_laws.proofs.Steps.{after_post, after_delivery, after_inbox}
 use Rattle.fedi_laws.proofs.Told.{plain_agrees}

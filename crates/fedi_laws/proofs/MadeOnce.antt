@@ -144,3 +144,7 @@ fold-once (e ∷ history) t h = fold-once history (step t e) (step-once t e h)
 
 pub town_once : (history : List Entry) → MadeOnce (town history).acts
 town_once history = fold-once history empty_town (record { once = λ id. tt })
+
+-- No object is made twice.
+pub made_once : (history : List Entry) (id : List ℕ) → PassesOnce (makes id) (town history).acts
+made_once history id = (town_once history).once id

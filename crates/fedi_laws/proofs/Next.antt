@@ -19,7 +19,7 @@ use Rattle.fedi_asks.specs.declared.post.KeyAsk.TheVariants.{Absent, Malformed, 
 use Rattle.fedi_asks.specs.declared.post.Post.{Post}
 use Rattle.fedi_asks.specs.declared.post.Read.{Read}
 use Rattle.fedi_asks.specs.declared.post.Read.TheVariants.{NotJson, Bad, Ready}
-use Rattle.fedi_laws.proofs.Privacy.{self_is}
+use Rattle.fedi_laws.proofs.Knowledge.{self_is}
 use Rattle.fedi_town.specs.Agreement.{repeats_of, peer_of}
 use Rattle.fedi_town.specs.Deeds.{deed_of}
 use Rattle.fedi_town.specs.Deliveries.{is_foreign, has_inbox}
