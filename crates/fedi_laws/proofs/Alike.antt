@@ -1,22 +1,18 @@
 -- What is shown of an activity is like the activity in all that a test may look at.
-use Rattle.std.proofs.Common.{◌≡◌, ℕ, Bool, true, false, List, [], ◌∷◌, ◌++◌, Option, Some, None, refl, sym, ap, subst, ◌∙◌}
-use Rattle.std.specs.Prelude.{◌&&◌, ◌||◌, not, map, filter, option_map, if◌then◌else◌}
-use Rattle.std.specs.List.{list_any, list_all, find}
-use Rattle.std.specs.Str.{bytes_eq}
+use Rattle.std.proofs.Common.{◌≡◌, ℕ, Bool, true, false, List, [], ◌∷◌, Option, Some, None, refl, ap, subst}
+use Rattle.std.specs.Prelude.{◌&&◌, if◌then◌else◌}
+use Rattle.std.specs.List.{find}
 use Rattle.fedi_objects.specs.declared.activity.ObjectRef.{ObjectRef}
 use Rattle.fedi_objects.specs.declared.activity.ObjectRef.TheVariants.{Nothing, Id, Whole, Changed}
 use Rattle.fedi_objects.specs.declared.object.Object.{Object}
-use Rattle.fedi_objects.specs.Forms.{is_tombstone}
-use Rattle.fedi_laws.proofs.Lists.{find-none}
 use Rattle.fedi_town.specs.Deeds.{is_create, is_update, is_done}
-use Rattle.fedi_town.specs.Objects.{makes, maker, maker_of, whole_of, is_buried, is_tombstone_in, object_of}
-use Rattle.fedi_town.specs.Relations.{ref_id, is_id, is_about, has_activity_id}
-use Rattle.fedi_town.specs.Showing.{sight_of, shown_ref, shown_activity, present_object, object_or_id, ref_to, stripped_object}
-use Rattle.fedi_town.specs.Towns.{Town, is_by, deed}
+use Rattle.fedi_town.specs.Objects.{makes, maker_of, whole_of, is_buried, is_tombstone_in, object_of}
+use Rattle.fedi_town.specs.Relations.{ref_id, is_id, is_about}
+use Rattle.fedi_town.specs.Showing.{sight_of, shown_ref, shown_activity, present_object, object_or_id, ref_to}
+use Rattle.fedi_town.specs.Towns.{Town, deed}
 use Rattle.fedi_town.specs.declared.act.Act.{Act}
 use Rattle.fedi_town.specs.declared.caller.Caller.{Caller}
-use Rattle.fedi_town.specs.declared.caller.Caller.TheVariants.{Nobody, Actor, Peer}
-use Rattle.fedi_laws.proofs.Texts.{is_false, not_both, bytes_eq-is}
+use Rattle.fedi_laws.proofs.Texts.{bytes_eq-is}
 
 pub record IsAlike (x y : Act) : Type 0 where
   pub author : y.author ≡ x.author
@@ -120,7 +116,11 @@ shown_buried t c x = same_buried (is_create (deed x) && is_done x.state) (is_upd
 pub shown_alike : (t : Town) (c : Caller) (x : Act) → IsAlike x (sight_of t c x)
 unfolding sight_of shown_activity
 shown_alike t c x = record {
-  author = refl; kind = refl; own = refl; state = refl; is_public = refl;
+  author = refl;
+  kind = refl;
+  own = refl;
+  state = refl;
+  is_public = refl;
   about = shown_named t x;
   buried = shown_buried t c x;
 }

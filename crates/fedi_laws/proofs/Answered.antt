@@ -1,22 +1,19 @@
 -- The Accept that follows a member's Follow is seen by nobody who does not see the Follow.
-use Rattle.std.proofs.Common.{◌≡◌, ℕ, ◌+◌, Bool, true, false, List, [], ◌∷◌, ◌++◌, length, Option, Some, None, ◌⊎◌, ⊎_elim, inl, inr, refl, sym, ap, subst, ◌∙◌}
-use Rattle.std.specs.Prelude.{◌&&◌, ◌||◌, not, cond, if◌then◌else◌}
-use Rattle.std.specs.List.{list_any, fold, find}
+use Rattle.std.proofs.Common.{◌≡◌, ℕ, Bool, true, false, List, [], ◌∷◌, Option, Some, None, ◌⊎◌, ⊎_elim, inl, inr, refl, sym, subst, ◌∙◌}
+use Rattle.std.specs.Prelude.{◌&&◌, ◌||◌, not, cond}
+use Rattle.std.specs.List.{list_any}
 use Rattle.std.specs.Str.{bytes_eq}
-use Rattle.fedi_address.specs.Iris.{public_iri}
-use Rattle.fedi_address.specs.Recipients.{is_among, is_public}
+use Rattle.fedi_address.specs.Recipients.{is_among}
 use Rattle.fedi_laws.proofs.Lists.{first_none, other_none}
 use Rattle.fedi_laws.proofs.Reached.{Reaches}
 use Rattle.fedi_town.specs.Addressing.{is_recipient, addressees, recipients_with}
 use Rattle.fedi_town.specs.Lists.{each_once}
-use Rattle.fedi_town.specs.Effects.{accept_by, to_one}
-use Rattle.fedi_town.specs.Histories.{with_recipient}
+use Rattle.fedi_town.specs.Effects.{to_one}
 use Rattle.fedi_town.specs.Ids.{followers_id}
-use Rattle.fedi_town.specs.Relations.{has_block_between, followers}
+use Rattle.fedi_town.specs.Relations.{has_block_between}
 use Rattle.fedi_town.specs.Seeing.{sees, sees_as, sees_with, reaches, is_of_peer}
 use Rattle.fedi_town.specs.Towns.{Town, id_of, is_by}
 use Rattle.fedi_town.specs.declared.act.Act.{Act}
-use Rattle.fedi_town.specs.declared.act.Actor.{Actor as Member}
 use Rattle.fedi_town.specs.declared.caller.Caller.{Caller}
 use Rattle.fedi_town.specs.declared.caller.Caller.TheVariants.{Nobody, Actor, Peer}
 use Rattle.fedi_laws.proofs.Texts.{is_false, not_both, bytes_eq-is, bytes_eq-same, or_true, or_no}
@@ -126,7 +123,7 @@ not_of_peer t host x follower b own r u of_peer =
     ⊎_elim (λ (p : x.is_public ≡ true). not_both x.is_public p u.hidden)
     (λ (q : (bytes_eq b follower ≡ true) ⊎ (is_among b x.recipients ≡ true)). ⊎_elim (λ (p : bytes_eq b follower ≡ true). not_both (is_of_peer host x.author) (rw (own, ← (bytes_eq-is b follower p)) of_peer) u.other)
     (λ (p : is_among b x.recipients ≡ true). not_both (list_any (reaches t host x.author) x.recipients)
-      (among_any (reaches t host x.author) b x.recipients (rw (of_peer, own, r.free) refl) p) u.none) q) r.is
+    (among_any (reaches t host x.author) b x.recipients (rw (of_peer, own, r.free) refl) p) u.none) q) r.is
 
 none_reached : (t : Town) (host : List ℕ) (x z : Act) (follower b : List ℕ) → IsHidden t x follower b z → IsUnseenBy t host x → list_any (reaches t host z.author) z.recipients ≡ false
 unfolding reaches

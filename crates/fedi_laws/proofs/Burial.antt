@@ -1,12 +1,11 @@
 -- A Tombstone stays as it is.
 use Rattle.std.proofs.Common.{◌≡◌, ℕ, Bool, true, false, List, [], ◌∷◌, ◌++◌, Option, Some, None, refl, sym, ap, subst, ◌∙◌}
-use Rattle.std.specs.Prelude.{◌&&◌, ◌||◌, not, option_to_list, if◌then◌else◌}
-use Rattle.std.specs.List.{fold, find, list_any}
+use Rattle.std.specs.Prelude.{◌&&◌, ◌||◌, if◌then◌else◌}
+use Rattle.std.specs.List.{fold}
 use Rattle.std.specs.Str.{bytes_eq}
 use Rattle.std.proofs.lemmas.Bool.{and_parts}
 use Rattle.std.proofs.lemmas.List.Sums.{fold-append}
 use Rattle.fedi_objects.specs.declared.activity.Activity.{Activity}
-use Rattle.fedi_objects.specs.declared.activity.ObjectRef.{ObjectRef}
 use Rattle.fedi_objects.specs.declared.entry.Entry.{Entry}
 use Rattle.fedi_objects.specs.declared.entry.Entry.TheVariants.{Hosted, Made, PeerSet, Local, Remote, Tried}
 use Rattle.fedi_objects.specs.declared.kind.State.TheVariants.{Done}
@@ -16,7 +15,7 @@ use Rattle.fedi_town.specs.declared.act.Act.{Act}
 use Rattle.fedi_town.specs.declared.addition.Addition.TheVariants as additions
 use Rattle.fedi_town.specs.declared.deed.Deed.{Deed}
 use Rattle.fedi_town.specs.declared.deed.Deed.TheVariants.{Create, Update, Delete, Follow, Like, Announce, Block, Accept, Reject, Undo, Other}
-use Rattle.fedi_town.specs.Activities.{local_act, remote_act, receive_ref}
+use Rattle.fedi_town.specs.Activities.{local_act, remote_act}
 use Rattle.fedi_town.specs.Deeds.{is_create, is_update, is_delete, is_done, deed_of}
 use Rattle.fedi_town.specs.Effects.{acceptance}
 use Rattle.fedi_town.specs.Histories.{addition_of, member_addition, post_addition, inbox_addition, delivery_addition, is_known, step, town}
@@ -68,7 +67,7 @@ not_updated t local author Update full (Some own) id dead =
       | true ↦ λ e.
           let same : own ≡ id = bytes_eq-is own id e in
           let plain : is_done (state_with t local author Update full (Some own)) ≡ false =
-            subst (λ (j : List ℕ). is_done (state_with t local author Update full (Some j)) ≡ false) (sym same) (plain_of (local || full) (is_own_live author (maker t id)) dead) in
+          subst (λ (j : List ℕ). is_done (state_with t local author Update full (Some j)) ≡ false) (sym same) (plain_of (local || full) (is_own_live author (maker t id)) dead) in
           rw plain refl
       | false ↦ λ e. and_none (is_done (state_with t local author Update full (Some own)))
     ] refl
@@ -92,7 +91,7 @@ not_deleted t local author Delete full (Some own) id dead =
       | true ↦ λ e.
           let same : own ≡ id = bytes_eq-is own id e in
           let plain : is_done (state_with t local author Delete full (Some own)) ≡ false =
-            subst (λ (j : List ℕ). is_done (state_with t local author Delete full (Some j)) ≡ false) (sym same) (rw dead refl) in
+          subst (λ (j : List ℕ). is_done (state_with t local author Delete full (Some j)) ≡ false) (sym same) (rw dead refl) in
           rw plain refl
       | false ↦ λ e. and_none (is_done (state_with t local author Delete full (Some own)))
     ] refl

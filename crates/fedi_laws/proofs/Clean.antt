@@ -1,17 +1,17 @@
 -- No answer names those who are hidden.
 use Rattle.std.proofs.Common.{◌≡◌, ℕ, zero, suc, ◌+◌, Bool, true, false, List, [], ◌∷◌, ◌++◌, length, Option, Some, None, refl}
 use Rattle.std.proofs.lemmas.Bool.{and_parts}
-use Rattle.std.specs.Prelude.{◌&&◌, ◌||◌, ◌==◌, not, map, codes, nat_le, nat_lt, if◌then◌else◌}
+use Rattle.std.specs.Prelude.{◌&&◌, ◌||◌, ◌==◌, map, codes, nat_le, nat_lt, if◌then◌else◌}
 use Rattle.std.specs.Ordering.{nat_cmp, match_ordering}
 use Rattle.std.specs.declared.cmp.Ordering.TheVariants.{Less, Equal, Greater}
 use Rattle.std.specs.Cmp.Lexicographic.{slice_cmp}
 use Rattle.std.specs.Str.{bytes_eq}
-use Rattle.serde_json.specs.Data.{Data, Num, unsigned, number, string, array, object, Items, item, Members, no_members, member, put}
+use Rattle.serde_json.specs.Data.{Data, Num, unsigned, number, string, array, Members, no_members, member, put}
 use Rattle.serde_json.specs.View.{items_of}
 use Rattle.fedi_town.specs.declared.refusal.Refusal.{Refusal}
 use Rattle.fedi_town.specs.declared.refusal.Refusal.TheVariants.{NotFound, BadQuery, ActorFull, KeyReused, NotOrigin}
 use Rattle.fedi_address.specs.Recipients.{is_among}
-use Rattle.fedi_objects.specs.Forms.{is_open, is_clean, items_are_clean, members_are_clean, with_context, activity_form, object_form, is_tombstone}
+use Rattle.fedi_objects.specs.Forms.{is_open, is_clean, items_are_clean, members_are_clean, with_context, object_form, is_tombstone}
 use Rattle.fedi_objects.specs.declared.object.Object as objects
 use Rattle.fedi_objects.proofs.FormLemmas.{is_clean-activity_form, is_clean-object_form}
 use Rattle.fedi_town.specs.declared.act.Act.{Act}
@@ -37,7 +37,7 @@ use Rattle.fedi_asks.specs.declared.ask.Resource.{Resource}
 use Rattle.fedi_asks.specs.declared.post.Post.{Post}
 use Rattle.fedi_asks.specs.declared.post.Read.{Read}
 use Rattle.fedi_asks.specs.declared.post.Read.TheVariants.{NotJson, Bad, Ready}
-use Rattle.fedi_asks.specs.Answers.{Answer, Refuse, Document, Profile, Grave, unless_refused}
+use Rattle.fedi_asks.specs.Answers.{Answer, Refuse, Document, Grave, unless_refused}
 use Rattle.fedi_asks.specs.Asks.{id_at, answer_of}
 use Rattle.fedi_asks.specs.Cleanness.{is_clean_answer}
 use Rattle.fedi_asks.specs.Documents.{actor_form, self_link, links_of, jrd_form, embedded_form, item_form, page_id, with_ends, summary_form, with_next, with_prev, page_form}

@@ -1,6 +1,6 @@
 -- A pair that is due stays due until it is tried.
-use Rattle.std.proofs.Common.{◌≡◌, ℕ, ◌+◌, ◌≤◌, Bool, true, false, leb, List, [], ◌∷◌, ◌++◌, Option, Some, None, refl, sym, ap, subst, ◌∙◌, arith}
-use Rattle.std.specs.Prelude.{◌&&◌, ◌||◌, not, map, filter, nat_le, if◌then◌else◌}
+use Rattle.std.proofs.Common.{◌≡◌, ℕ, ◌≤◌, Bool, true, false, List, [], ◌∷◌, ◌++◌, Option, Some, None, refl, sym, ap, subst, ◌∙◌, arith}
+use Rattle.std.specs.Prelude.{◌||◌, map, filter, if◌then◌else◌}
 use Rattle.std.specs.List.{list_any, fold}
 use Rattle.std.proofs.lemmas.Bool.{and_parts, le-leb, leb-true}
 use Rattle.std.proofs.lemmas.List.{append-nil}
@@ -13,9 +13,8 @@ use Rattle.fedi_objects.specs.declared.entry.Entry.{Entry}
 use Rattle.fedi_objects.specs.declared.entry.Entry.TheVariants.{Hosted, Made, PeerSet, Local, Remote, Tried}
 use Rattle.fedi_objects.specs.declared.kind.State.{State}
 use Rattle.fedi_objects.specs.declared.kind.State.TheVariants.{Accepted, Undone}
-use Rattle.fedi_laws.proofs.Lists.{filter-none}
 use Rattle.fedi_laws.proofs.Reached.{is_among-push}
-use Rattle.fedi_laws.proofs.Steps.{with_act, answers, after_post, after_delivery, after_inbox}
+use Rattle.fedi_laws.proofs.Steps.{answers, after_post, after_delivery, after_inbox}
 use Rattle.fedi_town.specs.Activities.{local_act, remote_act}
 use Rattle.fedi_town.specs.Addressing.{is_of_town}
 use Rattle.fedi_town.specs.Effects.{acceptance, where_passes, in_state, end_follow, is_pending_follow, is_standing_activity, affect, effect_of, accept}

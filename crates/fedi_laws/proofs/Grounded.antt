@@ -1,6 +1,6 @@
 -- Each Update that is done is of an object that was made.
-use Rattle.std.proofs.Common.{◌≡◌, ℕ, Bool, true, false, List, [], ◌∷◌, ◌++◌, Option, Some, None, refl, sym, ap, subst, ◌∙◌}
-use Rattle.std.specs.Prelude.{◌&&◌, ◌||◌, not, map, if◌then◌else◌, is_none, option_to_list}
+use Rattle.std.proofs.Common.{◌≡◌, ℕ, Bool, true, false, List, [], ◌∷◌, ◌++◌, Option, Some, None, refl, subst, ◌∙◌}
+use Rattle.std.specs.Prelude.{◌&&◌, ◌||◌, not, map, if◌then◌else◌, option_to_list}
 use Rattle.std.specs.List.{list_any, list_all, find, fold}
 use Rattle.std.proofs.lemmas.List.{append-nil}
 use Rattle.std.proofs.lemmas.List.Folds.{list_any-append, list_all-append}
@@ -9,23 +9,22 @@ use Rattle.fedi_objects.specs.declared.activity.ObjectRef.{ObjectRef}
 use Rattle.fedi_objects.specs.declared.activity.ObjectRef.TheVariants.{Nothing, Id, Whole, Changed}
 use Rattle.fedi_objects.specs.declared.entry.Entry.{Entry}
 use Rattle.fedi_objects.specs.declared.entry.Entry.TheVariants.{Hosted, Made, PeerSet, Local, Remote, Tried}
-use Rattle.fedi_objects.specs.declared.kind.State.{State}
-use Rattle.fedi_objects.specs.declared.kind.State.TheVariants.{Plain, Done}
+use Rattle.fedi_objects.specs.declared.kind.State.TheVariants.{Done}
 use Rattle.fedi_objects.specs.declared.object.Object.{Object}
 use Rattle.fedi_objects.specs.Forms.{is_tombstone}
 use Rattle.fedi_town.specs.declared.addition.Addition.TheVariants as additions
 use Rattle.fedi_town.specs.Activities.{receive_object, complete_tombstone}
 use Rattle.fedi_laws.proofs.Kept.{IsKept, changed-kept, made-kept}
-use Rattle.fedi_laws.proofs.Lists.{list_any-through, find-none, first_none, other_none}
-use Rattle.fedi_laws.proofs.Steps.{accept_in_steps, with_act, accepts_for, answers, after_delivery, after_inbox, after_post}
-use Rattle.fedi_town.specs.Activities.{local_act, remote_act, complete_ref, receive_ref}
+use Rattle.fedi_laws.proofs.Lists.{list_any-through, find-none}
+use Rattle.fedi_laws.proofs.Steps.{accept_in_steps, with_act, accepts_for, after_delivery, after_inbox, after_post}
+use Rattle.fedi_town.specs.Activities.{local_act, remote_act, receive_ref}
 use Rattle.fedi_town.specs.Deeds.{is_update, is_done, is_accepted, is_follow, deed_of}
 use Rattle.fedi_town.specs.Effects.{acceptance, accept_for, affect, effect_of, accept_by, accept, followee}
 use Rattle.fedi_town.specs.Histories.{with_addition, member_addition, with_recipient, is_known, step, town}
-use Rattle.fedi_town.specs.Objects.{makes, maker, is_buried, is_whole}
-use Rattle.fedi_town.specs.Relations.{ref_id, has_activity_id, is_about}
-use Rattle.fedi_town.specs.States.{state_of, state_with, state_about, only_where, is_own_live}
-use Rattle.fedi_town.specs.Towns.{Town, deed, empty_town, is_by, id_of}
+use Rattle.fedi_town.specs.Objects.{makes, maker, is_whole}
+use Rattle.fedi_town.specs.Relations.{ref_id, has_activity_id}
+use Rattle.fedi_town.specs.States.{state_of, state_with, only_where, is_own_live}
+use Rattle.fedi_town.specs.Towns.{Town, deed, empty_town, id_of}
 use Rattle.fedi_town.specs.declared.act.Act.{Act}
 use Rattle.fedi_town.specs.declared.act.Actor.{Actor}
 use Rattle.fedi_town.specs.declared.deed.Deed.{Deed}
@@ -80,9 +79,11 @@ push-grows acts ys = record { made = λ id there. list_any-append (makes id) act
 
 -- one more, whose own is there
 pushed : (acts : List Act) (x : Act) → AreGrounded acts → is_grounded acts x ≡ true → AreGrounded (acts ++ x ∷ [])
-pushed acts x h own = record { all =
-    list_all-append (is_grounded (acts ++ x ∷ [])) acts (x ∷ [])
-    ∙ rw (all-grows acts (acts ++ x ∷ []) (push-grows acts (x ∷ [])) acts h.all, is_grounded-grows acts (acts ++ x ∷ []) (push-grows acts (x ∷ [])) x own) refl }
+pushed acts x h own = record {
+  all =
+      list_all-append (is_grounded (acts ++ x ∷ [])) acts (x ∷ [])
+      ∙ rw (all-grows acts (acts ++ x ∷ []) (push-grows acts (x ∷ [])) acts h.all, is_grounded-grows acts (acts ++ x ∷ []) (push-grows acts (x ∷ [])) x own) refl;
+}
 
 mapped-grows : (f : Act → Act) → ((y : Act) → IsKept y (f y)) → (acts : List Act) → Grows acts (map f acts)
 mapped-grows f k acts = record { made = λ id there. list_any-through f (makes id) (makes id) (λ y. made-kept y (f y) (k y) id) acts ∙ there }

@@ -1,11 +1,11 @@
 -- In a legal history no two activities have one id.
-use Rattle.std.proofs.Common.{◌≡◌, ℕ, ◌+◌, ◌^◌, ◌<◌, ◌≤◌, Bool, true, false, ltb, List, [], ◌∷◌, ◌++◌, length, Option, Some, None, refl, sym, ap, subst, ◌∙◌, arith, append_assoc}
-use Rattle.std.specs.Prelude.{◌&&◌, ◌||◌, not, map, filter, codes, decimal, nat_lt, is_none, is_some, if◌then◌else◌, option_map}
-use Rattle.std.specs.List.{list_any, list_all, find, fold}
+use Rattle.std.proofs.Common.{◌≡◌, ℕ, ◌+◌, ◌^◌, ◌<◌, Bool, true, false, List, [], ◌∷◌, ◌++◌, length, Some, refl, ap, subst, ◌∙◌, arith}
+use Rattle.std.specs.Prelude.{◌||◌, map, filter, codes, decimal, if◌then◌else◌}
+use Rattle.std.specs.List.{list_any, list_all}
 use Rattle.std.specs.Str.{bytes_eq}
-use Rattle.std.proofs.lemmas.Bool.{and_parts, ltb-true}
+use Rattle.std.proofs.lemmas.Bool.{and_parts}
 use Rattle.std.proofs.lemmas.Fmt.{decimal_injective}
-use Rattle.std.proofs.lemmas.List.{append-nil, append_cancel_left, length-append, length-map}
+use Rattle.std.proofs.lemmas.List.{append_cancel_left, length-append, length-map}
 use Rattle.std.proofs.lemmas.List.Elements.{filter-append}
 use Rattle.std.proofs.lemmas.List.Folds.{list_any-append}
 use Rattle.fedi_address.specs.Hosts.{is_host_text}
@@ -17,10 +17,9 @@ use Rattle.fedi_town.specs.Lists.{PassesOnce}
 use Rattle.fedi_laws.proofs.Lists.{list_any-through, filter-through}
 use Rattle.fedi_laws.proofs.Members.{name_bytes}
 use Rattle.fedi_laws.proofs.Paths.{activity_path_is_plain}
-use Rattle.fedi_town.specs.Histories.{step, town}
 use Rattle.fedi_town.specs.Ids.{actor_id, activity_id, activity_path}
-use Rattle.fedi_town.specs.Relations.{has_activity_id, is_id}
-use Rattle.fedi_town.specs.Towns.{Town, is_by, count_of}
+use Rattle.fedi_town.specs.Relations.{has_activity_id}
+use Rattle.fedi_town.specs.Towns.{is_by}
 use Rattle.fedi_town.specs.declared.act.Act.{Act}
 use Rattle.fedi_laws.proofs.Texts.{is_false, not_both, bytes_eq-is, bytes_eq-same}
 
@@ -91,9 +90,11 @@ pushed : (host : List ℕ) (acts : List Act) (x : Act) → AreOnce host acts →
     → AreOnce host (acts ++ x ∷ [])
 pushed host acts x h new other = record {
   once = λ id. PassesOnce-push (has_activity_id id) acts x (h.once id) (new id);
-  fresh = record { free = λ name n named above small.
-    list_any-append (has_activity_id (activity_id host name n)) acts (x ∷ [])
-    ∙ rw (h.fresh.free name n named (omega (arith, count-push (actor_id host name) acts x)) small, other name n named above small) refl };
+  fresh = record {
+    free = λ name n named above small.
+        list_any-append (has_activity_id (activity_id host name n)) acts (x ∷ [])
+        ∙ rw (h.fresh.free name n named (omega (arith, count-push (actor_id host name) acts x)) small, other name n named above small) refl;
+  };
 }
 
 -- the next activity of a member
@@ -105,14 +106,14 @@ next_once host name acts x h named author id small =
     let k : ℕ = count author_id acts + 1 in
     pushed host acts x h
     (λ i has.
-      let is : bytes_eq (activity_id host name k) i ≡ true = rw id at has in
-      subst (λ (j : List ℕ). list_any (has_activity_id j) acts ≡ false) (bytes_eq-is (activity_id host name k) i is) (h.fresh.free name k named (omega arith) small))
+    let is : bytes_eq (activity_id host name k) i ≡ true = rw id at has in
+    subst (λ (j : List ℕ). list_any (has_activity_id j) acts ≡ false) (bytes_eq-is (activity_id host name k) i is) (h.fresh.free name k named (omega arith) small))
     (λ other n of_name above few. rw id (is_false (bytes_eq (activity_id host name k) (activity_id host other n)) (λ e.
-      let same = same_number host name other k n small few named of_name (bytes_eq-is (activity_id host name k) (activity_id host other n) e) in
-      let own : bytes_eq x.author (actor_id host other) ≡ true = rw (author, same.0) (bytes_eq-same (actor_id host other)) in
-      let more : count (actor_id host other) (acts ++ x ∷ []) ≡ count (actor_id host other) acts + 1 = count-push (actor_id host other) acts x ∙ rw own refl in
-      let there : k ≡ count (actor_id host other) acts + 1 = rw same.0 refl in
-      omega (arith, same.1, more, there, above))))
+    let same = same_number host name other k n small few named of_name (bytes_eq-is (activity_id host name k) (activity_id host other n) e) in
+    let own : bytes_eq x.author (actor_id host other) ≡ true = rw (author, same.0) (bytes_eq-same (actor_id host other)) in
+    let more : count (actor_id host other) (acts ++ x ∷ []) ≡ count (actor_id host other) acts + 1 = count-push (actor_id host other) acts x ∙ rw own refl in
+    let there : k ≡ count (actor_id host other) acts + 1 = rw same.0 refl in
+    omega (arith, same.1, more, there, above))))
 
 -- an activity of another host, whose id is new
 pub foreign_once : (host : List ℕ) (acts : List Act) (x : Act) (id : List ℕ) → AreOnce host acts → is_host_text host ≡ true → x.activity.id ≡ Some id
@@ -122,9 +123,9 @@ foreign_once host acts x id h shape own new other =
     pushed host acts x h
     (λ i has. let is : bytes_eq id i ≡ true = rw own at has in subst (λ (j : List ℕ). list_any (has_activity_id j) acts ≡ false) (bytes_eq-is id i is) new)
     (λ name n named above few. rw own (is_false (bytes_eq id (activity_id host name n)) (λ e.
-      let same : id ≡ activity_id host name n = bytes_eq-is id (activity_id host name n) e in
-      let at : host_of id ≡ host = ap host_of same ∙ host_of-address host (activity_path name n) shape (activity_path_is_plain name n few named) in
-      not_both (bytes_eq (host_of id) host) (rw at (bytes_eq-same host)) other)))
+    let same : id ≡ activity_id host name n = bytes_eq-is id (activity_id host name n) e in
+    let at : host_of id ≡ host = ap host_of same ∙ host_of-address host (activity_path name n) shape (activity_path_is_plain name n few named) in
+    not_both (bytes_eq (host_of id) host) (rw at (bytes_eq-same host)) other)))
 
 -- changes that leave author and id
 pub mapped_once : (host : List ℕ) (f : Act → Act) → ((y : Act) → (f y).author ≡ y.author) → ((y : Act) → (f y).activity.id ≡ y.activity.id)
@@ -132,7 +133,9 @@ pub mapped_once : (host : List ℕ) (f : Act → Act) → ((y : Act) → (f y).a
 unfolding has_activity_id
 mapped_once host f author own acts h = record {
   once = λ id. PassesOnce-map f (has_activity_id id) (λ y. rw (own y) refl) acts (h.once id);
-  fresh = record { free = λ name n named above small.
-    list_any-through f (has_activity_id (activity_id host name n)) (has_activity_id (activity_id host name n)) (λ y. rw (own y) refl) acts
-    ∙ h.fresh.free name n named (omega (arith, count-map (actor_id host name) f author acts)) small };
+  fresh = record {
+    free = λ name n named above small.
+        list_any-through f (has_activity_id (activity_id host name n)) (has_activity_id (activity_id host name n)) (λ y. rw (own y) refl) acts
+        ∙ h.fresh.free name n named (omega (arith, count-map (actor_id host name) f author acts)) small;
+  };
 }

@@ -1,6 +1,6 @@
 -- In a legal history no two activities have one id: the steps.
-use Rattle.std.proofs.Common.{◌≡◌, ℕ, ◌+◌, ◌^◌, ◌<◌, Bool, true, false, ltb, List, [], ◌∷◌, ◌++◌, length, Option, Some, None, refl, sym, ap, subst, ◌∙◌, arith}
-use Rattle.std.specs.Prelude.{◌&&◌, ◌||◌, not, map, filter, nat_lt, is_none, is_some, if◌then◌else◌, option_map, option_to_list}
+use Rattle.std.proofs.Common.{◌≡◌, ℕ, ◌+◌, ◌^◌, ◌<◌, Bool, true, false, List, [], ◌∷◌, ◌++◌, length, Option, Some, None, refl, sym, ap, subst, ◌∙◌, arith}
+use Rattle.std.specs.Prelude.{◌&&◌, ◌||◌, not, map, filter, nat_lt, is_none, if◌then◌else◌, option_map, option_to_list}
 use Rattle.std.specs.List.{list_any, list_all, find, fold}
 use Rattle.std.specs.Str.{bytes_eq}
 use Rattle.std.proofs.lemmas.Bool.{and_parts, ltb-true}
@@ -13,34 +13,34 @@ use Rattle.fedi_objects.specs.declared.activity.ObjectRef.{ObjectRef}
 use Rattle.fedi_objects.specs.declared.entry.Entry.{Entry}
 use Rattle.fedi_objects.specs.declared.entry.Entry.TheVariants.{Hosted, Made, PeerSet, Local, Remote, Tried}
 use Rattle.fedi_objects.specs.declared.kind.State.TheVariants.{Accepted, Pending, Rejected}
-use Rattle.fedi_laws.proofs.Due.{GoesOn, affected_on, also_on}
+use Rattle.fedi_laws.proofs.Due.{affected_on, also_on}
 use Rattle.fedi_town.specs.Lists.{PassesOnce}
 use Rattle.fedi_laws.proofs.Grounded.{ref_id-received}
-use Rattle.fedi_laws.proofs.IdsOnce.{AreOnce, IsFresh, next_once, foreign_once, mapped_once, count-push, count-map}
+use Rattle.fedi_laws.proofs.IdsOnce.{AreOnce, next_once, foreign_once, mapped_once, count-push, count-map}
 use Rattle.fedi_laws.proofs.Lists.{list_any-through}
 use Rattle.fedi_laws.proofs.Members.{is_member, IsFound, found}
-use Rattle.fedi_laws.proofs.Sound.{IsHosted, IsSound, is_set, step_sound}
-use Rattle.fedi_laws.proofs.Steps.{accept_in_steps, with_act, accepts_for, answers, after_delivery, after_inbox, after_post}
+use Rattle.fedi_laws.proofs.Sound.{IsHosted, is_set, step_sound}
+use Rattle.fedi_laws.proofs.Steps.{accept_in_steps, with_act, accepts_for, after_delivery, after_inbox, after_post}
 use Rattle.fedi_laws.proofs.People.{id_of-is, named_is}
-use Rattle.fedi_town.specs.Activities.{local_act, remote_act, receive_ref}
+use Rattle.fedi_town.specs.Activities.{local_act, remote_act}
 use Rattle.fedi_town.specs.Deeds.{is_follow, is_accepted, deed_of}
-use Rattle.fedi_town.specs.Deliveries.{is_foreign, is_at, is_beside, is_of_another}
+use Rattle.fedi_town.specs.Deliveries.{is_foreign, is_of_another}
 use Rattle.fedi_town.specs.Effects.{acceptance, accept_for, affect, effect_of, accept_by, accept, followee}
 use Rattle.fedi_town.specs.declared.addition.Addition.TheVariants as additions
 use Rattle.fedi_town.specs.Histories.{with_addition, member_addition, with_recipient, is_known, step, town}
-use Rattle.fedi_town.specs.Ids.{actor_id, activity_id}
+use Rattle.fedi_town.specs.Ids.{actor_id}
 use Rattle.fedi_town.specs.Legal.{is_admissible, is_legal_from, IsLegal, may_post, may_deliver}
 use Rattle.fedi_town.specs.Objects.{is_whole}
 use Rattle.fedi_town.specs.Relations.{ref_id, has_activity_id, is_actor, has_block_between}
 use Rattle.fedi_town.specs.Shapes.{is_delivered, is_posted}
-use Rattle.fedi_town.specs.States.{state_of, state_with, state_about, follow_state, has_room, is_locked, only_where}
+use Rattle.fedi_town.specs.States.{state_of, state_about, follow_state, has_room, is_locked, only_where}
 use Rattle.fedi_town.specs.Towns.{Town, deed, empty_town, has_id, has_name, is_by, has_host, id_of, count_of, count_after}
 use Rattle.fedi_town.specs.declared.act.Act.{Act}
 use Rattle.fedi_town.specs.declared.act.Actor.{Actor}
 use Rattle.fedi_town.specs.declared.act.Peer.{Peer}
 use Rattle.fedi_town.specs.declared.deed.Deed.{Deed}
 use Rattle.fedi_town.specs.declared.deed.Deed.TheVariants.{Create, Update, Delete, Follow, Like, Announce, Block, Accept, Reject, Undo, Other}
-use Rattle.fedi_laws.proofs.Texts.{not_both, is_false, bytes_eq-is, bytes_eq-same}
+use Rattle.fedi_laws.proofs.Texts.{bytes_eq-is}
 
 -- nothing before the server was set up, and then each id once
 abbrev pub HasIds : Option (List ℕ) → List Act → Type 0
@@ -156,12 +156,16 @@ record IsAt (t : Town) (host : List ℕ) : Type 0 where
   all : list_all (is_member (Some host)) t.actors ≡ true
 
 local_roomy : (t : Town) (host name : List ℕ) (repeat : Option (List ℕ × List ℕ)) (a : Activity) (moment : ℕ) → IsRoomy t (local_act t host name repeat a moment)
-local_roomy t host name repeat a moment = record { room = λ b does about state.
-    room_of t true (actor_id host name) b (deed_of a.kind) (local_act t host name repeat a moment).activity.object (follows_is (deed_of a.kind) does) about state }
+local_roomy t host name repeat a moment = record {
+  room = λ b does about state.
+      room_of t true (actor_id host name) b (deed_of a.kind) (local_act t host name repeat a moment).activity.object (follows_is (deed_of a.kind) does) about state;
+}
 
 remote_roomy : (t : Town) (owner author : List ℕ) (a : Activity) (moment : ℕ) → IsRoomy t (remote_act t owner author a moment)
-remote_roomy t owner author a moment = record { room = λ b does about state.
-    room_of t false author b (deed_of a.kind) a.object (follows_is (deed_of a.kind) does) (sym (ref_id-received author moment a.object) ∙ about) state }
+remote_roomy t owner author a moment = record {
+  room = λ b does about state.
+      room_of t false author b (deed_of a.kind) a.object (follows_is (deed_of a.kind) does) (sym (ref_id-received author moment a.object) ∙ about) state;
+}
 
 changed_once : (t : Town) (host : List ℕ) (x : Act) → AreOnce host t.acts → AreOnce host (map (affect (effect_of t x)) t.acts)
 changed_once t host x h = mapped_once host (affect (effect_of t x)) (λ y. (affected_on (effect_of t x) y).author) (λ y. (affected_on (effect_of t x) y).own) t.acts h

@@ -1,5 +1,5 @@
 -- Objects in the club, computed.
-use Rattle.std.proofs.Common.{refl, ap}
+use Rattle.std.proofs.Common.{refl}
 use Rattle.std.specs.Fmt.{digits}
 use Rattle.fedi_address.specs.Iris.{host_of}
 use Rattle.fedi_address.specs.Pieces.{after_any}

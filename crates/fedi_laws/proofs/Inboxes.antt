@@ -1,20 +1,19 @@
 -- A delivery that only adds an inbox changes nothing for others than that inbox's owner.
-use Rattle.std.proofs.Common.{◌≡◌, ℕ, ◌+◌, Bool, true, false, List, [], ◌∷◌, ◌++◌, length, Option, Some, None, refl, sym, ap, subst, ◌∙◌}
-use Rattle.std.specs.Prelude.{◌&&◌, ◌||◌, not, map, filter, option_map, if◌then◌else◌}
-use Rattle.std.specs.List.{list_any, list_all, find, filter_map}
+use Rattle.std.proofs.Common.{◌≡◌, ℕ, Bool, true, false, List, [], ◌∷◌, ◌++◌, length, Option, Some, None, refl, ap, ◌∙◌}
+use Rattle.std.specs.Prelude.{map, filter, option_map, if◌then◌else◌}
+use Rattle.std.specs.List.{list_any, find, filter_map}
 use Rattle.std.specs.Str.{bytes_eq}
 use Rattle.std.proofs.lemmas.List.{length-map}
 use Rattle.std.proofs.lemmas.List.Folds.{list_any-append}
 use Rattle.fedi_address.specs.Recipients.{is_among}
 use Rattle.fedi_laws.proofs.Lists.{list_any-through, filter-through, find-through, map-through, list_any-agree}
-use Rattle.fedi_town.specs.Agreement.{Agree, SameOwn, IsSameOwn, repeats_of, peer_of}
-use Rattle.fedi_town.specs.Deeds.{is_create, is_update, is_done}
+use Rattle.fedi_town.specs.Agreement.{Agree, SameOwn, IsSameOwn, peer_of}
 use Rattle.fedi_town.specs.Histories.{with_recipient}
 use Rattle.fedi_town.specs.Objects.{makes, maker_of, object_of}
 use Rattle.fedi_town.specs.Relations.{ref_id, has_activity_id, is_id, is_about, is_block_of, blocks, has_block_between}
 use Rattle.fedi_town.specs.Seeing.{sees, sees_as, sees_with, seen, reaches, is_of_peer}
-use Rattle.fedi_town.specs.Showing.{sight_of, shown_ref, shown_activity, present_object, object_or_id, ref_to, id_of_caller, own_among, view}
-use Rattle.fedi_town.specs.Towns.{Town, id_of, is_by, deed}
+use Rattle.fedi_town.specs.Showing.{sight_of, shown_ref, shown_activity, present_object, id_of_caller, own_among, view}
+use Rattle.fedi_town.specs.Towns.{Town, id_of, is_by}
 use Rattle.fedi_town.specs.declared.act.Act.{Act}
 use Rattle.fedi_town.specs.declared.caller.Caller.{Caller}
 use Rattle.fedi_town.specs.declared.caller.Caller.TheVariants.{Nobody, Actor, Peer}
@@ -49,8 +48,12 @@ among-inbox me owner rs other = list_any-append (λ u. bytes_eq u me) rs (owner 
 sees_as-inbox : (t : Town) (id owner me : List ℕ) (y : Act) → bytes_eq owner me ≡ false → sees_as (with_owner t id owner) me (with_recipient id owner y) ≡ sees_as t me y
 unfolding sees_as is_by
 sees_as-inbox t id owner me y other =
-    rw (also-same (λ z. z.author) id owner y refl, also-same (λ z. z.is_public) id owner y refl,
-    also-same (λ z. is_among me z.recipients) id owner y (among-inbox me owner y.recipients other), between-inbox t id owner me y.author) refl
+    rw (
+      also-same (λ z. z.author) id owner y refl,
+      also-same (λ z. z.is_public) id owner y refl,
+      also-same (λ z. is_among me z.recipients) id owner y (among-inbox me owner y.recipients other),
+      between-inbox t id owner me y.author,
+    ) refl
 
 reaches-inbox : (t : Town) (id owner host author r : List ℕ) → reaches (with_owner t id owner) host author r ≡ reaches t host author r
 unfolding reaches
@@ -68,9 +71,12 @@ any_reached t id owner host author rs other =
 sees_from-inbox : (t : Town) (id owner host : List ℕ) (y : Act) → is_of_peer host owner ≡ false → sees (with_owner t id owner) (Peer host) (with_recipient id owner y) ≡ sees t (Peer host) y
 unfolding sees
 sees_from-inbox t id owner host y other =
-    rw (also-same (λ z. z.author) id owner y refl, also-same (λ z. z.is_public) id owner y refl,
-    list_any-agree (reaches (with_owner t id owner) host y.author) (reaches t host y.author) (reaches-inbox t id owner host y.author) (with_recipient id owner y).recipients,
-    also-same (λ z. list_any (reaches t host y.author) z.recipients) id owner y (any_reached t id owner host y.author y.recipients other)) refl
+    rw (
+      also-same (λ z. z.author) id owner y refl,
+      also-same (λ z. z.is_public) id owner y refl,
+      list_any-agree (reaches (with_owner t id owner) host y.author) (reaches t host y.author) (reaches-inbox t id owner host y.author) (with_recipient id owner y).recipients,
+      also-same (λ z. list_any (reaches t host y.author) z.recipients) id owner y (any_reached t id owner host y.author y.recipients other),
+    ) refl
 
 -- ---- callers who are another
 
@@ -123,8 +129,15 @@ shown_to-inbox : (t : Town) (id owner : List ℕ) (c : Caller) (y : Act) → own
     → id_of_caller (with_owner t id owner) c ≡ id_of_caller t c → sight_of (with_owner t id owner) c (with_recipient id owner y) ≡ sight_of t c y
 unfolding sight_of shown_activity
 shown_to-inbox t id owner c y own me =
-    rw (me, own, ref-inbox t id owner y, also-same (λ z. z.author) id owner y refl, also-same (λ z. z.activity) id owner y refl,
-    also-same (λ z. z.is_public) id owner y refl, also-same (λ z. z.state) id owner y refl) refl
+    rw (
+      me,
+      own,
+      ref-inbox t id owner y,
+      also-same (λ z. z.author) id owner y refl,
+      also-same (λ z. z.activity) id owner y refl,
+      also-same (λ z. z.is_public) id owner y refl,
+      also-same (λ z. z.state) id owner y refl,
+    ) refl
 
 shown-inbox : (t : Town) (id owner : List ℕ) (c : Caller) → IsOther t c owner → (y : Act) → sight_of (with_owner t id owner) c (with_recipient id owner y) ≡ sight_of t c y
 shown-inbox t id owner Nobody other y = shown_to-inbox t id owner Nobody y refl refl
@@ -152,7 +165,7 @@ own_of-inbox t id owner me =
     filter-through (with_recipient id owner) (is_by me) (is_by me) (by-inbox id owner me) t.acts in record {
       count = ap (λ (ys : List Act). length ys) mine ∙ length-map (filter (is_by me) t.acts) (with_recipient id owner);
       repeats = ap (λ (ys : List Act). filter_map (λ y. option_map (λ r. (r, y.activity.id)) y.repeat) ys) mine
-        ∙ filter_map-through (with_recipient id owner) (λ y. option_map (λ r. (r, y.activity.id)) y.repeat) (λ y. option_map (λ r. (r, y.activity.id)) y.repeat)
+          ∙ filter_map-through (with_recipient id owner) (λ y. option_map (λ r. (r, y.activity.id)) y.repeat) (λ y. option_map (λ r. (r, y.activity.id)) y.repeat)
           (λ y. also-same (λ z. option_map (λ r. (r, z.activity.id)) z.repeat) id owner y refl) (filter (is_by me) t.acts);
       blockers = λ b. blocks-inbox t id owner b me;
     }

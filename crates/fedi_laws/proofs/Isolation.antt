@@ -1,36 +1,35 @@
 -- The laws over legal histories.
-use Rattle.std.proofs.Common.{◌≡◌, ℕ, ◌+◌, Bool, true, false, List, [], ◌∷◌, ◌++◌, length, Option, Some, None, refl, sym, ap, subst, ◌∙◌}
-use Rattle.std.specs.Prelude.{◌&&◌, ◌||◌, not, map, codes, is_none, is_some, if◌then◌else◌, option_map}
-use Rattle.std.specs.List.{list_any, list_all, find, fold}
+use Rattle.std.proofs.Common.{◌≡◌, ℕ, Bool, true, false, List, [], ◌∷◌, ◌++◌, Option, Some, None, refl, sym, ap, subst, ◌∙◌}
+use Rattle.std.specs.Prelude.{not, map, codes}
+use Rattle.std.specs.List.{list_any, list_all}
 use Rattle.std.specs.Str.{bytes_eq}
 use Rattle.std.proofs.lemmas.Bool.{and_parts}
 use Rattle.std.proofs.lemmas.List.{append_cancel_left}
 use Rattle.std.proofs.lemmas.List.Sums.{fold-append}
 use Rattle.fedi_address.specs.Hosts.{is_host_text}
-use Rattle.fedi_address.specs.Iris.{host_of}
 use Rattle.fedi_address.specs.Names.{is_name}
 use Rattle.fedi_objects.specs.declared.activity.Activity.{Activity}
 use Rattle.fedi_objects.specs.declared.entry.Entry.{Entry}
-use Rattle.fedi_objects.specs.declared.entry.Entry.TheVariants.{Hosted, Made, PeerSet, Local, Remote, Tried}
+use Rattle.fedi_objects.specs.declared.entry.Entry.TheVariants.{Local, Remote}
 use Rattle.fedi_asks.specs.Asks.{answer_of}
 use Rattle.fedi_asks.specs.Reading.{is_self}
 use Rattle.fedi_asks.specs.declared.ask.Ask.{Ask}
 use Rattle.fedi_laws.proofs.Grounded.{town_grounded, AreGrounded}
 use Rattle.fedi_laws.proofs.Inboxes.{IsOther, inbox_agrees}
-use Rattle.fedi_laws.proofs.Members.{is_member, HasMembers, IsFound, found, host_of-actor_id}
+use Rattle.fedi_laws.proofs.Members.{is_member, host_of-actor_id}
 use Rattle.fedi_laws.proofs.People.{id_at, member_id, named_is, id_of-is, there_is}
 use Rattle.fedi_laws.proofs.Posted.{post_agrees}
-use Rattle.fedi_laws.proofs.Knowledge.{members, Knows, answers_agree}
+use Rattle.fedi_laws.proofs.Knowledge.{Knows, answers_agree}
 use Rattle.fedi_laws.proofs.Sound.{IsSound, IsHosted, is_apart, is_set, town_sound}
 use Rattle.fedi_laws.proofs.Steps.{after_post, after_delivery, after_inbox}
 use Rattle.fedi_laws.proofs.Told.{plain_agrees}
 use Rattle.fedi_town.specs.Activities.{local_act, remote_act}
-use Rattle.fedi_town.specs.Agreement.{Agree, names}
+use Rattle.fedi_town.specs.Agreement.{Agree}
 use Rattle.fedi_town.specs.Deeds.{changes_nothing, is_follow, deed_of}
 use Rattle.fedi_town.specs.Effects.{accept}
 use Rattle.fedi_town.specs.Histories.{step, town, is_known, with_recipient}
 use Rattle.fedi_town.specs.Ids.{actor_id}
-use Rattle.fedi_town.specs.Legal.{is_other_host, IsLegal, is_caller}
+use Rattle.fedi_town.specs.Legal.{IsLegal, is_caller}
 use Rattle.fedi_town.specs.Relations.{is_id}
 use Rattle.fedi_town.specs.Seeing.{sees, is_of_peer}
 use Rattle.fedi_town.specs.Towns.{Town, empty_town, has_name, has_host, id_of}
@@ -56,9 +55,9 @@ agree_knows : (g h : Town) (c : Caller) → IsHosted g → IsHosted h → Agree 
 agree_knows g h c of_g of_h agree = record {
   host = agree.host;
   members = members_by g.host g.actors of_g.sound.members
-    ∙ ap (λ (k : Option (List ℕ)). map (with_id k) (map (λ a. a.name) g.actors)) agree.host
-    ∙ ap (map (with_id h.host)) agree.names
-    ∙ sym (members_by h.host h.actors of_h.sound.members);
+      ∙ ap (λ (k : Option (List ℕ)). map (with_id k) (map (λ a. a.name) g.actors)) agree.host
+      ∙ ap (map (with_id h.host)) agree.names
+      ∙ sym (members_by h.host h.actors of_h.sound.members);
   peer = agree.peer;
   view = agree.view;
   own = agree.own;

@@ -1,17 +1,16 @@
 -- What becomes of an activity keeps its type, whether it is done, and what it is about.
-use Rattle.std.proofs.Common.{◌≡◌, ℕ, Bool, true, false, List, [], ◌∷◌, ◌++◌, Option, Some, None, refl, sym, ap, ◌∙◌}
-use Rattle.std.specs.Prelude.{◌&&◌, ◌||◌, not, map, if◌then◌else◌}
-use Rattle.std.specs.Str.{bytes_eq}
+use Rattle.std.proofs.Common.{◌≡◌, ℕ, Bool, true, false, List, Option, Some, None, refl, sym, ◌∙◌}
+use Rattle.std.specs.Prelude.{◌&&◌, if◌then◌else◌}
 use Rattle.fedi_objects.specs.declared.activity.ObjectRef.{ObjectRef}
 use Rattle.fedi_objects.specs.declared.activity.ObjectRef.TheVariants.{Nothing, Id, Whole, Changed}
 use Rattle.fedi_objects.specs.declared.kind.State.{State}
 use Rattle.fedi_objects.specs.declared.kind.State.TheVariants.{Plain, Done, Pending, Accepted, Rejected, Standing, Undone}
 use Rattle.fedi_objects.specs.declared.object.Object.{Object}
 use Rattle.fedi_town.specs.Addressing.{act_of}
-use Rattle.fedi_town.specs.Deeds.{is_follow, is_done, is_open, is_pending, is_standing, is_create}
+use Rattle.fedi_town.specs.Deeds.{is_follow, is_done, is_open, is_pending, is_standing}
 use Rattle.fedi_town.specs.Effects.{where_passes, in_state, end_follow, is_pending_follow, is_standing_activity, affect, pair_ends, follow_ends, undo_effect, effect_about, effect_with, effect_of, takes_effect}
 use Rattle.fedi_town.specs.Objects.{makes, rewrite_act, rewrite_ref, update_object, change_object, replace_object, tombstone_of}
-use Rattle.fedi_town.specs.Relations.{ref_id, has_activity_id, is_about, is_id, is_open_follow}
+use Rattle.fedi_town.specs.Relations.{ref_id, has_activity_id, is_about, is_open_follow}
 use Rattle.fedi_town.specs.Towns.{Town, deed}
 use Rattle.fedi_town.specs.declared.act.Act.{Act}
 use Rattle.fedi_town.specs.declared.deed.Deed.{Deed}

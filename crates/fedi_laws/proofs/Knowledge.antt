@@ -1,26 +1,25 @@
 -- A reply is a function of what the caller knows, and of the ask.
-use Rattle.std.proofs.Common.{◌≡◌, ℕ, ◌+◌, Bool, true, false, List, [], ◌∷◌, ◌++◌, length, Option, Some, None, refl, sym, ap, subst, ◌∙◌}
-use Rattle.std.specs.Prelude.{◌&&◌, ◌||◌, not, nat_lt, nat_le, map, filter, option_map, if◌then◌else◌}
-use Rattle.std.specs.List.{list_any, list_all, find}
+use Rattle.std.proofs.Common.{◌≡◌, ℕ, Bool, true, false, List, [], ◌∷◌, length, Option, Some, None, refl, sym, ap, subst, ◌∙◌}
+use Rattle.std.specs.Prelude.{◌&&◌, map, filter, option_map, if◌then◌else◌}
+use Rattle.std.specs.List.{list_any, find}
 use Rattle.std.specs.Str.{bytes_eq}
 use Rattle.std.proofs.lemmas.List.{length-map}
 use Rattle.serde_json.specs.Data.{Data, string}
 use Rattle.fedi_town.specs.declared.refusal.Refusal.{Refusal}
-use Rattle.fedi_town.specs.declared.refusal.Refusal.TheVariants.{NotFound, NotOwner, BadQuery, NoKey, WrongType, ActorFull, NotOrigin}
+use Rattle.fedi_town.specs.declared.refusal.Refusal.TheVariants.{NotFound, NotOwner, BadQuery, NoKey, NotOrigin}
 use Rattle.fedi_objects.specs.declared.activity.Activity as activities
 use Rattle.fedi_objects.specs.declared.kind.State.{State}
 use Rattle.fedi_objects.specs.Forms.{activity_form}
-use Rattle.fedi_asks.specs.Answers.{Answer, Refuse, Document, Created, unless_refused}
+use Rattle.fedi_asks.specs.Answers.{Answer, Refuse, Document, unless_refused}
 use Rattle.fedi_asks.specs.Asks.{id_at, answer_of}
-use Rattle.fedi_asks.specs.Documents.{collection_id, embedded_form, item_form, summary_form, page_form}
-use Rattle.fedi_asks.specs.Posting.{kept_under, is_bad_key, Judgement, Stop, Repeat, Keep, judge_activity, unless_kept, judge_read, by_steps, judge_post, answer_post, post_answer, delivery_answer, judge_inbox, judge_delivery, answer_delivery, is_there}
+use Rattle.fedi_asks.specs.Documents.{collection_id, embedded_form, item_form}
+use Rattle.fedi_asks.specs.Posting.{is_bad_key, Judgement, Stop, Repeat, Keep, judge_activity, judge_read, by_steps, answer_post, post_answer, delivery_answer, judge_delivery, answer_delivery, is_there}
 use Rattle.fedi_asks.specs.Reading.{activity_document, activity_or_missing, activity_answer, object_document, made_document, object_or_missing, object_answer, is_self, is_nobody, is_peer, name_of, reading_rule, marks_rule, object_rule, part_answer, items_answer, owner_answer, member_answer, collection_answer, resource_answer, webfinger_answer}
 use Rattle.fedi_asks.specs.declared.ask.Ask.{Ask}
 use Rattle.fedi_asks.specs.declared.ask.Ask.TheVariants.{Nowhere, WrongMethod, Webfinger, Actor, Collection, Activity, Object, Outbox, Inbox}
 use Rattle.fedi_asks.specs.declared.ask.PageAsk.{PageAsk}
 use Rattle.fedi_asks.specs.declared.ask.PageAsk.TheVariants as pages
 use Rattle.fedi_asks.specs.declared.ask.Resource.{Resource}
-use Rattle.fedi_asks.specs.declared.post.KeyAsk.{KeyAsk}
 use Rattle.fedi_asks.specs.declared.post.Post.{Post}
 use Rattle.fedi_asks.specs.declared.post.Read.{Read}
 use Rattle.fedi_asks.specs.declared.post.Read.TheVariants.{NotJson, Bad, Ready}
@@ -28,18 +27,18 @@ use Rattle.fedi_laws.proofs.Alike.{IsAlike, shown_alike}
 use Rattle.fedi_laws.proofs.Lists.{list_any-through, filter-through, find-through, map-through}
 use Rattle.fedi_laws.proofs.Pages.{page_of-map, firsts-map}
 use Rattle.fedi_town.specs.Addressing.{is_nobody_here, is_of_town}
-use Rattle.fedi_town.specs.Agreement.{Agree, SameOwn, IsSameOwn, repeats_of, peer_of}
-use Rattle.fedi_town.specs.Collections.{owner_of, is_item, is_same_item, items, object_key, text_of, page_of, highest}
+use Rattle.fedi_town.specs.Agreement.{SameOwn, IsSameOwn, peer_of}
+use Rattle.fedi_town.specs.Collections.{owner_of, is_item, is_same_item, items, object_key, text_of, page_of}
 use Rattle.fedi_town.specs.Deeds.{is_open, is_pending, deed_of}
 use Rattle.fedi_town.specs.Deliveries.{is_foreign}
 use Rattle.fedi_town.specs.Ids.{activity_id, object_id}
-use Rattle.fedi_town.specs.Objects.{makes, is_buried, whole_of}
-use Rattle.fedi_town.specs.Relations.{blocks, ref_id, is_about, is_id, has_activity_id, is_block_of, has_block_between, is_actor, is_following}
-use Rattle.fedi_town.specs.Rules.{refuse_if, change_rule, like_rule, announce_rule, answer_rule, undo_rule, seen_maker, seen_act, broken, broken_about}
-use Rattle.fedi_town.specs.Seeing.{sees, sees_as, sees_with, seen}
-use Rattle.fedi_town.specs.Showing.{sight_of, shown_activity, id_of_caller, own_among, view}
+use Rattle.fedi_town.specs.Objects.{makes, whole_of}
+use Rattle.fedi_town.specs.Relations.{blocks, ref_id, is_about, has_activity_id, is_block_of, has_block_between, is_actor, is_following}
+use Rattle.fedi_town.specs.Rules.{change_rule, like_rule, announce_rule, answer_rule, undo_rule, seen_maker, seen_act, broken, broken_about}
+use Rattle.fedi_town.specs.Seeing.{sees, sees_as, seen}
+use Rattle.fedi_town.specs.Showing.{sight_of, id_of_caller, own_among, view}
 use Rattle.fedi_town.specs.States.{can_be_undone}
-use Rattle.fedi_town.specs.Towns.{Town, deed, is_by, has_id, has_name, id_of, count_of}
+use Rattle.fedi_town.specs.Towns.{Town, is_by, has_id, has_name, id_of}
 use Rattle.fedi_town.specs.declared.act.Act.{Act}
 use Rattle.fedi_town.specs.declared.caller.Caller.{Caller}
 use Rattle.fedi_town.specs.declared.caller.Caller.TheVariants as callers
@@ -355,7 +354,7 @@ owner_agrees g h c which ask (Some b) agree of_g of_h =
     by_rule c which _ _ (λ self.
     ap (λ (r : Option Refusal). unless_refused r (items_answer g c which b ask)) (rule_on_object g h c which b agree.view)
     ∙ ap (unless_refused (object_rule h c which b))
-      (items_agree g h c which b ask agree.host agree.view (inbox_own g c which b of_g self) (inbox_own h c which b of_h self)))
+    (items_agree g h c which b ask agree.host agree.view (inbox_own g c which b of_g self) (inbox_own h c which b of_h self)))
 
 well_formed : (b : Bool) (x y : Answer) → x ≡ y → (if b then Refuse BadQuery else x) ≡ (if b then Refuse BadQuery else y)
 well_formed b x y same = rw same refl

@@ -1,13 +1,12 @@
 -- A legal history stays legal by each ask, and what is due stays due in it.
-use Rattle.std.proofs.Common.{◌≡◌, ℕ, ◌≤◌, Bool, true, false, List, [], ◌∷◌, ◌++◌, Option, Some, None, refl, sym, ap, subst, ◌∙◌, arith}
-use Rattle.std.specs.Prelude.{◌&&◌, ◌||◌, is_none}
+use Rattle.std.proofs.Common.{◌≡◌, ℕ, ◌≤◌, true, false, List, [], ◌∷◌, ◌++◌, Option, Some, None, refl, sym, subst, arith}
+use Rattle.std.specs.Prelude.{is_none}
 use Rattle.std.specs.List.{list_any, fold}
 use Rattle.std.proofs.lemmas.Bool.{and_parts}
 use Rattle.std.proofs.lemmas.List.Sums.{fold-append}
 use Rattle.fedi_address.specs.Hosts.{is_host_text}
 use Rattle.fedi_objects.specs.declared.entry.Entry.{Entry}
 use Rattle.fedi_objects.specs.declared.entry.Entry.TheVariants.{Hosted, Made, PeerSet, Local, Remote, Tried}
-use Rattle.fedi_town.specs.declared.act.Act.{Act}
 use Rattle.fedi_town.specs.declared.caller.Caller.{Caller}
 use Rattle.fedi_town.specs.Histories.{step, town}
 use Rattle.fedi_town.specs.Legal.{is_admissible, is_legal_from, IsLegal}
@@ -77,6 +76,6 @@ pub due_stays_due : (history later : List Entry) (id r : List ℕ) (m n : ℕ) �
     → list_any (is_attempt_of id r) later ≡ false → m ≤ n → is_due (town history) id r m ≡ true → is_due (town (history ++ later)) id r n ≡ true
 due_stays_due history later id r m n legal none le due =
     let k : IsKnown (town history) later =
-      known_after history later empty_town (record { sound = record { sound = record { members = refl; peers = refl }; host = refl }; ids = refl; legal = legal.admissible }) in
+    known_after history later empty_town (record { sound = record { sound = record { members = refl; peers = refl }; host = refl }; ids = refl; legal = legal.admissible }) in
     subst (λ (u : Town). is_due u id r n ≡ true) (sym (fold-append step empty_town history later))
     (fold_due later (town history) id r m n k.sound k.ids k.legal none le due)

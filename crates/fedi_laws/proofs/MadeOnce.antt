@@ -1,6 +1,6 @@
 -- No object is made twice.
-use Rattle.std.proofs.Common.{◌≡◌, ℕ, Bool, true, false, List, [], ◌∷◌, ◌++◌, Option, Some, None, refl, sym, ap, subst, ◌∙◌}
-use Rattle.std.specs.Prelude.{◌+◌, ◌&&◌, ◌||◌, not, map, if◌then◌else◌, option_to_list}
+use Rattle.std.proofs.Common.{◌≡◌, ℕ, Bool, true, false, List, [], ◌∷◌, ◌++◌, Option, Some, None, refl, subst, ◌∙◌}
+use Rattle.std.specs.Prelude.{◌&&◌, not, map, if◌then◌else◌, option_to_list}
 use Rattle.std.specs.List.{fold, list_any}
 use Rattle.std.proofs.lemmas.Bool.{and_parts}
 use Rattle.std.proofs.lemmas.List.{append-nil}
@@ -13,17 +13,17 @@ use Rattle.fedi_laws.proofs.Finding.{PassesOnce-push, PassesOnce-map}
 use Rattle.fedi_town.specs.Lists.{PassesOnce}
 use Rattle.fedi_laws.proofs.Grounded.{ref_id-received}
 use Rattle.fedi_laws.proofs.Inboxes.{made-inbox}
-use Rattle.fedi_laws.proofs.Kept.{IsKept, changed-kept, made-kept}
+use Rattle.fedi_laws.proofs.Kept.{changed-kept, made-kept}
 use Rattle.fedi_laws.proofs.Lists.{list_any-through}
-use Rattle.fedi_laws.proofs.Steps.{accept_in_steps, with_act, accepts_for, answers, after_delivery, after_inbox, after_post}
-use Rattle.fedi_town.specs.Activities.{local_act, remote_act, receive_ref}
+use Rattle.fedi_laws.proofs.Steps.{accept_in_steps, with_act, accepts_for, after_delivery, after_inbox, after_post}
+use Rattle.fedi_town.specs.Activities.{local_act, remote_act}
 use Rattle.fedi_town.specs.Deeds.{is_create, is_done, is_follow, is_accepted, deed_of}
 use Rattle.fedi_town.specs.Effects.{acceptance, accept_for, affect, effect_of, accept_by, accept, followee}
 use Rattle.fedi_town.specs.declared.addition.Addition.TheVariants as additions
 use Rattle.fedi_town.specs.Histories.{with_addition, member_addition, with_recipient, is_known, step, town}
 use Rattle.fedi_town.specs.Objects.{makes, is_whole}
-use Rattle.fedi_town.specs.Relations.{ref_id, is_id, is_about, has_activity_id}
-use Rattle.fedi_town.specs.States.{state_of, state_with, state_about, only_where}
+use Rattle.fedi_town.specs.Relations.{ref_id, is_id, is_about}
+use Rattle.fedi_town.specs.States.{state_of, state_with, only_where}
 use Rattle.fedi_town.specs.Towns.{Town, deed, empty_town, id_of}
 use Rattle.fedi_town.specs.declared.act.Act.{Act}
 use Rattle.fedi_town.specs.declared.act.Actor.{Actor}
@@ -82,9 +82,11 @@ accept_makes_none t host x member id = refl
 answered-once : (host : Option (List ℕ)) (t : Town) (acts : List Act) (x : Act) (member : Option Actor) → MadeOnce acts → MadeOnce (acts ++ accepts_for host t x member)
 answered-once None t acts x member h = rw append-nil h
 answered-once (Some host) t acts x None h = rw append-nil h
-answered-once (Some host) t acts x (Some member) h = record { once = λ id.
-    PassesOnce-push (makes id) acts (accept_by t host x member) (h.once id)
-    (λ e. absurd (let f : makes id (accept_by t host x member) ≡ false = accept_makes_none t host x member id in cc)) }
+answered-once (Some host) t acts x (Some member) h = record {
+  once = λ id.
+      PassesOnce-push (makes id) acts (accept_by t host x member) (h.once id)
+      (λ e. absurd (let f : makes id (accept_by t host x member) ≡ false = accept_makes_none t host x member id in cc));
+}
 
 choice-once : (b : Bool) (acts : List Act) (z : Option Act) → MadeOnce acts → MadeOnce (acts ++ option_to_list z) → MadeOnce (acts ++ option_to_list (if b then z else None))
 choice-once true acts z h k = k
@@ -97,9 +99,11 @@ appended-once : (t : Town) (x : Act) → ((id : List ℕ) → makes id x ≡ tru
 appended-once t x new h =
     let f : Act → Act = affect (effect_of t x) in
     let same : (y : Act) (id : List ℕ) → makes id (f y) ≡ makes id y = λ y id. made-kept y (f y) (changed-kept t x y) id in
-    record { once = λ id.
-      PassesOnce-push (makes id) (map f t.acts) x ((mapped-once f same t.acts h).once id)
-      (λ e. list_any-through f (makes id) (makes id) (λ y. same y id) t.acts ∙ new id e) }
+    record {
+      once = λ id.
+          PassesOnce-push (makes id) (map f t.acts) x ((mapped-once f same t.acts h).once id)
+          (λ e. list_any-through f (makes id) (makes id) (λ y. same y id) t.acts ∙ new id e);
+    }
 
 accepted-once : (t : Town) (x : Act) → ((id : List ℕ) → makes id x ≡ true → list_any (makes id) t.acts ≡ false) → MadeOnce t.acts → MadeOnce (accept t x).acts
 accepted-once t x new h =

@@ -1,19 +1,19 @@
 -- Members: each has the id that its name gives, and no id of a member is a collection's or Public's.
-use Rattle.std.proofs.Common.{◌≡◌, ℕ, ◌+◌, ◌≤◌, Bool, true, false, leb, List, [], ◌∷◌, ◌++◌, length, Option, Some, None, refl, sym, ap, subst, ◌∙◌, arith, append_assoc}
+use Rattle.std.proofs.Common.{◌≡◌, ℕ, ◌≤◌, Bool, true, false, leb, List, [], ◌∷◌, ◌++◌, length, Option, Some, None, refl, sym, ap, subst, ◌∙◌, arith, append_assoc}
 use Rattle.std.specs.Cmp.Derive.{both_true}
-use Rattle.std.specs.Prelude.{◌&&◌, ◌||◌, not, codes, slice_index}
-use Rattle.std.specs.List.{list_any, list_all, find}
+use Rattle.std.specs.Prelude.{◌&&◌, codes, slice_index}
+use Rattle.std.specs.List.{list_all, find}
 use Rattle.std.specs.Str.{bytes_eq}
 use Rattle.std.proofs.lemmas.Bool.{and_parts, le-leb, leb-true}
-use Rattle.std.proofs.lemmas.List.{append_cancel_left, length-append}
+use Rattle.std.proofs.lemmas.List.{append_cancel_left}
 use Rattle.std.proofs.lemmas.List.Folds.{list_all-append}
 use Rattle.std.proofs.lemmas.Slice.Eq.{bytes_eq-Decides}
 use Rattle.fedi_address.specs.Hosts.{is_host_text, is_path_byte, is_plain_path, address}
 use Rattle.fedi_address.specs.Iris.{public_iri, target_of, host_of}
-use Rattle.fedi_address.specs.Names.{is_name, is_name_byte, is_lower, is_digit}
+use Rattle.fedi_address.specs.Names.{is_name, is_name_byte}
 use Rattle.fedi_address.proofs.Parts.{host_of-address, target_of-address}
 use Rattle.fedi_town.specs.Ids.{actor_id, actor_path, followers_id}
-use Rattle.fedi_town.specs.Towns.{Town, has_id}
+use Rattle.fedi_town.specs.Towns.{Town}
 use Rattle.fedi_town.specs.declared.act.Actor.{Actor}
 
 -- the member's name is one, and gives its id at the host
@@ -71,7 +71,7 @@ not_public host name shape ref_id =
     is_false (bytes_eq (actor_id host name) public_iri) (λ e.
     let same : address host (actor_path name) ≡ public_iri = same_text (address host (actor_path name)) public_iri e in
     let path : actor_path name ≡ codes "/ns/activitystreams" =
-      sym (target_of-address host (actor_path name) shape (actor_path_is_plain name ref_id)) ∙ ap target_of same ∙ public_target in
+    sym (target_of-address host (actor_path name) shape (actor_path_is_plain name ref_id)) ∙ ap target_of same ∙ public_target in
     unlike name path)
 
 no_slash : (m tail : List ℕ) → list_all is_name_byte (m ++ 47 ∷ tail) ≡ true → ⊥
@@ -85,9 +85,9 @@ unfolding actor_id
 not_followers host n m ref_id =
     is_false (bytes_eq (actor_id host n) (followers_id (actor_id host m))) (λ e.
     let same : codes "https://" ++ (host ++ (codes "/users/" ++ n)) ≡ (codes "https://" ++ (host ++ (codes "/users/" ++ m))) ++ codes "/followers" =
-      same_text (actor_id host n) (followers_id (actor_id host m)) e in
+    same_text (actor_id host n) (followers_id (actor_id host m)) e in
     let far : codes "https://" ++ (host ++ (codes "/users/" ++ n)) ≡ codes "https://" ++ (host ++ (codes "/users/" ++ (m ++ codes "/followers"))) =
-      same ∙ simp append_assoc in
+    same ∙ simp append_assoc in
     let near : host ++ (codes "/users/" ++ n) ≡ host ++ (codes "/users/" ++ (m ++ codes "/followers")) = append_cancel_left (codes "https://") _ _ far in
     let path : codes "/users/" ++ n ≡ codes "/users/" ++ (m ++ codes "/followers") = append_cancel_left host _ _ near in
     let tail : n ≡ m ++ codes "/followers" = append_cancel_left (codes "/users/") _ _ path in

@@ -1,6 +1,6 @@
 -- The entry that an ask makes is admissible, so that a legal history stays one.
-use Rattle.std.proofs.Common.{◌≡◌, ℕ, ◌+◌, Bool, true, false, List, [], ◌∷◌, ◌++◌, length, Option, Some, None, refl, sym, ap, subst, ◌∙◌}
-use Rattle.std.specs.Prelude.{◌&&◌, ◌||◌, not, nat_lt, map, filter, is_none, is_some, if◌then◌else◌, option_map}
+use Rattle.std.proofs.Common.{◌≡◌, ℕ, Bool, true, false, List, [], ◌∷◌, Option, Some, None, refl, subst}
+use Rattle.std.specs.Prelude.{nat_lt, filter, if◌then◌else◌, option_map}
 use Rattle.std.specs.List.{list_any, find, filter_map, cons_option}
 use Rattle.std.specs.Str.{bytes_eq}
 use Rattle.fedi_town.specs.declared.refusal.Refusal.{Refusal}
@@ -8,10 +8,10 @@ use Rattle.fedi_town.specs.declared.refusal.Refusal.TheVariants.{ActorFull, NotO
 use Rattle.fedi_objects.specs.declared.activity.Activity as activities
 use Rattle.fedi_objects.specs.declared.entry.Entry.{Entry}
 use Rattle.fedi_objects.specs.declared.entry.Entry.TheVariants.{Local, Remote}
-use Rattle.fedi_asks.specs.Answers.{Refuse, Misshape}
+use Rattle.fedi_asks.specs.Answers.{Refuse}
 use Rattle.fedi_asks.specs.Asks.{IsRead, IsReadFor, IsPostable, entry_of}
 use Rattle.fedi_asks.specs.Posting.{Judgement, Stop, Repeat, Keep, by_steps, judge_read, unless_kept, judge_activity, unless_broken, with_room, judge_post, kept_under, is_bad_key, is_there, judge_delivery, judge_inbox, repeat_by, post_entry, inbox_entry, entry_at, inbox_entry_at, delivery_of}
-use Rattle.fedi_asks.specs.Reading.{is_nobody, is_self, is_peer}
+use Rattle.fedi_asks.specs.Reading.{is_nobody, is_self}
 use Rattle.fedi_asks.specs.declared.ask.Ask.{Ask}
 use Rattle.fedi_asks.specs.declared.ask.Ask.TheVariants.{Nowhere, WrongMethod, Webfinger, Actor, Collection, Activity, Object, Outbox, Inbox}
 use Rattle.fedi_asks.specs.declared.post.KeyAsk.{KeyAsk}
@@ -20,10 +20,10 @@ use Rattle.fedi_asks.specs.declared.post.Post.{Post}
 use Rattle.fedi_asks.specs.declared.post.Read.{Read}
 use Rattle.fedi_asks.specs.declared.post.Read.TheVariants.{NotJson, Bad, Ready}
 use Rattle.fedi_laws.proofs.Knowledge.{self_is}
-use Rattle.fedi_town.specs.Agreement.{repeats_of, peer_of}
+use Rattle.fedi_town.specs.Agreement.{repeats_of}
 use Rattle.fedi_town.specs.Deeds.{deed_of}
 use Rattle.fedi_town.specs.Deliveries.{is_foreign, has_inbox}
-use Rattle.fedi_town.specs.Legal.{is_admissible, may_post, may_deliver, lacks, is_new_key, has_key}
+use Rattle.fedi_town.specs.Legal.{is_admissible, may_deliver, is_new_key, has_key}
 use Rattle.fedi_town.specs.Relations.{ref_id}
 use Rattle.fedi_town.specs.Rules.{broken}
 use Rattle.fedi_town.specs.Shapes.{is_posted, is_delivered}

@@ -1,14 +1,10 @@
 -- Pages and first ones of lists of which each element is shown.
-use Rattle.std.proofs.Common.{◌≡◌, ℕ, ◌*◌, Bool, true, false, List, [], ◌∷◌, ◌++◌, take, drop, length, Option, Some, None, refl, sym, ap, ◌∙◌, append_assoc}
-use Rattle.std.specs.Prelude.{◌&&◌, ◌||◌, not, map, filter, reverse, if◌then◌else◌}
-use Rattle.std.specs.List.{list_any, fold}
-use Rattle.std.specs.Str.{bytes_eq}
-use Rattle.std.proofs.lemmas.List.{map-append, take-map, drop-map, reverse-append, append-nil}
-use Rattle.std.proofs.lemmas.List.Elements.{filter-append}
+use Rattle.std.proofs.Common.{◌≡◌, ℕ, ◌*◌, Bool, List, [], ◌∷◌, ◌++◌, take, drop, refl, sym, ap, ◌∙◌}
+use Rattle.std.specs.Prelude.{map, filter, reverse}
+use Rattle.std.proofs.lemmas.List.{map-append, take-map, drop-map, reverse-append}
 use Rattle.fedi_laws.proofs.Lists.{filter-through}
 use Rattle.fedi_town.specs.Collections.{page_of}
 use Rattle.fedi_town.specs.Lists.{is_other, firsts}
-use Rattle.fedi_town.specs.declared.act.Act.{Act}
 
 reverse-map : {A B : Type 0} (f : A → B) (xs : List A) → reverse (map f xs) ≡ map f (reverse xs)
 reverse-map f [] = refl

@@ -1,6 +1,6 @@
 -- A member's post that the caller does not see changes nothing for the caller.
-use Rattle.std.proofs.Common.{◌≡◌, ℕ, ◌+◌, Bool, true, false, List, [], ◌∷◌, ◌++◌, length, Option, Some, None, refl, sym, ap, subst, ◌∙◌}
-use Rattle.std.specs.Prelude.{◌&&◌, ◌||◌, not, if◌then◌else◌, option_to_list}
+use Rattle.std.proofs.Common.{◌≡◌, ℕ, true, false, List, Option, Some, None, refl, sym, subst}
+use Rattle.std.specs.Prelude.{◌&&◌, if◌then◌else◌, option_to_list}
 use Rattle.std.specs.List.{list_any, list_all, find}
 use Rattle.std.specs.Str.{bytes_eq}
 use Rattle.std.proofs.lemmas.Bool.{and_parts}
@@ -12,16 +12,15 @@ use Rattle.fedi_objects.specs.declared.activity.Activity.{Activity}
 use Rattle.fedi_laws.proofs.Answered.{IsHidden, to_follower, hidden_too}
 use Rattle.fedi_laws.proofs.Grounded.{AreGrounded}
 use Rattle.fedi_laws.proofs.Members.{HasMembers, is_member, IsFound, found, not_public, not_followers}
-use Rattle.fedi_laws.proofs.Quiet.{with_acts}
-use Rattle.fedi_laws.proofs.Reached.{Reaches, follow_reaches}
+use Rattle.fedi_laws.proofs.Reached.{follow_reaches}
 use Rattle.fedi_laws.proofs.Steps.{accepts_for, answers}
-use Rattle.fedi_laws.proofs.Told.{with_answers, told_agrees}
+use Rattle.fedi_laws.proofs.Told.{told_agrees}
 use Rattle.fedi_town.specs.Activities.{local_act}
 use Rattle.fedi_town.specs.Agreement.{Agree}
 use Rattle.fedi_town.specs.Deeds.{changes_nothing, is_follow, is_accepted, deed_of}
 use Rattle.fedi_town.specs.Relations.{ref_id}
 use Rattle.fedi_town.specs.Effects.{accept_for, accept_by, accept, followee, to_one}
-use Rattle.fedi_town.specs.Ids.{actor_id, followers_id}
+use Rattle.fedi_town.specs.Ids.{actor_id}
 use Rattle.fedi_town.specs.Seeing.{sees}
 use Rattle.fedi_town.specs.Towns.{Town, deed, has_id}
 use Rattle.fedi_town.specs.declared.act.Act.{Act}

@@ -1,26 +1,24 @@
 -- Whom a member's Follow reaches: the one that is followed, who sees it.
-use Rattle.std.proofs.Common.{◌≡◌, ℕ, ◌+◌, Bool, true, false, List, [], ◌∷◌, ◌++◌, length, Option, Some, None, ◌⊎◌, inl, inr, refl, sym, ap, subst, ◌∙◌}
+use Rattle.std.proofs.Common.{◌≡◌, ℕ, Bool, true, false, List, [], ◌∷◌, ◌++◌, Option, Some, ◌⊎◌, inl, inr, refl, sym, subst, ◌∙◌}
 use Rattle.std.specs.Prelude.{◌&&◌, ◌||◌, not, filter, cond, if◌then◌else◌}
-use Rattle.std.specs.List.{list_any, flat_map, find}
+use Rattle.std.specs.List.{list_any, flat_map}
 use Rattle.std.specs.Str.{bytes_eq}
 use Rattle.std.proofs.lemmas.List.Folds.{list_any-append}
 use Rattle.fedi_address.specs.declared.recipients.Recipients.{Recipients}
 use Rattle.fedi_address.specs.Iris.{public_iri}
 use Rattle.fedi_address.specs.Recipients.{all_of, is_among, names, is_public}
 use Rattle.fedi_objects.specs.declared.activity.Activity.{Activity}
-use Rattle.fedi_objects.specs.declared.activity.ObjectRef.{ObjectRef}
 use Rattle.fedi_objects.specs.declared.kind.State.TheVariants.{Accepted, Pending, Rejected}
-use Rattle.fedi_town.specs.Activities.{local_act, act_by, complete_activity, complete_ref}
+use Rattle.fedi_town.specs.Activities.{local_act}
 use Rattle.fedi_town.specs.Lists.{is_other, each_once}
 use Rattle.fedi_laws.proofs.Texts.{bytes_eq-same, bytes_eq-is, or_true, or_no}
 use Rattle.fedi_town.specs.Addressing.{is_recipient, addressees, recipients_with, is_nobody_here, is_of_town, complete_recipients, implied_recipient, with_implied}
 use Rattle.fedi_town.specs.Deeds.{deed_of, is_accepted}
-use Rattle.fedi_town.specs.Histories.{with_recipient}
 use Rattle.fedi_town.specs.Ids.{actor_id, followers_id}
 use Rattle.fedi_town.specs.Objects.{is_whole}
-use Rattle.fedi_town.specs.Relations.{ref_id, is_actor, has_block_between, blocks, followers}
-use Rattle.fedi_town.specs.States.{state_of, state_with, state_about, follow_state, has_room, is_locked, only_where}
-use Rattle.fedi_town.specs.Towns.{Town, count_of}
+use Rattle.fedi_town.specs.Relations.{ref_id, is_actor, has_block_between, blocks}
+use Rattle.fedi_town.specs.States.{state_of, state_about, follow_state, has_room, is_locked, only_where}
+use Rattle.fedi_town.specs.Towns.{Town}
 use Rattle.fedi_town.specs.declared.act.Act.{Act}
 use Rattle.fedi_town.specs.declared.deed.Deed.{Deed}
 use Rattle.fedi_town.specs.declared.deed.Deed.TheVariants.{Follow}

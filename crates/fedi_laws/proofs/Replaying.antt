@@ -1,5 +1,5 @@
 -- An object as it stands is the object replayed.
-use Rattle.std.proofs.Common.{◌≡◌, ℕ, Bool, true, false, List, [], ◌∷◌, ◌++◌, Option, Some, None, refl, sym, ap, subst, ◌∙◌}
+use Rattle.std.proofs.Common.{◌≡◌, ℕ, Bool, true, false, List, [], ◌∷◌, ◌++◌, Option, Some, None, refl, sym, ap, ◌∙◌}
 use Rattle.std.specs.Prelude.{◌&&◌, ◌||◌, map, codes, option_map, option_to_list, if◌then◌else◌}
 use Rattle.std.specs.List.{fold, find, list_any}
 use Rattle.std.specs.Str.{bytes_eq}
@@ -23,9 +23,9 @@ use Rattle.fedi_town.specs.declared.effect.Effect.TheVariants.{Nothing as NoEffe
 use Rattle.fedi_town.specs.Activities.{local_act, remote_act}
 use Rattle.fedi_town.specs.Addressing.{act_of}
 use Rattle.fedi_town.specs.Deeds.{is_update, is_delete, is_follow, is_done, is_standing, is_accepted}
-use Rattle.fedi_town.specs.Effects.{where_passes, in_state, is_pending_follow, is_standing_activity, end_follow, affect, pair_ends, follow_ends, undo_effect, effect_about, effect_with, takes_effect, effect_of, accept_by, accept_for, followee, answer_to, acceptance, accept}
+use Rattle.fedi_town.specs.Effects.{where_passes, in_state, is_pending_follow, is_standing_activity, end_follow, affect, pair_ends, follow_ends, undo_effect, effect_about, effect_with, takes_effect, effect_of, accept_by, accept_for, followee, acceptance, accept}
 use Rattle.fedi_town.specs.Histories.{addition_of, member_addition, post_addition, inbox_addition, delivery_addition, is_known, with_addition, step, town}
-use Rattle.fedi_town.specs.Objects.{makes, maker, object_of, object_at, whole_of, rewrite_ref, rewrite_act, update_object, tombstone_of}
+use Rattle.fedi_town.specs.Objects.{makes, object_of, object_at, whole_of, rewrite_ref, rewrite_act, update_object, tombstone_of}
 use Rattle.fedi_town.specs.Relations.{ref_id, is_id, is_about, is_open_follow}
 use Rattle.fedi_town.specs.Replays.{acts_in, acts_from, acts_of, updates, deletes, first_form, next_form, replay_act, replay}
 use Rattle.fedi_town.specs.Towns.{Town, deed, empty_town, id_of}
@@ -142,7 +142,7 @@ form_by id x d i o =
 same_form : (t : Town) (x m : Act) (o : Object) (d : Deed) (b : Bool) (i : Option (List ℕ)) → is_update d ≡ false → is_delete d ≡ false
     → whole_of m.activity.object ≡ Some o → whole_of (affect (if b then effect_by t x d i else NoEffect) m).activity.object ≡ Some o
 same_form t x m o d b None p q e =
-    elim b as (λ s. whole_of (affect (if s then NoEffect else NoEffect) m).activity.object ≡ Some o) [ | true ↦ e | false ↦ e ]
+    elim b as (λ s. whole_of (affect (if s then NoEffect else NoEffect) m).activity.object ≡ Some o) [ true ↦ e | false ↦ e ]
 same_form t x m o d b (Some id) p q e =
     elim b as (λ s. whole_of (affect (if s then effect_about t x d id else NoEffect) m).activity.object ≡ Some o) [
       | true ↦ rw (left_alone (effect_about t x d id) m (about_leaves t x d id p q)) e
@@ -153,7 +153,7 @@ form_after : (t : Town) (x m : Act) (o : Object) (id : List ℕ) (d : Deed) (i :
     → whole_of (affect (if takes_effect d x.state then effect_by t x d i else NoEffect) m).activity.object ≡ Some (form_by id x d i o)
 form_after t x m o id Update None here e =
     elim (is_done x.state) as (λ s. whole_of (affect (if s then NoEffect else NoEffect) m).activity.object
-    ≡ Some (if s && false then update_object x.activity.object (moment_text x.moment) o else o)) [ | true ↦ e | false ↦ e ]
+    ≡ Some (if s && false then update_object x.activity.object (moment_text x.moment) o else o)) [ true ↦ e | false ↦ e ]
 form_after t x m o id Update (Some own) here e =
     elim (is_done x.state) as (λ s. whole_of (affect (if s then Rewrites own x.activity.object (moment_text x.moment) else NoEffect) m).activity.object
     ≡ Some (if s && bytes_eq own id then update_object x.activity.object (moment_text x.moment) o else o)) [
@@ -162,7 +162,7 @@ form_after t x m o id Update (Some own) here e =
     ]
 form_after t x m o id Delete None here e =
     elim (is_done x.state) as (λ s. whole_of (affect (if s then NoEffect else NoEffect) m).activity.object
-    ≡ Some (if s && false then tombstone_of (codes "Tombstone") (moment_text x.moment) o else o)) [ | true ↦ e | false ↦ e ]
+    ≡ Some (if s && false then tombstone_of (codes "Tombstone") (moment_text x.moment) o else o)) [ true ↦ e | false ↦ e ]
 form_after t x m o id Delete (Some own) here e =
     elim (is_done x.state) as (λ s. whole_of (affect (if s then Buries own (codes "Tombstone") (moment_text x.moment) else NoEffect) m).activity.object
     ≡ Some (if s && bytes_eq own id then tombstone_of (codes "Tombstone") (moment_text x.moment) o else o)) [
@@ -243,7 +243,6 @@ find-past p (x ∷ xs) ys none =
       | false ↦ λ e. find-past p xs ys e
     ] none
 
-
 none_left : (r : ObjectRef) (f : Object → Object) → whole_of r ≡ None → whole_of (rewrite_ref f r) ≡ None
 none_left Nothing f e = refl
 none_left (Id iri) f e = refl
@@ -298,8 +297,8 @@ accept_replays t x id n =
       | true ↦ λ there.
           let one = found_one (makes id) t.acts there in
           let stays : find (makes id) (map f t.acts ++ x ∷ answers t x) ≡ Some (f one.0) =
-            find-stays (makes id) (map f t.acts) (x ∷ answers t x) (any ∙ there)
-            ∙ find-through f (makes id) (makes id) same t.acts ∙ ap (option_map f) one.1.0 in
+          find-stays (makes id) (map f t.acts) (x ∷ answers t x) (any ∙ there)
+          ∙ find-through f (makes id) (makes id) same t.acts ∙ ap (option_map f) one.1.0 in
           ap object_of stays
           ∙ old_object t x id one.0 (whole_of one.0.activity.object) one.1.1 refl (makes_no_more t x id n there)
           ∙ sym (answers_forms t x id (replay_act id (whole_of one.0.activity.object) x))

@@ -1,36 +1,26 @@
 -- In a legal history each member has the id of its name, and each peer is another host.
-use Rattle.std.proofs.Common.{◌≡◌, ℕ, ◌+◌, Bool, true, false, List, [], ◌∷◌, ◌++◌, length, Option, Some, None, refl, sym, ap, subst, ◌∙◌}
-use Rattle.std.specs.Prelude.{◌&&◌, ◌||◌, not, map, codes, is_none, is_some, if◌then◌else◌, option_map}
-use Rattle.std.specs.List.{list_any, list_all, find, fold}
-use Rattle.std.specs.Str.{bytes_eq}
+use Rattle.std.proofs.Common.{◌≡◌, ℕ, Bool, true, false, List, [], ◌∷◌, Option, Some, None, refl, ◌∙◌}
+use Rattle.std.specs.Prelude.{◌&&◌, is_none, is_some, if◌then◌else◌}
+use Rattle.std.specs.List.{list_all, fold}
 use Rattle.std.proofs.lemmas.Bool.{and_parts}
-use Rattle.std.proofs.lemmas.List.{append-nil, append_cancel_left}
 use Rattle.std.proofs.lemmas.List.Folds.{list_all-append}
 use Rattle.fedi_address.specs.Hosts.{is_host_text}
-use Rattle.fedi_address.specs.Iris.{host_of}
 use Rattle.fedi_address.specs.Names.{is_name}
 use Rattle.fedi_objects.specs.declared.activity.Activity.{Activity}
 use Rattle.fedi_objects.specs.declared.entry.Entry.{Entry}
 use Rattle.fedi_objects.specs.declared.entry.Entry.TheVariants.{Hosted, Made, PeerSet, Local, Remote, Tried}
-use Rattle.fedi_laws.proofs.Inboxes.{IsOther}
-use Rattle.fedi_laws.proofs.Members.{is_member, HasMembers, IsFound, found, host_of-actor_id}
+use Rattle.fedi_laws.proofs.Members.{is_member}
 use Rattle.fedi_laws.proofs.Steps.{after_post, after_delivery, after_inbox}
-use Rattle.fedi_town.specs.Activities.{local_act, remote_act}
-use Rattle.fedi_town.specs.Effects.{accept}
+use Rattle.fedi_town.specs.Activities.{remote_act}
 use Rattle.fedi_town.specs.declared.addition.Addition.TheVariants as additions
 use Rattle.fedi_town.specs.Effects.{acceptance}
-use Rattle.fedi_town.specs.Histories.{with_addition, member_addition, step, town, is_known, with_recipient}
+use Rattle.fedi_town.specs.Histories.{with_addition, member_addition, step, town, is_known}
 use Rattle.fedi_town.specs.Ids.{actor_id}
-use Rattle.fedi_town.specs.Legal.{is_admissible, is_legal_from, is_other_host, IsLegal, is_caller}
-use Rattle.fedi_town.specs.Relations.{is_id}
-use Rattle.fedi_town.specs.Seeing.{is_of_peer}
-use Rattle.fedi_town.specs.Towns.{Town, empty_town, has_name, has_host, id_of}
+use Rattle.fedi_town.specs.Legal.{is_admissible, is_legal_from, is_other_host, IsLegal}
+use Rattle.fedi_town.specs.Towns.{Town, empty_town, id_of}
 use Rattle.fedi_town.specs.declared.act.Actor.{Actor}
 use Rattle.fedi_town.specs.declared.act.Peer.{Peer}
-use Rattle.fedi_town.specs.declared.caller.Caller.{Caller}
-use Rattle.fedi_town.specs.declared.caller.Caller.TheVariants.{Nobody, Peer as PeerCaller}
-use Rattle.fedi_town.specs.declared.caller.Caller.TheVariants as callers
-use Rattle.fedi_laws.proofs.Texts.{is_false, bytes_eq-same, bytes_eq-is}
+use Rattle.fedi_laws.proofs.Texts.{bytes_eq-same}
 
 abbrev pub is_apart : Option (List ℕ) → Peer → Bool
 is_apart host p = is_other_host host p.host

@@ -1,14 +1,14 @@
 -- An activity that changes nothing earlier is appended, with the Accept that follows it.
-use Rattle.std.proofs.Common.{◌≡◌, ℕ, ◌+◌, Bool, true, false, List, [], ◌∷◌, ◌++◌, length, Option, Some, None, refl, sym, ap, subst, ◌∙◌, append_assoc}
-use Rattle.std.specs.Prelude.{◌&&◌, ◌||◌, not, map, if◌then◌else◌, option_to_list}
-use Rattle.std.specs.List.{list_any, find}
+use Rattle.std.proofs.Common.{◌≡◌, ℕ, Bool, true, false, List, [], ◌∷◌, ◌++◌, Option, Some, None, refl, sym, ap, subst}
+use Rattle.std.specs.Prelude.{◌&&◌, if◌then◌else◌, option_to_list}
+use Rattle.std.specs.List.{list_any}
 use Rattle.fedi_laws.proofs.Grounded.{AreGrounded}
 use Rattle.fedi_laws.proofs.Lists.{map-still}
 use Rattle.fedi_laws.proofs.Quiet.{AreQuiet, with_acts}
-use Rattle.fedi_laws.proofs.Steps.{with_act, accepts_for, answers}
+use Rattle.fedi_laws.proofs.Steps.{accepts_for, answers}
 use Rattle.fedi_laws.proofs.Unseen.{unseen_agree}
 use Rattle.fedi_town.specs.Agreement.{Agree}
-use Rattle.fedi_town.specs.Deeds.{changes_nothing, is_block, is_done, is_standing, is_follow, is_accepted}
+use Rattle.fedi_town.specs.Deeds.{changes_nothing, is_block, is_follow, is_accepted}
 use Rattle.fedi_town.specs.Effects.{accept_for, affect, effect_about, effect_with, effect_of, takes_effect, accept_by, accept, followee}
 use Rattle.fedi_town.specs.Relations.{ref_id, is_block_of}
 use Rattle.fedi_town.specs.Seeing.{sees}
@@ -88,8 +88,12 @@ choice-none p false z none = refl
 
 pub told_quiet : (t : Town) (x : Act) → changes_nothing (deed x) ≡ true → AreQuiet (with_answers t x)
 told_quiet t x told =
-    record { quiet = λ a b. rw (is_no_block x (told_not_blocks (deed x) told) a b,
-        choice-none (is_block_of a b) (is_follow (deed x) && is_accepted x.state) (accept_for t.host t x (followee t (ref_id x.activity.object))) (by_no_block t.host t x (followee t (ref_id x.activity.object)) a b)) refl }
+    record {
+      quiet = λ a b. rw (
+        is_no_block x (told_not_blocks (deed x) told) a b,
+        choice-none (is_block_of a b) (is_follow (deed x) && is_accepted x.state) (accept_for t.host t x (followee t (ref_id x.activity.object))) (by_no_block t.host t x (followee t (ref_id x.activity.object)) a b),
+      ) refl;
+    }
 
 -- An activity that the caller does not see, with an answer that the caller does not see, changes nothing for the caller.
 pub told_agrees : (t : Town) (x : Act) (c : Caller) → AreGrounded t.acts → changes_nothing (deed x) ≡ true → list_any (sees t c) (with_answers t x) ≡ false → Agree (accept t x) t c

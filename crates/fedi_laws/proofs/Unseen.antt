@@ -1,18 +1,18 @@
 -- Activities that block nobody and that the caller does not see change nothing for the caller.
-use Rattle.std.proofs.Common.{◌≡◌, ℕ, Bool, true, false, List, [], ◌∷◌, ◌++◌, length, Option, Some, None, refl, sym, ap, ◌∙◌}
-use Rattle.std.specs.Prelude.{◌&&◌, ◌||◌, not, map, filter, if◌then◌else◌, option_map}
-use Rattle.std.specs.List.{list_any, list_all, find, filter_map}
+use Rattle.std.proofs.Common.{◌≡◌, ℕ, Bool, true, false, List, [], ◌∷◌, ◌++◌, length, Option, Some, None, refl, ap, ◌∙◌}
+use Rattle.std.specs.Prelude.{◌&&◌, ◌||◌, not, filter, if◌then◌else◌, option_map}
+use Rattle.std.specs.List.{list_any, filter_map}
 use Rattle.std.proofs.lemmas.List.{append-nil}
 use Rattle.std.proofs.lemmas.List.Elements.{filter-append, filter_agree}
 use Rattle.fedi_laws.proofs.Grounded.{AreGrounded, is_grounded, is_made}
-use Rattle.fedi_laws.proofs.Lists.{or_none, first_none, other_none, list_any-agree, filter-none, find-stays, map-where, list_all-filter}
+use Rattle.fedi_laws.proofs.Lists.{first_none, other_none, filter-none, find-stays, map-where, list_all-filter}
 use Rattle.fedi_laws.proofs.Quiet.{AreQuiet, with_acts, sees-quiet, blocks-quiet}
-use Rattle.fedi_town.specs.Agreement.{Agree, SameOwn, IsSameOwn, repeats_of, peer_of}
-use Rattle.fedi_town.specs.Deeds.{is_create, is_update, is_done}
+use Rattle.fedi_town.specs.Agreement.{Agree, IsSameOwn, peer_of}
+use Rattle.fedi_town.specs.Deeds.{is_update, is_done}
 use Rattle.fedi_town.specs.Objects.{makes, maker_of, object_of}
 use Rattle.fedi_town.specs.Relations.{ref_id}
 use Rattle.fedi_town.specs.Seeing.{sees, sees_as, sees_with, seen}
-use Rattle.fedi_town.specs.Showing.{sight_of, shown_ref, shown_activity, present_object, object_or_id, ref_to, id_of_caller, view}
+use Rattle.fedi_town.specs.Showing.{sight_of, shown_ref, shown_activity, present_object, id_of_caller, view}
 use Rattle.fedi_town.specs.Towns.{Town, id_of, is_by, deed}
 use Rattle.fedi_town.specs.declared.act.Act.{Act}
 use Rattle.fedi_town.specs.declared.caller.Caller.{Caller}

@@ -8,7 +8,6 @@ use Rattle.fedi_objects.specs.declared.entry.Entry.TheVariants.{Hosted, Made, Pe
 use Rattle.fedi_objects.specs.declared.kind.Kind.{Kind}
 use Rattle.fedi_objects.specs.declared.kind.State.{State}
 use Rattle.fedi_objects.specs.declared.object.Object.{Object}
-use Rattle.fedi_town.specs.declared.act.Act.{Act}
 use Rattle.fedi_town.specs.declared.caller.Caller.{Caller}
 use Rattle.fedi_town.specs.declared.caller.Which.{Which}
 use Rattle.fedi_town.specs.declared.deed.Deed.{Deed}
@@ -28,16 +27,19 @@ use Rattle.fedi_town.specs.declared.caller.Caller.TheVariants as callers
 abbrev pub club : List ℕ
 club = codes "club.example"
 
--- three members, and a fourth who is locked
+-- a member; the fourth is locked
 abbrev pub ana : List ℕ
 ana = codes "ana"
 
+-- the second
 abbrev pub ben : List ℕ
 ben = codes "ben"
 
+-- the third
 abbrev pub cleo : List ℕ
 cleo = codes "cleo"
 
+-- the fourth
 abbrev pub dan : List ℕ
 dan = codes "dan"
 
@@ -45,33 +47,37 @@ dan = codes "dan"
 abbrev pub member : List ℕ → List ℕ
 member name = codes "https://club.example/users/" ++ name
 
--- the id of the member's activity, and of the object that it made, by the digits of its number
-abbrev pub deed_at : List ℕ → List ℕ → List ℕ
-deed_at name number = member name ++ (codes "/a/" ++ number)
+-- the id of the member's activity with these digits as its number
+abbrev pub activity_number : List ℕ → List ℕ → List ℕ
+activity_number name number = member name ++ (codes "/a/" ++ number)
 
-abbrev pub made_at : List ℕ → List ℕ → List ℕ
-made_at name number = member name ++ (codes "/o/" ++ number)
+-- and of the object that it made
+abbrev pub object_number : List ℕ → List ℕ → List ℕ
+object_number name number = member name ++ (codes "/o/" ++ number)
 
--- two other servers, of which the second is a relay
+-- another server
 abbrev pub hill : List ℕ
 hill = codes "hill.example"
 
+-- the other, a relay
 abbrev pub lake : List ℕ
 lake = codes "lake.example"
 
--- somebody of each
+-- somebody of it
 abbrev pub dora : List ℕ
 dora = codes "https://hill.example/users/dora"
 
+-- somebody of the other
 abbrev pub eve : List ℕ
 eve = codes "https://lake.example/users/eve"
 
--- the club with its members, and with its peers
+-- the club with its members
 abbrev pub start : List Entry
 start =
     Hosted club 1 ∷ Made ana (codes "0") false 1 ∷ Made ben (codes "1") false 1 ∷ Made cleo (codes "2") false 1
     ∷ Made dan (codes "3") true 1 ∷ []
 
+-- and with its peers
 abbrev pub with_peers : List Entry
 with_peers = start ++ (PeerSet hill (codes "4") (codes "hill") false 1 ∷ PeerSet lake (codes "5") (codes "lake") true 1 ∷ [])
 
@@ -84,15 +90,37 @@ to names = record no_recipients { to = names }
 -- an activity of this type, about this and addressed so
 abbrev pub activity : Kind → ObjectRef → Recipients → Activity
 activity kind object recipients = record {
-  id = None; kind = kind; actor = None; object = object; target = None; recipients = recipients; in_reply_to = None;
-  content = None; summary = None; name = None; published = None; tags = [];
+  id = None;
+  kind = kind;
+  actor = None;
+  object = object;
+  target = None;
+  recipients = recipients;
+  in_reply_to = None;
+  content = None;
+  summary = None;
+  name = None;
+  published = None;
+  tags = [];
 }
 
 -- a Note that says `Hi`, addressed so
 abbrev pub note : Recipients → Object
 note recipients = record {
-  id = None; kind = codes "Note"; attributed_to = None; recipients = recipients; in_reply_to = None; content = Some (codes "Hi");
-  summary = None; name = None; url = None; published = None; updated = None; former_kind = None; deleted = None; tags = [];
+  id = None;
+  kind = codes "Note";
+  attributed_to = None;
+  recipients = recipients;
+  in_reply_to = None;
+  content = Some (codes "Hi");
+  summary = None;
+  name = None;
+  url = None;
+  published = None;
+  updated = None;
+  former_kind = None;
+  deleted = None;
+  tags = [];
 }
 
 -- a member posts it

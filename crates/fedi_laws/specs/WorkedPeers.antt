@@ -1,5 +1,5 @@
 -- What other servers deliver to the club, and what goes to them.
-use Rattle.std.specs.Prelude.{◌≡◌, ℕ, Bool, true, false, List, [], ◌∷◌, ◌++◌, map, codes, Option, Some, None, option_map}
+use Rattle.std.specs.Prelude.{◌≡◌, ℕ, true, false, List, [], ◌∷◌, ◌++◌, map, codes, Some, None, option_map}
 use Rattle.fedi_address.specs.declared.recipients.Recipients.{Recipients}
 use Rattle.fedi_town.specs.declared.refusal.Refusal.TheVariants.{NotFound}
 use Rattle.fedi_address.specs.Iris.{public_iri}
@@ -18,7 +18,7 @@ use Rattle.fedi_town.specs.Histories.{town}
 use Rattle.fedi_town.specs.Objects.{object_at}
 use Rattle.fedi_town.specs.Queues.{Due, queue}
 use Rattle.fedi_town.specs.Relations.{followers}
-use Rattle.fedi_laws.specs.Fixture.{ana, ben, dan, member, deed_at, made_at, hill, lake, dora, eve, with_peers, to, activity, note, posts, delivers, is_legal, states, recipients, sight, total, rule}
+use Rattle.fedi_laws.specs.Fixture.{ana, ben, dan, member, activity_number, object_number, hill, lake, dora, eve, with_peers, to, activity, note, posts, delivers, is_legal, states, recipients, sight, total, rule}
 
 -- an id of dora's
 abbrev pub by_dora : List ℕ → List ℕ
@@ -30,27 +30,31 @@ note_of_dora id o r = activity kinds.Create (Whole (record o { id = Some id })) 
 
 -- ---- dora's public Note comes to ana, and to ben
 
+-- to whom it goes
 abbrev pub dora_says : Recipients
 dora_says = record no_recipients { to = public_iri ∷ []; cc = by_dora (codes "/followers") ∷ member ana ∷ [] }
 
+-- the Create
 abbrev pub hi : Activity
 hi = note_of_dora (by_dora (codes "/o/7")) (note no_recipients) dora_says
 
-abbrev pub heard : List Entry
-heard = with_peers ++ delivers hill ana dora (by_dora (codes "/a/7")) hi ∷ []
+-- it came to ana
+abbrev pub after_delivery : List Entry
+after_delivery = with_peers ++ delivers hill ana dora (by_dora (codes "/a/7")) hi ∷ []
 
-abbrev pub heard_twice : List Entry
-heard_twice = heard ++ delivers hill ben dora (by_dora (codes "/a/7")) hi ∷ []
+-- it came to ben too
+abbrev pub after_second_inbox : List Entry
+after_second_inbox = after_delivery ++ delivers hill ben dora (by_dora (codes "/a/7")) hi ∷ []
 
 -- it is kept once, with both inboxes; its object is dora's; and nobody keeps it again
 pub record DeliveredNote : Type 0 where
-  pub legal : is_legal heard_twice ≡ true
-  pub done : states heard_twice ≡ Done ∷ []
-  pub inboxes : recipients heard_twice ≡ (member ana ∷ member ben ∷ []) ∷ []
-  pub not_again : is_legal (heard ++ delivers hill ana dora (by_dora (codes "/a/7")) hi ∷ []) ≡ false
-  pub with_ana : total heard_twice (Actor ana) (Inbox ana) ≡ Some 1
-  pub with_ben : total heard_twice (Actor ben) (Inbox ben) ≡ Some 1
-  pub author : option_map (λ o. o.attributed_to) (object_at (town heard_twice) (by_dora (codes "/o/7"))) ≡ Some (Some dora)
+  pub legal : is_legal after_second_inbox ≡ true
+  pub done : states after_second_inbox ≡ Done ∷ []
+  pub inboxes : recipients after_second_inbox ≡ (member ana ∷ member ben ∷ []) ∷ []
+  pub not_again : is_legal (after_delivery ++ delivers hill ana dora (by_dora (codes "/a/7")) hi ∷ []) ≡ false
+  pub with_ana : total after_second_inbox (Actor ana) (Inbox ana) ≡ Some 1
+  pub with_ben : total after_second_inbox (Actor ben) (Inbox ben) ≡ Some 1
+  pub author : option_map (λ o. o.attributed_to) (object_at (town after_second_inbox) (by_dora (codes "/o/7"))) ≡ Some (Some dora)
 
 -- ---- who may deliver
 
@@ -63,76 +67,86 @@ pub record Origins : Type 0 where
 
 -- ---- dora's Tombstone
 
+-- what is left of a Note
 abbrev pub late_note : Object
 late_note = record (note no_recipients) { kind = codes "Tombstone"; content = None }
 
-abbrev pub remains : List Entry
-remains = with_peers ++ delivers hill ana dora (by_dora (codes "/a/9")) (note_of_dora (by_dora (codes "/o/9")) late_note no_recipients) ∷ []
+-- it came to ana
+abbrev pub after_tombstone : List Entry
+after_tombstone = with_peers ++ delivers hill ana dora (by_dora (codes "/a/9")) (note_of_dora (by_dora (codes "/o/9")) late_note no_recipients) ∷ []
 
 -- a Tombstone that does not tell what it was and since when is completed
 pub record DeliveredTombstone : Type 0 where
-  pub legal : is_legal remains ≡ true
-  pub former : option_map (λ o. o.former_kind) (object_at (town remains) (by_dora (codes "/o/9"))) ≡ Some (Some (codes "Object"))
-  pub deleted : option_map (λ o. o.deleted) (object_at (town remains) (by_dora (codes "/o/9"))) ≡ Some (Some (moment_text 2))
+  pub legal : is_legal after_tombstone ≡ true
+  pub former : option_map (λ o. o.former_kind) (object_at (town after_tombstone) (by_dora (codes "/o/9"))) ≡ Some (Some (codes "Object"))
+  pub deleted : option_map (λ o. o.deleted) (object_at (town after_tombstone) (by_dora (codes "/o/9"))) ≡ Some (Some (moment_text 2))
 
 -- ---- dora follows ana, and dan, who is locked and accepts
 
-abbrev pub fan : List Entry
-fan = with_peers ++ delivers hill ana dora (by_dora (codes "/a/1")) (activity kinds.Follow (Id (member ana)) no_recipients) ∷ []
+-- dora followed ana
+abbrev pub after_remote_follow : List Entry
+after_remote_follow = with_peers ++ delivers hill ana dora (by_dora (codes "/a/1")) (activity kinds.Follow (Id (member ana)) no_recipients) ∷ []
 
-abbrev pub hopeful : List Entry
-hopeful = with_peers ++ delivers hill dan dora (by_dora (codes "/a/1")) (activity kinds.Follow (Id (member dan)) no_recipients) ∷ []
+-- dora asked to follow dan
+abbrev pub before_answer : List Entry
+before_answer = with_peers ++ delivers hill dan dora (by_dora (codes "/a/1")) (activity kinds.Follow (Id (member dan)) no_recipients) ∷ []
 
-abbrev pub admitted : List Entry
-admitted = hopeful ++ posts dan (activity kinds.Accept (Id (by_dora (codes "/a/1"))) no_recipients) ∷ []
+-- dan accepted
+abbrev pub after_answer : List Entry
+after_answer = before_answer ++ posts dan (activity kinds.Accept (Id (by_dora (codes "/a/1"))) no_recipients) ∷ []
 
 -- the Follow is accepted at once, or when dan says so; and it is not delivered to ana again
 pub record DeliveredFollow : Type 0 where
-  pub legal : is_legal fan ≡ true
-  pub not_again : is_legal (fan ++ delivers hill ana dora (by_dora (codes "/a/1")) (activity kinds.Follow (Id (member ana)) no_recipients) ∷ []) ≡ false
-  pub accepted : states fan ≡ Accepted ∷ Done ∷ []
-  pub answer : sight fan (Peer hill) ≡ Some (by_dora (codes "/a/1")) ∷ Some (deed_at ana (codes "1")) ∷ []
-  pub one : total fan (Actor ana) (Followers ana) ≡ Some 1
-  pub waits : states hopeful ≡ Pending ∷ []
-  pub legal_too : is_legal admitted ≡ true
-  pub accepted_too : states admitted ≡ Accepted ∷ Done ∷ []
-  pub one_too : total admitted (Actor dan) (Followers dan) ≡ Some 1
+  pub legal : is_legal after_remote_follow ≡ true
+  pub not_again : is_legal (after_remote_follow ++ delivers hill ana dora (by_dora (codes "/a/1")) (activity kinds.Follow (Id (member ana)) no_recipients) ∷ []) ≡ false
+  pub accepted : states after_remote_follow ≡ Accepted ∷ Done ∷ []
+  pub answer : sight after_remote_follow (Peer hill) ≡ Some (by_dora (codes "/a/1")) ∷ Some (activity_number ana (codes "1")) ∷ []
+  pub one : total after_remote_follow (Actor ana) (Followers ana) ≡ Some 1
+  pub waits : states before_answer ≡ Pending ∷ []
+  pub legal_too : is_legal after_answer ≡ true
+  pub accepted_too : states after_answer ≡ Accepted ∷ Done ∷ []
+  pub one_too : total after_answer (Actor dan) (Followers dan) ≡ Some 1
 
 -- ---- a Follow of ana that comes to ben alone
 
-abbrev pub astray : List Entry
-astray = with_peers ++ delivers hill ben dora (by_dora (codes "/a/1")) (activity kinds.Follow (Id (member ana)) no_recipients) ∷ []
+-- it came to ben
+abbrev pub after_stray_follow : List Entry
+after_stray_follow = with_peers ++ delivers hill ben dora (by_dora (codes "/a/1")) (activity kinds.Follow (Id (member ana)) no_recipients) ∷ []
 
 -- it is accepted in ana's name, who sees her Accept and not the Follow, and cannot reject it
 pub record StrayFollow : Type 0 where
-  pub legal : is_legal astray ≡ true
-  pub accepted : states astray ≡ Accepted ∷ Done ∷ []
-  pub follows : followers (town astray) (member ana) ≡ dora ∷ []
-  pub seen_by_ana : sight astray (Actor ana) ≡ Some (deed_at ana (codes "1")) ∷ []
-  pub not_found : rule astray ana Reject (by_dora (codes "/a/1")) ≡ Some NotFound
+  pub legal : is_legal after_stray_follow ≡ true
+  pub accepted : states after_stray_follow ≡ Accepted ∷ Done ∷ []
+  pub follows : followers (town after_stray_follow) (member ana) ≡ dora ∷ []
+  pub seen_by_ana : sight after_stray_follow (Actor ana) ≡ Some (activity_number ana (codes "1")) ∷ []
+  pub not_found : rule after_stray_follow ana Reject (by_dora (codes "/a/1")) ≡ Some NotFound
 
 -- ---- eve follows ana, who posts a public Note; dora replies to ana's followers
 
-abbrev pub followed : List Entry
-followed = with_peers ++ (delivers lake ana eve (eve ++ codes "/a/1") (activity kinds.Follow (Id (member ana)) no_recipients)
+-- eve followed ana, who posted a Note
+abbrev pub before_reply : List Entry
+before_reply = with_peers ++ (delivers lake ana eve (eve ++ codes "/a/1") (activity kinds.Follow (Id (member ana)) no_recipients)
     ∷ posts ana (activity kinds.Create (Whole (note (to (public_iri ∷ [])))) (to (public_iri ∷ []))) ∷ [])
 
-abbrev pub answer : Object
-answer = record (note no_recipients) { in_reply_to = Some (made_at ana (codes "2")) }
+-- a Note that replies to it
+abbrev pub reply : Object
+reply = record (note no_recipients) { in_reply_to = Some (object_number ana (codes "2")) }
 
+-- dora's reply, which goes to these
 abbrev pub reply_to : List (List ℕ) → Entry
 reply_to names =
-    delivers hill ana dora (by_dora (codes "/a/8")) (note_of_dora (by_dora (codes "/o/8")) answer (record no_recipients { cc = names }))
+    delivers hill ana dora (by_dora (codes "/a/8")) (note_of_dora (by_dora (codes "/o/8")) reply (record no_recipients { cc = names }))
 
-abbrev pub replied : List Entry
-replied = followed ++ reply_to ((member ana ++ codes "/followers") ∷ []) ∷ []
+-- dora's reply to ana's followers came to ana
+abbrev pub after_reply : List Entry
+after_reply = before_reply ++ reply_to ((member ana ++ codes "/followers") ∷ []) ∷ []
 
 -- the Accept goes to eve, and so does dora's reply, as ana's followers are named; else it does not, nor to a follower of
 -- dora's own host
 pub record ForwardedReply : Type 0 where
-  pub legal : is_legal replied ≡ true
-  pub due : queue (town replied)
-    ≡ record { activity = deed_at ana (codes "1"); recipient = eve; progress = Due 0 2 }
-    ∷ record { activity = by_dora (codes "/a/8"); recipient = eve; progress = Due 0 2 } ∷ []
-  pub unnamed : map (λ x. x.forwards) (town (followed ++ reply_to [] ∷ [])).acts ≡ [] ∷ [] ∷ [] ∷ [] ∷ []
-  pub near : map (λ x. x.forwards) (town (fan ++ reply_to ((member ana ++ codes "/followers") ∷ []) ∷ [])).acts ≡ [] ∷ [] ∷ [] ∷ []
+  pub legal : is_legal after_reply ≡ true
+  pub due : queue (town after_reply)
+      ≡ record { activity = activity_number ana (codes "1"); recipient = eve; progress = Due 0 2 }
+      ∷ record { activity = by_dora (codes "/a/8"); recipient = eve; progress = Due 0 2 } ∷ []
+  pub unnamed : map (λ x. x.forwards) (town (before_reply ++ reply_to [] ∷ [])).acts ≡ [] ∷ [] ∷ [] ∷ [] ∷ []
+  pub near : map (λ x. x.forwards) (town (after_remote_follow ++ reply_to ((member ana ++ codes "/followers") ∷ []) ∷ [])).acts ≡ [] ∷ [] ∷ [] ∷ []
