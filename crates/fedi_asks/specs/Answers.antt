@@ -14,7 +14,7 @@ pub data Answer : Type 0 where
   Disallow : Allow → Answer
   Document : Data → Answer
   Profile : Data → Answer
-  Grave : Data → Answer
+  Tombstone : Data → Answer
   Created : Option (List ℕ) → Answer
   Accepted : Answer
 

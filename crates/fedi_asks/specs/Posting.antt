@@ -12,7 +12,7 @@ use Rattle.fedi_town.specs.declared.caller.Caller.{Caller}
 use Rattle.fedi_town.specs.declared.caller.Caller.TheVariants as callers
 use Rattle.fedi_town.specs.Agreement.{repeats_of, peer_of}
 use Rattle.fedi_town.specs.Deeds.{deed_of}
-use Rattle.fedi_town.specs.Deliveries.{is_foreign, has_inbox}
+use Rattle.fedi_town.specs.Origins.{is_foreign, has_inbox}
 use Rattle.fedi_town.specs.Ids.{activity_id}
 use Rattle.fedi_town.specs.Relations.{ref_id}
 use Rattle.fedi_town.specs.Rules.{broken}
@@ -64,21 +64,21 @@ is_bad_key Malformed = true
 is_bad_key (Given key) = false
 
 -- of the author's keys with digests and ids the one that is asked under
-abbrev pub kept_under : List ((List ℕ × List ℕ) × Option (List ℕ)) → KeyAsk → Option ((List ℕ × List ℕ) × Option (List ℕ))
-kept_under rs Absent = None
-kept_under rs Malformed = None
-kept_under rs (Given key) = find (λ r. bytes_eq r.0.0 key) rs
+abbrev pub repeat_under : List ((List ℕ × List ℕ) × Option (List ℕ)) → KeyAsk → Option ((List ℕ × List ℕ) × Option (List ℕ))
+repeat_under rs Absent = None
+repeat_under rs Malformed = None
+repeat_under rs (Given key) = find (λ r. bytes_eq r.0.0 key) rs
 
 -- a post under a key that is kept is the repeat of the one with the same body, and with another body refused
-abbrev pub unless_kept : List ℕ → Option ((List ℕ × List ℕ) × Option (List ℕ)) → Judgement → Judgement
-unless_kept digest None j = j
-unless_kept digest (Some k) j = if bytes_eq k.0.1 digest then Repeat k.1 else Stop (Refuse KeyReused)
+abbrev pub unless_repeat : List ℕ → Option ((List ℕ × List ℕ) × Option (List ℕ)) → Judgement → Judgement
+unless_repeat digest None j = j
+unless_repeat digest (Some k) j = if bytes_eq k.0.1 digest then Repeat k.1 else Stop (Refuse KeyReused)
 
 -- what was read of the author's post
 abbrev pub judge_read : Town → Caller → List ℕ → Post → Read → Judgement
 judge_read t c author post NotJson = Stop (Refuse BadBody)
 judge_read t c author post (Bad fault) = Stop (Misshape fault)
-judge_read t c author post (Ready a) = unless_kept post.digest (kept_under (repeats_of t author) post.key) (judge_activity t c author a)
+judge_read t c author post (Ready a) = unless_repeat post.digest (repeat_under (repeats_of t author) post.key) (judge_activity t c author a)
 
 -- the post at this name, of the author with this id
 abbrev pub judge_post : Town → Caller → List ℕ → List ℕ → Post → Judgement

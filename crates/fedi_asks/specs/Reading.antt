@@ -12,14 +12,14 @@ use Rattle.fedi_town.specs.declared.caller.Caller.TheVariants as callers
 use Rattle.fedi_town.specs.declared.caller.Which.{Which}
 use Rattle.fedi_town.specs.declared.caller.Which.TheVariants.{Inbox, Outbox, Followers, Following, Liked, Likes, Shares}
 use Rattle.fedi_town.specs.Collections.{items, owner_of, highest, page_of}
-use Rattle.fedi_town.specs.Objects.{is_buried, whole_of}
+use Rattle.fedi_town.specs.Objects.{is_deleted, whole_of}
 use Rattle.fedi_town.specs.Rules.{seen_maker, seen_act}
 use Rattle.fedi_town.specs.Showing.{shown_activity}
 use Rattle.fedi_town.specs.Towns.{Town, id_of}
 use Rattle.fedi_asks.specs.declared.ask.PageAsk.{PageAsk}
 use Rattle.fedi_asks.specs.declared.ask.PageAsk.TheVariants.{Summary, Page, Malformed}
 use Rattle.fedi_asks.specs.declared.ask.Resource.{Resource}
-use Rattle.fedi_asks.specs.Answers.{Answer, Refuse, Document, Profile, Grave, unless_refused}
+use Rattle.fedi_asks.specs.Answers.{Answer, Refuse, Document, Profile, Tombstone, unless_refused}
 use Rattle.fedi_asks.specs.Documents.{actor_form, jrd_form, item_form, collection_id, summary_form, page_form}
 
 -- ---- callers
@@ -85,16 +85,16 @@ activity_answer t c (Some id) = activity_or_missing t (seen_act t c id)
 -- the document of an object, or what is left of it (ActivityPub, section 6.4)
 abbrev pub object_document : Option Object → Answer
 object_document None = Refuse NotFound
-object_document (Some o) = if is_tombstone o then Grave (object_form true true o) else Document (object_form true true o)
+object_document (Some o) = if is_tombstone o then Tombstone (object_form true true o) else Document (object_form true true o)
 
 -- the document of the object that the activity made
-unfoldable pub made_document : Town → Act → Answer
-made_document t x = object_document (whole_of (shown_activity t x).object)
+unfoldable pub maker_document : Town → Act → Answer
+maker_document t x = object_document (whole_of (shown_activity t x).object)
 
 -- the document of the object whose Create was found, or that there is none
 abbrev pub object_or_missing : Town → Option Act → Answer
 object_or_missing t None = Refuse NotFound
-object_or_missing t (Some x) = made_document t x
+object_or_missing t (Some x) = maker_document t x
 
 -- the answer to who reads the object of this id
 abbrev pub object_answer : Town → Caller → Option (List ℕ) → Answer
@@ -126,7 +126,7 @@ reading_rule c (Shares name n) = None
 -- an object whose Likes or Announces are read was not deleted
 abbrev pub marks_rule : Option Act → Option Refusal
 marks_rule None = Some NotFound
-marks_rule (Some m) = if is_buried m then Some Gone else None
+marks_rule (Some m) = if is_deleted m then Some Gone else None
 
 -- the rule on the object of this id, where it is an object's collection
 abbrev pub object_rule : Town → Caller → Which → List ℕ → Option Refusal

@@ -6,7 +6,7 @@ use Rattle.fedi_objects.specs.declared.activity.ObjectRef.{ObjectRef}
 use Rattle.fedi_objects.specs.declared.activity.ObjectRef.TheVariants.{Nothing, Id, Whole, Changed}
 use Rattle.fedi_objects.specs.declared.object.Object.{Object}
 use Rattle.fedi_town.specs.Deeds.{is_create, is_update, is_done}
-use Rattle.fedi_town.specs.Objects.{makes, maker_of, whole_of, is_buried, is_tombstone_in, object_of}
+use Rattle.fedi_town.specs.Objects.{makes, maker_of, whole_of, is_deleted, is_tombstone_in, object_of}
 use Rattle.fedi_town.specs.Relations.{ref_id, is_id, is_about}
 use Rattle.fedi_town.specs.Showing.{sight_of, shown_ref, shown_activity, present_object, object_or_id, ref_to}
 use Rattle.fedi_town.specs.Towns.{Town, deed}
@@ -21,7 +21,7 @@ pub record IsAlike (x y : Act) : Type 0 where
   pub state : y.state ≡ x.state
   pub is_public : y.is_public ≡ x.is_public
   pub about : ref_id y.activity.object ≡ ref_id x.activity.object
-  pub buried : is_buried y ≡ is_buried x
+  pub buried : is_deleted y ≡ is_deleted x
 
 -- ---- the id of what is shown
 
@@ -109,8 +109,8 @@ same_buried : (a b : Bool) (r : ObjectRef) (y : Option Object) (id : Option (Lis
 same_buried true b r y id = buried_present (whole_of r) id
 same_buried false b r y id = refl
 
-shown_buried : (t : Town) (c : Caller) (x : Act) → is_buried (sight_of t c x) ≡ is_buried x
-unfolding is_buried sight_of shown_activity shown_ref present_object
+shown_buried : (t : Town) (c : Caller) (x : Act) → is_deleted (sight_of t c x) ≡ is_deleted x
+unfolding is_deleted sight_of shown_activity shown_ref present_object
 shown_buried t c x = same_buried (is_create (deed x) && is_done x.state) (is_update (deed x) && is_done x.state) x.activity.object _ (ref_id x.activity.object)
 
 pub shown_alike : (t : Town) (c : Caller) (x : Act) → IsAlike x (sight_of t c x)

@@ -20,7 +20,7 @@ use Rattle.fedi_town.specs.Deeds.{is_create, is_update, is_delete, is_done, deed
 use Rattle.fedi_town.specs.Effects.{acceptance}
 use Rattle.fedi_town.specs.Histories.{addition_of, member_addition, post_addition, inbox_addition, delivery_addition, is_known, step, town}
 use Rattle.fedi_town.specs.Ids.{actor_id}
-use Rattle.fedi_town.specs.Objects.{makes, maker, object_of, object_at, whole_of, is_whole, is_buried}
+use Rattle.fedi_town.specs.Objects.{makes, maker, object_of, object_at, whole_of, is_whole, is_deleted}
 use Rattle.fedi_town.specs.Relations.{ref_id, is_id, is_about}
 use Rattle.fedi_town.specs.Replays.{acts_in, updates, deletes, next_form, replay_act}
 use Rattle.fedi_town.specs.States.{state_of, state_with, only_where, is_own_live}
@@ -40,8 +40,8 @@ and_none : (a : Bool) → (a && false) ≡ false
 and_none true = refl
 and_none false = refl
 
-is_buried_by : (id : List ℕ) (m : Act) (o : Object) → makes id m ≡ true → whole_of m.activity.object ≡ Some o → is_tombstone o ≡ true → is_buried m ≡ true
-unfolding is_buried makes
+is_buried_by : (id : List ℕ) (m : Act) (o : Object) → makes id m ≡ true → whole_of m.activity.object ≡ Some o → is_tombstone o ≡ true → is_deleted m ≡ true
+unfolding is_deleted makes
 is_buried_by id m o made e buried =
     let first = (and_parts (is_create (deed m) && is_done m.state) (is_about id m) made).0 in rw (first, e) buried
 

@@ -22,7 +22,7 @@ use Rattle.fedi_town.specs.declared.caller.Which.TheVariants as whiches
 use Rattle.fedi_town.specs.Agreement.{repeats_of, peer_of}
 use Rattle.fedi_town.specs.Collections.{items, owner_of, highest, page_of}
 use Rattle.fedi_town.specs.Deeds.{deed_of}
-use Rattle.fedi_town.specs.Deliveries.{is_foreign}
+use Rattle.fedi_town.specs.Origins.{is_foreign}
 use Rattle.fedi_town.specs.Ids.{actor_id, activity_id, object_id}
 use Rattle.fedi_town.specs.Objects.{whole_of}
 use Rattle.fedi_town.specs.Relations.{ref_id}
@@ -37,12 +37,12 @@ use Rattle.fedi_asks.specs.declared.ask.Resource.{Resource}
 use Rattle.fedi_asks.specs.declared.post.Post.{Post}
 use Rattle.fedi_asks.specs.declared.post.Read.{Read}
 use Rattle.fedi_asks.specs.declared.post.Read.TheVariants.{NotJson, Bad, Ready}
-use Rattle.fedi_asks.specs.Answers.{Answer, Refuse, Document, Grave, unless_refused}
+use Rattle.fedi_asks.specs.Answers.{Answer, Refuse, Document, Tombstone, unless_refused}
 use Rattle.fedi_asks.specs.Asks.{id_at, answer_of}
 use Rattle.fedi_asks.specs.Cleanness.{is_clean_answer}
 use Rattle.fedi_asks.specs.Documents.{actor_form, self_link, links_of, jrd_form, embedded_form, item_form, page_id, with_ends, summary_form, with_next, with_prev, page_form}
-use Rattle.fedi_asks.specs.Posting.{Judgement, Stop, Repeat, Keep, unless_broken, by_steps, with_room, judge_activity, is_bad_key, kept_under, unless_kept, judge_read, answer_post, post_answer, judge_delivery, is_there, answer_delivery, delivery_answer}
-use Rattle.fedi_asks.specs.Reading.{is_nobody, is_self, is_peer, actor_or_missing, profile_or_missing, resource_answer, webfinger_answer, activity_document, activity_or_missing, activity_answer, object_document, made_document, object_or_missing, object_answer, name_of, reading_rule, object_rule, part_answer, items_answer, owner_answer, is_malformed, member_answer}
+use Rattle.fedi_asks.specs.Posting.{Judgement, Stop, Repeat, Keep, unless_broken, by_steps, with_room, judge_activity, is_bad_key, repeat_under, unless_repeat, judge_read, answer_post, post_answer, judge_delivery, is_there, answer_delivery, delivery_answer}
+use Rattle.fedi_asks.specs.Reading.{is_nobody, is_self, is_peer, actor_or_missing, profile_or_missing, resource_answer, webfinger_answer, activity_document, activity_or_missing, activity_answer, object_document, maker_document, object_or_missing, object_answer, name_of, reading_rule, object_rule, part_answer, items_answer, owner_answer, is_malformed, member_answer}
 
 abbrev IsClean : Answer → Type 0
 IsClean a = is_clean_answer a ≡ true
@@ -196,10 +196,10 @@ choice_answer false x y h k = k
 
 object_clean : (o : Option objects.Object) → IsClean (object_document o)
 object_clean None = refl
-object_clean (Some o) = choice_answer (is_tombstone o) (Grave (object_form true true o)) (Document (object_form true true o)) (is_clean-object_form true true o) (is_clean-object_form true true o)
+object_clean (Some o) = choice_answer (is_tombstone o) (Tombstone (object_form true true o)) (Document (object_form true true o)) (is_clean-object_form true true o) (is_clean-object_form true true o)
 
 made_clean : (t : Town) (m : Option Act) → IsClean (object_or_missing t m)
-unfolding made_document
+unfolding maker_document
 made_clean t None = refl
 made_clean t (Some x) = object_clean (whole_of (shown_activity t x).object)
 
@@ -249,7 +249,7 @@ broken_clean : (r : Option Refusal) (j : Judgement) → IsCleanJudgement j → I
 broken_clean None j h = h
 broken_clean (Some r) j h = refl
 
-kept_clean : (digest : List ℕ) (k : Option ((List ℕ × List ℕ) × Option (List ℕ))) (j : Judgement) → IsCleanJudgement j → IsCleanJudgement (unless_kept digest k j)
+kept_clean : (digest : List ℕ) (k : Option ((List ℕ × List ℕ) × Option (List ℕ))) (j : Judgement) → IsCleanJudgement j → IsCleanJudgement (unless_repeat digest k j)
 kept_clean digest None j h = h
 kept_clean digest (Some k) j h = choice_judgement (bytes_eq k.0.1 digest) (Repeat k.1) (Stop (Refuse KeyReused)) tt refl
 
@@ -257,7 +257,7 @@ read_clean : (t : Town) (c : Caller) (author : List ℕ) (post : Post) (read : R
 read_clean t c author post NotJson = refl
 read_clean t c author post (Bad fault) = refl
 read_clean t c author post (Ready a) =
-    kept_clean post.digest (kept_under (repeats_of t author) post.key) (judge_activity t c author a)
+    kept_clean post.digest (repeat_under (repeats_of t author) post.key) (judge_activity t c author a)
     (broken_clean (broken t c author (deed_of a.kind) (ref_id a.object)) (with_room (count_of t author) (Keep a))
     (choice_judgement (nat_lt (count_of t author) 4294967295) (Keep a) (Stop (Refuse ActorFull)) tt refl))
 

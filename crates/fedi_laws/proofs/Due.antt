@@ -21,14 +21,14 @@ use Rattle.fedi_town.specs.Effects.{acceptance, where_passes, in_state, end_foll
 use Rattle.fedi_town.specs.declared.addition.Addition.TheVariants as additions
 use Rattle.fedi_town.specs.Histories.{with_addition, member_addition, step, is_known, with_recipient}
 use Rattle.fedi_town.specs.Objects.{makes, rewrite_act, update_object, tombstone_of}
-use Rattle.fedi_town.specs.Queues.{Progress, Due, Ended, progress_of, is_of_pair, sends, is_at_peer, is_due_at, is_due_in, is_due, after}
+use Rattle.fedi_town.specs.Queues.{Progress, Due, Ended, progress_of, is_of_pair, sends, is_at_peer, is_due_at, is_due_in, is_due, after_attempt}
 use Rattle.fedi_town.specs.Relations.{has_activity_id, is_open_follow}
 use Rattle.fedi_town.specs.Towns.{Town, id_of, has_host}
 use Rattle.fedi_town.specs.declared.act.Act.{Act}
 use Rattle.fedi_town.specs.declared.act.Attempt.{Attempt}
 use Rattle.fedi_town.specs.declared.act.Peer.{Peer}
 use Rattle.fedi_town.specs.declared.effect.Effect.{Effect}
-use Rattle.fedi_town.specs.declared.effect.Effect.TheVariants.{Nothing as NoEffect, Rewrites, Buries, Grants, Ends, Parts, TakesBack}
+use Rattle.fedi_town.specs.declared.effect.Effect.TheVariants as effects
 
 -- the activity goes where it went
 pub record GoesOn (y z : Act) : Type 0 where
@@ -57,13 +57,13 @@ ended_on a b s y = passing (is_open_follow a b) (in_state s) y (record { own = r
 
 pub affected_on : (e : Effect) (y : Act) → GoesOn y (affect e y)
 unfolding rewrite_act
-affected_on NoEffect y = same y
-affected_on (Rewrites id by stamp) y = passing (makes id) (rewrite_act (update_object by stamp)) y (record { own = refl; author = refl; moment = refl; forwards = refl; to = λ r h. h })
-affected_on (Buries id kind stamp) y = passing (makes id) (rewrite_act (tombstone_of kind stamp)) y (record { own = refl; author = refl; moment = refl; forwards = refl; to = λ r h. h })
-affected_on (Grants id) y = passing (is_pending_follow id) (in_state Accepted) y (record { own = refl; author = refl; moment = refl; forwards = refl; to = λ r h. h })
-affected_on (Ends a b s) y = ended_on a b s y
-affected_on (Parts a b) y = then_on y _ _ (ended_on b a Undone y) (ended_on a b Undone (end_follow b a Undone y))
-affected_on (TakesBack id) y = passing (is_standing_activity id) (in_state Undone) y (record { own = refl; author = refl; moment = refl; forwards = refl; to = λ r h. h })
+affected_on effects.Nothing y = same y
+affected_on (effects.Update id by stamp) y = passing (makes id) (rewrite_act (update_object by stamp)) y (record { own = refl; author = refl; moment = refl; forwards = refl; to = λ r h. h })
+affected_on (effects.Delete id kind stamp) y = passing (makes id) (rewrite_act (tombstone_of kind stamp)) y (record { own = refl; author = refl; moment = refl; forwards = refl; to = λ r h. h })
+affected_on (effects.Accept id) y = passing (is_pending_follow id) (in_state Accepted) y (record { own = refl; author = refl; moment = refl; forwards = refl; to = λ r h. h })
+affected_on (effects.EndFollows a b s) y = ended_on a b s y
+affected_on (effects.EndBoth a b) y = then_on y _ _ (ended_on b a Undone y) (ended_on a b Undone (end_follow b a Undone y))
+affected_on (effects.Undo id) y = passing (is_standing_activity id) (in_state Undone) y (record { own = refl; author = refl; moment = refl; forwards = refl; to = λ r h. h })
 
 pub also_on : (id owner : List ℕ) (y : Act) → GoesOn y (with_recipient id owner y)
 also_on id owner y =
@@ -177,7 +177,7 @@ unfolding is_at_peer progress_of
 tried_later t a id r other = record {
   host = refl;
   peer = λ e. e;
-  progress = λ m. ap (fold after (Due 0 m)) (unpaired t a id r other);
+  progress = λ m. ap (fold after_attempt (Due 0 m)) (unpaired t a id r other);
 }
 
 made_on : (host : Option (List ℕ)) (t : Town) (name digest : List ℕ) (locked : Bool) (i r : List ℕ) (m n : ℕ) → m ≤ n → is_due t i r m ≡ true → is_due (with_addition t (member_addition host name digest locked)) i r n ≡ true

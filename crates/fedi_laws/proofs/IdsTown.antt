@@ -24,7 +24,7 @@ use Rattle.fedi_laws.proofs.Steps.{accept_in_steps, with_act, accepts_for, after
 use Rattle.fedi_laws.proofs.People.{id_of-is, named_is}
 use Rattle.fedi_town.specs.Activities.{local_act, remote_act}
 use Rattle.fedi_town.specs.Deeds.{is_follow, is_accepted, deed_of}
-use Rattle.fedi_town.specs.Deliveries.{is_foreign, is_of_another}
+use Rattle.fedi_town.specs.Origins.{is_foreign, is_of_another}
 use Rattle.fedi_town.specs.Effects.{acceptance, accept_for, affect, effect_of, accept_by, accept, followee}
 use Rattle.fedi_town.specs.declared.addition.Addition.TheVariants as additions
 use Rattle.fedi_town.specs.Histories.{with_addition, member_addition, with_recipient, is_known, step, town}

@@ -16,7 +16,7 @@ use Rattle.fedi_town.specs.declared.act.Act.{Act}
 use Rattle.fedi_town.specs.declared.deed.Deed.{Deed}
 use Rattle.fedi_town.specs.declared.deed.Deed.TheVariants.{Create, Update, Delete, Follow, Like, Announce, Block, Accept, Reject, Undo, Other}
 use Rattle.fedi_town.specs.declared.effect.Effect.{Effect}
-use Rattle.fedi_town.specs.declared.effect.Effect.TheVariants.{Nothing as NoEffect, Rewrites, Buries, Grants, Ends, Parts, TakesBack}
+use Rattle.fedi_town.specs.declared.effect.Effect.TheVariants as effects
 
 pub record IsKept (y z : Act) : Type 0 where
   pub kind : z.activity.kind ≡ y.activity.kind
@@ -112,24 +112,24 @@ tombstone-keeps kind stamp = record { same = λ o. refl }
 
 -- a state to which Follows end is not that of what is done
 abbrev pub IsFair : Effect → Type 0
-IsFair NoEffect = Unit {0}
-IsFair (Rewrites id by stamp) = Unit {0}
-IsFair (Buries id kind stamp) = Unit {0}
-IsFair (Grants id) = Unit {0}
-IsFair (Ends a b s) = is_done s ≡ false
-IsFair (Parts a b) = Unit {0}
-IsFair (TakesBack id) = Unit {0}
+IsFair effects.Nothing = Unit {0}
+IsFair (effects.Update id by stamp) = Unit {0}
+IsFair (effects.Delete id kind stamp) = Unit {0}
+IsFair (effects.Accept id) = Unit {0}
+IsFair (effects.EndFollows a b s) = is_done s ≡ false
+IsFair (effects.EndBoth a b) = Unit {0}
+IsFair (effects.Undo id) = Unit {0}
 
 affected-kept : (e : Effect) (y : Act) → IsFair e → IsKept y (affect e y)
 unfolding is_pending_follow is_standing_activity
-affected-kept NoEffect y fair = still y
-affected-kept (Rewrites id by stamp) y fair = passing (makes id) (rewrite_act (update_object by stamp)) y (λ e. rewritten-kept _ (updated-keeps by stamp) y)
-affected-kept (Buries id kind stamp) y fair = passing (makes id) (rewrite_act (tombstone_of kind stamp)) y (λ e. rewritten-kept _ (tombstone-keeps kind stamp) y)
-affected-kept (Grants id) y fair =
+affected-kept effects.Nothing y fair = still y
+affected-kept (effects.Update id by stamp) y fair = passing (makes id) (rewrite_act (update_object by stamp)) y (λ e. rewritten-kept _ (updated-keeps by stamp) y)
+affected-kept (effects.Delete id kind stamp) y fair = passing (makes id) (rewrite_act (tombstone_of kind stamp)) y (λ e. rewritten-kept _ (tombstone-keeps kind stamp) y)
+affected-kept (effects.Accept id) y fair =
     passing (is_pending_follow id) (in_state Accepted) y (λ e. restated Accepted refl y (pending_not_done y.state (last (has_activity_id id y) (is_follow (deed y)) (is_pending y.state) e)))
-affected-kept (Ends a b s) y fair = ended-kept a b s fair y
-affected-kept (Parts a b) y fair = then_kept y _ _ (ended-kept b a Undone refl y) (ended-kept a b Undone refl (end_follow b a Undone y))
-affected-kept (TakesBack id) y fair =
+affected-kept (effects.EndFollows a b s) y fair = ended-kept a b s fair y
+affected-kept (effects.EndBoth a b) y fair = then_kept y _ _ (ended-kept b a Undone refl y) (ended-kept a b Undone refl (end_follow b a Undone y))
+affected-kept (effects.Undo id) y fair =
     passing (is_standing_activity id) (in_state Undone) y (λ e. restated Undone refl y (standing_not_done y.state (second (has_activity_id id y) (is_standing y.state) e)))
 
 pair-fair : (s : State) → is_done s ≡ false → (f : Act) (b : Option (List ℕ)) → IsFair (pair_ends s f b)
@@ -167,7 +167,7 @@ with-fair t x (Some id) = about-fair t x (deed x) id
 
 fair : (t : Town) (x : Act) → IsFair (effect_of t x)
 unfolding effect_of
-fair t x = choice-fair (takes_effect (deed x) x.state) _ NoEffect (with-fair t x (ref_id x.activity.object)) tt
+fair t x = choice-fair (takes_effect (deed x) x.state) _ effects.Nothing (with-fair t x (ref_id x.activity.object)) tt
 
 pub changed-kept : (t : Town) (x y : Act) → IsKept y (affect (effect_of t x) y)
 changed-kept t x y = affected-kept (effect_of t x) y (fair t x)

@@ -14,7 +14,7 @@ use Rattle.fedi_asks.specs.Answers.{Answer, Refuse, Document, unless_refused}
 use Rattle.fedi_asks.specs.Asks.{id_at, answer_of}
 use Rattle.fedi_asks.specs.Documents.{collection_id, embedded_form, item_form}
 use Rattle.fedi_asks.specs.Posting.{is_bad_key, Judgement, Stop, Repeat, Keep, judge_activity, judge_read, by_steps, answer_post, post_answer, delivery_answer, judge_delivery, answer_delivery, is_there}
-use Rattle.fedi_asks.specs.Reading.{activity_document, activity_or_missing, activity_answer, object_document, made_document, object_or_missing, object_answer, is_self, is_nobody, is_peer, name_of, reading_rule, marks_rule, object_rule, part_answer, items_answer, owner_answer, member_answer, collection_answer, resource_answer, webfinger_answer}
+use Rattle.fedi_asks.specs.Reading.{activity_document, activity_or_missing, activity_answer, object_document, maker_document, object_or_missing, object_answer, is_self, is_nobody, is_peer, name_of, reading_rule, marks_rule, object_rule, part_answer, items_answer, owner_answer, member_answer, collection_answer, resource_answer, webfinger_answer}
 use Rattle.fedi_asks.specs.declared.ask.Ask.{Ask}
 use Rattle.fedi_asks.specs.declared.ask.Ask.TheVariants.{Nowhere, WrongMethod, Webfinger, Actor, Collection, Activity, Object, Outbox, Inbox}
 use Rattle.fedi_asks.specs.declared.ask.PageAsk.{PageAsk}
@@ -30,7 +30,7 @@ use Rattle.fedi_town.specs.Addressing.{is_nobody_here, is_of_town}
 use Rattle.fedi_town.specs.Agreement.{SameOwn, IsSameOwn, peer_of}
 use Rattle.fedi_town.specs.Collections.{owner_of, is_item, is_same_item, items, object_key, text_of, page_of}
 use Rattle.fedi_town.specs.Deeds.{is_open, is_pending, deed_of}
-use Rattle.fedi_town.specs.Deliveries.{is_foreign}
+use Rattle.fedi_town.specs.Origins.{is_foreign}
 use Rattle.fedi_town.specs.Ids.{activity_id, object_id}
 use Rattle.fedi_town.specs.Objects.{makes, whole_of}
 use Rattle.fedi_town.specs.Relations.{blocks, ref_id, is_about, has_activity_id, is_block_of, has_block_between, is_actor, is_following}
@@ -151,7 +151,7 @@ shown_object None = Refuse NotFound
 shown_object (Some y) = object_document (whole_of y.activity.object)
 
 object_document-shown : (t : Town) (c : Caller) (m : Option Act) → shown_object (option_map (sight_of t c) m) ≡ object_or_missing t m
-unfolding made_document sight_of
+unfolding maker_document sight_of
 object_document-shown t c None = refl
 object_document-shown t c (Some x) = refl
 

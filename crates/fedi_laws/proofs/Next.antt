@@ -10,7 +10,7 @@ use Rattle.fedi_objects.specs.declared.entry.Entry.{Entry}
 use Rattle.fedi_objects.specs.declared.entry.Entry.TheVariants.{Local, Remote}
 use Rattle.fedi_asks.specs.Answers.{Refuse}
 use Rattle.fedi_asks.specs.Asks.{IsRead, IsReadFor, IsPostable, entry_of}
-use Rattle.fedi_asks.specs.Posting.{Judgement, Stop, Repeat, Keep, by_steps, judge_read, unless_kept, judge_activity, unless_broken, with_room, judge_post, kept_under, is_bad_key, is_there, judge_delivery, judge_inbox, repeat_by, post_entry, inbox_entry, entry_at, inbox_entry_at, delivery_of}
+use Rattle.fedi_asks.specs.Posting.{Judgement, Stop, Repeat, Keep, by_steps, judge_read, unless_repeat, judge_activity, unless_broken, with_room, judge_post, repeat_under, is_bad_key, is_there, judge_delivery, judge_inbox, repeat_by, post_entry, inbox_entry, entry_at, inbox_entry_at, delivery_of}
 use Rattle.fedi_asks.specs.Reading.{is_nobody, is_self}
 use Rattle.fedi_asks.specs.declared.ask.Ask.{Ask}
 use Rattle.fedi_asks.specs.declared.ask.Ask.TheVariants.{Nowhere, WrongMethod, Webfinger, Actor, Collection, Activity, Object, Outbox, Inbox}
@@ -22,7 +22,7 @@ use Rattle.fedi_asks.specs.declared.post.Read.TheVariants.{NotJson, Bad, Ready}
 use Rattle.fedi_laws.proofs.Knowledge.{self_is}
 use Rattle.fedi_town.specs.Agreement.{repeats_of}
 use Rattle.fedi_town.specs.Deeds.{deed_of}
-use Rattle.fedi_town.specs.Deliveries.{is_foreign, has_inbox}
+use Rattle.fedi_town.specs.Origins.{is_foreign, has_inbox}
 use Rattle.fedi_town.specs.Legal.{is_admissible, may_deliver, is_new_key, has_key}
 use Rattle.fedi_town.specs.Relations.{ref_id}
 use Rattle.fedi_town.specs.Rules.{broken}
@@ -45,7 +45,7 @@ steps_kept false false true true v a e = (refl, e)
 record IsJudged (t : Town) (c : Caller) (author : List ℕ) (key : KeyAsk) (a : activities.Activity) : Type 0 where
   unbroken : broken t c author (deed_of a.kind) (ref_id a.object) ≡ None
   room : nat_lt (count_of t author) 4294967295 ≡ true
-  new : kept_under (repeats_of t author) key ≡ None
+  new : repeat_under (repeats_of t author) key ≡ None
 
 room_kept : (count : ℕ) (a b : activities.Activity) → with_room count (Keep a) ≡ Keep b → (nat_lt count 4294967295 ≡ true) × (a ≡ b)
 room_kept count a b e =
@@ -62,7 +62,7 @@ choice_kept : (s : Bool) (l : Option (List ℕ)) (w : Judgement) (b : activities
 choice_kept true l w b x e = absurd cc
 choice_kept false l w b x e = absurd cc
 
-new_kept : (digest : List ℕ) (k : Option ((List ℕ × List ℕ) × Option (List ℕ))) (v : Judgement) (b : activities.Activity) → unless_kept digest k v ≡ Keep b → (k ≡ None) × (v ≡ Keep b)
+new_kept : (digest : List ℕ) (k : Option ((List ℕ × List ℕ) × Option (List ℕ))) (v : Judgement) (b : activities.Activity) → unless_repeat digest k v ≡ Keep b → (k ≡ None) × (v ≡ Keep b)
 new_kept digest None v b e = (refl, e)
 new_kept digest (Some k) v b e = absurd (choice_kept (bytes_eq k.0.1 digest) k.1 v b _ e)
 
@@ -71,7 +71,7 @@ read_kept : (t : Town) (c : Caller) (author : List ℕ) (post : Post) (read : Re
 read_kept t c author post NotJson b is e = absurd cc
 read_kept t c author post (Bad fault) b is e = absurd cc
 read_kept t c author post (Ready a) b is e =
-    let first = new_kept post.digest (kept_under (repeats_of t author) post.key) (judge_activity t c author a) b e in
+    let first = new_kept post.digest (repeat_under (repeats_of t author) post.key) (judge_activity t c author a) b e in
     let second = rule_kept (broken t c author (deed_of a.kind) (ref_id a.object)) (with_room (count_of t author) (Keep a)) b first.1 in
     let third = room_kept (count_of t author) a b second.1 in
     subst (λ (x : activities.Activity). (is_posted author x ≡ true) × IsJudged t c author post.key x) third.1
@@ -102,7 +102,7 @@ unused key (x ∷ xs) e =
     let h = unused_by key x.repeat x.activity.id (filter_map kept_of xs) e in
     rw (h.0, unused key xs h.1) refl
 
-is_new : (acts : List Act) (digest : List ℕ) (key : KeyAsk) → kept_under (filter_map kept_of acts) key ≡ None
+is_new : (acts : List Act) (digest : List ℕ) (key : KeyAsk) → repeat_under (filter_map kept_of acts) key ≡ None
     → is_new_key acts (repeat_by digest key) ≡ true
 is_new acts digest Absent e = refl
 is_new acts digest Malformed e = refl

@@ -4,7 +4,7 @@ use Rattle.std.specs.Prelude.{map, filter, reverse}
 use Rattle.std.proofs.lemmas.List.{map-append, take-map, drop-map, reverse-append}
 use Rattle.fedi_laws.proofs.Lists.{filter-through}
 use Rattle.fedi_town.specs.Collections.{page_of}
-use Rattle.fedi_town.specs.Lists.{is_other, firsts}
+use Rattle.fedi_town.specs.Lists.{differs, firsts}
 
 reverse-map : {A B : Type 0} (f : A → B) (xs : List A) → reverse (map f xs) ≡ map f (reverse xs)
 reverse-map f [] = refl
@@ -22,13 +22,13 @@ page_of-map {A} {B} f k xs =
 
 -- ---- the first of each
 
-other-map : {A B : Type 0} (f : A → B) (p : A → A → Bool) (q : B → B → Bool) → ((x y : A) → q (f x) (f y) ≡ p x y) → (x y : A) → is_other q (f x) (f y) ≡ is_other p x y
-unfolding is_other
+other-map : {A B : Type 0} (f : A → B) (p : A → A → Bool) (q : B → B → Bool) → ((x y : A) → q (f x) (f y) ≡ p x y) → (x y : A) → differs q (f x) (f y) ≡ differs p x y
+unfolding differs
 other-map f p q same x y = rw (same x y) refl
 
 pub firsts-map : {A B : Type 0} (f : A → B) (p : A → A → Bool) (q : B → B → Bool) → ((x y : A) → q (f x) (f y) ≡ p x y) → (xs : List A) → firsts q (map f xs) ≡ map f (firsts p xs)
 firsts-map f p q same [] = refl
 firsts-map {A} {B} f p q same (x ∷ xs) =
     ap (λ (ys : List B). f x ∷ ys)
-    (ap (filter (is_other q (f x))) (firsts-map f p q same xs)
-    ∙ filter-through f (is_other q (f x)) (is_other p x) (other-map f p q same x) (firsts p xs))
+    (ap (filter (differs q (f x))) (firsts-map f p q same xs)
+    ∙ filter-through f (differs q (f x)) (differs p x) (other-map f p q same x) (firsts p xs))

@@ -10,7 +10,7 @@ use Rattle.fedi_address.specs.Recipients.{all_of, is_among, names, is_public}
 use Rattle.fedi_objects.specs.declared.activity.Activity.{Activity}
 use Rattle.fedi_objects.specs.declared.kind.State.TheVariants.{Accepted, Pending, Rejected}
 use Rattle.fedi_town.specs.Activities.{local_act}
-use Rattle.fedi_town.specs.Lists.{is_other, each_once}
+use Rattle.fedi_town.specs.Lists.{differs, each_once}
 use Rattle.fedi_laws.proofs.Texts.{bytes_eq-same, bytes_eq-is, or_true, or_no}
 use Rattle.fedi_town.specs.Addressing.{is_recipient, addressees, recipients_with, is_nobody_here, is_of_town, complete_recipients, implied_recipient, with_implied}
 use Rattle.fedi_town.specs.Deeds.{deed_of, is_accepted}
@@ -49,13 +49,13 @@ filter-among p b (x ∷ xs) passes there =
 
 -- what is among some is among the first of each
 once-among : (b : List ℕ) (xs : List (List ℕ)) → is_among b xs ≡ true → is_among b (each_once xs) ≡ true
-unfolding is_among is_other
+unfolding is_among differs
 once-among b [] there = absurd cc
 once-among b (x ∷ xs) there =
     elim (bytes_eq x b) as (λ s. bytes_eq x b ≡ s → is_among b (each_once (x ∷ xs)) ≡ true) [
       | true ↦ λ e. rw e refl
       | false ↦ λ e. let rest : is_among b xs ≡ true = rw e at there in
-          rw (e, filter-among (is_other bytes_eq x) b (each_once xs) (rw e refl) (once-among b xs rest)) refl
+          rw (e, filter-among (differs bytes_eq x) b (each_once xs) (rw e refl) (once-among b xs rest)) refl
     ] refl
 
 first-among : (b : List ℕ) (xs ys : List (List ℕ)) → is_among b xs ≡ true → is_among b (xs ++ ys) ≡ true

@@ -19,7 +19,7 @@ use Rattle.fedi_town.specs.declared.addition.Addition.TheVariants as additions
 use Rattle.fedi_town.specs.declared.deed.Deed.{Deed}
 use Rattle.fedi_town.specs.declared.deed.Deed.TheVariants.{Create, Update, Delete, Follow, Like, Announce, Block, Accept, Reject, Undo, Other}
 use Rattle.fedi_town.specs.declared.effect.Effect.{Effect}
-use Rattle.fedi_town.specs.declared.effect.Effect.TheVariants.{Nothing as NoEffect, Rewrites, Buries, Grants, Ends, Parts, TakesBack}
+use Rattle.fedi_town.specs.declared.effect.Effect.TheVariants as effects
 use Rattle.fedi_town.specs.Activities.{local_act, remote_act}
 use Rattle.fedi_town.specs.Addressing.{act_of}
 use Rattle.fedi_town.specs.Deeds.{is_update, is_delete, is_follow, is_done, is_standing, is_accepted}
@@ -41,13 +41,13 @@ use Rattle.fedi_laws.proofs.Texts.{bytes_eq-is, bytes_eq-same, is_false, not_bot
 
 -- the effect changes no object
 abbrev LeavesObjects : Effect → Type 0
-LeavesObjects NoEffect = Unit {0}
-LeavesObjects (Rewrites id by stamp) = ⊥
-LeavesObjects (Buries id kind stamp) = ⊥
-LeavesObjects (Grants id) = Unit {0}
-LeavesObjects (Ends a b s) = Unit {0}
-LeavesObjects (Parts a b) = Unit {0}
-LeavesObjects (TakesBack id) = Unit {0}
+LeavesObjects effects.Nothing = Unit {0}
+LeavesObjects (effects.Update id by stamp) = ⊥
+LeavesObjects (effects.Delete id kind stamp) = ⊥
+LeavesObjects (effects.Accept id) = Unit {0}
+LeavesObjects (effects.EndFollows a b s) = Unit {0}
+LeavesObjects (effects.EndBoth a b) = Unit {0}
+LeavesObjects (effects.Undo id) = Unit {0}
 
 state_alone : (p : Act → Bool) (s : State) (y : Act) → (where_passes p (in_state s) y).activity ≡ y.activity
 state_alone p s y =
@@ -61,13 +61,13 @@ unfolding end_follow
 end_alone a b s y = state_alone (is_open_follow a b) s y
 
 left_alone : (e : Effect) (y : Act) → LeavesObjects e → (affect e y).activity ≡ y.activity
-left_alone NoEffect y h = refl
-left_alone (Rewrites id by stamp) y h = absurd h
-left_alone (Buries id kind stamp) y h = absurd h
-left_alone (Grants id) y h = state_alone (is_pending_follow id) Accepted y
-left_alone (Ends a b s) y h = end_alone a b s y
-left_alone (Parts a b) y h = end_alone a b Undone (end_follow b a Undone y) ∙ end_alone b a Undone y
-left_alone (TakesBack id) y h = state_alone (is_standing_activity id) Undone y
+left_alone effects.Nothing y h = refl
+left_alone (effects.Update id by stamp) y h = absurd h
+left_alone (effects.Delete id kind stamp) y h = absurd h
+left_alone (effects.Accept id) y h = state_alone (is_pending_follow id) Accepted y
+left_alone (effects.EndFollows a b s) y h = end_alone a b s y
+left_alone (effects.EndBoth a b) y h = end_alone a b Undone (end_follow b a Undone y) ∙ end_alone b a Undone y
+left_alone (effects.Undo id) y h = state_alone (is_standing_activity id) Undone y
 
 pair_leaves : (s : State) (f : Act) (b : Option (List ℕ)) → LeavesObjects (pair_ends s f b)
 pair_leaves s f None = tt
@@ -125,7 +125,7 @@ rewrites_one f id own m o here e =
 
 -- the effect of an activity that does this and is about this
 abbrev effect_by : Town → Act → Deed → Option (List ℕ) → Effect
-effect_by t x d None = NoEffect
+effect_by t x d None = effects.Nothing
 effect_by t x d (Some id) = effect_about t x d id
 
 effect_is : (t : Town) (x : Act) (i : Option (List ℕ)) → effect_with t x i ≡ effect_by t x (deed x) i
@@ -140,31 +140,31 @@ form_by id x d i o =
 
 -- what changes no object leaves this one
 same_form : (t : Town) (x m : Act) (o : Object) (d : Deed) (b : Bool) (i : Option (List ℕ)) → is_update d ≡ false → is_delete d ≡ false
-    → whole_of m.activity.object ≡ Some o → whole_of (affect (if b then effect_by t x d i else NoEffect) m).activity.object ≡ Some o
+    → whole_of m.activity.object ≡ Some o → whole_of (affect (if b then effect_by t x d i else effects.Nothing) m).activity.object ≡ Some o
 same_form t x m o d b None p q e =
-    elim b as (λ s. whole_of (affect (if s then NoEffect else NoEffect) m).activity.object ≡ Some o) [ true ↦ e | false ↦ e ]
+    elim b as (λ s. whole_of (affect (if s then effects.Nothing else effects.Nothing) m).activity.object ≡ Some o) [ true ↦ e | false ↦ e ]
 same_form t x m o d b (Some id) p q e =
-    elim b as (λ s. whole_of (affect (if s then effect_about t x d id else NoEffect) m).activity.object ≡ Some o) [
+    elim b as (λ s. whole_of (affect (if s then effect_about t x d id else effects.Nothing) m).activity.object ≡ Some o) [
       | true ↦ rw (left_alone (effect_about t x d id) m (about_leaves t x d id p q)) e
       | false ↦ e
     ]
 
 form_after : (t : Town) (x m : Act) (o : Object) (id : List ℕ) (d : Deed) (i : Option (List ℕ)) → makes id m ≡ true → whole_of m.activity.object ≡ Some o
-    → whole_of (affect (if takes_effect d x.state then effect_by t x d i else NoEffect) m).activity.object ≡ Some (form_by id x d i o)
+    → whole_of (affect (if takes_effect d x.state then effect_by t x d i else effects.Nothing) m).activity.object ≡ Some (form_by id x d i o)
 form_after t x m o id Update None here e =
-    elim (is_done x.state) as (λ s. whole_of (affect (if s then NoEffect else NoEffect) m).activity.object
+    elim (is_done x.state) as (λ s. whole_of (affect (if s then effects.Nothing else effects.Nothing) m).activity.object
     ≡ Some (if s && false then update_object x.activity.object (moment_text x.moment) o else o)) [ true ↦ e | false ↦ e ]
 form_after t x m o id Update (Some own) here e =
-    elim (is_done x.state) as (λ s. whole_of (affect (if s then Rewrites own x.activity.object (moment_text x.moment) else NoEffect) m).activity.object
+    elim (is_done x.state) as (λ s. whole_of (affect (if s then effects.Update own x.activity.object (moment_text x.moment) else effects.Nothing) m).activity.object
     ≡ Some (if s && bytes_eq own id then update_object x.activity.object (moment_text x.moment) o else o)) [
       | true ↦ rewrites_one (update_object x.activity.object (moment_text x.moment)) id own m o here e
       | false ↦ e
     ]
 form_after t x m o id Delete None here e =
-    elim (is_done x.state) as (λ s. whole_of (affect (if s then NoEffect else NoEffect) m).activity.object
+    elim (is_done x.state) as (λ s. whole_of (affect (if s then effects.Nothing else effects.Nothing) m).activity.object
     ≡ Some (if s && false then tombstone_of (codes "Tombstone") (moment_text x.moment) o else o)) [ true ↦ e | false ↦ e ]
 form_after t x m o id Delete (Some own) here e =
-    elim (is_done x.state) as (λ s. whole_of (affect (if s then Buries own (codes "Tombstone") (moment_text x.moment) else NoEffect) m).activity.object
+    elim (is_done x.state) as (λ s. whole_of (affect (if s then effects.Delete own (codes "Tombstone") (moment_text x.moment) else effects.Nothing) m).activity.object
     ≡ Some (if s && bytes_eq own id then tombstone_of (codes "Tombstone") (moment_text x.moment) o else o)) [
       | true ↦ rewrites_one (tombstone_of (codes "Tombstone") (moment_text x.moment)) id own m o here e
       | false ↦ e
@@ -259,13 +259,13 @@ rewrites_none p f m e =
 
 -- what carries no object gets none
 stays_none : (e : Effect) (m : Act) → whole_of m.activity.object ≡ None → whole_of (affect e m).activity.object ≡ None
-stays_none NoEffect m e = e
-stays_none (Rewrites id by stamp) m e = rewrites_none (makes id) (update_object by stamp) m e
-stays_none (Buries id kind stamp) m e = rewrites_none (makes id) (tombstone_of kind stamp) m e
-stays_none (Grants id) m e = rw (left_alone (Grants id) m tt) e
-stays_none (Ends a b s) m e = rw (left_alone (Ends a b s) m tt) e
-stays_none (Parts a b) m e = rw (left_alone (Parts a b) m tt) e
-stays_none (TakesBack id) m e = rw (left_alone (TakesBack id) m tt) e
+stays_none effects.Nothing m e = e
+stays_none (effects.Update id by stamp) m e = rewrites_none (makes id) (update_object by stamp) m e
+stays_none (effects.Delete id kind stamp) m e = rewrites_none (makes id) (tombstone_of kind stamp) m e
+stays_none (effects.Accept id) m e = rw (left_alone (effects.Accept id) m tt) e
+stays_none (effects.EndFollows a b s) m e = rw (left_alone (effects.EndFollows a b s) m tt) e
+stays_none (effects.EndBoth a b) m e = rw (left_alone (effects.EndBoth a b) m tt) e
+stays_none (effects.Undo id) m e = rw (left_alone (effects.Undo id) m tt) e
 
 -- where one made it: what becomes of that one
 old_object : (t : Town) (x : Act) (id : List ℕ) (m : Act) (p : Option Object) → makes id m ≡ true → whole_of m.activity.object ≡ p → makes id x ≡ false

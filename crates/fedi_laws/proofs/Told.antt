@@ -19,9 +19,9 @@ use Rattle.fedi_town.specs.declared.caller.Caller.{Caller}
 use Rattle.fedi_town.specs.declared.deed.Deed.{Deed}
 use Rattle.fedi_town.specs.declared.deed.Deed.TheVariants.{Create, Update, Delete, Follow, Like, Announce, Block, Accept, Reject, Undo, Other}
 use Rattle.fedi_town.specs.declared.effect.Effect.{Effect}
-use Rattle.fedi_town.specs.declared.effect.Effect.TheVariants.{Nothing}
+use Rattle.fedi_town.specs.declared.effect.Effect.TheVariants as effects
 
-about-still : (t : Town) (x : Act) (d : Deed) (id : List ℕ) → changes_nothing d ≡ true → effect_about t x d id ≡ Nothing
+about-still : (t : Town) (x : Act) (d : Deed) (id : List ℕ) → changes_nothing d ≡ true → effect_about t x d id ≡ effects.Nothing
 about-still t x Create id told = refl
 about-still t x Update id told = absurd cc
 about-still t x Delete id told = absurd cc
@@ -34,15 +34,15 @@ about-still t x Reject id told = absurd cc
 about-still t x Undo id told = absurd cc
 about-still t x Other id told = refl
 
-with-still : (t : Town) (x : Act) (id : Option (List ℕ)) → changes_nothing (deed x) ≡ true → effect_with t x id ≡ Nothing
+with-still : (t : Town) (x : Act) (id : Option (List ℕ)) → changes_nothing (deed x) ≡ true → effect_with t x id ≡ effects.Nothing
 with-still t x None told = refl
 with-still t x (Some id) told = about-still t x (deed x) id told
 
-choice-still : (b : Bool) (e : Effect) → e ≡ Nothing → (if b then e else Nothing) ≡ Nothing
+choice-still : (b : Bool) (e : Effect) → e ≡ effects.Nothing → (if b then e else effects.Nothing) ≡ effects.Nothing
 choice-still true e h = h
 choice-still false e h = refl
 
-told-still : (t : Town) (x : Act) → changes_nothing (deed x) ≡ true → effect_of t x ≡ Nothing
+told-still : (t : Town) (x : Act) → changes_nothing (deed x) ≡ true → effect_of t x ≡ effects.Nothing
 unfolding effect_of
 told-still t x told = choice-still (takes_effect (deed x) x.state) _ (with-still t x (ref_id x.activity.object) told)
 
@@ -52,7 +52,7 @@ with_answers t x = x ∷ answers t x
 
 pub accepted-told : (t : Town) (x : Act) → changes_nothing (deed x) ≡ true → accept t x ≡ with_acts t (with_answers t x)
 accepted-told t x told =
-    ap (λ (ys : List Act). record t { acts = ys ++ with_answers t x }) (rw (told-still t x told) (map-still (affect Nothing) (λ y. refl) t.acts))
+    ap (λ (ys : List Act). record t { acts = ys ++ with_answers t x }) (rw (told-still t x told) (map-still (affect effects.Nothing) (λ y. refl) t.acts))
 
 -- ---- it blocks nobody
 

@@ -59,7 +59,7 @@ pub record DeliveredNote : Type 0 where
 -- ---- who may deliver
 
 -- a peer delivers what its own actors do, a relay what others do too, and neither what a member does
-pub record Origins : Type 0 where
+pub record PeersAndRelays : Type 0 where
   pub other_host : is_legal (with_peers ++ delivers hill ana eve (eve ++ codes "/a/1") (activity kinds.Listen (Id dora) no_recipients) ∷ []) ≡ false
   pub own_host : is_legal (with_peers ++ delivers lake ana eve (eve ++ codes "/a/1") (activity kinds.Listen (Id dora) no_recipients) ∷ []) ≡ true
   pub by_relay : is_legal (with_peers ++ delivers lake ana dora (by_dora (codes "/a/7")) hi ∷ []) ≡ true

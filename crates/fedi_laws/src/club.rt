@@ -2,7 +2,7 @@
 
 ghost use Rattle.fedi_laws.specs.WorkedFollows.{BlockAndUndo, LastNumber, LockedFollow, PostToFollowers};
 ghost use Rattle.fedi_laws.specs.WorkedObjects.{ChangedNote, DeletedNote, OpenNote, SecretNote};
-ghost use Rattle.fedi_laws.specs.WorkedPeers.{DeliveredFollow, DeliveredNote, DeliveredTombstone, ForwardedReply, Origins, StrayFollow};
+ghost use Rattle.fedi_laws.specs.WorkedPeers.{DeliveredFollow, DeliveredNote, DeliveredTombstone, ForwardedReply, PeersAndRelays, StrayFollow};
 
 /// A Follow of a locked member waits for the Accept.
 #[tactic(auto, using(crate::proofs::InFollows::locked_follow))]
@@ -59,9 +59,9 @@ pub fn a_note_is_delivered()
 {}
 
 /// A peer delivers for its own host, and a relay for others too.
-#[tactic(auto, using(crate::proofs::InPeers::origins))]
+#[tactic(auto, using(crate::proofs::InPeers::peers_and_relays))]
 pub fn peers_deliver_their_own()
-    ensures { Origins }
+    ensures { PeersAndRelays }
 {}
 
 /// A Tombstone from elsewhere is completed.

@@ -9,8 +9,8 @@ use Rattle.fedi_town.specs.Showing.{id_of_caller, view}
 use Rattle.fedi_town.specs.Towns.{Town, is_by, count_of, has_host}
 
 -- the names of the members, which fix their ids and their actor documents
-abbrev pub names : Town → List (List ℕ)
-names t = map (λ a. a.name) t.actors
+abbrev pub member_names : Town → List (List ℕ)
+member_names t = map (λ a. a.name) t.actors
 
 -- the author's keys for repeats, each with the digest and the id of its activity
 abbrev pub repeats_of : Town → List ℕ → List ((List ℕ × List ℕ) × Option (List ℕ))
@@ -36,7 +36,7 @@ peer_of t (callers.Peer host) = find (has_host host) t.peers
 -- the same host, the same members, the same peer, the same view, and the caller's own
 pub record Agree (g h : Town) (c : Caller) : Type 0 where
   pub host : g.host ≡ h.host
-  pub names : names g ≡ names h
+  pub names : member_names g ≡ member_names h
   pub peer : peer_of g c ≡ peer_of h c
   pub view : view g c ≡ view h c
   pub own : IsSameOwn g h (id_of_caller h c)

@@ -15,7 +15,7 @@ use Rattle.fedi_town.specs.declared.addition.Acceptance.{Acceptance}
 use Rattle.fedi_town.specs.declared.deed.Deed.{Deed}
 use Rattle.fedi_town.specs.declared.deed.Deed.TheVariants.{Create, Update, Delete, Follow, Like, Announce, Block, Accept, Reject, Undo, Other}
 use Rattle.fedi_town.specs.declared.effect.Effect.{Effect}
-use Rattle.fedi_town.specs.declared.effect.Effect.TheVariants.{Nothing, Rewrites, Buries, Grants, Ends, Parts, TakesBack}
+use Rattle.fedi_town.specs.declared.effect.Effect.TheVariants as effects
 use Rattle.fedi_town.specs.Addressing.{act_of, recipients_with, no_recipients}
 use Rattle.fedi_town.specs.Deeds.{is_follow, is_done, is_accepted, is_pending, is_standing}
 use Rattle.fedi_town.specs.Ids.{activity_id}
@@ -48,48 +48,48 @@ end_follow a b s y = where_passes (is_open_follow a b) (in_state s) y
 
 -- an earlier activity after this effect
 abbrev pub affect : Effect → Act → Act
-affect Nothing y = y
-affect (Rewrites id by stamp) y = where_passes (makes id) (rewrite_act (update_object by stamp)) y
-affect (Buries id kind stamp) y = where_passes (makes id) (rewrite_act (tombstone_of kind stamp)) y
-affect (Grants id) y = where_passes (is_pending_follow id) (in_state Accepted) y
-affect (Ends a b s) y = end_follow a b s y
-affect (Parts a b) y = end_follow a b Undone (end_follow b a Undone y)
-affect (TakesBack id) y = where_passes (is_standing_activity id) (in_state Undone) y
+affect effects.Nothing y = y
+affect (effects.Update id by stamp) y = where_passes (makes id) (rewrite_act (update_object by stamp)) y
+affect (effects.Delete id kind stamp) y = where_passes (makes id) (rewrite_act (tombstone_of kind stamp)) y
+affect (effects.Accept id) y = where_passes (is_pending_follow id) (in_state Accepted) y
+affect (effects.EndFollows a b s) y = end_follow a b s y
+affect (effects.EndBoth a b) y = end_follow a b Undone (end_follow b a Undone y)
+affect (effects.Undo id) y = where_passes (is_standing_activity id) (in_state Undone) y
 
 -- ---- the effect of an activity
 
 -- each Follow of the same pair as this Follow ends so
 abbrev pub pair_ends : State → Act → Option (List ℕ) → Effect
-pair_ends s f None = Nothing
-pair_ends s f (Some b) = Ends f.author b s
+pair_ends s f None = effects.Nothing
+pair_ends s f (Some b) = effects.EndFollows f.author b s
 
 -- likewise, where there is such a Follow
 abbrev pub follow_ends : State → Option Act → Effect
-follow_ends s None = Nothing
+follow_ends s None = effects.Nothing
 follow_ends s (Some f) = pair_ends s f (ref_id f.activity.object)
 
 -- the Undo of this: each Follow of its pair ends, or the one activity is taken back (ActivityPub, sections 6.10 and 7.12)
 abbrev pub undo_effect : List ℕ → Option Act → Effect
-undo_effect id None = Nothing
-undo_effect id (Some z) = if is_follow (deed z) then follow_ends Undone (Some z) else TakesBack id
+undo_effect id None = effects.Nothing
+undo_effect id (Some z) = if is_follow (deed z) then follow_ends Undone (Some z) else effects.Undo id
 
 -- what an activity about this id does, where its side effect happens
 abbrev pub effect_about : Town → Act → Deed → List ℕ → Effect
-effect_about t x Update id = Rewrites id x.activity.object (moment_text x.moment)
-effect_about t x Delete id = Buries id (codes "Tombstone") (moment_text x.moment)
-effect_about t x Block id = Parts x.author id
-effect_about t x Accept id = Grants id
+effect_about t x Update id = effects.Update id x.activity.object (moment_text x.moment)
+effect_about t x Delete id = effects.Delete id (codes "Tombstone") (moment_text x.moment)
+effect_about t x Block id = effects.EndBoth x.author id
+effect_about t x Accept id = effects.Accept id
 effect_about t x Reject id = follow_ends Rejected (act_of t (Some id))
 effect_about t x Undo id = undo_effect id (act_of t (Some id))
-effect_about t x Create id = Nothing
-effect_about t x Follow id = Nothing
-effect_about t x Like id = Nothing
-effect_about t x Announce id = Nothing
-effect_about t x Other id = Nothing
+effect_about t x Create id = effects.Nothing
+effect_about t x Follow id = effects.Nothing
+effect_about t x Like id = effects.Nothing
+effect_about t x Announce id = effects.Nothing
+effect_about t x Other id = effects.Nothing
 
 -- an activity that is about nothing does nothing
 abbrev pub effect_with : Town → Act → Option (List ℕ) → Effect
-effect_with t x None = Nothing
+effect_with t x None = effects.Nothing
 effect_with t x (Some id) = effect_about t x (deed x) id
 
 -- the side effect happens: that of a Block where it stands, that of any other activity where it is done
@@ -108,7 +108,7 @@ takes_effect Other s = is_done s
 
 -- what an accepted activity does to those before it
 unfoldable pub effect_of : Town → Act → Effect
-effect_of t x = if takes_effect (deed x) x.state then effect_with t x (ref_id x.activity.object) else Nothing
+effect_of t x = if takes_effect (deed x) x.state then effect_with t x (ref_id x.activity.object) else effects.Nothing
 
 -- ---- the Accept of a member who is not locked (ActivityPub, section 7.5)
 

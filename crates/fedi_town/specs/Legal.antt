@@ -12,7 +12,7 @@ use Rattle.fedi_town.specs.declared.act.Peer.{Peer}
 use Rattle.fedi_town.specs.declared.caller.Caller.{Caller}
 use Rattle.fedi_town.specs.declared.caller.Caller.TheVariants as callers
 use Rattle.fedi_town.specs.Deeds.{deed_of}
-use Rattle.fedi_town.specs.Deliveries.{is_foreign, has_inbox}
+use Rattle.fedi_town.specs.Origins.{is_foreign, has_inbox}
 use Rattle.fedi_town.specs.Histories.{step}
 use Rattle.fedi_town.specs.Queues.{is_due}
 use Rattle.fedi_town.specs.Relations.{ref_id}

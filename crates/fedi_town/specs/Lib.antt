@@ -4,7 +4,6 @@ pub mod Agreement
 pub mod Built
 pub mod Collections
 pub mod Deeds
-pub mod Deliveries
 pub mod Effects
 pub mod Forwarding
 pub mod Histories
@@ -12,6 +11,7 @@ pub mod Ids
 pub mod Legal
 pub mod Lists
 pub mod Objects
+pub mod Origins
 pub mod Queues
 pub mod Relations
 pub mod Replays

@@ -4,13 +4,13 @@ use Rattle.std.specs.List.{list_any}
 use Rattle.std.specs.Str.{bytes_eq}
 
 -- it is another than this
-unfoldable pub is_other : {A : Type 0} → (A → A → Bool) → A → A → Bool
-is_other same x y = not (same x y)
+unfoldable pub differs : {A : Type 0} → (A → A → Bool) → A → A → Bool
+differs same x y = not (same x y)
 
 -- the first of each: an element, and of the firsts after it those that are others
 abbrev pub firsts : {A : Type 0} → (A → A → Bool) → List A → List A
 firsts same [] = []
-firsts same (x ∷ xs) = x ∷ filter (is_other same x) (firsts same xs)
+firsts same (x ∷ xs) = x ∷ filter (differs same x) (firsts same xs)
 
 -- each text once, where it stands first
 abbrev pub each_once : List (List ℕ) → List (List ℕ)

@@ -56,8 +56,8 @@ is_tombstone_in None = false
 is_tombstone_in (Some o) = is_tombstone o
 
 -- it made an object, which was deleted
-unfoldable pub is_buried : Act → Bool
-is_buried x = (is_create (deed x) && is_done x.state) && is_tombstone_in (whole_of x.activity.object)
+unfoldable pub is_deleted : Act → Bool
+is_deleted x = (is_create (deed x) && is_done x.state) && is_tombstone_in (whole_of x.activity.object)
 
 -- ---- what becomes of an object
 

@@ -58,9 +58,9 @@ after_outcome before moment Again = next_attempt before moment
 after_outcome before moment GivenUp = Ended (before + 1)
 
 -- after one more attempt
-abbrev pub after : Progress → Attempt → Progress
-after (Ended attempts) a = Ended attempts
-after (Due attempts from) a = after_outcome attempts a.moment (outcome a.came)
+abbrev pub after_attempt : Progress → Attempt → Progress
+after_attempt (Ended attempts) a = Ended attempts
+after_attempt (Due attempts from) a = after_outcome attempts a.moment (outcome a.came)
 
 -- the attempt was one to deliver this activity to this recipient
 unfoldable pub is_of_pair : List ℕ → List ℕ → Attempt → Bool
@@ -68,7 +68,7 @@ is_of_pair id recipient a = bytes_eq a.activity id && bytes_eq a.recipient recip
 
 -- how a delivery stands whose activity was accepted at this moment: first it is due from then on
 unfoldable pub progress_of : Town → List ℕ → List ℕ → ℕ → Progress
-progress_of t id recipient moment = fold after (Due 0 moment) (filter (is_of_pair id recipient) t.attempts)
+progress_of t id recipient moment = fold after_attempt (Due 0 moment) (filter (is_of_pair id recipient) t.attempts)
 
 -- ---- the queue
 

@@ -11,7 +11,7 @@ use Rattle.fedi_town.specs.declared.deed.Deed.{Deed}
 use Rattle.fedi_town.specs.declared.deed.Deed.TheVariants.{Create, Update, Delete, Follow, Like, Announce, Block, Accept, Reject, Undo, Other}
 use Rattle.fedi_town.specs.Addressing.{is_nobody_here}
 use Rattle.fedi_town.specs.Deeds.{is_follow, is_open, is_pending}
-use Rattle.fedi_town.specs.Objects.{makes, is_buried}
+use Rattle.fedi_town.specs.Objects.{makes, is_deleted}
 use Rattle.fedi_town.specs.Relations.{has_activity_id, is_about, has_block_between}
 use Rattle.fedi_town.specs.Seeing.{seen}
 use Rattle.fedi_town.specs.States.{can_be_undone}
@@ -25,17 +25,17 @@ refuse_if false r rest = rest
 -- an Update or a Delete: of the author's own object, which was not deleted
 abbrev pub change_rule : List ℕ → Option Act → Option Refusal
 change_rule author None = Some NotFound
-change_rule author (Some m) = refuse_if (not (is_by author m)) NotOwner (refuse_if (is_buried m) Gone None)
+change_rule author (Some m) = refuse_if (not (is_by author m)) NotOwner (refuse_if (is_deleted m) Gone None)
 
 -- a Like: of an object that was not deleted
 abbrev pub like_rule : Option Act → Option Refusal
 like_rule None = Some NotFound
-like_rule (Some m) = refuse_if (is_buried m) Gone None
+like_rule (Some m) = refuse_if (is_deleted m) Gone None
 
 -- an Announce: of an object that was not deleted and is public
 abbrev pub announce_rule : Option Act → Option Refusal
 announce_rule None = Some NotFound
-announce_rule (Some m) = refuse_if (is_buried m) Gone (refuse_if (not m.is_public) NotPublic None)
+announce_rule (Some m) = refuse_if (is_deleted m) Gone (refuse_if (not m.is_public) NotPublic None)
 
 -- an Accept or a Reject: of a Follow of the author that is in such a state
 abbrev pub answer_rule : (State → Bool) → List ℕ → Option Act → Option Refusal

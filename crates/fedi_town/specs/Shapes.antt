@@ -36,9 +36,9 @@ unfoldable pub is_date : List ℕ → Bool
 is_date text = nat_le (length text) 64 && list_all is_date_byte text
 
 -- where there is one, it passes
-abbrev pub is_each : (List ℕ → Bool) → Option (List ℕ) → Bool
-is_each p None = true
-is_each p (Some text) = p text
+abbrev pub is_none_or : (List ℕ → Bool) → Option (List ℕ) → Bool
+is_none_or p None = true
+is_none_or p (Some text) = p text
 
 -- the names of mentions are texts
 abbrev pub are_tags : List Tag → Bool
@@ -62,16 +62,16 @@ are_same a b =
     && (pointwise bytes_eq a.bcc b.bcc && pointwise bytes_eq a.audience b.audience)))
 
 -- what an object says keeps the limits
-abbrev pub is_kept_object : ℕ → Object → Bool
-is_kept_object limit o =
-    (is_type o.kind && (is_each is_text o.content && (is_each is_text o.summary && is_each is_text o.name)))
-    && ((is_each is_date o.published && (is_each is_date o.updated && is_each is_date o.deleted))
-    && (is_each is_type o.former_kind && (are_tags o.tags && are_addressed limit o.recipients)))
+abbrev pub is_object_within : ℕ → Object → Bool
+is_object_within limit o =
+    (is_type o.kind && (is_none_or is_text o.content && (is_none_or is_text o.summary && is_none_or is_text o.name)))
+    && ((is_none_or is_date o.published && (is_none_or is_date o.updated && is_none_or is_date o.deleted))
+    && (is_none_or is_type o.former_kind && (are_tags o.tags && are_addressed limit o.recipients)))
 
 -- what an activity says keeps the limits
-abbrev pub is_kept_activity : ℕ → Activity → Bool
-is_kept_activity limit a =
-    ((is_each is_text a.content && (is_each is_text a.summary && is_each is_text a.name)) && is_each is_date a.published)
+abbrev pub is_activity_within : ℕ → Activity → Bool
+is_activity_within limit a =
+    ((is_none_or is_text a.content && (is_none_or is_text a.summary && is_none_or is_text a.name)) && is_none_or is_date a.published)
     && (are_tags a.tags && are_addressed limit a.recipients)
 
 -- the text that a change gives keeps the limit
@@ -87,8 +87,8 @@ is_tags_edit Remove = true
 is_tags_edit (Give tags) = are_tags tags
 
 -- what a change gives keeps the limits
-abbrev pub is_kept_change : Change → Bool
-is_kept_change c = is_text_edit c.content && (is_text_edit c.summary && (is_text_edit c.name && is_tags_edit c.tags))
+abbrev pub is_change_within : Change → Bool
+is_change_within c = is_text_edit c.content && (is_text_edit c.summary && (is_text_edit c.name && is_tags_edit c.tags))
 
 -- ---- a client's post
 
@@ -103,8 +103,8 @@ is_unset_object o =
 abbrev pub is_posted_ref : Deed → Recipients → ObjectRef → Bool
 is_posted_ref d r Nothing = is_other d
 is_posted_ref d r (Id iri) = not (is_create d) && not (is_update d)
-is_posted_ref d r (Whole o) = is_create d && (is_unset_object o && (is_kept_object 500 o && are_same r o.recipients))
-is_posted_ref d r (Changed c) = is_update d && is_kept_change c
+is_posted_ref d r (Whole o) = is_create d && (is_unset_object o && (is_object_within 500 o && are_same r o.recipients))
+is_posted_ref d r (Changed c) = is_update d && is_change_within c
 
 -- the author follows or blocks the author
 abbrev pub is_self_target : List ℕ → Activity → Bool
@@ -114,7 +114,7 @@ is_self_target author a = (is_follow (deed_of a.kind) || is_block (deed_of a.kin
 abbrev pub is_posted : List ℕ → Activity → Bool
 is_posted author a =
     (is_none a.id && (is_none a.actor && is_none a.published))
-    && (is_kept_activity 500 a && (is_posted_ref (deed_of a.kind) a.recipients a.object && not (is_self_target author a)))
+    && (is_activity_within 500 a && (is_posted_ref (deed_of a.kind) a.recipients a.object && not (is_self_target author a)))
 
 -- ---- a delivery
 
@@ -122,7 +122,7 @@ is_posted author a =
 abbrev pub is_delivered_ref : Deed → ObjectRef → Bool
 is_delivered_ref d Nothing = is_other d
 is_delivered_ref d (Id iri) = true
-is_delivered_ref d (Whole o) = (is_create d || is_update d) && (is_some o.id && is_kept_object 501 o)
+is_delivered_ref d (Whole o) = (is_create d || is_update d) && (is_some o.id && is_object_within 501 o)
 is_delivered_ref d (Changed change) = false
 
 -- the actor follows or blocks the actor
@@ -134,4 +134,4 @@ is_actor_target (Some actor) a = is_self_target actor a
 abbrev pub is_delivered : Activity → Bool
 is_delivered a =
     (is_some a.id && is_some a.actor)
-    && (is_kept_activity 501 a && (is_delivered_ref (deed_of a.kind) a.object && not (is_actor_target a.actor a)))
+    && (is_activity_within 501 a && (is_delivered_ref (deed_of a.kind) a.object && not (is_actor_target a.actor a)))

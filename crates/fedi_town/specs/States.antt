@@ -10,7 +10,7 @@ use Rattle.fedi_town.specs.declared.deed.Deed.{Deed}
 use Rattle.fedi_town.specs.declared.deed.Deed.TheVariants.{Create, Update, Delete, Follow, Like, Announce, Block, Accept, Reject, Undo, Other}
 use Rattle.fedi_town.specs.Addressing.{act_of}
 use Rattle.fedi_town.specs.Deeds.{is_follow, is_like, is_announce, is_block, is_open, is_pending, is_standing}
-use Rattle.fedi_town.specs.Objects.{makes, maker, is_buried, is_whole}
+use Rattle.fedi_town.specs.Objects.{makes, maker, is_deleted, is_whole}
 use Rattle.fedi_town.specs.Relations.{ref_id, is_about, has_block_between, is_actor, blocks}
 use Rattle.fedi_town.specs.Seeing.{sees_as}
 use Rattle.fedi_town.specs.Towns.{Town, deed, is_by, has_id, count_after}
@@ -25,12 +25,12 @@ only_where false s = Plain
 -- the object was made by this author, and was not deleted
 abbrev pub is_own_live : List ℕ → Option Act → Bool
 is_own_live author None = false
-is_own_live author (Some m) = is_by author m && not (is_buried m)
+is_own_live author (Some m) = is_by author m && not (is_deleted m)
 
 -- the object was not deleted, and its Create is seen by the author
 abbrev pub is_live_to : Town → List ℕ → Option Act → Bool
 is_live_to t author None = false
-is_live_to t author (Some m) = sees_as t author m && not (is_buried m)
+is_live_to t author (Some m) = sees_as t author m && not (is_deleted m)
 
 -- the object's Create is public
 abbrev pub is_public_act : Option Act → Bool

@@ -9,8 +9,8 @@ use fedi_objects::{ObjectRef, State, Text};
 pub enum Effect {
     /// Nothing.
     Nothing,
-    /// An Update changes the object.
-    Rewrites {
+    /// The object is changed.
+    Update {
         /// The id of the object.
         object: Iri,
         /// What the Update carries: the new object, or a change.
@@ -18,8 +18,8 @@ pub enum Effect {
         /// The Update's moment.
         stamp: Text,
     },
-    /// A Delete leaves a Tombstone.
-    Buries {
+    /// A Tombstone is left of the object.
+    Delete {
         /// The id of the object.
         object: Iri,
         /// The type of a Tombstone.
@@ -27,13 +27,13 @@ pub enum Effect {
         /// The Delete's moment.
         stamp: Text,
     },
-    /// An Accept grants the Follow.
-    Grants {
+    /// The Follow is accepted.
+    Accept {
         /// The id of the Follow.
         follow: Iri,
     },
-    /// A Reject, or the Undo of a Follow, ends each Follow between the two that waits or was accepted.
-    Ends {
+    /// Each Follow of the one by the other that waits or was accepted ends, by a Reject or an Undo.
+    EndFollows {
         /// Who follows.
         follower: Iri,
         /// Whom it follows.
@@ -41,15 +41,15 @@ pub enum Effect {
         /// How the Follows end.
         state: State,
     },
-    /// A Block ends each Follow between the two, in either direction.
-    Parts {
+    /// Each Follow between the two ends, in either direction, by a Block.
+    EndBoth {
         /// Who blocks.
         author: Iri,
         /// Who is blocked.
         other: Iri,
     },
-    /// An Undo takes a Like, an Announce or a Block back.
-    TakesBack {
+    /// A Like, an Announce or a Block is taken back.
+    Undo {
         /// The id of what is taken back.
         activity: Iri,
     },
