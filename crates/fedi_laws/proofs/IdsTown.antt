@@ -242,7 +242,7 @@ poster t host name repeat a None all is ok = absurd cc
 poster t host name repeat a (Some author) all is ok =
     subst (λ (i : List ℕ). nat_lt (count_of t i) 4294967295 ≡ true) (id_of-is t host name author all is) (and_parts (nat_lt (count_of t author) 4294967295) _ (and_parts (is_posted author a) _ ok).1).0
 
-found_any : (p : Actor → Bool) (xs : List Actor) (id : List ℕ) → option_map (λ a. a.id) (find p xs) ≡ Some id → list_any p xs ≡ true
+pub found_any : (p : Actor → Bool) (xs : List Actor) (id : List ℕ) → option_map (λ a. a.id) (find p xs) ≡ Some id → list_any p xs ≡ true
 found_any p [] id e = absurd cc
 found_any p (x ∷ xs) id e =
     elim (p x) as (λ b. option_map (λ a. a.id) (if b then Some x else find p xs) ≡ Some id → (b || list_any p xs) ≡ true) [

@@ -18,11 +18,13 @@ pub mod Legality
 pub mod Lists
 pub mod MadeOnce
 pub mod Members
+pub mod Naming
 pub mod Next
 pub mod Pages
 pub mod Paths
 pub mod People
 pub mod Posted
+pub mod Queued
 pub mod Quiet
 pub mod Reached
 pub mod Replaying

@@ -1,6 +1,7 @@
 -- The laws of what a history means.
 use Rattle.std.specs.Prelude.{◌≡◌, ℕ, ◌≤◌, Bool, true, false, List, [], ◌∷◌, ◌++◌, Option, Some}
 use Rattle.std.specs.List.{list_any}
+use Rattle.fedi_address.specs.Names.{is_name}
 use Rattle.fedi_objects.specs.declared.activity.Activity.{Activity}
 use Rattle.fedi_objects.specs.declared.entry.Entry.{Entry}
 use Rattle.fedi_objects.specs.declared.entry.Entry.TheVariants.{Hosted, Made, PeerSet, Local, Remote, Tried}
@@ -11,10 +12,11 @@ use Rattle.fedi_town.specs.Activities.{local_act, remote_act}
 use Rattle.fedi_town.specs.Agreement.{Agree}
 use Rattle.fedi_town.specs.Deeds.{deed_of, changes_nothing, is_follow}
 use Rattle.fedi_town.specs.Histories.{town, is_known}
+use Rattle.fedi_town.specs.Ids.{actor_id}
 use Rattle.fedi_town.specs.Legal.{IsLegal, is_caller}
 use Rattle.fedi_town.specs.Lists.{PassesOnce}
 use Rattle.fedi_town.specs.Objects.{makes, object_at}
-use Rattle.fedi_town.specs.Queues.{is_due, is_of_pair}
+use Rattle.fedi_town.specs.Queues.{is_due, is_due_delivery, is_of_pair, queue}
 use Rattle.fedi_town.specs.Relations.{has_activity_id}
 use Rattle.fedi_town.specs.Replays.{acts_of, replay}
 use Rattle.fedi_town.specs.Seeing.{sees}
@@ -109,3 +111,17 @@ DueDeliveriesStayDue =
     (history later : List Entry) (id recipient : List ℕ) (m n : ℕ) → IsLegal (history ++ later)
     → list_any (is_attempt_of id recipient) later ≡ false → m ≤ n
     → is_due (town history) id recipient m ≡ true → is_due (town (history ++ later)) id recipient n ≡ true
+
+-- What is due is in the queue, and is due there.
+abbrev pub DueDeliveriesAreQueued : Type 0
+DueDeliveriesAreQueued =
+    (t : Town) (id recipient : List ℕ) (moment : ℕ)
+    → is_due t id recipient moment ≡ list_any (is_due_delivery id recipient moment) (queue t)
+
+-- ---- members
+
+-- In a legal history the name of a member is one, and the member's id is that of the name at the host.
+abbrev pub MembersHaveTheirIds : Type 0
+MembersHaveTheirIds =
+    (history : List Entry) (host name id : List ℕ) → IsLegal history → (town history).host ≡ Some host
+    → id_of (town history) name ≡ Some id → (is_name name ≡ true) × (id ≡ actor_id host name)

@@ -146,7 +146,7 @@ after_reply = before_reply ++ reply_to ((member ana ++ codes "/followers") ∷ [
 pub record ForwardedReply : Type 0 where
   pub legal : is_legal after_reply ≡ true
   pub due : queue (town after_reply)
-      ≡ record { activity = activity_number ana (codes "1"); recipient = eve; progress = Due 0 2 }
-      ∷ record { activity = by_dora (codes "/a/8"); recipient = eve; progress = Due 0 2 } ∷ []
+      ≡ record { activity = Some (activity_number ana (codes "1")); recipient = eve; progress = Due 0 2 }
+      ∷ record { activity = Some (by_dora (codes "/a/8")); recipient = eve; progress = Due 0 2 } ∷ []
   pub unnamed : map (λ x. x.forwards) (town (before_reply ++ reply_to [] ∷ [])).acts ≡ [] ∷ [] ∷ [] ∷ [] ∷ []
   pub near : map (λ x. x.forwards) (town (after_remote_follow ++ reply_to ((member ana ++ codes "/followers") ∷ []) ∷ [])).acts ≡ [] ∷ [] ∷ [] ∷ []

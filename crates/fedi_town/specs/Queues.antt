@@ -1,5 +1,5 @@
 -- What is to be delivered (ActivityPub, section 7.1), and when.
-use Rattle.std.specs.Prelude.{ℕ, ◌+◌, ◌*◌, ◌^◌, ◌==◌, Bool, false, ◌&&◌, ◌||◌, nat_le, nat_lt, List, map, filter, if◌then◌else◌}
+use Rattle.std.specs.Prelude.{ℕ, ◌+◌, ◌*◌, ◌^◌, ◌==◌, Bool, false, ◌&&◌, ◌||◌, nat_le, nat_lt, List, Option, map, filter, if◌then◌else◌}
 use Rattle.std.specs.List.{list_any, fold, flat_map}
 use Rattle.std.specs.Str.{bytes_eq}
 use Rattle.fedi_address.specs.Iris.{host_of}
@@ -15,7 +15,7 @@ use Rattle.fedi_town.specs.declared.outcome.Outcome.{Outcome}
 use Rattle.fedi_town.specs.declared.outcome.Outcome.TheVariants.{Delivered, Again, GivenUp}
 use Rattle.fedi_town.specs.Addressing.{is_of_town}
 use Rattle.fedi_town.specs.Collections.{text_of}
-use Rattle.fedi_town.specs.Relations.{has_activity_id}
+use Rattle.fedi_town.specs.Relations.{is_id, has_activity_id}
 use Rattle.fedi_town.specs.Towns.{Town, has_host}
 
 -- ---- what came of an attempt
@@ -81,16 +81,16 @@ sends t x = if is_of_town t.host x.author then x.recipients else x.forwards
 unfoldable pub is_at_peer : Town → List ℕ → Bool
 is_at_peer t recipient = list_any (has_host (host_of recipient)) t.peers
 
--- a delivery: of this activity to this recipient
+-- a delivery: of the activity with this id to this recipient
 pub record Delivery : Type 0 where
-  pub activity : List ℕ
+  pub activity : Option (List ℕ)
   pub recipient : List ℕ
   pub progress : Progress
 
 -- the delivery of the activity to this recipient
 abbrev pub delivery_to : Town → Act → List ℕ → Delivery
 delivery_to t x recipient = record {
-  activity = text_of x.activity.id;
+  activity = x.activity.id;
   recipient = recipient;
   progress = progress_of t (text_of x.activity.id) recipient x.moment;
 }
@@ -109,6 +109,10 @@ queue t = flat_map (deliveries_of t) t.acts
 abbrev pub is_due_at : ℕ → Progress → Bool
 is_due_at moment (Due attempts from) = nat_le from moment
 is_due_at moment (Ended attempts) = false
+
+-- the delivery is of the activity with this id, to this recipient, and due at this moment
+unfoldable pub is_due_delivery : List ℕ → List ℕ → ℕ → Delivery → Bool
+is_due_delivery id recipient moment d = is_id id d.activity && (bytes_eq d.recipient recipient && is_due_at moment d.progress)
 
 -- the activity has this id, goes to this recipient at a peer, and the delivery is due at this moment
 unfoldable pub is_due_in : Town → List ℕ → List ℕ → ℕ → Act → Bool
