@@ -13,6 +13,7 @@ use Rattle.fedi_town.specs.Towns.{Town, deed}
 use Rattle.fedi_town.specs.declared.act.Act.{Act}
 use Rattle.fedi_town.specs.declared.caller.Caller.{Caller}
 use Rattle.fedi_laws.proofs.Texts.{bytes_eq-is}
+use Rattle.std.proofs.lemmas.Bool.{and_parts}
 
 pub record IsAlike (x y : Act) : Type 0 where
   pub author : y.author ≡ x.author
@@ -48,13 +49,9 @@ it_is : (id : List ℕ) (o : Option (List ℕ)) → is_id id o ≡ true → o �
 it_is id None e = absurd cc
 it_is id (Some own) e = ap (λ (i : List ℕ). Some i) (bytes_eq-is own id e)
 
-second : (a b : Bool) → (a && b) ≡ true → b ≡ true
-second true b e = e
-second false b e = absurd cc
-
 pub about_it : (id : List ℕ) (m : Act) → makes id m ≡ true → ref_id m.activity.object ≡ Some id
 unfolding makes is_about
-about_it id m made = it_is id (ref_id m.activity.object) (second (is_create (deed m) && is_done m.state) (is_id id (ref_id m.activity.object)) made)
+about_it id m made = it_is id (ref_id m.activity.object) (and_parts (is_create (deed m) && is_done m.state) (is_id id (ref_id m.activity.object)) made).1
 
 -- what is found passes
 pub found_passes : {A : Type 0} (p : A → Bool) (xs : List A) (x : A) → find p xs ≡ Some x → p x ≡ true

@@ -29,16 +29,12 @@ use Rattle.fedi_laws.proofs.Alike.{found_passes}
 use Rattle.fedi_laws.proofs.Grounded.{ref_id-received}
 use Rattle.fedi_laws.proofs.Replaying.{answers_forms, step_replays}
 use Rattle.fedi_laws.proofs.Steps.{answers}
-use Rattle.fedi_laws.proofs.Texts.{bytes_eq-is}
+use Rattle.fedi_laws.proofs.Texts.{bytes_eq-is, and_none}
 
 -- the object of this id was deleted
 pub record IsBuried (t : Town) (id : List ℕ) (o : Object) : Type 0 where
   pub stands : object_at t id ≡ Some o
   pub buried : is_tombstone o ≡ true
-
-and_none : (a : Bool) → (a && false) ≡ false
-and_none true = refl
-and_none false = refl
 
 is_buried_by : (id : List ℕ) (m : Act) (o : Object) → makes id m ≡ true → whole_of m.activity.object ≡ Some o → is_tombstone o ≡ true → is_deleted m ≡ true
 unfolding is_deleted makes

@@ -29,6 +29,7 @@ use Rattle.fedi_town.specs.declared.act.Act.{Act}
 use Rattle.fedi_town.specs.declared.act.Actor.{Actor}
 use Rattle.fedi_town.specs.declared.deed.Deed.{Deed}
 use Rattle.fedi_town.specs.declared.deed.Deed.TheVariants.{Create, Update, Delete, Follow, Like, Announce, Block, Accept, Reject, Undo, Other}
+use Rattle.std.proofs.lemmas.Bool.{and_parts}
 
 -- the object was made
 abbrev pub is_made : List Act → Option (List ℕ) → Bool
@@ -60,14 +61,10 @@ is_grounded-grows : (acts more : List Act) → Grows acts more → (x : Act) →
 unfolding is_grounded
 is_grounded-grows acts more g x = or_then _ _ _ (is_made-grows acts more g (ref_id x.activity.object))
 
-both : (a b : Bool) → (a && b) ≡ true → (a ≡ true) × (b ≡ true)
-both true b e = (refl, e)
-both false b e = absurd cc
-
 all-grows : (acts more : List Act) → Grows acts more → (xs : List Act) → list_all (is_grounded acts) xs ≡ true → list_all (is_grounded more) xs ≡ true
 all-grows acts more g [] all = refl
 all-grows acts more g (x ∷ xs) all =
-    let parts = both (is_grounded acts x) (list_all (is_grounded acts) xs) all in
+    let parts = and_parts (is_grounded acts x) (list_all (is_grounded acts) xs) all in
     rw (is_grounded-grows acts more g x parts.0, all-grows acts more g xs parts.1) refl
 
 or_first : (a b : Bool) → a ≡ true → (a || b) ≡ true
@@ -95,7 +92,7 @@ same_grounds acts y z k = rw (k.kind, k.done, k.about) refl
 all-mapped : (f : Act → Act) → ((y : Act) → IsKept y (f y)) → (acts xs : List Act) → list_all (is_grounded acts) xs ≡ true → list_all (is_grounded acts) (map f xs) ≡ true
 all-mapped f k acts [] all = refl
 all-mapped f k acts (x ∷ xs) all =
-    let parts = both (is_grounded acts x) (list_all (is_grounded acts) xs) all in
+    let parts = and_parts (is_grounded acts x) (list_all (is_grounded acts) xs) all in
     rw (same_grounds acts x (f x) (k x), parts.0, all-mapped f k acts xs parts.1) refl
 
 pub mapped : (f : Act → Act) → ((y : Act) → IsKept y (f y)) → (acts : List Act) → AreGrounded acts → AreGrounded (map f acts)
@@ -119,7 +116,7 @@ new_state : (t : Town) (local : Bool) (author : List ℕ) (full : Bool) (id : Op
     → is_done (state_with t local author Update full id) ≡ true → is_made t.acts id ≡ true
 new_state t local author full None done = absurd cc
 new_state t local author full (Some id) done =
-    own_made author (makes id) t.acts (both (local || full) (is_own_live author (maker t id)) (where_done _ done)).1
+    own_made author (makes id) t.acts (and_parts (local || full) (is_own_live author (maker t id)) (where_done _ done)).1
 
 grounded_by : (acts : List Act) (d : Deed) (done : Bool) (id : Option (List ℕ)) → (d ≡ Update → done ≡ true → is_made acts id ≡ true)
     → (not (is_update d && done) || is_made acts id) ≡ true

@@ -39,8 +39,9 @@ use Rattle.fedi_town.specs.declared.act.Act.{Act}
 use Rattle.fedi_town.specs.declared.act.Actor.{Actor}
 use Rattle.fedi_town.specs.declared.act.Peer.{Peer}
 use Rattle.fedi_town.specs.declared.deed.Deed.{Deed}
-use Rattle.fedi_town.specs.declared.deed.Deed.TheVariants.{Create, Update, Delete, Follow, Like, Announce, Block, Accept, Reject, Undo, Other}
+use Rattle.fedi_town.specs.declared.deed.Deed.TheVariants.{Follow}
 use Rattle.fedi_laws.proofs.Texts.{bytes_eq-is}
+use Rattle.fedi_laws.proofs.Posted.{follows_is}
 
 -- nothing before the server was set up, and then each id once
 abbrev pub HasIds : Option (List ℕ) → List Act → Type 0
@@ -78,19 +79,6 @@ unfolding state_of
 room_of t local author b d r does about e = room_for t local author b (is_whole r) (rw (does, about) at e)
 
 -- ---- the Accept
-
-follows_is : (d : Deed) → is_follow d ≡ true → d ≡ Follow
-follows_is Create e = absurd cc
-follows_is Update e = absurd cc
-follows_is Delete e = absurd cc
-follows_is Follow e = refl
-follows_is Like e = absurd cc
-follows_is Announce e = absurd cc
-follows_is Block e = absurd cc
-follows_is Accept e = absurd cc
-follows_is Reject e = absurd cc
-follows_is Undo e = absurd cc
-follows_is Other e = absurd cc
 
 -- what is known of an activity whose Accept is made
 record IsRoomy (t : Town) (x : Act) : Type 0 where

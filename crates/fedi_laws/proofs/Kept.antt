@@ -17,6 +17,7 @@ use Rattle.fedi_town.specs.declared.deed.Deed.{Deed}
 use Rattle.fedi_town.specs.declared.deed.Deed.TheVariants.{Create, Update, Delete, Follow, Like, Announce, Block, Accept, Reject, Undo, Other}
 use Rattle.fedi_town.specs.declared.effect.Effect.{Effect}
 use Rattle.fedi_town.specs.declared.effect.Effect.TheVariants as effects
+use Rattle.std.proofs.lemmas.Bool.{and_parts}
 
 pub record IsKept (y z : Act) : Type 0 where
   pub kind : z.activity.kind ≡ y.activity.kind
@@ -73,10 +74,6 @@ last true true c e = e
 last true false c e = absurd cc
 last false b c e = absurd cc
 
-second : (a b : Bool) → (a && b) ≡ true → b ≡ true
-second true b e = e
-second false b e = absurd cc
-
 -- one that was not done gets a state that is not done
 restated : (s : State) → is_done s ≡ false → (y : Act) → is_done y.state ≡ false → IsKept y (in_state s y)
 restated s not_set y not_done = record { kind = refl; done = not_set ∙ sym not_done; about = refl }
@@ -130,7 +127,7 @@ affected-kept (effects.Accept id) y fair =
 affected-kept (effects.EndFollows a b s) y fair = ended-kept a b s fair y
 affected-kept (effects.EndBoth a b) y fair = then_kept y _ _ (ended-kept b a Undone refl y) (ended-kept a b Undone refl (end_follow b a Undone y))
 affected-kept (effects.Undo id) y fair =
-    passing (is_standing_activity id) (in_state Undone) y (λ e. restated Undone refl y (standing_not_done y.state (second (has_activity_id id y) (is_standing y.state) e)))
+    passing (is_standing_activity id) (in_state Undone) y (λ e. restated Undone refl y (standing_not_done y.state (and_parts (has_activity_id id y) (is_standing y.state) e).1))
 
 pair-fair : (s : State) → is_done s ≡ false → (f : Act) (b : Option (List ℕ)) → IsFair (pair_ends s f b)
 pair-fair s fair f None = tt

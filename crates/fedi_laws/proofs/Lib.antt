@@ -2,14 +2,14 @@ pub mod Alike
 pub mod Answered
 pub mod Burial
 pub mod Clean
+pub mod ClubFollows
+pub mod ClubObjects
+pub mod ClubPeers
 pub mod Due
 pub mod Finding
 pub mod Grounded
 pub mod IdsOnce
 pub mod IdsTown
-pub mod InFollows
-pub mod InObjects
-pub mod InPeers
 pub mod Inboxes
 pub mod Isolation
 pub mod Kept

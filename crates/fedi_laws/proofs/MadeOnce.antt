@@ -75,7 +75,7 @@ remote_new t owner author a moment id made = new_made t false author (deed_of a.
 
 -- ---- steps
 
-accept_makes_none : (t : Town) (host : List ℕ) (x : Act) (member : Actor) (id : List ℕ) → makes id (accept_by t host x member) ≡ false
+pub accept_makes_none : (t : Town) (host : List ℕ) (x : Act) (member : Actor) (id : List ℕ) → makes id (accept_by t host x member) ≡ false
 unfolding makes accept_by
 accept_makes_none t host x member id = refl
 

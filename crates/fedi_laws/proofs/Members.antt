@@ -1,20 +1,20 @@
 -- Members: each has the id that its name gives, and no id of a member is a collection's or Public's.
-use Rattle.std.proofs.Common.{◌≡◌, ℕ, ◌≤◌, Bool, true, false, leb, List, [], ◌∷◌, ◌++◌, length, Option, Some, None, refl, sym, ap, subst, ◌∙◌, arith, append_assoc}
-use Rattle.std.specs.Cmp.Derive.{both_true}
+use Rattle.std.proofs.Common.{◌≡◌, ℕ, Bool, true, false, leb, List, [], ◌∷◌, ◌++◌, length, Option, Some, None, refl, sym, ap, subst, ◌∙◌, arith, append_assoc}
 use Rattle.std.specs.Prelude.{◌&&◌, codes, slice_index}
 use Rattle.std.specs.List.{list_all, find}
 use Rattle.std.specs.Str.{bytes_eq}
-use Rattle.std.proofs.lemmas.Bool.{and_parts, le-leb, leb-true}
+use Rattle.std.proofs.lemmas.Bool.{and_parts}
 use Rattle.std.proofs.lemmas.List.{append_cancel_left}
 use Rattle.std.proofs.lemmas.List.Folds.{list_all-append}
-use Rattle.std.proofs.lemmas.Slice.Eq.{bytes_eq-Decides}
-use Rattle.fedi_address.specs.Hosts.{is_host_text, is_path_byte, is_plain_path, address}
+use Rattle.fedi_address.specs.Hosts.{is_host_text, address}
 use Rattle.fedi_address.specs.Iris.{public_iri, target_of, host_of}
 use Rattle.fedi_address.specs.Names.{is_name, is_name_byte}
 use Rattle.fedi_address.proofs.Parts.{host_of-address, target_of-address}
 use Rattle.fedi_town.specs.Ids.{actor_id, actor_path, followers_id}
 use Rattle.fedi_town.specs.Towns.{Town}
 use Rattle.fedi_town.specs.declared.act.Actor.{Actor}
+use Rattle.fedi_laws.proofs.Paths.{actor_path_is_plain}
+use Rattle.fedi_laws.proofs.Texts.{is_false, bytes_eq-is}
 
 -- the member's name is one, and gives its id at the host
 abbrev pub is_member : Option (List ℕ) → Actor → Bool
@@ -26,34 +26,13 @@ pub record HasMembers (t : Town) : Type 0 where
 
 -- ---- ids of members
 
-name_in_path : (name : List ℕ) → list_all is_name_byte name ≡ true → list_all is_path_byte name ≡ true
-name_in_path [] h = refl
-name_in_path (b ∷ name) h =
-    let first : is_name_byte b ≡ true = (and_parts (is_name_byte b) (list_all is_name_byte name) h).0 in
-    let rest = name_in_path name ((and_parts (is_name_byte b) (list_all is_name_byte name) h).1) in
-    both_true (rw first refl) rest
-
 pub name_bytes : (name : List ℕ) → is_name name ≡ true → list_all is_name_byte name ≡ true
 name_bytes name h = (and_parts (leb 1 (length name) && leb (length name) 30) (list_all is_name_byte name) h).1
-
-actor_path_is_plain : (name : List ℕ) → is_name name ≡ true → is_plain_path (actor_path name) ≡ true
-actor_path_is_plain name h =
-    let first : (leb 1 (length name) && leb (length name) 30) ≡ true = (and_parts (leb 1 (length name) && leb (length name) 30) (list_all is_name_byte name) h).0 in
-    let short : length name ≤ 30 = leb-true (length name) 30 ((and_parts (leb 1 (length name)) (leb (length name) 30) first).1) in
-    let room : leb (length (codes "/users/" ++ name)) 128 ≡ true = le-leb (length (codes "/users/" ++ name)) 128 (omega arith) in
-    both_true (both_true refl room) (rw (name_in_path name (name_bytes name h)) refl)
 
 -- a member's id is of the host
 pub host_of-actor_id : (host name : List ℕ) → is_host_text host ≡ true → is_name name ≡ true → host_of (actor_id host name) ≡ host
 unfolding actor_id
 host_of-actor_id host name shape ref_id = host_of-address host (actor_path name) shape (actor_path_is_plain name ref_id)
-
-is_false : (a : Bool) → (a ≡ true → ⊥) → a ≡ false
-is_false true h = absurd (h refl)
-is_false false h = refl
-
-same_text : (a b : List ℕ) → bytes_eq a b ≡ true → a ≡ b
-same_text a b e = (bytes_eq-Decides a b).0 e
 
 public_target : target_of public_iri ≡ codes "/ns/activitystreams"
 unfolding target_of
@@ -69,7 +48,7 @@ pub not_public : (host name : List ℕ) → is_host_text host ≡ true → is_na
 unfolding actor_id
 not_public host name shape ref_id =
     is_false (bytes_eq (actor_id host name) public_iri) (λ e.
-    let same : address host (actor_path name) ≡ public_iri = same_text (address host (actor_path name)) public_iri e in
+    let same : address host (actor_path name) ≡ public_iri = bytes_eq-is (address host (actor_path name)) public_iri e in
     let path : actor_path name ≡ codes "/ns/activitystreams" =
     sym (target_of-address host (actor_path name) shape (actor_path_is_plain name ref_id)) ∙ ap target_of same ∙ public_target in
     unlike name path)
@@ -85,7 +64,7 @@ unfolding actor_id
 not_followers host n m ref_id =
     is_false (bytes_eq (actor_id host n) (followers_id (actor_id host m))) (λ e.
     let same : codes "https://" ++ (host ++ (codes "/users/" ++ n)) ≡ (codes "https://" ++ (host ++ (codes "/users/" ++ m))) ++ codes "/followers" =
-    same_text (actor_id host n) (followers_id (actor_id host m)) e in
+    bytes_eq-is (actor_id host n) (followers_id (actor_id host m)) e in
     let far : codes "https://" ++ (host ++ (codes "/users/" ++ n)) ≡ codes "https://" ++ (host ++ (codes "/users/" ++ (m ++ codes "/followers"))) =
     same ∙ simp append_assoc in
     let near : host ++ (codes "/users/" ++ n) ≡ host ++ (codes "/users/" ++ (m ++ codes "/followers")) = append_cancel_left (codes "https://") _ _ far in

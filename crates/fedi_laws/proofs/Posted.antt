@@ -30,7 +30,7 @@ use Rattle.fedi_town.specs.declared.deed.Deed.{Deed}
 use Rattle.fedi_town.specs.declared.deed.Deed.TheVariants.{Create, Update, Delete, Follow, Like, Announce, Block, Accept, Reject, Undo, Other}
 use Rattle.fedi_laws.proofs.Texts.{bytes_eq-is}
 
-follows_is : (d : Deed) → is_follow d ≡ true → d ≡ Follow
+pub follows_is : (d : Deed) → is_follow d ≡ true → d ≡ Follow
 follows_is Create e = absurd cc
 follows_is Update e = absurd cc
 follows_is Delete e = absurd cc

@@ -10,7 +10,7 @@ use Rattle.fedi_address.specs.Recipients.{all_of, is_among, names, is_public}
 use Rattle.fedi_objects.specs.declared.activity.Activity.{Activity}
 use Rattle.fedi_objects.specs.declared.kind.State.TheVariants.{Accepted, Pending, Rejected}
 use Rattle.fedi_town.specs.Activities.{local_act}
-use Rattle.fedi_town.specs.Lists.{differs, each_once}
+use Rattle.fedi_town.proofs.Once.{once-among}
 use Rattle.fedi_laws.proofs.Texts.{bytes_eq-same, bytes_eq-is, or_true, or_no}
 use Rattle.fedi_town.specs.Addressing.{is_recipient, addressees, recipients_with, is_nobody_here, is_of_town, complete_recipients, implied_recipient, with_implied}
 use Rattle.fedi_town.specs.Deeds.{deed_of, is_accepted}
@@ -47,17 +47,6 @@ filter-among p b (x ∷ xs) passes there =
           ]
     ] refl
 
--- what is among some is among the first of each
-once-among : (b : List ℕ) (xs : List (List ℕ)) → is_among b xs ≡ true → is_among b (each_once xs) ≡ true
-unfolding is_among differs
-once-among b [] there = absurd cc
-once-among b (x ∷ xs) there =
-    elim (bytes_eq x b) as (λ s. bytes_eq x b ≡ s → is_among b (each_once (x ∷ xs)) ≡ true) [
-      | true ↦ λ e. rw e refl
-      | false ↦ λ e. let rest : is_among b xs ≡ true = rw e at there in
-          rw (e, filter-among (differs bytes_eq x) b (each_once xs) (rw e refl) (once-among b xs rest)) refl
-    ] refl
-
 first-among : (b : List ℕ) (xs ys : List (List ℕ)) → is_among b xs ≡ true → is_among b (xs ++ ys) ≡ true
 unfolding is_among
 first-among b xs ys there = list_any-append (λ u. bytes_eq u b) xs ys ∙ rw there refl
@@ -92,7 +81,7 @@ flat-among t author b (iri ∷ iris) one there =
 gets : (t : Town) (author b : List ℕ) (r : Recipients) (others : List (List ℕ)) → is_recipient t author b ≡ true → bytes_eq b (followers_id author) ≡ false
     → names r b ≡ true → is_among b (recipients_with t author r others) ≡ true
 gets t author b r others passes one named =
-    once-among b _ (filter-among (is_recipient t author) b _ passes
+    once-among b (filter (is_recipient t author) (flat_map (addressees t author) (all_of r) ++ others)) ∙ (filter-among (is_recipient t author) b _ passes
     (first-among b (flat_map (addressees t author) (all_of r)) others (flat-among t author b (all_of r) one named)))
 
 -- ---- whom a Follow names

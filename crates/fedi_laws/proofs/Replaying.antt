@@ -33,7 +33,7 @@ use Rattle.fedi_laws.proofs.Alike.{about_it}
 use Rattle.fedi_laws.proofs.Inboxes.{maker-inbox}
 use Rattle.fedi_laws.proofs.Kept.{changed-kept, made-kept}
 use Rattle.fedi_laws.proofs.Lists.{list_any-through, find-through, find-stays, find-none}
-use Rattle.fedi_laws.proofs.MadeOnce.{local_new, remote_new}
+use Rattle.fedi_laws.proofs.MadeOnce.{local_new, remote_new, accept_makes_none}
 use Rattle.fedi_laws.proofs.Steps.{answers}
 use Rattle.fedi_laws.proofs.Texts.{bytes_eq-is, bytes_eq-same, is_false, not_both}
 
@@ -186,10 +186,6 @@ next_is t x m o id here e =
     rw (effect_is t x (ref_id x.activity.object)) (form_after t x m o id (deed x) (ref_id x.activity.object) here e)
 
 -- ---- one more activity, with its answer
-
-accept_makes_none : (t : Town) (host : List ℕ) (x : Act) (member : Actor) (id : List ℕ) → makes id (accept_by t host x member) ≡ false
-unfolding makes accept_by
-accept_makes_none t host x member id = refl
 
 answer_forms : (t : Town) (host : List ℕ) (x : Act) (member : Actor) (id : List ℕ) (p : Option Object) → replay_act id p (accept_by t host x member) ≡ p
 unfolding updates deletes accept_by

@@ -1,6 +1,6 @@
 -- Texts that are equal, and truths that are not both.
 use Rattle.std.proofs.Common.{◌≡◌, ℕ, Bool, true, false, List, refl}
-use Rattle.std.specs.Prelude.{◌||◌}
+use Rattle.std.specs.Prelude.{◌&&◌, ◌||◌}
 use Rattle.std.specs.Str.{bytes_eq}
 use Rattle.std.proofs.lemmas.Slice.Eq.{bytes_eq-Decides}
 
@@ -25,3 +25,7 @@ or_true false = refl
 pub or_no : (a : Bool) → (a || false) ≡ a
 or_no true = refl
 or_no false = refl
+
+pub and_none : (a : Bool) → (a && false) ≡ false
+and_none true = refl
+and_none false = refl

@@ -1,5 +1,5 @@
-pub mod Statements
+pub mod ClubFollows
+pub mod ClubObjects
+pub mod ClubPeers
 pub mod Fixture
-pub mod WorkedFollows
-pub mod WorkedObjects
-pub mod WorkedPeers
+pub mod Statements

@@ -24,7 +24,7 @@ use Rattle.fedi_town.specs.Showing.{present_object, shown_ref, shown_activity, s
 use Rattle.fedi_town.specs.States.{is_like_of, is_announce_of, has_room, is_locked, follow_state, can_be_undone, state_of}
 use Rattle.fedi_town.specs.Towns.{Town, count_of, count_after, has_name, has_id, has_digest, has_host, is_by}
 use Rattle.fedi_laws.proofs.Texts.{bytes_eq-same, is_false}
-use Rattle.fedi_laws.specs.WorkedFollows.{LockedFollow, BlockAndUndo, PostToFollowers, LastNumber}
+use Rattle.fedi_laws.specs.ClubFollows.{LockedFollow, BlockAndUndo, PostToFollowers, LastNumber}
 
 pub locked_follow : LockedFollow
 unfolding digits after_any host_of is_among actor_id activity_id object_id is_of_host differs has_name has_id has_digest has_host is_by is_about has_activity_id is_actor is_block_of has_block_between is_follow_of is_open_follow is_following followers makes is_deleted change_object replace_object tombstone_of rewrite_act is_nobody_here is_recipient addressees implied_recipient complete_recipients sees_as is_of_peer reaches sees present_object shown_ref shown_activity sight_of is_like_of is_announce_of has_room is_locked follow_state can_be_undone state_of is_pending_follow is_standing_activity end_follow effect_of accept_by receive_object is_ours is_far has_followers_at forwards_at forwards_of broken_about is_item is_same_item is_of_pair progress_of sends is_at_peer deliveries_of is_due_in is_text is_type is_date
