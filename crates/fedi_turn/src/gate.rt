@@ -21,8 +21,8 @@ const OUT: u64 = 0;
 // The value is out, and a caller may be parked, so that the next `put_value` wakes one.
 const AWAITED: u64 = 2;
 
-// How often a caller looks for the value before it parks: about a microsecond.
-const LOOKS: u32 = 20;
+// How often a caller looks for the value before it parks: some microseconds at most, as long as the processor's pause is.
+const LOOKS: u32 = 100;
 
 /// What lies in the slot: the value with the writer of the record.
 #[derive(Drop)]
@@ -141,19 +141,20 @@ fn try_take<V: Grows>(
     gate.exchange(seat, 0, None)
 }
 
-// Looks for a while, as long as the value is out and nobody may be parked.
+// Looks for a while, until the value is there.
 fn look<V: Grows>(gate: &GateShared<V>)
     requires { IsGateSize gate.now.table_id }
 {
     for _ in 0..LOOKS {
-        if gate.peek(0) != OUT {
+        if gate.peek(0) == HOME {
             return;
         }
         spin_loop();
     }
 }
 
-/// Waits for the value: takes it at once if it is there, else looks for about a microsecond, then parks.
+/// Waits for the value: takes it at once if it is there, else looks for a while, then parks.
+// A caller that has parked leaves the word at `AWAITED`, since others may be parked too.
 pub(crate) fn wait_turn<V: Grows, R: Wait>(
     rt: &R,
     gate: &GateShared<V>,
