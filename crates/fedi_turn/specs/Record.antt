@@ -28,11 +28,14 @@ module _ {I : Type 0} where
   abbrev pub take_in : WriterView I → ReaderView I → WriterView I
   take_in w r = record w { carried = r ∷ w.carried }
 
-  abbrev pub take_in_all : WriterView I → List (ReaderView I) → WriterView I
-  take_in_all w rs = record w { carried = rs ++ w.carried }
+  abbrev pub take_in_all : List (ReaderView I) → WriterView I → WriterView I
+  take_in_all rs w = record w { carried = rs ++ w.carried }
 
   abbrev pub add_items : WriterView I → List I → WriterView I
   add_items w items = record w { list = w.list ++ items }
+
+  abbrev pub set_list : List I → WriterView I → WriterView I
+  set_list xs w = record w { list = xs }
 
   abbrev pub end_turn : WriterView I → WriterView I
   end_turn w = record w { carried = []; turn = w.list }

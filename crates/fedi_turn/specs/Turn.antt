@@ -37,6 +37,9 @@ module _ {I : Type 0} where
   abbrev pub IsReader : TableId → List I → ℕ → Pass I → Type 0
   IsReader log xs k p = (p.reader.table_id ≡ log) × (p.reader.views ≡ Reader (reader_view k xs) ∷ []) × (p.number ≡ k)
 
+  abbrev pub AreReaders : TableId → List I → List (Pass I) → Type 0
+  AreReaders log xs ps = Each (IsReader log xs) ps
+
   -- a seat of the gate, with this view
   abbrev pub HasGate : TableId → GateView I → Pass I → Type 0
   HasGate gate v p = (p.gate.table_id ≡ gate) × (p.gate.views ≡ v ∷ [])

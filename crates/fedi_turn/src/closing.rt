@@ -45,7 +45,7 @@ fn carry_all<V: Grows>(
     requires writer { MayCarry writer.old.me }
     requires passes { All (IsIdle V.Grows lock.now) passes.items }
     ensures table { writer.new.table_id ≡ writer.old.table_id }
-    ensures writer { Becomes (λ w. take_in_all w (map view_of passes.items)) writer.old.me writer.new.me }
+    ensures writer { Becomes (take_in_all (map view_of passes.items)) writer.old.me writer.new.me }
 {
     while let Some(pass) = passes.pop() {
         carry_pass(lock, seat, writer, pass);

@@ -21,7 +21,7 @@ const OUT: u64 = 0;
 // The value is out, and a caller may be parked, so that the next `put_value` wakes one.
 const AWAITED: u64 = 2;
 
-// How often a caller looks for the value before it parks: some microseconds at most, as long as the processor's pause is.
+// How often a caller looks for the value before it parks: for about a microsecond, or some where the processor's pause is long.
 const LOOKS: u32 = 100;
 
 /// What lies in the slot: the value with the writer of the record.
@@ -126,7 +126,7 @@ fn try_take<V: Grows>(
     requires table { (seat.old.table_id ≡ gate.now.table_id) × IsGateSize gate.now.table_id }
     requires seat { seat.old.me ≡ outside (facts_of V.list V.base gate.now.key.value) }
     ensures table { seat.new.table_id ≡ seat.old.table_id }
-    ensures home { IfSome result (IsHome V.list V.base (facts_of V.list V.base gate.now.key.value)) }
+    ensures out { IfSome result (IsHome V.list V.base (facts_of V.list V.base gate.now.key.value)) }
     ensures slot { IfSome result (λ _. seat.new.me ≡ (seat.old.me.0, (0, None) ∷ [])) }
     ensures none { IfNone result (seat.new.me ≡ seat.old.me) }
 {
@@ -204,7 +204,8 @@ pub(crate) fn put_value<V: Grows>(
 pub(crate) fn another_seat<V: Grows>(gate: &GateShared<V>, seat: &mut GateSeat<V>) -> GateSeat<V>
     requires table { (seat.old.table_id ≡ gate.now.table_id) × IsGateSize gate.now.table_id }
     requires seat { seat.old.me ≡ outside (facts_of V.list V.base gate.now.key.value) }
-    ensures table { (seat.new.table_id ≡ seat.old.table_id) × (result.table_id ≡ seat.old.table_id) }
+    ensures table { seat.new.table_id ≡ seat.old.table_id }
+    ensures other { result.table_id ≡ seat.old.table_id }
     ensures seat { (seat.new.me ≡ seat.old.me) × (result.me ≡ seat.old.me) }
 {
     gate.split_seat::<Same>(seat)

@@ -18,7 +18,7 @@ pub struct TurnLock<V: Grows> {
     pub(crate) seats: u64,
     ghost sizes: { IsGateSize gate.shared.table_id × (log.shared.table_id.words ≡ 1) },
     ghost tie: { gate.shared.key.value.writer.table_id ≡ log.shared.table_id },
-    ghost seats_are: { ((writer_in gate.shared.key.value.writer.views).count ≡ seats) × (0 < seats) },
+    ghost count: { ((writer_in gate.shared.key.value.writer.views).count ≡ seats) × (0 < seats) },
 }
 
 /// A caller's token of a lock whose list has items `I`. Contracts say whether it is idle or at turn.

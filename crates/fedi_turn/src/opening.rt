@@ -3,7 +3,7 @@ ghost use Rattle.std.specs.Prelude.{◌≡◌, ◌<◌, [], ◌∷◌, length, v
 ghost use Rattle.fedi_turn.specs.declared.gate.GateView.TheVariants.{Facts};
 ghost use Rattle.fedi_turn.specs.Record.{new_writer};
 ghost use Rattle.fedi_turn.specs.Gate.{facts_of, list_in, outside, IsGateSize, IsHome};
-ghost use Rattle.fedi_turn.specs.Turn.{base_of, seats_of, start_of, AreNew, AreSame, Each, HasGate, IsReader, IsSamePass};
+ghost use Rattle.fedi_turn.specs.Turn.{base_of, seats_of, start_of, AreNew, AreReaders, AreSame, Each, HasGate, IsSamePass};
 
 use crate::gate::{Content, GateSeat, GateShared, GateTable, HOME, another_seat};
 use crate::grows::Grows;
@@ -41,7 +41,7 @@ fn draw_passes<V: Grows>(
     ensures table { writer.new.table_id ≡ writer.old.table_id }
     ensures writer { OnOk result (writer.new.me ≡ (new_writer (V.list value.now) seats, [])) }
     ensures len { IfOk result (λ ps. vec_len ps ≡ seats) }
-    ensures passes { IfOk result (λ ps. Each (IsReader log.now.table_id (V.list value.now)) ps.items) }
+    ensures each { IfOk result (λ ps. AreReaders log.now.table_id (V.list value.now) ps.items) }
 {
     let seen = value.front();
     let mut passes = Vec::new(alloc);
@@ -61,7 +61,7 @@ fn open_record<V: Grows>(
     ensures table { IfOk result (λ r. r.2.table_id ≡ r.0.shared.table_id) }
     ensures writer { IfOk result (λ r. r.2.me ≡ (new_writer (V.list value.now) seats, [])) }
     ensures len { IfOk result (λ r. vec_len r.1 ≡ seats) }
-    ensures passes { IfOk result (λ r. Each (IsReader r.0.shared.table_id (V.list value.now)) r.1.items) }
+    ensures each { IfOk result (λ r. AreReaders r.0.shared.table_id (V.list value.now) r.1.items) }
 {
     let (log, mut writer) = Table::of_words(alloc, &[value.front()], &Snapshot::of(value))?;
     let passes = draw_passes(alloc, &log.shared, &mut writer, value, seats)?;

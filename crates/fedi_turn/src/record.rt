@@ -2,7 +2,7 @@
 ghost use Rattle.std.specs.Prelude.{◌≡◌, List, []};
 ghost use Rattle.fedi_turn.specs.declared.record.View.TheVariants.{Writer};
 ghost use Rattle.fedi_turn.specs.declared.record.WriterView.{WriterView};
-ghost use Rattle.fedi_turn.specs.Record.{add_items, carry_both, draw_left, draw_right, return_left, return_right, Becomes, CarriesOne, IsOrdered, IsWriter, MayAppend, MayGrow, MayJoin};
+ghost use Rattle.fedi_turn.specs.Record.{add_items, carry_both, draw_left, draw_right, return_left, return_right, set_list, Becomes, CarriesOne, IsOrdered, IsWriter, MayAppend, MayGrow, MayJoin};
 
 use crate::grows::Grows;
 use atomic_table::{Join, Play, Seat, Shared, Split, Table, TableRule};
@@ -180,7 +180,7 @@ pub(crate) fn append_new<V: Grows>(
     requires table { (writer.old.table_id ≡ log.now.table_id) × (log.now.table_id.words ≡ 1) }
     requires writer { MayGrow V.name (V.list value.now) writer.old.me }
     ensures table { writer.new.table_id ≡ writer.old.table_id }
-    ensures writer { Becomes (λ w. record w { list = V.list value.now }) writer.old.me writer.new.me }
+    ensures writer { Becomes (set_list (V.list value.now)) writer.old.me writer.new.me }
 {
     append_items::<V, Brand>(log, writer, value, added);
 }

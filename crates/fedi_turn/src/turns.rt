@@ -40,7 +40,7 @@ impl<V: Grows> TurnLock<V> {
         ensures same { number_of pass.new ≡ number_of pass.old }
         ensures value { V.list result.value ≡ turn_list result }
         ensures base { V.base result.value ≡ base_of V.Grows self.now }
-        ensures later { Continues V.name (number_of pass.old) (seen_of pass.old) (turn_list result) }
+        ensures list { Continues V.name (number_of pass.old) (seen_of pass.old) (turn_list result) }
     {
         let mut gate = mem::replace(&mut pass.gate, Badge::blank()).into_seat();
         let Content { value, writer } = wait_turn(rt, &self.gate.shared, &mut gate);

@@ -1,6 +1,7 @@
 //! A value to take turns with: a list of marks, each the number of the pass that added it.
-ghost use Rattle.std.specs.Prelude.{◌≡◌, ◌++◌, [], ◌∷◌, Some, if◌then◌else◌};
+ghost use Rattle.std.specs.Prelude.{◌≡◌, [], ◌∷◌, Some};
 ghost use Rattle.fedi_turn.specs.Turn.{IsIdle, number_of};
+ghost use Rattle.fedi_turn_tests.specs.Marks.{marks_after};
 
 use fedi_turn::{Grows, Pass, TurnLock};
 use std::alloc::Global;
@@ -31,7 +32,7 @@ impl Grows for Tally {
 impl Tally {
     /// Adds a mark of the pass `by`, and says whether there was memory.
     pub fn add(&mut self, by: u64) -> bool
-        ensures marks { self.new.marks.items ≡ (if result then self.old.marks.items ++ by ∷ [] else self.old.marks.items) }
+        ensures marks { self.new.marks.items ≡ marks_after result by self.old.marks.items }
         ensures label { self.new.label ≡ self.old.label }
     {
         self.marks.push(by).is_ok()

@@ -55,6 +55,6 @@ returns-clause-named g c =
     let last = last_writer xs k.start k.seats c.in-Some.first c.pop.new.self.items c.args.passes.items c.into_seat-writer.result.me c.into_seat.result.me c.carry_reader.new.writer.me c.carry_all.new.writer.me
     before his c.carry_reader.ensures.writer c.carry_all.ensures.writer c.in-Some.ensures.items in
     let w = record (idle_writer xs k.start k.seats) { carried = map view_of c.args.passes.items } in
-    let seats = c.args.self.seats_are.0 in let long = c.args.passes.ok.0 in
+    let seats = c.args.self.count.0 in let long = c.args.passes.ok.0 in
     let many : k.seats ≤ length c.args.passes.items = omega arith in
     all_named view_of g.V.Grows.name c.args.passes.items w (c.look_around.ensures.told w (ap (λ m. m.0) last)) refl many

@@ -13,4 +13,4 @@ returns-in-Ok-open_gate-clause-passes g c =
     let near : k < length c.in-Ok.passes.items = omega arith in
     fresh c.in-Ok-open_gate.gate.shared.table_id c.in-Ok.log.shared.table_id (facts_of g.V.Grows.list g.V.Grows.base c.in-Ok-open_gate.gate.shared.key.value)
     c.in-Ok-open_gate.seat (get_or c.admit_all.new.passes.items k d) (get_or c.in-Ok.passes.items k d) k (g.V.Grows.list c.args.value)
-    c.in-Ok-open_gate.ensures.table known (c.admit_all.ensures.gate k d h) (c.admit_all.ensures.same k d h d) (c.in-Ok.ensures.passes k d near) start
+    c.in-Ok-open_gate.ensures.table known (c.admit_all.ensures.gate k d h) (c.admit_all.ensures.same k d h d) (c.in-Ok.ensures.each k d near) start

@@ -15,8 +15,8 @@ carry_reader-requires-clause-views g c =
       refl,
     )
 
-pub returns-clause-later : goal.returns-clause-later
-returns-clause-later g c =
+pub returns-clause-list : goal.returns-clause-list
+returns-clause-list g c =
     let k = gate_facts g.V.Grows c.args.self.now in let xs = g.V.Grows.list c.wait_turn-value.result.value in
     let n = c.args.pass.now.number in let seen = seen_of c.args.pass.now in
     let before = seat_has c.wait_turn-value.result.writer.views c.into_seat-writer.result.me _ c.into_seat-writer.ensures.2 c.into_seat-writer.ensures.3 c.wait_turn-value.ensures.home.1 in
