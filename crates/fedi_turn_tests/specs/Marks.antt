@@ -1,0 +1,5 @@
+-- The marks of a tally after a try to add one.
+use Rattle.std.specs.Prelude.{if◌then◌else◌, ℕ, Bool, List, [], ◌∷◌, ◌++◌}
+
+abbrev pub marks_after : Bool → ℕ → List ℕ → List ℕ
+marks_after room by marks = if room then marks ++ by ∷ [] else marks
