@@ -61,5 +61,6 @@ module _ {V I : Type 0} (list : V → List I) (base : V → List ℕ) where
       (after.0 ≡ me.0) × (found ≢ 1 → after.1 ≡ me.1)
       × (found ≡ 1 → (k : Content V I) × (after.1 ≡ (0, Some k) ∷ me.1) × ((v : GateFacts I) → me.0 ≡ Facts v → IsHome v k))
 
+-- the step of one who puts the value back: the rest of what the seat holds stays
 abbrev pub PutsBack : {S I : Type 0} → Step S → Me S (GateView I) → ℕ → Me S (GateView I) → Type 0
 PutsBack st me found after = (after.0 ≡ me.0) × (after.1 ≡ rest me.1)

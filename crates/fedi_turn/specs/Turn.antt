@@ -89,5 +89,6 @@ module _ {V I : Type 0} (g : Ghosts V I) where
   abbrev pub NamesOneOf : TurnLock V I → List (Pass I) → List I → Type 0
   NamesOneOf l ps xs = (rest : List I) × (xs ≡ start_of l ++ rest) × All (λ x. (p : Pass I) × Contains ps p × (g.name x ≡ Some p.number)) rest
 
+-- how many passes the lock was made with
 abbrev pub seats_of : {V I : Type 0} → TurnLock V I → ℕ
 seats_of l = l.seats
