@@ -15,6 +15,8 @@ mod objects;
 #[cfg(test)]
 mod outside;
 #[cfg(test)]
+mod program;
+#[cfg(test)]
 mod reading;
 #[cfg(test)]
 mod routes;
