@@ -142,20 +142,6 @@ impl Host {
     {
         self.text.as_str()
     }
-
-    /// Whether the two hosts have the same text.
-    pub fn is(&self, other: &Host) -> bool
-        ensures { result ≡ bytes_eq self.now other.now }
-    {
-        self == other
-    }
-
-    /// A copy. The error is out of memory.
-    pub fn copy(&self) -> Result<Host, AllocError>
-        ensures { IfOk result (λ host. host ≡ self.now) }
-    {
-        self.clone()
-    }
 }
 
 impl Clone for Host {

@@ -200,13 +200,6 @@ impl Iri {
         before(from(onward, '/'), '#')
     }
 
-    /// Whether the two IRIs have the same text.
-    pub fn is(&self, other: &Iri) -> bool
-        ensures { result ≡ bytes_eq self.now other.now }
-    {
-        self == other
-    }
-
     /// A copy. The error is out of memory.
     pub fn copy(&self) -> Result<Iri, AllocError>
         ensures { IfOk result (λ iri. iri ≡ self.now) }

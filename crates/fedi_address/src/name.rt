@@ -75,13 +75,6 @@ impl LocalName {
         self.text.as_str()
     }
 
-    /// Whether the two names have the same text.
-    pub fn is(&self, other: &LocalName) -> bool
-        ensures { result ≡ bytes_eq self.now other.now }
-    {
-        self == other
-    }
-
     /// A copy. It takes no memory.
     pub fn copy(&self) -> LocalName
         ensures { result ≡ self.now }

@@ -90,13 +90,6 @@ impl Recipients {
         left.bcc.clear();
         left
     }
-
-    /// A copy. The error is out of memory.
-    pub fn copy(&self) -> Result<Recipients, AllocError>
-        ensures { IfOk result (λ copied. copied ≡ self.now) }
-    {
-        self.clone()
-    }
 }
 
 impl Clone for Recipients {

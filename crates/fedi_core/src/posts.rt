@@ -23,7 +23,7 @@ fn is_self(caller: &Caller, name: &LocalName) -> bool
     ensures { result ≡ is_self caller.now name.now }
 {
     match caller {
-        Caller::Actor(own) => own.is(name),
+        Caller::Actor(own) => own == name,
         Caller::Nobody | Caller::Peer(_) => false,
     }
 }

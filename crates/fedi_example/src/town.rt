@@ -149,7 +149,7 @@ fn note(alloc: Global, content: &str, recipients: Recipients) -> Result<Object, 
 fn creation(alloc: Global, content: &str, recipients: Recipients) -> Result<Activity, AllocError>
     ensures { IfOk result (λ a. a ≡ example.creation content.now recipients) }
 {
-    let note = note(alloc, content, recipients.copy()?)?;
+    let note = note(alloc, content, recipients.clone()?)?;
     Ok(Activity {
         id: None,
         kind: Kind::Create,

@@ -13,13 +13,10 @@ use fedi_address::{Host, Iri, Items, Recipients, is_among};
 use fedi_model::Actor;
 use std::alloc::{AllocError, Global};
 
-/// The IRI that stands for everybody (ActivityPub, section 5.6).
-const PUBLIC: &str = "https://www.w3.org/ns/activitystreams#Public";
-
 fn is_public(iri: &Iri) -> bool
     ensures { result ≡ bytes_eq iri.now public_iri }
 {
-    iri.text() == PUBLIC
+    iri.text() == Iri::PUBLIC
 }
 
 #[tactic(auto, unfolding(fedi_model::specs::Ids::is_of_host))]
@@ -42,7 +39,7 @@ fn is_of_town(facts: &Facts, iri: &Iri) -> bool
 fn has_id(actor: &Actor, id: &Iri) -> bool
     ensures { result ≡ has_id id.now actor.now }
 {
-    actor.id.is(id)
+    actor.id == *id
 }
 
 #[tactic(auto, unfolding(fedi_model::specs::Addressing::is_actor))]
@@ -56,7 +53,7 @@ fn is_actor(facts: &Facts, iri: &Iri) -> bool
 fn is_no_recipient(facts: &Facts, author: &Iri, iri: &Iri) -> bool
     ensures { result ≡ is_no_recipient facts.now author.now iri.now }
 {
-    is_public(iri) || iri.is(author) || (is_of_town(facts, iri) && !is_actor(facts, iri))
+    is_public(iri) || iri == author || (is_of_town(facts, iri) && !is_actor(facts, iri))
 }
 
 #[tactic(auto, unfolding(fedi_model::specs::Addressing::with_recipient))]
@@ -72,7 +69,7 @@ fn gather_one(
     if is_no_recipient(facts, author, iri) || is_among(iri.text(), found) {
         return Ok(());
     }
-    let iri = iri.copy()?;
+    let iri = iri.clone()?;
     found.push(iri)?;
     Ok(())
 }

@@ -93,7 +93,7 @@ impl Facts {
         ensures ok { OnOk result (self.new ≡ record self.old { host = Some host.now }) }
         ensures err { OnErr result (self.new ≡ self.old) }
     {
-        let host = host.copy()?;
+        let host = host.clone()?;
         self.host = Some(host);
         Ok(())
     }
@@ -203,7 +203,7 @@ impl Facts {
 fn has_name(actor: &Actor, name: &LocalName) -> bool
     ensures { result ≡ has_name name.now actor.now }
 {
-    actor.name.is(name)
+    actor.name == *name
 }
 
 #[tactic(auto, unfolding(fedi_model::specs::Towns::has_digest))]
@@ -217,5 +217,5 @@ fn has_digest(actor: &Actor, digest: &[u8; 32]) -> bool
 fn is_by(act: &Act, author: &Iri) -> bool
     ensures { result ≡ is_by author.now act.now }
 {
-    act.author.is(author)
+    act.author == *author
 }

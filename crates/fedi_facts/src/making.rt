@@ -35,7 +35,7 @@ pub fn is_own_id(own: &Option<Iri>, id: &Iri) -> bool
     ensures { result ≡ is_own_id id.now own.now }
 {
     match own {
-        Some(own) => own.is(id),
+        Some(own) => own == id,
         None => false,
     }
 }
@@ -142,11 +142,11 @@ impl<'a> Stamp<'a> {
             self.now.number self.now.moment activity.now) }
     {
         let id = activity_iri(alloc, self.host, self.name, self.number)?;
-        let actor = author.copy()?;
+        let actor = author.clone()?;
         let published = self.moment.to_text(alloc)?;
-        let attributed_to = author.copy()?;
-        let published_object = published.copy()?;
-        let mut own = activity.copy()?;
+        let attributed_to = author.clone()?;
+        let published_object = published.clone()?;
+        let mut own = activity.clone()?;
         let carried = mem::replace(&mut own.object, ObjectRef::Nothing);
         own.id = Some(id);
         own.actor = Some(actor);

@@ -13,7 +13,7 @@ fn is_seen_as(id: Option<&Iri>, act: &Act) -> bool
 {
     match id {
         Some(id) => {
-            act.author.is(id) || act.is_public || is_among(id.text(), act.recipients.as_slice())
+            act.author == *id || act.is_public || is_among(id.text(), act.recipients.as_slice())
         }
         None => act.is_public,
     }

@@ -14,6 +14,5 @@ pub mod Posting
 pub mod Replies
 pub mod Agreement
 pub mod ReplyText
-pub mod Usage
 pub mod Cleanness
 pub mod Answers

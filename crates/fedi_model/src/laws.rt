@@ -8,10 +8,12 @@ ghost use Rattle.fedi_objects.specs.declared.entry.Entry.TheVariants.{Local};
 ghost use Rattle.fedi_reading.specs.Reading.{reads_posted};
 ghost use Rattle.fedi_model.specs.declared.ask.Ask.{Ask};
 ghost use Rattle.fedi_model.specs.declared.caller.Caller.{Caller};
+ghost use Rattle.fedi_model.specs.declared.refusal.Refusal.{Refusal};
 ghost use Rattle.fedi_model.specs.Activities.{local_act};
 ghost use Rattle.fedi_model.specs.Agreement.{Agree};
 ghost use Rattle.fedi_model.specs.Cleanness.{IsCleanBody};
 ghost use Rattle.fedi_model.specs.Histories.{town, is_posted};
+ghost use Rattle.fedi_model.specs.Refusing.{refused};
 ghost use Rattle.fedi_model.specs.Replies.{reply};
 ghost use Rattle.fedi_model.specs.Seeing.{sees};
 ghost use Rattle.fedi_model.specs.Towns.{Town};
@@ -28,6 +30,12 @@ pub fn replies_are_private()
 #[tactic(auto, using(crate::proofs::Clean::reply_is_clean))]
 pub fn replies_are_clean()
     ensures { (t : Town) (c : Caller) (ask : Ask) → IsCleanBody (reply t c ask).body }
+{}
+
+/// No refusal names anybody, in the place of a reply or for what is no request.
+#[tactic(auto, using(crate::proofs::Clean::refused_is_clean))]
+pub fn refusals_are_clean()
+    ensures { (refusal : Refusal) → IsCleanBody (refused refusal).body }
 {}
 
 /// A post changes nothing that a caller knows who does not see it. Its author sees it, so a caller

@@ -14,7 +14,8 @@ pub use act::{Act, Actor};
 pub use ask::{Ask, Post, Read};
 pub use caller::{Caller, Credentials, Signed};
 pub use laws::{
-    replies_are_clean, replies_are_private, unseen_posts_tell_nothing, what_is_read_may_be_posted,
+    refusals_are_clean, replies_are_clean, replies_are_private, unseen_posts_tell_nothing,
+    what_is_read_may_be_posted,
 };
 pub use refusal::Refusal;
 pub use refusing::{misshapen_reply, refusal_reply};

@@ -21,15 +21,6 @@ pub enum ObjectRef {
     Changed(Change),
 }
 
-impl ObjectRef {
-    /// A copy. The error is out of memory.
-    pub fn copy(&self) -> Result<ObjectRef, AllocError>
-        ensures { IfOk result (λ x. x ≡ self.now) }
-    {
-        self.clone()
-    }
-}
-
 impl Clone for ObjectRef {
     ghost is_clone = { λ object copy. copy ≡ object };
 

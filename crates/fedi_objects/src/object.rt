@@ -91,13 +91,6 @@ impl Object {
         self.tags = other.tags.clone()?;
         Ok(())
     }
-
-    /// A copy. The error is out of memory.
-    pub fn copy(&self) -> Result<Object, AllocError>
-        ensures { IfOk result (λ x. x ≡ self.now) }
-    {
-        self.clone()
-    }
 }
 
 impl Clone for Object {

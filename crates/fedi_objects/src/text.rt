@@ -41,13 +41,6 @@ impl Text {
         })
     }
 
-    /// A copy. The error is out of memory.
-    pub fn copy(&self) -> Result<Text, AllocError>
-        ensures { IfOk result (λ x. x ≡ self.now) }
-    {
-        self.clone()
-    }
-
     /// The text as a `&str`.
     pub fn text(&self) -> &str
         ensures { result.now ≡ self.now }

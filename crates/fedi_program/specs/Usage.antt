@@ -1,4 +1,4 @@
--- The words that the program takes.
+-- The arguments that the program takes.
 use Rattle.std.specs.Prelude.{ℕ, List, ◌++◌, codes}
 
 -- one line for each command, each ending in LF

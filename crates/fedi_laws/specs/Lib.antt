@@ -1,0 +1,5 @@
+pub mod ClubFollows
+pub mod ClubObjects
+pub mod ClubPeers
+pub mod Fixture
+pub mod Statements

@@ -1,0 +1,127 @@
+-- The laws of what a history means.
+use Rattle.std.specs.Prelude.{◌≡◌, ℕ, ◌≤◌, Bool, true, false, List, [], ◌∷◌, ◌++◌, Option, Some}
+use Rattle.std.specs.List.{list_any}
+use Rattle.fedi_address.specs.Names.{is_name}
+use Rattle.fedi_objects.specs.declared.activity.Activity.{Activity}
+use Rattle.fedi_objects.specs.declared.entry.Entry.{Entry}
+use Rattle.fedi_objects.specs.declared.entry.Entry.TheVariants.{Hosted, Made, PeerSet, Local, Remote, Tried}
+use Rattle.fedi_objects.specs.declared.object.Object.{Object}
+use Rattle.fedi_objects.specs.Forms.{is_tombstone}
+use Rattle.fedi_town.specs.declared.caller.Caller.{Caller}
+use Rattle.fedi_town.specs.Activities.{local_act, remote_act}
+use Rattle.fedi_town.specs.Agreement.{Agree}
+use Rattle.fedi_town.specs.Deeds.{deed_of, changes_nothing, is_follow}
+use Rattle.fedi_town.specs.Histories.{town, is_known}
+use Rattle.fedi_town.specs.Ids.{actor_id}
+use Rattle.fedi_town.specs.Legal.{IsLegal, is_caller}
+use Rattle.fedi_town.specs.Lists.{PassesOnce}
+use Rattle.fedi_town.specs.Objects.{makes, object_at}
+use Rattle.fedi_town.specs.Queues.{is_due, is_due_delivery, is_of_pair, queue}
+use Rattle.fedi_town.specs.Relations.{has_activity_id}
+use Rattle.fedi_town.specs.Replays.{acts_of, replay}
+use Rattle.fedi_town.specs.Seeing.{sees}
+use Rattle.fedi_town.specs.Towns.{Town, has_name, id_of}
+use Rattle.fedi_asks.specs.declared.ask.Ask.{Ask}
+use Rattle.fedi_asks.specs.Asks.{answer_of, entry_of, IsPostable}
+use Rattle.fedi_asks.specs.Cleanness.{is_clean_answer}
+use Rattle.fedi_asks.specs.Reading.{is_self}
+
+-- ---- what a caller may learn
+
+-- Legal histories that agree for a caller give the caller the same answer, whatever else stands in them.
+abbrev pub AnswersArePrivate : Type 0
+AnswersArePrivate =
+    (g h : List Entry) (c : Caller) (ask : Ask) → IsLegal g → IsLegal h → Agree (town g) (town h) c
+    → answer_of (town g) c ask ≡ answer_of (town h) c ask
+
+-- A member's post that changes nothing earlier changes nothing that a caller knows who does not see it. So the agreement is
+-- no empty one: a private post changes no answer to a stranger.
+abbrev pub UnseenPostsTellNothing : Type 0
+UnseenPostsTellNothing =
+    (history : List Entry) (host name : List ℕ) (repeat : Option (List ℕ × List ℕ)) (a : Activity) (moment : ℕ) (c : Caller)
+    → IsLegal history → (town history).host ≡ Some host → list_any (has_name name) (town history).actors ≡ true
+    → changes_nothing (deed_of a.kind) ≡ true
+    → sees (town history) c (local_act (town history) host name repeat a moment) ≡ false
+    → Agree (town (history ++ Local name repeat a moment ∷ [])) (town history) c
+
+-- The same holds of a delivery of a new id that changes nothing earlier and is no Follow.
+abbrev pub UnseenDeliveriesTellNothing : Type 0
+UnseenDeliveriesTellNothing =
+    (history : List Entry) (peer inbox owner author id : List ℕ) (a : Activity) (moment : ℕ) (c : Caller)
+    → id_of (town history) inbox ≡ Some owner → a.actor ≡ Some author → a.id ≡ Some id → is_known (town history) id ≡ false
+    → changes_nothing (deed_of a.kind) ≡ true → is_follow (deed_of a.kind) ≡ false
+    → sees (town history) c (remote_act (town history) owner author a moment) ≡ false
+    → Agree (town (history ++ Remote peer inbox a moment ∷ [])) (town history) c
+
+-- A delivery of a known id tells its inbox's owner alone.
+abbrev pub AddedInboxesTellTheirOwners : Type 0
+AddedInboxesTellTheirOwners =
+    (history : List Entry) (host peer inbox author id : List ℕ) (a : Activity) (moment : ℕ) (c : Caller)
+    → IsLegal history → (town history).host ≡ Some host → list_any (has_name inbox) (town history).actors ≡ true
+    → a.actor ≡ Some author → a.id ≡ Some id → is_known (town history) id ≡ true
+    → is_caller (town history) c ≡ true → is_self c inbox ≡ false
+    → Agree (town (history ++ Remote peer inbox a moment ∷ [])) (town history) c
+
+-- No answer, to whomever and for whatever, names those whom `bto` and `bcc` hide (ActivityPub, section 6).
+abbrev pub AnswersAreClean : Type 0
+AnswersAreClean = (t : Town) (c : Caller) (ask : Ask) → is_clean_answer (answer_of t c ask) ≡ true
+
+-- ---- objects and activities
+
+-- An object as it stands is the object that its Create made, changed by each Update that was done, one after the other, and
+-- a Tombstone from the Delete on that was done (ActivityPub, sections 6.2 to 6.4 and 7.2 to 7.4).
+abbrev pub ObjectsAreReplayed : Type 0
+ObjectsAreReplayed = (history : List Entry) (id : List ℕ) → object_at (town history) id ≡ replay id (acts_of history)
+
+-- Whatever comes after it, a Tombstone stays as it is.
+abbrev pub TombstonesStay : Type 0
+TombstonesStay =
+    (history later : List Entry) (id : List ℕ) (o : Object) → object_at (town history) id ≡ Some o → is_tombstone o ≡ true
+    → object_at (town (history ++ later)) id ≡ Some o
+
+-- No object is made twice.
+abbrev pub ObjectsAreMadeOnce : Type 0
+ObjectsAreMadeOnce = (history : List Entry) (id : List ℕ) → PassesOnce (makes id) (town history).acts
+
+-- In a legal history no two activities have one id: an activity that comes again acts no second time.
+abbrev pub ActivitiesAreThereOnce : Type 0
+ActivitiesAreThereOnce = (history : List Entry) → IsLegal history → (id : List ℕ) → PassesOnce (has_activity_id id) (town history).acts
+
+-- ---- the next entry
+
+-- The entry that an ask makes may come next, so a legal history stays legal by each ask.
+abbrev pub AsksKeepHistoriesLegal : Type 0
+AsksKeepHistoriesLegal =
+    (history : List Entry) (c : Caller) (ask : Ask) (moment : ℕ) (e : Entry) → IsLegal history
+    → IsPostable (town history) ask → entry_of (town history) c ask moment ≡ Some e → IsLegal (history ++ e ∷ [])
+
+-- the entry is an attempt to deliver this activity to this recipient
+abbrev pub is_attempt_of : List ℕ → List ℕ → Entry → Bool
+is_attempt_of id recipient (Hosted host moment) = false
+is_attempt_of id recipient (Made name digest locked moment) = false
+is_attempt_of id recipient (PeerSet host key address relay moment) = false
+is_attempt_of id recipient (Local name repeat a moment) = false
+is_attempt_of id recipient (Remote peer inbox a moment) = false
+is_attempt_of id recipient (Tried activity other came moment) =
+    is_of_pair id recipient (record { activity = activity; recipient = other; came = came; moment = moment })
+
+-- A delivery that is due stays due until it is tried.
+abbrev pub DueDeliveriesStayDue : Type 0
+DueDeliveriesStayDue =
+    (history later : List Entry) (id recipient : List ℕ) (m n : ℕ) → IsLegal (history ++ later)
+    → list_any (is_attempt_of id recipient) later ≡ false → m ≤ n
+    → is_due (town history) id recipient m ≡ true → is_due (town (history ++ later)) id recipient n ≡ true
+
+-- What is due is in the queue, and is due there.
+abbrev pub DueDeliveriesAreQueued : Type 0
+DueDeliveriesAreQueued =
+    (t : Town) (id recipient : List ℕ) (moment : ℕ)
+    → is_due t id recipient moment ≡ list_any (is_due_delivery id recipient moment) (queue t)
+
+-- ---- members
+
+-- In a legal history the name of a member is one, and the member's id is that of the name at the host.
+abbrev pub MembersHaveTheirIds : Type 0
+MembersHaveTheirIds =
+    (history : List Entry) (host name id : List ℕ) → IsLegal history → (town history).host ≡ Some host
+    → id_of (town history) name ≡ Some id → (is_name name ≡ true) × (id ≡ actor_id host name)

@@ -1,0 +1,25 @@
+//! Laws of what a history means, each the contract of a function that does nothing.
+#![tactic(auto)]
+
+mod club;
+mod histories;
+mod objects;
+mod privacy;
+
+pub use club::{
+    a_follow_goes_astray, a_follow_is_delivered, a_follower_is_blocked,
+    a_locked_member_is_followed, a_note_is_changed, a_note_is_deleted, a_note_is_delivered,
+    a_note_is_public, a_note_is_secret, a_reply_is_forwarded, a_tombstone_is_delivered,
+    followers_get_a_note, numbers_end, peers_deliver_their_own,
+};
+pub use histories::{
+    asks_keep_histories_legal, due_deliveries_are_queued, due_deliveries_stay_due,
+    members_have_their_ids,
+};
+pub use objects::{
+    activities_are_there_once, objects_are_made_once, objects_are_replayed, tombstones_stay,
+};
+pub use privacy::{
+    added_inboxes_tell_their_owners, answers_are_clean, answers_are_private,
+    unseen_deliveries_tell_nothing, unseen_posts_tell_nothing,
+};

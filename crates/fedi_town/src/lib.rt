@@ -1,0 +1,19 @@
+//! The town that a history makes: its members, peers, activities and attempts, the plain types that the
+//! definitions speak of, and the definitions.
+#![tactic(auto)]
+
+mod act;
+mod addition;
+mod caller;
+mod deed;
+mod effect;
+mod outcome;
+mod refusal;
+
+pub use act::{Act, Actor, Attempt, Peer};
+pub use addition::{Acceptance, Addition};
+pub use caller::{Caller, Which};
+pub use deed::Deed;
+pub use effect::Effect;
+pub use outcome::Outcome;
+pub use refusal::Refusal;
