@@ -7,7 +7,7 @@
 #[cfg(test)]
 mod address;
 #[cfg(test)]
-mod http;
+mod requests;
 #[cfg(test)]
 mod mac;
 #[cfg(test)]
