@@ -7,8 +7,6 @@
 #[cfg(test)]
 mod address;
 #[cfg(test)]
-mod requests;
-#[cfg(test)]
 mod mac;
 #[cfg(test)]
 mod objects;
@@ -18,5 +16,7 @@ mod outside;
 mod program;
 #[cfg(test)]
 mod reading;
+#[cfg(test)]
+mod requests;
 #[cfg(test)]
 mod routes;
