@@ -24,7 +24,7 @@ use Rattle.fedi_model.specs.ReplyText.{memory_text, reply_text}
 use Rattle.fedi_program.specs.declared.sessions.SessionEnd.{SessionEnd}
 use Rattle.fedi_program.specs.declared.sessions.SessionEnd.TheVariants as ends
 use Rattle.fedi_program.specs.Conversations.{Setting, Exchange, Progress, IsNow, IsReply, IsExchange, StandsAtFront, after, closes, text_of}
-use Rattle.fedi_program.specs.Endings.{BreaksOff, Exchanges, GivesUp, IsAnswerText, IsAt, IsTurn, IsUnanswered, Output, Replies, Scene, Steps, Writes, WritesUnlessFailed}
+use Rattle.fedi_program.specs.Endings.{BreaksOff, Exchanges, GivesUp, IsAnswerText, IsAt, IsCounted, IsTurn, IsUnanswered, Output, Replies, Scene, Steps, Writes, WritesUnlessFailed, faults_of}
 use Rattle.fedi_log.proofs.Keeping.{since_here, since_more, since_still, unchanged}
 
 -- ---- the bytes of the input
@@ -307,3 +307,10 @@ no_memory_steps w before now state log count old pending ending holds gives =
 pub now_of : (told : Option ℕ) (now moment : ℕ) → IfSome told (λ (m : ℕ). now ≡ m) → moment ≡ min now 253402300799 → IsNow told moment
 now_of None now moment same is = omega (arith, is)
 now_of (Some told) now moment same is = is ∙ ap (λ (n : ℕ). min n 253402300799) same
+
+-- ---- counts of faults
+
+-- no read failed
+pub counted_on : (old now before after_it : ℕ) (e : Option SessionEnd) → now ≡ old → IsCounted (faults_of now before) (faults_of now after_it) e
+    → IsCounted (faults_of old before) (faults_of now after_it) e
+counted_on old now before after_it e same x = subst (λ (r : ℕ). IsCounted (faults_of r before) (faults_of now after_it) e) same x

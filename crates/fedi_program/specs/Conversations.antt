@@ -201,6 +201,7 @@ failures xs = flat_map (λ (x : Exchange). failed_in x.outcome) xs
 abbrev pub IsAtFront : Option ℕ → Log → Exchange → Type 0
 IsAtFront by log x = (rest : Log) × (log ≡ (x.log ++ items_of by x.outcome) ++ rest)
 
+-- each does
 abbrev pub AreAtFronts : Option ℕ → Log → List Exchange → Type 0
 AreAtFronts by log [] = Unit {0}
 AreAtFronts by log (x ∷ xs) = IsAtFront by log x × AreAtFronts by log xs

@@ -82,3 +82,6 @@ pub returns-clause-unanswered : goal.returns-clause-unanswered
 returns-clause-unanswered g c =
     nothing_kept _ _ _ _ _ c.args.request.now c.args.body.now c.in-Err-keep.ensures.same
     (memory_by g.P.Keeper.room (code_of c.in-Some.entry) c.in-Err-keep.field-0.fault _ _ c.in-Memory.is c.in-Err-keep.ensures.refused)
+
+pub returns-in_err-ask-clause-unanswered : goal.returns-in_err-ask-clause-unanswered
+returns-in_err-ask-clause-unanswered g c = untexted _ _ _ _ _ c.args.request.now c.args.body.now c.from_residual.result (nothing_done _ _ _ _ c.args.request.now c.args.body.now)
