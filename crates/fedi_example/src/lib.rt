@@ -3,4 +3,4 @@
 
 mod town;
 
-pub use town::example_history;
+pub use town::{example_history, moment_is_fixed};

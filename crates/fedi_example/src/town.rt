@@ -205,3 +205,8 @@ pub fn example_history(alloc: Global) -> Result<Vec<Entry>, AllocError>
     history.push(post(alloc, "Psst", to_ben(alloc)?)?)?;
     Ok(history)
 }
+
+/// All of it happened at 1994-11-06T08:49:37Z.
+pub fn moment_is_fixed()
+    ensures { SECONDS ≡ 784111777 }
+{}

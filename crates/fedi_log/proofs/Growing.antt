@@ -51,7 +51,7 @@ none_own : (by : Option ℕ) (xs : Log) → All (IsOthers by) xs → filter (λ 
 none_own by [] a = refl
 none_own by (x ∷ xs) a =
     ap (λ (b : Bool). cond b (x ∷ filter (λ (i : Item). is_same_pass by i.pass) xs) (filter (λ (i : Item). is_same_pass by i.pass) xs))
-      (other_pass by x.pass (All-head (IsOthers by) x xs a))
+    (other_pass by x.pass (All-head (IsOthers by) x xs a))
     ∙ none_own by xs (All-tail (IsOthers by) x xs a)
 
 pub added_others : (by : Option ℕ) (a b : Log) → Goes by a b → Added by a b []

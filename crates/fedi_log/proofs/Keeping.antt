@@ -94,22 +94,22 @@ keeps_more b by before after log o k f =
     let opened : b.kept ≤ length log = k.opened in
     let past : since b (log ++ items_of by o) ≡ since b log ++ items_of by o = drop-append-le b.kept log (items_of by o) opened in
     let history : history_of (since b (log ++ items_of by o)) ≡ history_of (since b log) ++ kept_in o =
-      ap (λ (l : Log). history_of l) past ∙ history_more by o (since b log) in
+    ap (λ (l : Log). history_of l) past ∙ history_more by o (since b log) in
     let marks : length (marks_of (since b (log ++ items_of by o))) ≡ length (marks_of (since b log)) + length (failed_in o) =
-      ap (λ (l : Log). length (marks_of l)) past ∙ ap length (marks_more by o (since b log)) ∙ length-append (marks_of (since b log)) (failed_in o) in
+    ap (λ (l : Log). length (marks_of l)) past ∙ ap length (marks_more by o (since b log)) ∙ length-append (marks_of (since b log)) (failed_in o) in
     let grown : growth_of b.growth (history_of (since b log) ++ kept_in o) ≡ growth_of b.growth (history_of (since b log)) + growth_of b.growth (kept_in o) =
-      sum_by-append (λ (e : Entry). b.growth (length (code_of e))) (history_of (since b log)) (kept_in o) in
+    sum_by-append (λ (e : Entry). b.growth (length (code_of e))) (history_of (since b log)) (kept_in o) in
     let later : before.keeper.faults ≤ after.keeper.faults = faults_later before.keeper.faults after.keeper.faults o f.faults in
     let marked = faults_after b.shown.faults (length (marks_of (since b log))) before.keeper.faults after.keeper.faults (2 ^ 64 - 1) o refl k.faults f.faults in
     record {
       opened = let longer : length (log ++ items_of by o) ≡ length log + length (items_of by o) = length-append log (items_of by o) in omega (arith, opened, longer);
       records = f.records ∙ ap (λ (rs : Option (List (List ℕ))). with_records rs (kept_in o)) k.records
-        ∙ with_more b.shown.records (history_of (since b log)) (kept_in o) ∙ ap (λ (es : List Entry). with_records b.shown.records es) (sym history);
+          ∙ with_more b.shown.records (history_of (since b log)) (kept_in o) ∙ ap (λ (es : List Entry). with_records b.shown.records es) (sym history);
       end = f.end ∙ ap (λ (n : ℕ). n + growth_of b.growth (kept_in o)) k.end
-        ∙ (let sum : (b.shown.end + growth_of b.growth (history_of (since b log))) + growth_of b.growth (kept_in o) ≡ b.shown.end + growth_of b.growth (history_of (since b log) ++ kept_in o) = omega (arith, grown) in sum)
-        ∙ ap (λ (es : List Entry). b.shown.end + growth_of b.growth es) (sym history);
+          ∙ (let sum : (b.shown.end + growth_of b.growth (history_of (since b log))) + growth_of b.growth (kept_in o) ≡ b.shown.end + growth_of b.growth (history_of (since b log) ++ kept_in o) = omega (arith, grown) in sum)
+          ∙ ap (λ (es : List Entry). b.shown.end + growth_of b.growth es) (sym history);
       doubt = subst (λ (l : Log). IsDoubted (doubts_of (option_to_list b.shown.doubt) l) after.keeper.doubt) (sym past)
-        (doubt_after by (option_to_list b.shown.doubt) (since b log) before.keeper.doubt after.keeper.doubt o k.doubt f.doubt);
+          (doubt_after by (option_to_list b.shown.doubt) (since b log) before.keeper.doubt after.keeper.doubt o k.doubt f.doubt);
       later = let low = k.later in omega (arith, low, later);
       faults = rw marks marked;
     }

@@ -18,24 +18,29 @@ pub fn given_logs_hold_their_history()
 pub fn logs_go_on()
     ensures here { (by : Option ℕ) (log : Log) → Goes by log log }
     ensures on { (by : Option ℕ) (a b c : Log) → Goes by a b → Goes by b c → Goes by a c }
-    ensures more { (by : Option ℕ) (a b more : Log) → Goes by a b → All (IsOthers by) more → Goes by a (b ++ more) }
+    ensures more { (by : Option ℕ) (a b more : Log) → Goes by a b → All (IsOthers by) more
+        → Goes by a (b ++ more) }
 {}
 
 /// The items that a pass added are those that it added before and those that it added since.
 pub fn items_past_are_added()
     ensures others { (by : Option ℕ) (a b : Log) → Goes by a b → Added by a b [] }
-    ensures one { (by : Option ℕ) (a : Log) (what : What) → Added by a (a ++ made_by by what ∷ []) (made_by by what ∷ []) }
-    ensures both { (by : Option ℕ) (a b c xs ys : Log) → Added by a b xs → Added by b c ys → Added by a c (xs ++ ys) }
+    ensures one { (by : Option ℕ) (a : Log) (what : What)
+        → Added by a (a ++ made_by by what ∷ []) (made_by by what ∷ []) }
+    ensures both { (by : Option ℕ) (a b c xs ys : Log) → Added by a b xs → Added by b c ys
+        → Added by a c (xs ++ ys) }
 {}
 
 /// What a request adds to a log is told by its outcome: a kept entry ends all doubts, and one that the
 /// keeper failed to keep has its mark and may be in doubt.
 pub fn doubts_are_marked()
-    ensures marks { (by : Option ℕ) (o : Outcome) (log : Log) → marks_of (log ++ items_of by o) ≡ marks_of log ++ failed_in o }
+    ensures marks { (by : Option ℕ) (o : Outcome) (log : Log) → marks_of (log ++ items_of by o)
+        ≡ marks_of log ++ failed_in o }
     ensures kept { (by : Option ℕ) (e : Entry) (before : List (List ℕ)) (log : Log)
         → doubts_of before (log ++ items_of by (Outcome.Kept e)) ≡ [] }
     ensures failed { (by : Option ℕ) (e : Entry) (before : List (List ℕ)) (log : Log)
-        → doubts_of before (log ++ items_of by (Outcome.Failed e)) ≡ doubts_of before log ++ code_of e ∷ [] }
+        → doubts_of before (log ++ items_of by (Outcome.Failed e))
+        ≡ doubts_of before log ++ code_of e ∷ [] }
 {}
 
 /// A machine that is opened stands for the log of its history. A turn leaves it standing for the log with
@@ -43,8 +48,10 @@ pub fn doubts_are_marked()
 pub fn machines_stand_for_logs()
     ensures opened { (growth room : ℕ → ℕ) (by : Option ℕ) (opened : State)
         → HoldsSince (base_of growth room opened) by (given opened.history) opened (given opened.history) }
-    ensures more { (b : Base) (by : Option ℕ) (before after : State) (log : Log) (o : Outcome) → Holds b before log
+    ensures more { (b : Base) (by : Option ℕ) (before after : State) (log : Log) (o : Outcome)
+        → Holds b before log
         → Follows b.growth before after o → HoldsSince b by log after (log ++ items_of by o) }
-    ensures on { (b : Base) (by : Option ℕ) (x y z : Log) (before after : State) → HoldsSince b by x before y
+    ensures on { (b : Base) (by : Option ℕ) (x y z : Log) (before after : State)
+        → HoldsSince b by x before y
         → HoldsSince b by y after z → HoldsSince b by x after z }
 {}

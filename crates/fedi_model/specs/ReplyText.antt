@@ -90,6 +90,6 @@ reply_text moment head_only closing r =
     ++ (codes "\r\n"
     ++ body_text head_only r.body)))
 
--- the reply for want of memory (RFC 4918, section 11.5), of which no part is computed
+-- the reply of a server that is out of memory (RFC 4918, section 11.5), of which no part is computed
 unfoldable pub memory_text : List ℕ
 memory_text = codes "HTTP/1.1 507 Insufficient Storage\r\nContent-Length: 0\r\nConnection: close\r\n\r\n"

@@ -75,7 +75,7 @@ settled_reply : (room : ℕ → ℕ) (state : State) (moment : ℕ) (q : Request
     → IsPrivateReply state.history moment q body given → IsCleanBody given.body → IsReply room state.history state.keeper.end moment q body outcome given
 settled_reply room state moment q body c ask r made outcome given d settles private clean =
     let answer = subst (λ (m : Option Entry). Answers (town state.history) moment q body r m) (sym d.made_is)
-      (asked_answer (town state.history) moment q body c ask r d.caller d.asks d.reply_is) in
+    (asked_answer (town state.history) moment q body c ask r d.caller d.asks d.reply_is) in
     record { answer = (r, made, answer, settles); private = private; clean = clean }
 
 decided_private : (state : State) (moment : ℕ) (q : Request) (body : List ℕ) (c : Caller) (ask : Ask) (r : Reply) (made : Option Entry)
@@ -105,7 +105,7 @@ pub kept_turn : (growth room : ℕ → ℕ) (before after : State) (moment : ℕ
 kept_turn growth room before after moment q body c ask r e d k = record {
   outcome = Kept e;
   reply = settled_reply room before moment q body c ask r (Some e) (Kept e) r d (refl, k.fits, refl)
-    (decided_private before moment q body c ask r (Some e) d) (decided_clean before moment q body c ask r (Some e) d);
+      (decided_private before moment q body c ask r (Some e) d) (decided_clean before moment q body c ask r (Some e) d);
   follows = record {
     history = k.history;
     records = k.keeper.records;

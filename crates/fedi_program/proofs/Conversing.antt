@@ -107,19 +107,29 @@ ends_so w seen first before now log next old pending count Closed input held ste
       ends = subst (λ (q : Progress). Finishes w first now next q Closed) (sym more) step.2;
     }
 ends_so w seen first before now log next old pending count End input held steps = record {
-  exchanges = held.exchanges; each = held.each; ends = steps first (progress w (beginning input seen) held.exchanges) held.log_is held.count_is held.at;
+  exchanges = held.exchanges;
+  each = held.each;
+  ends = steps first (progress w (beginning input seen) held.exchanges) held.log_is held.count_is held.at;
 }
 ends_so w seen first before now log next old pending count CutShort input held steps = record {
-  exchanges = held.exchanges; each = held.each; ends = steps first (progress w (beginning input seen) held.exchanges) held.log_is held.count_is held.at;
+  exchanges = held.exchanges;
+  each = held.each;
+  ends = steps first (progress w (beginning input seen) held.exchanges) held.log_is held.count_is held.at;
 }
 ends_so w seen first before now log next old pending count ReadFault input held steps = record {
-  exchanges = held.exchanges; each = held.each; ends = steps first (progress w (beginning input seen) held.exchanges) held.log_is held.count_is held.at;
+  exchanges = held.exchanges;
+  each = held.each;
+  ends = steps first (progress w (beginning input seen) held.exchanges) held.log_is held.count_is held.at;
 }
 ends_so w seen first before now log next old pending count WriteFault input held steps = record {
-  exchanges = held.exchanges; each = held.each; ends = steps first (progress w (beginning input seen) held.exchanges) held.log_is held.count_is held.at;
+  exchanges = held.exchanges;
+  each = held.each;
+  ends = steps first (progress w (beginning input seen) held.exchanges) held.log_is held.count_is held.at;
 }
 ends_so w seen first before now log next old pending count Memory input held steps = record {
-  exchanges = held.exchanges; each = held.each; ends = steps first (progress w (beginning input seen) held.exchanges) held.log_is held.count_is held.at;
+  exchanges = held.exchanges;
+  each = held.each;
+  ends = steps first (progress w (beginning input seen) held.exchanges) held.log_is held.count_is held.at;
 }
 
 ends_told : (w : Setting) (seen : Log) (first : Output) (before now : Scene) (log next : Log) (old pending : List ℕ) (count : ℕ) (e : SessionEnd) (known : Option (List ℕ))

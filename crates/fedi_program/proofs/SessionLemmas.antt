@@ -24,7 +24,7 @@ use Rattle.fedi_model.specs.ReplyText.{memory_text, reply_text}
 use Rattle.fedi_program.specs.declared.sessions.SessionEnd.{SessionEnd}
 use Rattle.fedi_program.specs.declared.sessions.SessionEnd.TheVariants as ends
 use Rattle.fedi_program.specs.Conversations.{Setting, Exchange, Progress, IsNow, IsReply, IsExchange, StandsAtFront, after, closes, text_of}
-use Rattle.fedi_program.specs.Endings.{BreaksOff, Exchanges, GivesUp, IsAnswerText, IsAt, IsTurn, IsUnanswered, Output, Replies, Scene, Steps, Writes, WritesUnlessFailed}
+use Rattle.fedi_program.specs.Endings.{BreaksOff, Exchanges, GivesUp, IsAnswerText, IsAt, IsCounted, IsTurn, IsUnanswered, Output, Replies, Scene, Steps, Writes, WritesUnlessFailed, faults_of}
 use Rattle.fedi_log.proofs.Keeping.{since_here, since_more, since_still, unchanged}
 
 -- ---- the bytes of the input
@@ -86,19 +86,29 @@ replied : (w : Setting) (first : Output) (before now : Scene) (log : Log) (old p
     → Steps w first now log pending p ending
 replied w first before now log old pending p x true ending is next same at stands (inl sent) =
     let text : Writes before.output now.output (text_of p.count x) = rw (← is) sent.1 in
-    subst (λ (e : Option SessionEnd). Steps w first now log pending p e) (sym sent.0)
-    (x, next, (sym is, record {
-      written = writes_on first before.output now.output p.written (text_of p.count x) at.written text;
-      later = goes_to w.by (after w p x).log log same;
-    }))
+    subst (λ (e : Option SessionEnd). Steps w first now log pending p e) (sym sent.0) (
+      x,
+      next,
+      (
+        sym is,
+        record {
+          written = writes_on first before.output now.output p.written (text_of p.count x) at.written text;
+          later = goes_to w.by (after w p x).log log same;
+        },
+      ),
+    )
 replied w first before now log old pending p x false ending is next same at stands (inl sent) =
     let text : Writes before.output now.output (text_of p.count x) = rw (← is) sent.1 in
-    subst (λ (e : Option SessionEnd). Steps w first now log pending p e) (sym sent.0)
-    (x, next, same, record {
-      open_yet = sym is;
-      input = stands;
-      written = writes_on first before.output now.output p.written (text_of p.count x) at.written text;
-    })
+    subst (λ (e : Option SessionEnd). Steps w first now log pending p e) (sym sent.0) (
+      x,
+      next,
+      same,
+      record {
+        open_yet = sym is;
+        input = stands;
+        written = writes_on first before.output now.output p.written (text_of p.count x) at.written text;
+      },
+    )
 replied w first before now log old pending p x closing ending is next same at stands (inr sent) =
     let broken : BreaksOff before.output now.output [] (text_of p.count x) = rw (← is) sent.1 in
     subst (λ (e : Option SessionEnd). Steps w first now log pending p e) (sym sent.0)
@@ -148,10 +158,10 @@ answered_steps w before now state after_it log count old read q start end moment
       log ++ items_of w.by o,
       since_more w.base w.by state after_it log o holds turn.follows,
       λ first p same counted at.
-        replied w first before now (log ++ items_of w.by o) old (drop end read) p (asked q (slice_range p.left start end) (drop end p.left) log moment o r) closing ending
-        (is ∙ ap (λ (n : ℕ). closes n (Ok q)) (sym counted))
-        (exchange_of w first before now state after_it log old read p q start end moment r turn holds same at stream told low high is_now)
-        refl at (taken_off read now.input p.left end (stream ∙ at.input) high) reply,
+          replied w first before now (log ++ items_of w.by o) old (drop end read) p (asked q (slice_range p.left start end) (drop end p.left) log moment o r) closing ending
+          (is ∙ ap (λ (n : ℕ). closes n (Ok q)) (sym counted))
+          (exchange_of w first before now state after_it log old read p q start end moment r turn holds same at stream told low high is_now)
+          refl at (taken_off read now.input p.left end (stream ∙ at.input) high) reply,
     )
 
 -- out of memory: the other side was told so
@@ -191,14 +201,14 @@ unanswered_steps w before now state after_it log count old read pending q start 
       log ++ items_of w.by o,
       since_more w.base w.by state after_it log o holds a.2,
       λ first p same counted at.
-        let x = asked q (slice_range p.left start end) (drop end p.left) log moment o r in
-        given_up w first before now (log ++ items_of w.by o) old pending p ending at gives (λ text. record {
-          more = Some x;
-          open_yet = at.open_yet;
-          next = (exchange_of w first before now state after_it log old read p q start end moment r turn holds same at stream told low high is_now, refl);
-          later = goes_here w.by (log ++ items_of w.by o);
-          told = text;
-        }),
+          let x = asked q (slice_range p.left start end) (drop end p.left) log moment o r in
+          given_up w first before now (log ++ items_of w.by o) old pending p ending at gives (λ text. record {
+            more = Some x;
+            open_yet = at.open_yet;
+            next = (exchange_of w first before now state after_it log old read p q start end moment r turn holds same at stream told low high is_now, refl);
+            later = goes_here w.by (log ++ items_of w.by o);
+            told = text;
+          }),
     )
 
 -- ---- what is refused
@@ -216,15 +226,15 @@ refusal_steps w before now state log count old pending e moment text ending hold
       log ++ items_of w.by NoEntry,
       since_more w.base w.by state state log NoEntry holds (unchanged w.base.growth state state refl refl refl refl refl),
       λ first p same counted at.
-        replied w first before now (log ++ items_of w.by NoEntry) old pending p (turned_away e p.left log moment) true ending refl
-        (record {
-          open_yet = at.open_yet;
-          arrival = (told_of (λ bytes. StandsAtFront bytes (arrivals.Refused e)) (prepend_known old before.input) p.left at.input told, refl, refl);
-          now = is_now;
-          later = goes_to w.by p.log log same;
-          reply = (refl, refl);
-        })
-        refl at (stream ∙ at.input) reply,
+          replied w first before now (log ++ items_of w.by NoEntry) old pending p (turned_away e p.left log moment) true ending refl
+          (record {
+            open_yet = at.open_yet;
+            arrival = (told_of (λ bytes. StandsAtFront bytes (arrivals.Refused e)) (prepend_known old before.input) p.left at.input told, refl, refl);
+            now = is_now;
+            later = goes_to w.by p.log log same;
+            reply = (refl, refl);
+          })
+          refl at (stream ∙ at.input) reply,
     )
 
 -- ---- nothing more is to be answered, and nothing was sent
@@ -307,3 +317,10 @@ no_memory_steps w before now state log count old pending ending holds gives =
 pub now_of : (told : Option ℕ) (now moment : ℕ) → IfSome told (λ (m : ℕ). now ≡ m) → moment ≡ min now 253402300799 → IsNow told moment
 now_of None now moment same is = omega (arith, is)
 now_of (Some told) now moment same is = is ∙ ap (λ (n : ℕ). min n 253402300799) same
+
+-- ---- counts of faults
+
+-- no read failed
+pub counted_on : (old now before after_it : ℕ) (e : Option SessionEnd) → now ≡ old → IsCounted (faults_of now before) (faults_of now after_it) e
+    → IsCounted (faults_of old before) (faults_of now after_it) e
+counted_on old now before after_it e same x = subst (λ (r : ℕ). IsCounted (faults_of r before) (faults_of now after_it) e) same x

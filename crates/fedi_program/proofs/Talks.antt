@@ -53,7 +53,7 @@ pub own_of_conversation : (w : Setting) (seen log : Log) (input written : List �
 own_of_conversation w seen log input written xs c =
     subst (λ (l : Log). Added w.by seen log l) (append-nil (own_items w.by xs))
     (added_both w.by seen (progress w (beginning input seen) xs).log log (own_items w.by xs) []
-      (added_converse w (beginning input seen) xs c.each) (added_others w.by (progress w (beginning input seen) xs).log log c.later))
+    (added_converse w (beginning input seen) xs c.each) (added_others w.by (progress w (beginning input seen) xs).log log c.later))
 
 -- ---- each log is a front, and no two exchanges share an item
 
@@ -76,9 +76,9 @@ marks_exchange : (w : Setting) (p : Progress) (x : Exchange) → IsExchange w p 
 marks_exchange w p x held =
     let g = held.later in
     let seen : length (marks_of x.log) ≡ length (marks_of p.log) + length (marks_of g.rest) =
-      ap (λ (l : Log). length (marks_of l)) g.is ∙ ap length (marks_append p.log g.rest) ∙ length-append (marks_of p.log) (marks_of g.rest) in
+    ap (λ (l : Log). length (marks_of l)) g.is ∙ ap length (marks_append p.log g.rest) ∙ length-append (marks_of p.log) (marks_of g.rest) in
     let made : length (marks_of (after w p x).log) ≡ length (marks_of x.log) + length (failed_in x.outcome) =
-      ap length (marks_more w.by x.outcome x.log) ∙ length-append (marks_of x.log) (failed_in x.outcome) in
+    ap length (marks_more w.by x.outcome x.log) ∙ length-append (marks_of x.log) (failed_in x.outcome) in
     omega (arith, seen, made)
 
 pub failures_marked : (w : Setting) (p : Progress) (xs : List Exchange) → Converses w p xs
@@ -109,8 +109,8 @@ no_gaps w p (x ∷ xs) past rest held is own =
     let more = added_converse w (after w p x) xs held.1 in
     let tail : Log = items_of w.by x.outcome ++ (more.rest ++ rest) in
     let whole : (progress w p (x ∷ xs)).log ++ rest ≡ p.log ++ (g.rest ++ tail) =
-      ap (λ (l : Log). l ++ rest) more.is ∙ append_assoc (after w p x).log more.rest rest ∙ append_assoc x.log (items_of w.by x.outcome) (more.rest ++ rest)
-      ∙ ap (λ (l : Log). l ++ tail) g.is ∙ append_assoc p.log g.rest tail in
+    ap (λ (l : Log). l ++ rest) more.is ∙ append_assoc (after w p x).log more.rest rest ∙ append_assoc x.log (items_of w.by x.outcome) (more.rest ++ rest)
+    ∙ ap (λ (l : Log). l ++ tail) g.is ∙ append_assoc p.log g.rest tail in
     let same : past ≡ g.rest ++ tail = append_cancel_left p.log past (g.rest ++ tail) (is ∙ whole) in
     let parts : All (λ (i : Item). i.pass ≡ w.by) (g.rest ++ tail) = subst (λ (l : Log). All (λ (i : Item). i.pass ≡ w.by) l) same own in
     let none : g.rest ≡ [] = no_others w.by g.rest tail g.others parts in
@@ -118,5 +118,5 @@ no_gaps w p (x ∷ xs) past rest held is own =
     let mine : All (λ (i : Item). i.pass ≡ w.by) tail = own_after w.by g.rest tail parts in
     let left : All (λ (i : Item). i.pass ≡ w.by) (more.rest ++ rest) = own_after w.by (items_of w.by x.outcome) (more.rest ++ rest) mine in
     let join : (after w p x).log ++ (more.rest ++ rest) ≡ (progress w (after w p x) xs).log ++ rest =
-      sym (ap (λ (l : Log). l ++ rest) more.is ∙ append_assoc (after w p x).log more.rest rest) in
+    sym (ap (λ (l : Log). l ++ rest) more.is ∙ append_assoc (after w p x).log more.rest rest) in
     (here, no_gaps w (after w p x) xs (more.rest ++ rest) rest held.1 join left)

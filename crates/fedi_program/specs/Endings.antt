@@ -49,6 +49,10 @@ pub record Scene : Type 0 where
 abbrev pub scene_of : Option (List ℕ) → Output → Scene
 scene_of input output = record { input = input; output = output }
 
+-- the scene of this source and this sink, by what tells of such
+abbrev pub scene_by : {S O : Type 0} → (S → Option (List ℕ)) → (O → Option (List ℕ)) → (O → ℕ) → S → O → Scene
+scene_by left sent faults input out = scene_of (left input) (output_by sent faults out)
+
 -- ---- what is sent
 
 -- the text was sent, and no write failed
@@ -192,9 +196,13 @@ pub record Faults : Type 0 where
   pub reads : ℕ
   pub writes : ℕ
 
--- the counts of these
+-- these counts
 abbrev pub faults_of : ℕ → ℕ → Faults
 faults_of reads writes = record { reads = reads; writes = writes }
+
+-- the counts of this source and this sink, by what tells of such
+abbrev pub faults_by : {S O : Type 0} → (S → ℕ) → (O → ℕ) → S → O → Faults
+faults_by reads writes input out = faults_of (reads input) (writes out)
 
 -- an end that tells of a fault has its cause: that count rose by one, and no other did
 abbrev pub IsCaused : Faults → Faults → SessionEnd → Type 0

@@ -14,22 +14,23 @@ use fedi_outside::Keeper;
 use fedi_routes::{credentials, route};
 use std::alloc::{AllocError, Global};
 
-/// The text of the reply that tells a refusal; the connection is told to close if `closing`. The error
-/// is out of memory.
+/// The text of the reply that tells a refusal; the connection is told to close if `closing`. The
+/// error is out of memory.
 pub fn refusal_text(
     alloc: Global,
     refusal: Refusal,
     moment: Moment,
     closing: bool,
 ) -> Result<Vec<u8>, AllocError>
-    ensures { IfOk result (λ text. text.items ≡ reply_text moment false closing (refused refusal)) }
+    ensures { IfOk result (λ text.
+        text.items ≡ reply_text moment false closing (refused refusal)) }
 {
     reply_bytes(alloc, &refusal_reply(refusal), moment, false, closing)
 }
 
 /// Answers a request that has this body in one turn of the machine, and hands back the text of the
-/// reply; the connection is told to close if `closing`. The reply to a post is made before the post is
-/// kept. The error is out of memory, and then nothing was kept.
+/// reply; the connection is told to close if `closing`. The reply to a post is made before the post
+/// is kept. The error is out of memory, and then nothing was kept.
 pub fn answer<P: Keeper>(
     alloc: Global,
     core: &mut Core<P>,

@@ -5,18 +5,20 @@ ghost use Rattle.fedi_log.specs.declared.items.Item.{Item};
 ghost use Rattle.fedi_log.specs.Log.{Added, IsOthers, Log, marks_of};
 ghost use Rattle.fedi_program.specs.Conversations.{AreAtFronts, AreCalm, Conversation, Converses, Exchange, IsAtEnd, NoGaps, Progress, Setting, StandApart, failures, own_items, progress};
 
-/// A conversation that nobody else adds to the log of has no gaps: each request is answered at the log
-/// that the one before it left.
+/// A conversation that nobody else adds to the log of has no gaps: each request is answered at the
+/// log that the one before it left.
 pub fn conversations_have_no_gaps()
     ensures { (w : Setting) (p : Progress) (xs : List Exchange) (past rest : Log) → Converses w p xs
-        → p.log ++ past ≡ (progress w p xs).log ++ rest → All (λ (i : Item). i.pass ≡ w.by) past → NoGaps w p xs }
+        → p.log ++ past ≡ (progress w p xs).log ++ rest → All (λ (i : Item). i.pass ≡ w.by) past
+        → NoGaps w p xs }
 {}
 
-/// Over one input, at one moment and from one beginning there is one conversation without gaps with a
-/// keeper that never fails: the replies, the bytes and the entries are determined.
+/// Over one input, at one moment and from one beginning there is one conversation without gaps with
+/// a keeper that never fails: the replies, the bytes and the entries are determined.
 pub fn conversations_are_determined()
-    ensures { (w : Setting) (seconds : ℕ) (p : Progress) (xs ys : List Exchange) → w.told ≡ Some seconds
-        → Converses w p xs → Converses w p ys → NoGaps w p xs → NoGaps w p ys → AreCalm xs → AreCalm ys
+    ensures { (w : Setting) (seconds : ℕ) (p : Progress) (xs ys : List Exchange)
+        → w.told ≡ Some seconds → Converses w p xs → Converses w p ys
+        → NoGaps w p xs → NoGaps w p ys → AreCalm xs → AreCalm ys
         → IsAtEnd (progress w p xs) → IsAtEnd (progress w p ys) → xs ≡ ys }
 {}
 
@@ -36,8 +38,8 @@ pub fn conversations_own_their_items()
 
 /// Each request is answered at a place of the log, its own item stands there, and no two share one.
 pub fn conversations_stand_in_the_log()
-    ensures fronts { (w : Setting) (p : Progress) (xs : List Exchange) (log rest : Log) → Converses w p xs
-        → log ≡ (progress w p xs).log ++ rest → AreAtFronts w.by log xs }
+    ensures fronts { (w : Setting) (p : Progress) (xs : List Exchange) (log rest : Log)
+        → Converses w p xs → log ≡ (progress w p xs).log ++ rest → AreAtFronts w.by log xs }
     ensures apart { (w : Setting) (p : Progress) (xs : List Exchange)
         → Converses w p xs → StandApart w.by (length p.log) xs }
 {}

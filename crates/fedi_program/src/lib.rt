@@ -1,5 +1,5 @@
-//! The program over whatever lies outside: its commands, the sessions that it serves, and the adapters to the real input,
-//! output and clock.
+//! The program over whatever lies outside: its commands, the sessions that it serves, and the adapters
+//! to the real input, output and clock.
 #![tactic(auto)]
 
 mod adapters;

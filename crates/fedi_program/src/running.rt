@@ -5,7 +5,7 @@ ghost use Rattle.fedi_log.specs.Keeping.{state_of};
 ghost use Rattle.fedi_log.specs.Log.{given};
 ghost use Rattle.fedi_model.specs.Histories.{IsLegal};
 ghost use Rattle.fedi_program.specs.Commands.{command_of};
-ghost use Rattle.fedi_program.specs.Endings.{HasCauses, HoldsALog, Prints, RunsTo, TalksIfTold, WritesUnlessFailed, faults_of, is_status, output_by, scene_of, setting_of, status_of};
+ghost use Rattle.fedi_program.specs.Endings.{HasCauses, HoldsALog, Prints, RunsTo, TalksIfTold, WritesUnlessFailed, faults_by, is_status, output_by, scene_by, setting_of, status_of};
 ghost use Rattle.fedi_program.specs.Usage.{usage_text};
 
 use crate::commands::{Command, command_of};
@@ -79,16 +79,16 @@ fn inetd<S: Source, O: Sink, P: Keeper, C: Clock>(
     keeper: P,
 ) -> Ended<P>
     requires { IsLegal history.items }
-    ensures session {
-        let opened = state_of history.items (P.shown keeper) in
+    ensures session { let opened = state_of history.items (P.shown keeper) in
         RunsTo (setting_of P.growth P.room (C.told connection.old.clock) opened) opened
-            (scene_of (S.left connection.old.input) (output_by O.sent O.write_faults connection.old.out))
-            (scene_of (S.left connection.new.input) (output_by O.sent O.write_faults connection.new.out))
-            (state_of result.history.items (P.shown result.keeper)) result.status }
+        (scene_by S.left O.sent O.write_faults connection.old.input connection.old.out)
+        (scene_by S.left O.sent O.write_faults connection.new.input connection.new.out)
+        (state_of result.history.items (P.shown result.keeper)) result.status }
     ensures legal { IsLegal result.history.items }
     ensures causes { HasCauses
-        (faults_of (S.read_faults connection.old.input) (O.write_faults connection.old.out))
-        (faults_of (S.read_faults connection.new.input) (O.write_faults connection.new.out)) result.status }
+        (faults_by S.read_faults O.write_faults connection.old.input connection.old.out)
+        (faults_by S.read_faults O.write_faults connection.new.input connection.new.out)
+        result.status }
     ensures statuses { IsTrue (is_status result.status) }
     ensures accepted { result.status ≢ 2 }
     ensures clock { connection.new.clock ≡ connection.old.clock }
@@ -113,9 +113,9 @@ fn inetd<S: Source, O: Sink, P: Keeper, C: Clock>(
 
 /// Runs the program on the arguments after its name.
 ///
-/// `usage` prints the arguments that the program takes. `inetd STORE` serves one connection: it answers
-/// the requests on the input one after the other, and keeps what they make. Until stores exist it
-/// begins at the given history, and keeps the entries with the given keeper. Other arguments are
+/// `usage` prints the arguments that the program takes. `inetd STORE` serves one connection: it
+/// answers the requests on the input one after the other, and keeps what they make. Until stores exist
+/// it begins at the given history, and keeps the entries with the given keeper. Other arguments are
 /// answered with the usage.
 ///
 /// | Status | When |
@@ -127,7 +127,7 @@ fn inetd<S: Source, O: Sink, P: Keeper, C: Clock>(
 /// | 8 | the input ended inside a request |
 /// | 12 | out of memory |
 ///
-/// The history comes back with the entries that were made, and so does the keeper with their records.
+/// The history comes back with the entries that were made, and the keeper with their records.
 pub fn run<S: Source, O: Sink, P: Keeper, C: Clock>(
     alloc: Global,
     arguments: &[String],
@@ -143,49 +143,49 @@ pub fn run<S: Source, O: Sink, P: Keeper, C: Clock>(
 
     // At 0 the whole conversation over the input was held: each request has the reply that the
     // machine gives at the history so far, which each history that agrees on what the caller may
-    // know gives too, or one that tells of the keeper and has its cause there. What was kept are the
-    // entries that were acknowledged.
-    ensures talk {
-        let opened = state_of history.items (P.shown keeper) in
+    // know gives too, or one that tells of the keeper and has its cause there. What was kept are
+    // the entries that were acknowledged.
+    ensures talk { let opened = state_of history.items (P.shown keeper) in
         command_of (map string_bytes arguments.now) ≡ Some Command.Inetd → result.status ≡ 0
-        → TalksIfTold (setting_of P.growth P.room (C.told connection.old.clock) opened) (given history.items)
-            (scene_of (S.left connection.old.input) (output_by O.sent O.write_faults connection.old.out))
-            (scene_of (S.left connection.new.input) (output_by O.sent O.write_faults connection.new.out))
-            (state_of result.history.items (P.shown result.keeper)) }
+        → TalksIfTold (setting_of P.growth P.room (C.told connection.old.clock) opened)
+        (given history.items)
+        (scene_by S.left O.sent O.write_faults connection.old.input connection.old.out)
+        (scene_by S.left O.sent O.write_faults connection.new.input connection.new.out)
+        (state_of result.history.items (P.shown result.keeper)) }
 
     // At every other status, too, it is a conversation as far as it went.
-    ensures session {
-        let opened = state_of history.items (P.shown keeper) in
+    ensures session { let opened = state_of history.items (P.shown keeper) in
         command_of (map string_bytes arguments.now) ≡ Some Command.Inetd
         → RunsTo (setting_of P.growth P.room (C.told connection.old.clock) opened) opened
-            (scene_of (S.left connection.old.input) (output_by O.sent O.write_faults connection.old.out))
-            (scene_of (S.left connection.new.input) (output_by O.sent O.write_faults connection.new.out))
-            (state_of result.history.items (P.shown result.keeper)) result.status }
+        (scene_by S.left O.sent O.write_faults connection.old.input connection.old.out)
+        (scene_by S.left O.sent O.write_faults connection.new.input connection.new.out)
+        (state_of result.history.items (P.shown result.keeper)) result.status }
 
     // Whatever the input, the history comes back legal, and the entries that the run made are the
     // records that came to the keeper.
     ensures legal { IsLegal result.history.items }
-    ensures kept {
-        let opened = state_of history.items (P.shown keeper) in
-        HoldsALog (setting_of P.growth P.room (C.told connection.old.clock) opened) (given history.items)
-            (state_of result.history.items (P.shown result.keeper)) }
+    ensures kept { let opened = state_of history.items (P.shown keeper) in
+        HoldsALog (setting_of P.growth P.room (C.told connection.old.clock) opened)
+        (given history.items)
+        (state_of result.history.items (P.shown result.keeper)) }
 
     // The usage is printed whole, unless a write failed. Nothing is read, and nothing is kept.
     ensures usage { command_of (map string_bytes arguments.now) ≡ Some Command.Usage
         → Prints (output_by O.sent O.write_faults connection.old.out)
-            (output_by O.sent O.write_faults connection.new.out) usage_text result.status }
+        (output_by O.sent O.write_faults connection.new.out) usage_text result.status }
     ensures refused { result.status ≡ 2
         → WritesUnlessFailed (output_by O.sent O.write_faults connection.old.out)
-            (output_by O.sent O.write_faults connection.new.out) [] usage_text }
+        (output_by O.sent O.write_faults connection.new.out) [] usage_text }
     ensures idle { command_of (map string_bytes arguments.now) ≢ Some Command.Inetd
         → (connection.new.input ≡ connection.old.input) × (result.history.items ≡ history.items)
-            × (result.keeper ≡ keeper) }
+        × (result.keeper ≡ keeper) }
 
-    // A failure has its cause outside: the count of failed reads rose exactly at 6, and that of failed
-    // writes at 7.
+    // A failure has its cause outside: the count of failed reads rose exactly at 6, and that of
+    // failed writes at 7.
     ensures causes { HasCauses
-        (faults_of (S.read_faults connection.old.input) (O.write_faults connection.old.out))
-        (faults_of (S.read_faults connection.new.input) (O.write_faults connection.new.out)) result.status }
+        (faults_by S.read_faults O.write_faults connection.old.input connection.old.out)
+        (faults_by S.read_faults O.write_faults connection.new.input connection.new.out)
+        result.status }
     ensures clock { connection.new.clock ≡ connection.old.clock }
 {
     match command_of(arguments) {

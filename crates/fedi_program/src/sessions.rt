@@ -4,7 +4,7 @@ ghost use Rattle.std.specs.Prelude.{◌≡◌, ◌||◌, ◌-◌, ℕ, nat_le, n
 ghost use Rattle.fedi_log.specs.Keeping.{Holds, State, base_of, state_of};
 ghost use Rattle.fedi_log.specs.Log.{Log, given};
 ghost use Rattle.fedi_program.specs.Conversations.{most_requests};
-ghost use Rattle.fedi_program.specs.Endings.{EndsSession, Exchanges, GivesUp, IsCaused, IsCounted, Replies, faults_of, output_by, scene_of, setting_of};
+ghost use Rattle.fedi_program.specs.Endings.{EndsSession, Exchanges, GivesUp, IsCaused, IsCounted, Replies, faults_by, faults_of, output_by, scene_by, setting_of};
 
 use crate::answers::{answer, refusal_text};
 use crate::connection::Connection;
@@ -44,9 +44,9 @@ fn send_reply<O: Sink>(
 ) -> Option<SessionEnd>
     ensures sent { MatchResult text
         (λ text. Replies (output_by O.sent O.write_faults out.old)
-            (output_by O.sent O.write_faults out.new) text.items closing result)
+        (output_by O.sent O.write_faults out.new) text.items closing result)
         (λ _. GivesUp (output_by O.sent O.write_faults out.old)
-            (output_by O.sent O.write_faults out.new) result) }
+        (output_by O.sent O.write_faults out.new) result) }
     ensures counted { (reads : ℕ) → IsCounted (faults_of reads (O.write_faults out.old))
         (faults_of reads (O.write_faults out.new)) result }
 {
@@ -63,8 +63,8 @@ fn send_reply<O: Sink>(
     }
 }
 
-/// Whether a request is the last on its connection, after so many were served: it asks to close, or no
-/// more are served (RFC 9112, section 9.6).
+/// Whether a request is the last on its connection, after so many were served: it asks to close, or
+/// no more are served (RFC 9112, section 9.6).
 fn is_last(request: &Request, served: u64) -> bool
     ensures { result ≡ (not request.now.keep_alive || nat_le (most_requests - 1) served) }
 {
@@ -82,14 +82,18 @@ fn exchange<S: Source, O: Sink, P: Keeper, C: Clock>(
 ) -> Option<SessionEnd>
     // From each log for which the machine stands, it goes on.
     ensures steps { (opened : State) (log : Log)
-        → Holds (base_of P.growth P.room opened) (state_of core.old.history (P.shown core.old.keeper)) log
+        → Holds (base_of P.growth P.room opened)
+        (state_of core.old.history (P.shown core.old.keeper)) log
         → Exchanges (setting_of P.growth P.room (C.told connection.old.clock) opened) log served
-            (scene_of (S.left connection.old.input) (output_by O.sent O.write_faults connection.old.out)) buffer.old
-            (scene_of (S.left connection.new.input) (output_by O.sent O.write_faults connection.new.out)) buffer.new
-            (state_of core.new.history (P.shown core.new.keeper)) result }
+        (scene_by S.left O.sent O.write_faults connection.old.input connection.old.out)
+        buffer.old
+        (scene_by S.left O.sent O.write_faults connection.new.input connection.new.out)
+        buffer.new
+        (state_of core.new.history (P.shown core.new.keeper)) result }
     ensures counted { IsCounted
-        (faults_of (S.read_faults connection.old.input) (O.write_faults connection.old.out))
-        (faults_of (S.read_faults connection.new.input) (O.write_faults connection.new.out)) result }
+        (faults_by S.read_faults O.write_faults connection.old.input connection.old.out)
+        (faults_by S.read_faults O.write_faults connection.new.input connection.new.out)
+        result }
     ensures clock { connection.new.clock ≡ connection.old.clock }
 {
     match read_request(alloc, &mut connection.input, buffer) {
@@ -122,15 +126,16 @@ pub fn session<S: Source, O: Sink, P: Keeper, C: Clock>(
 ) -> SessionEnd
     // From the history that the machine has, the log goes on by what is kept and what the keeper
     // fails to keep. If the input is told, what was read and written is one conversation over it.
-    ensures ends {
-        let opened = state_of core.old.history (P.shown core.old.keeper) in
-        EndsSession (setting_of P.growth P.room (C.told connection.old.clock) opened) (given core.old.history)
-            (scene_of (S.left connection.old.input) (output_by O.sent O.write_faults connection.old.out))
-            (scene_of (S.left connection.new.input) (output_by O.sent O.write_faults connection.new.out))
-            (state_of core.new.history (P.shown core.new.keeper)) result }
+    ensures ends { let opened = state_of core.old.history (P.shown core.old.keeper) in
+        EndsSession (setting_of P.growth P.room (C.told connection.old.clock) opened)
+        (given core.old.history)
+        (scene_by S.left O.sent O.write_faults connection.old.input connection.old.out)
+        (scene_by S.left O.sent O.write_faults connection.new.input connection.new.out)
+        (state_of core.new.history (P.shown core.new.keeper)) result }
     ensures causes { IsCaused
-        (faults_of (S.read_faults connection.old.input) (O.write_faults connection.old.out))
-        (faults_of (S.read_faults connection.new.input) (O.write_faults connection.new.out)) result }
+        (faults_by S.read_faults O.write_faults connection.old.input connection.old.out)
+        (faults_by S.read_faults O.write_faults connection.new.input connection.new.out)
+        result }
     ensures clock { connection.new.clock ≡ connection.old.clock }
 {
     let mut buffer = Buffer::new(alloc);

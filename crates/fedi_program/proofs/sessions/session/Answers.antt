@@ -24,7 +24,7 @@ returns-in-Some-clause-ends g c =
     stands_over (setting_of g.P.Keeper.growth g.P.Keeper.room (g.C.Clock.told c.args.connection.now.clock) opened) (given c.args.core.now.history) first before after_it
     c.loop-served.buffer c.exchange.new.buffer was state c.loop-served.served c.in-Some.end held.stands
     (λ log holds. told_on g.P.Keeper.growth g.P.Keeper.room (g.C.Clock.told c.args.connection.now.clock) (g.C.Clock.told c.loop-served.connection.clock) opened log c.loop-served.served
-      before c.loop-served.buffer after_it c.exchange.new.buffer state (Some c.in-Some.end) (ap g.C.Clock.told held.clock) (c.in-Some.ensures.steps opened log holds))
+    before c.loop-served.buffer after_it c.exchange.new.buffer state (Some c.in-Some.end) (ap g.C.Clock.told held.clock) (c.in-Some.ensures.steps opened log holds))
 
 pub returns-in-Some-clause-causes : goal.returns-in-Some-clause-causes
 returns-in-Some-clause-causes g c = caused_on _ _ _ c.in-Some.end c.loop-served.invariant.counted c.in-Some.ensures.counted
@@ -43,8 +43,8 @@ loop-served-preserved g c =
     let after_it = scene_of (g.S.Source.left c.exchange.new.connection.input) (output_by g.O.Sink.sent g.O.Sink.write_faults c.exchange.new.connection.out) in
     record {
       stands = stands_next (setting_of g.P.Keeper.growth g.P.Keeper.room (g.C.Clock.told c.args.connection.now.clock) opened) (given c.args.core.now.history) first before after_it
-        c.loop-served.buffer c.exchange.new.buffer was state c.loop-served.served held.stands
-        (λ log holds. told_on g.P.Keeper.growth g.P.Keeper.room (g.C.Clock.told c.args.connection.now.clock) (g.C.Clock.told c.loop-served.connection.clock) opened log c.loop-served.served
+          c.loop-served.buffer c.exchange.new.buffer was state c.loop-served.served held.stands
+          (λ log holds. told_on g.P.Keeper.growth g.P.Keeper.room (g.C.Clock.told c.args.connection.now.clock) (g.C.Clock.told c.loop-served.connection.clock) opened log c.loop-served.served
           before c.loop-served.buffer after_it c.exchange.new.buffer state None (ap g.C.Clock.told held.clock) (c.in_default.ensures.steps opened log holds));
       counted = c.in_default.ensures.counted ∙ held.counted;
       clock = c.exchange.ensures.clock ∙ held.clock;
