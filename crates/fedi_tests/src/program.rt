@@ -38,20 +38,22 @@ struct Case<'a> {
     seconds: u64,
 }
 
-/// A connection over the whole example town, at which nothing fails.
-const INETD: Case<'static> = Case {
-    arguments: &["inetd", "STORE"],
-    entries: 7,
-    input: &[],
-    cut_at: usize::MAX,
-    in_bytes: false,
-    failing_reads: &[],
-    write_limit: usize::MAX,
-    failing_writes: &[],
-    failing_keeps: &[],
-    end: 0,
-    seconds: SECONDS,
-};
+/// A connection over so many entries, at which nothing fails.
+fn inetd<'a>(entries: usize, input: &'a [&'a str]) -> Case<'a> {
+    Case {
+        arguments: &["inetd", "STORE"],
+        entries,
+        input,
+        cut_at: usize::MAX,
+        in_bytes: false,
+        failing_reads: &[],
+        write_limit: usize::MAX,
+        failing_writes: &[],
+        failing_keeps: &[],
+        end: 0,
+        seconds: SECONDS,
+    }
+}
 
 /// What a run left: its status, how many entries came back, what it kept and what it wrote.
 #[derive(Drop)]
@@ -81,12 +83,12 @@ fn joined(alloc: Global, texts: &[&str]) -> Result<Vec<u8>, AllocError> {
     Ok(bytes)
 }
 
-fn arguments_of(alloc: Global, case: &Case) -> Result<Vec<String>, AllocError> {
-    let mut arguments = Vec::new(alloc);
-    for argument in case.arguments {
-        arguments.push(String::from_str(alloc, argument)?)?;
+/// Appends a copy of each text.
+fn push_copies(alloc: Global, copies: &mut Vec<String>, texts: &[&str]) -> Result<(), AllocError> {
+    for text in texts {
+        copies.push(String::from_str(alloc, text)?)?;
     }
-    Ok(arguments)
+    Ok(())
 }
 
 fn source_of(alloc: Global, case: &Case) -> Result<MemorySource, AllocError> {
@@ -115,30 +117,34 @@ fn connection_of(
     })
 }
 
-/// What the run left.
-fn left_by(alloc: Global, case: &Case) -> Result<Outcome, AllocError> {
-    let failing = case.failing_keeps.to_vec(alloc)?;
-    let keeper = MemoryKeeper::at(alloc, case.end).failing(failing);
-    let arguments = arguments_of(alloc, case)?;
-    let mut connection = connection_of(alloc, case)?;
-    let history = younger_town(alloc, case.entries)?;
-    let ended = run(alloc, &arguments, &mut connection, history, keeper);
-    Ok(Outcome {
+/// What a run with these arguments left in the connection, and with this keeper.
+fn left_in(
+    alloc: Global,
+    arguments: &[String],
+    mut connection: Connection<MemorySource, MemorySink, FixedClock>,
+    history: Vec<Entry>,
+    keeper: MemoryKeeper,
+) -> Outcome
+    requires { IsLegal history.items }
+{
+    let ended = run(alloc, arguments, &mut connection, history, keeper);
+    Outcome {
         status: ended.status,
         entries: ended.history.len(),
         keeper: ended.keeper,
         out: connection.out,
-    })
+    }
 }
 
-/// What a connection over so many entries left, at which nothing fails.
-fn left_over(alloc: Global, entries: usize, input: &[&str]) -> Result<Outcome, AllocError> {
-    let case = Case {
-        entries,
-        input,
-        ..INETD
-    };
-    left_by(alloc, &case)
+/// What the run left.
+fn left_by(alloc: Global, case: &Case) -> Result<Outcome, AllocError> {
+    let mut arguments = Vec::new(alloc);
+    push_copies(alloc, &mut arguments, case.arguments)?;
+    let failing = case.failing_keeps.to_vec(alloc)?;
+    let keeper = MemoryKeeper::at(alloc, case.end).failing(failing);
+    let connection = connection_of(alloc, case)?;
+    let history = younger_town(alloc, case.entries)?;
+    Ok(left_in(alloc, &arguments, connection, history, keeper))
 }
 
 /// Whether these bytes are those of the texts, one after another.
@@ -153,7 +159,15 @@ fn are_texts(bytes: &[u8], texts: &[&str]) -> bool {
     rest.is_empty()
 }
 
-/// Whether the run ends with this status, has written these texts, and has kept so many entries.
+/// Whether this was left after a run over so many entries: the status, the texts that were written, and so many entries kept.
+fn is_left(left: &Outcome, entries: usize, status: u8, wanted: &[&str], kept: usize) -> bool {
+    left.status == status
+        && are_texts(left.out.bytes(), wanted)
+        && left.keeper.records().len() == kept
+        && left.entries.checked_sub(kept) == Some(entries)
+}
+
+/// Whether the run leaves that.
 fn ends(
     alloc: Global,
     case: &Case,
@@ -162,15 +176,10 @@ fn ends(
     kept: usize,
 ) -> Result<bool, AllocError> {
     let left = left_by(alloc, case)?;
-    Ok(
-        left.status == status
-            && are_texts(left.out.bytes(), wanted)
-            && left.keeper.records().len() == kept
-            && left.entries.checked_sub(kept) == Some(case.entries),
-    )
+    Ok(is_left(&left, case.entries, status, wanted, kept))
 }
 
-/// The same of a connection over so many entries whose input comes in one piece, and a byte at a time.
+/// Whether a connection over so many entries leaves that, if its input comes in one piece and if it comes a byte at a time.
 fn replies(
     alloc: Global,
     entries: usize,
@@ -179,18 +188,10 @@ fn replies(
     wanted: &[&str],
     kept: usize,
 ) -> Result<bool, AllocError> {
-    let whole = Case {
-        entries,
-        input,
-        ..INETD
-    };
-    let bytes = Case {
-        entries,
-        input,
-        in_bytes: true,
-        ..INETD
-    };
-    Ok(ends(alloc, &whole, status, wanted, kept)? && ends(alloc, &bytes, status, wanted, kept)?)
+    let mut case = inetd(entries, input);
+    let is_left = ends(alloc, &case, status, wanted, kept)?;
+    case.in_bytes = true;
+    Ok(ends(alloc, &case, status, wanted, kept)? && is_left)
 }
 
 const USAGE: &str =
@@ -211,19 +212,21 @@ const ARGUMENTS: [(&[&str], &[u64], u8, &str); 11] = [
     (&["fly"], &[2], 2, "fedi usage\nfedi in"),
 ];
 
+fn has_arguments(alloc: Global, row: &(&[&str], &[u64], u8, &str)) -> Result<bool, AllocError> {
+    let (arguments, failing_writes, status, wanted) = *row;
+    let case = Case {
+        arguments,
+        write_limit: 9,
+        failing_writes,
+        ..inetd(7, &[])
+    };
+    ends(alloc, &case, status, &[wanted], 0)
+}
+
 #[test]
 fn arguments_have_a_status(rt: HostRuntime) -> Result<(), Fail> {
-    for (arguments, failing_writes, status, wanted) in ARGUMENTS {
-        let case = Case {
-            arguments,
-            write_limit: 9,
-            failing_writes,
-            ..INETD
-        };
-        assert!(rt;
-            ends(rt.alloc(), &case, status, &[wanted], 0)?,
-            "{arguments:?}"
-        );
+    for row in &ARGUMENTS {
+        assert!(rt; has_arguments(rt.alloc(), row)?, "{:?}", row.0);
     }
     Ok(())
 }
@@ -319,6 +322,11 @@ const NO_REQUESTS: [(&str, u8, &str); 27] = [
     ),
 ];
 
+fn has_no_request(alloc: Global, row: &(&str, u8, &str)) -> Result<bool, AllocError> {
+    let (input, status, wanted) = *row;
+    replies(alloc, 7, &[input], status, &[wanted], 0)
+}
+
 /// How many fields a head has, how many letters the last of them, what follows, and the status and the reply.
 const LONG_HEADS: [(usize, usize, &str, u8, &str); 6] = [
     (64, 1, "\r\n\r\n", 0, NOT_FOUND_LAST),
@@ -346,8 +354,7 @@ fn is_measured(alloc: Global, row: &(usize, usize, &str, u8, &str)) -> Result<bo
     let (fields, letters, end, status, wanted) = *row;
     let head = long_head(alloc, fields, letters)?;
     let input = [head.as_str(), end];
-    let left = left_over(alloc, 7, &input)?;
-    Ok(left.status == status && left.out.bytes() == wanted.as_bytes())
+    ends(alloc, &inetd(7, &input), status, &[wanted], 0)
 }
 
 /// What the clock tells, and the date of the reply.
@@ -361,9 +368,8 @@ const DATES: [(u64, &str); 4] = [
 fn is_dated(alloc: Global, row: &(u64, &str)) -> Result<bool, AllocError> {
     let (seconds, date) = *row;
     let case = Case {
-        input: &["\r\nPUT\r\n\r\n"],
         seconds,
-        ..INETD
+        ..inetd(7, &["\r\nPUT\r\n\r\n"])
     };
     let wanted = [
         "HTTP/1.1 400 Bad Request\r\nDate: ",
@@ -375,11 +381,8 @@ fn is_dated(alloc: Global, row: &(u64, &str)) -> Result<bool, AllocError> {
 
 #[test]
 fn what_is_no_request_is_refused_or_cut_short(rt: HostRuntime) -> Result<(), Fail> {
-    for (input, status, wanted) in NO_REQUESTS {
-        assert!(rt;
-            replies(rt.alloc(), 7, &[input], status, &[wanted], 0)?,
-            "{input}"
-        );
+    for row in &NO_REQUESTS {
+        assert!(rt; has_no_request(rt.alloc(), row)?, "{}", row.0);
     }
     for row in &LONG_HEADS {
         assert!(rt; is_measured(rt.alloc(), row)?, "{} {}", row.0, row.1);
@@ -398,10 +401,9 @@ const NOT_FOUND: &str =
 /// Whether the run ends where this read fails, each of one byte of two requests: those before it are answered.
 fn ends_at_read(alloc: Global, call: usize) -> Result<bool, AllocError> {
     let case = Case {
-        input: &[READ, READ],
         in_bytes: true,
         failing_reads: &[call as u64],
-        ..INETD
+        ..inetd(7, &[READ, READ])
     };
     if call < READ.len() {
         ends(alloc, &case, 6, &[], 0)
@@ -413,19 +415,23 @@ fn ends_at_read(alloc: Global, call: usize) -> Result<bool, AllocError> {
 /// Whether the run ends where this write fails, each of one byte of two replies, and no byte is written twice.
 fn ends_at_write(alloc: Global, call: usize) -> Result<bool, AllocError> {
     let case = Case {
-        input: &[READ, READ],
         write_limit: 1,
         failing_writes: &[call as u64],
-        ..INETD
+        ..inetd(7, &[READ, READ])
     };
+    let mut both = joined(alloc, &[NOT_FOUND, NOT_FOUND])?;
+    both.truncate(call);
     let left = left_by(alloc, &case)?;
-    let both = joined(alloc, &[NOT_FOUND, NOT_FOUND])?;
-    Ok(
-        left.status == 7
-            && left.out.bytes().len() == call
-            && both.starts_with(left.out.bytes())
-            && left.entries == 7,
-    )
+    Ok(left.status == 7 && left.out.bytes() == both.as_slice())
+}
+
+/// Whether the run ends inside a post whose input is cut short at this byte.
+fn ends_inside(alloc: Global, cut_at: usize) -> Result<bool, AllocError> {
+    let case = Case {
+        cut_at,
+        ..inetd(7, &[NOTE])
+    };
+    ends(alloc, &case, 8, &[], 0)
 }
 
 #[test]
@@ -437,12 +443,7 @@ fn each_read_and_each_write_fails_once(rt: HostRuntime) -> Result<(), Fail> {
         assert!(rt; ends_at_write(rt.alloc(), call)?, "write {call}");
     }
     for cut_at in NOTE.len() - 49..NOTE.len() {
-        let case = Case {
-            input: &[NOTE],
-            cut_at,
-            ..INETD
-        };
-        assert!(rt; ends(rt.alloc(), &case, 8, &[], 0)?, "cut at {cut_at}");
+        assert!(rt; ends_inside(rt.alloc(), cut_at)?, "cut at {cut_at}");
     }
     Ok(())
 }
@@ -464,31 +465,31 @@ const FULL: &str =
 
 /// Which calls of a keeper fail, where it ends at the beginning, the replies to two posts, and how many are kept.
 /// Each post settles, and then appends.
-const KEEPERS: [(&[u64], u64, [&str; 2], usize); 7] = [
-    (&[], 0, [FIRST, SECOND], 2),
-    (&[0], 0, [FAULT, FIRST], 1),
-    (&[1], 0, [FAULT, FIRST], 1),
-    (&[2], 0, [FIRST, FAULT], 1),
-    (&[3], 0, [FIRST, FAULT], 1),
-    (&[1, 2], 0, [FAULT, FAULT], 0),
+const KEEPERS: [(&[u64], u64, &[&str], usize); 7] = [
+    (&[], 0, &[FIRST, SECOND], 2),
+    (&[0], 0, &[FAULT, FIRST], 1),
+    (&[1], 0, &[FAULT, FIRST], 1),
+    (&[2], 0, &[FIRST, FAULT], 1),
+    (&[3], 0, &[FIRST, FAULT], 1),
+    (&[1, 2], 0, &[FAULT, FAULT], 0),
     // A keeper whose end is ten below its limit.
-    (&[], 4_611_686_018_427_387_894, [FULL, FULL], 0),
+    (&[], 4_611_686_018_427_387_894, &[FULL, FULL], 0),
 ];
+
+fn has_keeper(alloc: Global, row: &(&[u64], u64, &[&str], usize)) -> Result<bool, AllocError> {
+    let (failing_keeps, end, wanted, kept) = *row;
+    let case = Case {
+        failing_keeps,
+        end,
+        ..inetd(5, &[NOTE, NOTE])
+    };
+    ends(alloc, &case, 0, wanted, kept)
+}
 
 #[test]
 fn the_keeper_fails_at_each_of_its_calls(rt: HostRuntime) -> Result<(), Fail> {
-    for (failing_keeps, end, wanted, kept) in KEEPERS {
-        let case = Case {
-            entries: 5,
-            input: &[NOTE, NOTE],
-            failing_keeps,
-            end,
-            ..INETD
-        };
-        assert!(rt;
-            ends(rt.alloc(), &case, 0, &wanted, kept)?,
-            "{failing_keeps:?} {end}"
-        );
+    for row in &KEEPERS {
+        assert!(rt; has_keeper(rt.alloc(), row)?, "{:?} {}", row.0, row.1);
     }
     Ok(())
 }
@@ -509,7 +510,7 @@ fn ends_at_the_thousandth(
 ) -> Result<bool, AllocError> {
     let (request, first, last, kept) = *row;
     let input = vec![in alloc; request; 1001]?;
-    let left = left_over(alloc, 5, &input)?;
+    let left = left_by(alloc, &inetd(5, &input))?;
     Ok(
         left.status == 0
             && left.keeper.records().len() == kept
@@ -627,6 +628,11 @@ const CONVERSATIONS: [(&[&str], &[&str], usize); 4] = [
     ),
 ];
 
+fn is_held(alloc: Global, row: &(&[&str], &[&str], usize)) -> Result<bool, AllocError> {
+    let (input, wanted, kept) = *row;
+    replies(alloc, 5, input, 0, wanted, kept)
+}
+
 /// Whether the first record that the keeper has is that of `NOTE`.
 fn has_the_note(keeper: &MemoryKeeper) -> bool {
     let Some(record) = keeper.records().first() else {
@@ -636,17 +642,14 @@ fn has_the_note(keeper: &MemoryKeeper) -> bool {
 }
 
 fn keeps_the_note(alloc: Global) -> Result<bool, AllocError> {
-    let left = left_over(alloc, 5, &[NOTE])?;
+    let left = left_by(alloc, &inetd(5, &[NOTE]))?;
     Ok(has_the_note(&left.keeper))
 }
 
 #[test]
 fn posts_are_kept_and_read_back(rt: HostRuntime) -> Result<(), Fail> {
-    for (input, wanted, kept) in CONVERSATIONS {
-        assert!(rt;
-            replies(rt.alloc(), 5, input, 0, wanted, kept)?,
-            "{input:?}"
-        );
+    for row in &CONVERSATIONS {
+        assert!(rt; is_held(rt.alloc(), row)?, "{:?}", row.0);
     }
     assert!(rt; keeps_the_note(rt.alloc())?);
     Ok(())
@@ -791,7 +794,7 @@ fn is_refused(
         "POST {target} HTTP/1.1\r\nHost: club.example\r\n{key}{fields}Content-Length: {length}\r\n\r\n{body}"
     )?;
     let input = [post.as_str()];
-    let left = left_over(alloc, 5, &input)?;
+    let left = left_by(alloc, &inetd(5, &input))?;
     Ok(
         left.status == 0
             && has_status(&left, status)
@@ -944,11 +947,9 @@ fn caller_of(alloc: Global, who: &str) -> Result<Caller, Fail> {
     Ok(Caller::Peer(Host::parse(alloc, who)?))
 }
 
+/// Whether this is the body of the reply, which has one brace that opens.
 fn is_body_of(body: &[u8], reply: &str) -> bool {
-    match reply.split_once("\r\n\r\n") {
-        Some((_, wanted)) => body == wanted.as_bytes(),
-        None => false,
-    }
+    body.starts_with(b"{") && reply.as_bytes().ends_with(body)
 }
 
 /// Whether the machine answers this caller so.
@@ -997,20 +998,20 @@ fn reads<S: Source>(source: &mut S) -> [Result<usize, Failed>; 3] {
     ]
 }
 
-/// What writes of these texts take.
-fn writes<O: Sink>(sink: &mut O, texts: [&[u8]; 3]) -> [Result<usize, Failed>; 3] {
-    texts.map(|text| sink.write(text))
+/// What writes of `abc`, of nothing and of `c` take.
+fn writes<O: Sink>(sink: &mut O) -> [Result<usize, Failed>; 3] {
+    [sink.write(b"abc"), sink.write(b""), sink.write(b"c")]
 }
 
 #[test]
 fn the_outside_is_real(rt: HostRuntime) -> Result<(), Fail> {
     let read = reads(&mut Reading::new(b"abc".as_slice()));
     assert_eq!(rt; read, [Ok(2), Ok(1), Ok(0)]);
-    let written = writes(&mut Writing::new(Vec::new(rt.alloc())), [b"abc", b"", b"c"]);
+    let written = writes(&mut Writing::new(Vec::new(rt.alloc())));
     assert_eq!(rt; written, [Ok(3), Ok(0), Ok(1)]);
     // A writer that takes nothing has failed.
     let mut room = [0; 2];
-    let short = writes(&mut Writing::new(room.as_mut_slice()), [b"abc", b"", b"c"]);
+    let short = writes(&mut Writing::new(room.as_mut_slice()));
     assert_eq!(rt; short, [Ok(2), Ok(0), Err(Failed)]);
     assert_eq!(rt; room, *b"ab");
     assert!(rt; SystemClock::new(&rt).now() > 784_111_777);
