@@ -131,6 +131,16 @@ fn left_by(alloc: Global, case: &Case) -> Result<Outcome, AllocError> {
     })
 }
 
+/// What a connection over so many entries left, at which nothing fails.
+fn left_over(alloc: Global, entries: usize, input: &[&str]) -> Result<Outcome, AllocError> {
+    let case = Case {
+        entries,
+        input,
+        ..INETD
+    };
+    left_by(alloc, &case)
+}
+
 /// Whether these bytes are those of the texts, one after another.
 fn are_texts(bytes: &[u8], texts: &[&str]) -> bool {
     let mut rest = bytes;
@@ -156,7 +166,7 @@ fn ends(
         left.status == status
             && are_texts(left.out.bytes(), wanted)
             && left.keeper.records().len() == kept
-            && left.entries == case.entries + kept,
+            && left.entries.checked_sub(kept) == Some(case.entries),
     )
 }
 
@@ -319,27 +329,25 @@ const LONG_HEADS: [(usize, usize, &str, u8, &str); 6] = [
     (3, 16_337, "", 8, ""),
 ];
 
+/// A request with so many fields, whose last has so many letters.
+fn long_head(alloc: Global, fields: usize, letters: usize) -> Result<String, AllocError> {
+    let mut text = String::from_str(alloc, "GET / HTTP/1.1\r\nHost: a\r\nConnection:close\r\n")?;
+    for _ in 3..fields {
+        text.push_str("X: y\r\n")?;
+    }
+    text.push_str("X: ")?;
+    for _ in 0..letters {
+        text.push_str("y")?;
+    }
+    Ok(text)
+}
+
 fn is_measured(alloc: Global, row: &(usize, usize, &str, u8, &str)) -> Result<bool, AllocError> {
     let (fields, letters, end, status, wanted) = *row;
-    let mut input = ["GET / HTTP/1.1\r\nHost: a\r\nConnection:close\r\n"].to_vec(alloc)?;
-    for _ in 3..fields {
-        input.push("X: y\r\n")?;
-    }
-    input.push("X: ")?;
-    for _ in 0..letters {
-        input.push("y")?;
-    }
-    input.push(end)?;
-    ends(
-        alloc,
-        &Case {
-            input: &input,
-            ..INETD
-        },
-        status,
-        &[wanted],
-        0,
-    )
+    let head = long_head(alloc, fields, letters)?;
+    let input = [head.as_str(), end];
+    let left = left_over(alloc, 7, &input)?;
+    Ok(left.status == status && left.out.bytes() == wanted.as_bytes())
 }
 
 /// What the clock tells, and the date of the reply.
@@ -387,27 +395,23 @@ const READ: &str = "GET / HTTP/1.1\r\nHost: a\r\n\r\n";
 const NOT_FOUND: &str =
     "HTTP/1.1 404 Not Found\r\nDate: Sun, 06 Nov 1994 08:49:37 GMT\r\nContent-Type: application/json\r\nContent-Length: 20\r\n\r\n{\"error\":\"NotFound\"}";
 
-/// Whether the run ends where this read fails: among those of a first request, and those of a second.
-fn fails_at_read(alloc: Global, call: u64) -> Result<bool, AllocError> {
-    let failing_reads = &[call];
-    let one = Case {
-        input: &[READ],
-        in_bytes: true,
-        failing_reads,
-        ..INETD
-    };
-    let failing_reads = &[call + READ.len() as u64];
-    let two = Case {
+/// Whether the run ends where this read fails, each of one byte of two requests: those before it are answered.
+fn ends_at_read(alloc: Global, call: usize) -> Result<bool, AllocError> {
+    let case = Case {
         input: &[READ, READ],
         in_bytes: true,
-        failing_reads,
+        failing_reads: &[call as u64],
         ..INETD
     };
-    Ok(ends(alloc, &one, 6, &[], 0)? && ends(alloc, &two, 6, &[NOT_FOUND], 0)?)
+    if call < READ.len() {
+        ends(alloc, &case, 6, &[], 0)
+    } else {
+        ends(alloc, &case, 6, &[NOT_FOUND], 0)
+    }
 }
 
 /// Whether the run ends where this write fails, each of one byte of two replies, and no byte is written twice.
-fn fails_at_write(alloc: Global, call: usize) -> Result<bool, AllocError> {
+fn ends_at_write(alloc: Global, call: usize) -> Result<bool, AllocError> {
     let case = Case {
         input: &[READ, READ],
         write_limit: 1,
@@ -426,11 +430,11 @@ fn fails_at_write(alloc: Global, call: usize) -> Result<bool, AllocError> {
 
 #[test]
 fn each_read_and_each_write_fails_once(rt: HostRuntime) -> Result<(), Fail> {
-    for call in 0..READ.len() {
-        assert!(rt; fails_at_read(rt.alloc(), call as u64)?, "read {call}");
+    for call in 0..2 * READ.len() {
+        assert!(rt; ends_at_read(rt.alloc(), call)?, "read {call}");
     }
     for call in 0..2 * NOT_FOUND.len() {
-        assert!(rt; fails_at_write(rt.alloc(), call)?, "write {call}");
+        assert!(rt; ends_at_write(rt.alloc(), call)?, "write {call}");
     }
     for cut_at in NOTE.len() - 49..NOTE.len() {
         let case = Case {
@@ -505,18 +509,11 @@ fn ends_at_the_thousandth(
 ) -> Result<bool, AllocError> {
     let (request, first, last, kept) = *row;
     let input = vec![in alloc; request; 1001]?;
-    let left = left_by(
-        alloc,
-        &Case {
-            entries: 5,
-            input: &input,
-            ..INETD
-        },
-    )?;
+    let left = left_over(alloc, 5, &input)?;
     Ok(
         left.status == 0
             && left.keeper.records().len() == kept
-            && left.entries == 5 + kept
+            && left.entries.checked_sub(kept) == Some(5)
             && left.out.bytes().starts_with(first.as_bytes())
             && left.out.bytes().ends_with(last.as_bytes()),
     )
@@ -536,6 +533,9 @@ const RECORD: &str =
 
 const ACTIVITY: &str =
     "HTTP/1.1 200 OK\r\nDate: Sun, 06 Nov 1994 08:49:37 GMT\r\nContent-Type: application/activity+json\r\nContent-Length: 566\r\n\r\n{\"@context\":\"https://www.w3.org/ns/activitystreams\",\"actor\":\"https://club.example/users/ana\",\"id\":\"https://club.example/users/ana/a/1\",\"object\":{\"attributedTo\":\"https://club.example/users/ana\",\"content\":\"Hello\",\"id\":\"https://club.example/users/ana/o/1\",\"likes\":\"https://club.example/users/ana/o/1/likes\",\"published\":\"1994-11-06T08:49:37Z\",\"shares\":\"https://club.example/users/ana/o/1/shares\",\"to\":[\"https://www.w3.org/ns/activitystreams#Public\"],\"type\":\"Note\"},\"published\":\"1994-11-06T08:49:37Z\",\"to\":[\"https://www.w3.org/ns/activitystreams#Public\"],\"type\":\"Create\"}";
+
+const PSST_ACTIVITY: &str =
+    "HTTP/1.1 200 OK\r\nDate: Sun, 06 Nov 1994 08:49:37 GMT\r\nContent-Type: application/activity+json\r\nContent-Length: 457\r\n\r\n{\"@context\":\"https://www.w3.org/ns/activitystreams\",\"actor\":\"https://club.example/users/ana\",\"id\":\"https://club.example/users/ana/a/1\",\"object\":{\"attributedTo\":\"https://club.example/users/ana\",\"content\":\"Psst\",\"id\":\"https://club.example/users/ana/o/1\",\"likes\":\"https://club.example/users/ana/o/1/likes\",\"published\":\"1994-11-06T08:49:37Z\",\"shares\":\"https://club.example/users/ana/o/1/shares\",\"type\":\"Note\"},\"published\":\"1994-11-06T08:49:37Z\",\"type\":\"Create\"}";
 
 const PSST: &str =
     "HTTP/1.1 200 OK\r\nDate: Sun, 06 Nov 1994 08:49:37 GMT\r\nContent-Type: application/activity+json\r\nContent-Length: 312\r\n\r\n{\"@context\":\"https://www.w3.org/ns/activitystreams\",\"attributedTo\":\"https://club.example/users/ana\",\"content\":\"Psst\",\"id\":\"https://club.example/users/ana/o/1\",\"likes\":\"https://club.example/users/ana/o/1/likes\",\"published\":\"1994-11-06T08:49:37Z\",\"shares\":\"https://club.example/users/ana/o/1/shares\",\"type\":\"Note\"}";
@@ -564,8 +564,10 @@ const POST_CLEO: &str = "POST /users/cleo/outbox HTTP/1.1\r\nHost: club.example\
 
 const POST_DAN: &str = "POST /users/dan/outbox HTTP/1.1\r\nHost: club.example\r\n";
 
-/// What a reading of ana's first object begins with.
-const GET_FIRST: &str = "GET /users/ana/o/1 HTTP/1.1\r\nHost: club.example\r\n";
+/// What readings of ana's first object and of her first activity begin with.
+const GET_OBJECT: &str = "GET /users/ana/o/1 HTTP/1.1\r\nHost: club.example\r\n";
+
+const GET_ACTIVITY: &str = "GET /users/ana/a/1 HTTP/1.1\r\nHost: club.example\r\n";
 
 /// The end of a post of a public note, and that of a note to ben alone.
 const HELLO: &str =
@@ -576,31 +578,28 @@ const WHISPER: &str =
 
 /// Conversations with a town without posts: what is sent, what is replied, and how many entries are kept.
 const CONVERSATIONS: [(&[&str], &[&str], usize); 4] = [
-    (
-        &[
-            NOTE,
-            "GET /users/ana/a/1 HTTP/1.1\r\nHost: club.example\r\n\r\n",
-        ],
-        &[FIRST, ACTIVITY],
-        1,
-    ),
+    (&[NOTE, GET_ACTIVITY, "\r\n"], &[FIRST, ACTIVITY], 1),
     (
         &[
             POST_ANA,
             ANA,
             WHISPER,
-            GET_FIRST,
+            GET_OBJECT,
             ANA,
             "\r\n",
-            GET_FIRST,
+            GET_OBJECT,
             BEN,
             "\r\n",
-            GET_FIRST,
+            GET_OBJECT,
             CLEO,
             "\r\n",
-            "GET /users/ana/a/1 HTTP/1.1\r\nHost: club.example\r\n\r\n",
+            GET_ACTIVITY,
+            BEN,
+            "\r\n",
+            GET_ACTIVITY,
+            "\r\n",
         ],
-        &[FIRST, PSST, PSST, NOT_FOUND, NOT_FOUND],
+        &[FIRST, PSST, PSST, NOT_FOUND, PSST_ACTIVITY, NOT_FOUND],
         1,
     ),
     (
@@ -637,14 +636,7 @@ fn has_the_note(keeper: &MemoryKeeper) -> bool {
 }
 
 fn keeps_the_note(alloc: Global) -> Result<bool, AllocError> {
-    let left = left_by(
-        alloc,
-        &Case {
-            entries: 5,
-            input: &[NOTE],
-            ..INETD
-        },
-    )?;
+    let left = left_over(alloc, 5, &[NOTE])?;
     Ok(has_the_note(&left.keeper))
 }
 
@@ -798,14 +790,8 @@ fn is_refused(
     let post = format!(in alloc;
         "POST {target} HTTP/1.1\r\nHost: club.example\r\n{key}{fields}Content-Length: {length}\r\n\r\n{body}"
     )?;
-    let left = left_by(
-        alloc,
-        &Case {
-            entries: 5,
-            input: &[post.as_str()],
-            ..INETD
-        },
-    )?;
+    let input = [post.as_str()];
+    let left = left_over(alloc, 5, &input)?;
     Ok(
         left.status == 0
             && has_status(&left, status)
@@ -839,8 +825,13 @@ const WRONG_MAC: &str =
     "HTTP/1.1 401 Unauthorized\r\nDate: Sun, 06 Nov 1994 08:49:37 GMT\r\nWWW-Authenticate: Bearer\r\nContent-Type: application/json\r\nContent-Length: 20\r\nConnection: close\r\n\r\n{\"error\":\"WrongMac\"}";
 
 /// A target, further lines of the last request of a connection, and the reply.
-const SIGHTS: [(&str, &str, &str); 29] = [
+const SIGHTS: [(&str, &str, &str); 33] = [
     ("/users/ana/o/1", "", HELLO_LAST),
+    (
+        "/users/ana/o/1",
+        "Accept: a\r\nAccept: b\r\nContent-Type: a\r\nIdempotency-Key: b\r\n",
+        HELLO_LAST,
+    ),
     ("/users/ana/o/1?page=2", "", HELLO_LAST),
     ("/users/ana/o/1", CLEO, HELLO_LAST),
     ("/users/ana/o/2", ANA, PSST_LAST),
@@ -853,6 +844,9 @@ const SIGHTS: [(&str, &str, &str); 29] = [
     ("/users/ana/o/2", CLEO, NOT_FOUND_LAST),
     ("/users/ana/o/2", DAN, NOT_FOUND_LAST),
     ("/users/ana/o/2", "", NOT_FOUND_LAST),
+    ("/users/ana/a/2", "", NOT_FOUND_LAST),
+    ("/users/ana/a/2", CLEO, NOT_FOUND_LAST),
+    ("/users/ana/a/3", ANA, NOT_FOUND_LAST),
     ("/users/ana/o/3", "", NOT_FOUND_LAST),
     ("/users/ben/o/1", "", NOT_FOUND_LAST),
     ("/users/eve/o/1", "", NOT_FOUND_LAST),
