@@ -36,6 +36,7 @@ module _ {I : Type 0} where
   abbrev pub outside : {V : Type 0} → GateFacts I → Me (Option (Content V I)) (GateView I)
   outside v = (Facts v, [])
 
+  -- a seat of the gate that has the slot, which is empty during the turn
   abbrev pub inside : {V : Type 0} → GateFacts I → Me (Option (Content V I)) (GateView I)
   inside v = (Facts v, (0, None) ∷ [])
 

@@ -9,6 +9,7 @@ use Rattle.fedi_turn.specs.declared.record.View.{View}
 use Rattle.fedi_turn.specs.declared.record.View.TheVariants.{Nothing, Reader, Writer}
 
 module _ {I : Type 0} where
+  -- the reader of this number, which has seen this list
   abbrev pub reader_view : ℕ → List I → ReaderView I
   reader_view n xs = record { number = n; list = xs }
 
@@ -28,15 +29,19 @@ module _ {I : Type 0} where
   abbrev pub take_in : WriterView I → ReaderView I → WriterView I
   take_in w r = record w { carried = r ∷ w.carried }
 
+  -- or takes in all of these
   abbrev pub take_in_all : List (ReaderView I) → WriterView I → WriterView I
   take_in_all rs w = record w { carried = rs ++ w.carried }
 
+  -- the list is longer by these items
   abbrev pub add_items : WriterView I → List I → WriterView I
   add_items w items = record w { list = w.list ++ items }
 
+  -- the list is this one
   abbrev pub set_list : List I → WriterView I → WriterView I
   set_list xs w = record w { list = xs }
 
+  -- the turn ends: nobody is carried, and the next turn begins with the list as it is
   abbrev pub end_turn : WriterView I → WriterView I
   end_turn w = record w { carried = []; turn = w.list }
 
@@ -46,11 +51,13 @@ module _ {I : Type 0} where
   draw_left (Reader r) = Reader r
   draw_left (Writer w) = Writer (count_one w)
 
+  -- the new reader's view
   abbrev pub draw_right : View I → View I
   draw_right Nothing = Nothing
   draw_right (Reader r) = Nothing
   draw_right (Writer w) = Reader (reader_view w.count w.list)
 
+  -- the writer's view with that of the reader that it takes in
   abbrev pub carry_both : View I → View I → View I
   carry_both (Writer w) (Reader r) = Writer (take_in w r)
   carry_both Nothing _ = Nothing
@@ -58,15 +65,18 @@ module _ {I : Type 0} where
   carry_both (Writer w) Nothing = Nothing
   carry_both (Writer w) (Writer v) = Nothing
 
+  -- the writer's view after its turn
   abbrev pub return_left : View I → View I
   return_left Nothing = Nothing
   return_left (Reader r) = Reader r
   return_left (Writer w) = Writer (end_turn w)
 
+  -- the number of the reader that was carried
   abbrev pub first_number : List (ReaderView I) → ℕ
   first_number [] = 0
   first_number (r ∷ rs) = r.number
 
+  -- that reader's view after the turn: it has seen the writer's list
   abbrev pub return_right : View I → View I
   return_right Nothing = Nothing
   return_right (Reader r) = Nothing

@@ -18,6 +18,7 @@ abbrev pub Each : {A : Type 0} → (ℕ → A → Type 0) → List A → Type 0
 Each {A} P xs = (k : ℕ) (d : A) → k < length xs → P k (slice_index_or xs k d)
 
 module _ {I : Type 0} where
+  -- the pass's number
   abbrev pub number_of : Pass I → ℕ
   number_of p = p.number
 
@@ -37,6 +38,7 @@ module _ {I : Type 0} where
   abbrev pub IsReader : TableId → List I → ℕ → Pass I → Type 0
   IsReader log xs k p = (p.reader.table_id ≡ log) × (p.reader.views ≡ Reader (reader_view k xs) ∷ []) × (p.number ≡ k)
 
+  -- and each of these passes has such a seat, the k-th the k-th
   abbrev pub AreReaders : TableId → List I → List (Pass I) → Type 0
   AreReaders log xs ps = Each (IsReader log xs) ps
 
@@ -48,6 +50,7 @@ module _ {I : Type 0} where
   abbrev pub IsSamePass : Pass I → Pass I → Type 0
   IsSamePass old new = (new.reader ≡ old.reader) × (new.number ≡ old.number) × (new.seen ≡ old.seen)
 
+  -- and so of each of these
   abbrev pub AreSame : List (Pass I) → List (Pass I) → Type 0
   AreSame olds news = Each (λ k p. (d : Pass I) → IsSamePass (slice_index_or olds k d) p) news
 
@@ -60,10 +63,11 @@ module _ {V I : Type 0} (g : Ghosts V I) where
   abbrev pub gate_facts : TurnLock V I → GateFacts I
   gate_facts l = facts_of g.list g.base l.gate.shared.key.value
 
-  -- the base of the lock, the list of the value that it was made with, and the number of its passes
+  -- the base of the lock
   abbrev pub base_of : TurnLock V I → List ℕ
   base_of l = g.base l.gate.shared.key.value.value
 
+  -- the list of the value that the lock was made with
   abbrev pub start_of : TurnLock V I → List I
   start_of l = (gate_facts l).start
 
