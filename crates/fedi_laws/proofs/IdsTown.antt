@@ -19,7 +19,7 @@ use Rattle.fedi_laws.proofs.Grounded.{ref_id-received}
 use Rattle.fedi_laws.proofs.IdsOnce.{AreOnce, next_once, foreign_once, mapped_once, count-push, count-map}
 use Rattle.fedi_laws.proofs.Lists.{list_any-through}
 use Rattle.fedi_laws.proofs.Members.{is_member, IsFound, found}
-use Rattle.fedi_laws.proofs.Sound.{IsHosted, is_set, step_sound}
+use Rattle.fedi_laws.proofs.Sound.{IsHosted, is_set, not_hosted, step_sound}
 use Rattle.fedi_laws.proofs.Steps.{accept_in_steps, with_act, accepts_for, after_delivery, after_inbox, after_post}
 use Rattle.fedi_laws.proofs.People.{id_of-is, named_is}
 use Rattle.fedi_town.specs.Activities.{local_act, remote_act}
@@ -29,7 +29,7 @@ use Rattle.fedi_town.specs.Effects.{acceptance, accept_for, affect, effect_of, a
 use Rattle.fedi_town.specs.declared.addition.Addition.TheVariants as additions
 use Rattle.fedi_town.specs.Histories.{with_addition, member_addition, with_recipient, is_known, step, town}
 use Rattle.fedi_town.specs.Ids.{actor_id}
-use Rattle.fedi_town.specs.Legal.{is_admissible, is_legal_from, IsLegal, may_post, may_deliver}
+use Rattle.fedi_town.specs.Legal.{broken_command, is_admissible, is_legal_from, IsLegal, may_post, may_deliver}
 use Rattle.fedi_town.specs.Objects.{is_whole}
 use Rattle.fedi_town.specs.Relations.{ref_id, has_activity_id, is_actor, has_block_between}
 use Rattle.fedi_town.specs.Shapes.{is_delivered, is_posted}
@@ -275,7 +275,7 @@ made_at t host None name digest locked s is h = rw s.hosted h
 made_at t host (Some own) name digest locked s is h = rw s.hosted h
 
 step_at : (t : Town) (host : List ℕ) (e : Entry) → IsAt t host → is_admissible t e ≡ true → AreOnce host t.acts → HasIds (step t e).host (step t e).acts
-step_at t host (Hosted own moment) s ok h = absurd (set_already t.host host s.hosted (and_parts (is_none t.host) (is_host_text own) ok).0)
+step_at t host (Hosted own moment) s ok h = absurd (set_already t.host host s.hosted (not_hosted t own moment (and_parts (is_none (broken_command t (Hosted own moment))) (is_host_text own) ok).0))
 step_at t host (Made name digest locked moment) s ok h = made_at t host t.host name digest locked s refl h
 step_at t host (PeerSet own key address relay moment) s ok h = rw s.hosted h
 step_at t host (Local name repeat a moment) s ok h =

@@ -9,7 +9,7 @@ use Rattle.fedi_objects.specs.declared.entry.Entry.{Entry}
 use Rattle.fedi_objects.specs.declared.entry.Entry.TheVariants.{Hosted, Made, PeerSet, Local, Remote, Tried}
 use Rattle.fedi_town.specs.declared.caller.Caller.{Caller}
 use Rattle.fedi_town.specs.Histories.{step, town}
-use Rattle.fedi_town.specs.Legal.{is_admissible, is_legal_from, IsLegal}
+use Rattle.fedi_town.specs.Legal.{broken_command, is_admissible, is_legal_from, IsLegal}
 use Rattle.fedi_town.specs.Queues.{is_due}
 use Rattle.fedi_town.specs.Towns.{Town, empty_town}
 use Rattle.fedi_asks.specs.declared.ask.Ask.{Ask}
@@ -18,7 +18,7 @@ use Rattle.fedi_laws.proofs.Due.{held_on, same_later, stays_due, IsOtherEntry}
 use Rattle.fedi_laws.proofs.IdsTown.{HasIds, step_by}
 use Rattle.fedi_laws.proofs.Lists.{first_none, other_none}
 use Rattle.fedi_laws.proofs.Next.{entry_admissible}
-use Rattle.fedi_laws.proofs.Sound.{IsHosted, step_sound}
+use Rattle.fedi_laws.proofs.Sound.{IsHosted, not_hosted, step_sound}
 use Rattle.fedi_laws.specs.Statements.{is_attempt_of}
 
 -- ---- one more entry
@@ -43,7 +43,7 @@ none_due None t id r m none ids due = let wrong : false ≡ true = rw ids at due
 none_due (Some host) t id r m none ids due = absurd cc
 
 other_entry : (t : Town) (e : Entry) (id r : List ℕ) (m : ℕ) → is_admissible t e ≡ true → HasIds t.host t.acts → is_due t id r m ≡ true → is_attempt_of id r e ≡ false → IsOtherEntry id r e
-other_entry t (Hosted host moment) id r m ok ids due other = none_due t.host t id r m (and_parts (is_none t.host) (is_host_text host) ok).0 ids due
+other_entry t (Hosted host moment) id r m ok ids due other = none_due t.host t id r m (not_hosted t host moment (and_parts (is_none (broken_command t (Hosted host moment))) (is_host_text host) ok).0) ids due
 other_entry t (Made name digest locked moment) id r m ok ids due other = tt
 other_entry t (PeerSet host key address relay moment) id r m ok ids due other = tt
 other_entry t (Local name repeat a moment) id r m ok ids due other = tt

@@ -1,7 +1,7 @@
 -- In a legal history each member has the id of its name, and each peer is another host.
 use Rattle.std.proofs.Common.{◌≡◌, ℕ, Bool, true, false, List, [], ◌∷◌, Option, Some, None, refl, ◌∙◌}
-use Rattle.std.specs.Prelude.{◌&&◌, is_none, is_some, if◌then◌else◌}
-use Rattle.std.specs.List.{list_all, fold}
+use Rattle.std.specs.Prelude.{◌&&◌, ◌||◌, not, is_none, is_some, if◌then◌else◌}
+use Rattle.std.specs.List.{list_all, list_any, fold}
 use Rattle.std.proofs.lemmas.Bool.{and_parts}
 use Rattle.std.proofs.lemmas.List.Folds.{list_all-append}
 use Rattle.fedi_address.specs.Hosts.{is_host_text}
@@ -16,8 +16,10 @@ use Rattle.fedi_town.specs.declared.addition.Addition.TheVariants as additions
 use Rattle.fedi_town.specs.Effects.{acceptance}
 use Rattle.fedi_town.specs.Histories.{with_addition, member_addition, step, town, is_known}
 use Rattle.fedi_town.specs.Ids.{actor_id}
-use Rattle.fedi_town.specs.Legal.{is_admissible, is_legal_from, is_other_host, IsLegal}
-use Rattle.fedi_town.specs.Towns.{Town, empty_town, id_of}
+use Rattle.fedi_town.specs.Legal.{broken_command, is_address, is_admissible, is_legal_from, is_other_host, IsLegal}
+use Rattle.fedi_town.specs.Towns.{Town, empty_town, has_host, id_of}
+use Rattle.fedi_town.specs.declared.command_fault.CommandFault.{CommandFault}
+use Rattle.fedi_town.specs.declared.command_fault.CommandFault.TheVariants.{HostTaken, BadAddress}
 use Rattle.fedi_town.specs.declared.act.Actor.{Actor}
 use Rattle.fedi_town.specs.declared.act.Peer.{Peer}
 use Rattle.fedi_laws.proofs.Texts.{bytes_eq-same}
@@ -91,10 +93,37 @@ delivered_keeps t (Some owner) None id a moment = record { host = refl; actors =
 delivered_keeps t (Some owner) (Some author) None a moment = record { host = refl; actors = refl; peers = refl }
 delivered_keeps t (Some owner) (Some author) (Some id) a moment = as_keeps t owner author id a moment
 
+-- what is broken unless this holds
+abbrev taken_unless : Bool → Option CommandFault
+taken_unless held = if held then None else Some HostTaken
+
+holds_untaken : (held : Bool) → is_none (taken_unless held) ≡ true → held ≡ true
+holds_untaken true ok = refl
+holds_untaken false ok = ok
+
+-- a server that may be set up was not
+pub not_hosted : (t : Town) (host : List ℕ) (moment : ℕ) → is_none (broken_command t (Hosted host moment)) ≡ true → is_none t.host ≡ true
+not_hosted t host moment ok = holds_untaken (is_none t.host) ok
+
+-- what a peer breaks: its host is taken, or its address is bad
+abbrev peer_fault : Bool → Bool → Bool → Option CommandFault
+peer_fault other known well = if not other || known then Some HostTaken else (if well then None else Some BadAddress)
+
+other_unbroken : (other known well : Bool) → is_none (peer_fault other known well) ≡ true → other ≡ true
+other_unbroken true known well ok = refl
+other_unbroken false known well ok = ok
+
+-- a peer that breaks no rule is another host
+peer_elsewhere : (t : Town) (host key address : List ℕ) (relay : Bool) (moment : ℕ) → is_none (broken_command t (PeerSet host key address relay moment)) ≡ true
+    → is_other_host t.host host ≡ true
+peer_elsewhere t host key address relay moment ok =
+    other_unbroken (is_other_host t.host host) (list_any (has_host host) t.peers) (is_address address) ok
+
 pub step_sound : (t : Town) (e : Entry) → is_admissible t e ≡ true → IsHosted t → IsHosted (step t e)
 step_sound t (Hosted host moment) ok h =
-    let parts = and_parts (is_none t.host) (is_host_text host) ok in record {
-      sound = record { members = hosted_members t.host host t.actors parts.0 h.sound.members; peers = hosted_peers t.host host t.peers parts.0 h.sound.peers };
+    let parts = and_parts (is_none (broken_command t (Hosted host moment))) (is_host_text host) ok in
+    let unset = not_hosted t host moment parts.0 in record {
+      sound = record { members = hosted_members t.host host t.actors unset h.sound.members; peers = hosted_peers t.host host t.peers unset h.sound.peers };
       host = parts.1;
     }
 step_sound t (Made name digest locked moment) ok h =
@@ -102,9 +131,9 @@ step_sound t (Made name digest locked moment) ok h =
     let named = and_parts (is_some t.host) (is_name name) parts.0 in
     made_sound t.host t name digest locked refl named.1 h
 step_sound t (PeerSet host key address relay moment) ok h =
-    let parts = and_parts (is_other_host t.host host) _ ok in
+    let other : is_other_host t.host host ≡ true = peer_elsewhere t host key address relay moment (and_parts (is_some t.host && is_host_text host) _ ok).1 in
     let one : Peer = record { host = host; key = key; address = address; relay = relay } in record {
-      sound = record { members = h.sound.members; peers = list_all-append (is_apart t.host) t.peers (one ∷ []) ∙ rw (h.sound.peers, parts.0) refl };
+      sound = record { members = h.sound.members; peers = list_all-append (is_apart t.host) t.peers (one ∷ []) ∙ rw (h.sound.peers, other) refl };
       host = h.host;
     }
 step_sound t (Local name repeat a moment) ok h = keeps_sound t _ (posted_keeps t.host t name repeat a moment) h

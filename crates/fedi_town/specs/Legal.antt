@@ -1,5 +1,5 @@
 -- Which entries may come next, and which histories are legal.
-use Rattle.std.specs.Prelude.{ℕ, Bool, true, false, not, ◌&&◌, nat_lt, nat_le, IsTrue, List, [], ◌∷◌, length, filter, Option, Some, None, is_some, is_none}
+use Rattle.std.specs.Prelude.{ℕ, Bool, true, false, not, ◌&&◌, ◌||◌, if◌then◌else◌, nat_lt, nat_le, IsTrue, List, [], ◌∷◌, length, filter, Option, Some, None, is_some, is_none}
 use Rattle.std.specs.List.{list_any, list_all, find}
 use Rattle.std.specs.Str.{bytes_eq}
 use Rattle.fedi_address.specs.Hosts.{is_host_text}
@@ -11,6 +11,8 @@ use Rattle.fedi_town.specs.declared.act.Act.{Act}
 use Rattle.fedi_town.specs.declared.act.Peer.{Peer}
 use Rattle.fedi_town.specs.declared.caller.Caller.{Caller}
 use Rattle.fedi_town.specs.declared.caller.Caller.TheVariants as callers
+use Rattle.fedi_town.specs.declared.command_fault.CommandFault.{CommandFault}
+use Rattle.fedi_town.specs.declared.command_fault.CommandFault.TheVariants.{NameTaken, KeyTaken, HostTaken, BadAddress}
 use Rattle.fedi_town.specs.Deeds.{deed_of}
 use Rattle.fedi_town.specs.Origins.{is_foreign, has_inbox}
 use Rattle.fedi_town.specs.Histories.{step}
@@ -52,7 +54,7 @@ abbrev pub may_deliver : Town → Option Peer → Activity → Bool
 may_deliver t None a = false
 may_deliver t (Some p) a = not (is_foreign t.host p a.actor a.id a.object)
 
--- ---- entries
+-- ---- hosts and addresses
 
 -- another host than this server's
 abbrev pub is_other_host : Option (List ℕ) → List ℕ → Bool
@@ -67,14 +69,35 @@ is_address_byte b = nat_le 33 b && nat_le b 126
 abbrev pub is_address : List ℕ → Bool
 is_address text = (nat_le 1 (length text) && nat_le (length text) 255) && list_all is_address_byte text
 
--- The server is set up first and once, for a host. A member's name is one, and is new as the member's key is. A peer is
--- another host, and is new. A post and a delivery may come as said above. An attempt is made when it is due.
+-- ---- an operator's command
+
+-- the host is this server's or a peer's
+abbrev pub is_taken_host : Town → List ℕ → Bool
+is_taken_host t host = not (is_other_host t.host host) || list_any (has_host host) t.peers
+
+-- The first rule that an operator's command breaks: the server is set up once; a member's name and key are new; a peer is
+-- another host that is new, and is reached at an address. Other entries are no commands and break none.
+abbrev pub broken_command : Town → Entry → Option CommandFault
+broken_command t (Hosted host moment) = if is_none t.host then None else Some HostTaken
+broken_command t (Made name digest locked moment) =
+    if list_any (has_name name) t.actors then Some NameTaken else (
+    if list_any (has_digest digest) t.actors then Some KeyTaken else None)
+broken_command t (PeerSet host key address relay moment) =
+    if is_taken_host t host then Some HostTaken else (if is_address address then None else Some BadAddress)
+broken_command t (Local name repeat a moment) = None
+broken_command t (Remote peer inbox a moment) = None
+broken_command t (Tried activity recipient came moment) = None
+
+-- ---- entries
+
+-- The server is set up for a host, first. A member's name is one, and a peer's host. None of these breaks the rules of
+-- commands. A post and a delivery may come as said above. An attempt is made when it is due.
 abbrev pub is_admissible : Town → Entry → Bool
-is_admissible t (Hosted host moment) = is_none t.host && is_host_text host
+is_admissible t (Hosted host moment) = is_none (broken_command t (Hosted host moment)) && is_host_text host
 is_admissible t (Made name digest locked moment) =
-    (is_some t.host && is_name name) && (not (list_any (has_name name) t.actors) && not (list_any (has_digest digest) t.actors))
+    (is_some t.host && is_name name) && is_none (broken_command t (Made name digest locked moment))
 is_admissible t (PeerSet host key address relay moment) =
-    is_other_host t.host host && ((is_host_text host && is_address address) && not (list_any (has_host host) t.peers))
+    (is_some t.host && is_host_text host) && is_none (broken_command t (PeerSet host key address relay moment))
 is_admissible t (Local name repeat a moment) = may_post t name repeat a (id_of t name)
 is_admissible t (Remote peer inbox a moment) =
     is_delivered a && (may_deliver t (find (has_host peer) t.peers) a && lacks t a.id (id_of t inbox))

@@ -5,6 +5,7 @@
 mod act;
 mod addition;
 mod caller;
+mod command_fault;
 mod deed;
 mod effect;
 mod outcome;
@@ -13,6 +14,7 @@ mod refusal;
 pub use act::{Act, Actor, Attempt, Peer};
 pub use addition::{Acceptance, Addition};
 pub use caller::{Caller, Which};
+pub use command_fault::CommandFault;
 pub use deed::Deed;
 pub use effect::Effect;
 pub use outcome::Outcome;
