@@ -7,7 +7,7 @@ use Rattle.serde_json.specs.Data.{Data}
 use Rattle.sha2.specs.Sha256.{sha256}
 use Rattle.fedi_address.specs.Names.{is_name}
 use Rattle.fedi_asks.specs.declared.ask.Ask.{Ask}
-use Rattle.fedi_asks.specs.declared.ask.Ask.TheVariants.{Nowhere, WrongMethod, Webfinger, Actor, Collection, Activity, Object, Outbox, Inbox}
+use Rattle.fedi_asks.specs.declared.ask.Ask.TheVariants.{Nowhere, Activity, Object, Outbox}
 use Rattle.fedi_asks.specs.declared.post.KeyAsk.{KeyAsk}
 use Rattle.fedi_asks.specs.declared.post.KeyAsk.TheVariants.{Absent, Malformed, Given}
 use Rattle.fedi_asks.specs.declared.post.Post.{Post}
@@ -80,27 +80,15 @@ pub record IsPost (q : Request) (body : List ℕ) (post : Post) : Type 0 where
 
 -- the request is for this; nothing else is served yet
 abbrev pub IsFor : Request → List ℕ → Ask → Type 0
-IsFor q body Nowhere = ⊥
-IsFor q body (WrongMethod allow) = ⊥
-IsFor q body (Webfinger resource) = ⊥
-IsFor q body (Actor name) = ⊥
-IsFor q body (Collection which part) = ⊥
 IsFor q body (Activity name number) = IsTrue (is_get q.method) × IsTrue (is_name name) × IsNumber number × (path_of q.target ≡ activity_path name number)
 IsFor q body (Object name number) = IsTrue (is_get q.method) × IsTrue (is_name name) × IsNumber number × (path_of q.target ≡ object_path name number)
 IsFor q body (Outbox name post) = IsTrue (is_post q.method) × IsTrue (is_name name) × (path_of q.target ≡ outbox_path name) × IsPost q body post
-IsFor q body (Inbox name post) = ⊥
+IsFor q body other = ⊥
 
 -- what a request with this body asks for: that for which it is, and nothing where it is for no thing
 abbrev pub Asks : Request → List ℕ → Ask → Type 0
 Asks q body Nowhere = (ask : Ask) → ¬ (IsFor q body ask)
-Asks q body (WrongMethod allow) = ⊥
-Asks q body (Webfinger resource) = ⊥
-Asks q body (Actor name) = ⊥
-Asks q body (Collection which part) = ⊥
-Asks q body (Activity name number) = IsFor q body (Activity name number)
-Asks q body (Object name number) = IsFor q body (Object name number)
-Asks q body (Outbox name post) = IsFor q body (Outbox name post)
-Asks q body (Inbox name post) = ⊥
+Asks q body ask = IsFor q body ask
 
 -- a request asks for one thing at most
 abbrev pub IsAskedOnce : Request → List ℕ → Type 0
