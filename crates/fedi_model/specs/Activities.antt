@@ -10,7 +10,7 @@ use Rattle.fedi_objects.specs.declared.object.Object.{Object}
 use Rattle.fedi_objects.specs.declared.kind.Kind.{Kind}
 use Rattle.fedi_objects.specs.declared.kind.State.{State}
 use Rattle.fedi_objects.specs.declared.kind.State.TheVariants.{Plain, Done, Pending, Accepted, Rejected, Standing, Undone}
-use Rattle.fedi_objects.specs.Dates.{moment_text}
+use Rattle.fedi_text.specs.Dates.{moment_text}
 use Rattle.fedi_objects.specs.Kinds.{is_create}
 use Rattle.fedi_model.specs.declared.act.Act.{Act}
 use Rattle.fedi_model.specs.Ids.{actor_id, activity_id, object_id}

@@ -1,7 +1,8 @@
 //! What the entries of a history have made: members and activities.
 
 use fedi_address::{Iri, Items, LocalName};
-use fedi_objects::{Activity, Moment, RepeatKey, State};
+use fedi_objects::{Activity, RepeatKey, State};
+use fedi_text::Moment;
 
 /// A member of this server.
 #[derive(Drop)]
