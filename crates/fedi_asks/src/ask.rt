@@ -2,7 +2,7 @@
 
 use crate::post::Post;
 use fedi_address::{Items, LocalName};
-use fedi_objects::Text;
+use fedi_text::Text;
 use fedi_town::Which;
 
 /// The methods that a path has.

@@ -10,7 +10,8 @@ use crate::posts::judge;
 use fedi_address::{Host, LocalName};
 use fedi_facts::{Facts, activity_iri, activity_reply, object_reply};
 use fedi_model::{Ask, Body, Caller, Form, Post, Refusal, Reply, refusal_reply};
-use fedi_objects::{Entry, Moment};
+use fedi_objects::Entry;
+use fedi_text::Moment;
 use http::StatusCode;
 use std::alloc::{AllocError, Global};
 

@@ -18,8 +18,9 @@ use crate::keeping::{KeepError, push, store_entry};
 use fedi_facts::Facts;
 use fedi_mac::digest;
 use fedi_model::{Ask, Caller, Credentials, Refusal};
-use fedi_objects::{Entry, Moment};
+use fedi_objects::Entry;
 use fedi_outside::Keeper;
+use fedi_text::Moment;
 use std::alloc::{AllocError, Global};
 use std::marker::Model;
 

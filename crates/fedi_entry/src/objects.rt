@@ -5,7 +5,8 @@ ghost use Rattle.fedi_entry.specs.Codes.{activity_words, object_times, object_wo
 
 use crate::values::{Encode, put_byte};
 use fedi_address::Recipients;
-use fedi_objects::{Activity, Change, Object, ObjectRef, Tag, Text};
+use fedi_objects::{Activity, Change, Object, ObjectRef, Tag};
+use fedi_text::Text;
 use std::alloc::AllocError;
 
 impl Encode for Tag {

@@ -5,7 +5,8 @@ ghost use Rattle.std.specs.List.{flat_map};
 ghost use Rattle.fedi_entry.specs.Codes.{bool_code, text_code, u16_code, u32_code, u64_code};
 
 use fedi_address::{Host, Iri, Items, LocalName};
-use fedi_objects::{Edit, Moment, Text};
+use fedi_objects::Edit;
+use fedi_text::{Moment, Text};
 use std::alloc::AllocError;
 
 /// A value that has a code.

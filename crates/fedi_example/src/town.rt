@@ -8,7 +8,8 @@ ghost use Rattle.fedi_example.specs.Example as example;
 
 use fedi_address::{Host, HostFault, Iri, Items, LocalName, Recipients};
 use fedi_facts::actor_iri;
-use fedi_objects::{Activity, Boxed, Entry, Kind, Moment, Object, ObjectRef, Text};
+use fedi_objects::{Activity, Boxed, Entry, Kind, Object, ObjectRef};
+use fedi_text::{Moment, Text};
 use std::alloc::{AllocError, Global};
 
 /// The SHA-256 digest of ana's key, which is 32 bytes 0.

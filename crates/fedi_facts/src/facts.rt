@@ -10,7 +10,8 @@ use crate::ids::actor_iri;
 use crate::making::{makes, new_act};
 use fedi_address::{Host, Iri, LocalName};
 use fedi_model::{Act, Actor};
-use fedi_objects::{Activity, Entry, Moment, RepeatKey};
+use fedi_objects::{Activity, Entry, RepeatKey};
+use fedi_text::Moment;
 use std::alloc::{AllocError, Global};
 use std::marker::Model;
 

@@ -4,14 +4,15 @@ ghost use Rattle.std.specs.Prelude.{◌≡◌, ◌<◌, ◌+◌, IfOk, Some, opt
 ghost use Rattle.fedi_model.specs.Activities.{makes, is_done, is_own_id, completed, completed_ref, local_state, local_act, whole_of};
 ghost use Rattle.fedi_model.specs.Ids.{actor_id, object_id};
 ghost use Rattle.fedi_model.specs.Towns.{count_of};
-ghost use Rattle.fedi_objects.specs.Dates.{moment_text};
+ghost use Rattle.fedi_text.specs.Dates.{moment_text};
 
 use crate::addressing::recipients_of;
 use crate::facts::Facts;
 use crate::ids::{activity_iri, actor_iri, object_iri};
 use fedi_address::{Host, Iri, LocalName};
 use fedi_model::Act;
-use fedi_objects::{Activity, Boxed, Moment, Object, ObjectRef, RepeatKey, State, Text};
+use fedi_objects::{Activity, Boxed, Object, ObjectRef, RepeatKey, State};
+use fedi_text::{Moment, Text};
 use std::alloc::{AllocError, Global};
 use std::mem;
 

@@ -6,7 +6,7 @@ ghost use Rattle.fedi_model.specs.ReplyText as model;
 
 use fedi_address::Iri;
 use fedi_model::{Allow, Form, Reply};
-use fedi_objects::Moment;
+use fedi_text::Moment;
 use http::StatusCode;
 use itoa::Buffer;
 use std::alloc::{AllocError, Global};

@@ -12,7 +12,7 @@ ghost use Rattle.fedi_http.specs.Spans.{refusal_by, request_by};
 use crate::fields::KnownFields;
 use crate::framing::body_length;
 use fedi_model::{BODY_LIMIT, Fields, Refusal, Request};
-use fedi_objects::Bytes;
+use fedi_text::Bytes;
 use http::Method;
 use httparse::Status;
 use httparse::spans::{EMPTY_HEADER_SPAN, HeaderSpan, RequestSpans, parse_request};

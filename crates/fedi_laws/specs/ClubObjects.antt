@@ -10,7 +10,7 @@ use Rattle.fedi_objects.specs.declared.kind.State.TheVariants.{Done}
 use Rattle.fedi_objects.specs.declared.object.Change.{Change}
 use Rattle.fedi_objects.specs.declared.object.Edit.TheVariants.{Keep, Remove, Give}
 use Rattle.fedi_objects.specs.declared.object.Object.{Object}
-use Rattle.fedi_objects.specs.Dates.{moment_text}
+use Rattle.fedi_text.specs.Dates.{moment_text}
 use Rattle.fedi_town.specs.declared.caller.Caller.TheVariants.{Nobody, Actor}
 use Rattle.fedi_town.specs.declared.caller.Which.TheVariants.{Inbox}
 use Rattle.fedi_town.specs.declared.deed.Deed.TheVariants.{Update, Delete, Like, Announce}

@@ -9,7 +9,7 @@ use Rattle.fedi_objects.specs.declared.entry.Entry.{Entry}
 use Rattle.fedi_objects.specs.declared.kind.Kind.TheVariants as kinds
 use Rattle.fedi_objects.specs.declared.kind.State.TheVariants.{Done, Pending, Accepted}
 use Rattle.fedi_objects.specs.declared.object.Object.{Object}
-use Rattle.fedi_objects.specs.Dates.{moment_text}
+use Rattle.fedi_text.specs.Dates.{moment_text}
 use Rattle.fedi_town.specs.declared.caller.Caller.TheVariants.{Actor, Peer}
 use Rattle.fedi_town.specs.declared.caller.Which.TheVariants.{Inbox, Followers}
 use Rattle.fedi_town.specs.declared.deed.Deed.TheVariants.{Reject}

@@ -1,7 +1,8 @@
 //! What a log is made of.
 
 use fedi_address::Iri;
-use fedi_objects::{Entry, Moment};
+use fedi_objects::Entry;
+use fedi_text::Moment;
 
 /// A delivery: an activity, and one of its recipients.
 #[derive(Drop)]

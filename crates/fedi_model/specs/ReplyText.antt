@@ -1,7 +1,7 @@
 -- The text of a reply (RFC 9112, section 4). Its lines end in CR LF.
 use Rattle.std.specs.Prelude.{ℕ, Bool, true, false, ◌&&◌, ◌==◌, List, [], ◌++◌, length, codes, decimal, Option, Some, None, unwrap_or, if◌then◌else◌}
 use Rattle.http.specs.StatusCode.{reason_phrase}
-use Rattle.fedi_objects.specs.Dates.{http_date_text}
+use Rattle.fedi_text.specs.Dates.{http_date_text}
 use Rattle.fedi_asks.specs.declared.ask.Allow.{Allow}
 use Rattle.fedi_asks.specs.declared.ask.Allow.TheVariants.{GetHead, GetHeadPost}
 use Rattle.fedi_model.specs.declared.reply.Form.{Form}

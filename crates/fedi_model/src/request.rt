@@ -1,6 +1,6 @@
 //! Requests as they are read.
 
-use fedi_objects::Bytes;
+use fedi_text::Bytes;
 use http::Method;
 
 /// The values of the fields of a head that are read after it, each of the first field of its name (RFC 9110, section 5.1), without the

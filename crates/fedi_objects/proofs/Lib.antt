@@ -1,3 +1,2 @@
-pub mod DateLemmas
 pub mod FormLemmas
 pub mod KeyLemmas

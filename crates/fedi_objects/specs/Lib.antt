@@ -1,4 +1,3 @@
-pub mod Dates
 pub mod Forms
 pub mod Keys
 pub mod Kinds

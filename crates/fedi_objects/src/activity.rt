@@ -6,8 +6,8 @@ use crate::boxed::Boxed;
 use crate::kind::Kind;
 use crate::object::{Change, Object, Tag};
 use crate::options::clone_option;
-use crate::text::Text;
 use fedi_address::{Iri, Items, Recipients};
+use fedi_text::Text;
 use std::alloc::{AllocError, Global};
 
 /// What an activity is about.

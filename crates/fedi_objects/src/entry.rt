@@ -2,10 +2,9 @@
 
 use crate::activity::Activity;
 use crate::boxed::Boxed;
-use crate::moment::Moment;
 use crate::repeat_key::RepeatKey;
-use crate::text::Text;
 use fedi_address::{Host, Iri, LocalName};
+use fedi_text::{Moment, Text};
 
 /// Which request to a peer an outcome is of.
 #[derive(Clone, Copy, Debug)]

@@ -3,8 +3,8 @@
 ghost use Rattle.std.specs.Prelude.{◌≡◌, IfOk, OnOk};
 
 use crate::options::clone_option;
-use crate::text::Text;
 use fedi_address::{Iri, Items, Recipients};
+use fedi_text::Text;
 use std::alloc::{AllocError, Global};
 
 /// A mention of somebody (ActivityStreams 2.0 Vocabulary, section 5.5).

@@ -10,8 +10,8 @@ ghost use Rattle.fedi_objects.specs.Forms.{with_text, with_list, with_context, w
 
 use crate::object::{Object, Tag};
 use crate::shown::{Shown, ShownObject};
-use crate::text::Text;
 use fedi_address::Iri;
+use fedi_text::Text;
 use serde_json::{Map, Value};
 use std::alloc::{AllocError, Global};
 

@@ -4,8 +4,8 @@ ghost use Rattle.std.specs.Prelude.{◌≡◌};
 
 use crate::kind::{Kind, State};
 use crate::object::{Object, Tag};
-use crate::text::Text;
 use fedi_address::Iri;
+use fedi_text::Text;
 use std::marker::Model;
 
 /// An object without its `bto` and `bcc`, which nobody can read from here (ActivityPub, section 6).

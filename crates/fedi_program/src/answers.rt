@@ -9,9 +9,9 @@ ghost use Rattle.fedi_program.specs.Endings.{IsAnswerText, IsUnanswered};
 use fedi_core::{Core, Decision, KeepError, KeepFault};
 use fedi_http::reply_bytes;
 use fedi_model::{Refusal, Request, refusal_reply};
-use fedi_objects::Moment;
 use fedi_outside::Keeper;
 use fedi_routes::{credentials, route};
+use fedi_text::Moment;
 use std::alloc::{AllocError, Global};
 
 /// The text of the reply that tells a refusal; the connection is told to close if `closing`. The

@@ -11,8 +11,8 @@ use crate::connection::Connection;
 use fedi_core::Core;
 use fedi_http::{Arrived, Buffer, memory_text, read_request, send};
 use fedi_model::Request;
-use fedi_objects::Moment;
 use fedi_outside::{Clock, Failed, Keeper, Sink, Source};
+use fedi_text::Moment;
 use std::alloc::{AllocError, Global};
 
 /// The most requests that one connection serves.

@@ -14,7 +14,8 @@ use crate::properties::{
 };
 use crate::shape_fault::ShapeFault;
 use fedi_address::{Iri, Items, Recipients};
-use fedi_objects::{Activity, MENTION, Object, Tag, Text};
+use fedi_objects::{Activity, MENTION, Object, Tag};
+use fedi_text::Text;
 use serde_json::Value;
 use std::alloc::{AllocError, Global};
 

@@ -9,7 +9,8 @@ ghost use Rattle.fedi_reading.specs.Shapes.{Gives};
 
 use crate::shape_fault::ShapeFault;
 use fedi_address::{Iri, IriFault};
-use fedi_objects::{CONTEXT, Kind, TOMBSTONE, Text};
+use fedi_objects::{CONTEXT, Kind, TOMBSTONE};
+use fedi_text::Text;
 use serde_json::Value;
 use std::alloc::{AllocError, Global};
 

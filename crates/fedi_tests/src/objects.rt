@@ -1,5 +1,5 @@
 //! The texts of moments, as other software writes them.
-use fedi_objects::Moment;
+use fedi_text::Moment;
 use std::alloc::Global;
 use std::test::Fail;
 

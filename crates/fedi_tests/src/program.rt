@@ -6,11 +6,12 @@ use fedi_address::{Host, LocalName};
 use fedi_core::Core;
 use fedi_example::example_history;
 use fedi_model::{Ask, Caller};
-use fedi_objects::{Entry, Moment};
+use fedi_objects::Entry;
 use fedi_outside::{
     Clock, Failed, FixedClock, MemoryKeeper, MemorySink, MemorySource, Sink, Source,
 };
 use fedi_program::{Connection, Reading, SystemClock, Writing, run};
+use fedi_text::Moment;
 use std::alloc::{AllocError, Global};
 use std::test::Fail;
 

@@ -1,8 +1,8 @@
 //! Requests as clients write them, and a reply as they read it.
 use fedi_http::{Arrived, Buffer, read_request, read_request_head, reply_bytes};
 use fedi_model::{Refusal, Request, refusal_reply};
-use fedi_objects::Moment;
 use fedi_outside::MemorySource;
+use fedi_text::Moment;
 use std::alloc::{AllocError, Global};
 use std::test::Fail;
 

@@ -6,7 +6,7 @@ use Rattle.fedi_objects.specs.declared.activity.Activity.{Activity}
 use Rattle.fedi_objects.specs.declared.activity.ObjectRef.{ObjectRef}
 use Rattle.fedi_objects.specs.declared.activity.ObjectRef.TheVariants.{Nothing, Id, Whole, Changed}
 use Rattle.fedi_objects.specs.declared.object.Object.{Object}
-use Rattle.fedi_objects.specs.Dates.{moment_text}
+use Rattle.fedi_text.specs.Dates.{moment_text}
 use Rattle.fedi_objects.specs.Forms.{is_tombstone}
 use Rattle.fedi_town.specs.declared.act.Act.{Act}
 use Rattle.fedi_town.specs.Addressing.{complete_recipients, recipients_with, original, original_recipients, is_original_public, is_original_for_followers}

@@ -3,7 +3,7 @@ use Rattle.std.specs.Prelude.{ℕ, Bool, ◌&&◌, List, [], ◌∷◌, ◌++◌
 use Rattle.std.specs.List.{fold}
 use Rattle.fedi_objects.specs.declared.entry.Entry.{Entry}
 use Rattle.fedi_objects.specs.declared.object.Object.{Object}
-use Rattle.fedi_objects.specs.Dates.{moment_text}
+use Rattle.fedi_text.specs.Dates.{moment_text}
 use Rattle.fedi_town.specs.declared.act.Act.{Act}
 use Rattle.fedi_town.specs.declared.addition.Addition.{Addition}
 use Rattle.fedi_town.specs.declared.addition.Addition.TheVariants as additions

@@ -1,7 +1,8 @@
 //! What the entries of a history have made: members, peers, activities and attempts.
 
 use fedi_address::{Host, Iri, Items, LocalName};
-use fedi_objects::{Activity, Boxed, Came, Moment, RepeatKey, State, Text};
+use fedi_objects::{Activity, Boxed, Came, RepeatKey, State};
+use fedi_text::{Moment, Text};
 
 /// A member of this server.
 #[derive(Drop)]

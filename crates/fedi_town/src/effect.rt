@@ -2,7 +2,8 @@
 //! it can be made ready before the activity is kept, and made without memory afterwards.
 
 use fedi_address::Iri;
-use fedi_objects::{ObjectRef, State, Text};
+use fedi_objects::{ObjectRef, State};
+use fedi_text::Text;
 
 /// What an accepted activity does to earlier ones (ActivityPub, sections 6 and 7).
 #[derive(Drop)]

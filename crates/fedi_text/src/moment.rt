@@ -1,13 +1,15 @@
 //! Moments.
 
 ghost use Rattle.std.specs.Prelude.{◌≡◌, ◌<◌, ◌≤◌, ◌↔◌, min, IsSome, IfSome, IfOk};
-ghost use Rattle.fedi_objects.specs.Dates.{month_of};
 
 use crate::text::Text;
+use arrayvec::ArrayString;
 use httpdate::HttpDate;
+use jiff::civil::{self, DateTime};
+use jiff::fmt::temporal::DateTimePrinter;
 use std::alloc::{AllocError, Global};
 use std::marker::Model;
-use std::str;
+use std::time::Duration;
 
 /// The last second of the year 9999.
 const LAST: u64 = 253_402_300_799;
@@ -30,28 +32,9 @@ impl Model for Moment {
     ghost inverse = { λ n. record { seconds = n } };
 }
 
-#[tactic(auto, unfolding(crate::specs::Dates::month_of))]
-fn month_of(letters: &[u8]) -> u8
-    ensures { result ≡ month_of letters.now }
-{
-    match letters {
-        b"Jan" => 1,
-        b"Feb" => 2,
-        b"Mar" => 3,
-        b"Apr" => 4,
-        b"May" => 5,
-        b"Jun" => 6,
-        b"Jul" => 7,
-        b"Aug" => 8,
-        b"Sep" => 9,
-        b"Oct" => 10,
-        b"Nov" => 11,
-        _ => 12,
-    }
-}
-
 impl Moment {
-    ghost use Rattle.fedi_objects.specs.Dates.{moment_text, http_date_text};
+    ghost use Rattle.fedi_text.specs.Clocks.{IsShownAs};
+    ghost use Rattle.fedi_text.specs.Dates.{moment_text, http_date_text, parts_of};
 
     /// The moment this many seconds after 1970 began. `None` exactly if it is after the year 9999.
     pub fn new(seconds: u64) -> Option<Moment>
@@ -95,47 +78,37 @@ impl Moment {
     }
 
     /// The moment as RFC 3339 writes it (section 5.6), in UTC: `1994-11-06T08:49:37Z`.
+    #[tactic(auto, using(crate::proofs::ClockLemmas::text_length))]
     pub fn text(self) -> [u8; 20]
         ensures { result ≡ moment_text self }
     {
-        // Shows the proof that the moment lies before the year 10000, so that the year has four
-        // digits.
-        let _ = &self.seconds;
-        let date = self.http_date();
-        let month = month_of(&date[8..11]);
-        [
-            date[12],
-            date[13],
-            date[14],
-            date[15],
-            b'-',
-            b'0' + month / 10,
-            b'0' + month % 10,
-            b'-',
-            date[5],
-            date[6],
-            b'T',
-            date[17],
-            date[18],
-            b':',
-            date[20],
-            date[21],
-            b':',
-            date[23],
-            date[24],
-            b'Z',
-        ]
+        let mut text = [0; 20];
+        text.copy_from_slice(self.printed().as_str().as_bytes());
+        text
     }
 
     /// The text of [`Moment::text`]. The error is out of memory.
     pub fn to_text(self, alloc: Global) -> Result<Text, AllocError>
         ensures { IfOk result (λ text. text ≡ moment_text self) }
     {
-        // Shows the proof that the moment lies before the year 10000, so that its text is ASCII.
-        let _ = &self.seconds;
-        match str::from_utf8(&self.text()) {
-            Ok(text) => Text::from_text(alloc, text),
-            Err(_) => unreachable!(),
-        }
+        Text::from_text(alloc, self.printed().as_str())
+    }
+
+    /// What a clock in UTC shows. A civil time reaches to the end of the year 9999, where `jiff`'s
+    /// timestamps end some hours earlier.
+    fn shown(self) -> DateTime
+        ensures { IsShownAs (parts_of self) result }
+    {
+        civil::datetime(1970, 1, 1, 0, 0, 0, 0) + Duration::from_secs(self.seconds)
+    }
+
+    /// What the clock shows, and that it is one in UTC.
+    #[tactic(auto, using(crate::proofs::ClockLemmas::text_is))]
+    fn printed(self) -> ArrayString<32>
+        ensures { result.bytes ≡ moment_text self }
+    {
+        let mut text = DateTimePrinter::new().datetime_text(self.shown().to_plain());
+        text.push('Z');
+        text
     }
 }

@@ -1,4 +1,4 @@
-//! Texts and bytes whose capacity no clause sees.
+//! Texts whose capacity no clause sees.
 
 ghost use Rattle.std.specs.Prelude.{◌≡◌, IfOk, bytes_eq};
 ghost use Rattle.std.specs.String.{string_bytes};
@@ -7,7 +7,7 @@ ghost use Rattle.std.specs.Cmp.Lexicographic.{nat_list_eq_equiv};
 
 use std::alloc::{AllocError, Global};
 use std::marker::Model;
-use std::ops::{DerefSlice, DerefStr};
+use std::ops::DerefStr;
 
 /// A text in UTF-8. It is made from a `String` without taking memory.
 #[derive(Drop)]
@@ -78,45 +78,5 @@ impl DerefStr for Text {
 
     fn deref(&self) -> &str {
         self.text()
-    }
-}
-
-/// A list of bytes. It is made from a `Vec` without taking memory.
-#[derive(Drop)]
-pub struct Bytes {
-    bytes: Vec<u8>,
-}
-
-impl Model for Bytes {
-    ghost use Rattle.std.specs.Prelude.{ℕ, List};
-
-    ghost Value = { List ℕ };
-
-    ghost view = { λ a. a.bytes.items };
-}
-
-impl Bytes {
-    /// The bytes of a `Vec`.
-    pub fn new(bytes: Vec<u8>) -> Bytes
-        ensures { result ≡ bytes.items }
-    {
-        Bytes { bytes }
-    }
-
-    /// The bytes as a slice.
-    pub fn bytes(&self) -> &[u8]
-        ensures { result.now ≡ self.now }
-    {
-        self.bytes.as_slice()
-    }
-}
-
-impl DerefSlice for Bytes {
-    type Elem = u8;
-
-    ghost deref_gives = { λ list bytes. bytes ≡ list };
-
-    fn deref(&self) -> &[u8] {
-        self.bytes()
     }
 }

@@ -1,5 +1,5 @@
 -- The date and the time of day of a moment, as functions of its seconds since 1970 (POSIX time, without leap seconds).
-use Rattle.std.specs.Prelude.{ℕ, zero, suc, ◌+◌, ◌-◌, ◌/◌, ◌%◌, List, ◌++◌, nat_le, if◌then◌else◌, codes, bytes_eq}
+use Rattle.std.specs.Prelude.{ℕ, zero, suc, ◌+◌, ◌-◌, ◌/◌, ◌%◌, List, ◌++◌, nat_le, if◌then◌else◌, codes}
 use Rattle.httpdate.specs.declared.parts.Parts.{Parts}
 use Rattle.httpdate.specs.Calendar.{days_of_years, days_of_months, weekday}
 use Rattle.httpdate.specs.Text.{two_digits, four_digits, time_of_day, imf_fixdate}
@@ -43,21 +43,6 @@ abbrev pub iso_text : Parts → List ℕ
 iso_text p =
     four_digits p.year ++ (codes "-" ++ (two_digits p.mon ++ (codes "-" ++ (two_digits p.day
     ++ (codes "T" ++ (time_of_day p ++ codes "Z"))))))
-
--- the number of the month with these three letters
-unfoldable pub month_of : List ℕ → ℕ
-month_of letters =
-    if bytes_eq letters (codes "Jan") then 1 else (
-    if bytes_eq letters (codes "Feb") then 2 else (
-    if bytes_eq letters (codes "Mar") then 3 else (
-    if bytes_eq letters (codes "Apr") then 4 else (
-    if bytes_eq letters (codes "May") then 5 else (
-    if bytes_eq letters (codes "Jun") then 6 else (
-    if bytes_eq letters (codes "Jul") then 7 else (
-    if bytes_eq letters (codes "Aug") then 8 else (
-    if bytes_eq letters (codes "Sep") then 9 else (
-    if bytes_eq letters (codes "Oct") then 10 else (
-    if bytes_eq letters (codes "Nov") then 11 else 12))))))))))
 
 -- a moment as RFC 3339 writes it, in UTC and to the second
 unfoldable pub moment_text : ℕ → List ℕ

@@ -1,0 +1,4 @@
+pub mod Fitted
+pub mod Found
+pub mod Taken
+pub mod Texts

@@ -1,0 +1,3 @@
+pub mod Clocks
+pub mod Dates
+pub mod Decimals
