@@ -1,7 +1,7 @@
 //! What the entries of a history have made: members, peers, activities and attempts.
 
 use fedi_address::{Host, Iri, Items, LocalName};
-use fedi_objects::{Activity, Came, Moment, RepeatKey, State, Text};
+use fedi_objects::{Activity, Boxed, Came, Moment, RepeatKey, State, Text};
 
 /// A member of this server.
 #[derive(Drop)]
@@ -37,7 +37,7 @@ pub struct Act {
     pub author: Iri,
     /// The activity with all that the server completed. The object of a Create that made one is that
     /// object as it stands now.
-    pub activity: Activity,
+    pub activity: Boxed<Activity>,
     /// The key under which a repeat is known, and the digest of the posted body.
     pub repeat: Option<(RepeatKey, [u8; 32])>,
     /// When it was accepted.
