@@ -1,5 +1,6 @@
 pub mod Answers
 pub mod Asks
+pub mod Built
 pub mod Cleanness
 pub mod Documents
 pub mod Posting

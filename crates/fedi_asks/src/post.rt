@@ -1,6 +1,6 @@
 //! What is posted to an outbox or an inbox.
 
-use fedi_objects::{Activity, RepeatKey};
+use fedi_objects::{Activity, Boxed, RepeatKey};
 use fedi_reading::ShapeFault;
 
 /// What was read of the body of a post.
@@ -11,7 +11,7 @@ pub enum Read {
     /// The body has not the shape of what may be posted. It is never `ShapeFault::Memory`.
     Bad(ShapeFault),
     /// The body was read as this activity.
-    Ready(Activity),
+    Ready(Boxed<Activity>),
 }
 
 /// The key under which a post is repeated (the header field Idempotency-Key).

@@ -7,8 +7,8 @@ use Rattle.std.proofs.lemmas.List.Folds.{find-append, list_any-append}
 use Rattle.std.proofs.lemmas.Bool.Decides.{nat_tests}
 use Rattle.std.proofs.lemmas.List.Sums.{sum_by-cons, sum_by_push}
 use Rattle.std.proofs.lemmas.Bool.{cases_eq, eqb-true, leb-true, false_from_ne_true, ne_eqb}
-use Rattle.fedi_model.specs.declared.refusal.Refusal.{Refusal}
-use Rattle.fedi_model.specs.declared.refusal.Refusal.TheVariants.{BadHead, NoCoding, NoLength, TooLong}
+use Rattle.fedi_town.specs.declared.refusal.Refusal.{Refusal}
+use Rattle.fedi_town.specs.declared.refusal.Refusal.TheVariants.{BadHead, NoCoding, NoLength, TooLong}
 use Rattle.fedi_model.specs.declared.request.TheConstants.{BODY_LIMIT}
 use Rattle.fedi_model.specs.Requests.{Field, is_named, is_missing, is_once, is_single, count_named, field_value, closes, is_closing, is_length, is_length_if_any, length_by, is_post, has_host, has_no_repeats as has_no_repeats_by, has_single_credentials, has_single_content, has_served_fields, has_one_measure, has_plain_length, body_length, fields_refusal}
 use Rattle.fedi_http.specs.Fields.{AreKnown, IsSlot, has_no_repeats}

@@ -5,7 +5,7 @@ use Rattle.httparse.specs.Grammar.{RequestHead}
 use Rattle.httparse.specs.Spans.{header_bytes}
 use Rattle.httparse.specs.declared.spans.HeaderSpan.{HeaderSpan}
 use Rattle.httparse.proofs.GrammarLemmas.{request_unique}
-use Rattle.fedi_model.specs.declared.refusal.Refusal.{Refusal}
+use Rattle.fedi_town.specs.declared.refusal.Refusal.{Refusal}
 use Rattle.fedi_model.specs.declared.request.Request.{Request}
 use Rattle.fedi_model.specs.Requests.{field_of, fields_at, request_of, head_refusal, IsHead, ReadsAs, IsReadOnce}
 

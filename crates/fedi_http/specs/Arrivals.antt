@@ -1,8 +1,8 @@
 -- What arrives at the front of a stream: a request with its body (RFC 9112, sections 2.1, 2.2 and 6.2), or why there is none.
 use Rattle.std.specs.Prelude.{ℕ, Bool, true, false, ◌≡◌, ◌+◌, ◌<◌, ◌≤◌, List, [], length, Result, Ok, Err, ◌⊎◌}
 use Rattle.std.specs.List.{slice_range}
-use Rattle.fedi_model.specs.declared.refusal.Refusal.{Refusal}
-use Rattle.fedi_model.specs.declared.refusal.Refusal.TheVariants.{BadHead}
+use Rattle.fedi_town.specs.declared.refusal.Refusal.{Refusal}
+use Rattle.fedi_town.specs.declared.refusal.Refusal.TheVariants.{BadHead}
 use Rattle.fedi_model.specs.declared.request.Request.{Request}
 use Rattle.fedi_model.specs.Requests.{ReadsAs}
 use Rattle.fedi_http.specs.declared.arrivals.Arrived.{Arrived}

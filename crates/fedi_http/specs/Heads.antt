@@ -1,7 +1,7 @@
 -- Where the head of a request ends.
 use Rattle.std.specs.Prelude.{ℕ, ◌≡◌, ◌≢◌, slice_index, ◌+◌, ◌<◌, ◌≤◌, Bool, ◌||◌, not, nat_eq, List, [], ◌∷◌, length, take, drop, find, Option, None, Some, option_map}
 use Rattle.std.specs.List.{ends_with, position_or_len, range_with_len, slice_range}
-use Rattle.fedi_model.specs.declared.refusal.Refusal.TheVariants.{BadHead}
+use Rattle.fedi_town.specs.declared.refusal.Refusal.TheVariants.{BadHead}
 use Rattle.fedi_http.specs.declared.read_error.ReadError.{ReadError}
 use Rattle.fedi_http.specs.declared.read_error.ReadError.TheVariants.{End, CutShort, Refused, ReadFault, Memory}
 

@@ -1,8 +1,9 @@
--- The entry that an ask makes is admissible, so that a legal history stays one.
-use Rattle.std.proofs.Common.{◌≡◌, ℕ, Bool, true, false, List, [], ◌∷◌, Option, Some, None, refl, subst}
-use Rattle.std.specs.Prelude.{nat_lt, filter, if◌then◌else◌, option_map}
+-- The entry that an ask makes is admissible, so that a legal history stays one, and built where the ask is.
+use Rattle.std.proofs.Common.{◌≡◌, ℕ, Bool, true, false, List, [], ◌∷◌, Option, Some, None, refl, ap, subst}
+use Rattle.std.specs.Prelude.{nat_lt, filter, is_none, if◌then◌else◌, option_map}
 use Rattle.std.specs.List.{list_any, find, filter_map, cons_option}
 use Rattle.std.specs.Str.{bytes_eq}
+use Rattle.std.proofs.lemmas.Bool.{and_parts}
 use Rattle.fedi_town.specs.declared.refusal.Refusal.{Refusal}
 use Rattle.fedi_town.specs.declared.refusal.Refusal.TheVariants.{ActorFull, NotOrigin}
 use Rattle.fedi_objects.specs.declared.activity.Activity as activities
@@ -10,6 +11,7 @@ use Rattle.fedi_objects.specs.declared.entry.Entry.{Entry}
 use Rattle.fedi_objects.specs.declared.entry.Entry.TheVariants.{Local, Remote}
 use Rattle.fedi_asks.specs.Answers.{Refuse}
 use Rattle.fedi_asks.specs.Asks.{IsRead, IsReadFor, IsPostable, entry_of}
+use Rattle.fedi_asks.specs.Built.{is_built_key, is_built_read, is_built_ask}
 use Rattle.fedi_asks.specs.Posting.{Judgement, Stop, Repeat, Keep, by_steps, judge_read, unless_repeat, judge_activity, unless_broken, with_room, judge_post, repeat_under, is_bad_key, is_there, judge_delivery, judge_inbox, repeat_by, post_entry, inbox_entry, entry_at, inbox_entry_at, delivery_of}
 use Rattle.fedi_asks.specs.Reading.{is_nobody, is_self}
 use Rattle.fedi_asks.specs.declared.ask.Ask.{Ask}
@@ -21,7 +23,8 @@ use Rattle.fedi_asks.specs.declared.post.Read.{Read}
 use Rattle.fedi_asks.specs.declared.post.Read.TheVariants.{NotJson, Bad, Ready}
 use Rattle.fedi_laws.proofs.Knowledge.{self_is}
 use Rattle.fedi_town.specs.Agreement.{repeats_of}
-use Rattle.fedi_town.specs.Deeds.{deed_of}
+use Rattle.fedi_town.specs.Built.{is_built}
+use Rattle.fedi_town.specs.Deeds.{deed_of, is_create}
 use Rattle.fedi_town.specs.Origins.{is_foreign, has_inbox}
 use Rattle.fedi_town.specs.Legal.{is_admissible, may_deliver, is_new_key, has_key}
 use Rattle.fedi_town.specs.Relations.{ref_id}
@@ -185,3 +188,52 @@ entry_admissible t c (Activity name number) moment e p made = absurd cc
 entry_admissible t c (Object name number) moment e p made = absurd cc
 entry_admissible t c (Outbox name post) moment e p made = posted_by t c name post moment (id_of t name) e p refl made
 entry_admissible t c (Inbox name post) moment e p made = delivered_by t c name post moment (id_of t name) e p refl made
+
+-- ---- what is built
+
+-- an activity that is kept was read
+read_ready : (t : Town) (c : Caller) (author : List ℕ) (post : Post) (read : Read) (b : activities.Activity)
+    → judge_read t c author post read ≡ Keep b → read ≡ Ready b
+read_ready t c author post NotJson b e = absurd cc
+read_ready t c author post (Bad fault) b e = absurd cc
+read_ready t c author post (Ready a) b e =
+    let first = new_kept post.digest (repeat_under (repeats_of t author) post.key) (judge_activity t c author a) b e in
+    let second = rule_kept (broken t c author (deed_of a.kind) (ref_id a.object)) (with_room (count_of t author) (Keep a)) b first.1 in
+    ap (λ (x : activities.Activity). Ready x) (room_kept (count_of t author) a b second.1).1
+
+no_repeat : (digest : List ℕ) (key : KeyAsk) → is_built_key key ≡ true → is_none (repeat_by digest key) ≡ true
+no_repeat digest Absent h = refl
+no_repeat digest Malformed h = refl
+no_repeat digest (Given key) h = absurd cc
+
+post_built : (t : Town) (c : Caller) (name author : List ℕ) (post : Post) (moment : ℕ) (v : Judgement) (e : Entry)
+    → is_built_key post.key ≡ true → is_built_read post.read ≡ true
+    → judge_post t c name author post ≡ v → post_entry name post moment v ≡ Some e → is_built e ≡ true
+post_built t c name author post moment (Stop r) e key read verdict made = absurd cc
+post_built t c name author post moment (Repeat l) e key read verdict made = absurd cc
+post_built t c name author post moment (Keep a) e key read verdict made =
+    let steps = steps_kept (is_bad_key post.key) (is_nobody c) (is_self c name) post.is_typed (judge_read t c author post post.read) a verdict in
+    let create : is_create (deed_of a.kind) ≡ true =
+    subst (λ (r : Read). is_built_read r ≡ true) (read_ready t c author post post.read a steps.1) read in
+    let same : Local name (repeat_by post.digest post.key) a moment ≡ e = cc in
+    subst (λ (x : Entry). is_built x ≡ true) same (rw (create, no_repeat post.digest post.key key) refl)
+
+built_by : (t : Town) (c : Caller) (name : List ℕ) (post : Post) (moment : ℕ) (a : Option (List ℕ)) (e : Entry)
+    → is_built_key post.key ≡ true → is_built_read post.read ≡ true → entry_at t c name post moment a ≡ Some e → is_built e ≡ true
+built_by t c name post moment None e key read made = absurd cc
+built_by t c name post moment (Some author) e key read made =
+    post_built t c name author post moment (judge_post t c name author post) e key read refl made
+
+-- The entry that an ask makes that is built is built.
+pub entry_built : (t : Town) (c : Caller) (ask : Ask) (moment : ℕ) (e : Entry) → is_built_ask ask ≡ true → entry_of t c ask moment ≡ Some e → is_built e ≡ true
+entry_built t c Nowhere moment e p made = absurd cc
+entry_built t c (WrongMethod allow) moment e p made = absurd cc
+entry_built t c (Webfinger resource) moment e p made = absurd cc
+entry_built t c (Actor name) moment e p made = absurd cc
+entry_built t c (Collection which ask) moment e p made = absurd cc
+entry_built t c (Activity name number) moment e p made = absurd cc
+entry_built t c (Object name number) moment e p made = absurd cc
+entry_built t c (Outbox name post) moment e p made =
+    let parts = and_parts (is_built_key post.key) (is_built_read post.read) p in
+    built_by t c name post moment (id_of t name) e parts.0 parts.1 made
+entry_built t c (Inbox name post) moment e p made = absurd cc

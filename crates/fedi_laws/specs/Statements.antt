@@ -1,5 +1,5 @@
 -- The laws of what a history means.
-use Rattle.std.specs.Prelude.{◌≡◌, ℕ, ◌≤◌, Bool, true, false, List, [], ◌∷◌, ◌++◌, Option, Some}
+use Rattle.std.specs.Prelude.{◌≡◌, ℕ, ◌≤◌, Bool, true, false, List, [], ◌∷◌, ◌++◌, IsTrue, Option, Some}
 use Rattle.std.specs.List.{list_any}
 use Rattle.fedi_address.specs.Names.{is_name}
 use Rattle.fedi_objects.specs.declared.activity.Activity.{Activity}
@@ -10,6 +10,7 @@ use Rattle.fedi_objects.specs.Forms.{is_tombstone}
 use Rattle.fedi_town.specs.declared.caller.Caller.{Caller}
 use Rattle.fedi_town.specs.Activities.{local_act, remote_act}
 use Rattle.fedi_town.specs.Agreement.{Agree}
+use Rattle.fedi_town.specs.Built.{are_built}
 use Rattle.fedi_town.specs.Deeds.{deed_of, changes_nothing, is_follow}
 use Rattle.fedi_town.specs.Histories.{town, is_known}
 use Rattle.fedi_town.specs.Ids.{actor_id}
@@ -23,6 +24,7 @@ use Rattle.fedi_town.specs.Seeing.{sees}
 use Rattle.fedi_town.specs.Towns.{Town, has_name, id_of}
 use Rattle.fedi_asks.specs.declared.ask.Ask.{Ask}
 use Rattle.fedi_asks.specs.Asks.{answer_of, entry_of, IsPostable}
+use Rattle.fedi_asks.specs.Built.{is_built_ask}
 use Rattle.fedi_asks.specs.Cleanness.{is_clean_answer}
 use Rattle.fedi_asks.specs.Reading.{is_self}
 
@@ -94,6 +96,12 @@ abbrev pub AsksKeepHistoriesLegal : Type 0
 AsksKeepHistoriesLegal =
     (history : List Entry) (c : Caller) (ask : Ask) (moment : ℕ) (e : Entry) → IsLegal history
     → IsPostable (town history) ask → entry_of (town history) c ask moment ≡ Some e → IsLegal (history ++ e ∷ [])
+
+-- What an ask makes that is built is built.
+abbrev pub AsksKeepHistoriesBuilt : Type 0
+AsksKeepHistoriesBuilt =
+    (history : List Entry) (c : Caller) (ask : Ask) (moment : ℕ) (e : Entry) → IsTrue (are_built history)
+    → IsTrue (is_built_ask ask) → entry_of (town history) c ask moment ≡ Some e → IsTrue (are_built (history ++ e ∷ []))
 
 -- the entry is an attempt to deliver this activity to this recipient
 abbrev pub is_attempt_of : List ℕ → List ℕ → Entry → Bool

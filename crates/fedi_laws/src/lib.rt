@@ -13,8 +13,8 @@ pub use club::{
     followers_get_a_note, numbers_end, peers_deliver_their_own,
 };
 pub use histories::{
-    asks_keep_histories_legal, due_deliveries_are_queued, due_deliveries_stay_due,
-    members_have_their_ids,
+    asks_keep_histories_built, asks_keep_histories_legal, due_deliveries_are_queued,
+    due_deliveries_stay_due, members_have_their_ids,
 };
 pub use objects::{
     activities_are_there_once, objects_are_made_once, objects_are_replayed, tombstones_stay,

@@ -4,25 +4,22 @@ use Rattle.std.specs.Prelude.{codes}
 use Rattle.serde_json.specs.Data.{Data, object, string, put, no_members}
 use Rattle.serde_json.specs.Written.{compact_text}
 use Rattle.serde_json.proofs.OnLiterals.{serde_json_on_literals}
-use Rattle.fedi_model.specs.declared.refusal.Refusal.{Refusal}
-use Rattle.fedi_model.specs.declared.refusal.Refusal.TheVariants.{BadHead, BadBody, BadQuery, NoKey, WrongKey, WrongMac, NotOwner, Blocked, NotOrigin, NotPublic, NotFound, WrongMethod, KeyReused, NotStanding, Gone, NoLength, TooLong, WrongType, BadShape, HeadTooLong, NoCoding, ActorFull, KeeperFault, Memory, JournalFull}
-use Rattle.fedi_model.specs.Refusals.{name_of, refusal_body}
-use Rattle.fedi_objects.specs.declared.object.Object.{Object}
-use Rattle.fedi_objects.specs.Forms.{activity_form, object_form}
-use Rattle.fedi_objects.proofs.FormLemmas.{is_clean-activity_form, is_clean-object_form}
+use Rattle.fedi_asks.specs.declared.ask.Ask.{Ask}
+use Rattle.fedi_asks.specs.Answers.{Answer, Refuse, Misshape, Disallow, Document, Profile, Tombstone, Created, Accepted}
+use Rattle.fedi_asks.specs.Asks.{answer_of}
+use Rattle.fedi_asks.specs.Cleanness.{is_clean_answer}
+use Rattle.fedi_laws.proofs.Clean.{answers_clean}
 use Rattle.fedi_reading.specs.declared.shape_fault.ShapeFault.{ShapeFault}
 use Rattle.fedi_reading.specs.declared.shape_fault.ShapeFault.TheVariants as faults
 use Rattle.fedi_reading.specs.Shapes.{fault_name}
-use Rattle.fedi_model.specs.declared.act.Act.{Act}
-use Rattle.fedi_model.specs.declared.ask.Ask.{Ask}
-use Rattle.fedi_model.specs.declared.caller.Caller.{Caller}
-use Rattle.fedi_model.specs.declared.reply.Reply.{Reply}
+use Rattle.fedi_town.specs.declared.caller.Caller.{Caller}
+use Rattle.fedi_town.specs.declared.refusal.Refusal.{Refusal}
+use Rattle.fedi_town.specs.declared.refusal.Refusal.TheVariants.{BadHead, BadBody, BadQuery, NoKey, WrongKey, WrongMac, NotOwner, Blocked, NotOrigin, NotPublic, NotFound, WrongMethod, KeyReused, NotStanding, Gone, NoLength, TooLong, WrongType, BadShape, HeadTooLong, NoCoding, ActorFull, KeeperFault, Memory, JournalFull}
+use Rattle.fedi_town.specs.Towns.{Town}
 use Rattle.fedi_model.specs.Cleanness.{IsCleanBody}
+use Rattle.fedi_model.specs.Refusals.{name_of, refusal_body}
 use Rattle.fedi_model.specs.Refusing.{fault_body, refused}
-use Rattle.fedi_model.specs.Replies.{activity_document, object_document, reply}
-use Rattle.fedi_model.specs.Seeing.{shown_activity}
-use Rattle.fedi_model.specs.Towns.{Town}
-use Rattle.fedi_model.proofs.EachReply.{OfEachKind, of_each_reply}
+use Rattle.fedi_model.specs.Replies.{reply, reply_of}
 
 -- a value that names what is wrong
 abbrev error_value : List ℕ → Data
@@ -73,28 +70,19 @@ fault_text faults.BadText = refl
 fault_text faults.SelfTarget = refl
 fault_text faults.Memory = refl
 
-abbrev IsClean : Reply → Type 0
-IsClean r = IsCleanBody r.body
-
 pub refused_is_clean : (r : Refusal) → IsCleanBody (refused r).body
 refused_is_clean r = inr (error_value (name_of r), refl, refusal_value r)
 
-object_is_clean : (o : Object) → IsClean (object_document o)
-unfolding object_document
-object_is_clean o = inr (object_form true true o, is_clean-object_form true true o, refl)
-
-activity_is_clean : (x : Act) → IsClean (activity_document x)
-unfolding activity_document
-activity_is_clean x = inr (activity_form true true x.author (shown_activity x), is_clean-activity_form true true x.author (shown_activity x), refl)
-
-each_is_clean : OfEachKind IsClean
-each_is_clean = record {
-  refusal = refused_is_clean;
-  fault = λ f. inr (fault_value (fault_name f), refl, fault_text f);
-  object = object_is_clean;
-  activity = activity_is_clean;
-  creation = λ host name number. inl refl;
-}
+-- a clean answer is written as a clean reply
+answer_is_clean : (a : Answer) → is_clean_answer a ≡ true → IsCleanBody (reply_of a).body
+answer_is_clean (Refuse r) clean = refused_is_clean r
+answer_is_clean (Misshape fault) clean = inr (fault_value (fault_name fault), refl, fault_text fault)
+answer_is_clean (Disallow allow) clean = refused_is_clean WrongMethod
+answer_is_clean (Document d) clean = inr (d, clean, refl)
+answer_is_clean (Profile d) clean = inr (d, clean, refl)
+answer_is_clean (Tombstone d) clean = inr (d, clean, refl)
+answer_is_clean (Created id) clean = inl refl
+answer_is_clean Accepted clean = inl refl
 
 pub reply_is_clean : (t : Town) (c : Caller) (ask : Ask) → IsCleanBody (reply t c ask).body
-reply_is_clean t c ask = of_each_reply IsClean each_is_clean t c ask
+reply_is_clean t c ask = answer_is_clean (answer_of t c ask) (answers_clean t c ask)

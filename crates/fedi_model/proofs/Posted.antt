@@ -1,5 +1,5 @@
--- What is read of a client's post is an activity that a history may take.
-use Rattle.std.proofs.Common.{◌≡◌, ℕ, ◌≤◌, List, [], ◌∷◌, ◌++◌, length, true, false, cond, not, nat_le, Option, Some, None, codes, refl, sym, subst, ◌∙◌}
+-- What is read of a client's post has the shape of a post, and is a Create.
+use Rattle.std.proofs.Common.{◌≡◌, ℕ, ◌≤◌, List, [], ◌∷◌, ◌++◌, length, true, false, cond, not, Option, Some, None, codes, refl, sym, subst, ◌∙◌}
 use Rattle.std.specs.Prelude.{Ok, IsTrue}
 use Rattle.std.specs.Cmp.Lexicographic.{pointwise}
 use Rattle.std.specs.List.{fold, filter_map}
@@ -13,10 +13,13 @@ use Rattle.fedi_address.specs.declared.recipients.Recipients.{Recipients}
 use Rattle.fedi_objects.specs.declared.activity.Activity.{Activity}
 use Rattle.fedi_objects.specs.declared.object.Object.{Object}
 use Rattle.fedi_reading.specs.Faults.{is_long}
-use Rattle.fedi_reading.specs.Properties.{entries_at}
-use Rattle.fedi_reading.specs.Reading.{recipient_of, add_new, distinct, wrapped, reads_posted}
+use Rattle.fedi_reading.specs.Properties.{entries_at, reads_type}
+use Rattle.fedi_reading.specs.Reading.{recipient_of, add_new, distinct, tags_of, wrapped, reads_posted}
 use Rattle.fedi_reading.proofs.KeptLemmas.{named_by, AreNamed, IsMadeOf, type_kept, words_kept, people_kept, tags_kept, object_parts, posted_object}
-use Rattle.fedi_model.specs.Histories.{is_within, is_each_once, are_addressed, are_same, is_posted}
+use Rattle.fedi_objects.specs.declared.entry.Entry.TheVariants.{Local}
+use Rattle.fedi_town.specs.Built.{is_built}
+use Rattle.fedi_town.specs.Deeds.{deed_of, is_create}
+use Rattle.fedi_town.specs.Shapes.{is_text, is_type, is_none_or, is_each_once, are_addressed, are_same, are_tags, is_posted}
 
 -- ---- lists without doubles
 
@@ -60,7 +63,7 @@ same_people : (r : Recipients) → are_same r r ≡ true
 same_people r = rw (same_names r.to, same_names r.cc, same_names r.bto, same_names r.bcc, same_names r.audience) refl
 
 -- the recipients that are read are at most 500, and none is there twice in a field
-addressed : (d : Data) (r : Recipients) → AreNamed d r → length (all_of r) ≤ 500 → are_addressed r ≡ true
+addressed : (d : Data) (r : Recipients) → AreNamed d r → length (all_of r) ≤ 500 → are_addressed 500 r ≡ true
 addressed d r named few =
     let to : is_each_once r.to ≡ true = rw named.to (named_once (codes "to") d) in
     let copied : is_each_once r.cc ≡ true = rw named.cc (named_once (codes "cc") d) in
@@ -71,15 +74,24 @@ addressed d r named few =
 
 -- ---- the whole
 
-not_long : (text : Option (List ℕ)) → is_long text ≡ false → is_within 65536 text ≡ true
+not_long : (text : Option (List ℕ)) → is_long text ≡ false → is_none_or is_text text ≡ true
+unfolding is_text
 not_long None h = refl
 not_long (Some text) h = le-leb (length text) 65536 (ltb-false 65536 (length text) h)
 
+a_type : (d : Data) (kind : List ℕ) → reads_type d ≡ Ok kind → is_type kind ≡ true
+unfolding is_type
+a_type d kind h = (type_kept d kind h).0
+
+named_shortly : (d : Data) → are_tags (tags_of d) ≡ true
+unfolding is_text
+named_shortly d = tags_kept d
+
 -- the Create of an object that is read keeps each limit
-object_kept : (d : Data) (o : Object) → IsMadeOf d o → is_posted (wrapped o) ≡ true
-object_kept d o h =
-    let kind = type_kept d h.kind h.kind_read in
-    let size = and_parts (nat_le 1 (length h.kind)) (nat_le (length h.kind) 64) kind.0 in
+object_kept : (author : List ℕ) (d : Data) (o : Object) → IsMadeOf d o → is_posted author (wrapped o) ≡ true
+object_kept author d o h =
+    let type = a_type d h.kind h.kind_read in
+    let living = (type_kept d h.kind h.kind_read).1 in
     let words = words_kept d h.words h.words_read in
     let content = not_long h.words.0 words.0 in
     let summary = not_long h.words.1 words.1 in
@@ -87,11 +99,19 @@ object_kept d o h =
     let people = people_kept d h.people h.people_read in
     let reached = addressed d h.people.1 people.0 people.1 in
     let same = same_people h.people.1 in
-    let tags = tags_kept d in
-    subst (λ (x : Object). is_posted (wrapped x) ≡ true) (sym h.whole)
-    (rw (size.0, size.1, kind.1, content, summary, name, tags, reached, same) refl)
+    let tags = named_shortly d in
+    subst (λ (x : Object). is_posted author (wrapped x) ≡ true) (sym h.whole)
+    (rw (type, living, content, summary, name, tags, reached, same) refl)
 
-pub read_is_posted : (d : Data) (a : Activity) → reads_posted d ≡ Ok a → IsTrue (is_posted a)
-read_is_posted d a h =
+pub read_is_posted : (d : Data) (a : Activity) (author : List ℕ) → reads_posted d ≡ Ok a → IsTrue (is_posted author a)
+read_is_posted d a author h =
     let found = posted_object d a h in
-    subst (λ (x : Activity). is_posted x ≡ true) (sym found.2) (object_kept d found.0 (object_parts d found.0 found.1))
+    subst (λ (x : Activity). is_posted author x ≡ true) (sym found.2) (object_kept author d found.0 (object_parts d found.0 found.1))
+
+pub read_is_create : (d : Data) (a : Activity) → reads_posted d ≡ Ok a → is_create (deed_of a.kind) ≡ true
+read_is_create d a h =
+    let found = posted_object d a h in
+    subst (λ (x : Activity). is_create (deed_of x.kind) ≡ true) (sym found.2) refl
+
+pub read_is_built : (d : Data) (a : Activity) (name : List ℕ) (moment : ℕ) → reads_posted d ≡ Ok a → IsTrue (is_built (Local name None a moment))
+read_is_built d a name moment h = rw (read_is_create d a h) refl

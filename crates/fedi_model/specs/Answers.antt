@@ -1,20 +1,22 @@
 -- The answer to a request: the refusal of its caller, or the reply to the caller for what it asks. A body is that of the
 -- request, and is empty where it has none.
 use Rattle.std.specs.Prelude.{◌≡◌, ℕ, List, Option, None, Result, Ok, Err}
-use Rattle.fedi_model.specs.declared.refusal.Refusal.{Refusal}
+use Rattle.fedi_town.specs.declared.refusal.Refusal.{Refusal}
 use Rattle.fedi_objects.specs.declared.entry.Entry.{Entry}
-use Rattle.fedi_model.specs.declared.ask.Ask.{Ask}
-use Rattle.fedi_model.specs.declared.caller.Caller.{Caller}
+use Rattle.fedi_asks.specs.declared.ask.Ask.{Ask}
+use Rattle.fedi_town.specs.declared.caller.Caller.{Caller}
 use Rattle.fedi_model.specs.declared.reply.Reply.{Reply}
 use Rattle.fedi_model.specs.declared.request.Request.{Request}
-use Rattle.fedi_model.specs.Agreement.{Agree}
+use Rattle.fedi_asks.specs.Asks.{entry_of}
+use Rattle.fedi_town.specs.Agreement.{Agree}
+use Rattle.fedi_town.specs.Histories.{town}
+use Rattle.fedi_town.specs.Legal.{IsLegal}
+use Rattle.fedi_town.specs.Towns.{Town}
 use Rattle.fedi_model.specs.Callers.{caller_by}
 use Rattle.fedi_model.specs.Credentials.{credentials_of}
-use Rattle.fedi_model.specs.Histories.{town, IsLegal}
 use Rattle.fedi_model.specs.Refusing.{refused}
-use Rattle.fedi_model.specs.Replies.{reply, entry_of}
+use Rattle.fedi_model.specs.Replies.{reply}
 use Rattle.fedi_model.specs.Routes.{Asks}
-use Rattle.fedi_model.specs.Towns.{Town}
 
 -- who makes the request, or why nobody may be taken for its caller
 abbrev pub caller_of : Town → Request → List ℕ → Result Caller Refusal

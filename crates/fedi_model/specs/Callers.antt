@@ -2,13 +2,13 @@
 use Rattle.std.specs.Prelude.{Option, Some, None, Result, Ok, Err}
 use Rattle.std.specs.List.{find}
 use Rattle.sha2.specs.Sha256.{sha256}
-use Rattle.fedi_model.specs.declared.refusal.Refusal.{Refusal}
-use Rattle.fedi_model.specs.declared.refusal.Refusal.TheVariants.{WrongKey, WrongMac}
-use Rattle.fedi_model.specs.declared.act.Actor.{Actor}
-use Rattle.fedi_model.specs.declared.caller.Caller.{Caller}
-use Rattle.fedi_model.specs.declared.caller.Caller.TheVariants as callers
+use Rattle.fedi_town.specs.declared.refusal.Refusal.{Refusal}
+use Rattle.fedi_town.specs.declared.refusal.Refusal.TheVariants.{WrongKey, WrongMac}
+use Rattle.fedi_town.specs.declared.act.Actor.{Actor}
+use Rattle.fedi_town.specs.declared.caller.Caller.{Caller}
+use Rattle.fedi_town.specs.declared.caller.Caller.TheVariants as callers
 use Rattle.fedi_model.specs.Credentials.{Shows, Nothing, Bearer, Mac}
-use Rattle.fedi_model.specs.Towns.{Town, has_digest}
+use Rattle.fedi_town.specs.Towns.{Town, has_digest}
 
 -- the member, or the refusal of a key that nobody has (RFC 6750, section 3.1)
 abbrev pub member_or_refused : Option Actor → Result Caller Refusal

@@ -5,9 +5,9 @@ use Rattle.std.specs.Str.{is_utf8}
 use Rattle.std.specs.Char.{to_ascii_lowercase}
 use Rattle.std.specs.Result.{result_ok}
 use Rattle.hex.specs.Hex.{decode_sized}
-use Rattle.fedi_model.specs.declared.caller.Credentials.{Credentials}
-use Rattle.fedi_model.specs.declared.caller.Credentials.TheVariants.{Nothing as NoneShown, Bearer as BearerShown, Mac as MacShown}
-use Rattle.fedi_model.specs.declared.caller.Signed.{Signed}
+use Rattle.fedi_model.specs.declared.credentials.Credentials.{Credentials}
+use Rattle.fedi_model.specs.declared.credentials.Credentials.TheVariants.{Nothing as NoneShown, Bearer as BearerShown, Mac as MacShown}
+use Rattle.fedi_model.specs.declared.credentials.Signed.{Signed}
 use Rattle.fedi_model.specs.declared.request.Request.{Request}
 
 -- the 32 bytes that 64 hexadecimal digits, of either case, write (RFC 4648, section 8)

@@ -3,7 +3,7 @@ use Rattle.std.specs.Prelude.{ℕ, List, ◌++◌, codes, None}
 use Rattle.fedi_reading.specs.declared.shape_fault.ShapeFault.{ShapeFault}
 use Rattle.fedi_reading.specs.Shapes.{fault_name}
 use Rattle.fedi_model.specs.declared.reply.Form.TheVariants as forms
-use Rattle.fedi_model.specs.declared.refusal.Refusal.{Refusal}
+use Rattle.fedi_town.specs.declared.refusal.Refusal.{Refusal}
 use Rattle.fedi_model.specs.declared.reply.Reply.{Reply}
 use Rattle.fedi_model.specs.Refusals.{refusal_body, status_of}
 

@@ -1,74 +1,53 @@
--- The reply to an ask (ActivityPub, section 3.2; RFC 9110, section 15), and the entry that it makes.
-use Rattle.std.specs.Prelude.{ℕ, Bool, true, List, filter, Option, Some, None, option_and_then, if◌then◌else◌}
-use Rattle.std.specs.List.{find}
+-- The reply to an ask: each answer as HTTP (RFC 9110, section 15).
+use Rattle.std.specs.Prelude.{◌≡◌, ℕ, List, [], Option, Some, None}
 use Rattle.serde_json.specs.Data.{Data}
 use Rattle.serde_json.specs.Written.{compact_text}
-use Rattle.fedi_model.specs.declared.refusal.Refusal.TheVariants.{NotFound}
+use Rattle.fedi_asks.specs.declared.ask.Allow.{Allow}
+use Rattle.fedi_asks.specs.declared.ask.Ask.{Ask}
+use Rattle.fedi_asks.specs.Answers.{Answer, Refuse, Misshape, Disallow, Document, Profile, Tombstone, Created, Accepted}
+use Rattle.fedi_asks.specs.Asks.{answer_of}
 use Rattle.fedi_objects.specs.declared.entry.Entry.{Entry}
-use Rattle.fedi_objects.specs.declared.object.Object.{Object}
-use Rattle.fedi_objects.specs.Forms.{activity_form, object_form}
-use Rattle.fedi_model.specs.declared.act.Act.{Act}
-use Rattle.fedi_model.specs.declared.ask.Ask.{Ask}
-use Rattle.fedi_model.specs.declared.ask.Ask.TheVariants as asks
-use Rattle.fedi_model.specs.declared.caller.Caller.{Caller}
+use Rattle.fedi_town.specs.declared.caller.Caller.{Caller}
+use Rattle.fedi_town.specs.declared.refusal.Refusal.TheVariants.{WrongMethod}
+use Rattle.fedi_town.specs.Agreement.{Agree}
+use Rattle.fedi_town.specs.Histories.{town}
+use Rattle.fedi_town.specs.Legal.{IsLegal}
+use Rattle.fedi_town.specs.Towns.{Town}
+use Rattle.fedi_model.specs.declared.reply.Form.{Form}
 use Rattle.fedi_model.specs.declared.reply.Form.TheVariants as forms
 use Rattle.fedi_model.specs.declared.reply.Reply.{Reply}
-use Rattle.fedi_model.specs.Activities.{is_own_id, makes, whole_of}
-use Rattle.fedi_model.specs.Ids.{activity_id, object_id}
-use Rattle.fedi_model.specs.Posting.{post_reply_at, post_entry_at}
-use Rattle.fedi_model.specs.Refusing.{refused}
-use Rattle.fedi_model.specs.Seeing.{sees, shown_activity}
-use Rattle.fedi_model.specs.Towns.{Town, has_name}
+use Rattle.fedi_model.specs.Refusing.{refused, misshapen}
 
--- a document of ActivityStreams (ActivityPub, section 3.2)
-abbrev pub document : Data → Reply
-document d = record { status = 200; form = forms.Activity; location = None; allow = None; body = compact_text d }
+-- the path has these methods alone (RFC 9110, sections 10.2.1 and 15.5.6)
+abbrev pub disallowed : Allow → Reply
+disallowed allow = record (refused WrongMethod) { allow = Some allow }
 
--- the document of a local object
-unfoldable pub object_document : Object → Reply
-object_document o = document (object_form true true o)
+-- a document of this media type, with this status
+abbrev pub showing : ℕ → Form → Data → Reply
+showing status form d = record { status = status; form = form; location = None; allow = None; body = compact_text d }
 
--- the document, or that there is none
-abbrev pub document_or_missing : Option Object → Reply
-document_or_missing None = refused NotFound
-document_or_missing (Some o) = object_document o
+-- no document, with this status
+abbrev pub without_body : ℕ → Option (List ℕ) → Reply
+without_body status location = record { status = status; form = forms.None; location = location; allow = None; body = [] }
 
--- the activity that made the object of the member's activity of this number
-abbrev pub maker_of : Town → List ℕ → ℕ → Option Act
-maker_of t name number = option_and_then (λ host. find (makes (object_id host name number)) t.acts) t.host
-
--- what the caller does not see is missing to the caller
-abbrev pub seen_or_missing : Town → Caller → Option Act → Reply
-seen_or_missing t c None = refused NotFound
-seen_or_missing t c (Some x) = if sees t c x then document_or_missing (whole_of x.activity.object) else refused NotFound
-
--- the document of a local activity, as those see it who may
-unfoldable pub activity_document : Act → Reply
-activity_document x = document (activity_form true true x.author (shown_activity x))
-
--- the activity has this id
-unfoldable pub has_activity_id : List ℕ → Act → Bool
-has_activity_id id x = is_own_id id x.activity.id
-
--- the member's activity of this number, among those that the caller sees
-abbrev pub seen_activity : Town → Caller → List ℕ → ℕ → Option Act
-seen_activity t c name number = option_and_then (λ host. find (has_activity_id (activity_id host name number)) (filter (sees t c) t.acts)) t.host
-
--- the document of the activity that was found, or that there is none
-abbrev pub activity_or_missing : Option Act → Reply
-activity_or_missing None = refused NotFound
-activity_or_missing (Some x) = activity_document x
+-- The answer as a reply: a document (RFC 9110, section 15.3.1; as ActivityStreams, ActivityPub, section 3.2, or as JRD,
+-- RFC 7033, section 10.2); what is left of what was deleted (RFC 9110, section 15.5.11; ActivityPub, section 6.4); where
+-- the thing that was made stands (RFC 9110, sections 10.2.2 and 15.3.2; ActivityPub, section 6); or that a delivery was
+-- taken (RFC 9110, section 15.3.3).
+abbrev pub reply_of : Answer → Reply
+reply_of (Refuse r) = refused r
+reply_of (Misshape fault) = misshapen fault
+reply_of (Disallow allow) = disallowed allow
+reply_of (Document d) = showing 200 forms.Activity d
+reply_of (Profile d) = showing 200 forms.Jrd d
+reply_of (Tombstone d) = showing 410 forms.Activity d
+reply_of (Created id) = without_body 201 id
+reply_of Accepted = without_body 202 None
 
 -- the reply to the caller for the ask
 abbrev pub reply : Town → Caller → Ask → Reply
-reply t c asks.Nowhere = refused NotFound
-reply t c (asks.Activity name number) = activity_or_missing (seen_activity t c name number)
-reply t c (asks.Object name number) = seen_or_missing t c (maker_of t name number)
-reply t c (asks.Outbox name post) = post_reply_at t c name (find (has_name name) t.actors) post
+reply t c ask = reply_of (answer_of t c ask)
 
--- the entry that the ask makes at this moment: that of a post that is accepted
-abbrev pub entry_of : Town → Caller → Ask → ℕ → Option Entry
-entry_of t c asks.Nowhere moment = None
-entry_of t c (asks.Activity name number) moment = None
-entry_of t c (asks.Object name number) moment = None
-entry_of t c (asks.Outbox name post) moment = post_entry_at t c name (find (has_name name) t.actors) post moment
+-- the reply is that of each legal history that agrees with this one for the caller
+abbrev pub IsPrivate : List Entry → Caller → Ask → Reply → Type 0
+IsPrivate history c ask r = (g : List Entry) → IsLegal g → Agree (town g) (town history) c → reply (town g) c ask ≡ r

@@ -3,9 +3,10 @@
 ghost use Rattle.std.specs.Prelude.{◌≡◌};
 ghost use Rattle.fedi_model.specs.Refusing.{fault_body, misshapen, refused, telling};
 
-use crate::refusal::Refusal;
+use crate::refusal::{refusal_body, refusal_status};
 use crate::reply::{Body, Form, Reply};
 use fedi_reading::ShapeFault;
+use fedi_town::Refusal;
 use http::StatusCode;
 
 fn telling(status: StatusCode, text: &'static [u8]) -> Reply
@@ -43,7 +44,7 @@ fn fault_body(fault: ShapeFault) -> &'static [u8]
 pub fn refusal_reply(refusal: Refusal) -> Reply
     ensures { result ≡ refused refusal }
 {
-    telling(refusal.status(), refusal.body())
+    telling(refusal_status(refusal), refusal_body(refusal))
 }
 
 /// The reply to a post of the wrong shape (RFC 9110, section 15.5.21), which names the fault as

@@ -3,6 +3,7 @@
 ghost use Rattle.std.specs.Prelude.{◌≡◌, []};
 
 use fedi_address::Iri;
+use fedi_asks::Allow;
 use http::StatusCode;
 use std::borrow::CowSlice;
 use std::marker::Model;
@@ -18,15 +19,6 @@ pub enum Form {
     Jrd,
     /// `application/json`
     Json,
-}
-
-/// The methods that a path has.
-#[derive(Clone, Copy, Debug)]
-pub enum Allow {
-    /// GET and HEAD (RFC 9110, sections 9.3.1 and 9.3.2).
-    GetHead,
-    /// These and POST (RFC 9110, section 9.3.3).
-    GetHeadPost,
 }
 
 /// The bytes of a reply's body: a fixed text, which takes no memory, or bytes of its own.

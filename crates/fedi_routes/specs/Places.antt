@@ -1,9 +1,8 @@
 -- Where a path leads behind a member's name.
 use Rattle.std.specs.Prelude.{ℕ, ◌≡◌, Bool, List, ◌++◌, codes, decimal, IsTrue}
 use Rattle.fedi_address.specs.Names.{is_name}
-use Rattle.fedi_model.specs.Ids.{outbox_path}
 use Rattle.fedi_model.specs.Requests.{is_get, is_post}
-use Rattle.fedi_model.specs.Routes.{IsNumber, path_of}
+use Rattle.fedi_model.specs.Routes.{IsNumber, outbox_path, path_of}
 use Rattle.fedi_model.specs.declared.request.Request.{Request}
 use Rattle.fedi_routes.specs.declared.places.Place.{Place}
 use Rattle.fedi_routes.specs.declared.places.Place.TheVariants.{Activity, Object, Outbox}

@@ -1,8 +1,8 @@
 -- What is read of the value that a body stands for.
 use Rattle.std.specs.Prelude.{◌≡◌, Ok, Err}
 use Rattle.serde_json.specs.Data.{Data}
-use Rattle.fedi_model.specs.declared.ask.Read.{Read}
-use Rattle.fedi_model.specs.declared.ask.Read.TheVariants.{NotJson, Bad, Ready}
+use Rattle.fedi_asks.specs.declared.post.Read.{Read}
+use Rattle.fedi_asks.specs.declared.post.Read.TheVariants.{NotJson, Bad, Ready}
 use Rattle.fedi_reading.specs.Reading.{reads_posted}
 
 -- the fault of the value, or its activity

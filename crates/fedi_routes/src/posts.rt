@@ -8,7 +8,7 @@ ghost use Rattle.fedi_routes.specs.Posts.{ReadsValue};
 
 use crate::texts::up_to;
 use fedi_http::{is_same_name, without_back_blanks};
-use fedi_model::{Fields, Post, Read, Request};
+use fedi_model::{Fields, KeyAsk, Post, Read, Request};
 use fedi_objects::Boxed;
 use fedi_reading::{BodyFault, ShapeFault, read_body, read_posted};
 use serde_json::Value;
@@ -20,9 +20,21 @@ pub(crate) fn post_of(alloc: Global, request: &Request, body: &[u8]) -> Result<P
 {
     Ok(Post {
         is_typed: is_typed(&request.fields),
-        is_keyed: request.fields.idempotency_key.is_some(),
+        key: key_of(&request.fields),
+        // No key is taken yet, so nobody asks for the digest of the body.
+        digest: [0; 32],
         read: body_of(alloc, body)?,
     })
+}
+
+/// The key under which the post is repeated: no value of the field is taken as one yet.
+fn key_of(fields: &Fields) -> KeyAsk
+    ensures { result ≡ model.repeat_key fields.now.idempotency_key }
+{
+    match &fields.idempotency_key {
+        Some(_) => KeyAsk::Malformed,
+        None => KeyAsk::Absent,
+    }
 }
 
 /// What is read of the body.

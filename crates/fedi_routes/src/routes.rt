@@ -2,9 +2,11 @@
 
 ghost use Rattle.std.specs.Prelude.{◌≡◌, true, IsTrue, IfOk, OnErr};
 ghost use Rattle.fedi_address.specs.Names.{is_name};
-ghost use Rattle.fedi_model.specs.Posting.{IsPostable};
+ghost use Rattle.fedi_asks.specs.Asks.{IsPostable};
+ghost use Rattle.fedi_asks.specs.Built.{is_built_ask};
 ghost use Rattle.fedi_model.specs.Routes as model;
 ghost use Rattle.fedi_routes.specs.Places as places;
+ghost use Rattle.fedi_town.specs.Towns.{Town};
 
 use crate::places::{Place, place_of};
 use crate::posts::post_of;
@@ -22,8 +24,9 @@ use std::alloc::{AllocError, Global};
 pub fn route(alloc: Global, request: &Request, body: &[u8]) -> Result<Ask, AllocError>
     ensures asks { IfOk result (λ ask. model.Asks request.now body.now ask) }
     ensures once { model.IsAskedOnce request.now body.now }
-    // An activity to be posted is one that a history may take.
-    ensures postable { IfOk result IsPostable }
+    // An activity to be posted is one that a history may take from its author, and one that is built.
+    ensures postable { IfOk result (λ ask. (t : Town) → IsPostable t ask) }
+    ensures built { IfOk result (λ ask. IsTrue (is_built_ask ask)) }
     ensures memory { OnErr result (places.IsToOutbox request.now) }
 {
     let Some((name, place)) = place_of(path_of(request)) else {

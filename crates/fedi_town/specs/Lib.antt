@@ -13,6 +13,7 @@ pub mod Lists
 pub mod Objects
 pub mod Origins
 pub mod Queues
+pub mod Refusals
 pub mod Relations
 pub mod Replays
 pub mod Rules

@@ -5,6 +5,7 @@ use Rattle.fedi_objects.specs.declared.activity.Activity.{Activity}
 use Rattle.fedi_objects.specs.declared.activity.ObjectRef.{ObjectRef}
 use Rattle.fedi_objects.specs.declared.activity.ObjectRef.TheVariants.{Nothing, Id, Whole}
 use Rattle.fedi_objects.specs.declared.object.Object.{Object}
+use Rattle.fedi_objects.specs.Objects.{stripped_object}
 use Rattle.fedi_town.specs.declared.act.Act.{Act}
 use Rattle.fedi_town.specs.declared.caller.Caller.{Caller}
 use Rattle.fedi_town.specs.declared.caller.Caller.TheVariants.{Nobody, Actor, Peer}
@@ -13,10 +14,6 @@ use Rattle.fedi_town.specs.Objects.{maker_of, object_of, whole_of}
 use Rattle.fedi_town.specs.Relations.{ref_id}
 use Rattle.fedi_town.specs.Seeing.{seen}
 use Rattle.fedi_town.specs.Towns.{Town, deed, id_of}
-
--- the object without `bto` and `bcc` (ActivityPub, section 6)
-abbrev pub stripped_object : Object → Object
-stripped_object o = record o { recipients = stripped o.recipients }
 
 -- a mere id, where there is one
 abbrev pub ref_to : Option (List ℕ) → ObjectRef

@@ -1,5 +1,5 @@
 use Rattle.std.proofs.Common.{sym, ◌∙◌}
-use Rattle.fedi_routes.proofs.AskLemmas.{no_place, not_taken, postable}
+use Rattle.fedi_routes.proofs.AskLemmas.{no_place, not_taken, built, postable}
 use Rattle.fedi_routes.proofs.routes.route.Goals as goal
 
 pub returns-in_default-clause-asks : goal.returns-in_default-clause-asks
@@ -14,3 +14,6 @@ returns-then-not-takes-clause-asks c =
 
 pub returns-clause-postable : goal.returns-clause-postable
 returns-clause-postable c = postable c.args.request.now c.args.body.now c.ask_of.result c.ask_of.ensures.asks
+
+pub returns-clause-built : goal.returns-clause-built
+returns-clause-built c = built c.args.request.now c.args.body.now c.ask_of.result c.ask_of.ensures.asks

@@ -1,17 +1,4 @@
-//! Who makes a request, and what the request shows for it.
-
-use fedi_address::{Host, LocalName};
-
-/// Who makes a request.
-#[derive(Drop)]
-pub enum Caller {
-    /// Somebody who shows nothing.
-    Nobody,
-    /// A member of this server.
-    Actor(LocalName),
-    /// Another server.
-    Peer(Host),
-}
+//! What a request shows of who makes it.
 
 /// What a peer signed.
 #[derive(Clone, Copy)]
