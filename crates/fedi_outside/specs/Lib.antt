@@ -1,4 +1,5 @@
 pub mod Causes
+pub mod Entropies
 pub mod Keepers
 pub mod MemoryKeepers
 pub mod Plans

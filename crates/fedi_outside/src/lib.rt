@@ -1,4 +1,5 @@
-//! What lies outside the server: where bytes come from, where they go, and what time it is.
+//! What lies outside the server: where bytes come from, where they go, where records are kept, what time it is, and what nobody can
+//! guess.
 //!
 //! Each trait says what a caller may rely on. Its ghost members are what contracts see of a value: some are optional, and a value
 //! that has one is said to tell it. Each trait has an implementation in memory, which tells all that it does.
@@ -6,6 +7,7 @@
 
 mod calm_keepers;
 mod clocks;
+mod entropies;
 mod failure;
 mod keepers;
 mod memory_keepers;
@@ -15,6 +17,7 @@ mod sources;
 
 pub use calm_keepers::{CalmKeeper, Record};
 pub use clocks::{Clock, FixedClock};
+pub use entropies::{CalmEntropy, Entropy, MemoryEntropy};
 pub use failure::Failed;
 pub use keepers::{Keeper, LoadFault, ReserveFault};
 pub use memory_keepers::MemoryKeeper;
