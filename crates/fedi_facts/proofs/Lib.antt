@@ -1,3 +1,5 @@
-pub mod Paths
+pub mod CreateLemmas
 pub mod Finds
+pub mod Paths
+pub mod Prefixes
 pub mod ShownForms

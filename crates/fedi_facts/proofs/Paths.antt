@@ -9,7 +9,7 @@ use Rattle.std.proofs.lemmas.List.{length-append}
 use Rattle.std.proofs.lemmas.List.Folds.{list_all-append}
 use Rattle.fedi_address.specs.Hosts.{is_path_byte, is_plain_path}
 use Rattle.fedi_address.specs.Names.{is_lower, is_digit, is_name_byte, is_name}
-use Rattle.fedi_model.specs.Ids.{actor_path, activity_path, object_path}
+use Rattle.fedi_town.specs.Ids.{actor_path, activity_path, object_path}
 
 or_true : (a b : Bool) → b ≡ true → (a || b) ≡ true
 or_true true b e = refl
@@ -58,18 +58,18 @@ plain_after_users tail short bytes =
 pub actor_path_is_plain : (name : List ℕ) → IsTrue (is_name name) → IsTrue (is_plain_path (actor_path name))
 actor_path_is_plain name h = let n = name_facts name h in plain_after_users name (omega (arith, n.short)) n.bytes
 
-plain_numbered : (kind name : List ℕ) (number : ℕ) → length kind ≤ 3 → list_all is_path_byte kind ≡ true → number < 2 ^ 32 → IsTrue (is_name name)
+plain_numbered : (kind name : List ℕ) (number : ℕ) → length kind ≤ 3 → list_all is_path_byte kind ≡ true → number < 2 ^ 64 → IsTrue (is_name name)
     → IsTrue (is_plain_path (codes "/users/" ++ (name ++ (kind ++ decimal number))))
 plain_numbered kind name number three plain small h =
     let n = name_facts name h in
-    let digits : length (decimal number) ≤ 10 = length-decimal-le 10 number (lit< tt) (omega arith) (omega arith) in
+    let digits : length (decimal number) ≤ 20 = length-decimal-le 20 number (lit< tt) (omega arith) (omega arith) in
     plain_after_users (name ++ (kind ++ decimal number))
     (omega (arith, length-append name (kind ++ decimal number), length-append kind (decimal number), n.short))
     (list_all-append is_path_byte name (kind ++ decimal number)
-    ∙ both_true n.bytes (list_all-append is_path_byte kind (decimal number) ∙ both_true plain (digits_in_path number (omega arith))))
+    ∙ both_true n.bytes (list_all-append is_path_byte kind (decimal number) ∙ both_true plain (digits_in_path number small)))
 
-pub activity_path_is_plain : (name : List ℕ) (number : ℕ) → number < 2 ^ 32 → IsTrue (is_name name) → IsTrue (is_plain_path (activity_path name number))
+pub activity_path_is_plain : (name : List ℕ) (number : ℕ) → number < 2 ^ 64 → IsTrue (is_name name) → IsTrue (is_plain_path (activity_path name number))
 activity_path_is_plain name number small h = plain_numbered (codes "/a/") name number (lit≤ tt) refl small h
 
-pub object_path_is_plain : (name : List ℕ) (number : ℕ) → number < 2 ^ 32 → IsTrue (is_name name) → IsTrue (is_plain_path (object_path name number))
+pub object_path_is_plain : (name : List ℕ) (number : ℕ) → number < 2 ^ 64 → IsTrue (is_name name) → IsTrue (is_plain_path (object_path name number))
 object_path_is_plain name number small h = plain_numbered (codes "/o/") name number (lit≤ tt) refl small h

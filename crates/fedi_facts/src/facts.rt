@@ -1,20 +1,23 @@
 //! The facts that a history has made, kept as plain lists.
 
-ghost use Rattle.std.specs.Prelude.{◌≡◌, ◌++◌, ◌∷◌, [], ◌<◌, IsTrue, OnOk, OnErr, option_copied, length, take, Some};
-ghost use Rattle.std.specs.List.{find, list_any};
-ghost use Rattle.fedi_model.specs.Activities.{makes};
-ghost use Rattle.fedi_model.specs.Histories.{step, member_made, acts_of_post, may_post, is_admissible};
-ghost use Rattle.fedi_model.specs.Towns.{empty_town, count_of, id_of, has_digest, has_name, is_by, has_id};
+ghost use Rattle.std.specs.Prelude.{◌≡◌, ◌++◌, ◌∷◌, [], ◌+◌, ◌^◌, ◌<◌, ◌≤◌, IsTrue, IfOk, OnOk, option_copied, vec_len, vec_capacity};
+ghost use Rattle.std.specs.List.{find};
+ghost use Rattle.fedi_town.specs.Built.{is_built};
+ghost use Rattle.fedi_town.specs.Histories.{addition_of, with_addition};
+ghost use Rattle.fedi_town.specs.Relations.{has_block_between};
+ghost use Rattle.fedi_town.specs.Towns.{empty_town, count_of, id_of, has_digest, has_name, is_by};
+ghost use Rattle.fedi_facts.specs.Creates.{AreCreates, IsBuiltAddition};
 
-use crate::ids::actor_iri;
-use crate::making::{makes, new_act};
+use crate::acts::is_by;
+use crate::making::{member_addition, post_addition};
 use fedi_address::{Host, Iri, LocalName};
-use fedi_model::{Act, Actor};
-use fedi_objects::{Activity, Entry, Moment, RepeatKey};
+use fedi_objects::Entry;
+use fedi_town::{Acceptance, Act, Actor, Addition};
 use std::alloc::{AllocError, Global};
 use std::marker::Model;
 
-/// What the entries of a history have made: the host, the members and the activities.
+/// What the entries of a history have made: the host, the members and the activities. So far each
+/// activity is a Create, and there are neither peers nor attempts to deliver.
 #[derive(Drop)]
 pub struct Facts {
     host: Option<Host>,
@@ -23,17 +26,49 @@ pub struct Facts {
 }
 
 impl Model for Facts {
-    ghost use Rattle.fedi_model.specs.Towns.{Town};
+    ghost use Rattle.std.specs.Prelude.{[], ◌&&◌, nat_lt, vec_len, vec_capacity};
+    ghost use Rattle.fedi_facts.specs.Creates.{AreCreates};
+    ghost use Rattle.fedi_facts.specs.Holdings.{Holding};
 
-    ghost Value = { Town };
+    ghost Value = { Holding };
 
-    ghost view = { λ f. record { host = f.host; actors = f.actors.items; acts = f.acts.items } };
+    ghost view = { λ f. record {
+      town = record {
+        host = f.host;
+        actors = f.actors.items;
+        peers = [];
+        acts = f.acts.items;
+        attempts = [];
+      };
+      has_room = nat_lt (vec_len f.actors) (vec_capacity f.actors)
+          && nat_lt (vec_len f.acts) (vec_capacity f.acts);
+    } };
+
+    ghost invariant = { λ f. AreCreates f.acts.items };
+}
+
+// Appends a value to a list that has room for one more.
+fn push<T: Drop>(list: &mut Vec<T>, value: T)
+    requires { vec_len list.old + 1 ≤ vec_capacity list.old }
+    ensures { list.new.items ≡ list.old.items ++ value ∷ [] }
+{
+    match list.push(value) {
+        Ok(()) => {}
+        Err(_) => unreachable!(),
+    }
+}
+
+// The activity alone: nothing else follows from it.
+fn act_of(acceptance: Acceptance) -> Act
+    ensures { result ≡ acceptance.act }
+{
+    acceptance.act
 }
 
 impl Facts {
     /// The facts before any entry.
     pub fn empty(alloc: Global) -> Facts
-        ensures { result ≡ empty_town }
+        ensures { result.town ≡ empty_town }
     {
         Facts {
             host: None,
@@ -44,125 +79,82 @@ impl Facts {
 
     /// The host, once the server was set up.
     pub fn host(&self) -> Option<&Host>
-        ensures { option_copied result ≡ self.now.host }
+        ensures { option_copied result ≡ self.now.town.host }
     {
         self.host.as_ref()
     }
 
     /// The members, in the order in which they were made.
     pub fn actors(&self) -> &[Actor]
-        ensures { result.now ≡ self.now.actors }
+        ensures { result.now ≡ self.now.town.actors }
     {
         self.actors.as_slice()
     }
 
-    /// The activities, in the order of acceptance.
+    /// The activities, in the order of acceptance. Each is a Create so far.
     pub fn acts(&self) -> &[Act]
-        ensures { result.now ≡ self.now.acts }
+        ensures value { result.now ≡ self.now.town.acts }
+        ensures creates { AreCreates self.now.town.acts }
     {
         self.acts.as_slice()
     }
 
-    /// Adds what an admissible entry makes. Out of memory the facts are as before.
-    pub fn apply(&mut self, alloc: Global, entry: &Entry) -> Result<(), AllocError>
-        requires { IsTrue (is_admissible self.old entry.now) }
-        ensures ok { OnOk result (self.new ≡ step self.old entry.now) }
-        ensures err { OnErr result (self.new ≡ self.old) }
+    /// What an entry adds, made ready to be added: all that takes memory. The error is out of memory.
+    pub fn prepare(&self, alloc: Global, entry: &Entry) -> Result<Addition, AllocError>
+        requires { IsTrue (is_built entry.now) }
+        ensures exact { IfOk result (λ a. a ≡ addition_of self.now.town entry.now) }
+        ensures built { IfOk result IsBuiltAddition }
     {
         match entry {
-            Entry::Hosted { host, .. } => self.set_host(host),
+            Entry::Hosted { host, .. } => Ok(Addition::Host(host.clone()?)),
             Entry::Made {
                 name,
                 digest,
                 locked,
                 ..
-            } => self.add_actor(alloc, name, digest, *locked),
+            } => member_addition(alloc, self, name, digest, *locked),
             Entry::Local {
                 name,
                 repeat,
                 activity,
                 moment,
-            } => self.add_act(alloc, name, repeat, activity, *moment),
-            Entry::PeerSet { .. } => Ok(()),
-            Entry::Remote { .. } => Ok(()),
-            Entry::Tried { .. } => Ok(()),
+            } => post_addition(alloc, self, name, repeat, activity, *moment),
+            Entry::PeerSet { .. } => unreachable!(),
+            Entry::Remote { .. } => unreachable!(),
+            Entry::Tried { .. } => unreachable!(),
         }
     }
 
-    fn set_host(&mut self, host: &Host) -> Result<(), AllocError>
-        ensures ok { OnOk result (self.new ≡ record self.old { host = Some host.now }) }
-        ensures err { OnErr result (self.new ≡ self.old) }
+    /// Makes room for the next addition. The error is out of memory.
+    pub fn reserve(&mut self) -> Result<(), AllocError>
+        ensures room { OnOk result (IsTrue self.new.has_room) }
+        ensures same { self.new.town ≡ self.old.town }
     {
-        let host = host.clone()?;
-        self.host = Some(host);
+        self.actors.reserve(1)?;
+        self.acts.reserve(1)?;
         Ok(())
     }
 
-    fn add_actor(
-        &mut self,
-        alloc: Global,
-        name: &LocalName,
-        digest: &[u8; 32],
-        locked: bool,
-    ) -> Result<(), AllocError>
-        ensures ok { OnOk result (self.new ≡ record self.old {
-          actors = self.old.actors ++ member_made self.old.host name.now digest.now locked;
-        }) }
-        ensures err { OnErr result (self.new ≡ self.old) }
+    /// Adds what an entry adds. It takes no memory.
+    pub fn add(&mut self, addition: Addition)
+        requires room { IsTrue self.old.has_room }
+        requires built { IsBuiltAddition addition }
+        ensures { self.new.town ≡ with_addition self.old.town addition }
     {
-        let Some(host) = &self.host else {
-            return Ok(());
-        };
-        let actor = Actor {
-            name: name.copy(),
-            id: actor_iri(alloc, host, name)?,
-            digest: *digest,
-            locked,
-        };
-        self.actors.push(actor)?;
-        Ok(())
-    }
-
-    fn add_act(
-        &mut self,
-        alloc: Global,
-        name: &LocalName,
-        repeat: &Option<(RepeatKey, [u8; 32])>,
-        activity: &Activity,
-        moment: Moment,
-    ) -> Result<(), AllocError>
-        requires { IsTrue (may_post self.old.host self.old name.now repeat.now) }
-        ensures ok { OnOk result (self.new ≡ record self.old {
-          acts = self.old.acts
-              ++ acts_of_post self.old.host self.old name.now repeat.now activity.now moment;
-        }) }
-        ensures err { OnErr result (self.new ≡ self.old) }
-    {
-        let Some(host) = &self.host else {
-            return Ok(());
-        };
-        let act = new_act(alloc, self, host, name, repeat, activity, moment)?;
-        self.acts.push(act)?;
-        Ok(())
-    }
-
-    /// Keeps the first activities alone. It takes no memory.
-    pub fn keep_acts(&mut self, count: usize)
-        ensures { self.new ≡ record self.old { acts = take count self.old.acts } }
-    {
-        self.acts.truncate(count);
-    }
-
-    /// The member of this name, or none if there is no such member.
-    pub fn member(&self, name: &LocalName) -> Option<&Actor>
-        ensures { option_copied result ≡ find (has_name name.now) self.now.actors }
-    {
-        self.actors.iter().find(|a| has_name(a, name))
+        match addition {
+            Addition::Nothing => {}
+            Addition::Host(host) => self.host = Some(host),
+            Addition::Member(member) => push(&mut self.actors, member),
+            Addition::Activity(acceptance) => push(&mut self.acts, act_of(acceptance)),
+            Addition::Peer(_) => unreachable!(),
+            Addition::Inbox { .. } => unreachable!(),
+            Addition::Attempt(_) => unreachable!(),
+        }
     }
 
     /// The id of the member of this name, or none if there is no such member.
     pub fn id_of(&self, name: &LocalName) -> Option<&Iri>
-        ensures { option_copied result ≡ id_of self.now name.now }
+        ensures { option_copied result ≡ id_of self.now.town name.now }
     {
         self.actors
             .iter()
@@ -172,50 +164,40 @@ impl Facts {
 
     /// The member whose key has this digest, or none if there is no such member.
     pub fn actor_with(&self, digest: &[u8; 32]) -> Option<&Actor>
-        ensures { option_copied result ≡ find (has_digest digest.now) self.now.actors }
+        ensures { option_copied result ≡ find (has_digest digest.now) self.now.town.actors }
     {
         self.actors.iter().find(|a| has_digest(a, digest))
     }
 
     /// How many activities the author has.
     pub fn count_of(&self, author: &Iri) -> usize
-        ensures { result ≡ count_of self.now author.now }
+        ensures value { result ≡ count_of self.now.town author.now }
+        ensures few { result < 2 ^ 63 }
     {
         self.acts.iter().filter(|x| is_by(x, author)).count()
     }
 
-    /// The activity that made the object of this id, or none if there is no such object.
-    pub fn maker_of(&self, id: &Iri) -> Option<&Act>
-        ensures { option_copied result ≡ find (makes id.now) self.now.acts }
+    /// Whether one of the two blocks the other (ActivityPub, section 6.9). No Block is taken yet, so
+    /// none stands.
+    #[tactic(auto, using(crate::proofs::CreateLemmas::no_block_between))]
+    pub fn has_block_between(&self, _a: &Iri, _b: &Iri) -> bool
+        ensures { result ≡ has_block_between self.now.town _a.now _b.now }
     {
-        self.acts.iter().find(|x| makes(x, id))
-    }
-
-    /// Whether an activity made the object of this id.
-    pub fn is_made(&self, id: &Iri) -> bool
-        ensures { result ≡ list_any (makes id.now) self.now.acts }
-    {
-        self.acts.iter().any(|x| makes(x, id))
+        let _acts = &self.acts;
+        false
     }
 }
 
-#[tactic(auto, unfolding(fedi_model::specs::Towns::has_name))]
+#[tactic(auto, unfolding(fedi_town::specs::Towns::has_name))]
 fn has_name(actor: &Actor, name: &LocalName) -> bool
     ensures { result ≡ has_name name.now actor.now }
 {
     actor.name == *name
 }
 
-#[tactic(auto, unfolding(fedi_model::specs::Towns::has_digest))]
+#[tactic(auto, unfolding(fedi_town::specs::Towns::has_digest))]
 fn has_digest(actor: &Actor, digest: &[u8; 32]) -> bool
     ensures { result ≡ has_digest digest.now actor.now }
 {
     actor.digest.as_slice() == digest.as_slice()
-}
-
-#[tactic(auto, unfolding(fedi_model::specs::Towns::is_by))]
-fn is_by(act: &Act, author: &Iri) -> bool
-    ensures { result ≡ is_by author.now act.now }
-{
-    act.author == *author
 }

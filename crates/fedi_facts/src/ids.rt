@@ -1,13 +1,13 @@
 //! The ids of this server's actors, activities and objects. Out of memory is the only error.
 
 ghost use Rattle.std.specs.Prelude.{◌≡◌, IfOk};
-ghost use Rattle.fedi_model.specs.Ids.{actor_id, activity_id, object_id};
+ghost use Rattle.fedi_town.specs.Ids.{actor_id, activity_id, object_id};
 
 use fedi_address::{Host, Iri, LocalName};
 use std::alloc::{AllocError, Global};
 
 /// The id of a member (ActivityPub, section 3.1).
-#[tactic(auto, using(crate::proofs::Paths::actor_path_is_plain), unfolding(fedi_model::specs::Ids::actor_id))]
+#[tactic(auto, using(crate::proofs::Paths::actor_path_is_plain), unfolding(fedi_town::specs::Ids::actor_id))]
 pub fn actor_iri(alloc: Global, host: &Host, name: &LocalName) -> Result<Iri, AllocError>
     ensures { IfOk result (λ iri. iri ≡ actor_id host.now name.now) }
 {
@@ -17,12 +17,12 @@ pub fn actor_iri(alloc: Global, host: &Host, name: &LocalName) -> Result<Iri, Al
 }
 
 /// The id of a member's activity of a number.
-#[tactic(auto, using(crate::proofs::Paths::activity_path_is_plain), unfolding(fedi_model::specs::Ids::activity_id))]
+#[tactic(auto, using(crate::proofs::Paths::activity_path_is_plain), unfolding(fedi_town::specs::Ids::activity_id))]
 pub fn activity_iri(
     alloc: Global,
     host: &Host,
     name: &LocalName,
-    number: u32,
+    number: u64,
 ) -> Result<Iri, AllocError>
     ensures { IfOk result (λ iri. iri ≡ activity_id host.now name.now number) }
 {
@@ -32,12 +32,12 @@ pub fn activity_iri(
 }
 
 /// The id of the object that a member's activity of a number made.
-#[tactic(auto, using(crate::proofs::Paths::object_path_is_plain), unfolding(fedi_model::specs::Ids::object_id))]
+#[tactic(auto, using(crate::proofs::Paths::object_path_is_plain), unfolding(fedi_town::specs::Ids::object_id))]
 pub fn object_iri(
     alloc: Global,
     host: &Host,
     name: &LocalName,
-    number: u32,
+    number: u64,
 ) -> Result<Iri, AllocError>
     ensures { IfOk result (λ iri. iri ≡ object_id host.now name.now number) }
 {

@@ -1,85 +1,70 @@
-//! What the server makes of a posted activity.
+//! What an entry adds to the facts.
 
-ghost use Rattle.std.specs.Prelude.{◌≡◌, ◌<◌, ◌+◌, IfOk, Some, option_copied};
-ghost use Rattle.fedi_model.specs.Activities.{makes, is_done, is_own_id, completed, completed_ref, local_state, local_act, whole_of};
-ghost use Rattle.fedi_model.specs.Ids.{actor_id, object_id};
-ghost use Rattle.fedi_model.specs.Towns.{count_of};
+ghost use Rattle.std.specs.Prelude.{◌≡◌, ◌+◌, ◌&&◌, IsTrue, IfOk, OnOk, Some, not, option_copied};
+ghost use Rattle.std.specs.List.{list_any};
+ghost use Rattle.fedi_objects.specs.declared.kind.State.TheVariants.{Done};
 ghost use Rattle.fedi_objects.specs.Dates.{moment_text};
+ghost use Rattle.fedi_town.specs.Activities.{complete_ref, local_act};
+ghost use Rattle.fedi_town.specs.Deeds.{deed_of, is_create};
+ghost use Rattle.fedi_town.specs.Histories.{member_addition, post_addition};
+ghost use Rattle.fedi_town.specs.Ids.{activity_id, actor_id, object_id};
+ghost use Rattle.fedi_town.specs.Objects.{is_whole, makes};
+ghost use Rattle.fedi_town.specs.States.{only_where};
+ghost use Rattle.fedi_facts.specs.Creates.{IsBuiltAddition};
 
-use crate::addressing::recipients_of;
+use crate::acts::{is_whole, makes};
+use crate::addressing::{names_followers, recipients_of};
 use crate::facts::Facts;
 use crate::ids::{activity_iri, actor_iri, object_iri};
-use fedi_address::{Host, Iri, LocalName};
-use fedi_model::Act;
+use fedi_address::{Host, Iri, Items, LocalName};
 use fedi_objects::{Activity, Boxed, Moment, Object, ObjectRef, RepeatKey, State, Text};
+use fedi_town::{Acceptance, Act, Actor, Addition, Effect};
 use std::alloc::{AllocError, Global};
 use std::mem;
 
-/// Whether the effect of an activity in this state has happened.
-pub fn is_done(state: State) -> bool
-    ensures { result ≡ is_done state }
+/// The member that an entry makes, once the server was set up. The error is out of memory.
+pub fn member_addition(
+    alloc: Global,
+    facts: &Facts,
+    name: &LocalName,
+    digest: &[u8; 32],
+    locked: bool,
+) -> Result<Addition, AllocError>
+    ensures exact { IfOk result
+        (λ a. a ≡ member_addition facts.now.town.host name.now digest.now locked) }
+    ensures built { IfOk result IsBuiltAddition }
 {
-    match state {
-        State::Done => true,
-        State::Plain
-        | State::Pending
-        | State::Accepted
-        | State::Rejected
-        | State::Standing
-        | State::Undone => false,
-    }
-}
-
-/// Whether a thing has an id, and it is this one.
-pub fn is_own_id(own: &Option<Iri>, id: &Iri) -> bool
-    ensures { result ≡ is_own_id id.now own.now }
-{
-    match own {
-        Some(own) => own == id,
-        None => false,
-    }
-}
-
-/// The object that an activity carries.
-pub fn whole_of(object: &ObjectRef) -> Option<&Object>
-    ensures { option_copied result ≡ whole_of object.now }
-{
-    match object {
-        ObjectRef::Whole(object) => Some(object.get()),
-        ObjectRef::Nothing | ObjectRef::Id(_) | ObjectRef::Changed(_) => None,
-    }
-}
-
-/// Whether the activity made the object of this id.
-#[tactic(auto, unfolding(fedi_model::specs::Activities::makes))]
-pub fn makes(act: &Act, id: &Iri) -> bool
-    ensures { result ≡ makes id.now act.now }
-{
-    if !act.activity.kind.is_create() || !is_done(act.state) {
-        return false;
-    }
-    match &act.activity.object {
-        ObjectRef::Whole(object) => is_own_id(&object.id, id),
-        ObjectRef::Nothing | ObjectRef::Id(_) | ObjectRef::Changed(_) => false,
-    }
-}
-
-fn local_state(facts: &Facts, activity: &Activity, id: &Iri) -> State
-    ensures { result
-        ≡ local_state facts.now activity.now.kind id.now (whole_of activity.now.object) }
-{
-    let is_carried = match &activity.object {
-        ObjectRef::Whole(_) => true,
-        ObjectRef::Nothing | ObjectRef::Id(_) | ObjectRef::Changed(_) => false,
+    let Some(host) = facts.host() else {
+        return Ok(Addition::Nothing);
     };
-    if is_carried && activity.kind.is_create() && !facts.is_made(id) {
+    Ok(Addition::Member(Actor {
+        name: name.copy(),
+        id: actor_iri(alloc, host, name)?,
+        digest: *digest,
+        locked,
+    }))
+}
+
+// Whether one of these made the object of this id.
+fn is_made(acts: &[Act], id: &Iri) -> bool
+    ensures { result ≡ list_any (makes id.now) acts.now }
+{
+    acts.iter().any(|x| makes(x, id))
+}
+
+// The state of a Create: done if it carries its object, and none of these made one of this id.
+fn state_of(acts: &[Act], object: &ObjectRef, id: &Iri) -> State
+    ensures { result ≡ only_where
+        (is_whole object.now && not (list_any (makes id.now) acts.now)) Done }
+{
+    if is_whole(object) && !is_made(acts, id) {
         State::Done
     } else {
         State::Plain
     }
 }
 
-fn completed_object(object: Object, id: Iri, author: Iri, published: Text) -> Object
+fn complete_object(object: Object, id: Iri, author: Iri, published: Text) -> Object
     ensures { result ≡ record object {
       id = Some id;
       attributed_to = Some author;
@@ -99,60 +84,83 @@ fn completed_object(object: Object, id: Iri, author: Iri, published: Text) -> Ob
 struct Stamp<'a> {
     host: &'a Host,
     name: &'a LocalName,
-    number: u32,
+    number: u64,
     moment: Moment,
 }
 
 impl<'a> Stamp<'a> {
-    // The object that the activity carries, with its id, its author and its moment.
-    fn completed_ref(
+    // The object that the activity carries gets its id, its author and its moment.
+    fn complete_ref(
         &self,
         alloc: Global,
         object: ObjectRef,
+        author: &Iri,
         id: Iri,
-        author: Iri,
-        published: Text,
     ) -> Result<ObjectRef, AllocError>
+        requires author { author.now ≡ actor_id self.now.host.now self.now.name.now }
         requires id { id ≡ object_id self.now.host.now self.now.name.now self.now.number }
-        requires author { author ≡ actor_id self.now.host.now self.now.name.now }
-        requires published { published ≡ moment_text self.now.moment }
-        ensures { IfOk result (λ r. r ≡ completed_ref self.now.host.now self.now.name.now
+        ensures { IfOk result (λ r. r ≡ complete_ref self.now.host.now self.now.name.now
             self.now.number self.now.moment object) }
     {
         match object {
             ObjectRef::Whole(object) => {
-                let own = completed_object(object.into_inner(), id, author, published);
+                let author = author.clone()?;
+                let published = self.moment.to_text(alloc)?;
+                let own = complete_object(object.into_inner(), id, author, published);
                 Ok(ObjectRef::Whole(Boxed::new(alloc, own)?))
             }
             ObjectRef::Nothing | ObjectRef::Id(_) | ObjectRef::Changed(_) => Ok(object),
         }
     }
 
-    // The activity with its id, its actor and its moment, and its object likewise.
+    // The activity gets its id, its actor and its moment, and its object likewise. To own an activity
+    // over many exits is dear to prove, so it is lent.
+    fn complete(
+        &self,
+        alloc: Global,
+        activity: &mut Activity,
+        author: &Iri,
+        object: Iri,
+    ) -> Result<(), AllocError>
+        requires author { author.now ≡ actor_id self.now.host.now self.now.name.now }
+        requires object { object ≡ object_id self.now.host.now self.now.name.now self.now.number }
+        ensures { OnOk result (activity.new ≡ record activity.old {
+          id = Some (activity_id self.now.host.now self.now.name.now self.now.number);
+          actor = Some author.now;
+          published = Some (moment_text self.now.moment);
+          object = complete_ref self.now.host.now self.now.name.now self.now.number
+              self.now.moment activity.old.object;
+        }) }
+    {
+        let carried = mem::replace(&mut activity.object, ObjectRef::Nothing);
+        activity.object = self.complete_ref(alloc, carried, author, object)?;
+        activity.id = Some(activity_iri(alloc, self.host, self.name, self.number)?);
+        activity.actor = Some(author.clone()?);
+        activity.published = Some(self.moment.to_text(alloc)?);
+        Ok(())
+    }
+
+    // A copy of the activity, completed.
     fn completed(
         &self,
         alloc: Global,
         activity: &Activity,
         author: &Iri,
         object: Iri,
-    ) -> Result<Activity, AllocError>
+    ) -> Result<Boxed<Activity>, AllocError>
         requires author { author.now ≡ actor_id self.now.host.now self.now.name.now }
         requires object { object ≡ object_id self.now.host.now self.now.name.now self.now.number }
-        ensures { IfOk result (λ a. a ≡ completed self.now.host.now self.now.name.now
-            self.now.number self.now.moment activity.now) }
+        ensures { IfOk result (λ a. a ≡ record activity.now {
+          id = Some (activity_id self.now.host.now self.now.name.now self.now.number);
+          actor = Some author.now;
+          published = Some (moment_text self.now.moment);
+          object = complete_ref self.now.host.now self.now.name.now self.now.number
+              self.now.moment activity.now.object;
+        }) }
     {
-        let id = activity_iri(alloc, self.host, self.name, self.number)?;
-        let actor = author.clone()?;
-        let published = self.moment.to_text(alloc)?;
-        let attributed_to = author.clone()?;
-        let published_object = published.clone()?;
         let mut own = activity.clone()?;
-        let carried = mem::replace(&mut own.object, ObjectRef::Nothing);
-        own.id = Some(id);
-        own.actor = Some(actor);
-        own.published = Some(published);
-        own.object = self.completed_ref(alloc, carried, object, attributed_to, published_object)?;
-        Ok(own)
+        self.complete(alloc, &mut own, author, object)?;
+        Boxed::new(alloc, own)
     }
 }
 
@@ -170,8 +178,9 @@ fn copy_repeat(repeat: &Option<(RepeatKey, [u8; 32])>) -> Option<(RepeatKey, [u8
     }
 }
 
-/// The next activity of a member, accepted at the moment. The error is out of memory.
-pub fn new_act(
+// The next activity of a member, a Create, accepted at the moment.
+#[tactic(auto, using(crate::proofs::CreateLemmas::created_is_local))]
+fn new_act(
     alloc: Global,
     facts: &Facts,
     host: &Host,
@@ -180,14 +189,14 @@ pub fn new_act(
     activity: &Activity,
     moment: Moment,
 ) -> Result<Act, AllocError>
-    requires { count_of facts.now (actor_id host.now name.now) < 4294967295 }
+    requires { IsTrue (is_create (deed_of activity.now.kind)) }
     ensures { IfOk result (λ x.
-        x ≡ local_act facts.now host.now name.now repeat.now activity.now moment) }
+        x ≡ local_act facts.now.town host.now name.now repeat.now activity.now moment) }
 {
     let author = actor_iri(alloc, host, name)?;
-    let number = facts.count_of(&author) as u32 + 1;
+    let number = facts.count_of(&author) as u64 + 1;
     let object_id = object_iri(alloc, host, name, number)?;
-    let state = local_state(facts, activity, &object_id);
+    let state = state_of(facts.acts(), &activity.object, &object_id);
     let recipients = recipients_of(alloc, facts, &author, &activity.recipients)?;
     let stamp = Stamp {
         host,
@@ -197,11 +206,39 @@ pub fn new_act(
     };
     Ok(Act {
         activity: stamp.completed(alloc, activity, &author, object_id)?,
+        is_public: activity.recipients.is_public(),
+        for_followers: names_followers(&author, &activity.recipients),
         author,
         repeat: copy_repeat(repeat),
         moment,
         recipients,
-        is_public: activity.recipients.is_public(),
+        forwards: Items::empty(alloc),
         state,
     })
+}
+
+/// The activity that a member's post makes, once the server was set up: a Create, which does nothing
+/// to earlier activities and is followed by no answer. The error is out of memory.
+#[tactic(auto, using(crate::proofs::CreateLemmas::accepted_alone, crate::proofs::CreateLemmas::created_alone))]
+pub fn post_addition(
+    alloc: Global,
+    facts: &Facts,
+    name: &LocalName,
+    repeat: &Option<(RepeatKey, [u8; 32])>,
+    activity: &Activity,
+    moment: Moment,
+) -> Result<Addition, AllocError>
+    requires { IsTrue (is_create (deed_of activity.now.kind)) }
+    ensures exact { IfOk result (λ a. a ≡ post_addition facts.now.town.host facts.now.town
+        name.now repeat.now activity.now moment) }
+    ensures built { IfOk result IsBuiltAddition }
+{
+    let Some(host) = facts.host() else {
+        return Ok(Addition::Nothing);
+    };
+    Ok(Addition::Activity(Acceptance {
+        act: new_act(alloc, facts, host, name, repeat, activity, moment)?,
+        effect: Effect::Nothing,
+        answer: None,
+    }))
 }

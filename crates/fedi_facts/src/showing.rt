@@ -1,15 +1,17 @@
 //! What is shown of an activity.
 
-ghost use Rattle.std.specs.Prelude.{◌≡◌, ◌&&◌, Some, true, option_copied};
+ghost use Rattle.std.specs.Prelude.{◌≡◌, Some, None, true, option_copied, if◌then◌else◌};
 ghost use Rattle.fedi_objects.specs.Forms.{activity_form, object_in, shown_in};
-ghost use Rattle.fedi_objects.specs.Kinds.{is_create};
-ghost use Rattle.fedi_model.specs.Activities.{is_done};
-ghost use Rattle.fedi_model.specs.Seeing.{ref_to, shown_activity, shown_ref};
+ghost use Rattle.fedi_town.specs.Objects.{whole_of};
+ghost use Rattle.fedi_town.specs.Relations.{ref_id};
+ghost use Rattle.fedi_town.specs.Showing.{object_or_id, ref_to, shown_activity};
+ghost use Rattle.fedi_town.specs.Towns.{Town};
+ghost use Rattle.fedi_facts.specs.Creates.{is_creation};
 
-use crate::making::is_done;
+use crate::acts::is_done;
 use fedi_address::Iri;
-use fedi_model::Act;
 use fedi_objects::{ObjectRef, Shown, ShownObject, StrippedObject};
+use fedi_town::Act;
 
 fn id_or_nothing(id: Option<&Iri>) -> ShownObject<'_>
     ensures { object_in result ≡ ref_to (option_copied id.entry) }
@@ -22,7 +24,8 @@ fn id_or_nothing(id: Option<&Iri>) -> ShownObject<'_>
 
 // What an activity is about, by whether the activity made it: the object itself, or its address.
 fn shown_object(object: &ObjectRef, made: bool) -> ShownObject<'_>
-    ensures { object_in result ≡ shown_ref made object.now }
+    ensures { object_in result
+        ≡ object_or_id (if made then whole_of object.now else None) (ref_id object.now) }
 {
     match object {
         ObjectRef::Nothing => ShownObject::Nothing,
@@ -38,22 +41,16 @@ fn shown_object(object: &ObjectRef, made: bool) -> ShownObject<'_>
     }
 }
 
-// Whether the activity made its object.
-fn is_maker(act: &Act) -> bool
-    ensures { result ≡ (is_create act.now.activity.kind && is_done act.now.state) }
-{
-    act.activity.kind.is_create() && is_done(act.state)
-}
-
-/// What those see of a local activity of this id who may see it (ActivityPub, section 6).
-#[tactic(auto, using(crate::proofs::ShownForms::same_form))]
+/// What those see of a local Create of this id who may see it (ActivityPub, section 6).
+#[tactic(auto, using(crate::proofs::ShownForms::shown_form))]
 pub fn shown_of<'a>(act: &'a Act, id: &'a Iri) -> Shown<'a>
-    requires { act.now.activity.id ≡ Some id.now }
+    requires id { act.now.activity.id ≡ Some id.now }
+    requires create { is_creation act.now ≡ true }
     ensures local { result.local ≡ true }
     ensures state { result.state ≡ act.now.state }
     ensures public { result.public ≡ act.now.is_public }
-    ensures form { activity_form true true result.author.now (shown_in result)
-        ≡ activity_form true true act.now.author (shown_activity act.now) }
+    ensures form { (t : Town) → activity_form true true result.author.now (shown_in result)
+        ≡ activity_form true true act.now.author (shown_activity t act.now) }
 {
     let activity = &act.activity;
     Shown {
@@ -73,6 +70,6 @@ pub fn shown_of<'a>(act: &'a Act, id: &'a Iri) -> Shown<'a>
         state: act.state,
         public: act.is_public,
         local: true,
-        object: shown_object(&activity.object, is_maker(act)),
+        object: shown_object(&activity.object, is_done(act.state)),
     }
 }
