@@ -6,12 +6,14 @@ use Rattle.fedi_objects.specs.declared.entry.Entry.{Entry}
 use Rattle.fedi_objects.specs.declared.entry.Entry.TheVariants.{Hosted, Made, PeerSet, Local, Remote, Tried}
 use Rattle.fedi_outside.specs.Causes.{next_count}
 use Rattle.fedi_outside.specs.Keepers.{KeeperState, HasAdded, HasRoom, IsFull, OnlyRoomChanged}
-use Rattle.fedi_model.specs.Activities.{local_act}
-use Rattle.fedi_model.specs.Agreement.{Agree}
-use Rattle.fedi_model.specs.Histories.{is_admissible, town}
-use Rattle.fedi_model.specs.Seeing.{sees}
-use Rattle.fedi_model.specs.Towns.{Town}
-use Rattle.fedi_model.specs.declared.caller.Caller.{Caller}
+use Rattle.fedi_town.specs.declared.caller.Caller.{Caller}
+use Rattle.fedi_town.specs.Activities.{local_act}
+use Rattle.fedi_town.specs.Agreement.{Agree}
+use Rattle.fedi_town.specs.Built.{is_built}
+use Rattle.fedi_town.specs.Histories.{town}
+use Rattle.fedi_town.specs.Legal.{is_admissible}
+use Rattle.fedi_town.specs.Seeing.{sees}
+use Rattle.fedi_town.specs.Towns.{Town}
 use Rattle.fedi_core.specs.declared.keeping.KeepFault.{KeepFault}
 use Rattle.fedi_core.specs.declared.keeping.KeepFault.TheVariants.{Full, Failed, Memory}
 
@@ -26,9 +28,10 @@ IsPost (Local name repeat a moment) = Unit {0}
 IsPost (Remote peer inbox a moment) = ⊥
 IsPost (Tried activity recipient came moment) = ⊥
 
--- the entry is a post that may come next
+-- the entry is a post that may come next, and one that this server takes so far
 pub record MayAdd (t : Town) (e : Entry) : Type 0 where
   pub admissible : IsTrue (is_admissible t e)
+  pub built : IsTrue (is_built e)
   pub post : IsPost e
 
 -- ---- records

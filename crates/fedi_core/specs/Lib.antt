@@ -1,2 +1,3 @@
-pub mod Machines
+pub mod Judging
 pub mod Keeping
+pub mod Machines

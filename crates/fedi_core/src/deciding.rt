@@ -1,16 +1,19 @@
 //! What the machine decides on one ask.
 
-ghost use Rattle.std.specs.Prelude.{◌≡◌, ◌<◌, ◌+◌, IfOk, option_copied};
-ghost use Rattle.std.specs.List.{find};
-ghost use Rattle.fedi_model.specs.Posting.{created_reply, post_entry_at, post_reply_at};
-ghost use Rattle.fedi_model.specs.Replies.{entry_of, reply};
-ghost use Rattle.fedi_model.specs.Towns.{has_name};
+ghost use Rattle.std.specs.Prelude.{◌≡◌, ◌<◌, ◌+◌, IfOk, IsTrue, option_copied, option_map};
+ghost use Rattle.fedi_asks.specs.Asks.{entry_of};
+ghost use Rattle.fedi_asks.specs.Built.{is_built_ask, is_built_key, is_built_read};
+ghost use Rattle.fedi_asks.specs.Posting.{entry_at, post_answer};
+ghost use Rattle.fedi_model.specs.Replies.{reply, reply_of, without_body};
+ghost use Rattle.fedi_town.specs.Ids.{activity_id};
+ghost use Rattle.fedi_town.specs.Towns.{id_of};
 
 use crate::posts::judge;
 use fedi_address::{Host, LocalName};
 use fedi_facts::{Facts, activity_iri, activity_reply, object_reply};
-use fedi_model::{Ask, Body, Caller, Form, Post, Refusal, Reply, refusal_reply};
+use fedi_model::{Ask, Body, Form, Post, Reply, refusal_reply};
 use fedi_objects::{Entry, Moment};
+use fedi_town::{Caller, Refusal};
 use http::StatusCode;
 use std::alloc::{AllocError, Global};
 
@@ -28,9 +31,10 @@ fn created_reply(
     alloc: Global,
     host: Option<&Host>,
     name: &LocalName,
-    number: u32,
+    number: u64,
 ) -> Result<Reply, AllocError>
-    ensures { IfOk result (λ r. r ≡ created_reply (option_copied host.entry) name.now number) }
+    ensures { IfOk result (λ r. r ≡ without_body 201
+        (option_map (λ h. activity_id h name.now number) (option_copied host.entry))) }
 {
     let location = match host {
         Some(host) => Some(activity_iri(alloc, host, name, number)?),
@@ -54,21 +58,23 @@ fn decide_post(
     post: Post,
     moment: Moment,
 ) -> Result<Decision, AllocError>
-    ensures reply { IfOk result (λ d. d.reply ≡ post_reply_at facts.now caller.now name.now
-        (find (has_name name.now) facts.now.actors) post) }
-    ensures entry { IfOk result (λ d. d.entry ≡ post_entry_at facts.now caller.now name.now
-        (find (has_name name.now) facts.now.actors) post moment) }
+    requires key { IsTrue (is_built_key post.key) }
+    requires read { IsTrue (is_built_read post.read) }
+    ensures reply { IfOk result (λ d. d.reply ≡ reply_of (post_answer facts.now.town caller.now
+        name.now post (id_of facts.now.town name.now))) }
+    ensures entry { IfOk result (λ d. d.entry ≡ entry_at facts.now.town caller.now
+        name.now post moment (id_of facts.now.town name.now)) }
 {
-    let Some(member) = facts.member(name) else {
+    let Some(author) = facts.id_of(name) else {
         return Ok(Decision {
             reply: refusal_reply(Refusal::NotFound),
             entry: None,
         });
     };
-    let count = facts.count_of(&member.id);
+    let count = facts.count_of(author);
     match judge(caller, name, count, post) {
         Ok(activity) => Ok(Decision {
-            reply: created_reply(alloc, facts.host(), name, count as u32 + 1)?,
+            reply: created_reply(alloc, facts.host(), name, count as u64 + 1)?,
             entry: Some(Entry::Local {
                 name: name.copy(),
                 repeat: None,
@@ -88,8 +94,9 @@ pub fn decide(
     ask: Ask,
     moment: Moment,
 ) -> Result<Decision, AllocError>
-    ensures reply { IfOk result (λ d. d.reply ≡ reply facts.now caller.now ask) }
-    ensures entry { IfOk result (λ d. d.entry ≡ entry_of facts.now caller.now ask moment) }
+    requires { IsTrue (is_built_ask ask) }
+    ensures reply { IfOk result (λ d. d.reply ≡ reply facts.now.town caller.now ask) }
+    ensures entry { IfOk result (λ d. d.entry ≡ entry_of facts.now.town caller.now ask moment) }
 {
     let reply = match ask {
         Ask::Nowhere => refusal_reply(Refusal::NotFound),
@@ -98,6 +105,11 @@ pub fn decide(
         Ask::Outbox(name, post) => {
             return decide_post(alloc, facts, caller, &name, post, moment);
         }
+        Ask::WrongMethod(_) => unreachable!(),
+        Ask::Webfinger(_) => unreachable!(),
+        Ask::Actor(_) => unreachable!(),
+        Ask::Collection(..) => unreachable!(),
+        Ask::Inbox(..) => unreachable!(),
     };
     Ok(Decision { reply, entry: None })
 }

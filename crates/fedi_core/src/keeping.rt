@@ -1,10 +1,11 @@
 //! Keeping an entry.
 
-ghost use Rattle.std.specs.Prelude.{◌≡◌, ◌++◌, ◌∷◌, [], ◌+◌, ◌≤◌, IfErr, IsErrOf, OnOk, OnErr, length, vec_capacity, vec_len};
+ghost use Rattle.std.specs.Prelude.{◌≡◌, ◌++◌, ◌∷◌, [], ◌+◌, ◌≤◌, IfErr, IsTrue, IsErrOf, OnOk, OnErr, length, vec_capacity, vec_len};
 ghost use Rattle.fedi_entry.specs.Codes.{code_of};
-ghost use Rattle.fedi_model.specs.Histories.{step};
+ghost use Rattle.fedi_town.specs.Built.{is_built};
+ghost use Rattle.fedi_town.specs.Histories.{step};
 ghost use Rattle.fedi_outside.specs.Keepers.{HasAdded, HasRoom};
-ghost use Rattle.fedi_core.specs.Keeping.{MayAdd, Refuses};
+ghost use Rattle.fedi_core.specs.Keeping.{Refuses};
 ghost use Rattle.fedi_core.specs.declared.keeping.KeepFault.TheVariants.{Memory};
 
 use fedi_entry::encode;
@@ -70,8 +71,8 @@ pub fn store<P: Keeper>(keeper: &mut P, code: &[u8]) -> Result<(), KeepFault>
     }
 }
 
-/// Keeps the bytes of a post's entry, after all that takes memory. Then the facts have what the entry
-/// makes and the history has room for it; after an error both are as before.
+/// Keeps the bytes of an entry, after all that takes memory. Then the facts have what the entry makes and
+/// the history has room for it; after an error both are as before.
 pub fn store_entry<P: Keeper>(
     alloc: Global,
     facts: &mut Facts,
@@ -79,10 +80,10 @@ pub fn store_entry<P: Keeper>(
     keeper: &mut P,
     entry: &Entry,
 ) -> Result<(), KeepFault>
-    requires { MayAdd facts.old entry.now }
-    ensures facts { OnOk result (facts.new ≡ step facts.old entry.now) }
+    requires { IsTrue (is_built entry.now) }
+    ensures facts { OnOk result (facts.new.town ≡ step facts.old.town entry.now) }
     ensures room { OnOk result (vec_len history.new + 1 ≤ vec_capacity history.new) }
-    ensures facts_kept { OnErr result (facts.new ≡ facts.old) }
+    ensures facts_kept { OnErr result (facts.new.town ≡ facts.old.town) }
     ensures history { history.new.items ≡ history.old.items }
     ensures fits { OnOk result
         (HasRoom P.room (P.shown keeper.old).end (length (code_of entry.now))) }
@@ -93,13 +94,11 @@ pub fn store_entry<P: Keeper>(
 {
     let code = encode(alloc, entry)?;
     history.reserve(1)?;
-    let count = facts.acts().len();
-    facts.apply(alloc, entry)?;
-    let stored = store(keeper, &code);
-    if stored.is_err() {
-        facts.keep_acts(count);
-    }
-    stored
+    facts.reserve()?;
+    let addition = facts.prepare(alloc, entry)?;
+    store(keeper, &code)?;
+    facts.add(addition);
+    Ok(())
 }
 
 /// Appends an entry to a history that has room for one more.

@@ -1,30 +1,33 @@
 //! The machine over one history and the keeper of its records.
 
-ghost use Rattle.std.specs.Prelude.{◌≡◌, IfOk, IfErr, IfSome, OnOk, OnErr};
+ghost use Rattle.std.specs.Prelude.{◌≡◌, IfOk, IfErr, IfSome, IsTrue, OnOk, OnErr};
 ghost use Rattle.std.specs.List.{find};
 ghost use Rattle.sha2.specs.Sha256.{sha256};
 ghost use Rattle.fedi_entry.specs.Codes.{code_of};
-ghost use Rattle.fedi_model.specs.Agreement.{IsPrivate};
+ghost use Rattle.fedi_town.specs.Built.{are_built};
+ghost use Rattle.fedi_town.specs.Histories.{town};
+ghost use Rattle.fedi_town.specs.Legal.{IsLegal};
+ghost use Rattle.fedi_town.specs.Towns.{has_digest};
+ghost use Rattle.fedi_asks.specs.Asks.{IsPostable, entry_of};
+ghost use Rattle.fedi_asks.specs.Built.{is_built_ask};
 ghost use Rattle.fedi_model.specs.Callers.{caller_by, member_or_refused};
 ghost use Rattle.fedi_model.specs.Credentials.{shown_by as credentials_shown_by};
-ghost use Rattle.fedi_model.specs.Histories.{IsLegal, town};
-ghost use Rattle.fedi_model.specs.Posting.{IsPostable};
-ghost use Rattle.fedi_model.specs.Replies.{entry_of, reply};
-ghost use Rattle.fedi_model.specs.Towns.{has_digest};
+ghost use Rattle.fedi_model.specs.Replies.{IsPrivate, reply};
 ghost use Rattle.fedi_core.specs.Keeping.{HidesPosts, IsKept, MayAdd, Refuses};
 
 use crate::deciding::{Decision, decide};
 use crate::keeping::{KeepError, push, store_entry};
 use fedi_facts::Facts;
 use fedi_mac::digest;
-use fedi_model::{Ask, Caller, Credentials, Refusal};
+use fedi_model::{Ask, Credentials};
 use fedi_objects::{Entry, Moment};
 use fedi_outside::Keeper;
+use fedi_town::{Caller, Refusal};
 use std::alloc::{AllocError, Global};
 use std::marker::Model;
 
-/// The machine: a legal history with the facts that it has made, and the keeper of its records. A
-/// contract sees it as its history and its keeper.
+/// The machine: a legal history of entries that this server takes so far, with the facts that it has
+/// made, and the keeper of its records. A contract sees it as its history and its keeper.
 #[derive(Drop)]
 pub struct Core<P: Keeper> {
     history: Vec<Entry>,
@@ -33,30 +36,30 @@ pub struct Core<P: Keeper> {
 }
 
 impl<P: Keeper> Model for Core<P> {
-    ghost use Rattle.std.specs.Prelude.{◌≡◌};
-    ghost use Rattle.fedi_model.specs.Histories.{IsLegal, town};
-    ghost use Rattle.fedi_core.specs.Machines.{Machine};
+    ghost use Rattle.fedi_core.specs.Machines.{Machine, Stands};
 
     ghost Value = { Machine P };
 
     ghost view = { λ c. record { history = c.history.items; keeper = c.keeper } };
 
-    ghost invariant = { λ c. (c.facts ≡ town c.history.items) × IsLegal c.history.items };
+    ghost invariant = { λ c. Stands c.facts.town c.history.items };
 }
 
 fn facts_of(alloc: Global, history: &[Entry]) -> Result<Facts, AllocError>
-    requires { IsLegal history.now }
-    ensures { IfOk result (λ facts. facts ≡ town history.now) }
+    requires { IsTrue (are_built history.now) }
+    ensures { IfOk result (λ facts. facts.town ≡ town history.now) }
 {
     let mut facts = Facts::empty(alloc);
     for entry in history {
-        facts.apply(alloc, entry)?;
+        facts.reserve()?;
+        let addition = facts.prepare(alloc, entry)?;
+        facts.add(addition);
     }
     Ok(facts)
 }
 
 fn member_with(facts: &Facts, key: &[u8; 32]) -> Result<Caller, Refusal>
-    ensures { result ≡ member_or_refused (find (has_digest (sha256 key.now)) facts.now.actors) }
+    ensures { result ≡ member_or_refused (find (has_digest (sha256 key.now)) facts.now.town.actors) }
 {
     match facts.actor_with(&digest(key.as_slice())) {
         Some(actor) => Ok(Caller::Actor(actor.name.copy())),
@@ -66,7 +69,7 @@ fn member_with(facts: &Facts, key: &[u8; 32]) -> Result<Caller, Refusal>
 
 #[tactic(auto, unfolding(fedi_model::specs::Callers::caller_by))]
 fn caller_of(facts: &Facts, credentials: &Credentials) -> Result<Caller, Refusal>
-    ensures { result ≡ caller_by facts.now (credentials_shown_by credentials.now) }
+    ensures { result ≡ caller_by facts.now.town (credentials_shown_by credentials.now) }
 {
     match credentials {
         Credentials::Nothing => Ok(Caller::Nobody),
@@ -77,10 +80,11 @@ fn caller_of(facts: &Facts, credentials: &Credentials) -> Result<Caller, Refusal
 }
 
 impl<P: Keeper> Core<P> {
-    /// The machine over a legal history, with the keeper of its records. The error is out of memory,
-    /// and hands both back.
+    /// The machine over a legal history of entries that this server takes so far, with the keeper of
+    /// its records. The error is out of memory, and hands both back.
     pub fn open(alloc: Global, history: Vec<Entry>, keeper: P) -> Result<Core<P>, (Vec<Entry>, P)>
-        requires { IsLegal history.items }
+        requires legal { IsLegal history.items }
+        requires built { IsTrue (are_built history.items) }
         ensures ok { IfOk result (λ core.
             core ≡ record { history = history.items; keeper = keeper }) }
         ensures err { IfErr result (λ back. back.0.items ≡ history.items) }
@@ -116,7 +120,8 @@ impl<P: Keeper> Core<P> {
         ask: Ask,
         moment: Moment,
     ) -> Result<Decision, AllocError>
-        requires { IsPostable ask }
+        requires postable { IsPostable (town self.now.history) ask }
+        requires built { IsTrue (is_built_ask ask) }
         ensures reply { IfOk result (λ d. d.reply ≡ reply (town self.now.history) caller.now ask) }
         ensures entry { IfOk result (λ d.
             d.entry ≡ entry_of (town self.now.history) caller.now ask moment) }
@@ -140,6 +145,7 @@ impl<P: Keeper> Core<P> {
         ensures back { IfErr result (λ e. e.entry ≡ entry) }
         ensures same { OnErr result (self.new.history ≡ self.old.history) }
         ensures legal { IsLegal self.new.history }
+        ensures built { IsTrue (are_built self.new.history) }
         // A post tells nothing to a caller who does not see it.
         ensures unseen { HidesPosts self.old.history self.new.history }
     {
@@ -163,6 +169,7 @@ impl<P: Keeper> Core<P> {
         ensures history { result.0.items ≡ self.history }
         ensures keeper { result.1 ≡ self.keeper }
         ensures legal { IsLegal self.history }
+        ensures built { IsTrue (are_built self.history) }
     {
         let Core {
             history,

@@ -40,7 +40,7 @@ use Rattle.fedi_town.specs.Towns.{Town, count_of, deed}
 use Rattle.fedi_facts.specs.Creates.{AreCreates, ComesAlone, IsBuiltAddition, is_creation}
 use Rattle.fedi_facts.specs.Gathering.{is_reached, with_reached}
 
-the_create : (d : Deed) → is_create d ≡ true → d ≡ Create
+pub the_create : (d : Deed) → is_create d ≡ true → d ≡ Create
 the_create Create is = refl
 the_create Update is = absurd cc
 the_create Delete is = absurd cc
@@ -115,8 +115,11 @@ with_reached-named : (t : Town) (author iri : List ℕ) (iris : List (List ℕ))
     → with_reached t author (each_once (named t author iris)) iri ≡ each_once (named t author (iris ++ iri ∷ []))
 unfolding with_reached
 with_reached-named t author iri iris all =
-    sym (rw (flat_map-append (addressees t author) iris (iri ∷ []), filter-append (is_recipient t author) (flat_map (addressees t author) iris) (flat_map (addressees t author) (iri ∷ [])),
-    named-one t author iri all) (found-one iri (named t author iris) (is_reached t author iri)))
+    sym (rw (
+      flat_map-append (addressees t author) iris (iri ∷ []),
+      filter-append (is_recipient t author) (flat_map (addressees t author) iris) (flat_map (addressees t author) (iri ∷ [])),
+      named-one t author iri all,
+    ) (found-one iri (named t author iris) (is_reached t author iri)))
 
 fold-reached : (t : Town) (author : List ℕ) (before iris : List (List ℕ)) → AreCreates t.acts
     → fold (with_reached t author) (each_once (named t author before)) iris ≡ each_once (named t author (before ++ iris))
@@ -166,9 +169,25 @@ pub created_is_local : (t : Town) (host name author id : List ℕ) (number : ℕ
     → is_create (deed_of a.kind) ≡ true → IsCreated t host name author id number repeat a moment x → x ≡ local_act t host name repeat a moment
 unfolding complete_recipients implied_recipient
 created_is_local t host name author id number repeat a moment x is h =
-    rw (h.by, h.activity, h.under, h.at, h.recipients, h.forwards, h.public, h.followers, h.state, h.object, h.next, h.own,
-    the_create (deed_of a.kind) is, create_state t (actor_id host name) host name (count_of t (actor_id host name) + 1) moment a.object,
-    and_none, or_no (is_public a.recipients), or_no (names a.recipients (followers_id (actor_id host name)))) refl
+    rw (
+      h.by,
+      h.activity,
+      h.under,
+      h.at,
+      h.recipients,
+      h.forwards,
+      h.public,
+      h.followers,
+      h.state,
+      h.object,
+      h.next,
+      h.own,
+      the_create (deed_of a.kind) is,
+      create_state t (actor_id host name) host name (count_of t (actor_id host name) + 1) moment a.object,
+      and_none,
+      or_no (is_public a.recipients),
+      or_no (names a.recipients (followers_id (actor_id host name))),
+    ) refl
 
 effect_with-none : (t : Town) (x : Act) (id : Option (List ℕ)) → deed x ≡ Create → effect_with t x id ≡ effects.Nothing
 effect_with-none t x None is = refl

@@ -1,16 +1,20 @@
 -- What is shown of a Create and of the object that it made has the form of what is kept.
-use Rattle.std.proofs.Common.{◌≡◌, ℕ, Bool, true, List, Option, Some, None, refl}
+use Rattle.std.proofs.Common.{◌≡◌, ℕ, Bool, true, false, List, Option, Some, None, refl}
 use Rattle.std.specs.Prelude.{if◌then◌else◌}
 use Rattle.fedi_objects.specs.declared.activity.Activity.{Activity}
 use Rattle.fedi_objects.specs.declared.object.Object.{Object}
-use Rattle.fedi_objects.specs.Forms.{activity_form, activity_kind_members, kind_members, object_form, tombstone_members, with_activity_links, with_links}
+use Rattle.fedi_objects.specs.Forms.{activity_form, activity_kind_members, is_tombstone, kind_members, object_form, tombstone_members, with_activity_links, with_links}
+use Rattle.fedi_objects.specs.Objects.{stripped_object}
 use Rattle.fedi_town.specs.declared.act.Act.{Act}
 use Rattle.fedi_town.specs.Deeds.{is_done}
 use Rattle.fedi_town.specs.Objects.{whole_of}
 use Rattle.fedi_town.specs.Relations.{ref_id}
-use Rattle.fedi_town.specs.Showing.{object_or_id, ref_to, shown_activity, stripped_object}
+use Rattle.fedi_town.specs.Showing.{object_or_id, shown_activity}
 use Rattle.fedi_town.specs.Towns.{Town}
+use Rattle.fedi_asks.specs.Answers.{Document, Tombstone}
 use Rattle.fedi_asks.specs.Reading.{maker_document, object_document}
+use Rattle.fedi_model.specs.declared.reply.Form.TheVariants as forms
+use Rattle.fedi_model.specs.Replies.{reply_of, showing}
 use Rattle.fedi_facts.specs.Creates.{is_creation}
 use Rattle.fedi_facts.proofs.CreateLemmas.{shown_ref-create}
 
@@ -46,6 +50,15 @@ shown_or_id : (o : Option Object) (id : Option (List ℕ)) → object_document (
 shown_or_id None None = refl
 shown_or_id None (Some id) = refl
 shown_or_id (Some o) id = rw (object_form-stripped true true o) refl
+
+-- an object is shown as it is, and gone where it was deleted
+pub shown_object : (o : Object) → showing (if is_tombstone o then 410 else 200) forms.Activity (object_form true true o) ≡ reply_of (object_document (Some o))
+shown_object o =
+    elim (is_tombstone o) as (λ b. showing (if b then 410 else 200) forms.Activity (object_form true true o)
+    ≡ reply_of (if b then Tombstone (object_form true true o) else Document (object_form true true o))) [
+      | true ↦ refl
+      | false ↦ refl
+    ]
 
 -- the document of the object that a Create made
 pub maker_document-made : (t : Town) (x : Act) → is_creation x ≡ true → is_done x.state ≡ true

@@ -67,11 +67,7 @@ fn is_recipient(facts: &Facts, author: &Iri, iri: &Iri) -> bool
 fn is_followers_id(author: &Iri, iri: &Iri) -> bool
     ensures { result ≡ bytes_eq iri.now (followers_id author.now) }
 {
-    match iri
-        .text()
-        .as_bytes()
-        .strip_prefix(author.text().as_bytes())
-    {
+    match iri.text().as_bytes().strip_prefix(author.text().as_bytes()) {
         Some(rest) => rest == b"/followers".as_slice(),
         None => false,
     }

@@ -6,9 +6,11 @@ mod addressing;
 mod facts;
 mod ids;
 mod making;
+mod replies;
 mod seeing;
 mod showing;
 
 pub use facts::Facts;
 pub use ids::{activity_iri, actor_iri};
+pub use replies::{activity_reply, object_reply};
 pub use seeing::sees;
