@@ -1,10 +1,10 @@
-pub mod Answers
-pub mod Callers
-pub mod Cleanness
+pub mod Requests
 pub mod Credentials
+pub mod Callers
+pub mod Routes
 pub mod Refusals
 pub mod Refusing
 pub mod Replies
 pub mod ReplyText
-pub mod Requests
-pub mod Routes
+pub mod Cleanness
+pub mod Answers

@@ -10,21 +10,22 @@ use Rattle.fedi_log.proofs.Keeping.{unchanged}
 use Rattle.fedi_objects.specs.declared.entry.Entry.{Entry}
 use Rattle.fedi_outside.specs.Keepers.{HasAdded, KeeperState, OnlyRoomChanged}
 use Rattle.fedi_model.proofs.Clean.{refused_is_clean, reply_is_clean}
-use Rattle.fedi_model.specs.declared.ask.Ask.{Ask}
-use Rattle.fedi_model.specs.declared.caller.Caller.{Caller}
-use Rattle.fedi_model.specs.declared.refusal.Refusal.{Refusal}
-use Rattle.fedi_model.specs.declared.refusal.Refusal.TheVariants.{JournalFull, KeeperFault}
+use Rattle.fedi_asks.specs.declared.ask.Ask.{Ask}
+use Rattle.fedi_town.specs.declared.caller.Caller.{Caller}
+use Rattle.fedi_town.specs.declared.refusal.Refusal.{Refusal}
+use Rattle.fedi_town.specs.declared.refusal.Refusal.TheVariants.{JournalFull, KeeperFault}
 use Rattle.fedi_model.specs.declared.reply.Reply.{Reply}
 use Rattle.fedi_model.specs.declared.request.Request.{Request}
-use Rattle.fedi_model.specs.Agreement.{Agree, IsPrivate}
+use Rattle.fedi_town.specs.Agreement.{Agree}
 use Rattle.fedi_model.specs.Answers.{AgreeFor, AgreeOn, Answers, AnswersTo, caller_of}
 use Rattle.fedi_model.specs.Cleanness.{IsCleanBody}
-use Rattle.fedi_model.specs.Histories.{town}
+use Rattle.fedi_town.specs.Histories.{town}
 use Rattle.fedi_model.specs.Refusing.{refused}
 use Rattle.fedi_model.specs.ReplyText.{reply_text}
-use Rattle.fedi_model.specs.Replies.{entry_of, reply}
+use Rattle.fedi_asks.specs.Asks.{entry_of}
+use Rattle.fedi_model.specs.Replies.{IsPrivate, reply}
 use Rattle.fedi_model.specs.Routes.{Asks}
-use Rattle.fedi_model.specs.Towns.{Town}
+use Rattle.fedi_town.specs.Towns.{Town}
 use Rattle.fedi_program.specs.Conversations.{IsPrivateReply, IsReply, Settles}
 use Rattle.fedi_program.specs.Endings.{IsAnswerText, IsTurn, IsUnanswered}
 

@@ -6,7 +6,7 @@ use Rattle.std.proofs.lemmas.Bool.{leb-false}
 use Rattle.fedi_log.specs.Keeping.{Holds, HoldsSince, State}
 use Rattle.fedi_log.specs.Log.{Log, given}
 use Rattle.fedi_model.specs.declared.request.Request.{Request}
-use Rattle.fedi_model.specs.declared.refusal.Refusal.{Refusal}
+use Rattle.fedi_town.specs.declared.refusal.Refusal.{Refusal}
 use Rattle.fedi_program.specs.declared.sessions.SessionEnd.{SessionEnd}
 use Rattle.fedi_program.specs.declared.sessions.SessionEnd.TheVariants.{End, CutShort, Closed, ReadFault, WriteFault, Memory}
 use Rattle.fedi_program.specs.Conversations.{Setting, Exchange, Progress, IsExchange, Converses, after, beginning, closes, ends_by, progress}

@@ -1,7 +1,7 @@
 -- Over one input, at one moment and from one beginning there is one conversation with a keeper that never fails.
 use Rattle.std.proofs.Common.{◌≡◌, ℕ, Bool, drop, true, false, List, [], ◌∷◌, ◌++◌, Option, Some, None, Result, Ok, Err, inl, inr, refl, sym, ap, subst, ◌∙◌, arith, lit<}
 use Rattle.std.specs.List.{slice_range}
-use Rattle.fedi_model.specs.declared.refusal.Refusal.{Refusal}
+use Rattle.fedi_town.specs.declared.refusal.Refusal.{Refusal}
 use Rattle.fedi_http.proofs.ArrivalLemmas.{one_arrival}
 use Rattle.fedi_http.specs.Arrivals.{TellsOfStream}
 use Rattle.fedi_http.specs.declared.arrivals.Arrived.{Arrived}
@@ -9,14 +9,15 @@ use Rattle.fedi_http.specs.declared.arrivals.Arrived.TheVariants as arrivals
 use Rattle.fedi_http.specs.declared.heads.TheConstants.{HEAD_LIMIT}
 use Rattle.fedi_http.specs.declared.requests.TheConstants.{MOST_FIELDS}
 use Rattle.fedi_objects.specs.declared.entry.Entry.{Entry}
-use Rattle.fedi_model.specs.declared.ask.Ask.{Ask}
-use Rattle.fedi_model.specs.declared.caller.Caller.{Caller}
+use Rattle.fedi_asks.specs.declared.ask.Ask.{Ask}
+use Rattle.fedi_town.specs.declared.caller.Caller.{Caller}
 use Rattle.fedi_model.specs.declared.reply.Reply.{Reply}
 use Rattle.fedi_model.specs.declared.request.Request.{Request}
 use Rattle.fedi_model.specs.Answers.{AnswersTo, caller_of}
-use Rattle.fedi_model.specs.Histories.{town}
-use Rattle.fedi_model.specs.Replies.{entry_of, reply}
-use Rattle.fedi_model.specs.Towns.{Town}
+use Rattle.fedi_town.specs.Histories.{town}
+use Rattle.fedi_asks.specs.Asks.{entry_of}
+use Rattle.fedi_model.specs.Replies.{reply}
+use Rattle.fedi_town.specs.Towns.{Town}
 use Rattle.fedi_routes.proofs.AskLemmas.{asked_once}
 use Rattle.fedi_log.specs.Log.{Log, Outcome, NoEntry, Kept, Full, Failed, history_of}
 use Rattle.fedi_program.specs.Conversations.{Setting, Exchange, Progress, Arrives, AreCalm, Converses, IsAnswered, IsAtEnd, IsCalm, IsExchange, IsNow, IsReply, NoGaps, Settles, StandsAtFront, after, progress}

@@ -5,7 +5,7 @@ use Rattle.std.specs.Io.KnownBytes.{Appends, prepend_known}
 use Rattle.std.proofs.KnownBytes.{Appends-trans}
 use Rattle.std.proofs.lemmas.List.{drop-append-le}
 use Rattle.fedi_outside.specs.Causes.{next_count}
-use Rattle.fedi_model.specs.declared.refusal.Refusal.{Refusal}
+use Rattle.fedi_town.specs.declared.refusal.Refusal.{Refusal}
 use Rattle.fedi_http.specs.Arrivals.{LacksRequest}
 use Rattle.fedi_http.specs.declared.arrivals.Arrived.{Arrived}
 use Rattle.fedi_http.specs.declared.arrivals.Arrived.TheVariants as arrivals
@@ -16,7 +16,7 @@ use Rattle.fedi_log.specs.Keeping.{Base, Follows, Holds, State, end_of}
 use Rattle.fedi_log.specs.Log.{Failed, Goes, Log, NoEntry, Outcome, history_of, items_of}
 use Rattle.fedi_log.proofs.Growing.{goes_here}
 use Rattle.fedi_objects.specs.declared.entry.Entry.{Entry}
-use Rattle.fedi_model.specs.declared.refusal.Refusal.TheVariants.{KeeperFault}
+use Rattle.fedi_town.specs.declared.refusal.Refusal.TheVariants.{KeeperFault}
 use Rattle.fedi_model.specs.declared.reply.Reply.{Reply}
 use Rattle.fedi_model.specs.declared.request.Request.{Request}
 use Rattle.fedi_model.specs.Refusing.{refused}

@@ -2,8 +2,8 @@
 -- add to as well.
 use Rattle.std.specs.Prelude.{◌≡◌, ◌⊎◌, ℕ, ◌+◌, ◌-◌, ◌≤◌, min, nat_le, Bool, false, true, not, ◌||◌, List, [], ◌∷◌, ◌++◌, length, drop, Option, Some, None, Result, Ok, Err}
 use Rattle.std.specs.List.{flat_map, fold, slice_range}
-use Rattle.fedi_model.specs.declared.refusal.Refusal.{Refusal}
-use Rattle.fedi_model.specs.declared.refusal.Refusal.TheVariants.{JournalFull, KeeperFault}
+use Rattle.fedi_town.specs.declared.refusal.Refusal.{Refusal}
+use Rattle.fedi_town.specs.declared.refusal.Refusal.TheVariants.{JournalFull, KeeperFault}
 use Rattle.fedi_entry.specs.Codes.{code_of}
 use Rattle.fedi_http.specs.Arrivals.{IsArrival}
 use Rattle.fedi_http.specs.declared.arrivals.Arrived.{Arrived}
@@ -16,7 +16,7 @@ use Rattle.fedi_model.specs.declared.reply.Reply.{Reply}
 use Rattle.fedi_model.specs.declared.request.Request.{Request}
 use Rattle.fedi_model.specs.Answers.{Answers, IsPrivateAnswer}
 use Rattle.fedi_model.specs.Cleanness.{IsCleanBody}
-use Rattle.fedi_model.specs.Histories.{town}
+use Rattle.fedi_town.specs.Histories.{town}
 use Rattle.fedi_model.specs.Refusing.{refused}
 use Rattle.fedi_model.specs.ReplyText.{reply_text}
 use Rattle.fedi_objects.specs.declared.entry.Entry.{Entry}

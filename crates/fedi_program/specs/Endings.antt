@@ -8,7 +8,7 @@ use Rattle.fedi_http.specs.declared.heads.TheConstants.{HEAD_LIMIT}
 use Rattle.fedi_http.specs.declared.requests.TheConstants.{MOST_FIELDS}
 use Rattle.fedi_log.specs.Keeping.{Follows, HoldsSince, State, base_of}
 use Rattle.fedi_log.specs.Log.{Failed, Goes, Log, NoEntry, Outcome, given, kept_in}
-use Rattle.fedi_model.specs.declared.refusal.Refusal.TheVariants.{KeeperFault}
+use Rattle.fedi_town.specs.declared.refusal.Refusal.TheVariants.{KeeperFault}
 use Rattle.fedi_model.specs.declared.reply.Reply.{Reply}
 use Rattle.fedi_model.specs.declared.request.Request.{Request}
 use Rattle.fedi_model.specs.Refusing.{refused}

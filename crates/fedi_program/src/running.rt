@@ -3,10 +3,11 @@
 ghost use Rattle.std.specs.Prelude.{◌≡◌, ◌≢◌, ◌↔◌, [], IsTrue, Some, None, map, string_bytes};
 ghost use Rattle.fedi_log.specs.Keeping.{state_of};
 ghost use Rattle.fedi_log.specs.Log.{given};
-ghost use Rattle.fedi_model.specs.Histories.{IsLegal};
 ghost use Rattle.fedi_program.specs.Commands.{command_of};
 ghost use Rattle.fedi_program.specs.Endings.{HasCauses, HoldsALog, Prints, RunsTo, TalksIfTold, WritesUnlessFailed, faults_by, is_status, output_by, scene_by, setting_of, status_of};
 ghost use Rattle.fedi_program.specs.Usage.{usage_text};
+ghost use Rattle.fedi_town.specs.Built.{are_built};
+ghost use Rattle.fedi_town.specs.Legal.{IsLegal};
 
 use crate::commands::{Command, command_of};
 use crate::connection::Connection;
@@ -78,13 +79,15 @@ fn inetd<S: Source, O: Sink, P: Keeper, C: Clock>(
     history: Vec<Entry>,
     keeper: P,
 ) -> Ended<P>
-    requires { IsLegal history.items }
+    requires legal { IsLegal history.items }
+    requires built { IsTrue (are_built history.items) }
     ensures session { let opened = state_of history.items (P.shown keeper) in
         RunsTo (setting_of P.growth P.room (C.told connection.old.clock) opened) opened
         (scene_by S.left O.sent O.write_faults connection.old.input connection.old.out)
         (scene_by S.left O.sent O.write_faults connection.new.input connection.new.out)
         (state_of result.history.items (P.shown result.keeper)) result.status }
     ensures legal { IsLegal result.history.items }
+    ensures built { IsTrue (are_built result.history.items) }
     ensures causes { HasCauses
         (faults_by S.read_faults O.write_faults connection.old.input connection.old.out)
         (faults_by S.read_faults O.write_faults connection.new.input connection.new.out)
@@ -135,7 +138,8 @@ pub fn run<S: Source, O: Sink, P: Keeper, C: Clock>(
     history: Vec<Entry>,
     keeper: P,
 ) -> Ended<P>
-    requires { IsLegal history.items }
+    requires legal { IsLegal history.items }
+    requires built { IsTrue (are_built history.items) }
 
     // The status is one of six, and 2 exactly if the arguments are not accepted.
     ensures statuses { IsTrue (is_status result.status) }
@@ -161,9 +165,10 @@ pub fn run<S: Source, O: Sink, P: Keeper, C: Clock>(
         (scene_by S.left O.sent O.write_faults connection.new.input connection.new.out)
         (state_of result.history.items (P.shown result.keeper)) result.status }
 
-    // Whatever the input, the history comes back legal, and the entries that the run made are the
-    // records that came to the keeper.
+    // Whatever the input, the history comes back legal, with no entry that is not built, and the
+    // entries that the run made are the records that came to the keeper.
     ensures legal { IsLegal result.history.items }
+    ensures built { IsTrue (are_built result.history.items) }
     ensures kept { let opened = state_of history.items (P.shown keeper) in
         HoldsALog (setting_of P.growth P.room (C.told connection.old.clock) opened)
         (given history.items)

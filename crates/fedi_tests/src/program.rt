@@ -1,6 +1,7 @@
 //! Whole runs over the example town, in memory, byte for byte. A case is lent to one driver, which makes the run.
-ghost use Rattle.std.specs.Prelude.{IfOk};
-ghost use Rattle.fedi_model.specs.Histories.{IsLegal};
+ghost use Rattle.std.specs.Prelude.{IfOk, IsTrue};
+ghost use Rattle.fedi_town.specs.Built.{are_built};
+ghost use Rattle.fedi_town.specs.Legal.{IsLegal};
 
 use fedi_address::{Host, LocalName};
 use fedi_core::Core;
@@ -66,9 +67,10 @@ struct Outcome {
 }
 
 /// The first entries of the example town.
-#[tactic(auto, using(crate::proofs::HistoryLemmas::front_is_legal))]
+#[tactic(auto, using(crate::proofs::HistoryLemmas::front_is_legal, crate::proofs::HistoryLemmas::front_is_built))]
 fn younger_town(alloc: Global, entries: usize) -> Result<Vec<Entry>, AllocError>
-    ensures { IfOk result (λ history. IsLegal history.items) }
+    ensures legal { IfOk result (λ history. IsLegal history.items) }
+    ensures built { IfOk result (λ history. IsTrue (are_built history.items)) }
 {
     let mut history = example_history(alloc)?;
     history.truncate(entries);
@@ -126,7 +128,8 @@ fn left_in(
     history: Vec<Entry>,
     keeper: MemoryKeeper,
 ) -> Outcome
-    requires { IsLegal history.items }
+    requires legal { IsLegal history.items }
+    requires built { IsTrue (are_built history.items) }
 {
     let ended = run(alloc, arguments, &mut connection, history, keeper);
     Outcome {

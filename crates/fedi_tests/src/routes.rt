@@ -1,6 +1,6 @@
 //! Heads as clients and peers write them, and what they show, ask and post.
 use fedi_http::read_request_head;
-use fedi_model::{Ask, Credentials, Read, Request};
+use fedi_model::{Ask, Credentials, KeyAsk, Read, Request};
 use fedi_routes::{credentials, route};
 use std::alloc::{AllocError, Global};
 use std::test::Fail;
@@ -121,7 +121,11 @@ fn of_post(ask: &Ask) -> (bool, bool, &'static str) {
         Read::Bad(_) => "bad",
         Read::Ready(_) => "ready",
     };
-    (post.is_typed, post.is_keyed, read)
+    (
+        post.is_typed,
+        matches!(post.key, KeyAsk::Malformed),
+        read,
+    )
 }
 
 // The same of a request and a body.
