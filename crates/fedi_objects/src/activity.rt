@@ -80,12 +80,13 @@ impl Activity {
     pub fn create(alloc: Global, object: Object) -> Result<Activity, AllocError>
         ensures { IfOk result (λ activity. activity ≡ creation object) }
     {
-        let recipients = object.recipients.clone()?;
+        let object = Boxed::new(alloc, object)?;
+        let recipients = object.get().recipients.clone()?;
         Ok(Activity {
             id: None,
             kind: Kind::Create,
             actor: None,
-            object: ObjectRef::Whole(Boxed::new(alloc, object)?),
+            object: ObjectRef::Whole(object),
             target: None,
             recipients,
             in_reply_to: None,
@@ -103,15 +104,15 @@ impl Activity {
     {
         self.id = clone_option(&other.id)?;
         self.actor = clone_option(&other.actor)?;
-        self.object = other.object.clone()?;
+        self.object.clone_from(&other.object)?;
         self.target = clone_option(&other.target)?;
-        self.recipients = other.recipients.clone()?;
+        self.recipients.clone_from(&other.recipients)?;
         self.in_reply_to = clone_option(&other.in_reply_to)?;
         self.content = clone_option(&other.content)?;
         self.summary = clone_option(&other.summary)?;
         self.name = clone_option(&other.name)?;
         self.published = clone_option(&other.published)?;
-        self.tags = other.tags.clone()?;
+        self.tags.clone_from(&other.tags)?;
         Ok(())
     }
 
@@ -128,7 +129,6 @@ impl Clone for Activity {
 
     fn clone(&self) -> Result<Activity, AllocError> {
         let mut copy = Activity::new(self.tags.allocator(), self.kind);
-        copy.fill_from(self)?;
-        Ok(copy)
+        copy.fill_from(self).and(Ok(copy))
     }
 }

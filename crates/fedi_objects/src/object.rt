@@ -78,7 +78,7 @@ impl Object {
     {
         self.id = clone_option(&other.id)?;
         self.attributed_to = clone_option(&other.attributed_to)?;
-        self.recipients = other.recipients.clone()?;
+        self.recipients.clone_from(&other.recipients)?;
         self.in_reply_to = clone_option(&other.in_reply_to)?;
         self.content = clone_option(&other.content)?;
         self.summary = clone_option(&other.summary)?;
@@ -88,7 +88,7 @@ impl Object {
         self.updated = clone_option(&other.updated)?;
         self.former_kind = clone_option(&other.former_kind)?;
         self.deleted = clone_option(&other.deleted)?;
-        self.tags = other.tags.clone()?;
+        self.tags.clone_from(&other.tags)?;
         Ok(())
     }
 }
@@ -98,8 +98,7 @@ impl Clone for Object {
 
     fn clone(&self) -> Result<Object, AllocError> {
         let mut copy = Object::new(self.tags.allocator(), self.kind.clone()?);
-        copy.fill_from(self)?;
-        Ok(copy)
+        copy.fill_from(self).and(Ok(copy))
     }
 }
 
@@ -158,12 +157,12 @@ impl Change {
     fn fill_from(&mut self, other: &Change) -> Result<(), AllocError>
         ensures { OnOk result (self.new ≡ record other.now { id = self.old.id }) }
     {
-        self.content = other.content.clone()?;
-        self.summary = other.summary.clone()?;
-        self.name = other.name.clone()?;
-        self.url = other.url.clone()?;
-        self.in_reply_to = other.in_reply_to.clone()?;
-        self.tags = other.tags.clone()?;
+        self.content.clone_from(&other.content)?;
+        self.summary.clone_from(&other.summary)?;
+        self.name.clone_from(&other.name)?;
+        self.url.clone_from(&other.url)?;
+        self.in_reply_to.clone_from(&other.in_reply_to)?;
+        self.tags.clone_from(&other.tags)?;
         Ok(())
     }
 }
@@ -173,7 +172,6 @@ impl Clone for Change {
 
     fn clone(&self) -> Result<Change, AllocError> {
         let mut copy = Change::new(self.id.clone()?);
-        copy.fill_from(self)?;
-        Ok(copy)
+        copy.fill_from(self).and(Ok(copy))
     }
 }
