@@ -121,11 +121,7 @@ fn of_post(ask: &Ask) -> (bool, bool, &'static str) {
         Read::Bad(_) => "bad",
         Read::Ready(_) => "ready",
     };
-    (
-        post.is_typed,
-        matches!(post.key, KeyAsk::Malformed),
-        read,
-    )
+    (post.is_typed, matches!(post.key, KeyAsk::Malformed), read)
 }
 
 // The same of a request and a body.
