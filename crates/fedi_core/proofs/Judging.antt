@@ -72,11 +72,6 @@ refused_answer t name author (Stop a) r is = cc
 refused_answer t name author (Repeat id) r is = cc
 refused_answer t name author (Keep a) r is = absurd cc
 
-refused_post : (name : List ℕ) (post : Post) (moment : ℕ) (j : Judgement) (r : Reply) → Err r ≡ kept_or_reply j → None ≡ post_entry name post moment j
-refused_post name post moment (Stop a) r is = refl
-refused_post name post moment (Repeat id) r is = refl
-refused_post name post moment (Keep a) r is = absurd cc
-
 -- what is known of a post whose author was found
 pub record IsJudged (t : Town) (name author : List ℕ) (count : ℕ) (post : Post) : Type 0 where
   pub found : Some author ≡ id_of t name
@@ -89,12 +84,6 @@ pub refused_reply : (t : Town) (c : Caller) (name author : List ℕ) (count : �
 refused_reply t c name author count post r h is =
     subst (λ (id : Option (List ℕ)). r ≡ reply_of (post_answer t c name post id)) h.found
     (refused_answer t name author (judge_post t c name author post) r (is ∙ ap kept_or_reply (sym (post_built t c name author count post h.built h.counted))))
-
-pub refused_entry : (t : Town) (c : Caller) (name author : List ℕ) (count : ℕ) (post : Post) (moment : ℕ) (r : Reply) → IsJudged t name author count post
-    → Err r ≡ kept_or_reply (judge_built_post c name count post) → None ≡ entry_at t c name post moment (id_of t name)
-refused_entry t c name author count post moment r h is =
-    subst (λ (id : Option (List ℕ)). None ≡ entry_at t c name post moment id) h.found
-    (refused_post name post moment (judge_post t c name author post) r (is ∙ ap kept_or_reply (sym (post_built t c name author count post h.built h.counted))))
 
 kept : (t : Town) (c : Caller) (name author : List ℕ) (count : ℕ) (post : Post) (a : Activity) → IsJudged t name author count post
     → Ok a ≡ kept_or_reply (judge_built_post c name count post) → judge_post t c name author post ≡ Keep a

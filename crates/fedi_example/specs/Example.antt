@@ -8,7 +8,7 @@ use Rattle.fedi_objects.specs.declared.entry.Entry.{Entry}
 use Rattle.fedi_objects.specs.declared.entry.Entry.TheVariants.{Hosted, Made, Local}
 use Rattle.fedi_objects.specs.declared.kind.Kind.TheVariants.{Create}
 use Rattle.fedi_objects.specs.declared.object.Object.{Object}
-use Rattle.fedi_model.specs.Ids.{actor_id}
+use Rattle.fedi_town.specs.Ids.{actor_id}
 use Rattle.fedi_example.specs.declared.town.TheConstants.{ANA_DIGEST, BEN_DIGEST, CLEO_DIGEST, DAN_DIGEST, SECONDS}
 
 -- the host

@@ -3,7 +3,8 @@
 ghost use Rattle.std.specs.Prelude.{◌≡◌, [], ◌∷◌, IfOk, OnOk, IsTrue};
 ghost use Rattle.fedi_address.specs.Names.{is_name};
 ghost use Rattle.fedi_objects.specs.declared.entry.Entry.TheVariants.{Hosted};
-ghost use Rattle.fedi_model.specs.Histories.{IsLegal};
+ghost use Rattle.fedi_town.specs.Built.{are_built};
+ghost use Rattle.fedi_town.specs.Legal.{IsLegal};
 ghost use Rattle.fedi_example.specs.Example as example;
 
 use fedi_address::{Host, HostFault, Iri, Items, LocalName, Recipients};
@@ -195,10 +196,11 @@ fn add_members(alloc: Global, history: &mut Vec<Entry>) -> Result<(), AllocError
 /// The history of the example town, which is served as long as there are no stores: `club.example`
 /// with its members ana, ben, cleo and dan, and ana's two posts, `Hello` to everybody and `Psst` to
 /// ben alone. The keys of the members are 32 bytes 0, 1, 2 and 3. The error is out of memory.
-#[tactic(auto, using(crate::proofs::ExampleTown::example_is_legal))]
+#[tactic(auto, using(crate::proofs::ExampleTown::example_is_legal, crate::proofs::ExampleTown::example_is_built))]
 pub fn example_history(alloc: Global) -> Result<Vec<Entry>, AllocError>
     ensures exact { IfOk result (λ history. history.items ≡ example.history) }
     ensures legal { IfOk result (λ history. IsLegal history.items) }
+    ensures built { IfOk result (λ history. IsTrue (are_built history.items)) }
 {
     let mut history = Vec::new(alloc);
     add_members(alloc, &mut history)?;

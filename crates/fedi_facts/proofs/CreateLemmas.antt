@@ -14,7 +14,6 @@ use Rattle.fedi_objects.specs.declared.activity.Activity.{Activity}
 use Rattle.fedi_objects.specs.declared.activity.ObjectRef.{ObjectRef}
 use Rattle.fedi_objects.specs.declared.activity.ObjectRef.TheVariants.{Nothing, Id, Whole, Changed}
 use Rattle.fedi_objects.specs.declared.kind.State.TheVariants.{Done}
-use Rattle.fedi_text.specs.Dates.{moment_text}
 use Rattle.fedi_laws.proofs.Lists.{filter-none, map-still}
 use Rattle.fedi_laws.proofs.Texts.{or_no, and_none}
 use Rattle.fedi_town.proofs.Once.{once-push}
@@ -30,14 +29,14 @@ use Rattle.fedi_town.specs.Addressing.{addressees, complete_recipients, implied_
 use Rattle.fedi_town.specs.Deeds.{deed_of, is_create, is_done}
 use Rattle.fedi_town.specs.Effects.{acceptance, affect, effect_of, effect_with, takes_effect, with_acceptance}
 use Rattle.fedi_town.specs.Histories.{with_addition}
-use Rattle.fedi_town.specs.Ids.{activity_id, actor_id, followers_id, object_id}
+use Rattle.fedi_town.specs.Ids.{actor_id, followers_id, object_id}
 use Rattle.fedi_town.specs.Lists.{each_once}
 use Rattle.fedi_town.specs.Objects.{is_whole, makes, whole_of}
 use Rattle.fedi_town.specs.Relations.{blocks, followers, has_block_between, is_block_of, is_following, ref_id}
 use Rattle.fedi_town.specs.Showing.{object_or_id, present_object, shown_ref}
 use Rattle.fedi_town.specs.States.{only_where, state_of}
 use Rattle.fedi_town.specs.Towns.{Town, count_of, deed}
-use Rattle.fedi_facts.specs.Creates.{AreCreates, ComesAlone, IsBuiltAddition, is_creation}
+use Rattle.fedi_facts.specs.Creates.{AreCreates, ComesAlone, IsBuiltAddition, is_creation, stamped}
 use Rattle.fedi_facts.specs.Gathering.{is_reached, with_reached}
 
 pub the_create : (d : Deed) → is_create d ≡ true → d ≡ Create
@@ -150,12 +149,7 @@ pub record IsCreated (t : Town) (host name author id : List ℕ) (number : ℕ) 
   pub next : number ≡ count_of t author + 1
   pub object : id ≡ object_id host name number
   pub by : x.author ≡ author
-  pub activity : x.activity ≡ record a {
-    id = Some (activity_id host name number);
-    actor = Some author;
-    published = Some (moment_text moment);
-    object = complete_ref host name number moment a.object;
-  }
+  pub activity : x.activity ≡ stamped host name number moment a
   pub under : x.repeat ≡ repeat
   pub at : x.moment ≡ moment
   pub recipients : x.recipients ≡ recipients_with t author a.recipients []

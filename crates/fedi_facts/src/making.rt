@@ -3,14 +3,13 @@
 ghost use Rattle.std.specs.Prelude.{◌≡◌, ◌+◌, ◌&&◌, IsTrue, IfOk, OnOk, Some, not, option_copied};
 ghost use Rattle.std.specs.List.{list_any};
 ghost use Rattle.fedi_objects.specs.declared.kind.State.TheVariants.{Done};
-ghost use Rattle.fedi_text.specs.Dates.{moment_text};
 ghost use Rattle.fedi_town.specs.Activities.{complete_ref, local_act};
 ghost use Rattle.fedi_town.specs.Deeds.{deed_of, is_create};
 ghost use Rattle.fedi_town.specs.Histories.{member_addition, post_addition};
-ghost use Rattle.fedi_town.specs.Ids.{activity_id, actor_id, object_id};
+ghost use Rattle.fedi_town.specs.Ids.{actor_id, object_id};
 ghost use Rattle.fedi_town.specs.Objects.{is_whole, makes};
 ghost use Rattle.fedi_town.specs.States.{only_where};
-ghost use Rattle.fedi_facts.specs.Creates.{IsBuiltAddition};
+ghost use Rattle.fedi_facts.specs.Creates.{IsBuiltAddition, stamped};
 
 use crate::acts::{is_whole, makes};
 use crate::addressing::{names_followers, recipients_of};
@@ -65,18 +64,17 @@ fn state_of(acts: &[Act], object: &ObjectRef, id: &Iri) -> State
     }
 }
 
-fn complete_object(object: Object, id: Iri, author: Iri, published: Text) -> Object
-    ensures { result ≡ record object {
+// To own an object or an activity over many exits is dear to prove, so they are lent.
+fn complete_object(object: &mut Object, id: Iri, author: Iri, published: Text)
+    ensures { object.new ≡ record object.old {
       id = Some id;
       attributed_to = Some author;
       published = Some published;
     } }
 {
-    let mut own = object;
-    own.id = Some(id);
-    own.attributed_to = Some(author);
-    own.published = Some(published);
-    own
+    object.id = Some(id);
+    object.attributed_to = Some(author);
+    object.published = Some(published);
 }
 
 // From what follows all that the server sets in a new activity: its author, its number among the
@@ -107,15 +105,15 @@ impl<'a> Stamp<'a> {
             ObjectRef::Whole(object) => {
                 let author = author.clone()?;
                 let published = self.moment.to_text(alloc)?;
-                let own = complete_object(object.into_inner(), id, author, published);
+                let mut own = object.into_inner();
+                complete_object(&mut own, id, author, published);
                 Ok(ObjectRef::Whole(Boxed::new(alloc, own)?))
             }
             ObjectRef::Nothing | ObjectRef::Id(_) | ObjectRef::Changed(_) => Ok(object),
         }
     }
 
-    // The activity gets its id, its actor and its moment, and its object likewise. To own an activity
-    // over many exits is dear to prove, so it is lent.
+    // The activity gets its id, its actor and its moment, and its object likewise.
     fn complete(
         &self,
         alloc: Global,
@@ -125,13 +123,8 @@ impl<'a> Stamp<'a> {
     ) -> Result<(), AllocError>
         requires author { author.now ≡ actor_id self.now.host.now self.now.name.now }
         requires object { object ≡ object_id self.now.host.now self.now.name.now self.now.number }
-        ensures { OnOk result (activity.new ≡ record activity.old {
-          id = Some (activity_id self.now.host.now self.now.name.now self.now.number);
-          actor = Some author.now;
-          published = Some (moment_text self.now.moment);
-          object = complete_ref self.now.host.now self.now.name.now self.now.number
-              self.now.moment activity.old.object;
-        }) }
+        ensures { OnOk result (activity.new ≡ stamped self.now.host.now self.now.name.now
+            self.now.number self.now.moment activity.old) }
     {
         let carried = mem::replace(&mut activity.object, ObjectRef::Nothing);
         activity.object = self.complete_ref(alloc, carried, author, object)?;
@@ -151,13 +144,8 @@ impl<'a> Stamp<'a> {
     ) -> Result<Boxed<Activity>, AllocError>
         requires author { author.now ≡ actor_id self.now.host.now self.now.name.now }
         requires object { object ≡ object_id self.now.host.now self.now.name.now self.now.number }
-        ensures { IfOk result (λ a. a ≡ record activity.now {
-          id = Some (activity_id self.now.host.now self.now.name.now self.now.number);
-          actor = Some author.now;
-          published = Some (moment_text self.now.moment);
-          object = complete_ref self.now.host.now self.now.name.now self.now.number
-              self.now.moment activity.now.object;
-        }) }
+        ensures { IfOk result (λ a. a ≡ stamped self.now.host.now self.now.name.now
+            self.now.number self.now.moment activity.now) }
     {
         let mut own = activity.clone()?;
         self.complete(alloc, &mut own, author, object)?;
@@ -180,7 +168,6 @@ fn copy_repeat(repeat: &Option<(RepeatKey, [u8; 32])>) -> Option<(RepeatKey, [u8
 }
 
 // The next activity of a member, a Create, accepted at the moment.
-#[tactic(auto, using(crate::proofs::CreateLemmas::created_is_local))]
 fn new_act(
     alloc: Global,
     facts: &Facts,
