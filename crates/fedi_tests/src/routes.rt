@@ -66,6 +66,11 @@ fn name_and_number(ask: &Ask) -> (&'static str, u32) {
         Ask::Object(_, number) => ("object", *number),
         Ask::Outbox(_, _) => ("outbox", 0),
         Ask::Nowhere => ("nowhere", 0),
+        Ask::WrongMethod(_)
+        | Ask::Webfinger(_)
+        | Ask::Actor(_)
+        | Ask::Collection(..)
+        | Ask::Inbox(..) => ("not built yet", 0),
     }
 }
 
