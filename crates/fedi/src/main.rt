@@ -3,7 +3,9 @@
 
 use fedi_example::example_history;
 use fedi_outside::MemoryKeeper;
-use fedi_program::{Connection, OUT_OF_MEMORY, Reading, SystemClock, Writing, run};
+use fedi_program::{
+    Connection, OUT_OF_MEMORY, Reading, SystemClock, SystemEntropy, Writing, run,
+};
 use std::alloc::AllocError;
 use std::process::ExitCode;
 use std::{env, io};
@@ -29,6 +31,14 @@ fn main(rt: HostRuntime) -> ExitCode {
         clock: SystemClock::new(&rt),
     };
     let keeper = MemoryKeeper::new(rt.alloc());
-    let ended = run(rt.alloc(), &arguments, &mut connection, history, keeper);
+    let mut entropy = SystemEntropy::new(&rt);
+    let ended = run(
+        rt.alloc(),
+        &arguments,
+        &mut connection,
+        history,
+        keeper,
+        &mut entropy,
+    );
     ExitCode::from(ended.status)
 }

@@ -20,13 +20,12 @@ is_built_read NotJson = true
 is_built_read (Bad fault) = true
 is_built_read (Ready a) = is_create (deed_of a.kind)
 
--- activities and objects are read, and outboxes are posted to; no method is told from another, and actors, WebFinger,
--- collections and inboxes are not built
+-- members, activities and objects are read, and outboxes are posted to; collections and inboxes are not built
 abbrev pub is_built_ask : Ask → Bool
 is_built_ask Nowhere = true
-is_built_ask (WrongMethod allow) = false
-is_built_ask (Webfinger resource) = false
-is_built_ask (Actor name) = false
+is_built_ask (WrongMethod allow) = true
+is_built_ask (Webfinger resource) = true
+is_built_ask (Actor name) = true
 is_built_ask (Collection which part) = false
 is_built_ask (Activity name number) = true
 is_built_ask (Object name number) = true

@@ -18,30 +18,8 @@ use Rattle.fedi_laws.proofs.Next.{entry_admissible, entry_built}
 use Rattle.fedi_model.specs.declared.reply.Reply.{Reply}
 use Rattle.fedi_model.specs.Replies.{IsPrivate, reply}
 use Rattle.fedi_model.proofs.Private.{replies_agree}
-use Rattle.fedi_core.specs.Keeping.{IsPost, MayAdd}
+use Rattle.fedi_core.specs.Keeping.{MayAdd}
 use Rattle.fedi_core.specs.declared.deciding.Decision.{Decision}
-
-judged_post : (name : List ℕ) (post : Post) (moment : ℕ) (j : Judgement) (e : Entry) → post_entry name post moment j ≡ Some e → IsPost e
-judged_post name post moment (Stop a) e made = absurd cc
-judged_post name post moment (Repeat id) e made = absurd cc
-judged_post name post moment (Keep a) e made =
-    let same : Local name (repeat_by post.digest post.key) a moment ≡ e = cc in subst IsPost same tt
-
-found_post : (t : Town) (c : Caller) (name : List ℕ) (post : Post) (moment : ℕ) (id : Option (List ℕ)) (e : Entry) → entry_at t c name post moment id ≡ Some e → IsPost e
-found_post t c name post moment None e made = absurd cc
-found_post t c name post moment (Some author) e made = judged_post name post moment (judge_post t c name author post) e made
-
--- an ask that is built makes a post at most
-asked_post : (t : Town) (c : Caller) (ask : Ask) (moment : ℕ) (e : Entry) → is_built_ask ask ≡ true → entry_of t c ask moment ≡ Some e → IsPost e
-asked_post t c Nowhere moment e built made = absurd cc
-asked_post t c (WrongMethod allow) moment e built made = absurd cc
-asked_post t c (Webfinger resource) moment e built made = absurd cc
-asked_post t c (Actor name) moment e built made = absurd cc
-asked_post t c (Collection which part) moment e built made = absurd cc
-asked_post t c (Activity name number) moment e built made = absurd cc
-asked_post t c (Object name number) moment e built made = absurd cc
-asked_post t c (Outbox name post) moment e built made = found_post t c name post moment (id_of t name) e made
-asked_post t c (Inbox name post) moment e built made = absurd cc
 
 -- the entry that an ask makes may be added
 entry_may : (t : Town) (c : Caller) (ask : Ask) (moment : ℕ) → IsPostable t ask → is_built_ask ask ≡ true → IfSome (entry_of t c ask moment) (MayAdd t)
@@ -51,7 +29,6 @@ entry_may t c ask moment postable built =
       | Some e ↦ λ made. record {
         admissible = entry_admissible t c ask moment e postable made;
         built = entry_built t c ask moment e built made;
-        post = asked_post t c ask moment e built made;
       }
     ] refl
 

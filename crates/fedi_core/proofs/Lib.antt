@@ -1,3 +1,4 @@
+pub mod Commanding
 pub mod Accepting
 pub mod Growing
 pub mod Judging

@@ -19,20 +19,10 @@ use Rattle.fedi_core.specs.declared.keeping.KeepFault.TheVariants.{Full, Failed,
 
 -- ---- which entries may be kept
 
--- the entry is a member's post
-abbrev pub IsPost : Entry → Type 0
-IsPost (Hosted host moment) = ⊥
-IsPost (Made name digest locked moment) = ⊥
-IsPost (PeerSet host key address relay moment) = ⊥
-IsPost (Local name repeat a moment) = Unit {0}
-IsPost (Remote peer inbox a moment) = ⊥
-IsPost (Tried activity recipient came moment) = ⊥
-
--- the entry is a post that may come next, and one that this server takes so far
+-- the entry may come next, and is one that this server takes so far
 pub record MayAdd (t : Town) (e : Entry) : Type 0 where
   pub admissible : IsTrue (is_admissible t e)
   pub built : IsTrue (is_built e)
-  pub post : IsPost e
 
 -- ---- records
 

@@ -9,6 +9,7 @@ ghost use Rattle.fedi_town.specs.Ids.{activity_id};
 ghost use Rattle.fedi_town.specs.Towns.{id_of};
 
 use crate::posts::judge;
+use crate::profiles::{actor_reply, webfinger_reply, wrong_method_reply};
 use fedi_address::{Host, LocalName};
 use fedi_facts::{Facts, activity_iri, activity_reply, object_reply};
 use fedi_model::{Ask, Body, Form, Post, Reply, refusal_reply};
@@ -101,14 +102,14 @@ pub fn decide(
 {
     let reply = match ask {
         Ask::Nowhere => refusal_reply(Refusal::NotFound),
+        Ask::WrongMethod(allow) => wrong_method_reply(allow),
+        Ask::Webfinger(resource) => webfinger_reply(alloc, facts, resource.as_ref())?,
+        Ask::Actor(name) => actor_reply(alloc, facts, &name)?,
         Ask::Activity(name, number) => activity_reply(alloc, facts, caller, &name, number)?,
         Ask::Object(name, number) => object_reply(alloc, facts, caller, &name, number)?,
         Ask::Outbox(name, post) => {
             return decide_post(alloc, facts, caller, &name, post, moment);
         }
-        Ask::WrongMethod(_) => unreachable!(),
-        Ask::Webfinger(_) => unreachable!(),
-        Ask::Actor(_) => unreachable!(),
         Ask::Collection(..) => unreachable!(),
         Ask::Inbox(..) => unreachable!(),
     };

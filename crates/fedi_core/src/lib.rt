@@ -5,6 +5,7 @@ mod deciding;
 mod keeping;
 mod machine;
 mod posts;
+mod profiles;
 
 pub use deciding::Decision;
 pub use keeping::{KeepError, KeepFault};

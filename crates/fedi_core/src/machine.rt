@@ -1,29 +1,31 @@
 //! The machine over one history and the keeper of its records.
 
-ghost use Rattle.std.specs.Prelude.{◌≡◌, IfOk, IfErr, IfSome, IsTrue, OnOk, OnErr};
+ghost use Rattle.std.specs.Prelude.{◌≡◌, IfOk, IfErr, IfSome, IsTrue, MatchResult, None, OnOk, OnErr, Some, option_copied};
 ghost use Rattle.std.specs.List.{find};
 ghost use Rattle.sha2.specs.Sha256.{sha256};
 ghost use Rattle.fedi_entry.specs.Codes.{code_of};
 ghost use Rattle.fedi_town.specs.Built.{are_built};
 ghost use Rattle.fedi_town.specs.Histories.{town};
-ghost use Rattle.fedi_town.specs.Legal.{IsLegal};
+ghost use Rattle.fedi_town.specs.Legal.{IsLegal, broken_command};
 ghost use Rattle.fedi_town.specs.Towns.{has_digest};
 ghost use Rattle.fedi_asks.specs.Asks.{IsPostable, entry_of};
 ghost use Rattle.fedi_asks.specs.Built.{is_built_ask};
 ghost use Rattle.fedi_model.specs.Callers.{caller_by, member_or_refused};
 ghost use Rattle.fedi_model.specs.Credentials.{shown_by as credentials_shown_by};
 ghost use Rattle.fedi_model.specs.Replies.{IsPrivate, reply};
+ghost use Rattle.fedi_core.specs.Commands.{IsCommand, RefusesCommand};
 ghost use Rattle.fedi_core.specs.Keeping.{HidesPosts, IsKept, MayAdd, Refuses};
 
 use crate::deciding::{Decision, decide};
-use crate::keeping::{KeepError, push, store_entry};
+use crate::keeping::{KeepError, KeepFault, push, store_entry};
+use fedi_address::Host;
 use fedi_facts::Facts;
 use fedi_mac::digest;
 use fedi_model::{Ask, Credentials};
 use fedi_objects::Entry;
 use fedi_outside::Keeper;
 use fedi_text::Moment;
-use fedi_town::{Caller, Refusal};
+use fedi_town::{Caller, CommandFault, Refusal};
 use std::alloc::{AllocError, Global};
 use std::marker::Model;
 
@@ -101,6 +103,13 @@ impl<P: Keeper> Core<P> {
         }
     }
 
+    /// The host, once the server was set up.
+    pub fn host(&self) -> Option<&Host>
+        ensures { option_copied result ≡ (town self.now.history).host }
+    {
+        self.facts.host()
+    }
+
     /// Who makes a request with these credentials (RFC 6750, section 2.1): nobody without any, and the
     /// member whose key they show. `WrongKey` if they show no member's key, `WrongMac` if they are a
     /// peer's, since there are no peers. It takes no memory.
@@ -111,9 +120,9 @@ impl<P: Keeper> Core<P> {
         caller_of(&self.facts, credentials)
     }
 
-    /// Decides on an ask at a moment (ActivityPub, sections 3.2 and 6): the reply, and for a post that
-    /// is accepted the entry that `keep` has to keep before the reply is sent. It changes nothing. The
-    /// error is out of memory.
+    /// Decides on an ask at a moment (ActivityPub, sections 3.2, 4.1 and 6; RFC 7033, section 4.2): the
+    /// reply, and for a post that is accepted the entry that `keep` has to keep before the reply is sent.
+    /// It changes nothing. The error is out of memory.
     pub fn decide(
         &self,
         alloc: Global,
@@ -162,6 +171,32 @@ impl<P: Keeper> Core<P> {
                 Ok(())
             }
             Err(fault) => Err(KeepError { fault, entry }),
+        }
+    }
+
+    /// Does an operator's command: its entry is kept, unless it breaks a rule, of which the first one is
+    /// told, or the keeper refuses it, as `keep` says. After an error the history is as before.
+    #[tactic(auto, using(crate::proofs::Commanding::command_may, crate::proofs::Commanding::command_built))]
+    pub fn command(&mut self, alloc: Global, entry: Entry) -> Result<(), CommandFault>
+        requires { IsCommand (town self.old.history) entry }
+        ensures unbroken { OnOk result (broken_command (town self.old.history) entry ≡ None) }
+        ensures kept { OnOk result (IsKept P.growth P.room self.old.history entry
+            (P.shown self.old.keeper) (P.shown self.new.keeper) self.new.history) }
+        ensures refused { IfErr result (λ fault. RefusesCommand P.room
+            (town self.old.history) entry fault
+            (P.shown self.old.keeper) (P.shown self.new.keeper)) }
+        ensures same { OnErr result (self.new.history ≡ self.old.history) }
+        ensures legal { IsLegal self.new.history }
+        ensures built { IsTrue (are_built self.new.history) }
+    {
+        self.facts.judge_command(&entry)?;
+        match self.keep(alloc, entry) {
+            Ok(()) => Ok(()),
+            Err(error) => match error.fault {
+                KeepFault::Full => Err(CommandFault::Full),
+                KeepFault::Failed => Err(CommandFault::KeeperFault),
+                KeepFault::Memory => Err(CommandFault::Memory),
+            },
         }
     }
 

@@ -189,14 +189,14 @@ impl Facts {
 }
 
 #[tactic(auto, unfolding(fedi_town::specs::Towns::has_name))]
-fn has_name(actor: &Actor, name: &LocalName) -> bool
+pub(crate) fn has_name(actor: &Actor, name: &LocalName) -> bool
     ensures { result ≡ has_name name.now actor.now }
 {
     actor.name == *name
 }
 
 #[tactic(auto, unfolding(fedi_town::specs::Towns::has_digest))]
-fn has_digest(actor: &Actor, digest: &[u8; 32]) -> bool
+pub(crate) fn has_digest(actor: &Actor, digest: &[u8; 32]) -> bool
     ensures { result ≡ has_digest digest.now actor.now }
 {
     actor.digest.as_slice() == digest.as_slice()

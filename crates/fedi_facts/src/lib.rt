@@ -3,6 +3,7 @@
 
 mod acts;
 mod addressing;
+mod commands;
 mod facts;
 mod ids;
 mod making;

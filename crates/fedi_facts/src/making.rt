@@ -3,6 +3,7 @@
 ghost use Rattle.std.specs.Prelude.{◌≡◌, ◌+◌, ◌&&◌, IsTrue, IfOk, OnOk, Some, not, option_copied};
 ghost use Rattle.std.specs.List.{list_any};
 ghost use Rattle.fedi_objects.specs.declared.kind.State.TheVariants.{Done};
+ghost use Rattle.fedi_text.specs.Dates.{moment_text};
 ghost use Rattle.fedi_town.specs.Activities.{complete_ref, local_act};
 ghost use Rattle.fedi_town.specs.Deeds.{deed_of, is_create};
 ghost use Rattle.fedi_town.specs.Histories.{member_addition, post_addition};
@@ -93,18 +94,20 @@ impl<'a> Stamp<'a> {
         &self,
         alloc: Global,
         object: ObjectRef,
-        author: &Iri,
         id: Iri,
+        author: &Iri,
+        published: &Text,
     ) -> Result<ObjectRef, AllocError>
-        requires author { author.now ≡ actor_id self.now.host.now self.now.name.now }
         requires id { id ≡ object_id self.now.host.now self.now.name.now self.now.number }
+        requires author { author.now ≡ actor_id self.now.host.now self.now.name.now }
+        requires published { published.now ≡ moment_text self.now.moment }
         ensures { IfOk result (λ r. r ≡ complete_ref self.now.host.now self.now.name.now
             self.now.number self.now.moment object) }
     {
         match object {
             ObjectRef::Whole(object) => {
                 let author = author.clone()?;
-                let published = self.moment.to_text(alloc)?;
+                let published = published.clone()?;
                 let mut own = object.into_inner();
                 complete_object(&mut own, id, author, published);
                 Ok(ObjectRef::Whole(Boxed::new(alloc, own)?))
@@ -126,11 +129,12 @@ impl<'a> Stamp<'a> {
         ensures { OnOk result (activity.new ≡ stamped self.now.host.now self.now.name.now
             self.now.number self.now.moment activity.old) }
     {
+        let published = self.moment.to_text(alloc)?;
         let carried = mem::replace(&mut activity.object, ObjectRef::Nothing);
-        activity.object = self.complete_ref(alloc, carried, author, object)?;
+        activity.object = self.complete_ref(alloc, carried, object, author, &published)?;
         activity.id = Some(activity_iri(alloc, self.host, self.name, self.number)?);
         activity.actor = Some(author.clone()?);
-        activity.published = Some(self.moment.to_text(alloc)?);
+        activity.published = Some(published);
         Ok(())
     }
 

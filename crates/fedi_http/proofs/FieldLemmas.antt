@@ -1,17 +1,19 @@
 -- Lemmas on what is found of the fields of a head.
-use Rattle.std.proofs.Common.{◌≡◌, ℕ, ◌+◌, ◌≤◌, Bool, true, false, cond, not, List, [], ◌∷◌, ◌++◌, Option, None, Some, option_map, option_copied, find, refl, sym, ap, ◌∙◌, arith, Bor, eqb, leb, eq-eqb, add-zero, zero-add, inl, inr, ◌<◌}
+use Rattle.std.proofs.Common.{◌≡◌, ℕ, ◌+◌, ◌≤◌, Bool, true, false, cond, not, List, [], ◌∷◌, ◌++◌, Option, None, Some, option_map, option_copied, find, Result, Ok, Err, IfOk, MatchResult, refl, sym, subst, ap, ◌∙◌, arith, Bor, eqb, leb, eq-eqb, add-zero, zero-add, inl, inr, ◌<◌}
 use Rattle.std.specs.Prelude.{is_some, nat_le, codes, if◌then◌else◌, ◌&&◌, ◌||◌}
 use Rattle.std.specs.Str.Parse.{digits_value}
 use Rattle.std.specs.Option.{option_or}
 use Rattle.std.proofs.lemmas.List.Folds.{find-append, list_any-append}
 use Rattle.std.proofs.lemmas.Bool.Decides.{nat_tests}
 use Rattle.std.proofs.lemmas.List.Sums.{sum_by-cons, sum_by_push}
-use Rattle.std.proofs.lemmas.Bool.{cases_eq, eqb-true, leb-true, false_from_ne_true, ne_eqb}
+use Rattle.std.proofs.lemmas.Bool.{cases_eq, eqb-true, le-leb, leb-true, false_from_ne_true, ne_eqb}
 use Rattle.fedi_town.specs.declared.refusal.Refusal.{Refusal}
 use Rattle.fedi_town.specs.declared.refusal.Refusal.TheVariants.{BadHead, NoCoding, NoLength, TooLong}
+use Rattle.fedi_model.specs.declared.request.Coding.{Coding}
+use Rattle.fedi_model.specs.declared.request.Coding.TheVariants.{Length, Chunked}
 use Rattle.fedi_model.specs.declared.request.TheConstants.{BODY_LIMIT}
-use Rattle.fedi_model.specs.Requests.{Field, is_named, is_missing, is_once, is_single, count_named, field_value, closes, is_closing, is_length, is_length_if_any, length_by, is_post, has_host, has_no_repeats as has_no_repeats_by, has_single_credentials, has_single_content, has_served_fields, has_one_measure, has_plain_length, body_length, fields_refusal}
-use Rattle.fedi_http.specs.Fields.{AreKnown, IsSlot, has_no_repeats}
+use Rattle.fedi_model.specs.Requests.{Field, is_named, is_missing, is_once, is_single, count_named, field_value, closes, is_closing, is_chunked, is_chunked_if_any, is_latest, is_length_if_any, length_by, is_post, has_host as has_host_by, has_no_repeats as has_no_repeats_by, has_single_credentials, has_single_content, has_served_coding, has_served_fields, has_one_measure, has_plain_length, body_length, coding_of, fields_refusal, length_in}
+use Rattle.fedi_http.specs.Fields.{AreKnown, IsLength, IsNoLength, IsSlot, has_host, has_no_repeats}
 use Rattle.fedi_http.specs.declared.fields.KnownFields.{KnownFields}
 use Rattle.fedi_http.specs.declared.fields.Slot.{Slot}
 
@@ -149,35 +151,26 @@ once-slot name fields slot is =
     ∙ ap (λ b. b && is_single name fields) (not-not (is_some slot.value))
     ∙ ap (λ b. is_some slot.value && b) (single-is name fields slot is)
 
+and-false : (b : Bool) → (b && false) ≡ false
+and-false true = refl
+and-false false = refl
+
 -- each of these at once
-spread : (h a b c d e f g i : Bool)
-    → ((h && not a) && (((not b && not c) && not d) && ((not e && not f) && not g) && not i)) ≡ (h && not (((((((a || b) || c) || d) || e) || f) || g) || i))
-spread false a b c d e f g i = refl
-spread true true b c d e f g i = refl
-spread true false true c d e f g i = refl
-spread true false false true d e f g i = refl
-spread true false false false true e f g i = refl
-spread true false false false false true f g i = refl
-spread true false false false false false true g i = refl
-spread true false false false false false false true i = refl
-spread true false false false false false false false true = refl
-spread true false false false false false false false false = refl
+spread : (b c d e f g i : Bool)
+    → (((not b && not c) && not d) && ((not e && not f) && not g) && not i) ≡ not ((((((b || c) || d) || e) || f) || g) || i)
+spread true c d e f g i = refl
+spread false true d e f g i = refl
+spread false false true e f g i = refl
+spread false false false true f g i = refl
+spread false false false false true g i = refl
+spread false false false false false true i = refl
+spread false false false false false false true = refl
+spread false false false false false false false = refl
 
--- why a request is refused, by what was found of its fields
-abbrev refusal_by : List ℕ → KnownFields → Option Refusal
-refusal_by method k =
-    if ((is_some k.host.value && has_no_repeats k) && (not (is_some k.content_length.value) || not (is_some k.transfer_encoding.value)))
-    && is_length_if_any (option_copied k.content_length.value)
-    then (if not (not (is_some k.transfer_encoding.value)) then Some NoCoding
-    else (if is_post method && not (is_some k.content_length.value) then Some NoLength
-    else (if nat_le (length_by (option_copied k.content_length.value)) BODY_LIMIT then None else Some TooLong)))
-    else Some BadHead
-
-served-is : (fields : List Field) (k : KnownFields) → AreKnown fields k → (has_host fields && has_no_repeats_by fields) ≡ (is_some k.host.value && has_no_repeats k)
+repeats-is : (fields : List Field) (k : KnownFields) → AreKnown fields k → has_no_repeats_by fields ≡ has_no_repeats k
 unfolding has_no_repeats_by has_single_credentials has_single_content
-served-is fields k known =
+repeats-is fields k known =
     rw (
-      once-slot (codes "Host") fields k.host known.host,
       single-is (codes "Authorization") fields k.authorization known.authorization,
       single-is (codes "Peer-Host") fields k.peer_host known.peer_host,
       single-is (codes "Peer-Mac") fields k.peer_mac known.peer_mac,
@@ -186,78 +179,125 @@ served-is fields k known =
       single-is (codes "Content-Type") fields k.content_type known.content_type,
       single-is (codes "Idempotency-Key") fields k.idempotency_key known.idempotency_key,
     )
-    (spread (is_some k.host.value) k.host.is_repeated k.authorization.is_repeated k.peer_host.is_repeated k.peer_mac.is_repeated
+    (spread k.authorization.is_repeated k.peer_host.is_repeated k.peer_mac.is_repeated
     k.content_length.is_repeated k.transfer_encoding.is_repeated k.content_type.is_repeated k.idempotency_key.is_repeated)
 
-and-false : (b : Bool) → (b && false) ≡ false
-and-false true = refl
-and-false false = refl
+host-is : (minor : ℕ) (fields : List Field) (k : KnownFields) → AreKnown fields k → has_host_by minor fields ≡ has_host minor k
+host-is minor fields k known = ap (λ b. not (is_latest minor) || b) (once-slot (codes "Host") fields k.host known.host)
 
-refusal-is : (method : List ℕ) (fields : List Field) (k : KnownFields) → AreKnown fields k → fields_refusal method fields ≡ refusal_by method k
-unfolding has_served_fields has_one_measure has_plain_length body_length
-refusal-is method fields k known =
+-- the first reason to refuse a request, by what was found of its fields
+abbrev refusal_by : List ℕ → ℕ → KnownFields → Option (List ℕ) → Option (List ℕ) → Option Refusal
+refusal_by method minor k coding length =
+    if ((has_host minor k && has_no_repeats k) && (not (is_some length) || not (is_some coding))) && is_length_if_any length
+    then (if not (is_chunked_if_any coding) then Some NoCoding
+    else (if is_post method && (not (is_some length) && not (is_some coding)) then Some NoLength
+    else (if nat_le (length_by length) BODY_LIMIT then None else Some TooLong)))
+    else Some BadHead
+
+refusal-is : (method : List ℕ) (minor : ℕ) (fields : List Field) (k : KnownFields) → AreKnown fields k
+    → fields_refusal method minor fields ≡ refusal_by method minor k (option_copied k.transfer_encoding.value) (option_copied k.content_length.value)
+unfolding has_served_fields has_one_measure has_plain_length body_length has_served_coding
+refusal-is method minor fields k known =
     rw (
-      served-is fields k known,
-      missing-slot (codes "Content-Length") fields k.content_length known.content_length,
-      missing-slot (codes "Transfer-Encoding") fields k.transfer_encoding known.transfer_encoding,
+      host-is minor fields k known,
+      repeats-is fields k known,
+      missing-is (codes "Content-Length") fields,
+      missing-is (codes "Transfer-Encoding") fields,
       ← known.content_length.value,
+      ← known.transfer_encoding.value,
     )
 
-pub length-is : (fields : List Field) (k : KnownFields) → AreKnown fields k → body_length fields ≡ length_by (option_copied k.content_length.value)
-unfolding body_length
-length-is fields k known = ap length_by (sym known.content_length.value)
+coding-is : (fields : List Field) (k : KnownFields) → AreKnown fields k
+    → coding_of fields ≡ (if not (is_some (option_copied k.transfer_encoding.value)) then Length (length_by (option_copied k.content_length.value)) else Chunked)
+unfolding coding_of body_length
+coding-is fields k known =
+    rw (missing-is (codes "Transfer-Encoding") fields, ← known.content_length.value, ← known.transfer_encoding.value)
 
-pub good-form : (k : KnownFields) (none single : Bool) → is_some k.host.value ≡ not none → none ≡ false → single ≡ has_no_repeats k → single ≡ true
-    → (is_some k.host.value && has_no_repeats k) ≡ true
-good-form k none single h e s t = ap (λ b. b && has_no_repeats k) (h ∙ ap not e) ∙ (sym s ∙ t)
+pub bad-form : (method : List ℕ) (minor : ℕ) (fields : List Field) (k : KnownFields) → (has_host minor k && has_no_repeats k) ≡ false → AreKnown fields k
+    → fields_refusal method minor fields ≡ Some BadHead
+bad-form method minor fields k bad known = rw (refusal-is method minor fields k known, bad)
 
-pub no-host : (k : KnownFields) (none : Bool) → is_some k.host.value ≡ not none → none ≡ true → (is_some k.host.value && has_no_repeats k) ≡ false
-no-host k none h e = ap (λ b. b && has_no_repeats k) (h ∙ ap not e)
+pub no-host : (minor : ℕ) (k : KnownFields) → has_host minor k ≡ false → (has_host minor k && has_no_repeats k) ≡ false
+no-host minor k none = ap (λ b. b && has_no_repeats k) none
 
-pub repeats : (k : KnownFields) (single : Bool) → single ≡ has_no_repeats k → single ≡ false → (is_some k.host.value && has_no_repeats k) ≡ false
-repeats k single s e = ap (λ b. is_some k.host.value && b) (sym s ∙ e) ∙ and-false (is_some k.host.value)
+pub repeats : (minor : ℕ) (k : KnownFields) → has_no_repeats k ≡ false → (has_host minor k && has_no_repeats k) ≡ false
+repeats minor k bad = ap (λ b. has_host minor k && b) bad ∙ and-false (has_host minor k)
 
-pub none-from : (o : Option (Bor (List ℕ))) → ((v : Bor (List ℕ)) → o ≡ Some v → ⊥) → o ≡ None
-none-from None h = refl
-none-from (Some v) h = absurd (h v refl)
+-- the fields stand as they may, and these values say where the body ends
+pub record IsMeasured (minor : ℕ) (fields : List Field) (k : KnownFields) (coding length : Option (Bor (List ℕ))) : Type 0 where
+  pub good : (has_host minor k && has_no_repeats k) ≡ true
+  pub coding_is : k.transfer_encoding.value ≡ coding
+  pub length_is : k.content_length.value ≡ length
+  pub known : AreKnown fields k
 
-pub bad-form : (method : List ℕ) (fields : List Field) (k : KnownFields) → (is_some k.host.value && has_no_repeats k) ≡ false → AreKnown fields k
-    → fields_refusal method fields ≡ Some BadHead
-bad-form method fields k bad known = rw (refusal-is method fields k known, bad)
+measured : (method : List ℕ) (minor : ℕ) (fields : List Field) (k : KnownFields) (coding length : Option (Bor (List ℕ))) → IsMeasured minor fields k coding length
+    → fields_refusal method minor fields ≡ refusal_by method minor k (option_copied coding) (option_copied length)
+measured method minor fields k coding length m =
+    refusal-is method minor fields k m.known
+    ∙ ap (λ (v : Option (Bor (List ℕ))). refusal_by method minor k (option_copied v) (option_copied k.content_length.value)) m.coding_is
+    ∙ ap (λ (v : Option (Bor (List ℕ))). refusal_by method minor k (option_copied coding) (option_copied v)) m.length_is
 
-pub is-coded : (method : List ℕ) (fields : List Field) (k : KnownFields) → (is_some k.host.value && has_no_repeats k) ≡ true → k.content_length.value ≡ None
-    → is_some k.transfer_encoding.value ≡ true → AreKnown fields k → fields_refusal method fields ≡ Some NoCoding
-is-coded method fields k good none coded known = rw (refusal-is method fields k known, good, none, coded)
+coded : (minor : ℕ) (fields : List Field) (k : KnownFields) (coding length : Option (Bor (List ℕ))) → IsMeasured minor fields k coding length
+    → coding_of fields ≡ (if not (is_some (option_copied coding)) then Length (length_by (option_copied length)) else Chunked)
+coded minor fields k coding length m =
+    coding-is fields k m.known
+    ∙ ap (λ (v : Option (Bor (List ℕ))). if not (is_some (option_copied v)) then Length (length_by (option_copied k.content_length.value)) else Chunked) m.coding_is
+    ∙ ap (λ (v : Option (Bor (List ℕ))). if not (is_some (option_copied coding)) then Length (length_by (option_copied v)) else Chunked) m.length_is
 
-pub no-length : (method : List ℕ) (fields : List Field) (k : KnownFields) → (is_some k.host.value && has_no_repeats k) ≡ true → k.content_length.value ≡ None
-    → is_some k.transfer_encoding.value ≡ false → is_post method ≡ true → AreKnown fields k → fields_refusal method fields ≡ Some NoLength
-no-length method fields k good none plain post known = rw (refusal-is method fields k known, good, none, plain, post)
+-- what was found out about the fields
+pub is_measured : (minor : ℕ) (fields : List Field) (k : KnownFields) (coding length : Option (Bor (List ℕ))) → true ≡ has_host minor k → true ≡ has_no_repeats k
+    → k.transfer_encoding.value ≡ coding → k.content_length.value ≡ length → AreKnown fields k → IsMeasured minor fields k coding length
+is_measured minor fields k coding length host single c l known = record {
+  good = sym (ap (λ b. b && has_no_repeats k) host) ∙ sym single;
+  coding_is = c;
+  length_is = l;
+  known = known;
+}
 
-pub no-body : (method : List ℕ) (fields : List Field) (k : KnownFields) → (is_some k.host.value && has_no_repeats k) ≡ true → k.content_length.value ≡ None
-    → is_some k.transfer_encoding.value ≡ false → is_post method ≡ false → AreKnown fields k
-    → (fields_refusal method fields ≡ None) × (0 ≡ body_length fields)
-no-body method fields k good none plain get known =
-    (rw (refusal-is method fields k known, good, none, plain, get), sym (length-is fields k known ∙ ap (λ (o : Option (Bor (List ℕ))). length_by (option_copied o)) none))
+pub both-measures : (method : List ℕ) (minor : ℕ) (fields : List Field) (k : KnownFields) (c l : Bor (List ℕ)) → IsMeasured minor fields k (Some c) (Some l)
+    → fields_refusal method minor fields ≡ Some BadHead
+both-measures method minor fields k c l m = measured method minor fields k (Some c) (Some l) m ∙ rw m.good refl
 
-pub both-measures : (method : List ℕ) (fields : List Field) (k : KnownFields) (v : Bor (List ℕ)) → (is_some k.host.value && has_no_repeats k) ≡ true
-    → k.content_length.value ≡ Some v → is_some k.transfer_encoding.value ≡ true → AreKnown fields k → fields_refusal method fields ≡ Some BadHead
-both-measures method fields k v good some coded known = rw (refusal-is method fields k known, good, some, coded)
+pub in-chunks : (method : List ℕ) (minor : ℕ) (fields : List Field) (k : KnownFields) (c : Bor (List ℕ)) → IsMeasured minor fields k (Some c) None → is_chunked c.now ≡ true
+    → (fields_refusal method minor fields ≡ None) × (Chunked ≡ coding_of fields)
+in-chunks method minor fields k c m is =
+    (measured method minor fields k (Some c) None m ∙ rw (m.good, is, and-false (is_post method)) refl, sym (coded minor fields k (Some c) None m))
 
-pub bad-length : (method : List ℕ) (fields : List Field) (k : KnownFields) (v : Bor (List ℕ)) → (is_some k.host.value && has_no_repeats k) ≡ true
-    → k.content_length.value ≡ Some v → is_some k.transfer_encoding.value ≡ false → is_length v.now ≡ false → AreKnown fields k
-    → fields_refusal method fields ≡ Some BadHead
-bad-length method fields k v good some plain bad known = rw (refusal-is method fields k known, good, some, plain, bad)
+pub no-coding : (method : List ℕ) (minor : ℕ) (fields : List Field) (k : KnownFields) (c : Bor (List ℕ)) → IsMeasured minor fields k (Some c) None → is_chunked c.now ≡ false
+    → fields_refusal method minor fields ≡ Some NoCoding
+no-coding method minor fields k c m other = measured method minor fields k (Some c) None m ∙ rw (m.good, other) refl
 
-pub too-long : (method : List ℕ) (fields : List Field) (k : KnownFields) (v : Bor (List ℕ)) → (is_some k.host.value && has_no_repeats k) ≡ true
-    → k.content_length.value ≡ Some v → is_some k.transfer_encoding.value ≡ false → is_length v.now ≡ true → nat_le (digits_value 10 v.now) BODY_LIMIT ≡ false
-    → AreKnown fields k → fields_refusal method fields ≡ Some TooLong
-too-long method fields k v good some plain fits long known =
-    rw (refusal-is method fields k known, good, some, plain, fits, and-false (is_post method), long)
-
-pub good-length : (method : List ℕ) (fields : List Field) (k : KnownFields) (v : Bor (List ℕ)) → (is_some k.host.value && has_no_repeats k) ≡ true
-    → k.content_length.value ≡ Some v → is_some k.transfer_encoding.value ≡ false → is_length v.now ≡ true → nat_le (digits_value 10 v.now) BODY_LIMIT ≡ true
-    → AreKnown fields k → (fields_refusal method fields ≡ None) × (digits_value 10 v.now ≡ body_length fields)
-good-length method fields k v good some plain fits low known = (
-  rw (refusal-is method fields k known, good, some, plain, fits, and-false (is_post method), low),
-  sym (length-is fields k known ∙ ap (λ (o : Option (Bor (List ℕ))). length_by (option_copied o)) some),
+by-length : (method : List ℕ) (minor : ℕ) (fields : List Field) (k : KnownFields) (l : Bor (List ℕ)) (coding : Coding) → IsMeasured minor fields k None (Some l)
+    → IsLength l.now coding → (fields_refusal method minor fields ≡ None) × (coding ≡ coding_of fields)
+by-length method minor fields k l coding m is = (
+  measured method minor fields k None (Some l) m ∙ rw (m.good, is.0, and-false (is_post method), le-leb (digits_value 10 l.now) BODY_LIMIT is.1) refl,
+  is.2 ∙ sym (coded minor fields k None (Some l) m),
 )
+
+bad-length : (method : List ℕ) (minor : ℕ) (fields : List Field) (k : KnownFields) (l : Bor (List ℕ)) (e : Refusal) → IsMeasured minor fields k None (Some l)
+    → IsNoLength l.now e → fields_refusal method minor fields ≡ Some e
+bad-length method minor fields k l e m (inl bad) = measured method minor fields k None (Some l) m ∙ rw (m.good, bad.0, bad.1) refl
+bad-length method minor fields k l e m (inr long) =
+    measured method minor fields k None (Some l) m
+    ∙ rw (m.good, long.0, and-false (is_post method), gt_leb (digits_value 10 l.now) BODY_LIMIT long.1, long.2) refl
+
+-- whether the length is one or not
+pub length_told : (method : List ℕ) (minor : ℕ) (fields : List Field) (k : KnownFields) (l : Bor (List ℕ)) (r : Result Coding Refusal) → IsMeasured minor fields k None (Some l)
+    → MatchResult r (λ coding. IsLength l.now coding) (λ refusal. IsNoLength l.now refusal)
+    → MatchResult r (λ coding. (fields_refusal method minor fields ≡ None) × (coding ≡ coding_of fields)) (λ refusal. fields_refusal method minor fields ≡ Some refusal)
+length_told method minor fields k l (Ok coding) m is = by-length method minor fields k l coding m is
+length_told method minor fields k l (Err e) m is = bad-length method minor fields k l e m is
+
+pub short_length : (value : List ℕ) (r : Result Coding Refusal) → MatchResult r (λ coding. IsLength value coding) (λ refusal. IsNoLength value refusal)
+    → IfOk r (λ coding. length_in coding ≤ BODY_LIMIT)
+short_length value (Ok coding) is = subst (λ (c : Coding). length_in c ≤ BODY_LIMIT) (sym is.2) is.1
+short_length value (Err e) is = tt
+
+pub no-length : (method : List ℕ) (minor : ℕ) (fields : List Field) (k : KnownFields) → IsMeasured minor fields k None None → is_post method ≡ true
+    → fields_refusal method minor fields ≡ Some NoLength
+no-length method minor fields k m post = measured method minor fields k None None m ∙ rw (m.good, post) refl
+
+pub no-body : (method : List ℕ) (minor : ℕ) (fields : List Field) (k : KnownFields) → IsMeasured minor fields k None None → is_post method ≡ false
+    → (fields_refusal method minor fields ≡ None) × (Length 0 ≡ coding_of fields)
+no-body method minor fields k m other =
+    (measured method minor fields k None None m ∙ rw (m.good, other) refl, sym (coded minor fields k None None m))

@@ -1,5 +1,5 @@
 -- Lemmas on where a head ends.
-use Rattle.std.proofs.Common.{◌≡◌, ℕ, ◌+◌, ◌-◌, ◌<◌, ◌≤◌, zero, suc, Bool, true, false, cond, not, List, [], ◌∷◌, ◌++◌, length, take, drop, get_or, find, min, Option, None, Some, option_map, IfSome, inl, inr, refl, sym, ap, ◌∙◌, arith, length-take, length-append, eqb, eq-eqb, add-zero}
+use Rattle.std.proofs.Common.{◌≡◌, ℕ, ◌+◌, ◌-◌, ◌<◌, ◌≤◌, zero, suc, Bool, true, false, cond, not, List, [], ◌∷◌, ◌++◌, length, take, drop, get_or, find, min, None, Some, option_map, inl, inr, refl, sym, ap, ◌∙◌, arith, length-take, length-append, eqb, eq-eqb, add-zero}
 use Rattle.std.proofs.Math.Nat.{sub_self}
 use Rattle.std.specs.List.{ends_with, range_with_len, slice_range}
 use Rattle.std.specs.Prelude.{nat_eq}
@@ -343,11 +343,5 @@ lacks_head limit xs looked start is all more =
 pub too_long : (limit : ℕ) (xs : List ℕ) (looked start : ℕ) → IsLookedAt xs looked start → looked ≡ min limit (length xs) → looked ≡ limit
     → (limit ≤ length xs) × (head_end (take limit xs) ≡ None)
 too_long limit xs looked start is all full = (omega arith, ap (λ k. head_end (take k xs)) (sym full) ∙ is.none)
-
--- a head has at most `limit` bytes
-pub head-near : (limit : ℕ) (xs : List ℕ) (start end : ℕ) → IsHeadAt limit xs start end → end ≤ limit
-head-near limit xs start end h =
-    let is = head_end-Some-is (take limit xs) end h.ends in
-    omega (arith, is.0, length-take limit xs)
 
 pub ruleset reading = (looked-more, lacks_head, too_long)

@@ -1,7 +1,10 @@
 pub mod FieldLemmas
-pub mod MoveLemmas
 pub mod FramingLemmas
 pub mod RequestLemmas
 pub mod HeadLemmas
-pub mod StreamLemmas
+pub mod PartLemmas
+pub mod SendLemmas
+pub mod ReadLemmas
+pub mod ChunkLemmas
+pub mod OnceLemmas
 pub mod ArrivalLemmas

@@ -1,5 +1,5 @@
 -- What a head's text is read as.
-use Rattle.std.proofs.Common.{◌≡◌, ℕ, ◌+◌, ◌<◌, List, ◌∷◌, [], ◌++◌, length, get_or, take, sym, Ok, Err, inl, inr, ap, ◌∙◌}
+use Rattle.std.proofs.Common.{◌≡◌, ℕ, ◌+◌, ◌<◌, Result, arith, List, ◌∷◌, [], ◌++◌, length, get_or, take, sym, Ok, Err, inl, inr, ap, ◌∙◌}
 use Rattle.std.proofs.lemmas.List.{take_more, map-append}
 use Rattle.httparse.specs.Grammar.{RequestHead}
 use Rattle.httparse.specs.Spans.{header_bytes}
@@ -7,7 +7,7 @@ use Rattle.httparse.specs.declared.spans.HeaderSpan.{HeaderSpan}
 use Rattle.httparse.proofs.GrammarLemmas.{request_unique}
 use Rattle.fedi_town.specs.declared.refusal.Refusal.{Refusal}
 use Rattle.fedi_model.specs.declared.request.Request.{Request}
-use Rattle.fedi_model.specs.Requests.{field_of, fields_at, request_of, head_refusal, IsHead, ReadsAs, IsReadOnce}
+use Rattle.fedi_model.specs.Requests.{field_of, fields_at, request_of, head_refusal, IsHead, ReadsHead, IsReadOnce}
 
 -- the fields at one more place
 pub fields_more : (text : List ℕ) (spans : List HeaderSpan) (i : ℕ) (d : HeaderSpan) → i < length spans
@@ -21,13 +21,13 @@ one_head : (most : ℕ) (text : List ℕ) (h k : RequestHead) → IsHead most te
 one_head most text h k head other = (request_unique text h k [] [] head.0 other.0).0
 
 -- where a head is read as a request, none is refused
-read_or_refused : (most : ℕ) (text : List ℕ) (q : Request) (e : Refusal) → ReadsAs most text (Ok q) → ReadsAs most text (Err e) → ⊥
+read_or_refused : (most : ℕ) (text : List ℕ) (q : Request) (e : Refusal) → ReadsHead most text (Ok q) → ReadsHead most text (Err e) → ⊥
 read_or_refused most text q e (h, head, served, q_is) (inl (k, other, refused)) =
     let same : head_refusal k ≡ head_refusal h = ap head_refusal (one_head most text k h other head) in cc
 read_or_refused most text q e (h, head, served, q_is) (inr (bad, none)) = absurd (none h head)
 
 -- a head is refused for one reason
-refused_once : (most : ℕ) (text : List ℕ) (d e : Refusal) → ReadsAs most text (Err d) → ReadsAs most text (Err e) → d ≡ e
+refused_once : (most : ℕ) (text : List ℕ) (d e : Refusal) → ReadsHead most text (Err d) → ReadsHead most text (Err e) → d ≡ e
 refused_once most text d e (inl (h, head, first)) (inl (k, other, second)) =
     let same : head_refusal h ≡ head_refusal k = ap head_refusal (one_head most text h k head other) in cc
 refused_once most text d e (inl (h, head, first)) (inr (bad, none)) = absurd (none h head)
@@ -35,13 +35,19 @@ refused_once most text d e (inr (bad, none)) (inl (h, head, first)) = absurd (no
 refused_once most text d e (inr (bad, none)) (inr (same, lacks)) = bad ∙ sym same
 
 -- two requests that one text is read as are those of one head
-read_one : (most : ℕ) (text : List ℕ) (p q : Request) → ReadsAs most text (Ok p) → ReadsAs most text (Ok q) → p ≡ q
+read_one : (most : ℕ) (text : List ℕ) (p q : Request) → ReadsHead most text (Ok p) → ReadsHead most text (Ok q) → p ≡ q
 read_one most text p q (h, head, served, p_is) (k, other, also, q_is) =
     p_is ∙ (ap request_of (one_head most text h k head other) ∙ sym q_is)
 
+head_read_once : (most : ℕ) (text : List ℕ) (a b : Result Request Refusal) → ReadsHead most text a → ReadsHead most text b → a ≡ b
+head_read_once most text (Ok p) (Ok q) x y = ap Ok (read_one most text p q x y)
+head_read_once most text (Ok p) (Err e) x y = absurd (read_or_refused most text p e x y)
+head_read_once most text (Err e) (Ok q) x y = absurd (read_or_refused most text q e y x)
+head_read_once most text (Err d) (Err e) x y = ap Err (refused_once most text d e x y)
+
 -- a text is read in one way at most
 pub reads_once : (most : ℕ) (text : List ℕ) → IsReadOnce most text
-reads_once most text (Ok p) (Ok q) x y = ap Ok (read_one most text p q x y)
-reads_once most text (Ok p) (Err e) x y = absurd (read_or_refused most text p e x y)
-reads_once most text (Err e) (Ok q) x y = absurd (read_or_refused most text q e y x)
-reads_once most text (Err d) (Err e) x y = ap Err (refused_once most text d e x y)
+reads_once most text a b (inl x) (inl y) = head_read_once most text a b x.1 y.1
+reads_once most text a b (inl x) (inr y) = absurd (omega (arith, x.0, y.0))
+reads_once most text a b (inr x) (inl y) = absurd (omega (arith, x.0, y.0))
+reads_once most text a b (inr x) (inr y) = x.1 ∙ sym y.1

@@ -1,8 +1,14 @@
 -- What is found of the fields of a head in one pass (RFC 9110, section 5).
-use Rattle.std.specs.Prelude.{◌≡◌, ℕ, List, Bool, not, ◌||◌, codes, option_copied}
+use Rattle.std.specs.Prelude.{◌≡◌, ℕ, ◌<◌, ◌≤◌, ◌⊎◌, List, Bool, true, false, not, ◌&&◌, ◌||◌, codes, is_some, option_copied}
+use Rattle.std.specs.Str.Parse.{digits_value}
+use Rattle.fedi_town.specs.declared.refusal.Refusal.{Refusal}
+use Rattle.fedi_town.specs.declared.refusal.Refusal.TheVariants.{BadHead, TooLong}
+use Rattle.fedi_model.specs.declared.request.Coding.{Coding}
+use Rattle.fedi_model.specs.declared.request.Coding.TheVariants.{Length}
+use Rattle.fedi_model.specs.declared.request.TheConstants.{BODY_LIMIT}
 use Rattle.fedi_http.specs.declared.fields.KnownFields.{KnownFields}
 use Rattle.fedi_http.specs.declared.fields.Slot.{Slot}
-use Rattle.fedi_model.specs.Requests.{Field, field_value, is_single, closes as closes_by}
+use Rattle.fedi_model.specs.Requests.{Field, field_value, is_latest, is_length, is_single, closes as closes_by}
 
 -- what the fields of this name say: the value of the first, and whether there is another
 pub record IsSlot (name : List ℕ) (fields : List Field) (slot : Slot) : Type 0 where
@@ -24,11 +30,25 @@ pub record AreKnown (fields : List Field) (known : KnownFields) : Type 0 where
 -- no field is repeated that stands once at most
 abbrev pub has_no_repeats : KnownFields → Bool
 has_no_repeats known =
-    not (known.host.is_repeated
-    || known.authorization.is_repeated
+    not (known.authorization.is_repeated
     || known.peer_host.is_repeated
     || known.peer_mac.is_repeated
     || known.content_length.is_repeated
     || known.transfer_encoding.is_repeated
     || known.content_type.is_repeated
     || known.idempotency_key.is_repeated)
+
+-- `Host` stands exactly once, if this version asks for it
+abbrev pub has_host : ℕ → KnownFields → Bool
+has_host minor known = not (is_latest minor) || (is_some known.host.value && not known.host.is_repeated)
+
+-- the value of a `Content-Length` is a number that is not too large
+abbrev pub IsLength : List ℕ → Coding → Type 0
+IsLength value coding =
+    (is_length value ≡ true) × (digits_value 10 value ≤ BODY_LIMIT) × (coding ≡ Length (digits_value 10 value))
+
+-- the value of a `Content-Length` is refused: it is no number, or one that is too large
+abbrev pub IsNoLength : List ℕ → Refusal → Type 0
+IsNoLength value refusal =
+    ((is_length value ≡ false) × (refusal ≡ BadHead))
+    ⊎ ((is_length value ≡ true) × (BODY_LIMIT < digits_value 10 value) × (refusal ≡ TooLong))

@@ -1,7 +1,7 @@
 -- Where the head of a request ends.
 use Rattle.std.specs.Prelude.{ℕ, ◌≡◌, ◌≢◌, slice_index, ◌+◌, ◌<◌, ◌≤◌, Bool, ◌||◌, not, nat_eq, List, [], ◌∷◌, length, take, drop, find, Option, None, Some, option_map}
 use Rattle.std.specs.List.{ends_with, position_or_len, range_with_len, slice_range}
-use Rattle.fedi_town.specs.declared.refusal.Refusal.TheVariants.{BadHead}
+use Rattle.fedi_town.specs.declared.refusal.Refusal.TheVariants.{HeadTooLong}
 use Rattle.fedi_http.specs.declared.read_error.ReadError.{ReadError}
 use Rattle.fedi_http.specs.declared.read_error.ReadError.TheVariants.{End, CutShort, Refused, ReadFault, Memory}
 
@@ -52,17 +52,9 @@ HasLongHead limit bytes = (limit ≤ length bytes) × (head_end (take limit byte
 abbrev pub HasNoHead : ℕ → List ℕ → ReadError → Type 0
 HasNoHead limit bytes End = bytes ≡ []
 HasNoHead limit bytes CutShort = (0 < length bytes) × LacksHead limit bytes
-HasNoHead limit bytes (Refused refusal) = (refusal ≡ BadHead) × HasLongHead limit bytes
+HasNoHead limit bytes (Refused refusal) = (refusal ≡ HeadTooLong) × HasLongHead limit bytes
 HasNoHead limit bytes ReadFault = LacksHead limit bytes
 HasNoHead limit bytes Memory = LacksHead limit bytes
-
--- a fact for the errors that come where the input ended
-abbrev pub OnEnd : ReadError → Type 0 → Type 0
-OnEnd End P = P
-OnEnd CutShort P = P
-OnEnd (Refused refusal) P = Unit {0}
-OnEnd ReadFault P = Unit {0}
-OnEnd Memory P = Unit {0}
 
 -- no head ends in the first `looked` bytes, and the first `start` of these are the line ends in front
 pub record IsLookedAt (bytes : List ℕ) (looked start : ℕ) : Type 0 where

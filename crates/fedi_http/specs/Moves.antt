@@ -1,17 +1,29 @@
 -- What reading does beside its answer.
-use Rattle.std.specs.Prelude.{ℕ, ◌≡◌, List, Bool, true, false, Option, Result, Ok, Err, if◌then◌else◌}
-use Rattle.std.specs.Io.{StartsWith}
-use Rattle.std.specs.Io.KnownBytes.{prepend_known}
+use Rattle.std.specs.Prelude.{ℕ, ◌≡◌, ◌⊎◌, List, [], ◌++◌, Bool, true, false, Option, Result, Ok, Err, if◌then◌else◌}
+use Rattle.std.specs.Io.KnownBytes.{Consumes}
 use Rattle.fedi_outside.specs.Causes.{next_count}
+use Rattle.fedi_town.specs.declared.refusal.Refusal.{Refusal}
+use Rattle.fedi_town.specs.declared.refusal.Refusal.TheVariants as refusals
 use Rattle.fedi_http.specs.declared.read_error.ReadError.{ReadError}
 use Rattle.fedi_http.specs.declared.read_error.ReadError.TheVariants.{End, CutShort, Refused, ReadFault, Memory}
 
--- bytes went from a source to the end of those that are pending, and a read that failed was counted
-pub record MovesBytes {T : Type 0}
+-- what a buffer holds: a body, and the bytes behind it that were read and are not used up yet
+pub record Held : Type 0 where
+  pub body : List ℕ
+  pub pending : List ℕ
+
+-- known bytes lose those that are behind the pending ones now
+abbrev pub ReadsBehind : Option (List ℕ) → Option (List ℕ) → List ℕ → List ℕ → Type 0
+ReadsBehind old new pending now = (more : List ℕ) × Consumes old new more × (now ≡ pending ++ more)
+
+-- bytes were taken from a source, of which this holds, and a read that failed was counted
+pub record Reads {T : Type 0}
     (left_of : T → Option (List ℕ)) (faults_of : T → ℕ) (beside_of : T → Option (List ℕ) × ℕ)
-    (before after : T) (pending now : List ℕ) (failed : Bool) : Type 0 where
-  pub stream : prepend_known now (left_of after) ≡ prepend_known pending (left_of before)  -- none is lost
-  pub kept : StartsWith now pending  -- those that were pending stay
+    (before after : T) (failed : Bool) (Lacks : Type 0) (P : List ℕ → Type 0) : Type 0 where
+  pub more : List ℕ  -- those that were taken
+  pub taken : Consumes (left_of before) (left_of after) more
+  pub holds : P more
+  pub idle : Lacks ⊎ ((after ≡ before) × (more ≡ []))  -- nothing is read where what was at hand is enough
   pub beside : beside_of after ≡ beside_of before
   pub faults : faults_of after ≡ (if failed then next_count (faults_of before) else faults_of before)
 
@@ -28,13 +40,13 @@ abbrev pub has_fault : {T : Type 0} → Result T ReadError → Bool
 has_fault (Ok value) = false
 has_fault (Err error) = is_fault error
 
--- the error came while the input went on
-abbrev pub IsFailure : ReadError → Type 0
-IsFailure End = ⊥
-IsFailure CutShort = ⊥
-IsFailure (Refused refusal) = ⊥
-IsFailure ReadFault = Unit {0}
-IsFailure Memory = Unit {0}
+-- a fact for the errors that come where the input ended
+abbrev pub OnEnd : ReadError → Type 0 → Type 0
+OnEnd End P = P
+OnEnd CutShort P = P
+OnEnd (Refused refusal) P = Unit {0}
+OnEnd ReadFault P = Unit {0}
+OnEnd Memory P = Unit {0}
 
 -- the error came inside a request
 abbrev pub StopsReading : ReadError → Type 0
@@ -43,3 +55,13 @@ StopsReading CutShort = Unit {0}
 StopsReading (Refused refusal) = ⊥
 StopsReading ReadFault = Unit {0}
 StopsReading Memory = Unit {0}
+
+-- the error of what is refused
+abbrev pub error_by : Refusal → ReadError
+error_by refusals.Memory = Memory
+error_by refusal = Refused refusal
+
+-- the same error where no request has begun yet
+abbrev pub before_request : ReadError → ReadError
+before_request CutShort = End
+before_request error = error

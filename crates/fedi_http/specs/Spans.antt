@@ -14,4 +14,5 @@ refusal_by text head spans =
 
 -- the request of the head at these places
 abbrev pub request_by : List ℕ → RequestSpans → List HeaderSpan → Request
-request_by text head spans = request_with (span_bytes text head.method) (span_bytes text head.path) (fields_at text spans)
+request_by text head spans =
+    request_with (span_bytes text head.method) (span_bytes text head.path) head.version (fields_at text spans)

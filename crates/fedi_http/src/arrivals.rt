@@ -1,12 +1,13 @@
 //! Reading whole requests.
 
-ghost use Rattle.std.specs.Prelude.{◌≡◌, ◌<◌, ◌≤◌, ◌⊎◌, ℕ, List, length, IfErr, IfSome, OnErr, OnOk};
+ghost use Rattle.std.specs.Prelude.{◌≡◌, ◌<◌, ◌++◌, ℕ, List, Some, IfErr, IfSome};
 ghost use Rattle.std.specs.Io.KnownBytes.{prepend_known, IsAtEnd};
-ghost use Rattle.fedi_http.specs.Arrivals.{IsArrival, LacksRequest, OnInputEnd, OnFailedRead, TellsOfStream, is_read_fault};
-ghost use Rattle.fedi_http.specs.Heads.{OnEnd};
-ghost use Rattle.fedi_http.specs.Moves.{MovesBytes, StopsReading, has_fault};
+ghost use Rattle.fedi_http.specs.Arrivals.{IsArrival, LacksRequest, OnInputEnd, OnRequest, TellsOfStream, arrived_by, arrived_of, is_read_fault};
+ghost use Rattle.fedi_http.specs.Moves.{OnEnd, Reads, has_fault};
 
-use crate::heads::{BUFFER_LIMIT, Buffer, HEAD_LIMIT, read_head};
+use crate::buffer::Buffer;
+use crate::chunks::{LINE_LIMIT, TRAILER_LIMIT, read_body};
+use crate::heads::{HEAD_LIMIT, read_head};
 use crate::read_error::ReadError;
 use crate::requests::{MOST_FIELDS, read_request_head};
 use fedi_model::{BODY_LIMIT, Refusal, Request};
@@ -16,17 +17,13 @@ use std::alloc::Global;
 /// What stands at the front of a stream, or why reading it stopped.
 #[derive(Drop)]
 pub enum Arrived {
-    /// A request. Its body is the bytes `body..end` of what is pending, and it takes the first `end` of them.
-    Request {
-        request: Request,
-        body: usize,
-        end: usize,
-    },
+    /// A request. Its body is in the buffer.
+    Request(Request),
     /// The input ended before a request began.
     End,
     /// The input ended inside a request.
     CutShort,
-    /// The head is refused. What follows it is not looked at.
+    /// The request is refused: its head, or its body. What follows is not looked at.
     Refused(Refusal),
     /// A read failed.
     ReadFault,
@@ -51,75 +48,70 @@ impl From<ReadError> for Arrived {
     }
 }
 
-/// Reads the next request (RFC 9112, sections 2.1, 2.2 and 6.2): from the source into the buffer, until what is pending holds the
-/// head and the body, or a head that is refused, or the input ends. What is pending already comes first, and the source is read only
-/// if the request is not whole in it. A head is refused as `read_request_head` says, and it is `BadHead` if none ends in the
-/// first `HEAD_LIMIT` bytes.
+/// Reads the next request (RFC 9112, sections 2 to 7): from the source into the buffer, until what
+/// was read holds a head and its body, or what is refused, or the input ends. What is pending comes
+/// first, and the source is read only if it holds no answer: a client that waits for one gets it.
 ///
-/// Reading moves bytes from the source to the end of what is pending, and loses none on any answer. `Request` leaves the request at
-/// the front, for `take_front`. After `ReadFault` no whole request is pending, and a later call goes on where this one stopped. After
-/// `Memory` a later call tries the same again.
+/// The first of these that holds refuses a request:
+///
+/// | Refusal | If |
+/// |---|---|
+/// | `HeadTooLong` | no head ends in the first `HEAD_LIMIT` bytes, or over `MOST_FIELDS` lines stand between its first line and its end |
+/// | `BadHead`, `NoCoding`, `NoLength`, `TooLong` | the head is refused by `read_request_head` |
+/// | `BadHead` | a size line has no end within `LINE_LIMIT` bytes or is wrong, no CR LF follows the data of a chunk, or the trailer does not end within `TRAILER_LIMIT` bytes |
+/// | `TooLong` | the sizes of the chunks that were read add up to over `BODY_LIMIT`; their data is not waited for |
+///
+/// After `Request` the buffer lends the body until the next call, however it came, and what is
+/// behind it stays pending. Each byte that was pending or was taken from the source is accounted
+/// for. After `Refused`, `ReadFault` and `Memory` the buffer is not to be read from again: part of
+/// a request may be gone from it.
 pub fn read_request<S: Source>(alloc: Global, source: &mut S, buffer: &mut Buffer) -> Arrived
-    ensures moves { MovesBytes S.left S.read_faults S.beside_source source.old source.new
-        buffer.old buffer.new (is_read_fault result) }
-    ensures pending { IsArrival HEAD_LIMIT MOST_FIELDS buffer.new result }
-    ensures told { IfSome (prepend_known buffer.old (S.left source.old))
-        (λ stream. IsArrival HEAD_LIMIT MOST_FIELDS stream result) }
+    // What was pending and what was taken begins so. Nothing is taken if what was pending does.
+    ensures reads { Reads S.left S.read_faults S.beside_source source.old source.new
+        (is_read_fault result) (LacksRequest HEAD_LIMIT MOST_FIELDS buffer.old.pending)
+        (λ more. IsArrival HEAD_LIMIT MOST_FIELDS (buffer.old.pending ++ more) result
+        buffer.new.body buffer.new.pending) }
+    // If the source tells what is to come, this stands at the front of all of it, and the rest is
+    // what is then pending and to come.
+    ensures told { IfSome (prepend_known buffer.old.pending (S.left source.old))
+        (λ stream. TellsOfStream result → (rest : List ℕ)
+        × IsArrival HEAD_LIMIT MOST_FIELDS stream result buffer.new.body rest
+        × OnRequest result (prepend_known buffer.new.pending (S.left source.new) ≡ Some rest)) }
     ensures ended { OnInputEnd result (IsAtEnd (S.left source.new)) }
-    ensures stopped { OnFailedRead result (LacksRequest HEAD_LIMIT MOST_FIELDS buffer.new) }
-    // Where what is pending holds an answer, nothing is read: a client that waits for it gets it.
-    ensures idle { LacksRequest HEAD_LIMIT MOST_FIELDS buffer.old
-        ⊎ ((source.new ≡ source.old) × (buffer.new ≡ buffer.old)) }
 {
-    let head = match read_head(source, buffer) {
-        Ok(head) => head,
-        Err(error) => return Arrived::from(error),
-    };
-    let request = match read_request_head(alloc, &buffer.pending()[head.start..head.end]) {
-        Ok(request) => request,
-        Err(refusal) => {
-            return match refusal {
-                Refusal::Memory => Arrived::Memory,
-                other => Arrived::Refused(other),
-            };
-        }
-    };
-    let end = head.end + request.body_length;
-    match fill_up_to(source, buffer, end) {
-        Ok(()) => Arrived::Request {
-            request,
-            body: head.end,
-            end,
-        },
+    match next_request(alloc, source, buffer) {
+        Ok(request) => Arrived::Request(request),
         Err(error) => Arrived::from(error),
     }
 }
 
-/// Reads until so many bytes are pending. The error is `CutShort`, `ReadFault` or `Memory`, and they are fewer then.
-fn fill_up_to<S: Source>(source: &mut S, buffer: &mut Buffer, count: usize) -> Result<(), ReadError>
-    requires { count ≤ BUFFER_LIMIT }
-    ensures moves { MovesBytes S.left S.read_faults S.beside_source source.old source.new
-        buffer.old buffer.new (has_fault result) }
-    ensures full { OnOk result (count ≤ length buffer.new) }
-    ensures short { OnErr result (length buffer.new < count) }
+// Reads the next request, or why there is none.
+fn next_request<S: Source>(
+    alloc: Global,
+    source: &mut S,
+    buffer: &mut Buffer,
+) -> Result<Request, ReadError>
+    ensures reads { Reads S.left S.read_faults S.beside_source source.old source.new
+        (has_fault result) (LacksRequest HEAD_LIMIT MOST_FIELDS buffer.old.pending)
+        (λ more. IsArrival HEAD_LIMIT MOST_FIELDS (buffer.old.pending ++ more) (arrived_of result)
+        buffer.new.body buffer.new.pending) }
     ensures ended { IfErr result (λ e. OnEnd e (IsAtEnd (S.left source.new))) }
-    ensures errors { IfErr result StopsReading }
-    ensures idle { length buffer.old < count
-        ⊎ ((source.new ≡ source.old) × (buffer.new ≡ buffer.old)) }
 {
-    'reads: while buffer.pending().len() < count {
-        if buffer.fill(source, count)? == 0 {
-            return Err(ReadError::CutShort);
-        }
-    }
-    Ok(())
+    buffer.drop_body();
+    let head = read_head(source, buffer)?;
+    let request = read_request_head(alloc, &buffer.pending()[head.start..head.end])?;
+    buffer.skip(head.end);
+    read_body(source, buffer, request.coding)?;
+    Ok(request)
 }
 
-/// At most one answer is true of the front of a stream, if the answer tells of the stream at all.
+/// At most one answer is true of the front of a stream, if the answer tells of the stream at all;
+/// and if it is a request, it has one body and one rest.
 pub fn arrivals_are_determined()
-    ensures { (limit most : ℕ) (stream : List ℕ) (a b : Arrived) → 0 < limit
-        → IsArrival limit most stream a → IsArrival limit most stream b
-        → TellsOfStream a → TellsOfStream b → a ≡ b }
+    ensures { (limit most : ℕ) (stream : List ℕ) (a b : Arrived) (body text rest more : List ℕ)
+        → 0 < limit → IsArrival limit most stream a body rest
+        → IsArrival limit most stream b text more → TellsOfStream a → TellsOfStream b
+        → (a ≡ b) × OnRequest a ((body ≡ text) × (rest ≡ more)) }
 {}
 
 /// The limits, in figures.
@@ -127,4 +119,6 @@ pub fn limits_are_fixed()
     ensures head { HEAD_LIMIT ≡ 16384 }
     ensures fields { MOST_FIELDS ≡ 64 }
     ensures body { BODY_LIMIT ≡ 262144 }
+    ensures line { LINE_LIMIT ≡ 256 }
+    ensures trailer { TRAILER_LIMIT ≡ 16384 }
 {}

@@ -4,7 +4,7 @@ ghost use Rattle.std.specs.Prelude.{◌≡◌, ◌++◌, ◌∷◌, [], List, le
 ghost use Rattle.std.specs.Char.{to_ascii_lowercase};
 ghost use Rattle.httparse.specs.Spans.{IsHeaderWithin};
 ghost use Rattle.fedi_model.specs.Requests.{Field, field_of, fields_at};
-ghost use Rattle.fedi_http.specs.Fields.{AreKnown, IsSlot, has_no_repeats};
+ghost use Rattle.fedi_http.specs.Fields.{AreKnown, IsSlot, has_host, has_no_repeats};
 
 use crate::framing::lists_close;
 use httparse::spans::HeaderSpan;
@@ -130,13 +130,19 @@ impl<'a> KnownFields<'a> {
     pub(crate) fn has_no_repeats(&self) -> bool
         ensures { result ≡ has_no_repeats self.now }
     {
-        !(self.host.is_repeated
-            || self.authorization.is_repeated
+        !(self.authorization.is_repeated
             || self.peer_host.is_repeated
             || self.peer_mac.is_repeated
             || self.content_length.is_repeated
             || self.transfer_encoding.is_repeated
             || self.content_type.is_repeated
             || self.idempotency_key.is_repeated)
+    }
+    /// Whether `Host` stands exactly once, if the version asks for it: HTTP/1.0 does not (RFC 9112,
+    /// section 3.2).
+    pub(crate) fn has_host(&self, minor: u8) -> bool
+        ensures { result ≡ has_host minor self.now }
+    {
+        minor != 1 || (self.host.value.is_some() && !self.host.is_repeated)
     }
 }

@@ -6,44 +6,61 @@ ghost use Rattle.std.specs.List.{list_all};
 ghost use Rattle.std.specs.Str.Parse.{digits_value};
 ghost use Rattle.fedi_model.specs.Requests as model;
 ghost use Rattle.fedi_model.specs.Requests.{Field};
-ghost use Rattle.fedi_http.specs.Fields.{AreKnown};
+ghost use Rattle.fedi_http.specs.Fields.{AreKnown, IsLength, IsNoLength};
 
 use crate::fields::{KnownFields, is_same_name};
-use fedi_model::{BODY_LIMIT, Refusal};
+use fedi_model::{BODY_LIMIT, Coding, Refusal};
 use http::Method;
 
-/// The length of the body of a request with this method and these fields, or why it is refused. It is `BadHead` unless `Host` stands
-/// exactly once, no field is repeated that stands once at most, the body is not measured by both `Content-Length` and
-/// `Transfer-Encoding`, and the length is a number of 1 to 19 digits. Then it is `NoCoding` for any `Transfer-Encoding`, `NoLength`
-/// for a POST without a length, and `TooLong` for a length over `BODY_LIMIT`.
-pub(crate) fn body_length(method: &Method, known: &KnownFields) -> Result<usize, Refusal>
-    ensures length { (fields : List Field) → AreKnown fields known.now → MatchResult result
-        (λ length. (model.fields_refusal method.now fields ≡ None)
-        × (length ≡ model.body_length fields))
-        (λ refusal. model.fields_refusal method.now fields ≡ Some refusal) }
-    ensures short { IfOk result (λ length. length ≤ BODY_LIMIT) }
+/// How the end of the body is found of a request with this method, version and fields, or why it is
+/// refused. It is `BadHead` unless `Host` stands exactly once or the version is HTTP/1.0, no field
+/// is repeated that stands once at most, the body is not measured by both `Content-Length` and
+/// `Transfer-Encoding`, and the length is a number of 1 to 19 digits. Then it is `NoCoding` unless
+/// `Transfer-Encoding` is `chunked`, in any case, `NoLength` for a POST with neither, and `TooLong`
+/// for a length over `BODY_LIMIT`.
+pub(crate) fn coding_of(method: &Method, minor: u8, known: &KnownFields) -> Result<Coding, Refusal>
+    ensures coding { (fields : List Field) → AreKnown fields known.now → MatchResult result
+        (λ coding. (model.fields_refusal method.now minor fields ≡ None)
+        × (coding ≡ model.coding_of fields))
+        (λ refusal. model.fields_refusal method.now minor fields ≡ Some refusal) }
+    ensures short { IfOk result (λ coding. model.length_in coding ≤ BODY_LIMIT) }
 {
-    let is_coded = known.transfer_encoding.value.is_some();
-    if known.host.value.is_none() || !known.has_no_repeats() {
+    if !known.has_host(minor) || !known.has_no_repeats() {
         return Err(Refusal::BadHead);
     }
-    let Some(value) = known.content_length.value else {
-        return if is_coded {
-            Err(Refusal::NoCoding)
-        } else if *method == Method::POST {
-            Err(Refusal::NoLength)
-        } else {
-            Ok(0)
-        };
-    };
-    if is_coded || !is_length(value) {
+    match (known.transfer_encoding.value, known.content_length.value) {
+        (Some(_), Some(_)) => Err(Refusal::BadHead),
+        (Some(coding), None) if is_chunked(coding) => Ok(Coding::Chunked),
+        (Some(_), None) => Err(Refusal::NoCoding),
+        (None, Some(length)) => length_of(length),
+        (None, None) if *method == Method::POST => Err(Refusal::NoLength),
+        (None, None) => Ok(Coding::Length(0)),
+    }
+}
+
+/// Whether the coding is `chunked`, in any case.
+#[tactic(auto, unfolding(fedi_model::specs::Requests::is_chunked))]
+fn is_chunked(coding: &[u8]) -> bool
+    ensures { result ≡ model.is_chunked coding.now }
+{
+    is_same_name(coding, b"chunked")
+}
+
+/// The length that a `Content-Length` writes. It is `BadHead` if that is no number of 1 to 19
+/// digits, and `TooLong` if it is over `BODY_LIMIT`.
+fn length_of(value: &[u8]) -> Result<Coding, Refusal>
+    ensures { MatchResult result
+        (λ coding. IsLength value.now coding)
+        (λ refusal. IsNoLength value.now refusal) }
+{
+    if !is_length(value) {
         return Err(Refusal::BadHead);
     }
     let length = number_of(value);
     if length > BODY_LIMIT {
         return Err(Refusal::TooLong);
     }
-    Ok(length)
+    Ok(Coding::Length(length))
 }
 
 /// Whether the value has 1 to 19 digits, and nothing else.

@@ -2,6 +2,8 @@
 #![tactic(auto)]
 
 mod arrivals;
+mod buffer;
+mod chunks;
 mod fields;
 mod framing;
 mod heads;
@@ -11,9 +13,11 @@ mod requests;
 mod sending;
 
 pub use arrivals::{Arrived, arrivals_are_determined, limits_are_fixed, read_request};
+pub use buffer::{BUFFER_LIMIT, Buffer};
+pub use chunks::{LINE_LIMIT, TRAILER_LIMIT};
 pub use fields::is_same_name;
 pub use framing::without_back_blanks;
-pub use heads::{BUFFER_LIMIT, Buffer, HEAD_LIMIT};
+pub use heads::HEAD_LIMIT;
 pub use replies::{memory_text, reply_bytes};
 pub use requests::{MOST_FIELDS, read_request_head, text_of};
 pub use sending::send;

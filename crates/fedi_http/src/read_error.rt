@@ -12,12 +12,27 @@ pub(crate) enum ReadError {
     End,
     #[error("the input ended inside a request")]
     CutShort,
-    #[error("the head is refused")]
+    #[error("the request is refused")]
     Refused(Refusal),
     #[error("a read failed")]
     ReadFault,
     #[error("out of memory")]
     Memory,
+}
+
+impl ReadError {
+    ghost use Rattle.std.specs.Prelude.{◌≡◌};
+    ghost use Rattle.fedi_http.specs.Moves.{before_request};
+
+    /// The same error if no request has begun yet: an input that ends there is not cut short.
+    pub(crate) fn before_request(self) -> Self
+        ensures { result ≡ before_request self }
+    {
+        match self {
+            ReadError::CutShort => ReadError::End,
+            other => other,
+        }
+    }
 }
 
 impl From<Failed> for ReadError {
@@ -39,5 +54,19 @@ impl From<AllocError> for ReadError {
 
     fn from(_: AllocError) -> Self {
         ReadError::Memory
+    }
+}
+
+impl From<Refusal> for ReadError {
+    ghost use Rattle.std.specs.Prelude.{◌≡◌};
+    ghost use Rattle.fedi_http.specs.Moves.{error_by};
+
+    ghost from_gives = { λ refusal e. e ≡ error_by refusal };
+
+    fn from(refusal: Refusal) -> Self {
+        match refusal {
+            Refusal::Memory => ReadError::Memory,
+            other => ReadError::Refused(other),
+        }
     }
 }

@@ -3,14 +3,14 @@
 ghost use Rattle.std.specs.Prelude.{◌≡◌, ◌≢◌, ℕ, ◌≤◌, List, MatchOption, true, false, ◌&&◌, length, All, IfOk, IfErr, IfSome, IsSome, if◌then◌else◌, option_copied};
 ghost use Rattle.std.specs.Str.{is_utf8};
 ghost use Rattle.httparse.specs.Grammar.{RequestHead, IsToken};
-ghost use Rattle.httparse.specs.Spans.{IsRequestAt, IsRequestWithin, IsHeaderWithin};
+ghost use Rattle.httparse.specs.Spans.{IsRequestAt, IsRequestWithin, IsHeaderWithin, span_bytes};
 ghost use Rattle.fedi_model.specs.Requests as model;
 ghost use Rattle.fedi_model.specs.Requests.{Field};
 ghost use Rattle.fedi_http.specs.Fields.{AreKnown};
 ghost use Rattle.fedi_http.specs.Spans.{refusal_by, request_by};
 
 use crate::fields::KnownFields;
-use crate::framing::body_length;
+use crate::framing::coding_of;
 use fedi_model::{BODY_LIMIT, Fields, Refusal, Request};
 use fedi_text::Bytes;
 use http::Method;
@@ -21,25 +21,41 @@ use std::alloc::{AllocError, Global};
 /// The most fields that a head may have.
 pub const MOST_FIELDS: usize = 64;
 
-/// Reads the text of one whole head as a request, whose body is still to come. It is `BadHead` if the text is not one head of at
-/// most 64 fields, or one that is not served: whose method is neither GET nor POST, whose version is not 1.1, whose target does not
-/// begin with a slash, which has not exactly one `Host`, which repeats a field that stands once, which has both `Content-Length` and
-/// `Transfer-Encoding`, or whose `Content-Length` is no number of 1 to 19 digits. Then it is `NoCoding` if the body is coded for
-/// its transfer, `NoLength` for a POST without `Content-Length`, `TooLong` if the body has over 262,144 bytes, and `Memory` if there
-/// is no memory for the request.
+/// Reads the text of one whole head as a request, whose body is still to come. It is `HeadTooLong`
+/// if over 64 lines stand between the first line and the empty line. It is `BadHead` if the text is
+/// not one head of at most 64 fields, or one that is not served: whose target does not begin with a
+/// slash, which has not exactly one `Host` under HTTP/1.1, which repeats a field that stands once,
+/// which has both `Content-Length` and `Transfer-Encoding`, or whose `Content-Length` is no number
+/// of 1 to 19 digits. Then it is `NoCoding` if `Transfer-Encoding` is not `chunked`, `NoLength` for
+/// a POST with neither of the two, `TooLong` if `Content-Length` is over 262,144, and `Memory` if
+/// there is no memory for the request.
 #[tactic(auto, using(crate::proofs::RequestLemmas::reads_once))]
 pub fn read_request_head(alloc: Global, text: &[u8]) -> Result<Request, Refusal>
     ensures ok { IfOk result (λ request. model.ReadsAs MOST_FIELDS text.now (Ok request)) }
     ensures refused { IfErr result (λ e.
         e ≢ Refusal.Memory → model.ReadsAs MOST_FIELDS text.now (Err e)) }
-    ensures short { IfOk result (λ request. request.body_length ≤ BODY_LIMIT) }
+    ensures short { IfOk result (λ request. model.length_in request.coding ≤ BODY_LIMIT) }
     ensures once { model.IsReadOnce MOST_FIELDS text.now }
 {
+    if line_count(text) > MOST_FIELDS {
+        return Err(Refusal::HeadTooLong);
+    }
     let mut spans = [EMPTY_HEADER_SPAN; MOST_FIELDS];
     match whole_head(text, &mut spans) {
         Some(head) => request_at(alloc, text, head, &spans[..head.headers]),
         None => Err(Refusal::BadHead),
     }
+}
+
+/// How many lines stand between the first line of the head and the empty line that ends it.
+#[tactic(auto, unfolding(fedi_model::specs::Requests::line_count))]
+fn line_count(text: &[u8]) -> usize
+    ensures { result ≡ model.line_count text.now }
+{
+    text.iter()
+        .filter(|byte| **byte == b'\n')
+        .count()
+        .saturating_sub(2)
 }
 
 /// The places of the parts of the head, if the text is one whole head whose fields have room.
@@ -50,6 +66,7 @@ fn whole_head(text: &[u8], spans: &mut [HeaderSpan]) -> Option<RequestSpans>
     ensures found { (h : RequestHead) → model.IsHead (length spans.old) text.now h
         → IfSome result (λ head. IsRequestAt text.now spans.new head h) }
     ensures some { (h : RequestHead) → model.IsHead (length spans.old) text.now h → IsSome result }
+    ensures method { IfSome result (λ head. IsToken (span_bytes text.now head.method)) }
 {
     match parse_request(text, spans) {
         Ok(Status::Complete(head)) if head.len == text.len() => Some(head),
@@ -57,16 +74,15 @@ fn whole_head(text: &[u8], spans: &mut [HeaderSpan]) -> Option<RequestSpans>
     }
 }
 
-/// The method of this name, if it is served.
-fn served_method(name: &[u8]) -> Option<Method>
-    ensures { MatchOption result
-        (model.is_served_method name.now ≡ false)
-        (λ method. (model.is_served_method name.now ≡ true) × (method ≡ name.now)) }
+/// The method of this name, which is a token. The error is that there is no memory for a long one.
+fn method_of(alloc: Global, name: &[u8]) -> Result<Method, Refusal>
+    requires { IsToken name.now }
+    ensures ok { IfOk result (λ method. method ≡ name.now) }
+    ensures err { IfErr result (λ e. e ≡ Refusal.Memory) }
 {
-    match name {
-        b"GET" => Some(Method::GET),
-        b"POST" => Some(Method::POST),
-        _ => None,
+    match Method::from_bytes(alloc, name) {
+        Ok(method) => Ok(method),
+        Err(_) => Err(Refusal::Memory),
     }
 }
 
@@ -78,6 +94,7 @@ fn request_at(
     spans: &[HeaderSpan],
 ) -> Result<Request, Refusal>
     requires within { All (IsHeaderWithin (length text.now)) spans.now }
+    requires method { IsToken (span_bytes text.now head.method) }
     requires named { head.method.start ≤ head.method.end }
     requires named_within { head.method.end ≤ length text.now }
     requires ordered { head.path.start ≤ head.path.end }
@@ -86,23 +103,23 @@ fn request_at(
         × (request ≡ request_by text.now head spans.now)) }
     ensures refused { IfErr result (λ e.
         e ≢ Refusal.Memory → refusal_by text.now head spans.now ≡ Some e) }
-    ensures short { IfOk result (λ request. request.body_length ≤ BODY_LIMIT) }
+    ensures short { IfOk result (λ request. model.length_in request.coding ≤ BODY_LIMIT) }
 {
     let target = head.path.of(text);
-    let Some(method) = served_method(head.method.of(text)) else {
-        return Err(Refusal::BadHead);
-    };
-    if head.version != 1 || !target.starts_with(b"/") {
+    if !target.starts_with(b"/") {
         return Err(Refusal::BadHead);
     }
     let known = KnownFields::read(text, spans);
-    let body_length = body_length(&method, &known)?;
+    let method = method_of(alloc, head.method.of(text))?;
+    let coding = coding_of(&method, head.version, &known)?;
+    let head_only = method == Method::HEAD;
     Ok(Request {
         method,
         target: copied(alloc, target)?,
         fields: read_fields(alloc, &known)?,
-        body_length,
-        keep_alive: !known.closes,
+        coding,
+        keep_alive: head.version == 1 && !known.closes,
+        head_only,
     })
 }
 

@@ -1,6 +1,9 @@
 pub mod Requests
 pub mod Credentials
 pub mod Callers
+pub mod Places
+pub mod Queries
+pub mod Webfinger
 pub mod Routes
 pub mod Refusals
 pub mod Refusing

@@ -1,5 +1,5 @@
 -- What the head of a request asks, and which requests are served (RFC 9112, sections 2 to 6 and 9; RFC 9110, sections 5 and 7 to 9).
-use Rattle.std.specs.Prelude.{◌≡◌, ℕ, ◌≤◌, ◌-◌, Bool, true, not, ◌&&◌, ◌||◌, ◌==◌, nat_eq, nat_le, List, [], length, take, drop, map, find, count_by, codes, bytes_eq, Option, Some, None, option_map, ◌⊎◌, if◌then◌else◌, Result, Ok, Err}
+use Rattle.std.specs.Prelude.{◌≡◌, ℕ, ◌≤◌, ◌<◌, ◌-◌, Bool, true, not, ◌&&◌, ◌||◌, ◌==◌, nat_eq, nat_le, List, [], length, take, drop, map, find, count_by, codes, bytes_eq, Option, Some, None, option_map, ◌⊎◌, if◌then◌else◌, Result, Ok, Err}
 use Rattle.std.specs.List.{starts_with, list_any, list_all, slice_split, position_or_len, suffix_len}
 use Rattle.std.specs.Char.{to_ascii_lowercase, is_ascii_digit}
 use Rattle.std.specs.Str.Parse.{digits_value}
@@ -7,7 +7,9 @@ use Rattle.httparse.specs.Grammar.{RequestHead, ReadsRequest}
 use Rattle.httparse.specs.Spans.{name_and_value, header_bytes}
 use Rattle.httparse.specs.declared.spans.HeaderSpan.{HeaderSpan}
 use Rattle.fedi_town.specs.declared.refusal.Refusal.{Refusal}
-use Rattle.fedi_town.specs.declared.refusal.Refusal.TheVariants.{BadHead, NoCoding, NoLength, TooLong}
+use Rattle.fedi_town.specs.declared.refusal.Refusal.TheVariants.{BadHead, HeadTooLong, NoCoding, NoLength, TooLong}
+use Rattle.fedi_model.specs.declared.request.Coding.{Coding}
+use Rattle.fedi_model.specs.declared.request.Coding.TheVariants.{Length, Chunked}
 use Rattle.fedi_model.specs.declared.request.Fields.{Fields}
 use Rattle.fedi_model.specs.declared.request.Request.{Request}
 use Rattle.fedi_model.specs.declared.request.TheConstants.{BODY_LIMIT}
@@ -75,9 +77,28 @@ abbrev pub length_by : Option (List ℕ) → ℕ
 length_by None = 0
 length_by (Some value) = digits_value 10 value
 
--- how many bytes the body has: as many as `Content-Length` says, and none where it is missing (RFC 9112, section 6.2)
+-- how many bytes the body has that does not come in chunks: as many as `Content-Length` says, and none if it is missing
+-- (RFC 9112, section 6.2)
 unfoldable pub body_length : List Field → ℕ
 body_length fields = length_by (field_value (codes "Content-Length") fields)
+
+-- the coding is `chunked`, in any case (RFC 9112, sections 6.1 and 7)
+unfoldable pub is_chunked : List ℕ → Bool
+is_chunked value = bytes_eq (map to_ascii_lowercase value) (codes "chunked")
+
+-- a coding that is there is `chunked`
+abbrev pub is_chunked_if_any : Option (List ℕ) → Bool
+is_chunked_if_any None = true
+is_chunked_if_any (Some value) = is_chunked value
+
+-- how the end of the body is found: by its chunks if its transfer is coded, and else by its length (RFC 9112, section 6.3)
+unfoldable pub coding_of : List Field → Coding
+coding_of fields = if is_missing (codes "Transfer-Encoding") fields then Length (body_length fields) else Chunked
+
+-- the number of bytes that is told in front of the body, if it is
+abbrev pub length_in : Coding → ℕ
+length_in (Length n) = n
+length_in Chunked = 0
 
 -- ---- whether the connection goes on
 
@@ -115,9 +136,21 @@ closes fields = list_any is_closing fields
 abbrev pub is_get : List ℕ → Bool
 is_get method = bytes_eq method (codes "GET")
 
+-- to read, with no body in the reply (RFC 9110, section 9.3.2)
+abbrev pub is_head : List ℕ → Bool
+is_head method = bytes_eq method (codes "HEAD")
+
+-- to read, with or without the body
+abbrev pub is_reading : List ℕ → Bool
+is_reading method = is_get method || is_head method
+
 -- to post (RFC 9110, section 9.3.3)
 abbrev pub is_post : List ℕ → Bool
 is_post method = bytes_eq method (codes "POST")
+
+-- the version is HTTP/1.1, and not HTTP/1.0 (RFC 9112, section 2.3)
+abbrev pub is_latest : ℕ → Bool
+is_latest minor = minor == 1
 
 -- what the fields say that is read after the head
 abbrev pub known_fields : List Field → Fields
@@ -129,37 +162,26 @@ known_fields fields = record {
   idempotency_key = field_value (codes "Idempotency-Key") fields;
 }
 
--- a request of these parts
-abbrev pub request_with : List ℕ → List ℕ → List Field → Request
-request_with method target fields = record {
+-- a request of these parts; the connection goes on after HTTP/1.1 alone (RFC 9112, section 9.3)
+abbrev pub request_with : List ℕ → List ℕ → ℕ → List Field → Request
+request_with method target minor fields = record {
   method = method;
   target = target;
   fields = known_fields fields;
-  body_length = body_length fields;
-  keep_alive = not (closes fields);
+  coding = coding_of fields;
+  keep_alive = is_latest minor && not (closes fields);
+  head_only = is_head method;
 }
 
 -- the request that a head writes
 abbrev pub request_of : RequestHead → Request
-request_of h = request_with h.method h.target (fields_of h)
+request_of h = request_with h.method h.target h.minor (fields_of h)
 
 -- ---- which heads are bad
-
--- GET and POST
-abbrev pub is_served_method : List ℕ → Bool
-is_served_method method = is_get method || is_post method
-
--- HTTP/1.1 alone
-abbrev pub is_served_version : ℕ → Bool
-is_served_version minor = minor == 1
 
 -- the origin form, which begins with a slash (RFC 9112, section 3.2.1)
 abbrev pub is_served_target : List ℕ → Bool
 is_served_target target = starts_with nat_eq target (codes "/")
-
--- whether a request line such as this is served
-abbrev pub is_served_line : List ℕ → List ℕ → ℕ → Bool
-is_served_line method target minor = is_served_method method && (is_served_version minor && is_served_target target)
 
 -- of the fields that say who asks there is one of each at most (RFC 9110, section 5.3)
 unfoldable pub has_single_credentials : List Field → Bool
@@ -180,9 +202,9 @@ unfoldable pub has_no_repeats : List Field → Bool
 has_no_repeats fields =
     has_single_credentials fields && has_single_content fields && is_single (codes "Idempotency-Key") fields
 
--- `Host` stands exactly once (RFC 9112, section 3.2)
-abbrev pub has_host : List Field → Bool
-has_host fields = is_once (codes "Host") fields
+-- `Host` stands exactly once, unless the version is HTTP/1.0 (RFC 9112, section 3.2)
+abbrev pub has_host : ℕ → List Field → Bool
+has_host minor fields = not (is_latest minor) || is_once (codes "Host") fields
 
 -- the body is not measured in both ways (RFC 9112, section 6.3)
 unfoldable pub has_one_measure : List Field → Bool
@@ -192,37 +214,55 @@ has_one_measure fields = is_missing (codes "Content-Length") fields || is_missin
 unfoldable pub has_plain_length : List Field → Bool
 has_plain_length fields = is_length_if_any (field_value (codes "Content-Length") fields)
 
--- the fields are those of a good head
-unfoldable pub has_served_fields : List Field → Bool
-has_served_fields fields = has_host fields && has_no_repeats fields && has_one_measure fields && has_plain_length fields
+-- the fields are those of a good head of this version
+unfoldable pub has_served_fields : ℕ → List Field → Bool
+has_served_fields minor fields =
+    has_host minor fields && has_no_repeats fields && has_one_measure fields && has_plain_length fields
 
 -- ---- why a head is refused
+
+-- the transfer is coded in no other way than by chunks
+unfoldable pub has_served_coding : List Field → Bool
+has_served_coding fields = is_chunked_if_any (field_value (codes "Transfer-Encoding") fields)
+
+-- nothing says where the body ends
+abbrev pub has_no_measure : List Field → Bool
+has_no_measure fields = is_missing (codes "Content-Length") fields && is_missing (codes "Transfer-Encoding") fields
 
 -- why no body is read after the good fields of a request with this method: for its coding (RFC 9112, section 6.1), for want of
 -- a length (RFC 9110, section 15.5.12), or for the length (RFC 9110, section 15.5.14)
 abbrev pub body_refusal : List ℕ → List Field → Option Refusal
 body_refusal method fields =
-    if not (is_missing (codes "Transfer-Encoding") fields) then Some NoCoding
-    else (if is_post method && is_missing (codes "Content-Length") fields then Some NoLength
+    if not (has_served_coding fields) then Some NoCoding
+    else (if is_post method && has_no_measure fields then Some NoLength
     else (if nat_le (body_length fields) BODY_LIMIT then None else Some TooLong))
 
--- why a request with this method is refused by its fields
-abbrev pub fields_refusal : List ℕ → List Field → Option Refusal
-fields_refusal method fields = if has_served_fields fields then body_refusal method fields else Some BadHead
+-- why a request with this method and version is refused by its fields
+abbrev pub fields_refusal : List ℕ → ℕ → List Field → Option Refusal
+fields_refusal method minor fields = if has_served_fields minor fields then body_refusal method fields else Some BadHead
 
 -- why a request of these parts is refused
 abbrev pub refusal_with : List ℕ → List ℕ → ℕ → List Field → Option Refusal
-refusal_with method target minor fields = if is_served_line method target minor then fields_refusal method fields else Some BadHead
+refusal_with method target minor fields = if is_served_target target then fields_refusal method minor fields else Some BadHead
 
 -- why a head is refused, if it is
 abbrev pub head_refusal : RequestHead → Option Refusal
 head_refusal h = refusal_with h.method h.target h.minor (fields_of h)
 
--- what a text is read as: the request of the head that it is, or why that head is refused; what is no head is bad
-abbrev pub ReadsAs : ℕ → List ℕ → Result Request Refusal → Type 0
-ReadsAs most text (Ok q) = (h : RequestHead) × IsHead most text h × (head_refusal h ≡ None) × (q ≡ request_of h)
-ReadsAs most text (Err e) =
+-- how many lines stand between the first line of a head and the empty line that ends it: a line ends in LF
+unfoldable pub line_count : List ℕ → ℕ
+line_count text = count_by (λ byte. byte == 10) text - 2
+
+-- what a text of few lines is read as: the request of the head that it is, or why that head is refused; what is no head is bad
+abbrev pub ReadsHead : ℕ → List ℕ → Result Request Refusal → Type 0
+ReadsHead most text (Ok q) = (h : RequestHead) × IsHead most text h × (head_refusal h ≡ None) × (q ≡ request_of h)
+ReadsHead most text (Err e) =
     ((h : RequestHead) × IsHead most text h × (head_refusal h ≡ Some e)) ⊎ ((e ≡ BadHead) × ((h : RequestHead) → ¬ (IsHead most text h)))
+
+-- what a text is read as; with more than `most` lines it is too long, whatever they are (RFC 6585, section 5)
+abbrev pub ReadsAs : ℕ → List ℕ → Result Request Refusal → Type 0
+ReadsAs most text outcome =
+    ((line_count text ≤ most) × ReadsHead most text outcome) ⊎ ((most < line_count text) × (outcome ≡ Err HeadTooLong))
 
 -- a text is read in one way at most
 abbrev pub IsReadOnce : ℕ → List ℕ → Type 0

@@ -1,13 +1,11 @@
--- What a request asks for, by its method and its path (RFC 9110, section 9.3; ActivityPub, sections 3.2 and 6). Paths are
--- compared byte for byte and never decoded.
-use Rattle.std.specs.Prelude.{◌≡◌, ℕ, ◌≤◌, ◌<◌, ◌^◌, ◌==◌, Bool, false, ◌||◌, List, ◌++◌, map, replicate, codes, bytes_eq, IsTrue, Option, Some, None, Ok, Err}
+-- What a request asks for, by its path and then by its method (RFC 9110, section 9.3; ActivityPub, sections 3.2 and 6).
+use Rattle.std.specs.Prelude.{◌≡◌, ℕ, ◌==◌, Bool, false, ◌||◌, ◌⊎◌, List, map, replicate, codes, bytes_eq, MatchBool, Option, Some, None, Ok, Err}
 use Rattle.std.specs.Char.{to_ascii_lowercase}
 use Rattle.std.specs.List.{before_first}
 use Rattle.serde_json.specs.Data.{Data}
 use Rattle.sha2.specs.Sha256.{sha256}
-use Rattle.fedi_address.specs.Names.{is_name}
 use Rattle.fedi_asks.specs.declared.ask.Ask.{Ask}
-use Rattle.fedi_asks.specs.declared.ask.Ask.TheVariants.{Nowhere, Activity, Object, Outbox}
+use Rattle.fedi_asks.specs.declared.ask.Ask.TheVariants.{Nowhere, WrongMethod, Webfinger, Actor, Activity, Object, Outbox}
 use Rattle.fedi_asks.specs.declared.post.KeyAsk.{KeyAsk}
 use Rattle.fedi_asks.specs.declared.post.KeyAsk.TheVariants.{Absent, Malformed, Given}
 use Rattle.fedi_asks.specs.declared.post.Post.{Post}
@@ -15,21 +13,18 @@ use Rattle.fedi_asks.specs.declared.post.Read.{Read}
 use Rattle.fedi_asks.specs.declared.post.Read.TheVariants.{NotJson, Bad, Ready}
 use Rattle.fedi_reading.specs.Bodies.{IsBodyOf}
 use Rattle.fedi_reading.specs.Reading.{reads_posted}
-use Rattle.fedi_town.specs.Ids.{activity_path, object_path}
+use Rattle.fedi_town.specs.declared.caller.Which.TheVariants as which
+use Rattle.fedi_model.specs.declared.place.Place.{Place}
+use Rattle.fedi_model.specs.declared.place.Place.TheVariants as place
 use Rattle.fedi_model.specs.declared.request.Request.{Request}
-use Rattle.fedi_model.specs.Requests.{is_get, is_post, without_back_blanks}
+use Rattle.fedi_model.specs.Places.{LeadsTo, allow_of}
+use Rattle.fedi_model.specs.Queries.{query_of}
+use Rattle.fedi_model.specs.Requests.{is_post, is_reading, without_back_blanks}
+use Rattle.fedi_model.specs.Webfinger.{resource_in}
 
 -- the path: the target up to its first question mark (RFC 3986, section 3.3)
 abbrev pub path_of : List ℕ → List ℕ
 path_of target = before_first (λ b. b == 63) target
-
--- the path of a member's outbox (ActivityPub, section 5.1)
-abbrev pub outbox_path : List ℕ → List ℕ
-outbox_path name = codes "/users/" ++ (name ++ codes "/outbox")
-
--- a number that activities may have
-abbrev pub IsNumber : ℕ → Type 0
-IsNumber number = (1 ≤ number) × (number < 2 ^ 32)
 
 -- ---- posts
 
@@ -78,18 +73,36 @@ pub record IsPost (q : Request) (body : List ℕ) (post : Post) : Type 0 where
 
 -- ---- asks
 
--- the request is for this; nothing else is served yet
-abbrev pub IsFor : Request → List ℕ → Ask → Type 0
-IsFor q body (Activity name number) = IsTrue (is_get q.method) × IsTrue (is_name name) × IsNumber number × (path_of q.target ≡ activity_path name number)
-IsFor q body (Object name number) = IsTrue (is_get q.method) × IsTrue (is_name name) × IsNumber number × (path_of q.target ≡ object_path name number)
-IsFor q body (Outbox name post) = IsTrue (is_post q.method) × IsTrue (is_name name) × (path_of q.target ≡ outbox_path name) × IsPost q body post
-IsFor q body other = ⊥
+-- What is asked for by reading what stands there (RFC 9110, sections 9.3.1 and 9.3.2). No collection is read yet.
+abbrev pub read_at : Option (List ℕ) → List ℕ → Place → Ask
+read_at host query place.Webfinger = Webfinger (resource_in host query)
+read_at host query (place.Actor name) = Actor name
+read_at host query (place.Collection which) = Nowhere
+read_at host query (place.Activity name number) = Activity name number
+read_at host query (place.Object name number) = Object name number
 
--- what a request with this body asks for: that for which it is, and nothing where it is for no thing
-abbrev pub Asks : Request → List ℕ → Ask → Type 0
-Asks q body Nowhere = (ask : Ask) → ¬ (IsFor q body ask)
-Asks q body ask = IsFor q body ask
+-- What is asked for by a method that is not served there (RFC 9110, section 15.5.6). An inbox is not served at all yet.
+abbrev pub refused_at : Place → Ask
+refused_at (place.Collection (which.Inbox name)) = Nowhere
+refused_at there = WrongMethod (allow_of there)
+
+-- what is asked for by posting to what stands there: members post to their outboxes (ActivityPub, section 6)
+abbrev pub PostsTo : Request → List ℕ → Place → Ask → Type 0
+PostsTo q body (place.Collection (which.Outbox name)) ask = (post : Post) × IsPost q body post × (ask ≡ Outbox name post)
+PostsTo q body there ask = ask ≡ refused_at there
+
+-- what a request for what stands there asks for, by its method
+abbrev pub AsksAt : Option (List ℕ) → Request → List ℕ → Place → Ask → Type 0
+AsksAt host q body there ask =
+    MatchBool (is_reading q.method) (ask ≡ read_at host (query_of q.target) there)
+    (MatchBool (is_post q.method) (PostsTo q body there ask) (ask ≡ refused_at there))
+
+-- what a request with this body asks for at the server of this host: its path leads somewhere, or it asks for nothing
+abbrev pub Asks : Option (List ℕ) → Request → List ℕ → Ask → Type 0
+Asks host q body ask =
+    (((there : Place) → ¬ (LeadsTo (path_of q.target) there)) × (ask ≡ Nowhere))
+    ⊎ ((there : Place) × LeadsTo (path_of q.target) there × AsksAt host q body there ask)
 
 -- a request asks for one thing at most
-abbrev pub IsAskedOnce : Request → List ℕ → Type 0
-IsAskedOnce q body = (a b : Ask) → Asks q body a → Asks q body b → a ≡ b
+abbrev pub IsAskedOnce : Option (List ℕ) → Request → List ℕ → Type 0
+IsAskedOnce host q body = (a b : Ask) → Asks host q body a → Asks host q body b → a ≡ b

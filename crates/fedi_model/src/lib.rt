@@ -4,6 +4,7 @@
 
 mod credentials;
 mod laws;
+mod place;
 mod refusal;
 mod refusing;
 mod reply;
@@ -15,7 +16,8 @@ pub use fedi_town::{Act, Actor, Caller, Refusal, Which};
 pub use laws::{
     refusals_are_clean, replies_are_clean, replies_are_private, what_is_read_may_be_posted,
 };
+pub use place::Place;
 pub use refusal::{refusal_body, refusal_status};
 pub use refusing::{misshapen_reply, refusal_reply};
 pub use reply::{Body, Form, Reply};
-pub use request::{BODY_LIMIT, Fields, Request};
+pub use request::{BODY_LIMIT, Coding, Fields, Request};

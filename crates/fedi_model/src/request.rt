@@ -22,6 +22,15 @@ pub struct Fields {
 /// The most bytes that a body may have.
 pub const BODY_LIMIT: usize = 262_144;
 
+/// How the end of a body is found (RFC 9112, section 6.3).
+#[derive(Clone, Copy, Debug, PartialEq, Eq)]
+pub enum Coding {
+    /// The body has so many bytes (RFC 9112, section 6.2).
+    Length(usize),
+    /// The body comes in chunks (RFC 9112, section 7.1).
+    Chunked,
+}
+
 /// A request, without its body (RFC 9112, section 2.1).
 #[derive(Drop)]
 pub struct Request {
@@ -31,8 +40,11 @@ pub struct Request {
     pub target: Bytes,
     /// What the fields of the head say.
     pub fields: Fields,
-    /// How many bytes the body has (RFC 9112, section 6.2).
-    pub body_length: usize,
-    /// Whether the connection goes on after the reply, as far as the fields say (RFC 9112, section 9.3).
+    /// How the end of the body is found.
+    pub coding: Coding,
+    /// Whether the connection goes on after the reply, as far as the head says: the version is HTTP/1.1, and no `Connection` lists
+    /// `close` (RFC 9112, section 9.3).
     pub keep_alive: bool,
+    /// Whether the reply has no body: the method is HEAD (RFC 9110, section 9.3.2).
+    pub head_only: bool,
 }

@@ -1,13 +1,13 @@
 //! The JSON in which objects are shown.
 
-ghost use Rattle.std.specs.Prelude.{◌≡◌, false, true, codes, map, IfOk, OnOk, ◌++◌};
+ghost use Rattle.std.specs.Prelude.{◌≡◌, false, true, codes, map, IfOk, OnOk};
 ghost use Rattle.std.specs.Option.{option_copied};
-ghost use Rattle.std.specs.String.{string_bytes};
 ghost use Rattle.serde_json.specs.Data.{string, put, object};
 ghost use Rattle.serde_json.specs.View.{view, members_view};
 ghost use Rattle.serde_json.specs.Written.{compact_text, has_float};
 ghost use Rattle.fedi_objects.specs.Forms.{with_text, with_list, with_context, with_collections, tag_form, with_audience, with_words, with_links, live_members, tombstone_members, object_members, object_form, with_object, activity_members, activity_form, object_in, shown_in, is_clean};
 
+use crate::members::{put_joined, put_str};
 use crate::object::{Object, Tag};
 use crate::shown::{Shown, ShownObject};
 use fedi_address::Iri;
@@ -23,18 +23,6 @@ pub const MENTION: &str = "Mention";
 
 /// The type of what is left of a deleted object (ActivityStreams 2.0 Vocabulary, section 3.3).
 pub const TOMBSTONE: &str = "Tombstone";
-
-fn put_str(
-    members: &mut Map<String, Value>,
-    alloc: Global,
-    key: &str,
-    text: &str,
-) -> Result<(), AllocError>
-    ensures { OnOk result (members_view members.new.entries
-        ≡ put key.now (string text.now) (members_view members.old.entries)) }
-{
-    serde_json::put(members, alloc, key, Value::try_from_str(alloc, text)?)
-}
 
 #[tactic(auto, unfolding(crate::specs::Forms::with_text))]
 fn put_text(
@@ -137,15 +125,6 @@ fn put_context(
     put_str(members, alloc, "@context", CONTEXT)
 }
 
-/// One text after the other.
-fn joined(alloc: Global, front: &str, back: &str) -> Result<String, AllocError>
-    ensures { IfOk result (λ text. string_bytes text ≡ front.now ++ back.now) }
-{
-    let mut text = String::from_str(alloc, front)?;
-    text.push_str(back)?;
-    Ok(text)
-}
-
 #[tactic(auto, unfolding(crate::specs::Forms::with_collections))]
 fn put_collections(
     members: &mut Map<String, Value>,
@@ -162,10 +141,8 @@ fn put_collections(
     match id {
         None => Ok(()),
         Some(id) => {
-            let shares = joined(alloc, id.text(), "/shares")?;
-            serde_json::put(members, alloc, "shares", Value::String(shares))?;
-            let likes = joined(alloc, id.text(), "/likes")?;
-            serde_json::put(members, alloc, "likes", Value::String(likes))
+            put_joined(members, alloc, "shares", id.text(), "/shares")?;
+            put_joined(members, alloc, "likes", id.text(), "/likes")
         }
     }
 }

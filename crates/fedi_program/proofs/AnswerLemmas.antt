@@ -181,7 +181,7 @@ failed_untold growth room before after moment q body c ask r e d same k =
 
 -- the text, if there was memory for it, is that of a turn's reply
 pub texted : {A E : Type 0} (growth room : ℕ → ℕ) (before after : State) (moment : ℕ) (q : Request) (body : List ℕ) (closing : Bool) (given : Reply) (r : Result (Vec ℕ A) E)
-    → IsTurn growth room before after moment q body given → IfOk r (λ t. t.items ≡ reply_text moment false closing given)
+    → IsTurn growth room before after moment q body given → IfOk r (λ t. t.items ≡ reply_text moment q.head_only closing given)
     → IfOk r (λ t. IsAnswerText growth room before after moment q body closing t.items)
 texted growth room before after moment q body closing given (Ok t) turn is = (given, turn, is)
 texted growth room before after moment q body closing given (Err e) turn is = tt

@@ -1,9 +1,8 @@
 -- Over one input, at one moment and from one beginning there is one conversation with a keeper that never fails.
-use Rattle.std.proofs.Common.{◌≡◌, ℕ, Bool, drop, true, false, List, [], ◌∷◌, ◌++◌, Option, Some, None, Result, Ok, Err, inl, inr, refl, sym, ap, subst, ◌∙◌, arith, lit<}
-use Rattle.std.specs.List.{slice_range}
+use Rattle.std.proofs.Common.{◌≡◌, ℕ, Bool, true, false, List, [], ◌∷◌, ◌++◌, Option, Some, None, Result, Ok, Err, inl, inr, refl, sym, ap, subst, ◌∙◌, arith, lit<}
 use Rattle.fedi_town.specs.declared.refusal.Refusal.{Refusal}
 use Rattle.fedi_http.proofs.ArrivalLemmas.{one_arrival}
-use Rattle.fedi_http.specs.Arrivals.{TellsOfStream}
+use Rattle.fedi_http.specs.Arrivals.{IsArrival, OnRequest, TellsOfStream}
 use Rattle.fedi_http.specs.declared.arrivals.Arrived.{Arrived}
 use Rattle.fedi_http.specs.declared.arrivals.Arrived.TheVariants as arrivals
 use Rattle.fedi_http.specs.declared.heads.TheConstants.{HEAD_LIMIT}
@@ -76,39 +75,25 @@ same_answer k log moment (Err e) body a b s t x y ca cb = (x.0 ∙ sym y.0, x.1 
 
 -- ---- one arrival
 
-same_at_front : (left : List ℕ) (a b : Arrived) → StandsAtFront left a → StandsAtFront left b → TellsOfStream a → TellsOfStream b → a ≡ b
-same_at_front left a b x y ta tb = one_arrival HEAD_LIMIT MOST_FIELDS left a b (lit< tt) x y ta tb
-
 abbrev IsSameArrival : Result Request Refusal → Result Request Refusal → List ℕ → List ℕ → List ℕ → List ℕ → Type 0
 IsSameArrival a b body text rest more = (a ≡ b) × (body ≡ text) × (rest ≡ more)
 
--- what of an arrival is a request, and where its body stands
+-- at most one answer is true of what is left
+one_at_front : (left : List ℕ) (a b : Arrived) (body text rest more : List ℕ) → IsArrival HEAD_LIMIT MOST_FIELDS left a body rest → IsArrival HEAD_LIMIT MOST_FIELDS left b text more
+    → TellsOfStream a → TellsOfStream b → (a ≡ b) × OnRequest a ((body ≡ text) × (rest ≡ more))
+one_at_front left a b body text rest more x y ta tb = one_arrival HEAD_LIMIT MOST_FIELDS left a b body text rest more (lit< tt) x y ta tb
+
+-- what of an arrival is a request or a refusal
 abbrev request_in : Arrived → Request → Request
-request_in (arrivals.Request q start end) d = q
+request_in (arrivals.Request q) d = q
 request_in (arrivals.Refused e) d = d
 request_in arrivals.End d = d
 request_in arrivals.CutShort d = d
 request_in arrivals.ReadFault d = d
 request_in arrivals.Memory d = d
 
-abbrev start_in : Arrived → ℕ
-start_in (arrivals.Request q start end) = start
-start_in (arrivals.Refused e) = 0
-start_in arrivals.End = 0
-start_in arrivals.CutShort = 0
-start_in arrivals.ReadFault = 0
-start_in arrivals.Memory = 0
-
-abbrev end_in : Arrived → ℕ
-end_in (arrivals.Request q start end) = end
-end_in (arrivals.Refused e) = 0
-end_in arrivals.End = 0
-end_in arrivals.CutShort = 0
-end_in arrivals.ReadFault = 0
-end_in arrivals.Memory = 0
-
 abbrev refusal_in : Arrived → Refusal → Refusal
-refusal_in (arrivals.Request q start end) d = d
+refusal_in (arrivals.Request q) d = d
 refusal_in (arrivals.Refused e) d = e
 refusal_in arrivals.End d = d
 refusal_in arrivals.CutShort d = d
@@ -116,7 +101,7 @@ refusal_in arrivals.ReadFault d = d
 refusal_in arrivals.Memory d = d
 
 abbrev is_request : Arrived → Bool
-is_request (arrivals.Request q start end) = true
+is_request (arrivals.Request q) = true
 is_request (arrivals.Refused e) = false
 is_request arrivals.End = false
 is_request arrivals.CutShort = false
@@ -127,25 +112,20 @@ is_request arrivals.Memory = false
 same_arrival : (left : List ℕ) (a b : Result Request Refusal) (body text rest more : List ℕ) → Arrives left a body rest → Arrives left b text more
     → IsSameArrival a b body text rest more
 same_arrival left (Ok q) (Ok r) body text rest more x y =
-    let same : arrivals.Request q x.0 x.1 ≡ arrivals.Request r y.0 y.1 = same_at_front left (arrivals.Request q x.0 x.1) (arrivals.Request r y.0 y.1) x.2 y.2 tt tt in
-    let start : x.0 ≡ y.0 = ap start_in same in
-    let end : x.1 ≡ y.1 = ap end_in same in (
-      ap (λ (z : Arrived). Ok (request_in z q)) same,
-      x.3 ∙ ap (λ (n : ℕ). slice_range left n x.1) start ∙ ap (λ (n : ℕ). slice_range left y.0 n) end ∙ sym y.3,
-      x.4 ∙ ap (λ (n : ℕ). drop n left) end ∙ sym y.4,
-    )
+    let same = one_at_front left (arrivals.Request q) (arrivals.Request r) body text rest more x y tt tt in
+    (ap (λ (z : Arrived). Ok (request_in z q)) same.0, same.1.0, same.1.1)
 same_arrival left (Ok q) (Err f) body text rest more x y =
-    let same : arrivals.Request q x.0 x.1 ≡ arrivals.Refused f = same_at_front left (arrivals.Request q x.0 x.1) (arrivals.Refused f) x.2 y.0 tt tt in
+    let same : arrivals.Request q ≡ arrivals.Refused f = (one_at_front left (arrivals.Request q) (arrivals.Refused f) body [] rest [] x y.0 tt tt).0 in
     let clash : true ≡ false = ap is_request same in absurd cc
 same_arrival left (Err e) (Ok r) body text rest more x y =
-    let same : arrivals.Refused e ≡ arrivals.Request r y.0 y.1 = same_at_front left (arrivals.Refused e) (arrivals.Request r y.0 y.1) x.0 y.2 tt tt in
+    let same : arrivals.Refused e ≡ arrivals.Request r = (one_at_front left (arrivals.Refused e) (arrivals.Request r) [] text [] more x.0 y tt tt).0 in
     let clash : false ≡ true = ap is_request same in absurd cc
 same_arrival left (Err e) (Err f) body text rest more x y =
-    let same : arrivals.Refused e ≡ arrivals.Refused f = same_at_front left (arrivals.Refused e) (arrivals.Refused f) x.0 y.0 tt tt in
+    let same : arrivals.Refused e ≡ arrivals.Refused f = (one_at_front left (arrivals.Refused e) (arrivals.Refused f) [] [] [] [] x.0 y.0 tt tt).0 in
     (ap (λ (z : Arrived). Err (refusal_in z e)) same, x.1 ∙ sym y.1, x.2 ∙ sym y.2)
 
 abbrev IsNoRefusal : Arrived → Type 0
-IsNoRefusal (arrivals.Request q start end) = Unit {0}
+IsNoRefusal (arrivals.Request q) = Unit {0}
 IsNoRefusal (arrivals.Refused e) = ⊥
 IsNoRefusal arrivals.End = Unit {0}
 IsNoRefusal arrivals.CutShort = Unit {0}
@@ -156,10 +136,10 @@ IsNoRefusal arrivals.Memory = Unit {0}
 none_arrives : (left : List ℕ) (a : Result Request Refusal) (body rest : List ℕ) (b : Arrived) → is_request b ≡ false → IsNoRefusal b → TellsOfStream b
     → Arrives left a body rest → StandsAtFront left b → ⊥
 none_arrives left (Ok q) body rest b other none tells x y =
-    let same = same_at_front left (arrivals.Request q x.0 x.1) b x.2 y tt tells in
+    let same = (one_at_front left (arrivals.Request q) b body [] rest [] x y tt tells).0 in
     let clash : true ≡ false = ap is_request same ∙ other in cc
 none_arrives left (Err e) body rest b other none tells x y =
-    let same : b ≡ arrivals.Refused e = sym (same_at_front left (arrivals.Refused e) b x.0 y tt tells) in
+    let same : b ≡ arrivals.Refused e = sym (one_at_front left (arrivals.Refused e) b [] [] [] [] x.0 y tt tells).0 in
     subst (λ (z : Arrived). IsNoRefusal z) same none
 
 -- ---- one exchange

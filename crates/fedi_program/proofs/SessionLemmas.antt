@@ -1,17 +1,14 @@
 -- From the answer to one request to a step of a session.
-use Rattle.std.proofs.Common.{◌≡◌, ℕ, ◌+◌, ◌-◌, ◌^◌, ◌<◌, ◌≤◌, min, Bool, true, false, List, [], ◌∷◌, ◌++◌, length, take, drop, Option, Some, None, IfSome, IfOk, OnErr, MatchResult, Result, Ok, Err, Vec, inl, inr, refl, sym, ap, subst, ◌∙◌, append-nil, arith}
-use Rattle.std.specs.List.{slice_range}
-use Rattle.std.specs.Io.KnownBytes.{Appends, prepend_known}
+use Rattle.std.proofs.Common.{◌≡◌, ℕ, ◌+◌, ◌-◌, ◌^◌, ◌<◌, ◌≤◌, min, Bool, true, false, List, [], ◌∷◌, ◌++◌, length, take, Option, Some, None, IfSome, IfOk, OnErr, MatchResult, Result, Ok, Err, Vec, inl, inr, refl, sym, ap, subst, ◌∙◌, append_assoc, arith}
+use Rattle.std.specs.Io.KnownBytes.{Appends, Consumes, prepend_known}
 use Rattle.std.proofs.KnownBytes.{Appends-trans}
-use Rattle.std.proofs.lemmas.List.{drop-append-le}
 use Rattle.fedi_outside.specs.Causes.{next_count}
 use Rattle.fedi_town.specs.declared.refusal.Refusal.{Refusal}
-use Rattle.fedi_http.specs.Arrivals.{LacksRequest}
+use Rattle.fedi_http.specs.Arrivals.{IsArrival, LacksRequest, OnRequest, TellsOfStream}
 use Rattle.fedi_http.specs.declared.arrivals.Arrived.{Arrived}
 use Rattle.fedi_http.specs.declared.arrivals.Arrived.TheVariants as arrivals
 use Rattle.fedi_http.specs.declared.heads.TheConstants.{HEAD_LIMIT}
 use Rattle.fedi_http.specs.declared.requests.TheConstants.{MOST_FIELDS}
-use Rattle.fedi_http.proofs.HeadLemmas.{slice_range-append}
 use Rattle.fedi_log.specs.Keeping.{Base, Follows, Holds, State, end_of}
 use Rattle.fedi_log.specs.Log.{Failed, Goes, Log, NoEntry, Outcome, history_of, items_of}
 use Rattle.fedi_log.proofs.Growing.{goes_here}
@@ -23,32 +20,30 @@ use Rattle.fedi_model.specs.Refusing.{refused}
 use Rattle.fedi_model.specs.ReplyText.{memory_text, reply_text}
 use Rattle.fedi_program.specs.declared.sessions.SessionEnd.{SessionEnd}
 use Rattle.fedi_program.specs.declared.sessions.SessionEnd.TheVariants as ends
-use Rattle.fedi_program.specs.Conversations.{Setting, Exchange, Progress, IsNow, IsReply, IsExchange, StandsAtFront, after, closes, text_of}
+use Rattle.fedi_program.specs.Conversations.{Setting, Exchange, Progress, IsNow, IsReply, IsExchange, after, closes, is_head_only, text_of}
 use Rattle.fedi_program.specs.Endings.{BreaksOff, Exchanges, GivesUp, IsAnswerText, IsAt, IsCounted, IsTurn, IsUnanswered, Output, Replies, Scene, Steps, Writes, WritesUnlessFailed, faults_of}
 use Rattle.fedi_log.proofs.Keeping.{since_here, since_more, since_still, unchanged}
 
 -- ---- the bytes of the input
 
--- what is pending is a front of what is left
+-- these bytes were read of what is left
 abbrev StandsIn : List ℕ → Option (List ℕ) → List ℕ → Type 0
 StandsIn pending input left = prepend_known pending input ≡ Some left
 
-same_slice : (pending : List ℕ) (input : Option (List ℕ)) (left : List ℕ) (start end : ℕ) → StandsIn pending input left → start ≤ end → end ≤ length pending
-    → slice_range pending start end ≡ slice_range left start end
-same_slice pending None left start end stands low high = absurd cc
-same_slice pending (Some rest) left start end stands low high =
-    let whole : pending ++ rest ≡ left = cc in
-    sym (slice_range-append pending rest start end low high) ∙ ap (λ (xs : List ℕ). slice_range xs start end) whole
-
-taken_off : (pending : List ℕ) (input : Option (List ℕ)) (left : List ℕ) (count : ℕ) → StandsIn pending input left → count ≤ length pending
-    → StandsIn (drop count pending) input (drop count left)
-taken_off pending None left count stands high = absurd cc
-taken_off pending (Some rest) left count stands high =
-    let whole : pending ++ rest ≡ left = cc in
-    ap Some (sym (drop-append-le count pending rest high) ∙ ap (drop count) whole)
+-- what is told of the stream, where an answer tells of it
+abbrev Tells : Arrived → List ℕ → List ℕ → Option (List ℕ) → List ℕ → Type 0
+Tells a body pending input stream =
+    TellsOfStream a → (rest : List ℕ) × IsArrival HEAD_LIMIT MOST_FIELDS stream a body rest × OnRequest a (StandsIn pending input rest)
 
 told_of : (P : List ℕ → Type 0) (known : Option (List ℕ)) (left : List ℕ) → known ≡ Some left → IfSome known P → P left
 told_of P known left is h = subst (λ (k : Option (List ℕ)). IfSome k P) is h
+
+-- the bytes that were taken since stand in front of what is left now
+taken_since : (old more : List ℕ) (before now : Option (List ℕ)) (left : List ℕ) → Consumes before now more → StandsIn old before left → StandsIn (old ++ more) now left
+taken_since old more None now left taken stands = cc
+taken_since old more (Some x) None left taken stands = absurd taken
+taken_since old more (Some x) (Some y) left taken stands =
+    ap Some (append_assoc old more y ∙ ap (λ (l : List ℕ). old ++ l) (sym taken)) ∙ stands
 
 -- ---- the output
 
@@ -82,7 +77,7 @@ goes_to by seen log same = subst (λ (l : Log). Goes by seen l) same (goes_here 
 -- this exchange was made, and its text was sent so
 replied : (w : Setting) (first : Output) (before now : Scene) (log : Log) (old pending : List ℕ) (p : Progress) (x : Exchange) (closing : Bool) (ending : Option SessionEnd)
     → closing ≡ closes p.count x.arrived → IsExchange w p x → (after w p x).log ≡ log → IsAt first before old p
-    → StandsIn pending now.input x.rest → Replies before.output now.output (reply_text x.moment false closing x.reply) closing ending
+    → (closing ≡ false → StandsIn pending now.input x.rest) → Replies before.output now.output (reply_text x.moment (is_head_only x.arrived) closing x.reply) closing ending
     → Steps w first now log pending p ending
 replied w first before now log old pending p x true ending is next same at stands (inl sent) =
     let text : Writes before.output now.output (text_of p.count x) = rw (← is) sent.1 in
@@ -105,7 +100,7 @@ replied w first before now log old pending p x false ending is next same at stan
       same,
       record {
         open_yet = sym is;
-        input = stands;
+        input = stands refl;
         written = writes_on first before.output now.output p.written (text_of p.count x) at.written text;
       },
     )
@@ -125,32 +120,27 @@ abbrev asked : Request → List ℕ → List ℕ → Log → ℕ → Outcome →
 asked q body rest log moment outcome r = record { arrived = Ok q; body = body; rest = rest; log = log; moment = moment; outcome = outcome; reply = r }
 
 -- the exchange of a request that was answered in one turn
-exchange_of : (w : Setting) (first : Output) (before now : Scene) (state after_it : State) (log : Log) (old read : List ℕ) (p : Progress) (q : Request) (start end moment : ℕ) (r : Reply)
-    (turn : IsTurn w.base.growth w.base.room state after_it moment q (slice_range read start end) r)
-    → Holds w.base state log → p.log ≡ log → IsAt first before old p → prepend_known read now.input ≡ prepend_known old before.input
-    → IfSome (prepend_known old before.input) (λ stream. StandsAtFront stream (arrivals.Request q start end)) → start ≤ end → end ≤ length read → IsNow w.told moment
-    → IsExchange w p (asked q (slice_range p.left start end) (drop end p.left) log moment turn.outcome r)
-exchange_of w first before now state after_it log old read p q start end moment r turn holds same at stream told low high is_now =
-    let stands : StandsIn read now.input p.left = stream ∙ at.input in
-    let text : slice_range read start end ≡ slice_range p.left start end = same_slice read now.input p.left start end stands low high in
-    let here = subst (λ (h : List Entry). IsReply w.base.room h state.keeper.end moment q (slice_range read start end) turn.outcome r) holds.history turn.reply in
-    let ended = subst (λ (n : ℕ). IsReply w.base.room (history_of log) n moment q (slice_range read start end) turn.outcome r) holds.keeper.end here in
+exchange_of : (w : Setting) (first : Output) (before : Scene) (state after_it : State) (log : Log) (old : List ℕ) (p : Progress) (q : Request) (body rest : List ℕ) (moment : ℕ) (r : Reply)
+    (turn : IsTurn w.base.growth w.base.room state after_it moment q body r)
+    → Holds w.base state log → p.log ≡ log → IsAt first before old p → IsArrival HEAD_LIMIT MOST_FIELDS p.left (arrivals.Request q) body rest → IsNow w.told moment
+    → IsExchange w p (asked q body rest log moment turn.outcome r)
+exchange_of w first before state after_it log old p q body rest moment r turn holds same at arrives is_now =
+    let here = subst (λ (h : List Entry). IsReply w.base.room h state.keeper.end moment q body turn.outcome r) holds.history turn.reply in
     record {
       open_yet = at.open_yet;
-      arrival = (start, end, told_of (λ bytes. StandsAtFront bytes (arrivals.Request q start end)) (prepend_known old before.input) p.left at.input told, refl, refl);
+      arrival = arrives;
       now = is_now;
       later = goes_to w.by p.log log same;
-      reply = subst (λ (b : List ℕ). IsReply w.base.room (history_of log) (end_of w.base log) moment q b turn.outcome r) text ended;
+      reply = subst (λ (n : ℕ). IsReply w.base.room (history_of log) n moment q body turn.outcome r) holds.keeper.end here;
     }
 
-pub answered_steps : (w : Setting) (before now : Scene) (state after_it : State) (log : Log) (count : ℕ) (old read : List ℕ) (q : Request) (start end moment : ℕ) (closing : Bool) (text : List ℕ) (ending : Option SessionEnd)
-    → Holds w.base state log → prepend_known read now.input ≡ prepend_known old before.input
-    → IfSome (prepend_known old before.input) (λ stream. StandsAtFront stream (arrivals.Request q start end)) → start ≤ end → end ≤ length read
+answered_steps : (w : Setting) (before now : Scene) (state after_it : State) (log : Log) (count : ℕ) (old pending : List ℕ) (q : Request) (body : List ℕ) (moment : ℕ) (closing : Bool) (text : List ℕ) (ending : Option SessionEnd)
+    → Holds w.base state log → IfSome (prepend_known old before.input) (Tells (arrivals.Request q) body pending now.input)
     → closing ≡ closes count (Ok q) → IsNow w.told moment
-    → IsAnswerText w.base.growth w.base.room state after_it moment q (slice_range read start end) closing text
+    → IsAnswerText w.base.growth w.base.room state after_it moment q body closing text
     → Replies before.output now.output text closing ending
-    → Exchanges w log count before old now (drop end read) after_it ending
-answered_steps w before now state after_it log count old read q start end moment closing text ending holds stream told low high is is_now a sent =
+    → Exchanges w log count before old now pending after_it ending
+answered_steps w before now state after_it log count old pending q body moment closing text ending holds told is is_now a sent =
     let r : Reply = a.0 in
     let turn = a.1 in
     let o : Outcome = turn.outcome in
@@ -158,10 +148,11 @@ answered_steps w before now state after_it log count old read q start end moment
       log ++ items_of w.by o,
       since_more w.base w.by state after_it log o holds turn.follows,
       λ first p same counted at.
-          replied w first before now (log ++ items_of w.by o) old (drop end read) p (asked q (slice_range p.left start end) (drop end p.left) log moment o r) closing ending
+          let came = told_of (Tells (arrivals.Request q) body pending now.input) (prepend_known old before.input) p.left at.input told tt in
+          replied w first before now (log ++ items_of w.by o) old pending p (asked q body came.0 log moment o r) closing ending
           (is ∙ ap (λ (n : ℕ). closes n (Ok q)) (sym counted))
-          (exchange_of w first before now state after_it log old read p q start end moment r turn holds same at stream told low high is_now)
-          refl at (taken_off read now.input p.left end (stream ∙ at.input) high) reply,
+          (exchange_of w first before state after_it log old p q body came.0 moment r turn holds same at came.1 is_now)
+          refl at (λ _. came.2) reply,
     )
 
 -- out of memory: the other side was told so
@@ -187,25 +178,24 @@ memory_steps w before now state after_it log count old pending ending holds stil
   }),
 )
 
-pub unanswered_steps : (w : Setting) (before now : Scene) (state after_it : State) (log : Log) (count : ℕ) (old read pending : List ℕ) (q : Request) (start end moment : ℕ) (ending : Option SessionEnd)
-    → Holds w.base state log → prepend_known read now.input ≡ prepend_known old before.input
-    → IfSome (prepend_known old before.input) (λ stream. StandsAtFront stream (arrivals.Request q start end)) → start ≤ end → end ≤ length read → IsNow w.told moment
-    → IsUnanswered w.base.growth w.base.room state after_it moment q (slice_range read start end) → GivesUp before.output now.output ending
+unanswered_steps : (w : Setting) (before now : Scene) (state after_it : State) (log : Log) (count : ℕ) (old pending : List ℕ) (q : Request) (body : List ℕ) (moment : ℕ) (ending : Option SessionEnd)
+    → Holds w.base state log → IfSome (prepend_known old before.input) (Tells (arrivals.Request q) body pending now.input) → IsNow w.told moment
+    → IsUnanswered w.base.growth w.base.room state after_it moment q body → GivesUp before.output now.output ending
     → Exchanges w log count before old now pending after_it ending
-unanswered_steps w before now state after_it log count old read pending q start end moment ending holds stream told low high is_now (inl still) gives =
+unanswered_steps w before now state after_it log count old pending q body moment ending holds told is_now (inl still) gives =
     memory_steps w before now state after_it log count old pending ending holds still gives
-unanswered_steps w before now state after_it log count old read pending q start end moment ending holds stream told low high is_now (inr a) gives =
+unanswered_steps w before now state after_it log count old pending q body moment ending holds told is_now (inr a) gives =
     let o : Outcome = Failed a.0 in
     let r : Reply = refused KeeperFault in
-    let turn : IsTurn w.base.growth w.base.room state after_it moment q (slice_range read start end) r = record { outcome = o; reply = a.1; follows = a.2 } in (
+    let turn : IsTurn w.base.growth w.base.room state after_it moment q body r = record { outcome = o; reply = a.1; follows = a.2 } in (
       log ++ items_of w.by o,
       since_more w.base w.by state after_it log o holds a.2,
       λ first p same counted at.
-          let x = asked q (slice_range p.left start end) (drop end p.left) log moment o r in
+          let came = told_of (Tells (arrivals.Request q) body pending now.input) (prepend_known old before.input) p.left at.input told tt in
           given_up w first before now (log ++ items_of w.by o) old pending p ending at gives (λ text. record {
-            more = Some x;
+            more = Some (asked q body came.0 log moment o r);
             open_yet = at.open_yet;
-            next = (exchange_of w first before now state after_it log old read p q start end moment r turn holds same at stream told low high is_now, refl);
+            next = (exchange_of w first before state after_it log old p q body came.0 moment r turn holds same at came.1 is_now, refl);
             later = goes_here w.by (log ++ items_of w.by o);
             told = text;
           }),
@@ -216,12 +206,11 @@ unanswered_steps w before now state after_it log count old read pending q start 
 abbrev turned_away : Refusal → List ℕ → Log → ℕ → Exchange
 turned_away e rest log moment = record { arrived = Err e; body = []; rest = rest; log = log; moment = moment; outcome = NoEntry; reply = refused e }
 
-pub refusal_steps : (w : Setting) (before now : Scene) (state : State) (log : Log) (count : ℕ) (old pending : List ℕ) (e : Refusal) (moment : ℕ) (text : List ℕ) (ending : Option SessionEnd)
-    → Holds w.base state log → prepend_known pending now.input ≡ prepend_known old before.input
-    → IfSome (prepend_known old before.input) (λ stream. StandsAtFront stream (arrivals.Refused e)) → IsNow w.told moment
+refusal_steps : (w : Setting) (before now : Scene) (state : State) (log : Log) (count : ℕ) (old body pending : List ℕ) (e : Refusal) (moment : ℕ) (text : List ℕ) (ending : Option SessionEnd)
+    → Holds w.base state log → IfSome (prepend_known old before.input) (Tells (arrivals.Refused e) body pending now.input) → IsNow w.told moment
     → text ≡ reply_text moment false true (refused e) → Replies before.output now.output text true ending
     → Exchanges w log count before old now pending state ending
-refusal_steps w before now state log count old pending e moment text ending holds stream told is_now is sent =
+refusal_steps w before now state log count old body pending e moment text ending holds told is_now is sent =
     let reply = subst (λ (t : List ℕ). Replies before.output now.output t true ending) is sent in (
       log ++ items_of w.by NoEntry,
       since_more w.base w.by state state log NoEntry holds (unchanged w.base.growth state state refl refl refl refl refl),
@@ -229,52 +218,52 @@ refusal_steps w before now state log count old pending e moment text ending hold
           replied w first before now (log ++ items_of w.by NoEntry) old pending p (turned_away e p.left log moment) true ending refl
           (record {
             open_yet = at.open_yet;
-            arrival = (told_of (λ bytes. StandsAtFront bytes (arrivals.Refused e)) (prepend_known old before.input) p.left at.input told, refl, refl);
+            arrival = ((told_of (Tells (arrivals.Refused e) body pending now.input) (prepend_known old before.input) p.left at.input told tt).1, refl, refl);
             now = is_now;
             later = goes_to w.by p.log log same;
             reply = (refl, refl);
           })
-          refl at (stream ∙ at.input) reply,
+          refl at (λ _. cc) reply,
     )
 
 -- ---- nothing more is to be answered, and nothing was sent
 
-pub end_steps : (w : Setting) (before now : Scene) (state : State) (log : Log) (count : ℕ) (old pending : List ℕ) → Holds w.base state log
-    → IfSome (prepend_known old before.input) (λ stream. StandsAtFront stream arrivals.End) → now.output ≡ before.output
+pub end_steps : (w : Setting) (before now : Scene) (state : State) (log : Log) (count : ℕ) (old body pending : List ℕ) → Holds w.base state log
+    → IfSome (prepend_known old before.input) (Tells arrivals.End body pending now.input) → now.output ≡ before.output
     → Exchanges w log count before old now pending state (Some ends.End)
-end_steps w before now state log count old pending holds told quiet = (
+end_steps w before now state log count old body pending holds told quiet = (
   log,
   since_here w.base w.by state log holds,
   λ first p same counted at. (
     at.open_yet,
-    told_of (λ bytes. StandsAtFront bytes arrivals.End) (prepend_known old before.input) p.left at.input told,
+    (told_of (Tells arrivals.End body pending now.input) (prepend_known old before.input) p.left at.input told tt).1,
     record { written = writes_still first before.output now.output p.written at.written quiet; later = goes_to w.by p.log log same },
   ),
 )
 
-pub cut_steps : (w : Setting) (before now : Scene) (state : State) (log : Log) (count : ℕ) (old pending : List ℕ) → Holds w.base state log
-    → IfSome (prepend_known old before.input) (λ stream. StandsAtFront stream arrivals.CutShort) → now.output ≡ before.output
+pub cut_steps : (w : Setting) (before now : Scene) (state : State) (log : Log) (count : ℕ) (old body pending : List ℕ) → Holds w.base state log
+    → IfSome (prepend_known old before.input) (Tells arrivals.CutShort body pending now.input) → now.output ≡ before.output
     → Exchanges w log count before old now pending state (Some ends.CutShort)
-cut_steps w before now state log count old pending holds told quiet = (
+cut_steps w before now state log count old body pending holds told quiet = (
   log,
   since_here w.base w.by state log holds,
   λ first p same counted at. (
-    (at.open_yet, told_of (λ bytes. StandsAtFront bytes arrivals.CutShort) (prepend_known old before.input) p.left at.input told),
+    (at.open_yet, (told_of (Tells arrivals.CutShort body pending now.input) (prepend_known old before.input) p.left at.input told tt).1),
     record { written = writes_still first before.output now.output p.written at.written quiet; later = goes_to w.by p.log log same },
   ),
 )
 
-pub fault_steps : (w : Setting) (before now : Scene) (state : State) (log : Log) (count : ℕ) (old pending : List ℕ) → Holds w.base state log
-    → prepend_known pending now.input ≡ prepend_known old before.input → LacksRequest HEAD_LIMIT MOST_FIELDS pending → now.output ≡ before.output
+pub fault_steps : (w : Setting) (before now : Scene) (state : State) (log : Log) (count : ℕ) (old more pending : List ℕ) → Holds w.base state log
+    → Consumes before.input now.input more → LacksRequest HEAD_LIMIT MOST_FIELDS (old ++ more) → now.output ≡ before.output
     → Exchanges w log count before old now pending state (Some ends.ReadFault)
-fault_steps w before now state log count old pending holds stream lacks quiet = (
+fault_steps w before now state log count old more pending holds taken lacks quiet = (
   log,
   since_here w.base w.by state log holds,
   λ first p same counted at. record {
-    pending = pending;
+    taken = old ++ more;
     at = record {
       open_yet = at.open_yet;
-      input = stream ∙ at.input;
+      input = taken_since old more before.input now.input p.left taken at.input;
       written = writes_still first before.output now.output p.written at.written quiet;
     };
     lacks = lacks;
@@ -284,28 +273,27 @@ fault_steps w before now state log count old pending holds stream lacks quiet = 
 
 -- ---- with a text, or without memory for one
 
-pub request_steps : {A E : Type 0} (w : Setting) (before now : Scene) (state after_it : State) (log : Log) (count : ℕ) (old read : List ℕ) (q : Request) (start end moment : ℕ) (closing : Bool)
-    (text : Result (Vec ℕ A) E) (ending : Option SessionEnd) → Holds w.base state log → prepend_known read now.input ≡ prepend_known old before.input
-    → IfSome (prepend_known old before.input) (λ stream. StandsAtFront stream (arrivals.Request q start end)) → start ≤ end → end ≤ length read
-    → closing ≡ closes count (Ok q) → IsNow w.told moment
-    → IfOk text (λ t. IsAnswerText w.base.growth w.base.room state after_it moment q (slice_range read start end) closing t.items)
-    → OnErr text (IsUnanswered w.base.growth w.base.room state after_it moment q (slice_range read start end))
+pub request_steps : {A E : Type 0} (w : Setting) (before now : Scene) (state after_it : State) (log : Log) (count : ℕ) (old pending : List ℕ) (q : Request) (body : List ℕ) (moment : ℕ) (closing : Bool)
+    (text : Result (Vec ℕ A) E) (ending : Option SessionEnd) → Holds w.base state log
+    → IfSome (prepend_known old before.input) (Tells (arrivals.Request q) body pending now.input) → closing ≡ closes count (Ok q) → IsNow w.told moment
+    → IfOk text (λ t. IsAnswerText w.base.growth w.base.room state after_it moment q body closing t.items)
+    → OnErr text (IsUnanswered w.base.growth w.base.room state after_it moment q body)
     → MatchResult text (λ t. Replies before.output now.output t.items closing ending) (λ _. GivesUp before.output now.output ending)
-    → Exchanges w log count before old now (drop end read) after_it ending
-request_steps w before now state after_it log count old read q start end moment closing (Ok t) ending holds stream told low high is is_now a u sent =
-    answered_steps w before now state after_it log count old read q start end moment closing t.items ending holds stream told low high is is_now a sent
-request_steps w before now state after_it log count old read q start end moment closing (Err e) ending holds stream told low high is is_now a u gives =
-    unanswered_steps w before now state after_it log count old read (drop end read) q start end moment ending holds stream told low high is_now u gives
+    → Exchanges w log count before old now pending after_it ending
+request_steps w before now state after_it log count old pending q body moment closing (Ok t) ending holds told is is_now a u sent =
+    answered_steps w before now state after_it log count old pending q body moment closing t.items ending holds told is is_now a sent
+request_steps w before now state after_it log count old pending q body moment closing (Err e) ending holds told is is_now a u gives =
+    unanswered_steps w before now state after_it log count old pending q body moment ending holds told is_now u gives
 
-pub refused_steps : {A E : Type 0} (w : Setting) (before now : Scene) (state : State) (log : Log) (count : ℕ) (old pending : List ℕ) (e : Refusal) (moment : ℕ)
-    (text : Result (Vec ℕ A) E) (ending : Option SessionEnd) → Holds w.base state log → prepend_known pending now.input ≡ prepend_known old before.input
-    → IfSome (prepend_known old before.input) (λ stream. StandsAtFront stream (arrivals.Refused e)) → IsNow w.told moment
+pub refused_steps : {A E : Type 0} (w : Setting) (before now : Scene) (state : State) (log : Log) (count : ℕ) (old body pending : List ℕ) (e : Refusal) (moment : ℕ)
+    (text : Result (Vec ℕ A) E) (ending : Option SessionEnd) → Holds w.base state log
+    → IfSome (prepend_known old before.input) (Tells (arrivals.Refused e) body pending now.input) → IsNow w.told moment
     → IfOk text (λ t. t.items ≡ reply_text moment false true (refused e))
     → MatchResult text (λ t. Replies before.output now.output t.items true ending) (λ _. GivesUp before.output now.output ending)
     → Exchanges w log count before old now pending state ending
-refused_steps w before now state log count old pending e moment (Ok t) ending holds stream told is_now is sent =
-    refusal_steps w before now state log count old pending e moment t.items ending holds stream told is_now is sent
-refused_steps w before now state log count old pending e moment (Err x) ending holds stream told is_now is gives =
+refused_steps w before now state log count old body pending e moment (Ok t) ending holds told is_now is sent =
+    refusal_steps w before now state log count old body pending e moment t.items ending holds told is_now is sent
+refused_steps w before now state log count old body pending e moment (Err x) ending holds told is_now is gives =
     memory_steps w before now state state log count old pending ending holds (unchanged w.base.growth state state refl refl refl refl refl) gives
 
 pub no_memory_steps : (w : Setting) (before now : Scene) (state : State) (log : Log) (count : ℕ) (old pending : List ℕ) (ending : Option SessionEnd)

@@ -1,16 +1,62 @@
 -- The arguments that the program takes.
 use Rattle.std.specs.Prelude.{ℕ, Bool, not, ◌&&◌, nat_eq, List, [], ◌∷◌, codes, bytes_eq, Option, Some, None, if◌then◌else◌}
-use Rattle.std.specs.List.{starts_with}
+use Rattle.std.specs.List.{starts_with, list_any}
 use Rattle.fedi_program.specs.declared.commands.Command.{Command}
-use Rattle.fedi_program.specs.declared.commands.Command.TheVariants.{Usage, Inetd}
+use Rattle.fedi_program.specs.declared.commands.Command.TheVariants as commands
+
+-- What the program is asked to do: to print its usage, to serve one connection, or to make a member of this name, who is
+-- locked or not.
+pub data Task : Type 0 where
+  Usage : Task
+  Inetd : Task
+  AddActor : List ℕ → Bool → Task
+
+-- the task of a command, without its references
+abbrev pub task_of : Command → Task
+task_of commands.Usage = Usage
+task_of commands.Inetd = Inetd
+task_of (commands.AddActor name locked) = AddActor name.now locked
 
 -- an argument that begins with `-` is no position
 abbrev pub is_position : List ℕ → Bool
 is_position argument = not (starts_with nat_eq argument (codes "-"))
 
--- the command that the arguments give, if they are accepted
-abbrev pub command_of : List (List ℕ) → Option Command
-command_of [] = None
-command_of (name ∷ []) = if bytes_eq name (codes "usage") then Some Usage else None
-command_of (name ∷ store ∷ []) = if bytes_eq name (codes "inetd") && is_position store then Some Inetd else None
-command_of (name ∷ store ∷ other ∷ others) = None
+-- the flag of `add-actor`
+abbrev pub is_locked_flag : List ℕ → Bool
+is_locked_flag argument = bytes_eq argument (codes "--locked")
+
+-- the arguments without the first flag among them
+abbrev pub without_flag : List (List ℕ) → List (List ℕ)
+without_flag [] = []
+without_flag (argument ∷ arguments) = if is_locked_flag argument then arguments else argument ∷ without_flag arguments
+
+-- what `add-actor` is to do with these positions, a store and a name, where the flag stands or not
+abbrev pub add_actor_at : List (List ℕ) → Bool → Option Task
+add_actor_at [] locked = None
+add_actor_at (store ∷ []) locked = None
+add_actor_at (store ∷ name ∷ []) locked = if is_position store && is_position name then Some (AddActor name locked) else None
+add_actor_at (store ∷ name ∷ other ∷ others) locked = None
+
+-- what `add-actor` is to do with these arguments: its flag stands anywhere among them, once at most, since another one would
+-- be no position
+abbrev pub add_actor_with : List (List ℕ) → Option Task
+add_actor_with arguments = add_actor_at (without_flag arguments) (list_any is_locked_flag arguments)
+
+-- what `inetd` is to do with these arguments
+abbrev pub inetd_with : List (List ℕ) → Option Task
+inetd_with [] = None
+inetd_with (store ∷ []) = if is_position store then Some Inetd else None
+inetd_with (store ∷ other ∷ others) = None
+
+-- what `usage` is to do with these arguments
+abbrev pub usage_with : List (List ℕ) → Option Task
+usage_with [] = Some Usage
+usage_with (argument ∷ arguments) = None
+
+-- what the arguments ask for, if they are accepted
+abbrev pub task_in : List (List ℕ) → Option Task
+task_in [] = None
+task_in (name ∷ arguments) =
+    if bytes_eq name (codes "usage") then usage_with arguments else (
+    if bytes_eq name (codes "inetd") then inetd_with arguments else (
+    if bytes_eq name (codes "add-actor") then add_actor_with arguments else None))

@@ -1,7 +1,7 @@
 -- What a connection reads and writes, request by request (RFC 9112, sections 2.2, 9.3 and 9.6), over a log that others may
 -- add to as well.
-use Rattle.std.specs.Prelude.{◌≡◌, ◌⊎◌, ℕ, ◌+◌, ◌-◌, ◌≤◌, min, nat_le, Bool, false, true, not, ◌||◌, List, [], ◌∷◌, ◌++◌, length, drop, Option, Some, None, Result, Ok, Err}
-use Rattle.std.specs.List.{flat_map, fold, slice_range}
+use Rattle.std.specs.Prelude.{◌≡◌, ◌⊎◌, ℕ, ◌+◌, ◌-◌, ◌≤◌, min, nat_le, Bool, false, true, not, ◌||◌, List, [], ◌∷◌, ◌++◌, length, Option, Some, None, Result, Ok, Err}
+use Rattle.std.specs.List.{flat_map, fold}
 use Rattle.fedi_town.specs.declared.refusal.Refusal.{Refusal}
 use Rattle.fedi_town.specs.declared.refusal.Refusal.TheVariants.{JournalFull, KeeperFault}
 use Rattle.fedi_entry.specs.Codes.{code_of}
@@ -86,14 +86,13 @@ abbrev pub IsAnswered : Base → Log → ℕ → Result Request Refusal → List
 IsAnswered b log moment (Ok q) body outcome given = IsReply b.room (history_of log) (end_of b log) moment q body outcome given
 IsAnswered b log moment (Err e) body outcome given = (outcome ≡ NoEntry) × (given ≡ refused e)
 
--- this stands at the front of the input that is left
+-- this stands at the front of the input that is left, and no request
 abbrev pub StandsAtFront : List ℕ → Arrived → Type 0
-StandsAtFront left arrived = IsArrival HEAD_LIMIT MOST_FIELDS left arrived
+StandsAtFront left arrived = IsArrival HEAD_LIMIT MOST_FIELDS left arrived [] []
 
 -- a request with this body stands there, with this behind it, or what is refused: nothing is looked at behind that
 abbrev pub Arrives : List ℕ → Result Request Refusal → List ℕ → List ℕ → Type 0
-Arrives left (Ok q) body rest =
-    (start : ℕ) × (end : ℕ) × StandsAtFront left (arrivals.Request q start end) × (body ≡ slice_range left start end) × (rest ≡ drop end left)
+Arrives left (Ok q) body rest = IsArrival HEAD_LIMIT MOST_FIELDS left (arrivals.Request q) body rest
 Arrives left (Err e) body rest = StandsAtFront left (arrivals.Refused e) × (body ≡ []) × (rest ≡ left)
 
 -- the next exchange, on a connection that is open: it is answered at a log that goes on from the one that was seen
@@ -110,7 +109,7 @@ pub record IsExchange (w : Setting) (p : Progress) (x : Exchange) : Type 0 where
 abbrev pub most_requests : ℕ
 most_requests = 1000
 
--- what asks to close the connection, and what is refused, is the last on it (RFC 9112, section 9.6)
+-- what asks to close the connection, as HTTP/1.0 always does, and what is refused, is the last on it (RFC 9112, sections 9.3 and 9.6)
 abbrev pub ends_by : Result Request Refusal → Bool
 ends_by (Ok q) = not q.keep_alive
 ends_by (Err e) = true
@@ -119,9 +118,14 @@ ends_by (Err e) = true
 abbrev pub closes : ℕ → Result Request Refusal → Bool
 closes count arrived = ends_by arrived || nat_le (most_requests - 1) count
 
+-- the reply has no body: its request asks for none (RFC 9110, section 9.3.2); what is refused as no request is told why in full
+abbrev pub is_head_only : Result Request Refusal → Bool
+is_head_only (Ok q) = q.head_only
+is_head_only (Err e) = false
+
 -- the text that is written
 abbrev pub text_of : ℕ → Exchange → List ℕ
-text_of count x = reply_text x.moment false (closes count x.arrived) x.reply
+text_of count x = reply_text x.moment (is_head_only x.arrived) (closes count x.arrived) x.reply
 
 -- the progress after one more exchange
 abbrev pub after : Setting → Progress → Exchange → Progress

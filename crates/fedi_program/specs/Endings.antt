@@ -95,7 +95,7 @@ pub record IsTurn (growth room : ℕ → ℕ) (before after : State) (moment : �
 -- the text is that of the reply of one turn
 abbrev pub IsAnswerText : (ℕ → ℕ) → (ℕ → ℕ) → State → State → ℕ → Request → List ℕ → Bool → List ℕ → Type 0
 IsAnswerText growth room before after moment q body closing text =
-    (r : Reply) × IsTurn growth room before after moment q body r × (text ≡ reply_text moment false closing r)
+    (r : Reply) × IsTurn growth room before after moment q body r × (text ≡ reply_text moment q.head_only closing r)
 
 -- out of memory: nothing was kept, since there was no turn, or since the keeper failed and the reply that tells so found no
 -- memory for its text
@@ -106,7 +106,7 @@ IsUnanswered growth room before after moment q body =
 
 -- ---- how a session ends
 
--- the connection is open after this progress, and these bytes of the input are pending
+-- the connection is open after this progress, and these bytes were read of the input that is left
 pub record IsAt (first : Output) (now : Scene) (pending : List ℕ) (p : Progress) : Type 0 where
   pub open_yet : p.closed ≡ false
   pub input : prepend_known pending now.input ≡ Some p.left
@@ -127,11 +127,11 @@ abbrev pub after_maybe : Setting → Progress → Option Exchange → Progress
 after_maybe w p None = p
 after_maybe w p (Some x) = after w p x
 
--- a read failed, and no request and no refusal stands in the bytes that were read
+-- a read failed, and no request and no refusal stands in the bytes that were read since the last one
 pub record IsUnread (w : Setting) (first : Output) (now : Scene) (log : Log) (p : Progress) : Type 0 where
-  pub pending : List ℕ
-  pub at : IsAt first now pending p
-  pub lacks : LacksRequest HEAD_LIMIT MOST_FIELDS pending
+  pub taken : List ℕ
+  pub at : IsAt first now taken p
+  pub lacks : LacksRequest HEAD_LIMIT MOST_FIELDS taken
   pub later : Goes w.by p.log log
 
 -- a reply was begun, and a write failed

@@ -1,4 +1,6 @@
 pub mod Commands
 pub mod Conversations
 pub mod Endings
+pub mod Members
+pub mod Runs
 pub mod Usage

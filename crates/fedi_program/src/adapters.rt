@@ -1,12 +1,15 @@
-//! The real input, output and clock. What they hold is told as far as std tells it.
+//! The real input, output, clock and source of random bytes. What they hold is told as far as std tells
+//! it.
 
 ghost use Rattle.std.specs.Prelude.{◌≡◌, ◌<◌, ℕ, None, IfOk, is_some, length};
 ghost use Rattle.std.specs.Io.{ReadsAtMost, WritesAtMost};
 ghost use Rattle.std.specs.Io.KnownBytes.{ReadConsumes, WriteAppends};
 ghost use Rattle.fedi_outside.specs.Causes.{HasCause};
 
-use fedi_outside::{Clock, Failed, Sink, Source};
-use std::io::{Read, Write};
+use fedi_outside::{Clock, Entropy, Failed, Sink, Source};
+use std::fs::File;
+use std::io::{self, Read, Write};
+use std::rt::Files;
 use std::time::{SystemTime, UNIX_EPOCH};
 
 /// A reader of std as a source: each error is a counted fault.
@@ -116,6 +119,59 @@ impl<R: std::rt::Clock> Clock for SystemClock<'_, R> {
         match now.duration_since(UNIX_EPOCH) {
             Ok(since) => since.as_secs(),
             Err(_) => 0,
+        }
+    }
+}
+
+/// The system's source of random bytes, `/dev/urandom`, which is opened at the first draw. A draw that
+/// does not give all its bytes is a counted fault.
+#[derive(Drop)]
+pub struct SystemEntropy<'a, R: Files> {
+    rt: &'a R,
+    file: Option<R::File>,
+    faults: u64,
+}
+
+impl<'a, R: Files> SystemEntropy<'a, R> {
+    /// The source of this runtime, with no fault so far.
+    pub fn new(rt: &'a R) -> Self
+        ensures { result.faults ≡ 0 }
+    {
+        SystemEntropy {
+            rt,
+            file: None,
+            faults: 0,
+        }
+    }
+
+    // Reads into the bytes, and returns how many it gave.
+    fn read(&mut self, into: &mut [u8; 32]) -> io::Result<usize>
+        ensures { self.new.faults ≡ self.old.faults }
+    {
+        let mut file = match self.file.take() {
+            Some(file) => file,
+            None => File::open(self.rt, "/dev/urandom")?,
+        };
+        let count = file.read(into);
+        self.file = Some(file);
+        count
+    }
+}
+
+impl<R: Files> Entropy for SystemEntropy<'_, R> {
+    ghost next = { λ _. None };
+
+    ghost faults = { λ s. s.faults };
+
+    fn fill(&mut self, into: &mut [u8; 32]) -> Result<(), Failed>
+        ensures { HasCause self.old.faults self.new.faults result }
+    {
+        match self.read(into) {
+            Ok(32) => Ok(()),
+            _ => {
+                self.faults = self.faults.saturating_add(1);
+                Err(Failed)
+            }
         }
     }
 }

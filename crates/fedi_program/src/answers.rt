@@ -1,6 +1,6 @@
 //! The answer to a request.
 
-ghost use Rattle.std.specs.Prelude.{◌≡◌, IfOk, OnErr, false};
+ghost use Rattle.std.specs.Prelude.{◌≡◌, IfOk, OnErr};
 ghost use Rattle.fedi_log.specs.Keeping.{state_of};
 ghost use Rattle.fedi_model.specs.Refusing.{refused};
 ghost use Rattle.fedi_model.specs.ReplyText.{reply_text};
@@ -14,23 +14,24 @@ use fedi_routes::{credentials, route};
 use fedi_text::Moment;
 use std::alloc::{AllocError, Global};
 
-/// The text of the reply that tells a refusal; the connection is told to close if `closing`. The
-/// error is out of memory.
+/// The text of the reply that tells a refusal, without its body if `head_only`; the connection is told
+/// to close if `closing`. The error is out of memory.
 pub fn refusal_text(
     alloc: Global,
     refusal: Refusal,
     moment: Moment,
+    head_only: bool,
     closing: bool,
 ) -> Result<Vec<u8>, AllocError>
     ensures { IfOk result (λ text.
-        text.items ≡ reply_text moment false closing (refused refusal)) }
+        text.items ≡ reply_text moment head_only closing (refused refusal)) }
 {
-    reply_bytes(alloc, &refusal_reply(refusal), moment, false, closing)
+    reply_bytes(alloc, &refusal_reply(refusal), moment, head_only, closing)
 }
 
 /// Answers a request that has this body in one turn of the machine, and hands back the text of the
-/// reply; the connection is told to close if `closing`. The reply to a post is made before the post
-/// is kept. The error is out of memory, and then nothing was kept.
+/// reply, which has no body if the method is HEAD; the connection is told to close if `closing`. The
+/// reply to a post is made before the post is kept. The error is out of memory, and then nothing was kept.
 pub fn answer<P: Keeper>(
     alloc: Global,
     core: &mut Core<P>,
@@ -48,21 +49,22 @@ pub fn answer<P: Keeper>(
         (state_of core.new.history (P.shown core.new.keeper))
         moment request.now body.now) }
 {
+    let head_only = request.head_only;
     let caller = match core.caller_of(&credentials(request, body)) {
         Ok(caller) => caller,
-        Err(refusal) => return refusal_text(alloc, refusal, moment, closing),
+        Err(refusal) => return refusal_text(alloc, refusal, moment, head_only, closing),
     };
     let ask = route(alloc, request, body)?;
     let Decision { reply, entry } = core.decide(alloc, &caller, ask, moment)?;
-    let text = reply_bytes(alloc, &reply, moment, false, closing)?;
+    let text = reply_bytes(alloc, &reply, moment, head_only, closing)?;
     let Some(entry) = entry else {
         return Ok(text);
     };
     match core.keep(alloc, entry) {
         Ok(()) => Ok(text),
         Err(KeepError { fault, .. }) => match fault {
-            KeepFault::Full => refusal_text(alloc, Refusal::JournalFull, moment, closing),
-            KeepFault::Failed => refusal_text(alloc, Refusal::KeeperFault, moment, closing),
+            KeepFault::Full => refusal_text(alloc, Refusal::JournalFull, moment, head_only, closing),
+            KeepFault::Failed => refusal_text(alloc, Refusal::KeeperFault, moment, head_only, closing),
             KeepFault::Memory => Err(AllocError),
         },
     }

@@ -1,15 +1,22 @@
 //! The arguments of the program.
 
-ghost use Rattle.std.specs.Prelude.{◌≡◌, map, string_bytes};
-ghost use Rattle.fedi_program.specs.Commands.{command_of, is_position};
+ghost use Rattle.std.specs.Prelude.{◌≡◌, ◌∷◌, [], map, option_map, string_bytes};
+ghost use Rattle.fedi_program.specs.Commands.{add_actor_at, add_actor_with, inetd_with, is_locked_flag, is_position, task_in, task_of, usage_with};
 
 /// What the program is asked to do.
 #[derive(Clone, Copy, Debug)]
-pub enum Command {
-    /// Prints the arguments that the program takes.
+pub enum Command<'a> {
+    /// To print the arguments that the program takes.
     Usage,
-    /// Answers one request on the input.
+    /// To serve one connection on the input.
     Inetd,
+    /// To make a member of this name.
+    AddActor {
+        /// The name.
+        name: &'a str,
+        /// Whether Follows of the member wait for an answer.
+        locked: bool,
+    },
 }
 
 fn is_position(argument: &str) -> bool
@@ -18,15 +25,90 @@ fn is_position(argument: &str) -> bool
     !argument.as_bytes().starts_with(b"-")
 }
 
-/// The command that the arguments give, or none if they are not accepted.
-pub fn command_of(arguments: &[String]) -> Option<Command>
-    ensures { result ≡ command_of (map string_bytes arguments.now) }
+fn is_locked_flag(argument: &str) -> bool
+    ensures { result ≡ is_locked_flag argument.now }
+{
+    argument == "--locked"
+}
+
+// The making of a member of this name, if the store and the name are positions.
+fn member_at<'a>(store: &str, name: &'a str, locked: bool) -> Option<Command<'a>>
+    ensures { option_map task_of result ≡ add_actor_at (store.now ∷ name.now ∷ []) locked }
+{
+    if is_position(store) && is_position(name) {
+        Some(Command::AddActor { name, locked })
+    } else {
+        None
+    }
+}
+
+// What `add-actor` is to do with three arguments, one of which has to be its flag.
+fn flagged_member<'a>(first: &'a str, second: &'a str, third: &'a str) -> Option<Command<'a>>
+    ensures { option_map task_of result
+        ≡ add_actor_with (first.now ∷ second.now ∷ third.now ∷ []) }
+{
+    if is_locked_flag(first) {
+        member_at(second, third, true)
+    } else if is_locked_flag(second) {
+        member_at(first, third, true)
+    } else if is_locked_flag(third) {
+        member_at(first, second, true)
+    } else {
+        None
+    }
+}
+
+// What `add-actor` is to do with these arguments: a store, a name, and its flag once at most,
+// anywhere among them.
+#[tactic(auto, using(crate::proofs::WordLemmas::too_few, crate::proofs::WordLemmas::too_many))]
+fn add_actor(arguments: &[String]) -> Option<Command<'_>>
+    ensures { option_map task_of result ≡ add_actor_with (map string_bytes arguments.now) }
+{
+    let count = arguments.len();
+    if count < 2 {
+        return None;
+    }
+    if count > 3 {
+        return None;
+    }
+    let (first, second) = (&arguments[0], &arguments[1]);
+    if count == 2 {
+        member_at(first, second, false)
+    } else {
+        flagged_member(first, second, &arguments[2])
+    }
+}
+
+fn inetd(arguments: &[String]) -> Option<Command<'_>>
+    ensures { option_map task_of result ≡ inetd_with (map string_bytes arguments.now) }
 {
     match arguments {
-        [name] if name.as_str() == "usage" => Some(Command::Usage),
-        [name, store] if name.as_str() == "inetd" && is_position(store.as_str()) => {
-            Some(Command::Inetd)
-        }
+        [store] if is_position(store) => Some(Command::Inetd),
+        _ => None,
+    }
+}
+
+fn usage(arguments: &[String]) -> Option<Command<'_>>
+    ensures { option_map task_of result ≡ usage_with (map string_bytes arguments.now) }
+{
+    match arguments {
+        [] => Some(Command::Usage),
+        _ => None,
+    }
+}
+
+/// The command that the arguments give, or none if they are not accepted: a command's name, then its
+/// positions, of which none begins with `-`, and its flag once at most, anywhere among them.
+pub fn command_of(arguments: &[String]) -> Option<Command<'_>>
+    ensures { option_map task_of result ≡ task_in (map string_bytes arguments.now) }
+{
+    let [name, arguments @ ..] = arguments else {
+        return None;
+    };
+    match name.as_str() {
+        "usage" => usage(arguments),
+        "inetd" => inetd(arguments),
+        "add-actor" => add_actor(arguments),
         _ => None,
     }
 }

@@ -7,11 +7,14 @@ mod answers;
 mod commands;
 mod connection;
 mod laws;
+mod members;
+mod printing;
 mod running;
 mod sessions;
+mod statuses;
 mod usage;
 
-pub use adapters::{Reading, SystemClock, Writing};
+pub use adapters::{Reading, SystemClock, SystemEntropy, Writing};
 pub use answers::answer;
 pub use commands::{Command, command_of};
 pub use connection::Connection;
@@ -19,5 +22,6 @@ pub use laws::{
     conversations_are_determined, conversations_have_no_gaps, conversations_own_their_items,
     conversations_stand_in_the_log, conversations_stay, failures_are_marked,
 };
-pub use running::{Ended, OUT_OF_MEMORY, run};
+pub use running::{Ended, run};
 pub use sessions::{SessionEnd, session};
+pub use statuses::OUT_OF_MEMORY;

@@ -1,41 +1,29 @@
 //! The whole program, over whatever lies outside.
 
-ghost use Rattle.std.specs.Prelude.{◌≡◌, ◌≢◌, ◌↔◌, [], IsTrue, Some, None, map, string_bytes};
+ghost use Rattle.std.specs.Prelude.{◌≡◌, ◌≢◌, ◌↔◌, ℕ, Bool, false, List, [], IsTrue, Some, None, map, string_bytes};
 ghost use Rattle.fedi_log.specs.Keeping.{state_of};
 ghost use Rattle.fedi_log.specs.Log.{given};
-ghost use Rattle.fedi_program.specs.Commands.{command_of};
-ghost use Rattle.fedi_program.specs.Endings.{HasCauses, HoldsALog, Prints, RunsTo, TalksIfTold, WritesUnlessFailed, faults_by, is_status, output_by, scene_by, setting_of, status_of};
+ghost use Rattle.fedi_program.specs.Commands.{AddActor, Inetd, Usage, task_in};
+ghost use Rattle.fedi_program.specs.Endings.{HasCauses, HoldsALog, Prints, RunsTo, TalksIfTold, WritesUnlessFailed, faults_by, output_by, scene_by, setting_of, status_of};
+ghost use Rattle.fedi_program.specs.Members.{MakesMember, chance_by};
+ghost use Rattle.fedi_program.specs.Runs.{is_status_of, may_draw, may_keep};
 ghost use Rattle.fedi_program.specs.Usage.{usage_text};
 ghost use Rattle.fedi_town.specs.Built.{are_built};
 ghost use Rattle.fedi_town.specs.Legal.{IsLegal};
 
 use crate::commands::{Command, command_of};
 use crate::connection::Connection;
+use crate::members::make_member;
+use crate::printing::{print, tell};
 use crate::sessions::{SessionEnd, session};
+use crate::statuses::{
+    CUT_SHORT, DONE, NOT_ACCEPTED, OUT_OF_MEMORY, READ_FAULT, WRITE_FAULT,
+};
 use crate::usage::usage;
 use fedi_core::Core;
-use fedi_http::send;
 use fedi_objects::Entry;
-use fedi_outside::{Clock, Failed, Keeper, Sink, Source};
+use fedi_outside::{Clock, Entropy, Keeper, Sink, Source};
 use std::alloc::Global;
-
-/// The status of a run that did what it was asked.
-const DONE: u8 = 0;
-
-/// The status of a run whose arguments are not accepted.
-const NOT_ACCEPTED: u8 = 2;
-
-/// The status of a run in which a read failed.
-const READ_FAULT: u8 = 6;
-
-/// The status of a run in which a write failed.
-const WRITE_FAULT: u8 = 7;
-
-/// The status of a run whose input ended inside a request.
-const CUT_SHORT: u8 = 8;
-
-/// The status of a run that was out of memory.
-pub const OUT_OF_MEMORY: u8 = 12;
 
 /// How a run ended.
 #[derive(Drop)]
@@ -61,17 +49,6 @@ fn status_of(end: SessionEnd) -> u8
     }
 }
 
-/// Prints the arguments that the program takes.
-fn print_usage<O: Sink>(out: &mut O) -> u8
-    ensures { Prints (output_by O.sent O.write_faults out.old)
-        (output_by O.sent O.write_faults out.new) usage_text result }
-{
-    match send(out, usage().as_bytes()) {
-        Ok(()) => DONE,
-        Err(Failed) => WRITE_FAULT,
-    }
-}
-
 /// Serves the connection.
 fn inetd<S: Source, O: Sink, P: Keeper, C: Clock>(
     alloc: Global,
@@ -92,8 +69,7 @@ fn inetd<S: Source, O: Sink, P: Keeper, C: Clock>(
         (faults_by S.read_faults O.write_faults connection.old.input connection.old.out)
         (faults_by S.read_faults O.write_faults connection.new.input connection.new.out)
         result.status }
-    ensures statuses { IsTrue (is_status result.status) }
-    ensures accepted { result.status ≢ 2 }
+    ensures statuses { IsTrue (is_status_of (Some Inetd) result.status) }
     ensures clock { connection.new.clock ≡ connection.old.clock }
 {
     match Core::open(alloc, history, keeper) {
@@ -114,43 +90,94 @@ fn inetd<S: Source, O: Sink, P: Keeper, C: Clock>(
     }
 }
 
+/// Makes a member.
+fn add_actor<S, O: Sink, P: Keeper, C: Clock, E: Entropy>(
+    alloc: Global,
+    connection: &mut Connection<S, O, C>,
+    history: Vec<Entry>,
+    keeper: P,
+    entropy: &mut E,
+    name: &str,
+    locked: bool,
+) -> Ended<P>
+    requires legal { IsLegal history.items }
+    requires built { IsTrue (are_built history.items) }
+    ensures added { MakesMember P.growth P.room (C.told connection.old.clock)
+        (chance_by E.next E.faults entropy.old) (chance_by E.next E.faults entropy.new)
+        (state_of history.items (P.shown keeper))
+        (state_of result.history.items (P.shown result.keeper))
+        (output_by O.sent O.write_faults connection.old.out)
+        (output_by O.sent O.write_faults connection.new.out) name.now locked result.status }
+    ensures legal { IsLegal result.history.items }
+    ensures built { IsTrue (are_built result.history.items) }
+    ensures input { connection.new.input ≡ connection.old.input }
+    ensures clock { connection.new.clock ≡ connection.old.clock }
+{
+    match Core::open(alloc, history, keeper) {
+        Ok(mut core) => {
+            let (out, clock) = (&mut connection.out, &connection.clock);
+            let status = make_member(alloc, &mut core, out, clock, entropy, name, locked);
+            let (history, keeper) = core.close();
+            Ended {
+                status,
+                history,
+                keeper,
+            }
+        }
+        Err((history, keeper)) => Ended {
+            status: OUT_OF_MEMORY,
+            history,
+            keeper,
+        },
+    }
+}
+
 /// Runs the program on the arguments after its name.
 ///
 /// `usage` prints the arguments that the program takes. `inetd STORE` serves one connection: it
-/// answers the requests on the input one after the other, and keeps what they make. Until stores exist
-/// it begins at the given history, and keeps the entries with the given keeper. Other arguments are
-/// answered with the usage.
+/// answers the requests on the input one after the other, and keeps what they make. `add-actor STORE
+/// NAME` makes a member of this name, whose key is drawn from the entropy, and prints `NAME KEY`, the
+/// key in 64 digits; with `--locked`, which may stand anywhere behind the command, the member answers
+/// each Follow. Until stores exist a run begins at the given history, and keeps the entries with the
+/// given keeper. Other arguments are answered with the usage.
 ///
-/// | Status | When |
-/// |---|---|
-/// | 0 | it is done: the input ended behind the last request, or a reply closed the connection |
-/// | 2 | the arguments are not accepted |
-/// | 6 | a read failed |
-/// | 7 | a write failed |
-/// | 8 | the input ended inside a request |
-/// | 12 | out of memory |
+/// | Status | When | Printed |
+/// |---|---|---|
+/// | 0 | it is done: the input ended behind the last request, or a reply closed the connection; the usage or the member's key was printed | |
+/// | 2 | the arguments are not accepted | the usage |
+/// | 3 | the history has no host, so that there is no server to make a member of | `not a store` |
+/// | 5 | the keeper failed to keep the member | `disk fault` |
+/// | 6 | a read failed, or no key could be drawn | nothing more |
+/// | 7 | a write failed; a member that was to be made was | |
+/// | 8 | the input ended inside a request | |
+/// | 10 | the name is none, or a member has it or the key | `refused: bad name`, `refused: name taken`, `refused: key taken` |
+/// | 12 | out of memory | |
+/// | 13 | the keeper has no room for the member | `full` |
 ///
-/// The history comes back with the entries that were made, and the keeper with their records.
-pub fn run<S: Source, O: Sink, P: Keeper, C: Clock>(
+/// A status other than 0 stays if its text cannot be written. The history comes back with the entries
+/// that were made, and the keeper with their records.
+pub fn run<S: Source, O: Sink, P: Keeper, C: Clock, E: Entropy>(
     alloc: Global,
     arguments: &[String],
     connection: &mut Connection<S, O, C>,
     history: Vec<Entry>,
     keeper: P,
+    entropy: &mut E,
 ) -> Ended<P>
     requires legal { IsLegal history.items }
     requires built { IsTrue (are_built history.items) }
 
-    // The status is one of six, and 2 exactly if the arguments are not accepted.
-    ensures statuses { IsTrue (is_status result.status) }
-    ensures arguments { (result.status ≡ 2) ↔ (command_of (map string_bytes arguments.now) ≡ None) }
+    // The status is one that the task may end with, and 2 exactly if the arguments are not accepted.
+    ensures statuses { IsTrue
+        (is_status_of (task_in (map string_bytes arguments.now)) result.status) }
+    ensures arguments { (result.status ≡ 2) ↔ (task_in (map string_bytes arguments.now) ≡ None) }
 
     // At 0 the whole conversation over the input was held: each request has the reply that the
     // machine gives at the history so far, which each history that agrees on what the caller may
     // know gives too, or one that tells of the keeper and has its cause there. What was kept are
     // the entries that were acknowledged.
     ensures talk { let opened = state_of history.items (P.shown keeper) in
-        command_of (map string_bytes arguments.now) ≡ Some Command.Inetd → result.status ≡ 0
+        task_in (map string_bytes arguments.now) ≡ Some Inetd → result.status ≡ 0
         → TalksIfTold (setting_of P.growth P.room (C.told connection.old.clock) opened)
         (given history.items)
         (scene_by S.left O.sent O.write_faults connection.old.input connection.old.out)
@@ -159,14 +186,25 @@ pub fn run<S: Source, O: Sink, P: Keeper, C: Clock>(
 
     // At every other status, too, it is a conversation as far as it went.
     ensures session { let opened = state_of history.items (P.shown keeper) in
-        command_of (map string_bytes arguments.now) ≡ Some Command.Inetd
+        task_in (map string_bytes arguments.now) ≡ Some Inetd
         → RunsTo (setting_of P.growth P.room (C.told connection.old.clock) opened) opened
         (scene_by S.left O.sent O.write_faults connection.old.input connection.old.out)
         (scene_by S.left O.sent O.write_faults connection.new.input connection.new.out)
         (state_of result.history.items (P.shown result.keeper)) result.status }
 
-    // Whatever the input, the history comes back legal, with no entry that is not built, and the
-    // entries that the run made are the records that came to the keeper.
+    // A member is made of the key that was drawn, or the first reason not to is told, and each
+    // reason has its cause: at 6 the draw failed, at 7 a write, and at 5 the keeper.
+    ensures added { (name : List ℕ) (locked : Bool)
+        → task_in (map string_bytes arguments.now) ≡ Some (AddActor name locked)
+        → MakesMember P.growth P.room (C.told connection.old.clock)
+        (chance_by E.next E.faults entropy.old) (chance_by E.next E.faults entropy.new)
+        (state_of history.items (P.shown keeper))
+        (state_of result.history.items (P.shown result.keeper))
+        (output_by O.sent O.write_faults connection.old.out)
+        (output_by O.sent O.write_faults connection.new.out) name locked result.status }
+
+    // Whatever the task and the input, the history comes back legal, with no entry that is not
+    // built, and the entries that the run made are the records that came to the keeper.
     ensures legal { IsLegal result.history.items }
     ensures built { IsTrue (are_built result.history.items) }
     ensures kept { let opened = state_of history.items (P.shown keeper) in
@@ -174,20 +212,26 @@ pub fn run<S: Source, O: Sink, P: Keeper, C: Clock>(
         (given history.items)
         (state_of result.history.items (P.shown result.keeper)) }
 
-    // The usage is printed whole, unless a write failed. Nothing is read, and nothing is kept.
-    ensures usage { command_of (map string_bytes arguments.now) ≡ Some Command.Usage
+    // The usage is printed whole, unless a write failed.
+    ensures usage { task_in (map string_bytes arguments.now) ≡ Some Usage
         → Prints (output_by O.sent O.write_faults connection.old.out)
         (output_by O.sent O.write_faults connection.new.out) usage_text result.status }
     ensures refused { result.status ≡ 2
         → WritesUnlessFailed (output_by O.sent O.write_faults connection.old.out)
         (output_by O.sent O.write_faults connection.new.out) [] usage_text }
-    ensures idle { command_of (map string_bytes arguments.now) ≢ Some Command.Inetd
-        → (connection.new.input ≡ connection.old.input) × (result.history.items ≡ history.items)
-        × (result.keeper ≡ keeper) }
+
+    // Only a connection is read from, only a connection and the making of a member keep anything,
+    // and only the latter draws a key.
+    ensures idle { task_in (map string_bytes arguments.now) ≢ Some Inetd
+        → connection.new.input ≡ connection.old.input }
+    ensures unkept { may_keep (task_in (map string_bytes arguments.now)) ≡ false
+        → (result.history.items ≡ history.items) × (result.keeper ≡ keeper) }
+    ensures undrawn { may_draw (task_in (map string_bytes arguments.now)) ≡ false
+        → entropy.new ≡ entropy.old }
 
     // A failure has its cause outside: the count of failed reads rose exactly at 6, and that of
-    // failed writes at 7.
-    ensures causes { HasCauses
+    // failed writes at 7. (Of the making of a member `added` says so.)
+    ensures causes { may_draw (task_in (map string_bytes arguments.now)) ≡ false → HasCauses
         (faults_by S.read_faults O.write_faults connection.old.input connection.old.out)
         (faults_by S.read_faults O.write_faults connection.new.input connection.new.out)
         result.status }
@@ -195,18 +239,18 @@ pub fn run<S: Source, O: Sink, P: Keeper, C: Clock>(
 {
     match command_of(arguments) {
         Some(Command::Inetd) => inetd(alloc, connection, history, keeper),
+        Some(Command::AddActor { name, locked }) => {
+            add_actor(alloc, connection, history, keeper, entropy, name, locked)
+        }
         Some(Command::Usage) => Ended {
-            status: print_usage(&mut connection.out),
+            status: print(&mut connection.out, usage().as_bytes()),
             history,
             keeper,
         },
-        None => {
-            let _ = print_usage(&mut connection.out);
-            Ended {
-                status: NOT_ACCEPTED,
-                history,
-                keeper,
-            }
-        }
+        None => Ended {
+            status: tell(&mut connection.out, NOT_ACCEPTED, usage().as_bytes()),
+            history,
+            keeper,
+        },
     }
 }

@@ -71,8 +71,8 @@ fn is_last(request: &Request, served: u64) -> bool
     !request.keep_alive || served >= MOST_REQUESTS - 1
 }
 
-/// Reads the next request and answers it, after so many were served. The bytes that it takes leave
-/// what is pending. The answer is how the session ends, if it does.
+/// Reads the next request and answers it, after so many were served. What is behind it stays pending.
+/// The answer is how the session ends, if it does.
 fn exchange<S: Source, O: Sink, P: Keeper, C: Clock>(
     alloc: Global,
     core: &mut Core<P>,
@@ -86,9 +86,9 @@ fn exchange<S: Source, O: Sink, P: Keeper, C: Clock>(
         (state_of core.old.history (P.shown core.old.keeper)) log
         → Exchanges (setting_of P.growth P.room (C.told connection.old.clock) opened) log served
         (scene_by S.left O.sent O.write_faults connection.old.input connection.old.out)
-        buffer.old
+        buffer.old.pending
         (scene_by S.left O.sent O.write_faults connection.new.input connection.new.out)
-        buffer.new
+        buffer.new.pending
         (state_of core.new.history (P.shown core.new.keeper)) result }
     ensures counted { IsCounted
         (faults_by S.read_faults O.write_faults connection.old.input connection.old.out)
@@ -97,17 +97,15 @@ fn exchange<S: Source, O: Sink, P: Keeper, C: Clock>(
     ensures clock { connection.new.clock ≡ connection.old.clock }
 {
     match read_request(alloc, &mut connection.input, buffer) {
-        Arrived::Request { request, body, end } => {
+        Arrived::Request(request) => {
             let closing = is_last(&request, served);
             let moment = Moment::clamped(connection.clock.now());
-            let body = &buffer.pending()[body..end];
-            let text = answer(alloc, core, &request, body, moment, closing);
-            buffer.take_front(end);
+            let text = answer(alloc, core, &request, buffer.body(), moment, closing);
             send_reply(&mut connection.out, text, closing)
         }
         Arrived::Refused(refusal) => {
             let moment = Moment::clamped(connection.clock.now());
-            let text = refusal_text(alloc, refusal, moment, true);
+            let text = refusal_text(alloc, refusal, moment, false, true);
             send_reply(&mut connection.out, text, true)
         }
         Arrived::End => Some(SessionEnd::End),

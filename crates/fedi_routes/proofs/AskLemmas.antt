@@ -1,12 +1,9 @@
--- What a request asks for is one thing at most.
-use Rattle.std.proofs.Common.{◌≡◌, ◌≢◌, ℕ, List, Bool, true, false, Option, Some, None, Ok, Err, refl, sym, ◌∙◌, ap}
-use Rattle.std.specs.Prelude.{Result, IfOk, IsTrue}
+-- What a request asks for is one thing at most, and one that is built.
+use Rattle.std.proofs.Common.{◌≡◌, ℕ, List, Bool, true, false, Option, Some, None, Ok, Err, inl, inr, refl, sym, ◌∙◌, ap, subst}
+use Rattle.std.specs.Prelude.{Result, IfOk, IsTrue, MatchBool}
 use Rattle.serde_json.specs.Data.{Data}
-use Rattle.fedi_address.specs.Names.{is_name}
-use Rattle.fedi_model.proofs.Posted.{read_is_create, read_is_posted}
-use Rattle.fedi_model.specs.Routes.{path_of, repeat_key, digest_under, ReadsBody, IsPost, IsFor, Asks, IsAskedOnce}
 use Rattle.fedi_asks.specs.declared.ask.Ask.{Ask}
-use Rattle.fedi_asks.specs.declared.ask.Ask.TheVariants as asks
+use Rattle.fedi_asks.specs.declared.ask.Ask.TheVariants.{Outbox}
 use Rattle.fedi_asks.specs.declared.post.KeyAsk.{KeyAsk}
 use Rattle.fedi_asks.specs.declared.post.Post.{Post}
 use Rattle.fedi_asks.specs.declared.post.Read.{Read}
@@ -15,13 +12,18 @@ use Rattle.fedi_asks.specs.Asks.{IsRead, IsReadFor, IsPostable}
 use Rattle.fedi_asks.specs.Built.{is_built_key, is_built_read, is_built_ask}
 use Rattle.fedi_town.specs.Shapes.{is_posted}
 use Rattle.fedi_town.specs.Towns.{Town, id_of}
-use Rattle.fedi_model.specs.declared.request.Request.{Request}
+use Rattle.fedi_town.specs.declared.caller.Which.TheVariants as which
 use Rattle.fedi_reading.specs.Bodies.{IsBodyOf}
-use Rattle.fedi_routes.specs.Places.{place_path, IsPlace, takes}
+use Rattle.fedi_model.proofs.Posted.{read_is_create, read_is_posted}
+use Rattle.fedi_model.specs.Places.{LeadsTo}
+use Rattle.fedi_model.specs.Requests.{is_post, is_reading}
+use Rattle.fedi_model.specs.Routes.{path_of, repeat_key, digest_under, ReadsBody, IsPost, read_at, refused_at, PostsTo, AsksAt, Asks, IsAskedOnce}
+use Rattle.fedi_model.specs.Queries.{query_of}
+use Rattle.fedi_model.specs.declared.place.Place.{Place}
+use Rattle.fedi_model.specs.declared.place.Place.TheVariants.{Webfinger, Actor, Collection, Activity, Object}
+use Rattle.fedi_model.specs.declared.request.Request.{Request}
 use Rattle.fedi_routes.specs.Posts.{ReadsValue}
-use Rattle.fedi_routes.specs.declared.places.Place.{Place}
-use Rattle.fedi_routes.specs.declared.places.Place.TheVariants.{Activity, Object, Outbox}
-use Rattle.fedi_routes.proofs.RouteLemmas.{place_once}
+use Rattle.fedi_routes.proofs.PlaceLemmas.{place_once}
 
 -- ---- posts
 
@@ -63,16 +65,6 @@ read_for : (author : Option (List ℕ)) (body : List ℕ) (read : Read) → Read
 read_for None body read h = tt
 read_for (Some author) body read h = read_postable author body read h
 
-asked_postable : (q : Request) (body : List ℕ) (ask : Ask) → Asks q body ask → (t : Town) → IsPostable t ask
-asked_postable q body (asks.Outbox name post) h t = read_for (id_of t name) body post.read h.3.read
-asked_postable q body (asks.Inbox name post) h t = absurd h
-asked_postable q body ask h t = tt
-
-pub postable : {E : Type 0} (q : Request) (body : List ℕ) (r : Result Ask E) → IfOk r (λ ask. Asks q body ask)
-    → IfOk r (λ ask. (t : Town) → IsPostable t ask)
-postable q body (Ok ask) h = asked_postable q body ask h
-postable q body (Err e) h = tt
-
 -- and it is a Create
 read_built : (body : List ℕ) (read : Read) → ReadsBody body read → is_built_read read ≡ true
 read_built body NotJson h = refl
@@ -83,76 +75,85 @@ key_built : (value : Option (List ℕ)) → is_built_key (repeat_key value) ≡ 
 key_built None = refl
 key_built (Some value) = refl
 
-asked_built : (q : Request) (body : List ℕ) (ask : Ask) → Asks q body ask → is_built_ask ask ≡ true
-asked_built q body asks.Nowhere h = refl
-asked_built q body (asks.Activity name number) h = refl
-asked_built q body (asks.Object name number) h = refl
-asked_built q body (asks.Outbox name post) h =
-    rw (h.3.key, key_built q.fields.idempotency_key, read_built body post.read h.3.read) refl
-asked_built q body ask h = absurd h
+-- ---- asks
 
-pub built : {E : Type 0} (q : Request) (body : List ℕ) (r : Result Ask E) → IfOk r (λ ask. Asks q body ask)
-    → IfOk r (λ ask. IsTrue (is_built_ask ask))
-built q body (Ok ask) h = asked_built q body ask h
-built q body (Err e) h = tt
+-- what is asked for at a place holds nothing but what was read of a post
+pub record IsSound (ask : Ask) : Type 0 where
+  pub postable : (t : Town) → IsPostable t ask
+  pub built : is_built_ask ask ≡ true
 
--- ---- what is for a request
+read_sound : (host : Option (List ℕ)) (query : List ℕ) (there : Place) → IsSound (read_at host query there)
+read_sound host query there = record { postable = λ t. none there t; built = is there }
+  where
+    none : (p : Place) (t : Town) → IsPostable t (read_at host query p)
+    none Webfinger t = tt
+    none (Actor name) t = tt
+    none (Collection which) t = tt
+    none (Activity name number) t = tt
+    none (Object name number) t = tt
 
--- where the path leads nowhere, the request is for nothing
-pub no_place : (q : Request) (body : List ℕ)
-    → ((name : List ℕ) (place : Place) → IsTrue (is_name name) → IsPlace place → path_of q.target ≢ place_path name place)
-    → (ask : Ask) → ¬ (IsFor q body ask)
-no_place q body none (asks.Activity name number) h = none name (Activity number) h.1 h.2 h.3
-no_place q body none (asks.Object name number) h = none name (Object number) h.1 h.2 h.3
-no_place q body none (asks.Outbox name post) h = none name Outbox h.1 tt h.2
-no_place q body none other h = h
+    is : (p : Place) → is_built_ask (read_at host query p) ≡ true
+    is Webfinger = refl
+    is (Actor name) = refl
+    is (Collection which) = refl
+    is (Activity name number) = refl
+    is (Object name number) = refl
 
-not_here : (q : Request) (name other : List ℕ) (place there : Place) → IsTrue (is_name name) → IsPlace place → path_of q.target ≡ place_path name place
-    → takes place q.method ≡ false → IsTrue (is_name other) → IsPlace there → path_of q.target ≡ place_path other there → takes there q.method ≡ true → ⊥
-not_here q name other place there is_name is_place path refused is_other is_there also taken =
-    let one = (place_once name other place there is_name is_other is_place is_there (sym path ∙ also)).1 in
-    let same : takes place q.method ≡ takes there q.method = ap (λ (p : Place). takes p q.method) one in cc
+refused_sound : (there : Place) → IsSound (refused_at there)
+refused_sound (Collection (which.Inbox name)) = record { postable = λ t. tt; built = refl }
+refused_sound there = record { postable = λ t. tt; built = refl }
 
--- and so where the method is not served at the place
-pub not_taken : (q : Request) (body name : List ℕ) (place : Place) → IsTrue (is_name name) → IsPlace place
-    → path_of q.target ≡ place_path name place → takes place q.method ≡ false → (ask : Ask) → ¬ (IsFor q body ask)
-not_taken q body name place is_name is_place path refused (asks.Activity other number) h =
-    not_here q name other place (Activity number) is_name is_place path refused h.1 h.2 h.3 h.0
-not_taken q body name place is_name is_place path refused (asks.Object other number) h =
-    not_here q name other place (Object number) is_name is_place path refused h.1 h.2 h.3 h.0
-not_taken q body name place is_name is_place path refused (asks.Outbox other post) h =
-    not_here q name other place Outbox is_name is_place path refused h.1 tt h.2 h.0
-not_taken q body name place is_name is_place path refused other h = h
+outbox_sound : (q : Request) (body name : List ℕ) (post : Post) → IsPost q body post → IsSound (Outbox name post)
+outbox_sound q body name post h = record {
+  postable = λ t. read_for (id_of t name) body post.read h.read;
+  built = rw (h.key, key_built q.fields.idempotency_key) (read_built body post.read h.read);
+}
+
+posted_sound : (q : Request) (body : List ℕ) (there : Place) (ask : Ask) → PostsTo q body there ask → IsSound ask
+posted_sound q body (Collection (which.Outbox name)) ask h = subst IsSound (sym h.2) (outbox_sound q body name h.0 h.1)
+posted_sound q body there ask h = subst IsSound (sym h) (refused_sound there)
+
+sound_at : (host : Option (List ℕ)) (q : Request) (body : List ℕ) (there : Place) (ask : Ask) → AsksAt host q body there ask → IsSound ask
+sound_at host q body there ask = by (is_reading q.method) (is_post q.method)
+  where
+    by : (reads posts : Bool) → MatchBool reads (ask ≡ read_at host (query_of q.target) there)
+        (MatchBool posts (PostsTo q body there ask) (ask ≡ refused_at there)) → IsSound ask
+    by true posts h = subst IsSound (sym h) (read_sound host (query_of q.target) there)
+    by false true h = posted_sound q body there ask h
+    by false false h = subst IsSound (sym h) (refused_sound there)
+
+pub postable : {E : Type 0} (host : Option (List ℕ)) (q : Request) (body : List ℕ) (there : Place) (r : Result Ask E)
+    → IfOk r (λ ask. AsksAt host q body there ask) → IfOk r (λ ask. (t : Town) → IsPostable t ask)
+postable host q body there (Ok ask) h = (sound_at host q body there ask h).postable
+postable host q body there (Err e) h = tt
+
+pub built : {E : Type 0} (host : Option (List ℕ)) (q : Request) (body : List ℕ) (there : Place) (r : Result Ask E)
+    → IfOk r (λ ask. AsksAt host q body there ask) → IfOk r (λ ask. IsTrue (is_built_ask ask))
+built host q body there (Ok ask) h = (sound_at host q body there ask h).built
+built host q body there (Err e) h = tt
 
 -- ---- one request, one ask
 
-for_once : (q : Request) (body : List ℕ) (a b : Ask) → IsFor q body a → IsFor q body b → a ≡ b
-for_once q body (asks.Activity name n) (asks.Activity other m) x y =
-    let one = place_once name other (Activity n) (Activity m) x.1 y.1 x.2 y.2 (sym x.3 ∙ y.3) in cc
-for_once q body (asks.Object name n) (asks.Object other m) x y =
-    let one = place_once name other (Object n) (Object m) x.1 y.1 x.2 y.2 (sym x.3 ∙ y.3) in cc
-for_once q body (asks.Outbox name a) (asks.Outbox other b) x y =
-    let one = place_once name other Outbox Outbox x.1 y.1 tt tt (sym x.2 ∙ y.2) in
-    let post = post_once q body a b x.3 y.3 in cc
-for_once q body (asks.Activity name n) (asks.Object other m) x y =
-    let one = place_once name other (Activity n) (Object m) x.1 y.1 x.2 y.2 (sym x.3 ∙ y.3) in cc
-for_once q body (asks.Object name n) (asks.Activity other m) x y =
-    let one = place_once name other (Object n) (Activity m) x.1 y.1 x.2 y.2 (sym x.3 ∙ y.3) in cc
-for_once q body (asks.Activity name n) (asks.Outbox other b) x y =
-    let one = place_once name other (Activity n) Outbox x.1 y.1 x.2 tt (sym x.3 ∙ y.2) in cc
-for_once q body (asks.Outbox name a) (asks.Activity other m) x y =
-    let one = place_once name other Outbox (Activity m) x.1 y.1 tt y.2 (sym x.2 ∙ y.3) in cc
-for_once q body (asks.Object name n) (asks.Outbox other b) x y =
-    let one = place_once name other (Object n) Outbox x.1 y.1 x.2 tt (sym x.3 ∙ y.2) in cc
-for_once q body (asks.Outbox name a) (asks.Object other m) x y =
-    let one = place_once name other Outbox (Object m) x.1 y.1 tt y.2 (sym x.2 ∙ y.3) in cc
-for_once q body (asks.Activity name n) b x y = absurd y
-for_once q body (asks.Object name n) b x y = absurd y
-for_once q body (asks.Outbox name a) b x y = absurd y
-for_once q body a b x y = absurd x
+posted_once : (q : Request) (body : List ℕ) (there : Place) (a b : Ask) → PostsTo q body there a → PostsTo q body there b → a ≡ b
+posted_once q body (Collection (which.Outbox name)) a b x y =
+    x.2 ∙ (ap (λ (p : Post). Outbox name p) (post_once q body x.0 y.0 x.1 y.1) ∙ sym y.2)
+posted_once q body there a b x y = x ∙ sym y
 
-pub asked_once : (q : Request) (body : List ℕ) → IsAskedOnce q body
-asked_once q body asks.Nowhere asks.Nowhere x y = refl
-asked_once q body asks.Nowhere b x y = absurd (x b y)
-asked_once q body a asks.Nowhere x y = absurd (y a x)
-asked_once q body a b x y = for_once q body a b x y
+once_at : (host : Option (List ℕ)) (q : Request) (body : List ℕ) (there : Place) (a b : Ask) → AsksAt host q body there a → AsksAt host q body there b → a ≡ b
+once_at host q body there a b = by (is_reading q.method) (is_post q.method)
+  where
+    by : (reads posts : Bool) → MatchBool reads (a ≡ read_at host (query_of q.target) there)
+        (MatchBool posts (PostsTo q body there a) (a ≡ refused_at there))
+        → MatchBool reads (b ≡ read_at host (query_of q.target) there)
+        (MatchBool posts (PostsTo q body there b) (b ≡ refused_at there)) → a ≡ b
+    by true posts x y = x ∙ sym y
+    by false true x y = posted_once q body there a b x y
+    by false false x y = x ∙ sym y
+
+pub asked_once : (host : Option (List ℕ)) (q : Request) (body : List ℕ) → IsAskedOnce host q body
+asked_once host q body a b (inl x) (inl y) = x.1 ∙ sym y.1
+asked_once host q body a b (inl x) (inr y) = absurd (x.0 y.0 y.1)
+asked_once host q body a b (inr x) (inl y) = absurd (y.0 x.0 x.1)
+asked_once host q body a b (inr x) (inr y) =
+    let same : y.0 ≡ x.0 = place_once (path_of q.target) y.0 x.0 y.1 x.1 in
+    once_at host q body x.0 a b x.2 (rw same at y.2)

@@ -1,2 +1,9 @@
-pub mod RouteLemmas
 pub mod AskLemmas
+pub mod DocumentLemmas
+pub mod Exact
+pub mod NumberLemmas
+pub mod PathTexts
+pub mod PlaceLemmas
+pub mod Rows
+pub mod TextLemmas
+pub mod WebfingerLemmas

@@ -1,2 +1,3 @@
-pub mod Places
+pub mod Memory
 pub mod Posts
+pub mod Table

@@ -1,11 +1,19 @@
-//! What a request asks for, and what it shows of who makes it.
+//! What a request asks for, what it shows of who makes it, and the documents that say who a member is.
 #![tactic(auto)]
 
+mod documents;
+mod kinds;
+mod number;
 mod places;
 mod posts;
+mod queries;
+mod router;
 mod routes;
 mod shown;
 mod texts;
+mod webfinger;
 
+pub use documents::{actor_value, jrd};
+pub use router::Routes;
 pub use routes::route;
 pub use shown::credentials;

@@ -1,41 +1,55 @@
-//! What a request asks for, by its method and its path.
+//! What a request asks for, by its path and its method.
 
-ghost use Rattle.std.specs.Prelude.{◌≡◌, true, IsTrue, IfOk, OnErr};
-ghost use Rattle.fedi_address.specs.Names.{is_name};
+ghost use Rattle.std.specs.Prelude.{◌≡◌, IsTrue, IfOk, OnErr, option_copied};
 ghost use Rattle.fedi_asks.specs.Asks.{IsPostable};
 ghost use Rattle.fedi_asks.specs.Built.{is_built_ask};
+ghost use Rattle.fedi_model.specs.Places as places;
+ghost use Rattle.fedi_model.specs.Queries as queries;
+ghost use Rattle.fedi_model.specs.Requests as requests;
 ghost use Rattle.fedi_model.specs.Routes as model;
-ghost use Rattle.fedi_routes.specs.Places as places;
+ghost use Rattle.fedi_routes.specs.Memory.{MayNeedMemory, needs_memory};
 ghost use Rattle.fedi_town.specs.Towns.{Town};
 
-use crate::places::{Place, place_of};
+use crate::places::place_of;
 use crate::posts::post_of;
-use crate::texts::up_to;
-use fedi_address::LocalName;
-use fedi_model::{Ask, Request};
+use crate::router::Routes;
+use crate::texts::{behind, up_to};
+use crate::webfinger::resource_in;
+use fedi_address::Host;
+use fedi_model::{Allow, Ask, Place, Request, Which};
+use http::Method;
 use std::alloc::{AllocError, Global};
 
-/// What the request with this body asks for, by its method and its path: a GET reads an activity or an
-/// object, a POST is for an outbox, and all else asks for `Ask::Nowhere`. The path is the target up to
-/// its first question mark (RFC 3986, section 3.3). Paths are compared byte for byte and never decoded.
-/// The body is read of a post to an outbox alone, and only that takes memory: the error is that there
-/// was none.
+/// What the request with this body asks for, at the server of this host, once that is set: by the
+/// place to which its path leads, and then by its method.
+///
+/// Members, activities, objects and WebFinger are read by GET and HEAD, and an outbox is posted to.
+/// Another method asks for `Ask::WrongMethod`. Collections are not read yet, and an inbox is not served
+/// at all: these ask for `Ask::Nowhere`, as a path that leads nowhere does. The path is the target up
+/// to its first question mark (RFC 3986, section 3.3). It is compared byte for byte and never decoded.
+///
+/// The error is out of memory. It comes only of a query of WebFinger and of a post to an outbox, whose
+/// body is read.
 #[tactic(auto, using(crate::proofs::AskLemmas::asked_once))]
-pub fn route(alloc: Global, request: &Request, body: &[u8]) -> Result<Ask, AllocError>
-    ensures asks { IfOk result (λ ask. model.Asks request.now body.now ask) }
-    ensures once { model.IsAskedOnce request.now body.now }
+pub fn route(
+    alloc: Global,
+    request: &Request,
+    body: &[u8],
+    host: Option<&Host>,
+    routes: &Routes,
+) -> Result<Ask, AllocError>
+    ensures asks { IfOk result (λ ask.
+        model.Asks (option_copied host.entry) request.now body.now ask) }
+    ensures once { model.IsAskedOnce (option_copied host.entry) request.now body.now }
     // An activity to be posted is one that a history may take from its author, and one that is built.
     ensures postable { IfOk result (λ ask. (t : Town) → IsPostable t ask) }
     ensures built { IfOk result (λ ask. IsTrue (is_built_ask ask)) }
-    ensures memory { OnErr result (places.IsToOutbox request.now) }
+    ensures memory { OnErr result (MayNeedMemory request.now) }
 {
-    let Some((name, place)) = place_of(path_of(request)) else {
-        return Ok(Ask::Nowhere);
-    };
-    if !place.takes(&request.method) {
-        return Ok(Ask::Nowhere);
+    match place_of(routes, path_of(request)) {
+        Some(place) => ask_at(alloc, request, body, host, place),
+        None => Ok(Ask::Nowhere),
     }
-    ask_of(alloc, request, body, name, place)
 }
 
 /// The target up to its first question mark.
@@ -45,24 +59,91 @@ fn path_of(request: &Request) -> &[u8]
     up_to(request.target.bytes(), b'?')
 }
 
-/// What is asked at the member's place, whose method is served.
-fn ask_of(
+/// The target behind its first question mark, or nothing.
+fn query_of(request: &Request) -> &[u8]
+    ensures { result.now ≡ queries.query_of request.now.target }
+{
+    behind(request.target.bytes(), b'?')
+}
+
+/// What the request asks for at the place.
+fn ask_at(
     alloc: Global,
     request: &Request,
     body: &[u8],
-    name: LocalName,
+    host: Option<&Host>,
     place: Place,
 ) -> Result<Ask, AllocError>
-    requires name { IsTrue (is_name name) }
-    requires place { places.IsPlace place }
-    requires path { model.path_of request.now.target ≡ places.place_path name place }
-    requires taken { places.takes place request.now.method ≡ true }
-    ensures asks { IfOk result (λ ask. model.Asks request.now body.now ask) }
-    ensures memory { OnErr result (places.IsToOutbox request.now) }
+    ensures asks { IfOk result (λ ask.
+        model.AsksAt (option_copied host.entry) request.now body.now place ask) }
+    ensures memory { OnErr result (IsTrue (needs_memory request.now.method place)) }
+{
+    if is_reading(&request.method) {
+        read_at(alloc, query_of(request), host, place)
+    } else if request.method == Method::POST {
+        post_to(alloc, request, body, place)
+    } else {
+        Ok(refused_at(&place))
+    }
+}
+
+/// Whether the method reads (RFC 9110, sections 9.3.1 and 9.3.2).
+fn is_reading(method: &Method) -> bool
+    ensures { result ≡ requests.is_reading method.now }
+{
+    *method == Method::GET || *method == Method::HEAD
+}
+
+/// What is asked for by reading the place.
+fn read_at(
+    alloc: Global,
+    query: &[u8],
+    host: Option<&Host>,
+    place: Place,
+) -> Result<Ask, AllocError>
+    ensures asks { IfOk result (λ ask.
+        ask ≡ model.read_at (option_copied host.entry) query.now place) }
+    ensures memory { OnErr result (place ≡ Place.Webfinger) }
 {
     match place {
-        Place::Activity(number) => Ok(Ask::Activity(name, number)),
-        Place::Object(number) => Ok(Ask::Object(name, number)),
-        Place::Outbox => Ok(Ask::Outbox(name, post_of(alloc, request, body)?)),
+        Place::Webfinger => Ok(Ask::Webfinger(resource_in(alloc, query, host)?)),
+        Place::Actor(name) => Ok(Ask::Actor(name)),
+        Place::Collection(_) => Ok(Ask::Nowhere),
+        Place::Activity(name, number) => Ok(Ask::Activity(name, number)),
+        Place::Object(name, number) => Ok(Ask::Object(name, number)),
+    }
+}
+
+/// What is asked for by posting to the place.
+fn post_to(alloc: Global, request: &Request, body: &[u8], place: Place) -> Result<Ask, AllocError>
+    requires { IsTrue (requests.is_post request.now.method) }
+    ensures asks { IfOk result (λ ask. model.PostsTo request.now body.now place ask) }
+    ensures memory { OnErr result (IsTrue (needs_memory request.now.method place)) }
+{
+    match place {
+        Place::Collection(Which::Outbox(name)) => {
+            Ok(Ask::Outbox(name, post_of(alloc, request, body)?))
+        }
+        place => Ok(refused_at(&place)),
+    }
+}
+
+/// What is asked for by a method that the place does not have.
+fn refused_at(place: &Place) -> Ask
+    ensures { result ≡ model.refused_at place.now }
+{
+    match place {
+        Place::Collection(Which::Inbox(_)) => Ask::Nowhere,
+        place => Ask::WrongMethod(allow_of(place)),
+    }
+}
+
+/// The methods that the place has.
+fn allow_of(place: &Place) -> Allow
+    ensures { result ≡ places.allow_of place.now }
+{
+    match place {
+        Place::Collection(Which::Outbox(_) | Which::Inbox(_)) => Allow::GetHeadPost,
+        _ => Allow::GetHead,
     }
 }

@@ -9,6 +9,8 @@ mod address;
 #[cfg(test)]
 mod mac;
 #[cfg(test)]
+mod members;
+#[cfg(test)]
 mod objects;
 #[cfg(test)]
 mod outside;

@@ -1,7 +1,10 @@
-//! Heads as clients and peers write them, and what they show, ask and post.
+//! Heads as clients and peers write them, and what they show, ask and post; and the documents of members.
+use fedi_address::{Host, LocalName};
 use fedi_http::read_request_head;
-use fedi_model::{Ask, Credentials, KeyAsk, Read, Request};
-use fedi_routes::{credentials, route};
+use fedi_model::{Allow, Ask, Credentials, KeyAsk, Read, Request};
+use fedi_routes::{Routes, actor_value, credentials, jrd, route};
+use fedi_text::Text;
+use http::Method;
 use std::alloc::{AllocError, Global};
 use std::test::Fail;
 
@@ -62,57 +65,174 @@ fn fields_show_who_asks(rt: HostRuntime) -> Result<(), Fail> {
 // What is asked, and the number of an activity or an object.
 fn name_and_number(ask: &Ask) -> (&'static str, u32) {
     match ask {
+        Ask::Nowhere => ("nowhere", 0),
+        Ask::WrongMethod(Allow::GetHead) => ("GET, HEAD", 0),
+        Ask::WrongMethod(Allow::GetHeadPost) => ("GET, HEAD, POST", 0),
+        Ask::Webfinger(_) => ("webfinger", 0),
+        Ask::Actor(_) => ("actor", 0),
+        Ask::Collection(..) => ("collection", 0),
         Ask::Activity(_, number) => ("activity", *number),
         Ask::Object(_, number) => ("object", *number),
-        Ask::Outbox(_, _) => ("outbox", 0),
-        Ask::Nowhere => ("nowhere", 0),
-        Ask::WrongMethod(_)
-        | Ask::Webfinger(_)
-        | Ask::Actor(_)
-        | Ask::Collection(..)
-        | Ask::Inbox(..) => ("not built yet", 0),
+        Ask::Outbox(..) => ("outbox", 0),
+        Ask::Inbox(..) => ("inbox", 0),
     }
 }
 
 // The same of a request.
-fn asked_by(alloc: Global, request: &Request) -> Result<(&'static str, u32), AllocError> {
-    Ok(name_and_number(&route(alloc, request, b"")?))
+fn asked_by(
+    alloc: Global,
+    routes: &Routes,
+    request: &Request,
+) -> Result<(&'static str, u32), AllocError> {
+    Ok(name_and_number(&route(alloc, request, b"", None, routes)?))
 }
 
-// The same of a first line.
-fn asked(alloc: Global, line: &str) -> Result<(&'static str, u32), AllocError> {
-    match request_of(alloc, line, "Content-Length: 0\r\n")? {
-        Some(request) => asked_by(alloc, &request),
+// The same of this method and target.
+fn asked(
+    alloc: Global,
+    routes: &Routes,
+    method: &Method,
+    target: &str,
+) -> Result<(&'static str, u32), AllocError> {
+    let line = format!(in alloc; "GET {target}")?;
+    match request_of(alloc, &line, "")? {
+        Some(mut request) => {
+            request.method = method.clone()?;
+            asked_by(alloc, routes, &request)
+        }
         None => Ok(("refused", 0)),
     }
 }
 
-const ASKED: [(&str, &str, u32); 14] = [
-    ("GET /users/ana/o/1", "object", 1),
-    (
-        "GET /users/ana/o/4294967295?page=1",
-        "object",
-        4_294_967_295,
-    ),
-    ("GET /users/ana/a/12", "activity", 12),
-    ("POST /users/ana/outbox?page=1", "outbox", 0),
-    ("POST /users/ana/o/1", "nowhere", 0),
-    ("GET /users/ana/outbox", "nowhere", 0),
-    ("POST /users/ana/outbox/", "nowhere", 0),
-    ("POST /users//outbox", "nowhere", 0),
-    ("GET /users/ana/o/4294967296", "nowhere", 0),
-    ("GET /users/ana/o/0", "nowhere", 0),
-    ("GET /users/ana/a/01", "nowhere", 0),
-    ("GET /users/ana/o/+1", "nowhere", 0),
-    ("GET /users/Ana/o/1", "nowhere", 0),
-    ("GET /users/%61na/o/1", "nowhere", 0),
+// Targets, and what a GET, a HEAD, a POST and a PUT of each ask for.
+const ASKED: [(&str, &str, &str, &str, &str, u32); 22] = [
+    ("/.well-known/webfinger", "webfinger", "webfinger", "GET, HEAD", "GET, HEAD", 0),
+    ("/users/ana", "actor", "actor", "GET, HEAD", "GET, HEAD", 0),
+    ("/users/ana?page=1", "actor", "actor", "GET, HEAD", "GET, HEAD", 0),
+    ("/users/ana/outbox", "nowhere", "nowhere", "outbox", "GET, HEAD, POST", 0),
+    ("/users/ana/inbox", "nowhere", "nowhere", "nowhere", "nowhere", 0),
+    ("/users/ana/followers", "nowhere", "nowhere", "GET, HEAD", "GET, HEAD", 0),
+    ("/users/ana/following", "nowhere", "nowhere", "GET, HEAD", "GET, HEAD", 0),
+    ("/users/ana/liked", "nowhere", "nowhere", "GET, HEAD", "GET, HEAD", 0),
+    ("/users/ana/a/12", "activity", "activity", "GET, HEAD", "GET, HEAD", 12),
+    ("/users/ana/o/4294967295?page=1", "object", "object", "GET, HEAD", "GET, HEAD", 4_294_967_295),
+    ("/users/ana/o/1/likes", "nowhere", "nowhere", "GET, HEAD", "GET, HEAD", 0),
+    ("/users/ana/o/1/shares", "nowhere", "nowhere", "GET, HEAD", "GET, HEAD", 0),
+    ("/users/ana/a/1/likes", "nowhere", "nowhere", "nowhere", "nowhere", 0),
+    ("/users/ana/outbox/", "nowhere", "nowhere", "nowhere", "nowhere", 0),
+    ("/users//outbox", "nowhere", "nowhere", "nowhere", "nowhere", 0),
+    ("/users/ana/o/4294967296", "nowhere", "nowhere", "nowhere", "nowhere", 0),
+    ("/users/ana/o/0", "nowhere", "nowhere", "nowhere", "nowhere", 0),
+    ("/users/ana/a/01", "nowhere", "nowhere", "nowhere", "nowhere", 0),
+    ("/users/ana/o/+1", "nowhere", "nowhere", "nowhere", "nowhere", 0),
+    ("/users/Ana/o/1", "nowhere", "nowhere", "nowhere", "nowhere", 0),
+    ("/users/%61na/o/1", "nowhere", "nowhere", "nowhere", "nowhere", 0),
+    ("/users", "nowhere", "nowhere", "nowhere", "nowhere", 0),
 ];
 
 #[test]
 fn targets_are_those_of_the_routes(rt: HostRuntime) -> Result<(), Fail> {
-    for (line, kind, number) in &ASKED {
-        assert_eq!(rt; asked(rt.alloc(), line)?, (*kind, *number), "{line}");
+    let alloc = rt.alloc();
+    let routes = Routes::new(alloc)?;
+    for (target, get, head, post, put, number) in &ASKED {
+        assert_eq!(rt; asked(alloc, &routes, &Method::GET, target)?, (*get, *number), "{target}");
+        assert_eq!(rt; asked(alloc, &routes, &Method::HEAD, target)?, (*head, *number), "{target}");
+        assert_eq!(rt; asked(alloc, &routes, &Method::POST, target)?, (*post, 0), "{target}");
+        assert_eq!(rt; asked(alloc, &routes, &Method::PUT, target)?, (*put, 0), "{target}");
     }
+    Ok(())
+}
+
+// Whom the query asks for, and how many relations.
+fn resource(ask: &Ask) -> (&str, usize) {
+    match ask {
+        Ask::Webfinger(None) => ("malformed", 0),
+        Ask::Webfinger(Some(resource)) => match &resource.name {
+            Some(name) => (name.text(), resource.rels.len()),
+            None => ("nobody", resource.rels.len()),
+        },
+        _ => ("no query", 0),
+    }
+}
+
+// Whether the query at `club.example` asks for this.
+fn is_found(
+    alloc: Global,
+    routes: &Routes,
+    query: &str,
+    wanted: (&str, usize),
+) -> Result<bool, Fail> {
+    let host = Host::parse(alloc, "club.example").map_err(|_| "no host")?;
+    let line = format!(in alloc; "GET /.well-known/webfinger?{query}")?;
+    let request = request_of(alloc, &line, "")?.ok_or("refused")?;
+    let ask = route(alloc, &request, b"", Some(&host), routes)?;
+    Ok(resource(&ask) == wanted)
+}
+
+// Queries, and whom each asks for with how many relations (RFC 7033, section 4).
+const FOUND: [(&str, (&str, usize)); 19] = [
+    ("resource=acct:ana@club.example", ("ana", 0)),
+    ("resource=acct%3Aana%40club.example&rel=x&rel=y", ("ana", 2)),
+    ("rel=self&resource=acct:zoe@club.example&page=1", ("zoe", 1)),
+    ("resource=https://club.example/users/ana", ("ana", 0)),
+    ("resource=HTTPS://CLUB.example:443/users/./ana", ("ana", 0)),
+    ("resource=http://club.example/users/ana", ("nobody", 0)),
+    ("resource=https://club.example/users/ana/outbox", ("nobody", 0)),
+    ("resource=https://club.example/", ("nobody", 0)),
+    ("resource=acct:ana@hill.example", ("nobody", 0)),
+    ("resource=acct:Ana@club.example", ("nobody", 0)),
+    ("resource=acct:a@b@club.example", ("nobody", 0)),
+    ("resource=ACCT:ana@club.example", ("malformed", 0)),
+    ("resource=acct:ana@", ("malformed", 0)),
+    ("resource=acct:@club.example", ("malformed", 0)),
+    ("resource=acct:ana", ("malformed", 0)),
+    ("resource=ana", ("malformed", 0)),
+    ("resource=", ("malformed", 0)),
+    ("rel=self", ("malformed", 0)),
+    ("resource=acct:ana@club.example&resource=acct:ana@club.example", ("malformed", 0)),
+];
+
+#[test]
+fn queries_ask_for_members(rt: HostRuntime) -> Result<(), Fail> {
+    let routes = Routes::new(rt.alloc())?;
+    for (query, wanted) in &FOUND {
+        assert!(rt; is_found(rt.alloc(), &routes, query, *wanted)?, "{query}");
+    }
+    Ok(())
+}
+
+// The JRD of ana at `club.example` with these relations.
+fn profile(alloc: Global, rels: &[&str]) -> Result<String, Fail> {
+    let host = Host::parse(alloc, "club.example").map_err(|_| "no host")?;
+    let name = LocalName::parse("ana").ok_or("no name")?;
+    let mut wanted = Vec::new(alloc);
+    for rel in rels {
+        wanted.push(Text::from_text(alloc, rel)?)?;
+    }
+    Ok(jrd(alloc, &name, &host, &wanted)?.to_string(alloc)?)
+}
+
+// The actor document of ana at `club.example`.
+fn actor(alloc: Global) -> Result<String, Fail> {
+    let host = Host::parse(alloc, "club.example").map_err(|_| "no host")?;
+    let name = LocalName::parse("ana").ok_or("no name")?;
+    Ok(actor_value(alloc, &name, &host)?.to_string(alloc)?)
+}
+
+const PROFILE: &str = "{\"aliases\":[\"https://club.example/users/ana\"],\"links\":[{\"href\":\"https://club.example/users/ana\",\"rel\":\"self\",\"type\":\"application/activity+json\"}],\"subject\":\"acct:ana@club.example\"}";
+
+const UNLINKED: &str = "{\"aliases\":[\"https://club.example/users/ana\"],\"links\":[],\"subject\":\"acct:ana@club.example\"}";
+
+const ACTOR: &str = "{\"@context\":\"https://www.w3.org/ns/activitystreams\",\"followers\":\"https://club.example/users/ana/followers\",\"following\":\"https://club.example/users/ana/following\",\"id\":\"https://club.example/users/ana\",\"inbox\":\"https://club.example/users/ana/inbox\",\"liked\":\"https://club.example/users/ana/liked\",\"outbox\":\"https://club.example/users/ana/outbox\",\"preferredUsername\":\"ana\",\"type\":\"Person\"}";
+
+#[test]
+fn documents_say_who_a_member_is(rt: HostRuntime) -> Result<(), Fail> {
+    let alloc = rt.alloc();
+    assert!(rt; PROFILE.len() == 180);
+    assert!(rt; profile(alloc, &[])?.as_str() == PROFILE);
+    assert!(rt; profile(alloc, &["x", "self"])?.as_str() == PROFILE);
+    assert!(rt; profile(alloc, &["x", "y"])?.as_str() == UNLINKED);
+    assert!(rt; actor(alloc)?.as_str() == ACTOR);
     Ok(())
 }
 
@@ -135,7 +255,8 @@ fn of_request(
     request: &Request,
     body: &str,
 ) -> Result<(bool, bool, &'static str), AllocError> {
-    Ok(of_post(&route(alloc, request, body.as_bytes())?))
+    let routes = Routes::new(alloc)?;
+    Ok(of_post(&route(alloc, request, body.as_bytes(), None, &routes)?))
 }
 
 // The same of a post with these fields and this body.

@@ -1,6 +1,6 @@
 use Rattle.std.proofs.Common.{◌∙◌, arith, length-drop}
 use Rattle.std.proofs.lemmas.List.{take_rest}
-use Rattle.fedi_http.proofs.StreamLemmas.{Appends-next}
+use Rattle.fedi_http.proofs.SendLemmas.{Appends-next}
 use Rattle.fedi_http.proofs.sending.send.Goals as goal
 
 -- the bytes of this write stand behind those of the writes before

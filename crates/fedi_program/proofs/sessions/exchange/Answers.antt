@@ -1,21 +1,31 @@
-use Rattle.std.proofs.Common.{◌≤◌, ◌∙◌, ap, refl, arith}
-use Rattle.fedi_program.proofs.SessionLemmas.{counted_on, no_memory_steps, now_of, refused_steps, request_steps}
+use Rattle.std.proofs.Common.{◌∙◌, ap, refl}
+use Rattle.fedi_program.proofs.SessionLemmas.{counted_on, cut_steps, end_steps, fault_steps, no_memory_steps, now_of, refused_steps, request_steps}
 use Rattle.fedi_program.proofs.sessions.exchange.Goals as goal
 
 pub returns-in-Request-clause-steps : goal.returns-in-Request-clause-steps
 returns-in-Request-clause-steps g c = λ opened log holds.
-    let whole = c.in-Request.ensures.pending in
-    let low : c.in-Request.body ≤ c.in-Request.end = omega (arith, whole.ends) in
-    rw c.take_front.ensures
-    (request_steps _ _ _ _ _ log c.args.served _ _ c.in-Request.request c.in-Request.body c.in-Request.end _ c.is_last-closing.result c.answer-text.result _ holds
-    c.in-Request.ensures.moves.stream c.in-Request.ensures.told low whole.within c.is_last-closing.ensures (now_of _ c.now.result _ c.now.ensures c.clamped-moment.ensures)
-    (rw c.pending.ensures.pending at c.answer-text.ensures.text) (rw c.pending.ensures.pending at c.answer-text.ensures.unanswered) c.send_reply.ensures.sent)
+    request_steps _ _ _ _ _ log c.args.served _ c.read_request.new.buffer.pending c.in-Request.request c.read_request.new.buffer.body _ c.is_last-closing.result c.answer-text.result _ holds
+    c.in-Request.ensures.told c.is_last-closing.ensures (now_of _ c.now.result _ c.now.ensures c.clamped-moment.ensures)
+    (rw c.body.ensures.body at c.answer-text.ensures.text) (rw c.body.ensures.body at c.answer-text.ensures.unanswered) c.send_reply.ensures.sent
 
 pub returns-in-Refused-clause-steps : goal.returns-in-Refused-clause-steps
 returns-in-Refused-clause-steps g c = λ opened log holds.
-    refused_steps _ _ _ _ log c.args.served _ _ c.in-Refused.refusal c.clamped-moment-in-Refused.result c.refusal_text-text.result _ holds
-    c.in-Refused.ensures.moves.stream c.in-Refused.ensures.told (now_of _ c.now-in-Refused.result _ c.now-in-Refused.ensures c.clamped-moment-in-Refused.ensures)
+    refused_steps _ _ _ _ log c.args.served _ c.read_request.new.buffer.body c.read_request.new.buffer.pending c.in-Refused.refusal c.clamped-moment-in-Refused.result c.refusal_text-text.result _ holds
+    c.in-Refused.ensures.told (now_of _ c.now-in-Refused.result _ c.now-in-Refused.ensures c.clamped-moment-in-Refused.ensures)
     c.refusal_text-text.ensures c.send_reply-in-Refused.ensures.sent
+
+pub returns-in-End-clause-steps : goal.returns-in-End-clause-steps
+returns-in-End-clause-steps g c = λ opened log holds.
+    end_steps _ _ _ _ log c.args.served _ c.read_request.new.buffer.body c.read_request.new.buffer.pending holds c.in-End.ensures.told refl
+
+pub returns-in-CutShort-clause-steps : goal.returns-in-CutShort-clause-steps
+returns-in-CutShort-clause-steps g c = λ opened log holds.
+    cut_steps _ _ _ _ log c.args.served _ c.read_request.new.buffer.body c.read_request.new.buffer.pending holds c.in-CutShort.ensures.told refl
+
+pub returns-in-ReadFault-clause-steps : goal.returns-in-ReadFault-clause-steps
+returns-in-ReadFault-clause-steps g c = λ opened log holds.
+    fault_steps _ _ _ _ log c.args.served c.args.buffer.now.pending c.in-ReadFault.ensures.reads.more c.read_request.new.buffer.pending holds
+    c.in-ReadFault.ensures.reads.taken c.in-ReadFault.ensures.reads.holds refl
 
 pub returns-in-Memory-clause-steps : goal.returns-in-Memory-clause-steps
 returns-in-Memory-clause-steps g c = λ opened log holds. no_memory_steps _ _ _ _ log c.args.served _ _ _ holds c.send_reply-in-Memory.ensures.sent
@@ -24,4 +34,4 @@ pub returns-in-Request-clause-counted : goal.returns-in-Request-clause-counted
 returns-in-Request-clause-counted g c =
     let reads = g.S.Source.read_faults c.read_request.new.source in
     counted_on (g.S.Source.read_faults c.args.connection.now.input) reads (g.O.Sink.write_faults c.args.connection.now.out) _ c.send_reply.result
-    c.in-Request.ensures.moves.faults (c.send_reply.ensures.counted reads)
+    c.in-Request.ensures.reads.faults (c.send_reply.ensures.counted reads)

@@ -22,9 +22,9 @@ returns-in-Some-clause-ends g c =
     let before = scene_of (g.S.Source.left c.loop-served.connection.input) (output_by g.O.Sink.sent g.O.Sink.write_faults c.loop-served.connection.out) in
     let after_it = scene_of (g.S.Source.left c.exchange.new.connection.input) (output_by g.O.Sink.sent g.O.Sink.write_faults c.exchange.new.connection.out) in
     stands_over (setting_of g.P.Keeper.growth g.P.Keeper.room (g.C.Clock.told c.args.connection.now.clock) opened) (given c.args.core.now.history) first before after_it
-    c.loop-served.buffer c.exchange.new.buffer was state c.loop-served.served c.in-Some.end held.stands
+    c.loop-served.buffer.pending c.exchange.new.buffer.pending was state c.loop-served.served c.in-Some.end held.stands
     (λ log holds. told_on g.P.Keeper.growth g.P.Keeper.room (g.C.Clock.told c.args.connection.now.clock) (g.C.Clock.told c.loop-served.connection.clock) opened log c.loop-served.served
-    before c.loop-served.buffer after_it c.exchange.new.buffer state (Some c.in-Some.end) (ap g.C.Clock.told held.clock) (c.in-Some.ensures.steps opened log holds))
+    before c.loop-served.buffer.pending after_it c.exchange.new.buffer.pending state (Some c.in-Some.end) (ap g.C.Clock.told held.clock) (c.in-Some.ensures.steps opened log holds))
 
 pub returns-in-Some-clause-causes : goal.returns-in-Some-clause-causes
 returns-in-Some-clause-causes g c = caused_on _ _ _ c.in-Some.end c.loop-served.invariant.counted c.in-Some.ensures.counted
@@ -43,9 +43,9 @@ loop-served-preserved g c =
     let after_it = scene_of (g.S.Source.left c.exchange.new.connection.input) (output_by g.O.Sink.sent g.O.Sink.write_faults c.exchange.new.connection.out) in
     record {
       stands = stands_next (setting_of g.P.Keeper.growth g.P.Keeper.room (g.C.Clock.told c.args.connection.now.clock) opened) (given c.args.core.now.history) first before after_it
-          c.loop-served.buffer c.exchange.new.buffer was state c.loop-served.served held.stands
+          c.loop-served.buffer.pending c.exchange.new.buffer.pending was state c.loop-served.served held.stands
           (λ log holds. told_on g.P.Keeper.growth g.P.Keeper.room (g.C.Clock.told c.args.connection.now.clock) (g.C.Clock.told c.loop-served.connection.clock) opened log c.loop-served.served
-          before c.loop-served.buffer after_it c.exchange.new.buffer state None (ap g.C.Clock.told held.clock) (c.in_default.ensures.steps opened log holds));
+          before c.loop-served.buffer.pending after_it c.exchange.new.buffer.pending state None (ap g.C.Clock.told held.clock) (c.in_default.ensures.steps opened log holds));
       counted = c.in_default.ensures.counted ∙ held.counted;
       clock = c.exchange.ensures.clock ∙ held.clock;
     }

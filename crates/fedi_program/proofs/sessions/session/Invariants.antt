@@ -11,7 +11,7 @@ invariant-loop-served g l =
     let first = scene_of (g.S.Source.left l.fn.connection.input) (output_by g.O.Sink.sent g.O.Sink.write_faults l.fn.connection.out) in
     record {
       stands : StandsFor (setting_of g.P.Keeper.growth g.P.Keeper.room (g.C.Clock.told l.fn.connection.clock) opened) (given l.fn.core.history) first
-          (scene_of (g.S.Source.left l.connection.input) (output_by g.O.Sink.sent g.O.Sink.write_faults l.connection.out)) l.buffer
+          (scene_of (g.S.Source.left l.connection.input) (output_by g.O.Sink.sent g.O.Sink.write_faults l.connection.out)) l.buffer.pending
           (state_of l.core.history (g.P.Keeper.shown l.core.keeper)) l.served;
       counted : faults_of (g.S.Source.read_faults l.connection.input) (g.O.Sink.write_faults l.connection.out)
           ≡ faults_of (g.S.Source.read_faults l.fn.connection.input) (g.O.Sink.write_faults l.fn.connection.out);

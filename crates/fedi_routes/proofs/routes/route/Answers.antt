@@ -1,19 +1,14 @@
-use Rattle.std.proofs.Common.{sym, ◌∙◌}
-use Rattle.fedi_routes.proofs.AskLemmas.{no_place, not_taken, built, postable}
+use Rattle.std.specs.Prelude.{option_copied}
+use Rattle.fedi_routes.proofs.AskLemmas.{asked_once, built, postable}
 use Rattle.fedi_routes.proofs.routes.route.Goals as goal
 
-pub returns-in_default-clause-asks : goal.returns-in_default-clause-asks
-returns-in_default-clause-asks c =
-    no_place c.args.request.now c.args.body.now
-    (λ name place is_name is_place path. c.in_default.ensures name place is_name is_place (c.path_of.ensures ∙ path))
+pub returns-in-Some-clause-once : goal.returns-in-Some-clause-once
+returns-in-Some-clause-once c = asked_once (option_copied c.args.host) c.args.request.now c.args.body.now
 
-pub returns-then-not-takes-clause-asks : goal.returns-then-not-takes-clause-asks
-returns-then-not-takes-clause-asks c =
-    not_taken c.args.request.now c.args.body.now c.in-Some.name c.in-Some.place c.in-Some.ensures.0 c.in-Some.ensures.1
-    (sym c.path_of.ensures ∙ c.in-Some.ensures.2) (sym c.takes.ensures ∙ c.if-not-takes.true)
+pub returns-in-Some-clause-postable : goal.returns-in-Some-clause-postable
+returns-in-Some-clause-postable c =
+    postable (option_copied c.args.host) c.args.request.now c.args.body.now c.in-Some.place c.ask_at.result c.ask_at.ensures.asks
 
-pub returns-clause-postable : goal.returns-clause-postable
-returns-clause-postable c = postable c.args.request.now c.args.body.now c.ask_of.result c.ask_of.ensures.asks
-
-pub returns-clause-built : goal.returns-clause-built
-returns-clause-built c = built c.args.request.now c.args.body.now c.ask_of.result c.ask_of.ensures.asks
+pub returns-in-Some-clause-built : goal.returns-in-Some-clause-built
+returns-in-Some-clause-built c =
+    built (option_copied c.args.host) c.args.request.now c.args.body.now c.in-Some.place c.ask_at.result c.ask_at.ensures.asks

@@ -1,5 +1,5 @@
 use Rattle.std.proofs.Common.{sym, ◌∙◌}
-use Rattle.fedi_routes.proofs.RouteLemmas.{front_found, front_all}
+use Rattle.fedi_routes.proofs.TextLemmas.{front_found, front_all}
 use Rattle.fedi_routes.proofs.texts.up_to.Goals as goal
 
 pub returns-in-Some : goal.returns-in-Some

@@ -1,4 +1,4 @@
-use Rattle.std.proofs.Common.{◌≡◌, Bool, ap, sym, ◌∙◌}
+use Rattle.std.proofs.Common.{Bool, ap, sym, ◌∙◌}
 use Rattle.std.specs.Prelude.{◌||◌, ◌&&◌}
 use Rattle.fedi_model.specs.Requests.{field_of, is_closing, lists_close}
 use Rattle.fedi_http.proofs.FieldLemmas.{closing-step}

@@ -1,0 +1,99 @@
+//! The replies to who asks who a member is, and to a method that a path does not have. Out of memory is
+//! the only error.
+
+ghost use Rattle.std.specs.Prelude.{◌≡◌, false, IfOk, option_copied};
+ghost use Rattle.serde_json.specs.View.{view};
+ghost use Rattle.serde_json.specs.Written.{has_float};
+ghost use Rattle.fedi_asks.specs.Reading.{actor_or_missing, profile_or_missing, webfinger_answer};
+ghost use Rattle.fedi_model.specs.Replies.{disallowed, reply_of, showing};
+ghost use Rattle.fedi_town.specs.Towns.{id_of};
+
+use fedi_address::LocalName;
+use fedi_facts::Facts;
+use fedi_model::{Allow, Body, Form, Reply, Resource, refusal_reply};
+use fedi_objects::public_text;
+use fedi_routes::{actor_value, jrd};
+use fedi_text::Text;
+use fedi_town::Refusal;
+use http::StatusCode;
+use serde_json::Value;
+use std::alloc::{AllocError, Global};
+
+/// The reply to a method that a path does not have, which tells those that it has (RFC 9110, sections
+/// 10.2.1 and 15.5.6). It takes no memory.
+pub fn wrong_method_reply(allow: Allow) -> Reply
+    ensures { result ≡ disallowed allow }
+{
+    let mut reply = refusal_reply(Refusal::WrongMethod);
+    reply.allow = Some(allow);
+    reply
+}
+
+// A document of this media type.
+fn showing(alloc: Global, form: Form, value: &Value) -> Result<Reply, AllocError>
+    requires { has_float (view value.now) ≡ false }
+    ensures { IfOk result (λ r. r ≡ showing 200 form (view value.now)) }
+{
+    let text = public_text(alloc, value)?;
+    Ok(Reply {
+        status: StatusCode::OK,
+        form,
+        location: None,
+        allow: None,
+        body: Body::from(text),
+    })
+}
+
+/// The reply to who reads the actor document of the member of this name (ActivityPub, section 4.1).
+pub fn actor_reply(alloc: Global, facts: &Facts, name: &LocalName) -> Result<Reply, AllocError>
+    ensures { IfOk result (λ r. r ≡ reply_of (actor_or_missing facts.now.town.host name.now
+        (id_of facts.now.town name.now))) }
+{
+    let Some(host) = facts.host() else {
+        return Ok(refusal_reply(Refusal::NotFound));
+    };
+    let Some(_id) = facts.id_of(name) else {
+        return Ok(refusal_reply(Refusal::NotFound));
+    };
+    let value = actor_value(alloc, name, host)?;
+    showing(alloc, Form::Activity, &value)
+}
+
+// The reply that describes the member of this name by these relations (RFC 7033, sections 4.2 to 4.4).
+fn profile_reply(
+    alloc: Global,
+    facts: &Facts,
+    name: &LocalName,
+    rels: &[Text],
+) -> Result<Reply, AllocError>
+    ensures { IfOk result (λ r. r ≡ reply_of (profile_or_missing facts.now.town.host name.now
+        rels.now (id_of facts.now.town name.now))) }
+{
+    let Some(host) = facts.host() else {
+        return Ok(refusal_reply(Refusal::NotFound));
+    };
+    let Some(_id) = facts.id_of(name) else {
+        return Ok(refusal_reply(Refusal::NotFound));
+    };
+    let value = jrd(alloc, name, host, rels)?;
+    showing(alloc, Form::Jrd, &value)
+}
+
+/// The reply to a query of WebFinger (RFC 7033, section 4.2): who the member is whom it names, 404 if it
+/// names none, and 400 if it is malformed.
+pub fn webfinger_reply(
+    alloc: Global,
+    facts: &Facts,
+    resource: Option<&Resource>,
+) -> Result<Reply, AllocError>
+    ensures { IfOk result (λ r. r
+        ≡ reply_of (webfinger_answer facts.now.town (option_copied resource.entry))) }
+{
+    let Some(resource) = resource else {
+        return Ok(refusal_reply(Refusal::BadQuery));
+    };
+    match &resource.name {
+        Some(name) => profile_reply(alloc, facts, name, resource.rels.as_slice()),
+        None => Ok(refusal_reply(Refusal::NotFound)),
+    }
+}

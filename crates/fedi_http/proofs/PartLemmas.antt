@@ -1,0 +1,49 @@
+-- Lemmas on a part of a list: the `count` items from `start` on.
+use Rattle.std.proofs.Common.{◌≡◌, ℕ, ◌+◌, ◌-◌, ◌≤◌, List, ◌++◌, length, take, drop, Option, IfOk, Result, Ok, Err, sym, ap, ◌∙◌, arith, length-take-le, length-drop}
+use Rattle.std.proofs.Math.Seq.{take-append-add}
+use Rattle.std.proofs.lemmas.List.{drop-append-le, drop-drop, drop-take, take-append-le, take-take}
+use Rattle.std.specs.Io.{ReadsAtMost}
+use Rattle.std.specs.Io.KnownBytes.{ReadConsumes}
+use Rattle.fedi_http.specs.Moves.{ReadsBehind}
+
+-- the items behind the first k of a part are a part
+pub part-drop : (xs : List ℕ) (start count k : ℕ) → k ≤ count → take (count - k) (drop (start + k) xs) ≡ drop k (take count (drop start xs))
+part-drop xs start count k h =
+    let split : k + (count - k) ≡ count = omega arith in
+    ap (take (count - k)) (sym (drop-drop k start xs))
+    ∙ sym (drop-take k (count - k) (drop start xs))
+    ∙ ap (λ m. drop k (take m (drop start xs))) split
+
+part-length : (xs : List ℕ) (start count : ℕ) → start + count ≤ length xs → length (take count (drop start xs)) ≡ count
+part-length xs start count h = length-take-le count (drop start xs) (omega (arith, length-drop start xs))
+
+-- what stands behind a part that was kept
+part-front : (xs into : List ℕ) (start count : ℕ) → start + count ≤ length xs
+    → drop start (take (start + count) xs ++ into) ≡ take count (drop start xs) ++ into
+part-front xs into start count h =
+    drop-append-le start (take (start + count) xs) into (omega (arith, length-take-le (start + count) xs h))
+    ∙ ap (λ (l : List ℕ). l ++ into) (drop-take start count xs)
+
+pub part-kept : (xs into : List ℕ) (start count : ℕ) → start + count ≤ length xs
+    → take count (drop start (take (start + count) xs ++ into)) ≡ take count (drop start xs)
+part-kept xs into start count h =
+    ap (take count) (part-front xs into start count h)
+    ∙ take-append-le count (take count (drop start xs)) into (omega (arith, part-length xs start count h))
+    ∙ take-take count count (drop start xs) (omega arith)
+
+front-read : (front into rest : List ℕ) (end n : ℕ) → length front ≡ end → n ≤ length into → take (end + n) (front ++ (into ++ rest)) ≡ front ++ take n into
+front-read front into rest end n long within =
+    ap (λ k. take (k + n) (front ++ (into ++ rest))) (sym long) ∙ take-append-add front (into ++ rest) n ∙ ap (λ l. front ++ l) (take-append-le n into rest within)
+
+part-read : (xs into rest : List ℕ) (start count n : ℕ) → start + count ≤ length xs → n ≤ length into
+    → take (count + n) (drop start (take (start + count) xs ++ (into ++ rest))) ≡ take count (drop start xs) ++ take n into
+part-read xs into rest start count n h within =
+    ap (take (count + n)) (part-front xs (into ++ rest) start count h)
+    ∙ front-read (take count (drop start xs)) into rest count n (part-length xs start count h) within
+
+-- what was read behind a part
+pub reads_behind : {E : Type 0} (a b : Option (List ℕ)) (r : Result ℕ E) (xs into rest : List ℕ) (start count : ℕ) → start + count ≤ length xs
+    → ReadsAtMost r into → ReadConsumes a b r into
+    → IfOk r (λ n. ReadsBehind a b (take count (drop start xs)) (take (count + n) (drop start (take (start + count) xs ++ (into ++ rest)))))
+reads_behind a b (Ok n) xs into rest start count inside bound read = (take n into, read.0, part-read xs into rest start count n inside bound.0)
+reads_behind a b (Err e) xs into rest start count inside bound read = tt

@@ -1,0 +1,193 @@
+//! The bytes that were read.
+ghost use Rattle.std.specs.Prelude.{◌≡◌, ◌+◌, ◌<◌, ◌≤◌, ◌++◌, [], length, take, drop, IfOk, IfErr, OnOk, OnErr};
+ghost use Rattle.std.specs.Io.KnownBytes.{Consumes, IsAtEnd};
+ghost use Rattle.fedi_outside.specs.Causes.{HasCause};
+ghost use Rattle.fedi_http.specs.Moves.{OnEnd, Reads, ReadsBehind, StopsReading, has_fault};
+
+use crate::heads::HEAD_LIMIT;
+use crate::read_error::ReadError;
+use fedi_model::BODY_LIMIT;
+use fedi_outside::{Failed, Source};
+use std::alloc::{AllocError, Global};
+use std::marker::Model;
+
+/// How many bytes a buffer has at most, read or room: those of one head and one body.
+pub const BUFFER_LIMIT: usize = HEAD_LIMIT + BODY_LIMIT;
+
+/// The body of the last request, and bytes behind it that were read and are not yet used up: those
+/// that are pending. It has at most `BUFFER_LIMIT` bytes, read or room.
+#[derive(Drop)]
+pub struct Buffer {
+    bytes: Vec<u8>,
+    // The body are the first `held` bytes, and what is pending are the `count` bytes from `start`
+    // on. The rest is room. What is between the two was used up: a body that comes in chunks is
+    // joined there.
+    held: usize,
+    start: usize,
+    count: usize,
+}
+
+impl Model for Buffer {
+    ghost use Rattle.std.specs.Prelude.{◌+◌, ◌≤◌, length, take, drop};
+    ghost use Rattle.fedi_http.specs.Moves.{Held};
+    ghost use Rattle.fedi_http.specs.declared.buffer.TheConstants.{BUFFER_LIMIT};
+
+    ghost Value = { Held };
+
+    ghost view = { λ b. record {
+      body = take b.held b.bytes.items;
+      pending = take b.count (drop b.start b.bytes.items);
+    } };
+
+    ghost invariant = { λ b. (b.held ≤ b.start) × (b.start + b.count ≤ length b.bytes.items)
+        × (length b.bytes.items ≤ BUFFER_LIMIT) };
+}
+
+impl Buffer {
+    /// A buffer with no body and nothing pending, which takes no memory yet.
+    pub fn new(alloc: Global) -> Self
+        ensures { result ≡ record { body = []; pending = [] } }
+    {
+        Buffer {
+            bytes: Vec::new(alloc),
+            held: 0,
+            start: 0,
+            count: 0,
+        }
+    }
+
+    /// The bytes that are pending.
+    pub fn pending(&self) -> &[u8]
+        ensures pending { result.now ≡ self.now.pending }
+        ensures bound { length self.now.body + length self.now.pending ≤ BUFFER_LIMIT }
+    {
+        &self.bytes[self.start..self.start + self.count]
+    }
+
+    /// The body of the request that was read last.
+    pub fn body(&self) -> &[u8]
+        ensures body { result.now ≡ self.now.body }
+        ensures bound { length self.now.body + length self.now.pending ≤ BUFFER_LIMIT }
+    {
+        &self.bytes[..self.held]
+    }
+
+    // Drops this many bytes from the front of what is pending.
+    pub(crate) fn skip(&mut self, count: usize)
+        requires { count ≤ length self.old.pending }
+        ensures body { self.new.body ≡ self.old.body }
+        ensures pending { self.new.pending ≡ drop count self.old.pending }
+    {
+        self.start += count;
+        self.count -= count;
+    }
+
+    // Drops the body.
+    pub(crate) fn drop_body(&mut self)
+        ensures body { self.new.body ≡ [] }
+        ensures pending { self.new.pending ≡ self.old.pending }
+    {
+        self.held = 0;
+    }
+
+    // Moves this many bytes from the front of what is pending to the end of the body.
+    pub(crate) fn join(&mut self, count: usize)
+        requires { count ≤ length self.old.pending }
+        ensures body { self.new.body ≡ self.old.body ++ take count self.old.pending }
+        ensures pending { self.new.pending ≡ drop count self.old.pending }
+    {
+        move_down(&mut self.bytes, self.held, self.start, count);
+        self.held += count;
+        self.start += count;
+        self.count -= count;
+    }
+
+    // Reads once into the room behind what is pending, which has at least `limit` bytes with what
+    // is pending. The error is `CutShort` at the end of the input, `ReadFault` or `Memory`, and no
+    // byte came then.
+    pub(crate) fn fill<S: Source>(&mut self, source: &mut S, limit: usize) -> Result<(), ReadError>
+        requires short { length self.old.pending < limit }
+        requires bound { length self.old.body + limit ≤ BUFFER_LIMIT }
+        ensures reads { Reads S.left S.read_faults S.beside_source source.old source.new
+            (has_fault result) (Unit {0})
+            (λ more. self.new.pending ≡ self.old.pending ++ more) }
+        ensures body { self.new.body ≡ self.old.body }
+        ensures more { OnOk result (length self.old.pending < length self.new.pending) }
+        ensures same { OnErr result (self.new.pending ≡ self.old.pending) }
+        ensures ended { IfErr result (λ e. OnEnd e (IsAtEnd (S.left source.new))) }
+        ensures errors { IfErr result StopsReading }
+    {
+        let room = (self.held + limit.max(HEAD_LIMIT)).min(BUFFER_LIMIT);
+        make_room(&mut self.bytes, self.held, self.start, self.count, room)?;
+        self.start = self.held;
+        let more = read_behind(source, &mut self.bytes, self.start, self.count)?;
+        if more == 0 {
+            return Err(ReadError::CutShort);
+        }
+        self.count += more;
+        Ok(())
+    }
+}
+
+// Moves the `count` bytes at `from` down to `to`.
+fn move_down(bytes: &mut [u8], to: usize, from: usize, count: usize)
+    requires down { to ≤ from }
+    requires within { from + count ≤ length bytes.old }
+    ensures front { take to bytes.new ≡ take to bytes.old }
+    ensures moved { take count (drop to bytes.new) ≡ take count (drop from bytes.old) }
+    ensures joined { take (to + count) bytes.new
+        ≡ take to bytes.old ++ take count (drop from bytes.old) }
+    ensures behind { drop (from + count) bytes.new ≡ drop (from + count) bytes.old }
+{
+    if to < from {
+        bytes.copy_within(from..from + count, to);
+    }
+}
+
+// Moves the `count` bytes at `from` down to `to`, with room for `limit` bytes in all.
+fn make_room(
+    bytes: &mut Vec<u8>,
+    to: usize,
+    from: usize,
+    count: usize,
+    limit: usize,
+) -> Result<(), AllocError>
+    requires down { to ≤ from }
+    requires within { from + count ≤ length bytes.old.items }
+    requires bound { limit ≤ BUFFER_LIMIT }
+    requires bounded { length bytes.old.items ≤ BUFFER_LIMIT }
+    ensures front { OnOk result (take to bytes.new.items ≡ take to bytes.old.items) }
+    ensures moved { OnOk result
+        (take count (drop to bytes.new.items) ≡ take count (drop from bytes.old.items)) }
+    ensures fits { OnOk result (to + count ≤ length bytes.new.items) }
+    ensures room { OnOk result (limit ≤ length bytes.new.items) }
+    ensures bounded { OnOk result (length bytes.new.items ≤ BUFFER_LIMIT) }
+    ensures failed { OnErr result (bytes.new.items ≡ bytes.old.items) }
+{
+    if bytes.len() < limit {
+        bytes.resize(limit, 0)?;
+    }
+    move_down(bytes, to, from, count);
+    Ok(())
+}
+
+// Reads into the room behind the `count` bytes at `start`.
+fn read_behind<S: Source>(
+    source: &mut S,
+    bytes: &mut [u8],
+    start: usize,
+    count: usize,
+) -> Result<usize, Failed>
+    requires { start + count < length bytes.old }
+    ensures front { take start bytes.new ≡ take start bytes.old }
+    ensures kept { take count (drop start bytes.new) ≡ take count (drop start bytes.old) }
+    ensures bound { IfOk result (λ n. start + count + n ≤ length bytes.new) }
+    ensures read { IfOk result (λ n. ReadsBehind (S.left source.old) (S.left source.new)
+        (take count (drop start bytes.old)) (take (count + n) (drop start bytes.new))) }
+    ensures ended { IfOk result (λ n. n ≡ 0 → IsAtEnd (S.left source.new)) }
+    ensures failed { OnErr result (Consumes (S.left source.old) (S.left source.new) []) }
+    ensures beside { S.beside_source source.new ≡ S.beside_source source.old }
+    ensures cause { HasCause (S.read_faults source.old) (S.read_faults source.new) result }
+{
+    source.read(&mut bytes[start + count..])
+}

@@ -1,0 +1,122 @@
+-- What the making of a member leaves: a status that it may end with, and a machine that stands for a log.
+use Rattle.std.proofs.Common.{◌≡◌, ℕ, Bool, true, List, Option, Some, None, inl, inr, refl, sym, ap, subst, ◌∙◌, arith}
+use Rattle.fedi_core.specs.Commands.{RefusesCommand}
+use Rattle.fedi_core.specs.Keeping.{HasFailedOnce, IsKept}
+use Rattle.fedi_log.specs.Keeping.{Follows, State, base_of}
+use Rattle.fedi_log.specs.Log.{Failed, Full, Kept, NoEntry, Outcome, given}
+use Rattle.fedi_log.proofs.Keeping.{holds_given, since_more, unchanged}
+use Rattle.fedi_objects.specs.declared.entry.Entry.{Entry}
+use Rattle.fedi_outside.specs.Keepers.{KeeperState, OnlyRoomChanged}
+use Rattle.fedi_town.specs.declared.command_fault.CommandFault.{CommandFault}
+use Rattle.fedi_town.specs.declared.command_fault.CommandFault.TheVariants as faults
+use Rattle.fedi_town.specs.Histories.{town}
+use Rattle.fedi_town.specs.Towns.{Town}
+use Rattle.fedi_program.specs.Commands.{AddActor, Task}
+use Rattle.fedi_program.specs.Endings.{HoldsALog, Output, Prints, setting_of}
+use Rattle.fedi_program.specs.Members.{Chance, EndsWith, IsMade, IsRefused, IsUnchanged, MakesMember, TellsFault, key_line, member_entry}
+use Rattle.fedi_program.specs.Runs.{is_status_of}
+
+-- ---- the status
+
+ends_with : (task : Option Task) (status known : ℕ) → is_status_of task known ≡ true → status ≡ known → is_status_of task status ≡ true
+ends_with task status known may is = subst (λ (s : ℕ). is_status_of task s ≡ true) (sym is) may
+
+fault_status : (fault : CommandFault) (first now : Output) (name : List ℕ) (locked : Bool) (status : ℕ) → TellsFault fault first now status
+    → is_status_of (Some (AddActor name locked)) status ≡ true
+fault_status faults.NameTaken first now name locked status told = ends_with (Some (AddActor name locked)) status 10 refl told.0
+fault_status faults.KeyTaken first now name locked status told = ends_with (Some (AddActor name locked)) status 10 refl told.0
+fault_status faults.HostTaken first now name locked status told = ends_with (Some (AddActor name locked)) status 10 refl told.0
+fault_status faults.BadAddress first now name locked status told = ends_with (Some (AddActor name locked)) status 10 refl told.0
+fault_status faults.Full first now name locked status told = ends_with (Some (AddActor name locked)) status 13 refl told.0
+fault_status faults.KeeperFault first now name locked status told = ends_with (Some (AddActor name locked)) status 5 refl told.0
+fault_status faults.Memory first now name locked status told = ends_with (Some (AddActor name locked)) status 12 refl told.0
+
+print_status : (first now : Output) (line name : List ℕ) (locked : Bool) (status : ℕ) → Prints first now line status
+    → is_status_of (Some (AddActor name locked)) status ≡ true
+print_status first now line name locked status (inl done) = ends_with (Some (AddActor name locked)) status 0 refl done.0
+print_status first now line name locked status (inr failed) = ends_with (Some (AddActor name locked)) status 7 refl failed.0
+
+end_status : (growth room : ℕ → ℕ) (before after : State) (first now : Output) (name : List ℕ) (locked : Bool) (e : Entry) (line : List ℕ) (status : ℕ)
+    → EndsWith growth room before after first now name e line status → is_status_of (Some (AddActor name locked)) status ≡ true
+end_status growth room before after first now name locked e line status (inl bad) = ends_with (Some (AddActor name locked)) status 10 refl bad.2.0
+end_status growth room before after first now name locked e line status (inr (_, inl refused)) = fault_status refused.0 first now name locked status refused.3
+end_status growth room before after first now name locked e line status (inr (_, inr made)) = print_status first now line name locked status made.2
+
+pub member_status : (growth room : ℕ → ℕ) (told : Option ℕ) (chance left : Chance) (before after : State) (first now : Output) (name : List ℕ) (locked : Bool) (status : ℕ)
+    → MakesMember growth room told chance left before after first now name locked status → is_status_of (Some (AddActor name locked)) status ≡ true
+member_status growth room told chance left before after first now name locked status (inl none) = ends_with (Some (AddActor name locked)) status 12 refl none.0
+member_status growth room told chance left before after first now name locked status (inr (inl none)) = ends_with (Some (AddActor name locked)) status 3 refl none.2.0
+member_status growth room told chance left before after first now name locked status (inr (inr (_, inl failed))) = ends_with (Some (AddActor name locked)) status 6 refl failed.0
+member_status growth room told chance left before after first now name locked status (inr (inr (_, inr (key, moment, _, _, ends)))) =
+    end_status growth room before after first now name locked (member_entry name key locked moment) (key_line name key) status ends
+
+-- ---- the log
+
+still : (growth : ℕ → ℕ) (before after : State) → after.history ≡ before.history → OnlyRoomChanged before.keeper after.keeper → Follows growth before after NoEntry
+still growth before after same k = unchanged growth before after same k.records k.end k.doubt k.faults
+
+same_room : (k : KeeperState) → OnlyRoomChanged k k
+same_room k = record { records = refl; doubt = refl; end = refl; faults = refl }
+
+unasked : (growth : ℕ → ℕ) (before after : State) → after.history ≡ before.history → after.keeper ≡ before.keeper → Follows growth before after NoEntry
+unasked growth before after same k =
+    still growth before after same (subst (λ (x : KeeperState). OnlyRoomChanged before.keeper x) (sym k) (same_room before.keeper))
+
+full : (growth : ℕ → ℕ) (before after : State) (e : Entry) → Follows growth before after NoEntry → Follows growth before after (Full e)
+full growth before after e f = record { history = f.history; records = f.records; end = f.end; doubt = f.doubt; faults = f.faults }
+
+refused_follows : (growth room : ℕ → ℕ) (t : Town) (before after : State) (e : Entry) (fault : CommandFault) → after.history ≡ before.history
+    → RefusesCommand room t e fault before.keeper after.keeper → (o : Outcome) × Follows growth before after o
+refused_follows growth room t before after e faults.NameTaken same refused = (NoEntry, unasked growth before after same refused.1)
+refused_follows growth room t before after e faults.KeyTaken same refused = (NoEntry, unasked growth before after same refused.1)
+refused_follows growth room t before after e faults.HostTaken same refused = (NoEntry, unasked growth before after same refused.1)
+refused_follows growth room t before after e faults.BadAddress same refused = (NoEntry, unasked growth before after same refused.1)
+refused_follows growth room t before after e faults.Full same refused = (Full e, full growth before after e (still growth before after same refused.1.1))
+refused_follows growth room t before after e faults.Memory same refused = (NoEntry, still growth before after same refused.1)
+refused_follows growth room t before after e faults.KeeperFault same refused =
+    let k = refused.1.1 in
+    let quiet = unasked growth before (record after { keeper = before.keeper }) same refl in (
+      Failed e,
+      record {
+        history = quiet.history;
+        records = k.records ∙ quiet.records;
+        end = let moved = k.end in omega (arith, moved);
+        doubt = k.doubt;
+        faults = let rose = k.faults in omega (arith, rose);
+      },
+    )
+
+kept_follows : (growth room : ℕ → ℕ) (before after : State) (e : Entry) → IsKept growth room before.history e before.keeper after.keeper after.history → Follows growth before after (Kept e)
+kept_follows growth room before after e k = record {
+  history = k.history;
+  records = k.keeper.records;
+  end = let moved = k.keeper.end in omega (arith, moved);
+  doubt = k.keeper.doubt;
+  faults = let same = k.keeper.faults in omega (arith, same);
+}
+
+nothing_done : (growth : ℕ → ℕ) (before after : State) → after ≡ before → Follows growth before after NoEntry
+nothing_done growth before after same = unasked growth before after (ap (λ (s : State). s.history) same) (ap (λ (s : State). s.keeper) same)
+
+end_follows : (growth room : ℕ → ℕ) (before after : State) (first now : Output) (name : List ℕ) (e : Entry) (line : List ℕ) (status : ℕ)
+    → EndsWith growth room before after first now name e line status → (o : Outcome) × Follows growth before after o
+end_follows growth room before after first now name e line status (inl bad) = (NoEntry, nothing_done growth before after bad.1)
+end_follows growth room before after first now name e line status (inr (_, inl refused)) =
+    refused_follows growth room (town before.history) before after e refused.0 refused.2 refused.1
+end_follows growth room before after first now name e line status (inr (_, inr made)) = (Kept e, kept_follows growth room before after e made.1)
+
+member_follows : (growth room : ℕ → ℕ) (told : Option ℕ) (chance left : Chance) (before after : State) (first now : Output) (name : List ℕ) (locked : Bool) (status : ℕ)
+    → MakesMember growth room told chance left before after first now name locked status → (o : Outcome) × Follows growth before after o
+member_follows growth room told chance left before after first now name locked status (inl none) = (NoEntry, still growth before after none.2.history none.2.keeper)
+member_follows growth room told chance left before after first now name locked status (inr (inl none)) = (NoEntry, nothing_done growth before after none.1)
+member_follows growth room told chance left before after first now name locked status (inr (inr (_, inl failed))) = (NoEntry, nothing_done growth before after failed.2)
+member_follows growth room told chance left before after first now name locked status (inr (inr (_, inr (key, moment, _, _, ends)))) =
+    end_follows growth room before after first now name (member_entry name key locked moment) (key_line name key) status ends
+
+-- the record that came to the keeper, if one did, is that of the entry
+pub member_holds : (growth room : ℕ → ℕ) (told : Option ℕ) (chance left : Chance) (before after : State) (first now : Output) (name : List ℕ) (locked : Bool) (status : ℕ)
+    → MakesMember growth room told chance left before after first now name locked status → HoldsALog (setting_of growth room told before) (given before.history) after
+member_holds growth room told chance left before after first now name locked status made =
+    let f = member_follows growth room told chance left before after first now name locked status made in
+    let b = base_of growth room before in
+    (_, since_more b None before after (given before.history) f.0 ((holds_given b None before refl refl).holds) f.1)

@@ -1,0 +1,107 @@
+-- Making a member: the operator's command, the key that is drawn for it, and what is printed.
+use Rattle.std.specs.Prelude.{◌≡◌, ◌⊎◌, ℕ, Bool, true, false, List, [], ◌++◌, length, codes, Option, None, is_none}
+use Rattle.std.specs.Io.KnownBytes.{Consumes, Keeps}
+use Rattle.hex.specs.Hex.{encode_lower}
+use Rattle.sha2.specs.Sha256.{sha256}
+use Rattle.fedi_address.specs.Names.{is_name}
+use Rattle.fedi_objects.specs.declared.entry.Entry.{Entry}
+use Rattle.fedi_objects.specs.declared.entry.Entry.TheVariants.{Made}
+use Rattle.fedi_town.specs.declared.command_fault.CommandFault.{CommandFault}
+use Rattle.fedi_town.specs.declared.command_fault.CommandFault.TheVariants.{NameTaken, KeyTaken, HostTaken, BadAddress, Full, KeeperFault, Memory}
+use Rattle.fedi_town.specs.Histories.{town}
+use Rattle.fedi_town.specs.Legal.{broken_command}
+use Rattle.fedi_outside.specs.Causes.{next_count}
+use Rattle.fedi_outside.specs.Keepers.{OnlyRoomChanged}
+use Rattle.fedi_log.specs.Keeping.{State}
+use Rattle.fedi_core.specs.Commands.{RefusesCommand}
+use Rattle.fedi_core.specs.Keeping.{IsKept}
+use Rattle.fedi_program.specs.Conversations.{IsNow}
+use Rattle.fedi_program.specs.Endings.{Output, Writes, WritesUnlessFailed, Prints}
+
+-- ---- keys
+
+-- what keys are drawn from: the bytes to come, if they are told, and how many draws failed
+pub record Chance : Type 0 where
+  pub next : Option (List ℕ)
+  pub faults : ℕ
+
+-- the chance of this source of keys, by what tells of such
+abbrev pub chance_by : {E : Type 0} → (E → Option (List ℕ)) → (E → ℕ) → E → Chance
+chance_by next faults entropy = record { next = next entropy; faults = faults entropy }
+
+-- the key was drawn: it is the bytes that came next
+pub record Draws (before now : Chance) (key : List ℕ) : Type 0 where
+  pub bytes : Consumes before.next now.next key
+  pub length_is : length key ≡ 32
+  pub calm : now.faults ≡ before.faults
+
+-- no key was drawn, since the draw failed
+pub record FailsToDraw (before now : Chance) : Type 0 where
+  pub bytes : Keeps before.next now.next
+  pub cause : now.faults ≡ next_count before.faults
+
+-- ---- what is printed
+
+-- the line that tells the operator the key of a new member: the name, a space, and the key in 64 digits
+unfoldable pub key_line : List ℕ → List ℕ → List ℕ
+key_line name key = name ++ (codes " " ++ (encode_lower key ++ codes "\n"))
+
+-- the line that refuses a command for this reason
+abbrev pub refusal_line : List ℕ → List ℕ
+refusal_line reason = codes "refused: " ++ (reason ++ codes "\n")
+
+-- the text was printed, unless that write failed; the status stays
+abbrev pub Tells : Output → Output → ℕ → List ℕ → ℕ → Type 0
+Tells before now status text given = (given ≡ status) × WritesUnlessFailed before now [] text
+
+-- what is printed for a command that was refused, and the status: a rule that is broken is told (10), a keeper that failed (5)
+-- and one that has no room (13); out of memory (12) nothing is printed
+abbrev pub TellsFault : CommandFault → Output → Output → ℕ → Type 0
+TellsFault NameTaken before now status = Tells before now 10 (refusal_line (codes "name taken")) status
+TellsFault KeyTaken before now status = Tells before now 10 (refusal_line (codes "key taken")) status
+TellsFault HostTaken before now status = Tells before now 10 (refusal_line (codes "host taken")) status
+TellsFault BadAddress before now status = Tells before now 10 (refusal_line (codes "bad address")) status
+TellsFault Full before now status = Tells before now 13 (codes "full\n") status
+TellsFault KeeperFault before now status = Tells before now 5 (codes "disk fault\n") status
+TellsFault Memory before now status = (status ≡ 12) × Writes before now []
+
+-- ---- the command
+
+-- the entry of a new member: the digest of the key is kept, and not the key
+abbrev pub member_entry : List ℕ → List ℕ → Bool → ℕ → Entry
+member_entry name key locked moment = Made name (sha256 key) locked moment
+
+-- nothing was kept
+pub record IsUnchanged (before after : State) : Type 0 where
+  pub history : after.history ≡ before.history
+  pub keeper : OnlyRoomChanged before.keeper after.keeper
+
+-- the entry was kept, and the line printed, unless that write failed (7)
+abbrev pub IsMade : (ℕ → ℕ) → (ℕ → ℕ) → State → State → Output → Output → Entry → List ℕ → ℕ → Type 0
+IsMade growth room before after first now e line status =
+    (broken_command (town before.history) e ≡ None) × IsKept growth room before.history e before.keeper after.keeper after.history
+    × Prints first now line status
+
+-- a rule was broken, or the keeper refused the entry
+abbrev pub IsRefused : (ℕ → ℕ) → State → State → Output → Output → Entry → ℕ → Type 0
+IsRefused room before after first now e status =
+    (fault : CommandFault) × RefusesCommand room (town before.history) e fault before.keeper after.keeper
+    × (after.history ≡ before.history) × TellsFault fault first now status
+
+-- How the command ends that is to make a member of this name with this entry and this line: the text is no name, or else the
+-- entry is refused or kept.
+abbrev pub EndsWith : (ℕ → ℕ) → (ℕ → ℕ) → State → State → Output → Output → List ℕ → Entry → List ℕ → ℕ → Type 0
+EndsWith growth room before after first now name e line status =
+    ((is_name name ≡ false) × (after ≡ before) × Tells first now 10 (refusal_line (codes "bad name")) status)
+    ⊎ ((is_name name ≡ true) × (IsRefused room before after first now e status ⊎ IsMade growth room before after first now e line status))
+
+-- How a run ends that is to make a member of this name: out of memory (12), when no draw failed, nothing is kept and nothing
+-- printed; there is no host, so no store (3); no key could be drawn (6); or a key was drawn, and it ended as above.
+abbrev pub MakesMember : (ℕ → ℕ) → (ℕ → ℕ) → Option ℕ → Chance → Chance → State → State → Output → Output → List ℕ → Bool → ℕ → Type 0
+MakesMember growth room told chance left before after first now name locked status =
+    ((status ≡ 12) × (left.faults ≡ chance.faults) × IsUnchanged before after × Writes first now [])
+    ⊎ (((is_none (town before.history).host ≡ true) × (after ≡ before) × Tells first now 3 (codes "not a store\n") status)
+    ⊎ ((is_none (town before.history).host ≡ false)
+      × (((status ≡ 6) × FailsToDraw chance left × (after ≡ before) × Writes first now [])
+      ⊎ ((key : List ℕ) × (moment : ℕ) × Draws chance left key × IsNow told moment
+        × EndsWith growth room before after first now name (member_entry name key locked moment) (key_line name key) status))))

@@ -1,0 +1,28 @@
+//! What a run prints, and the status that it then ends with.
+
+ghost use Rattle.fedi_program.specs.Endings.{Prints, output_by};
+ghost use Rattle.fedi_program.specs.Members.{Tells};
+
+use crate::statuses::{DONE, WRITE_FAULT};
+use fedi_http::send;
+use fedi_outside::{Failed, Sink};
+
+/// Prints the text of a run that is done. The answer is the exit status: 0, or 7 if a write failed.
+pub fn print<O: Sink>(out: &mut O, text: &[u8]) -> u8
+    ensures { Prints (output_by O.sent O.write_faults out.old)
+        (output_by O.sent O.write_faults out.new) text.now result }
+{
+    match send(out, text) {
+        Ok(()) => DONE,
+        Err(Failed) => WRITE_FAULT,
+    }
+}
+
+/// Prints the text that tells of a status other than 0, which stays if a write failed.
+pub fn tell<O: Sink>(out: &mut O, status: u8, text: &[u8]) -> u8
+    ensures { Tells (output_by O.sent O.write_faults out.old)
+        (output_by O.sent O.write_faults out.new) status text.now result }
+{
+    let _ = send(out, text);
+    status
+}

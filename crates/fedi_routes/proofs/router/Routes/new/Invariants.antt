@@ -1,0 +1,6 @@
+use Rattle.std.proofs.Common.{◌≡◌, drop}
+use Rattle.fedi_routes.specs.Table as table
+use Rattle.fedi_routes.proofs.router.Routes.new.Given as goal
+
+abbrev pub invariant-loop-kind : goal.invariant-loop-kind
+invariant-loop-kind l = table.added (drop l.kind-index l.kind-items) l.router ≡ table.rows

@@ -1,0 +1,74 @@
+//! The router of the server.
+
+ghost use Rattle.std.specs.Prelude.{◌≡◌, ◌∷◌, [], ℕ, List, OnOk, MatchOption};
+ghost use Rattle.matchit.specs.Params.{AllText, named, walk};
+ghost use Rattle.fedi_routes.specs.Table as table;
+ghost use Rattle.fedi_routes.specs.Table.{IsRouted, or_empty};
+ghost use Rattle.fedi_routes.specs.declared.kinds.Kind.{Kind};
+
+use crate::kinds::Kind;
+use matchit::{Params, Router};
+use std::alloc::{AllocError, Global};
+
+/// The routes of the server. They are made once, and lent to whoever routes a request.
+#[derive(Drop)]
+pub struct Routes {
+    router: Router<Kind>,
+    ghost whole: { router ≡ table.rows },
+}
+
+/// The route that a path has, with the texts of its parameters. A text is empty if the route has no
+/// such parameter.
+#[derive(Clone, Copy, Drop)]
+pub(crate) struct Routed<'p> {
+    pub(crate) kind: Kind,
+    pub(crate) name: &'p str,
+    pub(crate) number: &'p str,
+}
+
+impl Routes {
+    /// The routes. The error is out of memory.
+    pub fn new(alloc: Global) -> Result<Routes, AllocError> {
+        let mut router = Router::new(alloc);
+        for kind in Kind::ALL.iter() {
+            add(&mut router, *kind)?;
+        }
+        Ok(Routes { router })
+    }
+
+    /// The route of the path.
+    pub(crate) fn find<'p>(&self, path: &'p str) -> Option<Routed<'p>>
+        ensures { MatchOption result
+            ((kind : Kind) (name number : List ℕ) → ¬ (IsRouted kind name number path.now))
+            (λ routed. IsRouted routed.kind routed.name.now routed.number.now path.now) }
+    {
+        let Ok(found) = self.router.at(path) else {
+            return None;
+        };
+        Some(Routed {
+            kind: *found.value,
+            name: parameter(&found.params, "name"),
+            number: parameter(&found.params, "number"),
+        })
+    }
+}
+
+/// Adds the route of a kind of places. The error is out of memory.
+fn add(router: &mut Router<Kind>, kind: Kind) -> Result<(), AllocError>
+    ensures { OnOk result (router.new ≡ table.added (kind ∷ []) router.old) }
+{
+    // No other error comes: the routes are well formed, and no two are the same.
+    let Ok(()) = router.insert(kind.route(), kind) else {
+        return Err(AllocError);
+    };
+    Ok(())
+}
+
+/// What the parameter of this name took, or nothing if there is none.
+fn parameter<'p>(params: &Params<'_, 'p>, name: &str) -> &'p str
+    ensures { let taken = walk params.now.pattern.now params.now.text.now params.now.path.now
+        params.now.names.now 0 0
+        in AllText taken → result.now ≡ or_empty (named name.now taken) }
+{
+    params.get(name).unwrap_or("")
+}
