@@ -10,7 +10,7 @@ use fedi_core::{Core, Decision, KeepError, KeepFault};
 use fedi_http::reply_bytes;
 use fedi_model::{Refusal, Request, refusal_reply};
 use fedi_outside::Keeper;
-use fedi_routes::{credentials, route};
+use fedi_routes::{Routes, credentials, route};
 use fedi_text::Moment;
 use std::alloc::{AllocError, Global};
 
@@ -35,6 +35,7 @@ pub fn refusal_text(
 pub fn answer<P: Keeper>(
     alloc: Global,
     core: &mut Core<P>,
+    routes: &Routes,
     request: &Request,
     body: &[u8],
     moment: Moment,
@@ -54,7 +55,7 @@ pub fn answer<P: Keeper>(
         Ok(caller) => caller,
         Err(refusal) => return refusal_text(alloc, refusal, moment, head_only, closing),
     };
-    let ask = route(alloc, request, body)?;
+    let ask = route(alloc, request, body, core.host(), routes)?;
     let Decision { reply, entry } = core.decide(alloc, &caller, ask, moment)?;
     let text = reply_bytes(alloc, &reply, moment, head_only, closing)?;
     let Some(entry) = entry else {

@@ -23,6 +23,7 @@ use crate::usage::usage;
 use fedi_core::Core;
 use fedi_objects::Entry;
 use fedi_outside::{Clock, Entropy, Keeper, Sink, Source};
+use fedi_routes::Routes;
 use std::alloc::Global;
 
 /// How a run ended.
@@ -72,9 +73,16 @@ fn inetd<S: Source, O: Sink, P: Keeper, C: Clock>(
     ensures statuses { IsTrue (is_status_of (Some Inetd) result.status) }
     ensures clock { connection.new.clock ≡ connection.old.clock }
 {
+    let Ok(routes) = Routes::new(alloc) else {
+        return Ended {
+            status: OUT_OF_MEMORY,
+            history,
+            keeper,
+        };
+    };
     match Core::open(alloc, history, keeper) {
         Ok(mut core) => {
-            let end = session(alloc, &mut core, connection);
+            let end = session(alloc, &mut core, &routes, connection);
             let (history, keeper) = core.close();
             Ended {
                 status: status_of(end),

@@ -12,6 +12,7 @@ use fedi_core::Core;
 use fedi_http::{Arrived, Buffer, memory_text, read_request, send};
 use fedi_model::Request;
 use fedi_outside::{Clock, Failed, Keeper, Sink, Source};
+use fedi_routes::Routes;
 use fedi_text::Moment;
 use std::alloc::{AllocError, Global};
 
@@ -76,6 +77,7 @@ fn is_last(request: &Request, served: u64) -> bool
 fn exchange<S: Source, O: Sink, P: Keeper, C: Clock>(
     alloc: Global,
     core: &mut Core<P>,
+    routes: &Routes,
     connection: &mut Connection<S, O, C>,
     buffer: &mut Buffer,
     served: u64,
@@ -100,7 +102,7 @@ fn exchange<S: Source, O: Sink, P: Keeper, C: Clock>(
         Arrived::Request(request) => {
             let closing = is_last(&request, served);
             let moment = Moment::clamped(connection.clock.now());
-            let text = answer(alloc, core, &request, buffer.body(), moment, closing);
+            let text = answer(alloc, core, routes, &request, buffer.body(), moment, closing);
             send_reply(&mut connection.out, text, closing)
         }
         Arrived::Refused(refusal) => {
@@ -120,6 +122,7 @@ fn exchange<S: Source, O: Sink, P: Keeper, C: Clock>(
 pub fn session<S: Source, O: Sink, P: Keeper, C: Clock>(
     alloc: Global,
     core: &mut Core<P>,
+    routes: &Routes,
     connection: &mut Connection<S, O, C>,
 ) -> SessionEnd
     // From the history that the machine has, the log goes on by what is kept and what the keeper
@@ -138,7 +141,7 @@ pub fn session<S: Source, O: Sink, P: Keeper, C: Clock>(
 {
     let mut buffer = Buffer::new(alloc);
     for served in 0..MOST_REQUESTS {
-        if let Some(end) = exchange(alloc, core, connection, &mut buffer, served) {
+        if let Some(end) = exchange(alloc, core, routes, connection, &mut buffer, served) {
             return end;
         }
     }

@@ -792,8 +792,8 @@ const REFUSED_POSTS: [(&str, &str, &str, &str, &str, &str); 14] = [
         "",
         JSON,
         NOTE_BODY,
-        "404",
-        "{\"error\":\"NotFound\"}",
+        "405",
+        "{\"error\":\"WrongMethod\"}",
     ),
     (
         "/users/ana/outbox",
@@ -858,6 +858,18 @@ const PSST_LAST: &str =
 const NOT_FOUND_LAST: &str =
     "HTTP/1.1 404 Not Found\r\nDate: Sun, 06 Nov 1994 08:49:37 GMT\r\nContent-Type: application/json\r\nContent-Length: 20\r\nConnection: close\r\n\r\n{\"error\":\"NotFound\"}";
 
+const ACTOR_LAST: &str =
+    "HTTP/1.1 200 OK\r\nDate: Sun, 06 Nov 1994 08:49:37 GMT\r\nContent-Type: application/activity+json\r\nContent-Length: 385\r\nConnection: close\r\n\r\n{\"@context\":\"https://www.w3.org/ns/activitystreams\",\"followers\":\"https://club.example/users/ana/followers\",\"following\":\"https://club.example/users/ana/following\",\"id\":\"https://club.example/users/ana\",\"inbox\":\"https://club.example/users/ana/inbox\",\"liked\":\"https://club.example/users/ana/liked\",\"outbox\":\"https://club.example/users/ana/outbox\",\"preferredUsername\":\"ana\",\"type\":\"Person\"}";
+
+const JRD_LAST: &str =
+    "HTTP/1.1 200 OK\r\nDate: Sun, 06 Nov 1994 08:49:37 GMT\r\nAccess-Control-Allow-Origin: *\r\nContent-Type: application/jrd+json\r\nContent-Length: 180\r\nConnection: close\r\n\r\n{\"aliases\":[\"https://club.example/users/ana\"],\"links\":[{\"href\":\"https://club.example/users/ana\",\"rel\":\"self\",\"type\":\"application/activity+json\"}],\"subject\":\"acct:ana@club.example\"}";
+
+const UNLINKED_LAST: &str =
+    "HTTP/1.1 200 OK\r\nDate: Sun, 06 Nov 1994 08:49:37 GMT\r\nAccess-Control-Allow-Origin: *\r\nContent-Type: application/jrd+json\r\nContent-Length: 91\r\nConnection: close\r\n\r\n{\"aliases\":[\"https://club.example/users/ana\"],\"links\":[],\"subject\":\"acct:ana@club.example\"}";
+
+const BAD_QUERY_LAST: &str =
+    "HTTP/1.1 400 Bad Request\r\nDate: Sun, 06 Nov 1994 08:49:37 GMT\r\nContent-Type: application/json\r\nContent-Length: 20\r\nConnection: close\r\n\r\n{\"error\":\"BadQuery\"}";
+
 const WRONG_KEY: &str =
     "HTTP/1.1 401 Unauthorized\r\nDate: Sun, 06 Nov 1994 08:49:37 GMT\r\nWWW-Authenticate: Bearer\r\nContent-Type: application/json\r\nContent-Length: 20\r\nConnection: close\r\n\r\n{\"error\":\"WrongKey\"}";
 
@@ -865,7 +877,7 @@ const WRONG_MAC: &str =
     "HTTP/1.1 401 Unauthorized\r\nDate: Sun, 06 Nov 1994 08:49:37 GMT\r\nWWW-Authenticate: Bearer\r\nContent-Type: application/json\r\nContent-Length: 20\r\nConnection: close\r\n\r\n{\"error\":\"WrongMac\"}";
 
 /// A target, further lines of the last request of a connection, and the reply.
-const SIGHTS: [(&str, &str, &str); 33] = [
+const SIGHTS: [(&str, &str, &str); 42] = [
     ("/users/ana/o/1", "", HELLO_LAST),
     (
         "/users/ana/o/1",
@@ -894,8 +906,37 @@ const SIGHTS: [(&str, &str, &str); 33] = [
     ("/users/ana/o/01", "", NOT_FOUND_LAST),
     ("/users/ana/o/4294967296", "", NOT_FOUND_LAST),
     ("/users/ana/o/1/", "", NOT_FOUND_LAST),
-    ("/users/ana", "", NOT_FOUND_LAST),
     ("/", "", NOT_FOUND_LAST),
+    ("/users/ana", "", ACTOR_LAST),
+    ("/users/ana?page=1", CLEO, ACTOR_LAST),
+    ("/users/eve", "", NOT_FOUND_LAST),
+    ("/users/ana", STRANGER, WRONG_KEY),
+    (
+        "/.well-known/webfinger?resource=acct:ana@club.example",
+        "",
+        JRD_LAST,
+    ),
+    (
+        "/.well-known/webfinger?rel=self&resource=https%3A%2F%2Fclub.example%2Fusers%2Fana",
+        BEN,
+        JRD_LAST,
+    ),
+    (
+        "/.well-known/webfinger?resource=acct:ana@club.example&rel=x&rel=y",
+        "",
+        UNLINKED_LAST,
+    ),
+    (
+        "/.well-known/webfinger?resource=acct:zoe@club.example",
+        "",
+        NOT_FOUND_LAST,
+    ),
+    ("/.well-known/webfinger", "", BAD_QUERY_LAST),
+    (
+        "/.well-known/webfinger?resource=acct:ana@club.example",
+        STRANGER,
+        WRONG_KEY,
+    ),
     ("/users/ana/o/1", "Authorization: Bearer 00\r\n", WRONG_KEY),
     (
         "/users/ana/o/2",
@@ -943,8 +984,14 @@ const NOT_FOUND_HEAD: &str =
 const WRONG_KEY_HEAD: &str =
     "HTTP/1.1 401 Unauthorized\r\nDate: Sun, 06 Nov 1994 08:49:37 GMT\r\nWWW-Authenticate: Bearer\r\nContent-Type: application/json\r\nContent-Length: 20\r\nConnection: close\r\n\r\n";
 
+const WRONG_METHOD_LAST: &str =
+    "HTTP/1.1 405 Method Not Allowed\r\nDate: Sun, 06 Nov 1994 08:49:37 GMT\r\nAllow: GET, HEAD\r\nContent-Type: application/json\r\nContent-Length: 23\r\nConnection: close\r\n\r\n{\"error\":\"WrongMethod\"}";
+
+const NO_OUTBOX_METHOD_LAST: &str =
+    "HTTP/1.1 405 Method Not Allowed\r\nDate: Sun, 06 Nov 1994 08:49:37 GMT\r\nAllow: GET, HEAD, POST\r\nContent-Type: application/json\r\nContent-Length: 23\r\nConnection: close\r\n\r\n{\"error\":\"WrongMethod\"}";
+
 /// The last request of a connection, by its method, its version and how it closes, and the reply.
-const LAST_REQUESTS: [(&str, &str); 17] = [
+const LAST_REQUESTS: [(&str, &str); 15] = [
     (
         "HEAD /users/ana/o/1 HTTP/1.1\r\nHost: a\r\nConnection: close\r\n\r\n",
         HELLO_HEAD,
@@ -981,13 +1028,11 @@ const LAST_REQUESTS: [(&str, &str); 17] = [
         "GET /users/ana/o/1 HTTP/1.0\r\nTransfer-Encoding: chunked\r\n\r\n3\r\nabc\r\n0\r\n\r\n",
         HELLO_LAST,
     ),
-    ("PUT /users/ana/o/1 HTTP/1.0\r\n\r\n", NOT_FOUND_LAST),
-    ("DELETE /users/ana/o/1 HTTP/1.0\r\n\r\n", NOT_FOUND_LAST),
-    ("get /users/ana/o/1 HTTP/1.0\r\n\r\n", NOT_FOUND_LAST),
-    ("head /users/ana/o/1 HTTP/1.0\r\n\r\n", NOT_FOUND_LAST),
+    ("get /users/ana/o/1 HTTP/1.0\r\n\r\n", WRONG_METHOD_LAST),
+    ("head /users/ana/o/1 HTTP/1.0\r\n\r\n", WRONG_METHOD_LAST),
     (
         "A-METHOD-OF-MORE-THAN-16-LETTERS /users/ana/o/1 HTTP/1.0\r\n\r\n",
-        NOT_FOUND_LAST,
+        WRONG_METHOD_LAST,
     ),
     // Nothing is looked at behind the last request.
     (
@@ -1005,6 +1050,54 @@ fn is_last(alloc: Global, row: &(&str, &str)) -> Result<bool, AllocError> {
 fn requests_are_answered_by_method_and_version(rt: HostRuntime) -> Result<(), Fail> {
     for row in &LAST_REQUESTS {
         assert!(rt; is_last(rt.alloc(), row)?, "{}", row.0);
+    }
+    Ok(())
+}
+
+/// The paths of the server, each with the reply to a method that is served nowhere, and to GET. Collections and inboxes
+/// are not served yet.
+const PATHS: [(&str, &str, &str); 13] = [
+    (
+        "/.well-known/webfinger?resource=acct:ana@club.example",
+        WRONG_METHOD_LAST,
+        JRD_LAST,
+    ),
+    ("/.well-known/webfinger", WRONG_METHOD_LAST, BAD_QUERY_LAST),
+    ("/users/ana", WRONG_METHOD_LAST, ACTOR_LAST),
+    ("/users/ana/outbox", NO_OUTBOX_METHOD_LAST, NOT_FOUND_LAST),
+    ("/users/ana/inbox", NOT_FOUND_LAST, NOT_FOUND_LAST),
+    ("/users/ana/followers", WRONG_METHOD_LAST, NOT_FOUND_LAST),
+    ("/users/ana/following", WRONG_METHOD_LAST, NOT_FOUND_LAST),
+    ("/users/ana/liked", WRONG_METHOD_LAST, NOT_FOUND_LAST),
+    ("/users/eve/a/9", WRONG_METHOD_LAST, NOT_FOUND_LAST),
+    ("/users/ana/o/1", WRONG_METHOD_LAST, HELLO_LAST),
+    ("/users/ana/o/1/likes", WRONG_METHOD_LAST, NOT_FOUND_LAST),
+    ("/users/ana/o/1/shares", WRONG_METHOD_LAST, NOT_FOUND_LAST),
+    ("/users/ana/o/01", NOT_FOUND_LAST, NOT_FOUND_LAST),
+];
+
+/// The head of a reply.
+fn head_of(reply: &str) -> &str {
+    match reply.find("\r\n\r\n") {
+        Some(end) => &reply[..end + 4],
+        None => reply,
+    }
+}
+
+/// Whether the last request of a connection has this reply, by its method and its target.
+fn has_reply(alloc: Global, method: &str, target: &str, wanted: &str) -> Result<bool, AllocError> {
+    let request = [method, " ", target, " HTTP/1.0\r\n\r\n"];
+    replies(alloc, 7, &request, 0, &[wanted], 0)
+}
+
+#[test]
+fn each_path_has_its_methods(rt: HostRuntime) -> Result<(), Fail> {
+    for (target, refusal, reply) in &PATHS {
+        for method in &["PUT", "DELETE", "PATCH", "OPTIONS"] {
+            assert!(rt; has_reply(rt.alloc(), method, target, refusal)?, "{method} {target}");
+        }
+        assert!(rt; has_reply(rt.alloc(), "GET", target, reply)?, "{target}");
+        assert!(rt; has_reply(rt.alloc(), "HEAD", target, head_of(reply))?, "HEAD {target}");
     }
     Ok(())
 }

@@ -22,7 +22,7 @@ returns-in_default-clause-text g c =
     let z = c.in_default.is in
     let n : c.in_ok-reply.field-0.entry ≡ None = cc in
     let d : IsDecided (state_of c.args.core.now.history (g.P.Keeper.shown c.args.core.now.keeper)) c.args.moment c.args.request.now c.args.body.now c.in-Ok.caller c.in_ok-ask.ask c.in_ok-reply.field-0.reply (None) =
-    decided _ _ c.args.request.now c.args.body.now c.in-Ok.caller c.in_ok-ask.ask c.in_ok-reply.field-0.reply _ _ (sym caller) c.in_ok-ask.ensures.asks e.reply e.entry e.private n in
+    decided _ _ c.args.request.now c.args.body.now c.in-Ok.caller c.in_ok-ask.ask c.in_ok-reply.field-0.reply _ _ _ (sym caller) c.host.ensures c.in_ok-ask.ensures.asks e.reply e.entry e.private n in
     (c.in_ok-reply.field-0.reply, read_turn _ _ _ _ c.args.request.now c.args.body.now c.in-Ok.caller c.in_ok-ask.ask c.in_ok-reply.field-0.reply d, c.in_ok-text.ensures)
 
 pub returns-in-Ok-keep-clause-text : goal.returns-in-Ok-keep-clause-text
@@ -33,7 +33,7 @@ returns-in-Ok-keep-clause-text g c =
     let z = c.in-Some.is in
     let n : c.in_ok-reply.field-0.entry ≡ Some c.in-Some.entry = cc in
     let d : IsDecided (state_of c.args.core.now.history (g.P.Keeper.shown c.args.core.now.keeper)) c.args.moment c.args.request.now c.args.body.now c.in-Ok.caller c.in_ok-ask.ask c.in_ok-reply.field-0.reply (Some c.in-Some.entry) =
-    decided _ _ c.args.request.now c.args.body.now c.in-Ok.caller c.in_ok-ask.ask c.in_ok-reply.field-0.reply _ _ (sym caller) c.in_ok-ask.ensures.asks e.reply e.entry e.private n in
+    decided _ _ c.args.request.now c.args.body.now c.in-Ok.caller c.in_ok-ask.ask c.in_ok-reply.field-0.reply _ _ _ (sym caller) c.host.ensures c.in_ok-ask.ensures.asks e.reply e.entry e.private n in
     (c.in_ok-reply.field-0.reply, kept_turn _ _ _ _ _ c.args.request.now c.args.body.now c.in-Ok.caller c.in_ok-ask.ask c.in_ok-reply.field-0.reply c.in-Some.entry d c.in-Ok-keep.ensures.kept, c.in_ok-text.ensures)
 
 pub returns-in-Full-clause-text : goal.returns-in-Full-clause-text
@@ -44,7 +44,7 @@ returns-in-Full-clause-text g c =
     let z = c.in-Some.is in
     let n : c.in_ok-reply.field-0.entry ≡ Some c.in-Some.entry = cc in
     let d : IsDecided (state_of c.args.core.now.history (g.P.Keeper.shown c.args.core.now.keeper)) c.args.moment c.args.request.now c.args.body.now c.in-Ok.caller c.in_ok-ask.ask c.in_ok-reply.field-0.reply (Some c.in-Some.entry) =
-    decided _ _ c.args.request.now c.args.body.now c.in-Ok.caller c.in_ok-ask.ask c.in_ok-reply.field-0.reply _ _ (sym caller) c.in_ok-ask.ensures.asks e.reply e.entry e.private n in
+    decided _ _ c.args.request.now c.args.body.now c.in-Ok.caller c.in_ok-ask.ask c.in_ok-reply.field-0.reply _ _ _ (sym caller) c.host.ensures c.in_ok-ask.ensures.asks e.reply e.entry e.private n in
     let k = full_by g.P.Keeper.room (code_of c.in-Some.entry) c.in-Err-keep.field-0.fault _ _ c.in-Full.is c.in-Err-keep.ensures.refused in
     texted _ _ _ _ _ c.args.request.now c.args.body.now _ _ c.refusal_text-in-Full.result
     (full_turn _ _ _ _ _ c.args.request.now c.args.body.now c.in-Ok.caller c.in_ok-ask.ask c.in_ok-reply.field-0.reply c.in-Some.entry d c.in-Err-keep.ensures.same k) c.refusal_text-in-Full.ensures
@@ -62,7 +62,7 @@ returns-in-Failed-clause-text g c =
     let z = c.in-Some.is in
     let n : c.in_ok-reply.field-0.entry ≡ Some c.in-Some.entry = cc in
     let d : IsDecided (state_of c.args.core.now.history (g.P.Keeper.shown c.args.core.now.keeper)) c.args.moment c.args.request.now c.args.body.now c.in-Ok.caller c.in_ok-ask.ask c.in_ok-reply.field-0.reply (Some c.in-Some.entry) =
-    decided _ _ c.args.request.now c.args.body.now c.in-Ok.caller c.in_ok-ask.ask c.in_ok-reply.field-0.reply _ _ (sym caller) c.in_ok-ask.ensures.asks e.reply e.entry e.private n in
+    decided _ _ c.args.request.now c.args.body.now c.in-Ok.caller c.in_ok-ask.ask c.in_ok-reply.field-0.reply _ _ _ (sym caller) c.host.ensures c.in_ok-ask.ensures.asks e.reply e.entry e.private n in
     let k = failed_by g.P.Keeper.room (code_of c.in-Some.entry) c.in-Err-keep.field-0.fault _ _ c.in-Failed.is c.in-Err-keep.ensures.refused in
     texted _ _ _ _ _ c.args.request.now c.args.body.now _ _ c.refusal_text-in-Failed.result
     (failed_turn _ _ _ _ _ c.args.request.now c.args.body.now c.in-Ok.caller c.in_ok-ask.ask c.in_ok-reply.field-0.reply c.in-Some.entry d c.in-Err-keep.ensures.same k) c.refusal_text-in-Failed.ensures
@@ -75,7 +75,7 @@ returns-in-Failed-clause-unanswered g c =
     let z = c.in-Some.is in
     let n : c.in_ok-reply.field-0.entry ≡ Some c.in-Some.entry = cc in
     let d : IsDecided (state_of c.args.core.now.history (g.P.Keeper.shown c.args.core.now.keeper)) c.args.moment c.args.request.now c.args.body.now c.in-Ok.caller c.in_ok-ask.ask c.in_ok-reply.field-0.reply (Some c.in-Some.entry) =
-    decided _ _ c.args.request.now c.args.body.now c.in-Ok.caller c.in_ok-ask.ask c.in_ok-reply.field-0.reply _ _ (sym caller) c.in_ok-ask.ensures.asks e.reply e.entry e.private n in
+    decided _ _ c.args.request.now c.args.body.now c.in-Ok.caller c.in_ok-ask.ask c.in_ok-reply.field-0.reply _ _ _ (sym caller) c.host.ensures c.in_ok-ask.ensures.asks e.reply e.entry e.private n in
     let k = failed_by g.P.Keeper.room (code_of c.in-Some.entry) c.in-Err-keep.field-0.fault _ _ c.in-Failed.is c.in-Err-keep.ensures.refused in
     untexted _ _ _ _ _ c.args.request.now c.args.body.now c.refusal_text-in-Failed.result (failed_untold _ _ _ _ _ c.args.request.now c.args.body.now c.in-Ok.caller c.in_ok-ask.ask c.in_ok-reply.field-0.reply c.in-Some.entry d c.in-Err-keep.ensures.same k)
 
