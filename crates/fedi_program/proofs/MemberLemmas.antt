@@ -1,5 +1,6 @@
 -- What the making of a member leaves: a status that it may end with, and a machine that stands for a log.
-use Rattle.std.proofs.Common.{◌≡◌, ℕ, Bool, true, List, Option, Some, None, inl, inr, refl, sym, ap, subst, ◌∙◌, arith}
+use Rattle.std.proofs.Common.{◌≡◌, ℕ, Bool, true, false, List, Option, Some, None, Bor, is_some, is_none, inl, inr, refl, sym, ap, subst, ◌∙◌, arith}
+use Rattle.std.specs.Option.{option_copied}
 use Rattle.fedi_core.specs.Commands.{RefusesCommand}
 use Rattle.fedi_core.specs.Keeping.{HasFailedOnce, IsKept}
 use Rattle.fedi_log.specs.Keeping.{Follows, State, base_of}
@@ -120,3 +121,21 @@ member_holds growth room told chance left before after first now name locked sta
     let f = member_follows growth room told chance left before after first now name locked status made in
     let b = base_of growth room before in
     (_, since_more b None before after (given before.history) f.0 ((holds_given b None before refl refl).holds) f.1)
+
+-- ---- the host
+
+-- what is lent is there
+pub copied_is_some : (lent : Option (Bor (List ℕ))) (host : Option (List ℕ)) → option_copied lent ≡ host → is_some lent ≡ true → is_none host ≡ false
+copied_is_some None host same there = let clash : false ≡ true = there in absurd cc
+copied_is_some (Some lent) host same there = rw (← same) refl
+
+-- ---- the task
+
+-- what holds of the name and the flag that the command has holds of those that are asked for
+pub of_task : (P : List ℕ → Bool → Type 0) (task : Option Task) (name other : List ℕ) (locked flag : Bool) → Some (AddActor name locked) ≡ task → P name locked
+    → task ≡ Some (AddActor other flag) → P other flag
+of_task P task name other locked flag is holds asked =
+    let same : Some (AddActor name locked) ≡ Some (AddActor other flag) = is ∙ asked in
+    let names : name ≡ other = cc in
+    let flags : locked ≡ flag = cc in
+    subst (λ (n : List ℕ). P n flag) names (subst (λ (f : Bool). P name f) flags holds)

@@ -223,7 +223,7 @@ refusal_steps w before now state log count old body pending e moment text ending
             later = goes_to w.by p.log log same;
             reply = (refl, refl);
           })
-          refl at (λ _. cc) reply,
+          refl at (λ open_yet. let clash : true ≡ false = open_yet in absurd cc) reply,
     )
 
 -- ---- nothing more is to be answered, and nothing was sent

@@ -5,6 +5,7 @@ ghost use Rattle.std.specs.Prelude.{◌≡◌, ◌<◌, ℕ, None, IfOk, is_some
 ghost use Rattle.std.specs.Io.{ReadsAtMost, WritesAtMost};
 ghost use Rattle.std.specs.Io.KnownBytes.{ReadConsumes, WriteAppends};
 ghost use Rattle.fedi_outside.specs.Causes.{HasCause};
+ghost use Rattle.fedi_outside.specs.Entropies.{FillConsumes};
 
 use fedi_outside::{Clock, Entropy, Failed, Sink, Source};
 use std::fs::File;
@@ -164,7 +165,8 @@ impl<R: Files> Entropy for SystemEntropy<'_, R> {
     ghost faults = { λ s. s.faults };
 
     fn fill(&mut self, into: &mut [u8; 32]) -> Result<(), Failed>
-        ensures { HasCause self.old.faults self.new.faults result }
+        ensures bytes { FillConsumes None None result into.new }
+        ensures cause { HasCause self.old.faults self.new.faults result }
     {
         match self.read(into) {
             Ok(32) => Ok(()),

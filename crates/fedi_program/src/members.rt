@@ -72,6 +72,7 @@ pub fn make_member<O: Sink, P: Keeper, C: Clock, E: Entropy>(
     let Ok(()) = entropy.fill(&mut key) else {
         return READ_FAULT;
     };
+    let moment = Moment::clamped(clock.now());
     let Some(name) = LocalName::parse(name) else {
         return tell(out, REFUSED, b"refused: bad name\n");
     };
@@ -82,7 +83,7 @@ pub fn make_member<O: Sink, P: Keeper, C: Clock, E: Entropy>(
         name,
         digest: digest(&key),
         locked,
-        moment: Moment::clamped(clock.now()),
+        moment,
     };
     match core.command(alloc, entry) {
         Ok(()) => print(out, &line),

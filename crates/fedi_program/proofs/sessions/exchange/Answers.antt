@@ -1,4 +1,5 @@
 use Rattle.std.proofs.Common.{◌∙◌, ap, refl}
+use Rattle.fedi_program.specs.Endings.{output_by, scene_of}
 use Rattle.fedi_program.proofs.SessionLemmas.{counted_on, cut_steps, end_steps, fault_steps, no_memory_steps, now_of, refused_steps, request_steps}
 use Rattle.fedi_program.proofs.sessions.exchange.Goals as goal
 
@@ -16,11 +17,13 @@ returns-in-Refused-clause-steps g c = λ opened log holds.
 
 pub returns-in-End-clause-steps : goal.returns-in-End-clause-steps
 returns-in-End-clause-steps g c = λ opened log holds.
-    end_steps _ _ _ _ log c.args.served _ c.read_request.new.buffer.body c.read_request.new.buffer.pending holds c.in-End.ensures.told refl
+    end_steps _ _ (scene_of (g.S.Source.left c.read_request.new.source) (output_by g.O.Sink.sent g.O.Sink.write_faults c.args.connection.now.out)) _ log c.args.served
+    _ c.read_request.new.buffer.body c.read_request.new.buffer.pending holds c.in-End.ensures.told refl
 
 pub returns-in-CutShort-clause-steps : goal.returns-in-CutShort-clause-steps
 returns-in-CutShort-clause-steps g c = λ opened log holds.
-    cut_steps _ _ _ _ log c.args.served _ c.read_request.new.buffer.body c.read_request.new.buffer.pending holds c.in-CutShort.ensures.told refl
+    cut_steps _ _ (scene_of (g.S.Source.left c.read_request.new.source) (output_by g.O.Sink.sent g.O.Sink.write_faults c.args.connection.now.out)) _ log c.args.served
+    _ c.read_request.new.buffer.body c.read_request.new.buffer.pending holds c.in-CutShort.ensures.told refl
 
 pub returns-in-ReadFault-clause-steps : goal.returns-in-ReadFault-clause-steps
 returns-in-ReadFault-clause-steps g c = λ opened log holds.
