@@ -1,5 +1,5 @@
 -- From what the machine decides for a caller, and what its keeper does, to the answer to a request.
-use Rattle.std.proofs.Common.{◌≡◌, ℕ, ◌+◌, ◌<◌, ◌≤◌, List, [], ◌∷◌, ◌++◌, length, Bool, false, Option, Some, None, Result, Ok, Err, Vec, IfOk, OnErr, inl, inr, refl, sym, subst, ap, ◌∙◌, arith}
+use Rattle.std.proofs.Common.{◌≡◌, ℕ, List, Bool, Option, Some, None, Result, Ok, Err, Vec, IfOk, OnErr, inl, inr, refl, sym, subst, ◌∙◌, arith}
 use Rattle.fedi_core.specs.Keeping.{IsKept, Refuses}
 use Rattle.fedi_core.specs.declared.keeping.KeepFault.{KeepFault}
 use Rattle.fedi_core.specs.declared.keeping.KeepFault.TheVariants as faults
@@ -8,7 +8,7 @@ use Rattle.fedi_log.specs.Keeping.{Follows, State}
 use Rattle.fedi_log.specs.Log.{Failed, Full, Kept, NoEntry, Outcome}
 use Rattle.fedi_log.proofs.Keeping.{unchanged}
 use Rattle.fedi_objects.specs.declared.entry.Entry.{Entry}
-use Rattle.fedi_outside.specs.Keepers.{HasAdded, KeeperState, OnlyRoomChanged}
+use Rattle.fedi_outside.specs.Keepers.{KeeperState, OnlyRoomChanged}
 use Rattle.fedi_model.proofs.Clean.{refused_is_clean, reply_is_clean}
 use Rattle.fedi_asks.specs.declared.ask.Ask.{Ask}
 use Rattle.fedi_town.specs.declared.caller.Caller.{Caller}

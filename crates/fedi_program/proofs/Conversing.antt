@@ -1,5 +1,5 @@
 -- A session stands after some exchanges, and ends.
-use Rattle.std.proofs.Common.{◌≡◌, ℕ, ◌+◌, ◌<◌, ◌≤◌, Bool, true, false, List, [], ◌∷◌, ◌++◌, length, Option, Some, None, Result, Ok, Err, IfSome, refl, sym, ap, subst, ◌∙◌, arith, lit<}
+use Rattle.std.proofs.Common.{◌≡◌, ℕ, ◌+◌, ◌<◌, ◌≤◌, Bool, true, false, List, [], ◌∷◌, ◌++◌, length, Option, Some, None, Result, IfSome, refl, sym, ap, subst, ◌∙◌, arith, lit<}
 use Rattle.std.specs.Prelude.{nat_le, ◌||◌}
 use Rattle.std.proofs.KnownBytes.{Appends-nil, prepend_known-nil}
 use Rattle.std.proofs.lemmas.Bool.{leb-false}
@@ -9,8 +9,8 @@ use Rattle.fedi_model.specs.declared.request.Request.{Request}
 use Rattle.fedi_town.specs.declared.refusal.Refusal.{Refusal}
 use Rattle.fedi_program.specs.declared.sessions.SessionEnd.{SessionEnd}
 use Rattle.fedi_program.specs.declared.sessions.SessionEnd.TheVariants.{End, CutShort, Closed, ReadFault, WriteFault, Memory}
-use Rattle.fedi_program.specs.Conversations.{Setting, Exchange, Progress, IsExchange, Converses, after, beginning, closes, ends_by, progress}
-use Rattle.fedi_program.specs.Endings.{EndsSession, Exchanges, Faults, Finishes, IsAt, IsCaused, Output, Scene, Serves, Steps, StepsOn, setting_of}
+use Rattle.fedi_program.specs.Conversations.{Setting, Exchange, Progress, Converses, after, beginning, closes, ends_by, progress}
+use Rattle.fedi_program.specs.Endings.{EndsSession, Exchanges, Faults, Finishes, IsAt, IsCaused, Output, Scene, Serves, StepsOn, setting_of}
 use Rattle.fedi_log.proofs.Keeping.{holds_given, since_on}
 use Rattle.fedi_program.proofs.Talks.{converses-more, progress-more}
 

@@ -2,7 +2,7 @@
 use Rattle.std.proofs.Common.{◌≡◌, ℕ, Bool, true, false, List, Option, Some, None, Bor, is_some, is_none, inl, inr, refl, sym, ap, subst, ◌∙◌, arith}
 use Rattle.std.specs.Option.{option_copied}
 use Rattle.fedi_core.specs.Commands.{RefusesCommand}
-use Rattle.fedi_core.specs.Keeping.{HasFailedOnce, IsKept}
+use Rattle.fedi_core.specs.Keeping.{IsKept}
 use Rattle.fedi_log.specs.Keeping.{Follows, State, base_of}
 use Rattle.fedi_log.specs.Log.{Failed, Full, Kept, NoEntry, Outcome, given}
 use Rattle.fedi_log.proofs.Keeping.{holds_given, since_more, unchanged}
@@ -14,7 +14,7 @@ use Rattle.fedi_town.specs.Histories.{town}
 use Rattle.fedi_town.specs.Towns.{Town}
 use Rattle.fedi_program.specs.Commands.{AddActor, Task}
 use Rattle.fedi_program.specs.Endings.{HoldsALog, Output, Prints, setting_of}
-use Rattle.fedi_program.specs.Members.{Chance, EndsWith, IsMade, IsRefused, IsUnchanged, MakesMember, TellsFault, key_line, member_entry}
+use Rattle.fedi_program.specs.Members.{Chance, EndsWith, MakesMember, TellsFault, key_line, member_entry}
 use Rattle.fedi_program.specs.Runs.{is_status_of}
 
 -- ---- the status

@@ -1,5 +1,5 @@
 -- From the end of a session to that of the program.
-use Rattle.std.proofs.Common.{◌≡◌, ℕ, List, [], length, Option, Some, None, IfSome, inl, inr, refl, sym, subst, ◌∙◌}
+use Rattle.std.proofs.Common.{◌≡◌, ℕ, List, length, Option, Some, None, IfSome, inl, inr, sym, subst, ◌∙◌}
 use Rattle.fedi_log.specs.Keeping.{State}
 use Rattle.fedi_log.specs.Log.{Log, given}
 use Rattle.fedi_program.specs.declared.sessions.SessionEnd.{SessionEnd}

@@ -1,6 +1,6 @@
 -- From the answer to one request to a step of a session.
-use Rattle.std.proofs.Common.{◌≡◌, ℕ, ◌+◌, ◌-◌, ◌^◌, ◌<◌, ◌≤◌, min, Bool, true, false, List, [], ◌∷◌, ◌++◌, length, take, Option, Some, None, IfSome, IfOk, OnErr, MatchResult, Result, Ok, Err, Vec, inl, inr, refl, sym, ap, subst, ◌∙◌, append_assoc, arith}
-use Rattle.std.specs.Io.KnownBytes.{Appends, Consumes, prepend_known}
+use Rattle.std.proofs.Common.{◌≡◌, ℕ, min, Bool, true, false, List, [], ◌++◌, take, Option, Some, None, IfSome, IfOk, OnErr, MatchResult, Result, Ok, Err, Vec, inl, inr, refl, sym, ap, subst, ◌∙◌, append_assoc, arith}
+use Rattle.std.specs.Io.KnownBytes.{Consumes, prepend_known}
 use Rattle.std.proofs.KnownBytes.{Appends-trans}
 use Rattle.fedi_outside.specs.Causes.{next_count}
 use Rattle.fedi_town.specs.declared.refusal.Refusal.{Refusal}
@@ -9,7 +9,7 @@ use Rattle.fedi_http.specs.declared.arrivals.Arrived.{Arrived}
 use Rattle.fedi_http.specs.declared.arrivals.Arrived.TheVariants as arrivals
 use Rattle.fedi_http.specs.declared.heads.TheConstants.{HEAD_LIMIT}
 use Rattle.fedi_http.specs.declared.requests.TheConstants.{MOST_FIELDS}
-use Rattle.fedi_log.specs.Keeping.{Base, Follows, Holds, State, end_of}
+use Rattle.fedi_log.specs.Keeping.{Follows, Holds, State}
 use Rattle.fedi_log.specs.Log.{Failed, Goes, Log, NoEntry, Outcome, history_of, items_of}
 use Rattle.fedi_log.proofs.Growing.{goes_here}
 use Rattle.fedi_objects.specs.declared.entry.Entry.{Entry}

@@ -1,13 +1,11 @@
 -- Conversations grow exchange by exchange, over a log that others may add to.
-use Rattle.std.proofs.Common.{◌≡◌, ◌≢◌, ℕ, ◌+◌, ◌≤◌, Bool, true, false, List, [], ◌∷◌, ◌++◌, length, All, Option, Some, None, sym, refl, ap, subst, ◌∙◌, append_assoc, append-nil, length-append, arith}
-use Rattle.std.specs.List.{filter, flat_map}
+use Rattle.std.proofs.Common.{◌≡◌, ℕ, ◌+◌, ◌≤◌, List, [], ◌∷◌, ◌++◌, length, All, Option, sym, refl, ap, subst, ◌∙◌, append_assoc, append-nil, length-append, arith}
 use Rattle.std.proofs.lemmas.List.{append_cancel_left}
 use Rattle.std.proofs.lemmas.List.Elements.{All-head, All-tail}
 use Rattle.std.proofs.lemmas.List.Sums.{fold-append}
-use Rattle.fedi_objects.specs.declared.entry.Entry.{Entry}
 use Rattle.fedi_log.specs.declared.items.Item.{Item}
 use Rattle.fedi_log.specs.declared.items.What.TheVariants.{Entered, Marked}
-use Rattle.fedi_log.specs.Log.{Added, Failed, Full, Goes, IsOthers, Kept, Log, NoEntry, Outcome, failed_in, items_of, marks_of}
+use Rattle.fedi_log.specs.Log.{Added, Failed, Full, IsOthers, Kept, Log, NoEntry, Outcome, failed_in, items_of, marks_of}
 use Rattle.fedi_log.proofs.Growing.{added_both, added_none, added_one, added_others, goes_more, marks_append, marks_more}
 use Rattle.fedi_program.specs.Conversations.{AreAtFronts, Conversation, Converses, Exchange, IsExchange, NoGaps, Progress, Setting, StandApart, after, beginning, failures, own_items, progress}
 

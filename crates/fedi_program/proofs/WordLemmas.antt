@@ -1,8 +1,8 @@
 -- Arguments that are too few or too many.
-use Rattle.std.proofs.Common.{◌≡◌, ℕ, Bool, true, false, suc, ◌≤◌, ◌<◌, List, [], ◌∷◌, length, map, Option, None, refl, sym, arith, if◌then◌else◌}
+use Rattle.std.proofs.Common.{◌≡◌, ℕ, Bool, true, false, suc, ◌≤◌, ◌<◌, List, [], ◌∷◌, length, map, None, refl, sym, arith, if◌then◌else◌}
 use Rattle.std.proofs.lemmas.List.{length-map}
 use Rattle.std.specs.List.{list_any}
-use Rattle.fedi_program.specs.Commands.{Task, is_locked_flag, without_flag, add_actor_at, add_actor_with}
+use Rattle.fedi_program.specs.Commands.{is_locked_flag, without_flag, add_actor_at, add_actor_with}
 
 -- one flag at most is taken out
 length-without_flag : (xs : List (List ℕ)) → length xs ≤ suc (length (without_flag xs))

@@ -102,6 +102,6 @@ MakesMember growth room told chance left before after first now name locked stat
     ((status ≡ 12) × (left.faults ≡ chance.faults) × IsUnchanged before after × Writes first now [])
     ⊎ (((is_none (town before.history).host ≡ true) × (after ≡ before) × Tells first now 3 (codes "not a store\n") status)
     ⊎ ((is_none (town before.history).host ≡ false)
-      × (((status ≡ 6) × FailsToDraw chance left × (after ≡ before) × Writes first now [])
-      ⊎ ((key : List ℕ) × (moment : ℕ) × Draws chance left key × IsNow told moment
-        × EndsWith growth room before after first now name (member_entry name key locked moment) (key_line name key) status))))
+    × (((status ≡ 6) × FailsToDraw chance left × (after ≡ before) × Writes first now [])
+    ⊎ ((key : List ℕ) × (moment : ℕ) × Draws chance left key × IsNow told moment
+    × EndsWith growth room before after first now name (member_entry name key locked moment) (key_line name key) status))))

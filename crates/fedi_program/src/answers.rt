@@ -64,8 +64,20 @@ pub fn answer<P: Keeper>(
     match core.keep(alloc, entry) {
         Ok(()) => Ok(text),
         Err(KeepError { fault, .. }) => match fault {
-            KeepFault::Full => refusal_text(alloc, Refusal::JournalFull, moment, head_only, closing),
-            KeepFault::Failed => refusal_text(alloc, Refusal::KeeperFault, moment, head_only, closing),
+            KeepFault::Full => refusal_text(
+                alloc,
+                Refusal::JournalFull,
+                moment,
+                head_only,
+                closing,
+            ),
+            KeepFault::Failed => refusal_text(
+                alloc,
+                Refusal::KeeperFault,
+                moment,
+                head_only,
+                closing,
+            ),
             KeepFault::Memory => Err(AllocError),
         },
     }

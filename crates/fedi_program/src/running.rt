@@ -16,9 +16,7 @@ use crate::connection::Connection;
 use crate::members::make_member;
 use crate::printing::{print, tell};
 use crate::sessions::{SessionEnd, session};
-use crate::statuses::{
-    CUT_SHORT, DONE, NOT_ACCEPTED, OUT_OF_MEMORY, READ_FAULT, WRITE_FAULT,
-};
+use crate::statuses::{CUT_SHORT, DONE, NOT_ACCEPTED, OUT_OF_MEMORY, READ_FAULT, WRITE_FAULT};
 use crate::usage::usage;
 use fedi_core::Core;
 use fedi_objects::Entry;

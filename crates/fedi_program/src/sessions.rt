@@ -102,7 +102,15 @@ fn exchange<S: Source, O: Sink, P: Keeper, C: Clock>(
         Arrived::Request(request) => {
             let closing = is_last(&request, served);
             let moment = Moment::clamped(connection.clock.now());
-            let text = answer(alloc, core, routes, &request, buffer.body(), moment, closing);
+            let text = answer(
+                alloc,
+                core,
+                routes,
+                &request,
+                buffer.body(),
+                moment,
+                closing,
+            );
             send_reply(&mut connection.out, text, closing)
         }
         Arrived::Refused(refusal) => {

@@ -4,7 +4,7 @@ use Rattle.fedi_log.proofs.Keeping.{holds_given}
 use Rattle.fedi_program.specs.Endings.{output_by}
 use Rattle.fedi_program.specs.Members.{MakesMember, chance_by}
 use Rattle.fedi_program.proofs.MemberLemmas.{member_holds, of_task}
-use Rattle.fedi_program.proofs.RunLemmas.{run_holds, run_talks}
+use Rattle.fedi_program.proofs.RunLemmas.{run_holds}
 use Rattle.fedi_program.proofs.running.run.Goals as goal
 
 pub returns-in-Some-Inetd-clause-kept : goal.returns-in-Some-Inetd-clause-kept

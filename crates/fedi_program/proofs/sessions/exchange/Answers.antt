@@ -1,4 +1,4 @@
-use Rattle.std.proofs.Common.{◌∙◌, ap, refl}
+use Rattle.std.proofs.Common.{refl}
 use Rattle.fedi_program.specs.Endings.{output_by, scene_of}
 use Rattle.fedi_program.proofs.SessionLemmas.{counted_on, cut_steps, end_steps, fault_steps, no_memory_steps, now_of, refused_steps, request_steps}
 use Rattle.fedi_program.proofs.sessions.exchange.Goals as goal

@@ -1,4 +1,4 @@
-use Rattle.std.proofs.Common.{◌∙◌, Some, None, ap, refl, arith}
+use Rattle.std.proofs.Common.{◌∙◌, Some, None, ap, refl}
 use Rattle.fedi_log.specs.Keeping.{state_of}
 use Rattle.fedi_log.specs.Log.{given}
 use Rattle.fedi_program.specs.Endings.{output_by, scene_of, setting_of}
