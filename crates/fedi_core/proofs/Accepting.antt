@@ -3,19 +3,14 @@ use Rattle.std.proofs.Common.{◌≡◌, ℕ, true, List, Option, Some, None, Re
 use Rattle.std.specs.Prelude.{IfOk, IfSome}
 use Rattle.std.specs.declared.alloc.AllocError.{AllocError}
 use Rattle.fedi_objects.specs.declared.entry.Entry.{Entry}
-use Rattle.fedi_objects.specs.declared.entry.Entry.TheVariants.{Local}
 use Rattle.fedi_town.specs.declared.caller.Caller.{Caller}
 use Rattle.fedi_town.specs.Histories.{town}
 use Rattle.fedi_town.specs.Legal.{IsLegal}
-use Rattle.fedi_town.specs.Towns.{Town, id_of}
+use Rattle.fedi_town.specs.Towns.{Town}
 use Rattle.fedi_asks.specs.declared.ask.Ask.{Ask}
-use Rattle.fedi_asks.specs.declared.ask.Ask.TheVariants.{Nowhere, WrongMethod, Webfinger, Actor, Collection, Activity, Object, Outbox, Inbox}
-use Rattle.fedi_asks.specs.declared.post.Post.{Post}
 use Rattle.fedi_asks.specs.Asks.{IsPostable, entry_of}
 use Rattle.fedi_asks.specs.Built.{is_built_ask}
-use Rattle.fedi_asks.specs.Posting.{Judgement, Stop, Repeat, Keep, entry_at, judge_post, post_entry, repeat_by}
 use Rattle.fedi_laws.proofs.Next.{entry_admissible, entry_built}
-use Rattle.fedi_model.specs.declared.reply.Reply.{Reply}
 use Rattle.fedi_model.specs.Replies.{IsPrivate, reply}
 use Rattle.fedi_model.proofs.Private.{replies_agree}
 use Rattle.fedi_core.specs.Keeping.{MayAdd}

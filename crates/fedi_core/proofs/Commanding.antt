@@ -1,11 +1,10 @@
 -- A command that breaks no rule is an entry that may be kept.
-use Rattle.std.proofs.Common.{◌≡◌, ℕ, Bool, true, List, Option, None, refl, sym}
-use Rattle.std.specs.Prelude.{IsTrue, is_some, is_none, ◌&&◌}
-use Rattle.fedi_address.specs.Names.{is_name}
+use Rattle.std.proofs.Common.{◌≡◌, None, refl}
+use Rattle.std.specs.Prelude.{IsTrue}
 use Rattle.fedi_objects.specs.declared.entry.Entry.{Entry}
 use Rattle.fedi_objects.specs.declared.entry.Entry.TheVariants.{Hosted, Made, PeerSet, Local, Remote, Tried}
 use Rattle.fedi_town.specs.Built.{is_built}
-use Rattle.fedi_town.specs.Legal.{broken_command, is_admissible}
+use Rattle.fedi_town.specs.Legal.{broken_command}
 use Rattle.fedi_town.specs.Towns.{Town}
 use Rattle.fedi_core.specs.Commands.{IsCommand}
 use Rattle.fedi_core.specs.Keeping.{MayAdd}

@@ -1,8 +1,7 @@
 -- What becomes of a post while members post Creates alone, and none under a key.
-use Rattle.std.proofs.Common.{◌≡◌, ℕ, ◌+◌, true, List, Option, Some, None, Result, Ok, Err, refl, sym, ap, subst, ◌∙◌}
+use Rattle.std.proofs.Common.{◌≡◌, ℕ, ◌+◌, true, List, Option, Some, None, Ok, Err, refl, sym, ap, subst, ◌∙◌}
 use Rattle.std.specs.Prelude.{option_map}
 use Rattle.fedi_objects.specs.declared.activity.Activity.{Activity}
-use Rattle.fedi_objects.specs.declared.entry.Entry.{Entry}
 use Rattle.fedi_objects.specs.declared.entry.Entry.TheVariants.{Local}
 use Rattle.fedi_town.specs.declared.caller.Caller.{Caller}
 use Rattle.fedi_town.specs.declared.deed.Deed.{Deed}
@@ -19,7 +18,7 @@ use Rattle.fedi_asks.specs.declared.post.Post.{Post}
 use Rattle.fedi_asks.specs.declared.post.Read.{Read}
 use Rattle.fedi_asks.specs.declared.post.Read.TheVariants.{NotJson, Bad, Ready}
 use Rattle.fedi_asks.specs.Built.{is_built_key, is_built_read}
-use Rattle.fedi_asks.specs.Posting.{Judgement, Stop, Repeat, Keep, answer_post, by_steps, entry_at, is_bad_key, judge_post, judge_read, post_answer, post_entry, repeat_by, repeat_under}
+use Rattle.fedi_asks.specs.Posting.{Judgement, Stop, Repeat, Keep, answer_post, by_steps, entry_at, is_bad_key, judge_post, judge_read, post_answer, repeat_by, repeat_under}
 use Rattle.fedi_asks.specs.Reading.{is_nobody, is_self}
 use Rattle.fedi_model.specs.declared.reply.Reply.{Reply}
 use Rattle.fedi_model.specs.Replies.{reply_of, without_body}

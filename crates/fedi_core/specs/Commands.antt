@@ -1,5 +1,5 @@
 -- What becomes of an operator's command.
-use Rattle.std.specs.Prelude.{◌≡◌, ℕ, List, Option, None, Some, IsTrue, is_some}
+use Rattle.std.specs.Prelude.{◌≡◌, ℕ, None, Some, IsTrue, is_some}
 use Rattle.fedi_address.specs.Names.{is_name}
 use Rattle.fedi_entry.specs.Codes.{code_of}
 use Rattle.fedi_objects.specs.declared.entry.Entry.{Entry}

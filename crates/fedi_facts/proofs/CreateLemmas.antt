@@ -1,6 +1,6 @@
 -- In a town of Creates nobody follows and nobody blocks, and a Create comes alone. A lemma goes when what it speaks of is built.
 use Rattle.std.proofs.Common.{◌≡◌, ℕ, ◌+◌, Bool, true, false, List, [], ◌∷◌, ◌++◌, Option, Some, None, refl, sym, ap, subst, ◌∙◌, append_assoc}
-use Rattle.std.specs.Prelude.{◌&&◌, not, filter, map, if◌then◌else◌}
+use Rattle.std.specs.Prelude.{◌&&◌, not, filter, if◌then◌else◌}
 use Rattle.std.specs.List.{list_all, list_any, fold, flat_map}
 use Rattle.std.specs.Str.{bytes_eq}
 use Rattle.std.proofs.lemmas.Bool.{and_parts}

@@ -15,9 +15,8 @@ use Rattle.fedi_town.specs.Towns.{Town, id_of}
 use Rattle.fedi_town.specs.declared.caller.Which.TheVariants as which
 use Rattle.fedi_reading.specs.Bodies.{IsBodyOf}
 use Rattle.fedi_model.proofs.Posted.{read_is_create, read_is_posted}
-use Rattle.fedi_model.specs.Places.{LeadsTo}
 use Rattle.fedi_model.specs.Requests.{is_post, is_reading}
-use Rattle.fedi_model.specs.Routes.{path_of, repeat_key, digest_under, ReadsBody, IsPost, read_at, refused_at, PostsTo, AsksAt, Asks, IsAskedOnce}
+use Rattle.fedi_model.specs.Routes.{path_of, repeat_key, digest_under, ReadsBody, IsPost, read_at, refused_at, PostsTo, AsksAt, IsAskedOnce}
 use Rattle.fedi_model.specs.Queries.{query_of}
 use Rattle.fedi_model.specs.declared.place.Place.{Place}
 use Rattle.fedi_model.specs.declared.place.Place.TheVariants.{Webfinger, Actor, Collection, Activity, Object}

@@ -21,7 +21,7 @@ use Rattle.fedi_routes.specs.declared.kinds.NumberedPart.TheVariants as numbered
 use Rattle.fedi_model.specs.declared.place.Place.{Place}
 use Rattle.fedi_model.specs.declared.place.Place.TheVariants.{Webfinger, Actor, Collection, Activity, Object}
 use Rattle.fedi_routes.proofs.Rows.{name_in, number_in}
-use Rattle.fedi_routes.proofs.Exact.{IsSame, routed_once}
+use Rattle.fedi_routes.proofs.Exact.{routed_once}
 
 -- ---- names and numbers are segments
 

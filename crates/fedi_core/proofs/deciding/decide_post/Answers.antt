@@ -1,10 +1,8 @@
-use Rattle.std.proofs.Common.{◌≡◌, ◌+◌, List, ℕ, Option, Some, None, sym, subst, ap, ◌∙◌}
+use Rattle.std.proofs.Common.{◌+◌, List, ℕ, Some, None, ap, ◌∙◌}
 use Rattle.std.specs.Prelude.{option_map}
-use Rattle.fedi_asks.specs.Posting.{entry_at}
 use Rattle.fedi_model.specs.Replies.{without_body}
 use Rattle.fedi_objects.specs.declared.entry.Entry.TheVariants.{Local}
 use Rattle.fedi_town.specs.Ids.{activity_id}
-use Rattle.fedi_town.specs.Towns.{id_of}
 use Rattle.fedi_core.proofs.Judging.{IsJudged, kept_entry, kept_reply, refused_reply}
 use Rattle.fedi_core.proofs.deciding.decide_post.Goals as goal
 

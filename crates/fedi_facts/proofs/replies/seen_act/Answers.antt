@@ -1,5 +1,3 @@
-use Rattle.std.proofs.Common.{◌≡◌, ◌∙◌, sym}
-use Rattle.std.specs.Prelude.{option_copied}
 use Rattle.fedi_town.specs.Relations.{has_activity_id}
 use Rattle.fedi_town.specs.Seeing.{sees}
 use Rattle.fedi_facts.proofs.Finds.{find-seen, own_found, creation_found}

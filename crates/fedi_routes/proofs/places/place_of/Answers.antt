@@ -1,4 +1,4 @@
-use Rattle.std.proofs.Common.{◌≡◌, sym}
+use Rattle.std.proofs.Common.{◌≡◌}
 use Rattle.fedi_routes.proofs.PathTexts.{path_text}
 use Rattle.fedi_routes.proofs.PlaceLemmas.{no_place, place_found}
 use Rattle.fedi_routes.proofs.places.place_of.Goals as goal

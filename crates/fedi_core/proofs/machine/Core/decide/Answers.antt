@@ -1,5 +1,4 @@
-use Rattle.std.proofs.Common.{List, ap, subst, ◌∙◌}
-use Rattle.fedi_objects.specs.declared.entry.Entry.{Entry}
+use Rattle.std.proofs.Common.{ap, subst, ◌∙◌}
 use Rattle.fedi_town.specs.Histories.{town}
 use Rattle.fedi_town.specs.Legal.{IsLegal}
 use Rattle.fedi_core.proofs.Accepting.{decided_may, decided_private}
