@@ -19,12 +19,13 @@ use Rattle.fedi_laws.proofs.Inboxes.{IsOther, inbox_agrees}
 use Rattle.fedi_laws.proofs.Members.{is_member, host_of-actor_id}
 use Rattle.fedi_laws.proofs.People.{id_at, member_id, named_is, id_of-is, there_is}
 use Rattle.fedi_laws.proofs.Posted.{post_agrees}
-use Rattle.fedi_laws.proofs.Knowledge.{Knows, answers_agree}
+use Rattle.fedi_laws.specs.Statements.{is_of_profiles}
+use Rattle.fedi_laws.proofs.Knowledge.{Knows, answers_agree, members, profiles_agree}
 use Rattle.fedi_laws.proofs.Sound.{IsSound, IsHosted, is_apart, is_set, town_sound}
 use Rattle.fedi_laws.proofs.Steps.{after_post, after_delivery, after_inbox}
 use Rattle.fedi_laws.proofs.Told.{plain_agrees}
 use Rattle.fedi_town.specs.Activities.{local_act, remote_act}
-use Rattle.fedi_town.specs.Agreement.{Agree}
+use Rattle.fedi_town.specs.Agreement.{Agree, member_names}
 use Rattle.fedi_town.specs.Deeds.{changes_nothing, is_follow, deed_of}
 use Rattle.fedi_town.specs.Effects.{accept}
 use Rattle.fedi_town.specs.Histories.{step, town, is_known, with_recipient}
@@ -51,13 +52,17 @@ members_by host (a ∷ xs) all =
     let parts = and_parts (is_member host a) (list_all (is_member host) xs) all in
     rw (members_by host xs parts.1, member_id host a parts.0) refl
 
+same_members : (g h : Town) → IsHosted g → IsHosted h → g.host ≡ h.host → member_names g ≡ member_names h → members g ≡ members h
+same_members g h of_g of_h host names =
+    members_by g.host g.actors of_g.sound.members
+    ∙ ap (λ (k : Option (List ℕ)). map (with_id k) (member_names g)) host
+    ∙ ap (map (with_id h.host)) names
+    ∙ sym (members_by h.host h.actors of_h.sound.members)
+
 agree_knows : (g h : Town) (c : Caller) → IsHosted g → IsHosted h → Agree g h c → Knows g h c
 agree_knows g h c of_g of_h agree = record {
   host = agree.host;
-  members = members_by g.host g.actors of_g.sound.members
-      ∙ ap (λ (k : Option (List ℕ)). map (with_id k) (map (λ a. a.name) g.actors)) agree.host
-      ∙ ap (map (with_id h.host)) agree.names
-      ∙ sym (members_by h.host h.actors of_h.sound.members);
+  members = same_members g h of_g of_h agree.host agree.names;
   peer = agree.peer;
   view = agree.view;
   own = agree.own;
@@ -67,6 +72,12 @@ agree_knows g h c of_g of_h agree = record {
 pub private_answers : (g h : List Entry) (c : Caller) (ask : Ask) → IsLegal g → IsLegal h → Agree (town g) (town h) c → answer_of (town g) c ask ≡ answer_of (town h) c ask
 private_answers g h c ask of_g of_h agree =
     answers_agree (town g) (town h) c ask (agree_knows (town g) (town h) c (town_sound g of_g) (town_sound h of_h) agree)
+
+-- Who a member is, the host and the members' names tell everybody.
+pub public_profiles : (g h : List Entry) (c d : Caller) (ask : Ask) → IsLegal g → IsLegal h → (town g).host ≡ (town h).host
+    → member_names (town g) ≡ member_names (town h) → is_of_profiles ask ≡ true → answer_of (town g) c ask ≡ answer_of (town h) d ask
+public_profiles g h c d ask of_g of_h host names is =
+    profiles_agree (town g) (town h) c d ask host (same_members (town g) (town h) (town_sound g of_g) (town_sound h of_h) host names) is
 
 -- ---- the second clause, of posts
 

@@ -23,6 +23,7 @@ use Rattle.fedi_asks.specs.declared.ask.Resource.{Resource}
 use Rattle.fedi_asks.specs.declared.post.Post.{Post}
 use Rattle.fedi_asks.specs.declared.post.Read.{Read}
 use Rattle.fedi_asks.specs.declared.post.Read.TheVariants.{NotJson, Bad, Ready}
+use Rattle.fedi_laws.specs.Statements.{is_of_profiles}
 use Rattle.fedi_laws.proofs.Alike.{IsAlike, shown_alike}
 use Rattle.fedi_laws.proofs.Lists.{list_any-through, filter-through, find-through, map-through}
 use Rattle.fedi_laws.proofs.Pages.{page_of-map, firsts-map}
@@ -290,9 +291,11 @@ known_id : (t : Town) (name : List ℕ) → id_among (members t) name ≡ id_of 
 unfolding has_name
 known_id t name = found_id name t.actors
 
+same_ids : (g h : Town) (name : List ℕ) → members g ≡ members h → id_of g name ≡ id_of h name
+same_ids g h name same = sym (known_id g name) ∙ ap (λ (ms : List (List ℕ × List ℕ)). id_among ms name) same ∙ known_id h name
+
 ids_agree : (g h : Town) (c : Caller) (name : List ℕ) → Knows g h c → id_of g name ≡ id_of h name
-ids_agree g h c name agree =
-    sym (known_id g name) ∙ ap (λ (ms : List (List ℕ × List ℕ)). id_among ms name) agree.members ∙ known_id h name
+ids_agree g h c name agree = same_ids g h name agree.members
 
 pub self_is : (c : Caller) (name : List ℕ) → is_self c name ≡ true → c ≡ callers.Actor name
 self_is callers.Nobody name self = absurd cc
@@ -313,13 +316,25 @@ owners_agree g h c (whiches.Shares name n) agree = rw agree.host refl
 
 -- ---- members
 
-resource_agrees : (g h : Town) (c : Caller) (name : Option (List ℕ)) (rels : List (List ℕ)) → Knows g h c → resource_answer g name rels ≡ resource_answer h name rels
-resource_agrees g h c None rels agree = refl
-resource_agrees g h c (Some name) rels agree = rw (agree.host, ids_agree g h c name agree) refl
+resource_agrees : (g h : Town) (name : Option (List ℕ)) (rels : List (List ℕ)) → g.host ≡ h.host → members g ≡ members h → resource_answer g name rels ≡ resource_answer h name rels
+resource_agrees g h None rels host same = refl
+resource_agrees g h (Some name) rels host same = rw (host, same_ids g h name same) refl
 
-webfinger_agrees : (g h : Town) (c : Caller) (resource : Option Resource) → Knows g h c → webfinger_answer g resource ≡ webfinger_answer h resource
-webfinger_agrees g h c None agree = refl
-webfinger_agrees g h c (Some r) agree = resource_agrees g h c r.name r.rels agree
+webfinger_agrees : (g h : Town) (resource : Option Resource) → g.host ≡ h.host → members g ≡ members h → webfinger_answer g resource ≡ webfinger_answer h resource
+webfinger_agrees g h None host same = refl
+webfinger_agrees g h (Some r) host same = resource_agrees g h r.name r.rels host same
+
+-- who a member is depends on the host and the members alone
+pub profiles_agree : (g h : Town) (c d : Caller) (ask : Ask) → g.host ≡ h.host → members g ≡ members h → is_of_profiles ask ≡ true → answer_of g c ask ≡ answer_of h d ask
+profiles_agree g h c d Nowhere host same is = absurd cc
+profiles_agree g h c d (WrongMethod allow) host same is = absurd cc
+profiles_agree g h c d (Webfinger resource) host same is = webfinger_agrees g h resource host same
+profiles_agree g h c d (Actor name) host same is = rw (host, same_ids g h name same) refl
+profiles_agree g h c d (Collection which ask) host same is = absurd cc
+profiles_agree g h c d (Activity name n) host same is = absurd cc
+profiles_agree g h c d (Object name n) host same is = absurd cc
+profiles_agree g h c d (Outbox name post) host same is = absurd cc
+profiles_agree g h c d (Inbox name post) host same is = absurd cc
 
 -- ---- reading a collection
 
@@ -522,7 +537,7 @@ inbox_agrees g h c post (Some owner) agree =
 pub answers_agree : (g h : Town) (c : Caller) (ask : Ask) → Knows g h c → answer_of g c ask ≡ answer_of h c ask
 answers_agree g h c Nowhere agree = refl
 answers_agree g h c (WrongMethod allow) agree = refl
-answers_agree g h c (Webfinger resource) agree = webfinger_agrees g h c resource agree
+answers_agree g h c (Webfinger resource) agree = webfinger_agrees g h resource agree.host agree.members
 answers_agree g h c (Actor name) agree = rw (agree.host, ids_agree g h c name agree) refl
 answers_agree g h c (Collection which ask) agree = collection_agrees g h c which ask agree
 answers_agree g h c (Activity name number) agree =

@@ -9,7 +9,7 @@ use Rattle.fedi_objects.specs.declared.object.Object.{Object}
 use Rattle.fedi_objects.specs.Forms.{is_tombstone}
 use Rattle.fedi_town.specs.declared.caller.Caller.{Caller}
 use Rattle.fedi_town.specs.Activities.{local_act, remote_act}
-use Rattle.fedi_town.specs.Agreement.{Agree}
+use Rattle.fedi_town.specs.Agreement.{Agree, member_names}
 use Rattle.fedi_town.specs.Built.{are_built}
 use Rattle.fedi_town.specs.Deeds.{deed_of, changes_nothing, is_follow}
 use Rattle.fedi_town.specs.Histories.{town, is_known}
@@ -23,6 +23,7 @@ use Rattle.fedi_town.specs.Replays.{acts_of, replay}
 use Rattle.fedi_town.specs.Seeing.{sees}
 use Rattle.fedi_town.specs.Towns.{Town, has_name, id_of}
 use Rattle.fedi_asks.specs.declared.ask.Ask.{Ask}
+use Rattle.fedi_asks.specs.declared.ask.Ask.TheVariants as asks
 use Rattle.fedi_asks.specs.Asks.{answer_of, entry_of, IsPostable}
 use Rattle.fedi_asks.specs.Built.{is_built_ask}
 use Rattle.fedi_asks.specs.Cleanness.{is_clean_answer}
@@ -35,6 +36,19 @@ abbrev pub AnswersArePrivate : Type 0
 AnswersArePrivate =
     (g h : List Entry) (c : Caller) (ask : Ask) → IsLegal g → IsLegal h → Agree (town g) (town h) c
     → answer_of (town g) c ask ≡ answer_of (town h) c ask
+
+-- whether it is asked who a member is
+abbrev pub is_of_profiles : Ask → Bool
+is_of_profiles (asks.Webfinger resource) = true
+is_of_profiles (asks.Actor name) = true
+is_of_profiles ask = false
+
+-- Who a member is depends on the host and on the members' names alone, and is told to everybody.
+abbrev pub ProfilesTellNamesAlone : Type 0
+ProfilesTellNamesAlone =
+    (g h : List Entry) (c d : Caller) (ask : Ask) → IsLegal g → IsLegal h → (town g).host ≡ (town h).host
+    → member_names (town g) ≡ member_names (town h) → is_of_profiles ask ≡ true
+    → answer_of (town g) c ask ≡ answer_of (town h) d ask
 
 -- A member's post that changes nothing earlier changes nothing that a caller knows who does not see it. So the agreement is
 -- no empty one: a private post changes no answer to a stranger.

@@ -1,11 +1,18 @@
 //! What a caller may learn.
 
-ghost use Rattle.fedi_laws.specs.Statements.{AddedInboxesTellTheirOwners, AnswersAreClean, AnswersArePrivate, UnseenDeliveriesTellNothing, UnseenPostsTellNothing};
+ghost use Rattle.fedi_laws.specs.Statements.{AddedInboxesTellTheirOwners, AnswersAreClean, AnswersArePrivate, ProfilesTellNamesAlone, UnseenDeliveriesTellNothing, UnseenPostsTellNothing};
 
 /// Histories that agree for a caller give the caller the same answer, whatever else stands in them.
 #[tactic(auto, using(crate::proofs::Isolation::private_answers))]
 pub fn answers_are_private()
     ensures { AnswersArePrivate }
+{}
+
+/// Who a member is (an actor document, or WebFinger) depends on the host and on the members' names alone,
+/// and everybody is told the same.
+#[tactic(auto, using(crate::proofs::Isolation::public_profiles))]
+pub fn profiles_tell_names_alone()
+    ensures { ProfilesTellNamesAlone }
 {}
 
 /// A post that changes nothing earlier, as a Create, a Follow or a Like, changes nothing that a caller
