@@ -3,9 +3,7 @@
 
 use fedi_example::example_history;
 use fedi_outside::MemoryKeeper;
-use fedi_program::{
-    Connection, OUT_OF_MEMORY, Reading, SystemClock, SystemEntropy, Writing, run,
-};
+use fedi_program::{Connection, OUT_OF_MEMORY, Reading, SystemClock, SystemEntropy, Writing, run};
 use std::alloc::AllocError;
 use std::process::ExitCode;
 use std::{env, io};

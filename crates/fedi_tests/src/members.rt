@@ -293,9 +293,7 @@ fn left_by(alloc: Global, case: &Case) -> Result<Left, AllocError> {
     let connection = connection_of(alloc, case)?;
     let entropy = entropy_of(alloc, case)?;
     let history = younger_town(alloc, case.entries)?;
-    Ok(left_in(
-        alloc, &arguments, connection, history, keeper, entropy,
-    ))
+    Ok(left_in(alloc, &arguments, connection, history, keeper, entropy))
 }
 
 /// Whether these records are the one that is to be kept, or none.

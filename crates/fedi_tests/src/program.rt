@@ -90,7 +90,11 @@ fn joined(alloc: Global, texts: &[&str]) -> Result<Vec<u8>, AllocError> {
 }
 
 /// Appends a copy of each text.
-pub fn push_copies(alloc: Global, copies: &mut Vec<String>, texts: &[&str]) -> Result<(), AllocError> {
+pub fn push_copies(
+    alloc: Global,
+    copies: &mut Vec<String>,
+    texts: &[&str],
+) -> Result<(), AllocError> {
     for text in texts {
         copies.push(String::from_str(alloc, text)?)?;
     }
@@ -394,7 +398,13 @@ fn what_is_no_request_is_refused_or_cut_short(rt: HostRuntime) -> Result<(), Fai
         assert!(rt; has_no_request(rt.alloc(), row)?, "{}", row.0);
     }
     for row in &LONG_HEADS {
-        assert!(rt; is_measured(rt.alloc(), row)?, "{} {} {}", row.0, row.1, row.2);
+        assert!(rt;
+            is_measured(rt.alloc(), row)?,
+            "{} {} {}",
+            row.0,
+            row.1,
+            row.2
+        );
     }
     for row in &DATES {
         assert!(rt; is_dated(rt.alloc(), row)?, "{}", row.0);
@@ -1015,10 +1025,7 @@ const LAST_REQUESTS: [(&str, &str); 15] = [
         "GET /users/ana/o/1 HTTP/1.1\r\nHost: a\r\nConnection: Close , x\r\n\r\n",
         HELLO_LAST,
     ),
-    (
-        "\r\n\n\r\nGET /users/ana/o/1 HTTP/1.0\r\n\r\n",
-        HELLO_LAST,
-    ),
+    ("\r\n\n\r\nGET /users/ana/o/1 HTTP/1.0\r\n\r\n", HELLO_LAST),
     // A body that is not asked for is read past.
     (
         "GET /users/ana/o/1 HTTP/1.0\r\nContent-Length: 3\r\n\r\nabc",
@@ -1094,10 +1101,16 @@ fn has_reply(alloc: Global, method: &str, target: &str, wanted: &str) -> Result<
 fn each_path_has_its_methods(rt: HostRuntime) -> Result<(), Fail> {
     for (target, refusal, reply) in &PATHS {
         for method in &["PUT", "DELETE", "PATCH", "OPTIONS"] {
-            assert!(rt; has_reply(rt.alloc(), method, target, refusal)?, "{method} {target}");
+            assert!(rt;
+                has_reply(rt.alloc(), method, target, refusal)?,
+                "{method} {target}"
+            );
         }
         assert!(rt; has_reply(rt.alloc(), "GET", target, reply)?, "{target}");
-        assert!(rt; has_reply(rt.alloc(), "HEAD", target, head_of(reply))?, "HEAD {target}");
+        assert!(rt;
+            has_reply(rt.alloc(), "HEAD", target, head_of(reply))?,
+            "HEAD {target}"
+        );
     }
     Ok(())
 }
@@ -1210,9 +1223,16 @@ fn writes<O: Sink>(sink: &mut O) -> [Result<usize, Failed>; 3] {
 }
 
 /// What two draws answer, and the bytes that they give.
-fn draws<E: Entropy>(entropy: &mut E) -> (Result<(), Failed>, Result<(), Failed>, [u8; 32], [u8; 32]) {
+fn draws<E: Entropy>(
+    entropy: &mut E,
+) -> (Result<(), Failed>, Result<(), Failed>, [u8; 32], [u8; 32]) {
     let (mut first, mut second) = ([0; 32], [0; 32]);
-    (entropy.fill(&mut first), entropy.fill(&mut second), first, second)
+    (
+        entropy.fill(&mut first),
+        entropy.fill(&mut second),
+        first,
+        second,
+    )
 }
 
 #[test]

@@ -62,7 +62,11 @@ const HEADS: [(&str, &str, &str); 50] = [
     ("head / HTTP/1.1", "Host: a", "0"),
     ("PUT / HTTP/1.1", "Host: a", "0"),
     ("post / HTTP/1.1", "Host: a", "0"),
-    ("A-METHOD-OF-MORE-THAN-16-LETTERS / HTTP/1.1", "Host: a", "0"),
+    (
+        "A-METHOD-OF-MORE-THAN-16-LETTERS / HTTP/1.1",
+        "Host: a",
+        "0",
+    ),
     ("GET a HTTP/1.1", "Host: a", "BadHead"),
     ("OPTIONS * HTTP/1.1", "Host: a", "BadHead"),
     ("GET http://a/ HTTP/1.1", "Host: a", "BadHead"),
@@ -82,7 +86,11 @@ const HEADS: [(&str, &str, &str); 50] = [
         "262144",
     ),
     (POST, "Host: a\r\nContent-Length: 262145", "TooLong"),
-    (POST, "Host: a\r\nContent-Length: 9999999999999999999", "TooLong"),
+    (
+        POST,
+        "Host: a\r\nContent-Length: 9999999999999999999",
+        "TooLong",
+    ),
     (
         POST,
         "Host: a\r\nContent-Length: 00000000000000000000",
@@ -95,7 +103,11 @@ const HEADS: [(&str, &str, &str); 50] = [
     (POST, "Host: a\r\nTransfer-Encoding: chunked", "chunked"),
     (GET, "Host: a\r\nTransfer-Encoding: CHUNKED ", "chunked"),
     (POST, "Host: a\r\nTransfer-Encoding: gzip", "NoCoding"),
-    (GET, "Host: a\r\nTransfer-Encoding: gzip, chunked", "NoCoding"),
+    (
+        GET,
+        "Host: a\r\nTransfer-Encoding: gzip, chunked",
+        "NoCoding",
+    ),
     (GET, "Host: a\r\nTransfer-Encoding:", "NoCoding"),
     (
         POST,
@@ -381,7 +393,10 @@ fn requests_arrive_in_any_pieces(rt: HostRuntime) -> Result<(), Fail> {
                 ..pieces_of(size)
             };
             let found = arrivals_of(rt.alloc(), bytes.as_bytes(), cut)?;
-            assert!(rt; found.as_slice() == wanted.as_bytes(), "{bytes} cut at {size}");
+            assert!(rt;
+                found.as_slice() == wanted.as_bytes(),
+                "{bytes} cut at {size}"
+            );
         }
     }
     Ok(())
@@ -526,7 +541,12 @@ fn is_told(
 fn long_requests_have_their_limits(rt: HostRuntime) -> Result<(), Fail> {
     for row in &LONG_STREAMS {
         for size in [1, 4_096, usize::MAX] {
-            assert!(rt; is_told(rt.alloc(), row, size)?, "{} {} by {size}", row.0, row.1);
+            assert!(rt;
+                is_told(rt.alloc(), row, size)?,
+                "{} {} by {size}",
+                row.0,
+                row.1
+            );
         }
     }
     Ok(())

@@ -106,27 +106,167 @@ fn asked(
 
 // Targets, and what a GET, a HEAD, a POST and a PUT of each ask for.
 const ASKED: [(&str, &str, &str, &str, &str, u32); 22] = [
-    ("/.well-known/webfinger", "webfinger", "webfinger", "GET, HEAD", "GET, HEAD", 0),
+    (
+        "/.well-known/webfinger",
+        "webfinger",
+        "webfinger",
+        "GET, HEAD",
+        "GET, HEAD",
+        0,
+    ),
     ("/users/ana", "actor", "actor", "GET, HEAD", "GET, HEAD", 0),
-    ("/users/ana?page=1", "actor", "actor", "GET, HEAD", "GET, HEAD", 0),
-    ("/users/ana/outbox", "nowhere", "nowhere", "outbox", "GET, HEAD, POST", 0),
-    ("/users/ana/inbox", "nowhere", "nowhere", "nowhere", "nowhere", 0),
-    ("/users/ana/followers", "nowhere", "nowhere", "GET, HEAD", "GET, HEAD", 0),
-    ("/users/ana/following", "nowhere", "nowhere", "GET, HEAD", "GET, HEAD", 0),
-    ("/users/ana/liked", "nowhere", "nowhere", "GET, HEAD", "GET, HEAD", 0),
-    ("/users/ana/a/12", "activity", "activity", "GET, HEAD", "GET, HEAD", 12),
-    ("/users/ana/o/4294967295?page=1", "object", "object", "GET, HEAD", "GET, HEAD", 4_294_967_295),
-    ("/users/ana/o/1/likes", "nowhere", "nowhere", "GET, HEAD", "GET, HEAD", 0),
-    ("/users/ana/o/1/shares", "nowhere", "nowhere", "GET, HEAD", "GET, HEAD", 0),
-    ("/users/ana/a/1/likes", "nowhere", "nowhere", "nowhere", "nowhere", 0),
-    ("/users/ana/outbox/", "nowhere", "nowhere", "nowhere", "nowhere", 0),
-    ("/users//outbox", "nowhere", "nowhere", "nowhere", "nowhere", 0),
-    ("/users/ana/o/4294967296", "nowhere", "nowhere", "nowhere", "nowhere", 0),
-    ("/users/ana/o/0", "nowhere", "nowhere", "nowhere", "nowhere", 0),
-    ("/users/ana/a/01", "nowhere", "nowhere", "nowhere", "nowhere", 0),
-    ("/users/ana/o/+1", "nowhere", "nowhere", "nowhere", "nowhere", 0),
-    ("/users/Ana/o/1", "nowhere", "nowhere", "nowhere", "nowhere", 0),
-    ("/users/%61na/o/1", "nowhere", "nowhere", "nowhere", "nowhere", 0),
+    (
+        "/users/ana?page=1",
+        "actor",
+        "actor",
+        "GET, HEAD",
+        "GET, HEAD",
+        0,
+    ),
+    (
+        "/users/ana/outbox",
+        "nowhere",
+        "nowhere",
+        "outbox",
+        "GET, HEAD, POST",
+        0,
+    ),
+    (
+        "/users/ana/inbox",
+        "nowhere",
+        "nowhere",
+        "nowhere",
+        "nowhere",
+        0,
+    ),
+    (
+        "/users/ana/followers",
+        "nowhere",
+        "nowhere",
+        "GET, HEAD",
+        "GET, HEAD",
+        0,
+    ),
+    (
+        "/users/ana/following",
+        "nowhere",
+        "nowhere",
+        "GET, HEAD",
+        "GET, HEAD",
+        0,
+    ),
+    (
+        "/users/ana/liked",
+        "nowhere",
+        "nowhere",
+        "GET, HEAD",
+        "GET, HEAD",
+        0,
+    ),
+    (
+        "/users/ana/a/12",
+        "activity",
+        "activity",
+        "GET, HEAD",
+        "GET, HEAD",
+        12,
+    ),
+    (
+        "/users/ana/o/4294967295?page=1",
+        "object",
+        "object",
+        "GET, HEAD",
+        "GET, HEAD",
+        4_294_967_295,
+    ),
+    (
+        "/users/ana/o/1/likes",
+        "nowhere",
+        "nowhere",
+        "GET, HEAD",
+        "GET, HEAD",
+        0,
+    ),
+    (
+        "/users/ana/o/1/shares",
+        "nowhere",
+        "nowhere",
+        "GET, HEAD",
+        "GET, HEAD",
+        0,
+    ),
+    (
+        "/users/ana/a/1/likes",
+        "nowhere",
+        "nowhere",
+        "nowhere",
+        "nowhere",
+        0,
+    ),
+    (
+        "/users/ana/outbox/",
+        "nowhere",
+        "nowhere",
+        "nowhere",
+        "nowhere",
+        0,
+    ),
+    (
+        "/users//outbox",
+        "nowhere",
+        "nowhere",
+        "nowhere",
+        "nowhere",
+        0,
+    ),
+    (
+        "/users/ana/o/4294967296",
+        "nowhere",
+        "nowhere",
+        "nowhere",
+        "nowhere",
+        0,
+    ),
+    (
+        "/users/ana/o/0",
+        "nowhere",
+        "nowhere",
+        "nowhere",
+        "nowhere",
+        0,
+    ),
+    (
+        "/users/ana/a/01",
+        "nowhere",
+        "nowhere",
+        "nowhere",
+        "nowhere",
+        0,
+    ),
+    (
+        "/users/ana/o/+1",
+        "nowhere",
+        "nowhere",
+        "nowhere",
+        "nowhere",
+        0,
+    ),
+    (
+        "/users/Ana/o/1",
+        "nowhere",
+        "nowhere",
+        "nowhere",
+        "nowhere",
+        0,
+    ),
+    (
+        "/users/%61na/o/1",
+        "nowhere",
+        "nowhere",
+        "nowhere",
+        "nowhere",
+        0,
+    ),
     ("/users", "nowhere", "nowhere", "nowhere", "nowhere", 0),
 ];
 
@@ -135,10 +275,26 @@ fn targets_are_those_of_the_routes(rt: HostRuntime) -> Result<(), Fail> {
     let alloc = rt.alloc();
     let routes = Routes::new(alloc)?;
     for (target, get, head, post, put, number) in &ASKED {
-        assert_eq!(rt; asked(alloc, &routes, &Method::GET, target)?, (*get, *number), "{target}");
-        assert_eq!(rt; asked(alloc, &routes, &Method::HEAD, target)?, (*head, *number), "{target}");
-        assert_eq!(rt; asked(alloc, &routes, &Method::POST, target)?, (*post, 0), "{target}");
-        assert_eq!(rt; asked(alloc, &routes, &Method::PUT, target)?, (*put, 0), "{target}");
+        assert_eq!(rt;
+            asked(alloc, &routes, &Method::GET, target)?,
+            (*get, *number),
+            "{target}"
+        );
+        assert_eq!(rt;
+            asked(alloc, &routes, &Method::HEAD, target)?,
+            (*head, *number),
+            "{target}"
+        );
+        assert_eq!(rt;
+            asked(alloc, &routes, &Method::POST, target)?,
+            (*post, 0),
+            "{target}"
+        );
+        assert_eq!(rt;
+            asked(alloc, &routes, &Method::PUT, target)?,
+            (*put, 0),
+            "{target}"
+        );
     }
     Ok(())
 }
@@ -177,7 +333,10 @@ const FOUND: [(&str, (&str, usize)); 19] = [
     ("resource=https://club.example/users/ana", ("ana", 0)),
     ("resource=HTTPS://CLUB.example:443/users/./ana", ("ana", 0)),
     ("resource=http://club.example/users/ana", ("nobody", 0)),
-    ("resource=https://club.example/users/ana/outbox", ("nobody", 0)),
+    (
+        "resource=https://club.example/users/ana/outbox",
+        ("nobody", 0),
+    ),
     ("resource=https://club.example/", ("nobody", 0)),
     ("resource=acct:ana@hill.example", ("nobody", 0)),
     ("resource=acct:Ana@club.example", ("nobody", 0)),
@@ -189,7 +348,10 @@ const FOUND: [(&str, (&str, usize)); 19] = [
     ("resource=ana", ("malformed", 0)),
     ("resource=", ("malformed", 0)),
     ("rel=self", ("malformed", 0)),
-    ("resource=acct:ana@club.example&resource=acct:ana@club.example", ("malformed", 0)),
+    (
+        "resource=acct:ana@club.example&resource=acct:ana@club.example",
+        ("malformed", 0),
+    ),
 ];
 
 #[test]
@@ -219,11 +381,14 @@ fn actor(alloc: Global) -> Result<String, Fail> {
     Ok(actor_value(alloc, &name, &host)?.to_string(alloc)?)
 }
 
-const PROFILE: &str = "{\"aliases\":[\"https://club.example/users/ana\"],\"links\":[{\"href\":\"https://club.example/users/ana\",\"rel\":\"self\",\"type\":\"application/activity+json\"}],\"subject\":\"acct:ana@club.example\"}";
+const PROFILE: &str =
+    "{\"aliases\":[\"https://club.example/users/ana\"],\"links\":[{\"href\":\"https://club.example/users/ana\",\"rel\":\"self\",\"type\":\"application/activity+json\"}],\"subject\":\"acct:ana@club.example\"}";
 
-const UNLINKED: &str = "{\"aliases\":[\"https://club.example/users/ana\"],\"links\":[],\"subject\":\"acct:ana@club.example\"}";
+const UNLINKED: &str =
+    "{\"aliases\":[\"https://club.example/users/ana\"],\"links\":[],\"subject\":\"acct:ana@club.example\"}";
 
-const ACTOR: &str = "{\"@context\":\"https://www.w3.org/ns/activitystreams\",\"followers\":\"https://club.example/users/ana/followers\",\"following\":\"https://club.example/users/ana/following\",\"id\":\"https://club.example/users/ana\",\"inbox\":\"https://club.example/users/ana/inbox\",\"liked\":\"https://club.example/users/ana/liked\",\"outbox\":\"https://club.example/users/ana/outbox\",\"preferredUsername\":\"ana\",\"type\":\"Person\"}";
+const ACTOR: &str =
+    "{\"@context\":\"https://www.w3.org/ns/activitystreams\",\"followers\":\"https://club.example/users/ana/followers\",\"following\":\"https://club.example/users/ana/following\",\"id\":\"https://club.example/users/ana\",\"inbox\":\"https://club.example/users/ana/inbox\",\"liked\":\"https://club.example/users/ana/liked\",\"outbox\":\"https://club.example/users/ana/outbox\",\"preferredUsername\":\"ana\",\"type\":\"Person\"}";
 
 #[test]
 fn documents_say_who_a_member_is(rt: HostRuntime) -> Result<(), Fail> {
