@@ -5,8 +5,11 @@ use Rattle.std.proofs.lemmas.Nat.{from_be_bytes-to_be_bytes_8}
 use Rattle.std.proofs.lemmas.List.{take_at, drop_at, take-take, append-nil, drop-drop, append_cancel_left}
 use Rattle.std.proofs.Math.Seq.{take-append_seam}
 use Rattle.fedi_outside.specs.Disks.{IsTorn, spliced}
-use Rattle.fedi_images.specs.Images.{AreShort, Format, IsClosedAfter, IsFormat, IsImage, blocks, front, kept_in, record_code, records_at, size_at, size_code}
+use Rattle.fedi_images.specs.Images.{AreShort, Format, IsClosedAfter, IsFormat, IsImage, blocks, front, kept_in, plain, record_code, records_at, size_at, size_code}
 use Rattle.fedi_images.specs.Opening.{IsWhole}
+
+pub plain_ok : IsFormat plain
+plain_ok = record { eight = refl; wide = λ before r. refl }
 
 pub length_size : (n : ℕ) → length (size_code n) ≡ 8
 unfolding size_code

@@ -10,6 +10,10 @@ are_apart step [] end = true
 are_apart step (gate ∷ gates) end = nat_le (gate + step) (get_or gates 0 end) && are_apart step gates end
 
 module _ (f : Format) where
+  -- the record in doubt, if there is one, had room at this end
+  abbrev pub FitsDoubt : ℕ → Option (List ℕ) → Type 0
+  FitsDoubt end doubt = (p : List ℕ) → doubt ≡ Some p → end + (10 + f.width + length p) ≤ 2 ^ 62
+
   -- What is known of a disk with these gates of records, a gate at the end, and a record that may be in doubt: the gates stand
   -- apart and before the end; and if the bytes are told, they are those of the records, and each image that a crash may leave has
   -- the records, without the one in doubt or with it.
@@ -17,7 +21,7 @@ module _ (f : Format) where
     pub inside : end < shown.size
     pub apart : are_apart (9 + f.width) gates end ≡ true
     pub fits : end < 2 ^ 64
-    pub fits_doubt : (p : List ℕ) → doubt ≡ Some p → end + (10 + f.width + length p) ≤ 2 ^ 62
+    pub fits_doubt : FitsDoubt end doubt
     pub ends : (bytes : List ℕ) → shown.reads ≡ Some bytes → end ≡ length (front f (kept_in f (length gates) bytes))
     pub indexed : (bytes : List ℕ) → shown.reads ≡ Some bytes → gates ≡ gates_of f 8 (kept_in f (length gates) bytes)
     pub stands : (bytes image : List ℕ) → shown.reads ≡ Some bytes → crashes.may_leave image
