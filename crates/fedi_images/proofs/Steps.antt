@@ -241,7 +241,7 @@ module _ (f : Format) (ok : IsFormat f) where
     pub staged : (bytes image : List ℕ) → old.reads ≡ Some bytes → between.may_leave image → IsStaged f ok (kept_in f (length gates) bytes) p image
 
   -- how the code spells the record behind the gate, whatever records come before it
-  pub SpellsBlock : ℕ → DiskState → List ℕ → List ℕ → Type 0
+  unfoldable pub SpellsBlock : ℕ → DiskState → List ℕ → List ℕ → Type 0
   SpellsBlock count s p block = (length block ≡ 9 + f.width + length p) × ((bytes : List ℕ) → s.reads ≡ Some bytes → block ≡ record_code f (kept_in f count bytes) p ++ 0 ∷ [])
 
   pub stage_done : (old mid : DiskState) (before between : DiskCrashes) (end at : ℕ) (gates block p : List ℕ) → at ≡ end + 1 → SpellsBlock (length gates) old p block → IsKnown f old before end gates None
@@ -301,6 +301,14 @@ module _ (f : Format) (ok : IsFormat f) where
             subst (λ (l : List (List ℕ)). StandsAtGate f l l image) (sym (kept w.0 there w.1 is)) (let here = closed w.0 image w.1 left in record { closed = λ _. here; opened = λ _. here });
         };
       }
+
+  -- there are as many records as gates
+  pub told_count : (count : ℕ) (s : DiskState) → IfSome (records_told f count s) (λ records. count ≡ length records)
+  told_count count s = each s.reads
+    where
+      each : (o : Option (List ℕ)) → IfSome (option_map (kept_in f count) o) (λ records. count ≡ length records)
+      each None = tt
+      each (Some bytes) = sym (length_kept f ok count bytes)
 
   -- ---- crashes
 

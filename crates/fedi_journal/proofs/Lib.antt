@@ -1,1 +1,2 @@
 pub mod FindingSteps
+pub mod KeeperSteps
