@@ -1,13 +1,13 @@
 -- What the device calls of a journal leave of what is known of its disk.
 use Rattle.std.proofs.Common.{◌≡◌, ◌≢◌, ◌⊎◌, inl, inr, ⊎_elim, ℕ, zero, suc, ◌+◌, ◌-◌, ◌<◌, ◌≤◌, ◌^◌, max, Bool, true, false, List, [], ◌∷◌, ◌++◌, length, get_or, take, drop, refl, sym, ◌∙◌, ap, subst, append_assoc, arith, length-append}
-use Rattle.std.specs.Prelude.{Option, Some, None, option_map, is_some, IfSome}
+use Rattle.std.specs.Prelude.{Option, Some, None, option_map, is_some, slice_get, IfSome}
 use Rattle.std.proofs.lemmas.Bool.{cases_eq}
 use Rattle.fedi_outside.specs.Disks.{DiskState, DiskCrashes, Elapses, HasTorn, IsTorn, LeavesOnly, MayTear, TearsTold, after_write, spliced}
 use Rattle.fedi_outside.specs.Keepers.{Adds, Crashes, IfTold, KeeperState, LeavesRecords, MayLeave, PassesTime}
 use Rattle.fedi_images.specs.Images.{Format, IsClosedAfter, IsFormat, IsImage, StandsAtGate, StandsFor, front, gate_behind, gates_of, kept_in, record_code, with_doubt}
 use Rattle.fedi_images.specs.Known.{FitsDoubt, IsKnown, are_apart, record_crashes, records_told}
 use Rattle.fedi_images.proofs.ImageLemmas.{IsStaged, closed_intro, closes, closes_again, kept_front, kept_image, length_front_push, length_kept, opened_split, opens, short_records, staged, staged_closed, torn_behind}
-use Rattle.fedi_images.proofs.Gates.{apart_push, gates_grown}
+use Rattle.fedi_images.proofs.Gates.{apart_push, gates_grown, record_found}
 
 -- ---- what is told before and after
 
@@ -301,6 +301,22 @@ module _ (f : Format) (ok : IsFormat f) where
             subst (λ (l : List (List ℕ)). StandsAtGate f l l image) (sym (kept w.0 there w.1 is)) (let here = closed w.0 image w.1 left in record { closed = λ _. here; opened = λ _. here });
         };
       }
+
+  begins : (rs : List (List ℕ)) (doubt : Option (List ℕ)) (image : List ℕ) → Holds rs doubt image → (rest : List ℕ) × (image ≡ front f rs ++ rest)
+  unfolding Holds
+  begins rs doubt image (inl closed) = (0 ∷ drop (length (front f rs) + 1) image, closed)
+  begins rs None image (inr closed) = (0 ∷ drop (length (front f rs) + 1) image, closed)
+  begins rs (Some p) image (inr closed) = (1 ∷ (record_code f rs p ++ 0 ∷ drop (length (front f (rs ++ p ∷ [])) + 1) image), opened_split f ok rs p image closed)
+
+  -- between a gate and the next one reads give its record
+  pub record_read : (s : DiskState) (c : DiskCrashes) (end : ℕ) (gates : List ℕ) (doubt : Option (List ℕ)) → IsKnown f s c end gates doubt → IfSome s.reads c.may_leave → (bytes : List ℕ) → s.reads ≡ Some bytes
+      → (i : ℕ) → i < length gates → slice_get (kept_in f (length gates) bytes) i ≡ Some (take (get_or gates (i + 1) end - get_or gates i end - (9 + f.width)) (drop (get_or gates i end + 9) bytes))
+  record_read s c end gates doubt known stay bytes is i within =
+      let rs = kept_in f (length gates) bytes in
+      let split = begins rs doubt bytes (read_holds s c end gates doubt known stay bytes is) in
+      let next : suc i ≡ i + 1 = omega arith in
+      subst (λ (j : ℕ). slice_get rs i ≡ Some (take (get_or gates j end - get_or gates i end - (9 + f.width)) (drop (get_or gates i end + 9) bytes))) next
+      (record_found f ok rs bytes split.0 gates end i (known.indexed bytes is) (known.ends bytes is) split.1 (omega (arith, within, length_kept f ok (length gates) bytes)))
 
   -- there are as many records as gates
   pub told_count : (count : ℕ) (s : DiskState) → IfSome (records_told f count s) (λ records. count ≡ length records)

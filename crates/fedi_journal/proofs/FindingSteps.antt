@@ -1,12 +1,12 @@
 -- What a scan of the gates of a disk has found so far.
 use Rattle.std.proofs.Common.{◌≡◌, ◌≢◌, ◌⊎◌, inl, inr, ⊎_elim, true, ℕ, zero, suc, ◌+◌, ◌-◌, ◌<◌, ◌≤◌, ◌^◌, List, [], ◌∷◌, ◌++◌, length, get_or, take, drop, refl, sym, ◌∙◌, ap, subst, append_assoc, arith, length-append, length-drop, take-append-drop, length-take-le}
-use Rattle.std.specs.Prelude.{Option, Some, None, IfSome}
+use Rattle.std.specs.Prelude.{Option, Some, None, option_map}
 use Rattle.std.specs.Int.{from_be_bytes, w64}
 use Rattle.std.proofs.lemmas.Nat.{from_be_bytes-to_be_bytes_8}
 use Rattle.std.proofs.lemmas.List.{drop-drop, drop_more, take_at, drop-take, take-take, append-nil}
 use Rattle.fedi_outside.specs.Disks.{DiskCrashes, DiskState, Elapses, LeavesOnly}
 use Rattle.fedi_images.specs.Images.{AreShort, IsClosedAfter, StandsAtGate, front, gates_of, kept_in, plain, record_code, size_at, size_code}
-use Rattle.fedi_images.specs.Known.{IsKnown, are_apart}
+use Rattle.fedi_images.specs.Known.{IsKnown, are_apart, records_told}
 use Rattle.fedi_images.specs.Opening.{Begins, IsBad, IsDamagedAt, IsFound, IsWhole}
 use Rattle.fedi_images.proofs.ImageLemmas.{closed_intro, front_push, kept_image, length_front_push, plain_ok}
 use Rattle.fedi_images.proofs.Gates.{gates_grown, length_gates}
@@ -96,6 +96,10 @@ scan_goes_on gates bytes gate size fits scanned is_open =
 found_kept : (gates bytes : List ℕ) (end : ℕ) (found : IsFound plain gates end bytes) → kept_in plain (length gates) bytes ≡ found.0
 found_kept gates bytes end found =
     ap (λ (n : ℕ). kept_in plain n bytes) (ap length found.3 ∙ length_gates plain plain_ok 8 found.0) ∙ kept_image plain plain_ok found.0 bytes found.1.short found.1.spelled
+
+pub opened_records : (s : DiskState) (gates bytes : List ℕ) (end : ℕ) → s.reads ≡ Some bytes → (found : IsFound plain gates end bytes) → records_told plain (length gates) s ≡ Some found.0
+opened_records s gates bytes end is found =
+    ap (λ (o : Option (List ℕ)). option_map (kept_in plain (length gates)) o) is ∙ ap (λ (rs : List (List ℕ)). Some rs) (found_kept gates bytes end found)
 
 pub found_known : (s : DiskState) (c : DiskCrashes) (end : ℕ) (gates : List ℕ) → ((bytes : List ℕ) → s.reads ≡ Some bytes → IsFound plain gates end bytes)
     → ((bytes : List ℕ) → s.reads ≡ Some bytes → LeavesOnly c bytes) → are_apart 9 gates end ≡ true → end < s.size → end < 2 ^ 64 → IsKnown plain s c end gates None

@@ -25,10 +25,19 @@ IsInside gate size Bad = Unit {0}
 abbrev pub IsScanned : List ℕ → ℕ → List ℕ → Type 0
 IsScanned gates gate bytes = (rs : List (List ℕ)) × Begins plain rs gate bytes × (gates ≡ gates_of plain 8 rs)
 
--- how many faults were counted once a journal was opened, or was not for this reason
-abbrev pub faults_after : {T : Type 0} → Result T JournalFault → ℕ → ℕ
-faults_after (Ok found) n = n
-faults_after (Err NotAStore) n = n
-faults_after (Err (Damaged place)) n = n
-faults_after (Err Failed) n = next_count n
-faults_after (Err Memory) n = n
+-- how many faults were counted after this fault
+abbrev pub count_after : JournalFault → ℕ → ℕ
+count_after NotAStore n = n
+count_after (Damaged place) n = n
+count_after Failed n = next_count n
+count_after Memory n = n
+
+-- how many faults were counted once gates were found, or were not
+abbrev pub faults_found : {T : Type 0} → Result T JournalFault → ℕ → ℕ
+faults_found (Ok found) n = n
+faults_found (Err fault) n = count_after fault n
+
+-- how many faults were counted once a journal was opened, or the disk came back
+abbrev pub faults_after : {T D : Type 0} → Result T (JournalFault × D) → ℕ → ℕ
+faults_after (Ok journal) n = n
+faults_after (Err back) n = count_after back.0 n

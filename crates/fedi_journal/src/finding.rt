@@ -5,7 +5,7 @@ ghost use Rattle.fedi_outside.specs.Disks.{Elapses, LeavesOnly, after_reading};
 ghost use Rattle.fedi_images.specs.Images.{plain, size_code};
 ghost use Rattle.fedi_images.specs.Known.{are_apart};
 ghost use Rattle.fedi_images.specs.Opening.{IsDamagedAt, IsFound, IsNoStore};
-ghost use Rattle.fedi_journal.specs.Finding.{IsGate, IsInside, faults_after};
+ghost use Rattle.fedi_journal.specs.Finding.{IsGate, IsInside, faults_found};
 
 use crate::blocks::number_of;
 use crate::faults::JournalFault;
@@ -97,7 +97,7 @@ fn scan<D: Disk>(alloc: Global, disk: &mut D, size: u64) -> Result<(Vec<u64>, u6
     ensures store { IsErrOf result JournalFault.NotAStore → ⊥ }
     ensures size { (D.shown disk.new).size ≡ (D.shown disk.old).size }
     ensures reads { (D.shown disk.new).reads ≡ (D.shown disk.old).reads }
-    ensures faults { (D.shown disk.new).faults ≡ faults_after result (D.shown disk.old).faults }
+    ensures faults { (D.shown disk.new).faults ≡ faults_found result (D.shown disk.old).faults }
     ensures time { Elapses (D.crashes disk.old) (D.crashes disk.new) (D.crashes disk.old).may_leave }
 {
     let mut gates = Vec::new(alloc);
@@ -161,7 +161,7 @@ pub fn find<D: Disk>(alloc: Global, disk: &mut D) -> Result<(Vec<u64>, u64), Jou
     ensures store { IsErrOf result JournalFault.NotAStore
         → (bytes : List ℕ) → (D.shown disk.old).reads ≡ Some bytes → IsNoStore plain bytes }
     ensures reads { (D.shown disk.new).reads ≡ (D.shown disk.old).reads }
-    ensures faults { (D.shown disk.new).faults ≡ faults_after result (D.shown disk.old).faults }
+    ensures faults { (D.shown disk.new).faults ≡ faults_found result (D.shown disk.old).faults }
     ensures time { Elapses (D.crashes disk.old) (D.crashes disk.new) (D.crashes disk.old).may_leave }
 {
     let size = synced_size(disk)?;

@@ -1,7 +1,7 @@
 //! A keeper of records on a disk.
-ghost use Rattle.std.specs.Prelude.{ℕ, ◌≡◌, ◌<◌, ◌≤◌, ◌+◌, length, vec_len, vec_capacity};
+ghost use Rattle.std.specs.Prelude.{ℕ, ◌≡◌, ◌<◌, ◌≤◌, ◌+◌, ◌-◌, ◌^◌, true, nat_lt, length, get_or, is_some, IfSome, vec_len, vec_capacity};
 ghost use Rattle.fedi_images.specs.Images.{plain};
-ghost use Rattle.fedi_images.specs.Known.{IsKnown, record_crashes, records_told};
+ghost use Rattle.fedi_images.specs.Known.{IsKnown, are_apart, record_crashes, records_told};
 ghost use Rattle.fedi_images.proofs.ImageLemmas.{plain_ok};
 ghost use Rattle.fedi_images.proofs.Steps.{leaves_records, told_count};
 ghost use Rattle.fedi_journal.specs.Blocks.{doubt_in};
@@ -43,6 +43,69 @@ pub struct Journal<D: Disk> {
     ghost known: { IsKnown plain (D.shown disk) (D.crashes disk) end gates.items (doubt_in in_doubt block.items) },
 }
 
+impl<D: Disk> Journal<D> {
+    ghost use Rattle.std.specs.Prelude.{List, Some, None, IfOk, IfErr};
+    ghost use Rattle.fedi_outside.specs.Disks.{Elapses, LeavesOnly};
+    ghost use Rattle.fedi_images.specs.Images.{IsImage};
+    ghost use Rattle.fedi_images.specs.Opening.{IsDamagedAt, IsNoStore};
+    ghost use Rattle.fedi_journal.specs.Finding.{faults_after};
+    ghost use Rattle.fedi_journal.specs.Opening.{disk_after};
+
+    /// Opens the records of a disk. It syncs before it reads, so that a crash leaves what it finds. Each error hands the disk back,
+    /// whose bytes are as before: `NotAStore` if it has fewer than 9 bytes or does not begin with the magic, `Damaged` with the place
+    /// of the first gate that is not as it should be, `Failed` if the disk failed, and `Memory` if out of memory.
+    pub fn open(alloc: Global, disk: D) -> Result<Journal<D>, (JournalFault, D)>
+        ensures found { IfOk result (λ journal. (bytes : List ℕ) → (D.shown disk).reads ≡ Some bytes
+            → (rs : List (List ℕ)) × IsImage plain rs bytes
+            × ((⟦<Journal<D> as Keeper>⟧.shown journal).records ≡ Some rs)) }
+        ensures settled { IfOk result (λ journal. (⟦<Journal<D> as Keeper>⟧.shown journal).doubt ≡ None) }
+        ensures only { IfOk result (λ journal. (bytes : List ℕ) → (D.shown disk).reads ≡ Some bytes
+            → LeavesOnly (D.crashes journal.disk) bytes) }
+        ensures damaged { (place : ℕ) → IfErr result (λ back. back.0 ≡ JournalFault.Damaged place
+            → (bytes : List ℕ) → (D.shown disk).reads ≡ Some bytes → IsDamagedAt plain place bytes) }
+        ensures store { IfErr result (λ back. back.0 ≡ JournalFault.NotAStore
+            → (bytes : List ℕ) → (D.shown disk).reads ≡ Some bytes → IsNoStore plain bytes) }
+        ensures reads { (D.shown (disk_after result)).reads ≡ (D.shown disk).reads }
+        ensures faults { (D.shown (disk_after result)).faults ≡ faults_after result (D.shown disk).faults }
+        ensures time { Elapses (D.crashes disk) (D.crashes (disk_after result)) (D.crashes disk).may_leave }
+    {
+        let mut disk = disk;
+        match find(alloc, &mut disk) {
+            Ok((gates, end)) => Ok(Journal {
+                disk,
+                gates,
+                end,
+                block: Vec::new(alloc),
+                in_doubt: false,
+                spare: 0,
+            }),
+            Err(fault) => Err((fault, disk)),
+        }
+    }
+
+    /// Its disk.
+    pub fn into_disk(self) -> D
+        ensures { result ≡ self.disk }
+    {
+        self.disk
+    }
+}
+
+// Where the record at this place begins, and how many bytes it has, by the gates of all records and the closed gate behind them.
+fn span_of(gates: &[u64], end: u64, place: u64) -> Option<(u64, u64)>
+    requires apart { are_apart 9 gates.now end ≡ true }
+    requires fits { end < 2 ^ 64 }
+    ensures some { is_some result ≡ nat_lt place (length gates.now) }
+    ensures start { IfSome result (λ span. span.0 ≡ get_or gates.now place end + 9) }
+    ensures count { IfSome result (λ span.
+        span.1 ≡ get_or gates.now (place + 1) end - get_or gates.now place end - 9) }
+    ensures inside { IfSome result (λ span. span.0 + span.1 ≤ end) }
+{
+    let gate = *gates.get(place as usize)?;
+    let next = gates.get(place as usize + 1).copied().unwrap_or(end);
+    Some((gate + GROWTH, next - gate - GROWTH))
+}
+
 impl<D: Disk> Keeper for Journal<D> {
     ghost shown = { λ k. record {
       records = records_told plain (length k.gates.items) (D.shown k.disk);
@@ -69,12 +132,11 @@ impl<D: Disk> Keeper for Journal<D> {
     }
 
     fn load(&mut self, alloc: Global, place: u64) -> Result<Option<Vec<u8>>, LoadFault> {
-        let Some(&gate) = self.gates.get(place as usize) else {
+        let Some((start, count)) = span_of(&self.gates, self.end, place) else {
             return Ok(None);
         };
-        let next = self.gates.get(place as usize + 1).copied().unwrap_or(self.end);
-        let mut bytes = vec![in alloc; 0; (next - gate - GROWTH) as usize]?;
-        match self.disk.read_at(gate + GROWTH, &mut bytes) {
+        let mut bytes = vec![in alloc; 0; count as usize]?;
+        match self.disk.read_at(start, &mut bytes) {
             Ok(()) => Ok(Some(bytes)),
             Err(Failed) => Err(LoadFault::Failed),
         }
