@@ -1,2 +1,3 @@
 pub mod FindingSteps
 pub mod KeeperSteps
+pub mod MakingSteps

@@ -9,6 +9,7 @@ ghost use Rattle.fedi_journal.specs.Blocks.{doubt_in};
 use crate::blocks::write_block;
 use crate::faults::{InitFault, JournalFault};
 use crate::finding::{MAGIC, find};
+use crate::making::make;
 use fedi_outside::{Disk, Failed, Keeper, LoadFault, ReserveFault, write_synced};
 use std::alloc::Global;
 
@@ -44,11 +45,12 @@ pub struct Journal<D: Disk> {
 }
 
 impl<D: Disk> Journal<D> {
-    ghost use Rattle.std.specs.Prelude.{List, Some, None, IfOk, IfErr};
-    ghost use Rattle.fedi_outside.specs.Disks.{Elapses, LeavesOnly};
+    ghost use Rattle.std.specs.Prelude.{List, [], Some, None, option_map, IfOk, IfErr};
+    ghost use Rattle.fedi_outside.specs.Disks.{Elapses, LeavesOnly, MayTear, spliced};
     ghost use Rattle.fedi_images.specs.Images.{IsImage};
     ghost use Rattle.fedi_images.specs.Opening.{IsDamagedAt, IsNoStore};
     ghost use Rattle.fedi_journal.specs.Finding.{faults_after};
+    ghost use Rattle.fedi_journal.specs.Making.{IsOther, IsUnmade, blank};
     ghost use Rattle.fedi_journal.specs.Opening.{disk_after};
 
     /// Opens the records of a disk. It syncs before it reads, so that a crash leaves what it finds. Each error hands the disk back,
@@ -75,6 +77,38 @@ impl<D: Disk> Journal<D> {
                 disk,
                 gates,
                 end,
+                block: Vec::new(alloc),
+                in_doubt: false,
+                spare: 0,
+            }),
+            Err(fault) => Err((fault, disk)),
+        }
+    }
+
+    /// Makes a disk a journal without records, and syncs it. Each error hands the disk back: `Exists` if it has more than 9 bytes and
+    /// does not begin with the magic and a closed gate, and its bytes are as before; `Failed` if the disk failed, and then its first
+    /// nine bytes may be torn, so that it can be made a journal again. It takes no memory.
+    pub fn init(alloc: Global, disk: D) -> Result<Journal<D>, (InitFault, D)>
+        ensures records { IfOk result (λ journal. (⟦<Journal<D> as Keeper>⟧.shown journal).records
+            ≡ option_map (λ _. []) (D.shown disk).reads) }
+        ensures settled { IfOk result (λ journal. (⟦<Journal<D> as Keeper>⟧.shown journal).doubt ≡ None) }
+        ensures written { IfOk result (λ journal. (D.shown journal.disk).reads
+            ≡ option_map (spliced 0 blank) (D.shown disk).reads) }
+        ensures fresh { IfOk result (λ _. (bytes : List ℕ) → (D.shown disk).reads ≡ Some bytes
+            → IsOther bytes → ⊥) }
+        ensures faults { IfOk result (λ journal. (D.shown journal.disk).faults ≡ (D.shown disk).faults) }
+        ensures durable { IfOk result (λ journal. IfSome (D.shown journal.disk).reads
+            (LeavesOnly (D.crashes journal.disk))) }
+        ensures unmade { IfErr result (λ back. IsUnmade back.0 (D.shown disk) (D.shown back.1)) }
+        ensures time { Elapses (D.crashes disk) (D.crashes (disk_after result))
+            (MayTear 0 blank (D.crashes disk)) }
+    {
+        let mut disk = disk;
+        match make(&mut disk) {
+            Ok(()) => Ok(Journal {
+                disk,
+                gates: Vec::new(alloc),
+                end: MAGIC.len() as u64,
                 block: Vec::new(alloc),
                 in_doubt: false,
                 spare: 0,

@@ -5,6 +5,7 @@ mod blocks;
 mod faults;
 mod finding;
 mod journal;
+mod making;
 
 pub use faults::{InitFault, JournalFault};
 pub use journal::Journal;

@@ -1,0 +1,23 @@
+use Rattle.std.proofs.Common.{List, [], ℕ, ◌≡◌, length, subst, sym, arith}
+use Rattle.std.specs.Prelude.{None, option_map}
+use Rattle.fedi_outside.specs.Disks.{spliced}
+use Rattle.fedi_images.specs.Images.{plain}
+use Rattle.fedi_images.specs.Known.{IsKnown, records_told}
+use Rattle.fedi_journal.specs.Making.{blank}
+use Rattle.fedi_journal.proofs.MakingSteps.{made_known, no_records}
+use Rattle.fedi_journal.proofs.journal.Journal.init.Goals as goal
+
+pub invariant_of-result : goal.invariant_of-result
+invariant_of-result g c =
+    let disk = c.make.new.disk in
+    record {
+      room = λ some. absurd (omega arith);
+      known = subst (λ (l : List ℕ). IsKnown plain (g.D.Disk.shown disk) (g.D.Disk.crashes disk) 8 l None) (sym c.new.ensures.items)
+        (made_known (g.D.Disk.shown disk) (g.D.Disk.crashes disk) (g.D.Disk.shown c.args.disk).reads c.in-Ok.ensures.written c.in-Ok.ensures.durable c.in-Ok.ensures.long);
+    }
+
+pub returns-in-Ok-clause-records : goal.returns-in-Ok-clause-records
+returns-in-Ok-clause-records g c =
+    let before = (g.D.Disk.shown c.args.disk).reads in
+    subst (λ (l : List ℕ). records_told plain (length l) (g.D.Disk.shown c.make.new.disk) ≡ option_map (λ _. []) before) (sym c.new.ensures.items)
+    (no_records (g.D.Disk.shown c.make.new.disk) before (spliced 0 blank) c.in-Ok.ensures.written)
