@@ -132,6 +132,16 @@ module _ (f : Format) (ok : IsFormat f) where
       let room = fits_doubt p refl in
       inr (sym (stands (rs ++ p ∷ []) (record { short = short_records f ok (rs ++ p ∷ []) (omega (arith, room, length_front_push f ok rs p)); spelled = closed })))
 
+  -- such an image is a file of one of these lists
+  image_of : (rs : List (List ℕ)) (doubt : Option (List ℕ)) (image : List ℕ) → length (front f rs) < 2 ^ 64 → FitsDoubt f (length (front f rs)) doubt → Holds rs doubt image
+      → (list : List (List ℕ)) × IsImage f list image × MayLeave rs doubt list
+  unfolding Holds
+  image_of rs None image fits fits_doubt (inl closed) = (rs, record { short = short_records f ok rs fits; spelled = closed }, refl)
+  image_of rs None image fits fits_doubt (inr closed) = (rs, record { short = short_records f ok rs fits; spelled = closed }, refl)
+  image_of rs (Some p) image fits fits_doubt (inl closed) = (rs, record { short = short_records f ok rs fits; spelled = closed }, inl refl)
+  image_of rs (Some p) image fits fits_doubt (inr closed) =
+      (rs ++ p ∷ [], record { short = short_records f ok (rs ++ p ∷ []) (omega (arith, fits_doubt p refl, length_front_push f ok rs p)); spelled = closed }, inr refl)
+
   inside_closed : (rs : List (List ℕ)) (image : List ℕ) → IsClosedAfter f rs image → length (front f rs) < length image
   inside_closed rs image closed = omega (arith, ap length closed, length-append (front f rs) (0 ∷ drop (length (front f rs) + 1) image))
 
@@ -171,6 +181,20 @@ module _ (f : Format) (ok : IsFormat f) where
       → (bytes : List ℕ) → s.reads ≡ Some bytes → Holds (kept_in f (length gates) bytes) doubt bytes
   read_holds s c end gates doubt known stay bytes is = known_holds s c end gates doubt known bytes bytes is (of_some s.reads c.may_leave stay bytes is)
 
+  some_is : (o : Option (List ℕ)) (g : List ℕ → List (List ℕ)) (kept : List (List ℕ)) → option_map g o ≡ Some kept → (bytes : List ℕ) × (o ≡ Some bytes) × (g bytes ≡ kept)
+  some_is None g kept is = absurd (cc is)
+  some_is (Some bytes) g kept is = (bytes, refl, cc is)
+
+  -- each image that a crash may leave is a file of the records, or of these with the one in doubt
+  pub images_left : (s : DiskState) (c : DiskCrashes) (end : ℕ) (gates : List ℕ) (doubt : Option (List ℕ)) → IsKnown f s c end gates doubt → (kept : List (List ℕ)) → records_told f (length gates) s ≡ Some kept
+      → (image : List ℕ) → c.may_leave image → (list : List (List ℕ)) × IsImage f list image × MayLeave kept doubt list
+  images_left s c end gates doubt known kept told image left =
+      let here = some_is s.reads (kept_in f (length gates)) kept told in
+      let bytes = here.0 in
+      let ends = known.ends bytes here.1 in
+      let found = image_of (kept_in f (length gates) bytes) doubt image (omega (arith, known.fits, ends)) (λ p in_doubt. omega (arith, ends, known.fits_doubt p in_doubt)) (known_holds s c end gates doubt known bytes image here.1 left) in
+      (found.0, found.1, subst (λ (rs : List (List ℕ)). MayLeave rs doubt found.0) here.2 found.2)
+
   -- what was known of the records is known still, of another state of the disk and with this doubt
   pub record IsCarried (old new : DiskState) (after : DiskCrashes) (end : ℕ) (gates : List ℕ) (doubt : Option (List ℕ)) : Type 0 where
     pub records : records_told f (length gates) new ≡ records_told f (length gates) old
@@ -182,9 +206,9 @@ module _ (f : Format) (ok : IsFormat f) where
   carry old new before after end gates was doubt known grown told stay fits holds =
       let n = length gates in
       let same : (here there : List ℕ) → old.reads ≡ Some here → new.reads ≡ Some there → kept_in f n there ≡ kept_in f n here = λ here there is_here is_there.
-        let rs = kept_in f n here in
-        ap (λ (k : ℕ). kept_in f k there) (sym (length_kept f ok n here))
-        ∙ kept_holds rs doubt there (omega (arith, known.fits, known.ends here is_here)) (λ p in_doubt. omega (arith, known.ends here is_here, fits p in_doubt)) (holds here there is_here (of_some new.reads after.may_leave stay there is_there)) in
+      let rs = kept_in f n here in
+      ap (λ (k : ℕ). kept_in f k there) (sym (length_kept f ok n here))
+      ∙ kept_holds rs doubt there (omega (arith, known.fits, known.ends here is_here)) (λ p in_doubt. omega (arith, known.ends here is_here, fits p in_doubt)) (holds here there is_here (of_some new.reads after.may_leave stay there is_there)) in
       let past : (there : List ℕ) → new.reads ≡ Some there → (here : List ℕ) × (old.reads ≡ Some here) = told_before old.reads new.reads told in
       record {
         records = told_records (kept_in f n) (kept_in f n) (λ kept. kept) old.reads new.reads told same ∙ told_again (records_told f n old);
@@ -196,7 +220,7 @@ module _ (f : Format) (ok : IsFormat f) where
           ends = λ there is. let w = past there is in known.ends w.0 w.1 ∙ ap (λ (l : List (List ℕ)). length (front f l)) (sym (same w.0 there w.1 is));
           indexed = λ there is. let w = past there is in known.indexed w.0 w.1 ∙ ap (gates_of f 8) (sym (same w.0 there w.1 is));
           stands = λ there image is left. let w = past there is in
-            subst (λ (l : List (List ℕ)). StandsAtGate f l (with_doubt l doubt) image) (sym (same w.0 there w.1 is)) (stands_of (kept_in f n w.0) doubt image (holds w.0 image w.1 left));
+              subst (λ (l : List (List ℕ)). StandsAtGate f l (with_doubt l doubt) image) (sym (same w.0 there w.1 is)) (stands_of (kept_in f n w.0) doubt image (holds w.0 image w.1 left));
         };
       }
 
@@ -222,8 +246,8 @@ module _ (f : Format) (ok : IsFormat f) where
       let reads : new.reads ≡ option_map (spliced end (0 ∷ [])) old.reads = ap (λ (d : DiskState). d.reads) written in
       carry old new before after end gates doubt None known (omega (arith, ap (λ (d : DiskState). d.size) written)) (written_told _ old.reads new.reads reads) stay (no_doubt end)
       (λ bytes image is left.
-        let rs = kept_in f (length gates) bytes in
-        inl (subst (IsClosedAfter f rs) (sym (one_left _ old.reads new.reads after reads durable bytes image is left)) (shut_done rs doubt end bytes (known.ends bytes is) (read_holds old before end gates doubt known stayed bytes is))))
+      let rs = kept_in f (length gates) bytes in
+      inl (subst (IsClosedAfter f rs) (sym (one_left _ old.reads new.reads after reads durable bytes image is left)) (shut_done rs doubt end bytes (known.ends bytes is) (read_holds old before end gates doubt known stayed bytes is))))
 
   -- the write of a record behind the closed gate failed
   pub stage_failed : (old new : DiskState) (before after : DiskCrashes) (end at : ℕ) (gates block : List ℕ) → at ≡ end + 1 → IsKnown f old before end gates None → IfSome new.reads after.may_leave
@@ -232,7 +256,7 @@ module _ (f : Format) (ok : IsFormat f) where
   stage_failed old new before after end at gates block is_at known stay torn time =
       carry old new before after end gates None None known torn.no_shorter (torn_told at block old.reads new.reads torn.reads) stay (no_doubt end)
       (λ bytes image is left. let from = time.now image left in
-        inl (torn_behind f ok (kept_in f (length gates) bytes) at block from.0 image (omega (arith, is_at, known.ends bytes is)) from.2 (sure _ _ (known_holds old before end gates None known bytes from.0 is from.1))))
+      inl (torn_behind f ok (kept_in f (length gates) bytes) at block from.0 image (omega (arith, is_at, known.ends bytes is)) from.2 (sure _ _ (known_holds old before end gates None known bytes from.0 is from.1))))
 
   -- a record stands behind the closed gate, and no other image is left
   pub record IsReady (old mid : DiskState) (between : DiskCrashes) (end : ℕ) (gates p : List ℕ) : Type 0 where
@@ -253,9 +277,9 @@ module _ (f : Format) (ok : IsFormat f) where
         grown = omega (arith, ap (λ (d : DiskState). d.size) written, spells.0, is_at);
         told = written_told _ old.reads mid.reads reads;
         staged = λ bytes image is left.
-          let rs = kept_in f (length gates) bytes in
-          subst (IsStaged f ok rs p) (sym (one_left _ old.reads mid.reads between reads durable bytes image is left))
-          (staged f ok rs p block bytes at (omega (arith, is_at, known.ends bytes is)) (spells.1 bytes is) (sure _ _ (read_holds old before end gates None known stayed bytes is)));
+            let rs = kept_in f (length gates) bytes in
+            subst (IsStaged f ok rs p) (sym (one_left _ old.reads mid.reads between reads durable bytes image is left))
+            (staged f ok rs p block bytes at (omega (arith, is_at, known.ends bytes is)) (spells.1 bytes is) (sure _ _ (read_holds old before end gates None known stayed bytes is)));
       }
 
   -- the write of an open gate before it failed
@@ -278,15 +302,15 @@ module _ (f : Format) (ok : IsFormat f) where
       let reads : new.reads ≡ option_map (spliced end (1 ∷ [])) mid.reads = ap (λ (d : DiskState). d.reads) written in
       let told : StaysTold old.reads new.reads = told_on old.reads mid.reads new.reads ready.told (written_told _ mid.reads new.reads reads) in
       let closed : (bytes image : List ℕ) → old.reads ≡ Some bytes → after.may_leave image → IsClosedAfter f (kept_in f n bytes ++ p ∷ []) image = λ bytes image is left.
-        let rs = kept_in f n bytes in
-        let here = told_after old.reads mid.reads ready.told bytes is in
-        let ready_here = ready.staged bytes here.0 is (of_some mid.reads between.may_leave stays here.0 here.1) in
-        subst (IsClosedAfter f (rs ++ p ∷ [])) (sym (one_left _ mid.reads new.reads after reads durable here.0 image here.1 left)) (opens f ok rs p here.0 end (known.ends bytes is) ready_here) in
+      let rs = kept_in f n bytes in
+      let here = told_after old.reads mid.reads ready.told bytes is in
+      let ready_here = ready.staged bytes here.0 is (of_some mid.reads between.may_leave stays here.0 here.1) in
+      subst (IsClosedAfter f (rs ++ p ∷ [])) (sym (one_left _ mid.reads new.reads after reads durable here.0 image here.1 left)) (opens f ok rs p here.0 end (known.ends bytes is) ready_here) in
       let kept : (here there : List ℕ) → old.reads ≡ Some here → new.reads ≡ Some there → kept_in f more there ≡ kept_in f n here ++ p ∷ [] = λ here there is_here is_there.
-        let rs = kept_in f n here in
-        let count : length (rs ++ p ∷ []) ≡ more = omega (arith, length-append rs (p ∷ []), length_kept f ok n here, length-append gates (end ∷ [])) in
-        ap (λ (k : ℕ). kept_in f k there) (sym count)
-        ∙ kept_image f ok (rs ++ p ∷ []) there (short_records f ok (rs ++ p ∷ []) (omega (arith, length_front_push f ok rs p, known.ends here is_here, room))) (closed here there is_here (of_some new.reads after.may_leave stay there is_there)) in
+      let rs = kept_in f n here in
+      let count : length (rs ++ p ∷ []) ≡ more = omega (arith, length-append rs (p ∷ []), length_kept f ok n here, length-append gates (end ∷ [])) in
+      ap (λ (k : ℕ). kept_in f k there) (sym count)
+      ∙ kept_image f ok (rs ++ p ∷ []) there (short_records f ok (rs ++ p ∷ []) (omega (arith, length_front_push f ok rs p, known.ends here is_here, room))) (closed here there is_here (of_some new.reads after.may_leave stay there is_there)) in
       let past : (there : List ℕ) → new.reads ≡ Some there → (here : List ℕ) × (old.reads ≡ Some here) = told_before old.reads new.reads told in
       record {
         records = told_records (kept_in f n) (kept_in f more) (λ rs. rs ++ p ∷ []) old.reads new.reads told kept;
@@ -298,7 +322,7 @@ module _ (f : Format) (ok : IsFormat f) where
           ends = λ there is. let w = past there is in omega (arith, known.ends w.0 w.1, length_front_push f ok (kept_in f n w.0) p, ap (λ (l : List (List ℕ)). length (front f l)) (kept w.0 there w.1 is));
           indexed = λ there is. let w = past there is in gates_grown f ok (kept_in f n w.0) p gates end (known.indexed w.0 w.1) (known.ends w.0 w.1) ∙ ap (gates_of f 8) (sym (kept w.0 there w.1 is));
           stands = λ there image is left. let w = past there is in
-            subst (λ (l : List (List ℕ)). StandsAtGate f l l image) (sym (kept w.0 there w.1 is)) (let here = closed w.0 image w.1 left in record { closed = λ _. here; opened = λ _. here });
+              subst (λ (l : List (List ℕ)). StandsAtGate f l l image) (sym (kept w.0 there w.1 is)) (let here = closed w.0 image w.1 left in record { closed = λ _. here; opened = λ _. here });
         };
       }
 
@@ -333,9 +357,9 @@ module _ (f : Format) (ok : IsFormat f) where
       → IfTold (is_some s.reads) (records_told f (length gates) s) (λ kept. (left : List (List ℕ)) → (record_crashes f s c).left_since c.clock left → MayLeave kept doubt left)
   leaves_records s c end gates doubt only known =
       if_told s.reads (kept_in f (length gates)) _ (λ bytes is left past.
-        let ends = known.ends bytes is in
-        list_left (kept_in f (length gates) bytes) doubt past.0 left (omega (arith, known.fits, ends)) (λ p in_doubt. omega (arith, ends, known.fits_doubt p in_doubt))
-        (known_holds s c end gates doubt known bytes past.0 is (only past.0 past.1)) past.2)
+      let ends = known.ends bytes is in
+      list_left (kept_in f (length gates) bytes) doubt past.0 left (omega (arith, known.fits, ends)) (λ p in_doubt. omega (arith, ends, known.fits_doubt p in_doubt))
+      (known_holds s c end gates doubt known bytes past.0 is (only past.0 past.1)) past.2)
 
   -- the images that a call adds hold the records, or these with the one in doubt
   passes : (old new : DiskState) (before after : DiskCrashes) (end : ℕ) (gates : List ℕ) (was doubt : Option (List ℕ)) (added : List ℕ → Type 0) → IsKnown f old before end gates was
@@ -345,13 +369,13 @@ module _ (f : Format) (ok : IsFormat f) where
     clock = time.clock;
     told = told_same old.reads new.reads told;
     crash = if_told old.reads (kept_in f (length gates)) _ (λ bytes is.
-      let ends = known.ends bytes is in
-      record {
-        nothing_else = λ moment list past since. ⊎_elim (λ here. inl (since.0, here, since.2))
-          (λ new_one. inr (list_left (kept_in f (length gates) bytes) doubt since.0 list (omega (arith, known.fits, ends)) (λ p in_doubt. omega (arith, ends, fits p in_doubt)) (holds bytes since.0 is new_one) since.2))
-          (time.nothing_else moment since.0 past since.1);
-        keeps = λ moment list past since. (since.0, time.keeps moment since.0 past since.1, since.2);
-      });
+        let ends = known.ends bytes is in
+        record {
+          nothing_else = λ moment list past since. ⊎_elim (λ here. inl (since.0, here, since.2))
+              (λ new_one. inr (list_left (kept_in f (length gates) bytes) doubt since.0 list (omega (arith, known.fits, ends)) (λ p in_doubt. omega (arith, ends, fits p in_doubt)) (holds bytes since.0 is new_one) since.2))
+              (time.nothing_else moment since.0 past since.1);
+          keeps = λ moment list past since. (since.0, time.keeps moment since.0 past since.1, since.2);
+        });
   }
 
   pub read_passes : (old new : DiskState) (before after : DiskCrashes) (end : ℕ) (gates : List ℕ) (doubt : Option (List ℕ)) → IsKnown f old before end gates doubt → new.reads ≡ old.reads
@@ -381,7 +405,7 @@ module _ (f : Format) (ok : IsFormat f) where
     clock = omega (arith, one.clock, two.clock);
     now = λ image left. inr (two.now image left);
     nothing_else = λ moment image past left. ⊎_elim (λ here. ⊎_elim (λ was. inl was) (λ new_one. inr (inl new_one)) (one.nothing_else moment image past here)) (λ new_one. inr (inr new_one))
-      (two.nothing_else moment image (omega (arith, past, one.clock)) left);
+        (two.nothing_else moment image (omega (arith, past, one.clock)) left);
     keeps = λ moment image past was. two.keeps moment image (omega (arith, past, one.clock)) (one.keeps moment image past was);
   }
 
@@ -391,4 +415,4 @@ module _ (f : Format) (ok : IsFormat f) where
   append_passes old mid new before between after end at gates block p is_at room known ready told one two =
       passes old new before after end gates None (Some p) _ known (elapses_then before between after _ _ one two) (told_on old.reads mid.reads new.reads ready.told told) (one_doubt end p room)
       (λ bytes image is added. ⊎_elim (staged_torn old before end at gates block p is_at known bytes image is)
-        (λ torn. open_torn (kept_in f (length gates) bytes) p end torn.0 image (known.ends bytes is) (ready.staged bytes torn.0 is torn.1) torn.2) added)
+      (λ torn. open_torn (kept_in f (length gates) bytes) p end torn.0 image (known.ends bytes is) (ready.staged bytes torn.0 is torn.1) torn.2) added)

@@ -84,12 +84,15 @@ scan_goes_on gates bytes gate size fits scanned is_open =
     let block : take (9 + size) here ≡ 1 ∷ record_code plain rs r =
     ap (λ (n : ℕ). take n here) (nine size) ∙ (take_sum 1 (8 + size) here ∙ (ap (λ (l : List ℕ). take 1 l ++ take (8 + size) behind) opened ∙ ap (λ (l : List ℕ). 1 ∷ l) inner)) in
     let spelled : take (gate + (9 + size)) bytes ≡ front plain (rs ++ r ∷ []) =
-    take_sum gate (9 + size) bytes ∙ (ap (λ (l : List ℕ). l ++ take (9 + size) here) begins.spelled ∙ (ap (λ (l : List ℕ). front plain rs ++ l) block ∙ sym (front_push plain plain_ok rs r))) in
-    (rs ++ r ∷ [], record {
-      short = short_push rs r begins.short (omega (arith, size_r));
-      ends = omega (arith, begins.ends, length_front_push plain plain_ok rs r, size_r);
-      spelled = spelled;
-    }, gates_grown plain plain_ok rs r gates gate scanned.2 begins.ends)
+    take_sum gate (9 + size) bytes ∙ (ap (λ (l : List ℕ). l ++ take (9 + size) here) begins.spelled ∙ (ap (λ (l : List ℕ). front plain rs ++ l) block ∙ sym (front_push plain plain_ok rs r))) in (
+      rs ++ r ∷ [],
+      record {
+        short = short_push rs r begins.short (omega (arith, size_r));
+        ends = omega (arith, begins.ends, length_front_push plain plain_ok rs r, size_r);
+        spelled = spelled;
+      },
+      gates_grown plain plain_ok rs r gates gate scanned.2 begins.ends,
+    )
 
 -- ---- what is known then
 
@@ -111,8 +114,8 @@ found_known s c end gates found only apart inside fits = record {
   ends = λ bytes is. let here = found bytes is in here.2 ∙ ap (λ (l : List (List ℕ)). length (front plain l)) (sym (found_kept gates bytes end here));
   indexed = λ bytes is. let here = found bytes is in here.3 ∙ ap (gates_of plain 8) (sym (found_kept gates bytes end here));
   stands = λ bytes image is left.
-    let here = found bytes is in
-    let closed : IsClosedAfter plain (kept_in plain (length gates) bytes) image =
-    subst (λ (l : List (List ℕ)). IsClosedAfter plain l image) (sym (found_kept gates bytes end here)) (subst (IsClosedAfter plain here.0) (sym (only bytes is image left)) here.1.spelled) in
-    record { closed = λ _. closed; opened = λ _. closed };
+      let here = found bytes is in
+      let closed : IsClosedAfter plain (kept_in plain (length gates) bytes) image =
+      subst (λ (l : List (List ℕ)). IsClosedAfter plain l image) (sym (found_kept gates bytes end here)) (subst (IsClosedAfter plain here.0) (sym (only bytes is image left)) here.1.spelled) in
+      record { closed = λ _. closed; opened = λ _. closed };
 }

@@ -54,9 +54,9 @@ pub finds_some : (s : DiskState) (c : DiskCrashes) (end : ℕ) (gates : List ℕ
     → IfSome (records_told plain (length gates) s) (λ records. Some read ≡ slice_get records place)
 finds_some s c end gates doubt known stay place start count read within is_start is_count taken =
     if_some s.reads (kept_in plain (length gates)) _ (λ bytes is.
-      let here : read ≡ take (get_or gates (place + 1) end - get_or gates place end - 9) (drop (get_or gates place end + 9) bytes) =
-      of_some s.reads (λ all. read ≡ take count (drop start all)) taken bytes is ∙ (ap (λ (n : ℕ). take n (drop start bytes)) is_count ∙ ap (λ (n : ℕ). take (get_or gates (place + 1) end - get_or gates place end - 9) (drop n bytes)) is_start) in
-      ap (λ (l : List ℕ). Some l) here ∙ sym (record_read plain plain_ok s c end gates doubt known stay bytes is place within))
+    let here : read ≡ take (get_or gates (place + 1) end - get_or gates place end - 9) (drop (get_or gates place end + 9) bytes) =
+    of_some s.reads (λ all. read ≡ take count (drop start all)) taken bytes is ∙ (ap (λ (n : ℕ). take n (drop start bytes)) is_count ∙ ap (λ (n : ℕ). take (get_or gates (place + 1) end - get_or gates place end - 9) (drop n bytes)) is_start) in
+    ap (λ (l : List ℕ). Some l) here ∙ sym (record_read plain plain_ok s c end gates doubt known stay bytes is place within))
 
 -- ---- the block
 

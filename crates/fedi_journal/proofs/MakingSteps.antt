@@ -33,10 +33,10 @@ made_known s c before written durable long = record {
   ends = λ bytes is. ap length (sym (ap (front plain) (kept_none bytes) ∙ front_none));
   indexed = λ bytes is. sym (ap (λ (rs : List (List ℕ)). gates_of plain 8 rs) (kept_none bytes));
   stands = λ bytes image is left.
-    let past = was_told before s.reads _ written bytes is in
-    let closed : IsClosedAfter plain (kept_in plain 0 bytes) image =
-    subst (λ (rs : List (List ℕ)). IsClosedAfter plain rs image) (sym (kept_none bytes)) (subst (IsClosedAfter plain []) (sym (of_some s.reads (LeavesOnly c) durable bytes is image left)) (blank_closed past.0 bytes past.1)) in
-    record { closed = λ _. closed; opened = λ _. closed };
+      let past = was_told before s.reads _ written bytes is in
+      let closed : IsClosedAfter plain (kept_in plain 0 bytes) image =
+      subst (λ (rs : List (List ℕ)). IsClosedAfter plain rs image) (sym (kept_none bytes)) (subst (IsClosedAfter plain []) (sym (of_some s.reads (LeavesOnly c) durable bytes is image left)) (blank_closed past.0 bytes past.1)) in
+      record { closed = λ _. closed; opened = λ _. closed };
 }
 
 -- no records are told, if the bytes were

@@ -47,11 +47,12 @@ pub struct Journal<D: Disk> {
 impl<D: Disk> Journal<D> {
     ghost use Rattle.std.specs.Prelude.{List, [], Some, None, option_map, IfOk, IfErr};
     ghost use Rattle.fedi_outside.specs.Disks.{Elapses, LeavesOnly, MayTear, spliced};
+    ghost use Rattle.fedi_outside.specs.Keepers.{MayLeave};
     ghost use Rattle.fedi_images.specs.Images.{IsImage};
     ghost use Rattle.fedi_images.specs.Opening.{IsDamagedAt, IsNoStore};
     ghost use Rattle.fedi_journal.specs.Finding.{faults_after};
     ghost use Rattle.fedi_journal.specs.Making.{IsOther, IsUnmade, blank};
-    ghost use Rattle.fedi_journal.specs.Opening.{disk_after};
+    ghost use Rattle.fedi_journal.specs.Opening.{disk_after, disk_of};
 
     /// Opens the records of a disk. It syncs before it reads, so that a crash leaves what it finds. Each error hands the disk back,
     /// whose bytes are as before: `NotAStore` if it has fewer than 9 bytes or does not begin with the magic, `Damaged` with the place
@@ -62,7 +63,7 @@ impl<D: Disk> Journal<D> {
             × ((⟦<Journal<D> as Keeper>⟧.shown journal).records ≡ Some rs)) }
         ensures settled { IfOk result (λ journal. (⟦<Journal<D> as Keeper>⟧.shown journal).doubt ≡ None) }
         ensures only { IfOk result (λ journal. (bytes : List ℕ) → (D.shown disk).reads ≡ Some bytes
-            → LeavesOnly (D.crashes journal.disk) bytes) }
+            → LeavesOnly (D.crashes (disk_of journal)) bytes) }
         ensures damaged { (place : ℕ) → IfErr result (λ back. back.0 ≡ JournalFault.Damaged place
             → (bytes : List ℕ) → (D.shown disk).reads ≡ Some bytes → IsDamagedAt plain place bytes) }
         ensures store { IfErr result (λ back. back.0 ≡ JournalFault.NotAStore
@@ -92,13 +93,13 @@ impl<D: Disk> Journal<D> {
         ensures records { IfOk result (λ journal. (⟦<Journal<D> as Keeper>⟧.shown journal).records
             ≡ option_map (λ _. []) (D.shown disk).reads) }
         ensures settled { IfOk result (λ journal. (⟦<Journal<D> as Keeper>⟧.shown journal).doubt ≡ None) }
-        ensures written { IfOk result (λ journal. (D.shown journal.disk).reads
+        ensures written { IfOk result (λ journal. (D.shown (disk_of journal)).reads
             ≡ option_map (spliced 0 blank) (D.shown disk).reads) }
         ensures fresh { IfOk result (λ _. (bytes : List ℕ) → (D.shown disk).reads ≡ Some bytes
             → IsOther bytes → ⊥) }
-        ensures faults { IfOk result (λ journal. (D.shown journal.disk).faults ≡ (D.shown disk).faults) }
-        ensures durable { IfOk result (λ journal. IfSome (D.shown journal.disk).reads
-            (LeavesOnly (D.crashes journal.disk))) }
+        ensures faults { IfOk result (λ journal. (D.shown (disk_of journal)).faults ≡ (D.shown disk).faults) }
+        ensures durable { IfOk result (λ journal. IfSome (D.shown (disk_of journal)).reads
+            (LeavesOnly (D.crashes (disk_of journal)))) }
         ensures unmade { IfErr result (λ back. IsUnmade back.0 (D.shown disk) (D.shown back.1)) }
         ensures time { Elapses (D.crashes disk) (D.crashes (disk_after result))
             (MayTear 0 blank (D.crashes disk)) }
@@ -117,9 +118,13 @@ impl<D: Disk> Journal<D> {
         }
     }
 
-    /// Its disk.
+    /// Its disk. Each image that a crash may leave of it is a file of the records, or of these with the one in doubt.
     pub fn into_disk(self) -> D
-        ensures { result ≡ self.disk }
+        ensures disk { result ≡ disk_of self }
+        ensures images { (kept : List (List ℕ)) → (⟦<Journal<D> as Keeper>⟧.shown self).records ≡ Some kept
+            → (image : List ℕ) → (D.crashes result).may_leave image
+            → (rs : List (List ℕ)) × IsImage plain rs image
+            × MayLeave kept (⟦<Journal<D> as Keeper>⟧.shown self).doubt rs }
     {
         self.disk
     }

@@ -11,9 +11,11 @@ returns-then-byte-ne1-clause-found g c = λ bytes is.
     let size = of_some (g.D.Disk.shown disk).reads (λ all. (g.D.Disk.shown disk).size ≡ length all) (g.met.D.Disk.told_size disk) bytes is in
     let long = length-drop c.args.gate bytes in
     let byte = c.in_ok-byte.ensures.byte bytes is in
-    let number = size_spelled here c.in_ok-byte.length (omega arith) (c.in_ok-byte.ensures.number bytes is) in
-    (omega (arith, c.requires.size, c.requires.inside, size, long), λ zero. omega (arith, byte, zero, c.if-byte-eq0.false),
+    let number = size_spelled here c.in_ok-byte.length (omega arith) (c.in_ok-byte.ensures.number bytes is) in (
+      omega (arith, c.requires.size, c.requires.inside, size, long),
+      λ zero. omega (arith, byte, zero, c.if-byte-eq0.false),
       λ one. elim c.then-byte-ne1.branch [
-        then-byte-ne1-via-then-byte-ne1 w ↦ absurd (omega (arith, byte, one, w.if-byte-ne1.true))
-      | then-byte-ne1-via-else-byte-ne1+then-length-behind w ↦ omega (arith, c.requires.size, size, long, number, w.if-length-behind.true, c.if-behind-lt10.false)
-      ])
+        | then-byte-ne1-via-then-byte-ne1 w ↦ absurd (omega (arith, byte, one, w.if-byte-ne1.true))
+        | then-byte-ne1-via-else-byte-ne1+then-length-behind w ↦ omega (arith, c.requires.size, size, long, number, w.if-length-behind.true, c.if-behind-lt10.false)
+      ],
+    )

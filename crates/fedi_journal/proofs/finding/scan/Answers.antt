@@ -27,6 +27,6 @@ records-preserved g c =
       shown = c.in_ok-look.ensures.shown ∙ c.records.invariant.shown;
       time = elapses_on (g.D.Disk.crashes c.args.disk.now) (g.D.Disk.crashes c.records.disk) (g.D.Disk.crashes c.look.new.disk) c.records.invariant.time c.look.ensures.time;
       scanned = λ bytes is.
-        let found = subst (IsGate (drop gate bytes)) c.in-Open.is (c.in_ok-look.ensures.found bytes (ap (λ (d : DiskState). d.reads) c.records.invariant.shown ∙ is)) in
-        subst (λ (l : List ℕ). IsScanned l (gate + (9 + size)) bytes) (sym pushed) (scan_goes_on c.records.gates.items bytes gate size (omega (arith, inside)) (c.records.invariant.scanned bytes is) found);
+          let found = subst (IsGate (drop gate bytes)) c.in-Open.is (c.in_ok-look.ensures.found bytes (ap (λ (d : DiskState). d.reads) c.records.invariant.shown ∙ is)) in
+          subst (λ (l : List ℕ). IsScanned l (gate + (9 + size)) bytes) (sym pushed) (scan_goes_on c.records.gates.items bytes gate size (omega (arith, inside)) (c.records.invariant.scanned bytes is) found);
     }

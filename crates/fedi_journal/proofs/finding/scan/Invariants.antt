@@ -11,7 +11,7 @@ invariant-records g l = record {
   apart : are_apart 9 l.gates.items l.gate ≡ true;
   shown : g.D.Disk.shown l.disk ≡ g.D.Disk.shown l.initial.disk;
   time : Elapses (g.D.Disk.crashes l.initial.disk) (g.D.Disk.crashes l.disk) (g.D.Disk.crashes l.initial.disk).may_leave;
-  scanned : (bytes : List ℕ) → (g.D.Disk.shown l.initial.disk).reads ≡ Some bytes → IsScanned l.gates.items l.gate bytes
+  scanned : (bytes : List ℕ) → (g.D.Disk.shown l.initial.disk).reads ≡ Some bytes → IsScanned l.gates.items l.gate bytes;
 }
 
 abbrev pub decreases-records : goal.decreases-records

@@ -13,7 +13,7 @@ invariant_of-result g c =
     record {
       room = λ some. absurd (omega arith);
       known = subst (λ (l : List ℕ). IsKnown plain (g.D.Disk.shown disk) (g.D.Disk.crashes disk) 8 l None) (sym c.new.ensures.items)
-        (made_known (g.D.Disk.shown disk) (g.D.Disk.crashes disk) (g.D.Disk.shown c.args.disk).reads c.in-Ok.ensures.written c.in-Ok.ensures.durable c.in-Ok.ensures.long);
+          (made_known (g.D.Disk.shown disk) (g.D.Disk.crashes disk) (g.D.Disk.shown c.args.disk).reads c.in-Ok.ensures.written c.in-Ok.ensures.durable c.in-Ok.ensures.long);
     }
 
 pub returns-in-Ok-clause-records : goal.returns-in-Ok-clause-records

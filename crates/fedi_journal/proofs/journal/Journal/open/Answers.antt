@@ -6,7 +6,7 @@ pub invariant_of-result : goal.invariant_of-result
 invariant_of-result g c = record {
   room = λ some. absurd (omega arith);
   known = found_known (g.D.Disk.shown c.find.new.disk) (g.D.Disk.crashes c.find.new.disk) c.in-Ok.end c.in-Ok.gates.items
-    (λ bytes is. c.in-Ok.ensures.found bytes (sym c.find.ensures.reads ∙ is)) (λ bytes is. c.in-Ok.ensures.only bytes (sym c.find.ensures.reads ∙ is)) c.in-Ok.ensures.apart c.in-Ok.ensures.inside c.in-Ok.ensures.fits;
+      (λ bytes is. c.in-Ok.ensures.found bytes (sym c.find.ensures.reads ∙ is)) (λ bytes is. c.in-Ok.ensures.only bytes (sym c.find.ensures.reads ∙ is)) c.in-Ok.ensures.apart c.in-Ok.ensures.inside c.in-Ok.ensures.fits;
 }
 
 pub returns-in-Ok-clause-found : goal.returns-in-Ok-clause-found

@@ -143,7 +143,7 @@ invariant_of-self-in-Ok g c =
     record {
       room = λ some. absurd (omega arith);
       known = subst (λ (d : Option (List ℕ)). IsKnown plain new after (k.end + 9 + length p) c.push_reserved.new.self.items d) (sym (still_sure k.in_doubt k.block.items c.write_block.new.block.items c.requires.settled))
-        (subst (λ (l : List ℕ). IsKnown plain new after (k.end + 9 + length p) l None) (sym pushed) (subst (λ (e : ℕ). IsKnown plain new after e (k.gates.items ++ k.end ∷ []) None) (end_same k.end (length p)) grown.known));
+          (subst (λ (l : List ℕ). IsKnown plain new after (k.end + 9 + length p) l None) (sym pushed) (subst (λ (e : ℕ). IsKnown plain new after e (k.gates.items ++ k.end ∷ []) None) (end_same k.end (length p)) grown.known));
     }
 
 pub returns-in-Ok-clause-added : goal.returns-in-Ok-clause-added

@@ -15,7 +15,7 @@ invariant_of-self g c =
     record {
       room = k.room;
       known = (settle_failed plain plain_ok (g.D.Disk.shown k.disk) (g.D.Disk.shown disk) (g.D.Disk.crashes k.disk) (g.D.Disk.crashes disk) k.end k.gates.items (doubt_in k.in_doubt k.block.items) k.known
-        (g.met.D.Disk.reads_stay disk) c.in_err-write_synced.ensures.refused c.write_synced.ensures.time).known;
+          (g.met.D.Disk.reads_stay disk) c.in_err-write_synced.ensures.refused c.write_synced.ensures.time).known;
     }
 
 pub returns-in_err-write_synced-clause-refused : goal.returns-in_err-write_synced-clause-refused
@@ -44,7 +44,7 @@ invariant_of-self-then-self g c =
     record {
       room = k.room;
       known = (settle_done plain plain_ok (g.D.Disk.shown k.disk) (g.D.Disk.shown disk) (g.D.Disk.crashes k.disk) (g.D.Disk.crashes disk) k.end k.gates.items (doubt_in k.in_doubt k.block.items) k.known
-        (g.met.D.Disk.reads_stay k.disk) (g.met.D.Disk.reads_stay disk) c.in_ok-write_synced.ensures.written c.in_ok-write_synced.ensures.durable).known;
+          (g.met.D.Disk.reads_stay k.disk) (g.met.D.Disk.reads_stay disk) c.in_ok-write_synced.ensures.written c.in_ok-write_synced.ensures.durable).known;
     }
 
 pub returns-in_ok-write_synced-clause-settled : goal.returns-in_ok-write_synced-clause-settled
