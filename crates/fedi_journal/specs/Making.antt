@@ -1,7 +1,8 @@
 -- What becomes of a disk that is made a journal.
-use Rattle.std.specs.Prelude.{ℕ, ◌≡◌, ◌<◌, List, [], ◌∷◌, ◌++◌, length, take, Option, Some, Result, Ok, Err}
+use Rattle.std.specs.Prelude.{ℕ, ◌≡◌, ◌<◌, List, [], ◌∷◌, ◌++◌, length, take, Option, Some, None, option_map}
 use Rattle.fedi_outside.specs.Causes.{next_count}
 use Rattle.fedi_outside.specs.Disks.{DiskState, TearsTold}
+use Rattle.fedi_outside.specs.Keepers.{KeeperState}
 use Rattle.fedi_images.specs.Images.{plain}
 use Rattle.fedi_journal.specs.declared.faults.InitFault.{InitFault}
 use Rattle.fedi_journal.specs.declared.faults.InitFault.TheVariants.{Exists, Failed}
@@ -9,6 +10,10 @@ use Rattle.fedi_journal.specs.declared.faults.InitFault.TheVariants.{Exists, Fai
 -- the bytes of a journal without records: the magic and a closed gate
 abbrev pub blank : List ℕ
 blank = plain.magic ++ 0 ∷ []
+
+-- what a journal without records shows, which was made of this disk
+abbrev pub blank_shown : DiskState → KeeperState
+blank_shown before = record { records = option_map (λ _. []) before.reads; held = 0; doubt = None; spare = 0; end = 8; faults = before.faults }
 
 -- these are more bytes, and begin with others
 abbrev pub IsOther : List ℕ → Type 0

@@ -45,13 +45,13 @@ pub struct Journal<D: Disk> {
 }
 
 impl<D: Disk> Journal<D> {
-    ghost use Rattle.std.specs.Prelude.{List, [], Some, None, option_map, IfOk, IfErr};
+    ghost use Rattle.std.specs.Prelude.{List, Some, None, option_map, IfOk, IfErr};
     ghost use Rattle.fedi_outside.specs.Disks.{Elapses, LeavesOnly, MayTear, spliced};
     ghost use Rattle.fedi_outside.specs.Keepers.{MayLeave};
-    ghost use Rattle.fedi_images.specs.Images.{IsImage};
+    ghost use Rattle.fedi_images.specs.Images.{IsImage, front};
     ghost use Rattle.fedi_images.specs.Opening.{IsDamagedAt, IsNoStore};
     ghost use Rattle.fedi_journal.specs.Finding.{faults_after};
-    ghost use Rattle.fedi_journal.specs.Making.{IsOther, IsUnmade, blank};
+    ghost use Rattle.fedi_journal.specs.Making.{IsOther, IsUnmade, blank, blank_shown};
     ghost use Rattle.fedi_journal.specs.Opening.{disk_after, disk_of};
 
     /// Opens the records of a disk. It syncs before it reads, so that a crash leaves what it finds. Each error hands the disk back,
@@ -60,7 +60,8 @@ impl<D: Disk> Journal<D> {
     pub fn open(alloc: Global, disk: D) -> Result<Journal<D>, (JournalFault, D)>
         ensures found { IfOk result (λ journal. (bytes : List ℕ) → (D.shown disk).reads ≡ Some bytes
             → (rs : List (List ℕ)) × IsImage plain rs bytes
-            × ((⟦<Journal<D> as Keeper>⟧.shown journal).records ≡ Some rs)) }
+            × ((⟦<Journal<D> as Keeper>⟧.shown journal).records ≡ Some rs)
+            × ((⟦<Journal<D> as Keeper>⟧.shown journal).end ≡ length (front plain rs))) }
         ensures settled { IfOk result (λ journal. (⟦<Journal<D> as Keeper>⟧.shown journal).doubt ≡ None) }
         ensures only { IfOk result (λ journal. (bytes : List ℕ) → (D.shown disk).reads ≡ Some bytes
             → LeavesOnly (D.crashes (disk_of journal)) bytes) }
@@ -90,14 +91,12 @@ impl<D: Disk> Journal<D> {
     /// does not begin with the magic and a closed gate, and its bytes are as before; `Failed` if the disk failed, and then its first
     /// nine bytes may be torn, so that it can be made a journal again. It takes no memory.
     pub fn init(alloc: Global, disk: D) -> Result<Journal<D>, (InitFault, D)>
-        ensures records { IfOk result (λ journal. (⟦<Journal<D> as Keeper>⟧.shown journal).records
-            ≡ option_map (λ _. []) (D.shown disk).reads) }
-        ensures settled { IfOk result (λ journal. (⟦<Journal<D> as Keeper>⟧.shown journal).doubt ≡ None) }
+        ensures shown { IfOk result (λ journal. ⟦<Journal<D> as Keeper>⟧.shown journal
+            ≡ blank_shown (D.shown disk)) }
         ensures written { IfOk result (λ journal. (D.shown (disk_of journal)).reads
             ≡ option_map (spliced 0 blank) (D.shown disk).reads) }
         ensures fresh { IfOk result (λ _. (bytes : List ℕ) → (D.shown disk).reads ≡ Some bytes
             → IsOther bytes → ⊥) }
-        ensures faults { IfOk result (λ journal. (D.shown (disk_of journal)).faults ≡ (D.shown disk).faults) }
         ensures durable { IfOk result (λ journal. IfSome (D.shown (disk_of journal)).reads
             (LeavesOnly (D.crashes (disk_of journal)))) }
         ensures unmade { IfErr result (λ back. IsUnmade back.0 (D.shown disk) (D.shown back.1)) }

@@ -63,6 +63,7 @@ pub trait Disk {
 
 /// Writes these bytes at this offset, and syncs: a crash then leaves what reads give. After an error the range holds any bytes, as
 /// after a write that failed, also if only the sync did.
+#[tactic(auto, using(crate::proofs::DiskSteps::torn_unsynced))]
 pub fn write_synced<D: Disk>(disk: &mut D, at: u64, from: &[u8]) -> Result<(), Failed>
     requires inside { at ≤ (D.shown disk.old).size }
     ensures written { OnOk result (D.shown disk.new ≡ after_write at from.now (D.shown disk.old)) }

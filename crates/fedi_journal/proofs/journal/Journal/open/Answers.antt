@@ -12,4 +12,4 @@ invariant_of-result g c = record {
 pub returns-in-Ok-clause-found : goal.returns-in-Ok-clause-found
 returns-in-Ok-clause-found g c = λ bytes is.
     let found = c.in-Ok.ensures.found bytes is in
-    (found.0, found.1, opened_records (g.D.Disk.shown c.find.new.disk) c.in-Ok.gates.items bytes c.in-Ok.end (c.find.ensures.reads ∙ is) found)
+    (found.0, found.1, opened_records (g.D.Disk.shown c.find.new.disk) c.in-Ok.gates.items bytes c.in-Ok.end (c.find.ensures.reads ∙ is) found, found.2)
