@@ -1,9 +1,9 @@
 -- What an opening may find of a file excludes all else.
-use Rattle.std.proofs.Common.{◌≡◌, ◌≢◌, ◌⊎◌, inl, inr, ℕ, ◌+◌, ◌<◌, ◌≤◌, List, [], ◌∷◌, ◌++◌, length, get_or, take, drop, refl, sym, ◌∙◌, ap, subst, append_assoc, arith, length-append, length-drop, take-append-drop}
+use Rattle.std.proofs.Common.{◌≡◌, inl, inr, ℕ, ◌<◌, List, [], ◌++◌, length, get_or, take, drop, sym, ◌∙◌, ap, append_assoc, arith, length-append, take-append-drop}
 use Rattle.std.proofs.lemmas.List.{take_at}
 use Rattle.fedi_images.specs.Images.{Format, IsFormat, IsImage, blocks, front}
 use Rattle.fedi_images.specs.Opening.{Begins, IsDamagedAt, IsNoStore}
-use Rattle.fedi_images.proofs.ImageLemmas.{closed_ends, fronts_back, length_front}
+use Rattle.fedi_images.proofs.ImageLemmas.{closed_ends, fronts_back}
 
 module _ (f : Format) (ok : IsFormat f) where
   split : (rs : List (List ℕ)) (gate : ℕ) (bytes : List ℕ) → Begins f rs gate bytes → bytes ≡ front f rs ++ drop gate bytes

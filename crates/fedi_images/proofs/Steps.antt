@@ -1,12 +1,12 @@
 -- What the device calls of a journal leave of what is known of its disk.
-use Rattle.std.proofs.Common.{◌≡◌, ◌≢◌, ◌⊎◌, inl, inr, ⊎_elim, ℕ, zero, suc, ◌+◌, ◌-◌, ◌<◌, ◌≤◌, ◌^◌, max, Bool, true, false, List, [], ◌∷◌, ◌++◌, length, get_or, take, drop, refl, sym, ◌∙◌, ap, subst, append_assoc, arith, length-append}
+use Rattle.std.proofs.Common.{◌≡◌, ◌⊎◌, inl, inr, ⊎_elim, ℕ, suc, ◌+◌, ◌-◌, ◌<◌, ◌≤◌, ◌^◌, max, List, [], ◌∷◌, ◌++◌, length, get_or, take, drop, refl, sym, ◌∙◌, ap, subst, arith, length-append}
 use Rattle.std.specs.Prelude.{Option, Some, None, option_map, is_some, slice_get, IfSome}
 use Rattle.std.proofs.lemmas.Bool.{cases_eq}
 use Rattle.fedi_outside.specs.Disks.{DiskState, DiskCrashes, Elapses, HasTorn, IsTorn, LeavesOnly, MayTear, TearsTold, after_write, spliced}
-use Rattle.fedi_outside.specs.Keepers.{Adds, Crashes, IfTold, KeeperState, LeavesRecords, MayLeave, PassesTime}
+use Rattle.fedi_outside.specs.Keepers.{IfTold, MayLeave, PassesTime}
 use Rattle.fedi_images.specs.Images.{Format, IsClosedAfter, IsFormat, IsImage, StandsAtGate, StandsFor, front, gate_behind, gates_of, kept_in, record_code, with_doubt}
-use Rattle.fedi_images.specs.Known.{FitsDoubt, IsKnown, are_apart, record_crashes, records_told}
-use Rattle.fedi_images.proofs.ImageLemmas.{IsStaged, closed_intro, closes, closes_again, kept_front, kept_image, length_front_push, length_kept, opened_split, opens, short_records, staged, staged_closed, torn_behind}
+use Rattle.fedi_images.specs.Known.{FitsDoubt, IsKnown, record_crashes, records_told}
+use Rattle.fedi_images.proofs.ImageLemmas.{IsStaged, closes, closes_again, kept_front, kept_image, length_front_push, length_kept, opened_split, opens, short_records, staged, staged_closed, torn_behind}
 use Rattle.fedi_images.proofs.Gates.{apart_push, gates_grown, record_found}
 
 -- ---- what is told before and after

@@ -1,5 +1,5 @@
 -- What is known of a disk with a file of records.
-use Rattle.std.specs.Prelude.{◌≡◌, ◌<◌, ◌≤◌, ◌^◌, ℕ, ◌+◌, Bool, true, ◌&&◌, nat_le, List, [], ◌∷◌, length, get_or, Option, Some, None, option_map, is_some}
+use Rattle.std.specs.Prelude.{◌≡◌, ◌<◌, ◌≤◌, ◌^◌, ℕ, ◌+◌, Bool, true, ◌&&◌, nat_le, List, [], ◌∷◌, length, get_or, Option, Some, option_map, is_some}
 use Rattle.fedi_outside.specs.Disks.{DiskState, DiskCrashes}
 use Rattle.fedi_outside.specs.Keepers.{Crashes}
 use Rattle.fedi_images.specs.Images.{Format, StandsAtGate, StandsFor, front, gates_of, kept_in, with_doubt}

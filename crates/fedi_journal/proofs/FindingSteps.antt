@@ -1,13 +1,13 @@
 -- What a scan of the gates of a disk has found so far.
-use Rattle.std.proofs.Common.{◌≡◌, ◌≢◌, ◌⊎◌, inl, inr, ⊎_elim, true, ℕ, zero, suc, ◌+◌, ◌-◌, ◌<◌, ◌≤◌, ◌^◌, List, [], ◌∷◌, ◌++◌, length, get_or, take, drop, refl, sym, ◌∙◌, ap, subst, append_assoc, arith, length-append, length-drop, take-append-drop, length-take-le}
+use Rattle.std.proofs.Common.{◌≡◌, inl, inr, ⊎_elim, true, ℕ, ◌+◌, ◌<◌, ◌≤◌, ◌^◌, List, [], ◌∷◌, ◌++◌, length, take, drop, refl, sym, ◌∙◌, ap, subst, arith, length-drop, take-append-drop, length-take-le}
 use Rattle.std.specs.Prelude.{Option, Some, None, option_map}
 use Rattle.std.specs.Int.{from_be_bytes, w64}
 use Rattle.std.proofs.lemmas.Nat.{from_be_bytes-to_be_bytes_8}
-use Rattle.std.proofs.lemmas.List.{drop-drop, drop_more, take_at, drop-take, take-take, append-nil}
+use Rattle.std.proofs.lemmas.List.{drop_more, drop-take, take-take, append-nil}
 use Rattle.fedi_outside.specs.Disks.{DiskCrashes, DiskState, Elapses, LeavesOnly}
-use Rattle.fedi_images.specs.Images.{AreShort, IsClosedAfter, StandsAtGate, front, gates_of, kept_in, plain, record_code, size_at, size_code}
+use Rattle.fedi_images.specs.Images.{AreShort, IsClosedAfter, front, gates_of, kept_in, plain, record_code, size_at, size_code}
 use Rattle.fedi_images.specs.Known.{IsKnown, are_apart, records_told}
-use Rattle.fedi_images.specs.Opening.{Begins, IsBad, IsDamagedAt, IsFound, IsWhole}
+use Rattle.fedi_images.specs.Opening.{IsDamagedAt, IsFound}
 use Rattle.fedi_images.proofs.ImageLemmas.{closed_intro, front_push, kept_image, length_front_push, plain_ok}
 use Rattle.fedi_images.proofs.Gates.{gates_grown, length_gates}
 use Rattle.fedi_images.proofs.Steps.{no_doubt}

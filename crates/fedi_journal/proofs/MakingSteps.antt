@@ -1,5 +1,5 @@
 -- What is known of a disk that was made a journal.
-use Rattle.std.proofs.Common.{◌≡◌, ℕ, ◌+◌, ◌<◌, List, [], ◌∷◌, ◌++◌, length, drop, refl, sym, ◌∙◌, ap, subst, arith}
+use Rattle.std.proofs.Common.{◌≡◌, ℕ, ◌<◌, List, [], ◌∷◌, ◌++◌, length, drop, refl, sym, ◌∙◌, ap, subst, arith}
 use Rattle.std.specs.Prelude.{Option, Some, None, option_map, IfSome}
 use Rattle.fedi_outside.specs.Disks.{DiskCrashes, DiskState, LeavesOnly, spliced}
 use Rattle.fedi_images.specs.Images.{IsClosedAfter, front, gates_of, kept_in, plain}

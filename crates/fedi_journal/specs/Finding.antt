@@ -1,7 +1,6 @@
 -- What is found at the gates of a disk that is opened.
-use Rattle.std.specs.Prelude.{ℕ, ◌≡◌, ◌≢◌, ◌<◌, ◌≤◌, ◌+◌, List, length, get_or, take, drop, Option, Some, Result, Ok, Err}
+use Rattle.std.specs.Prelude.{ℕ, ◌≡◌, ◌≢◌, ◌<◌, ◌≤◌, ◌+◌, List, length, get_or, take, drop, Result, Ok, Err}
 use Rattle.fedi_outside.specs.Causes.{next_count}
-use Rattle.fedi_outside.specs.Disks.{DiskState}
 use Rattle.fedi_images.specs.Images.{gates_of, plain, size_at, size_code}
 use Rattle.fedi_images.specs.Opening.{Begins}
 use Rattle.fedi_journal.specs.declared.faults.JournalFault.{JournalFault}

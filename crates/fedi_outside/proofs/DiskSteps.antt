@@ -1,5 +1,5 @@
 -- What writes that fail, or that are not synced, leave of bytes.
-use Rattle.std.proofs.Common.{◌≡◌, ◌⊎◌, inl, inr, ℕ, ◌+◌, ◌≤◌, List, ◌++◌, length, take, drop, refl, sym, ◌∙◌, ap, subst, append_assoc, arith, length-append, length-drop}
+use Rattle.std.proofs.Common.{◌≡◌, inl, inr, ℕ, ◌+◌, ◌≤◌, List, ◌++◌, length, take, drop, refl, sym, ◌∙◌, ap, subst, append_assoc, arith, length-append, length-drop}
 use Rattle.std.specs.Prelude.{Option, None, Some, IfSome, Result, Ok, Err, OnErr, option_map}
 use Rattle.std.proofs.lemmas.List.{take_at, drop_at, length-take}
 use Rattle.fedi_outside.specs.Causes.{next_count}

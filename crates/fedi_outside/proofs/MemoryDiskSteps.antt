@@ -1,11 +1,11 @@
 -- What a call of a disk in memory adds to the images that a crash may leave.
-use Rattle.std.proofs.Common.{◌≡◌, ◌⊎◌, inl, inr, ⊎_elim, ℕ, ◌+◌, ◌<◌, ◌≤◌, Bool, true, false, List, [], ◌∷◌, ◌++◌, length, take, fold, refl, sym, ◌∙◌, ap, subst, arith, length-append}
+use Rattle.std.proofs.Common.{◌≡◌, inl, inr, ⊎_elim, ℕ, ◌≤◌, Bool, true, false, List, [], ◌∷◌, ◌++◌, length, refl, sym, subst, arith, length-append}
 use Rattle.std.specs.Global.{Vec}
 use Rattle.std.proofs.lemmas.Bool.{cases_lt}
 use Rattle.std.proofs.lemmas.List.{take_all, take-append-le}
 use Rattle.std.proofs.lemmas.List.Sums.{fold-append}
-use Rattle.fedi_outside.specs.Disks.{DiskCrashes, Elapses, IsTorn, MayTear, spliced}
-use Rattle.fedi_outside.specs.MemoryDisks.{Contents, LeftSince, MayBeLeft, Reaches, contents_after, contents_of}
+use Rattle.fedi_outside.specs.Disks.{DiskCrashes, Elapses, IsTorn, MayTear}
+use Rattle.fedi_outside.specs.MemoryDisks.{Contents, LeftSince, MayBeLeft, contents_after, contents_of}
 use Rattle.fedi_outside.specs.declared.memory_disks.Call.{Call}
 use Rattle.fedi_outside.specs.declared.memory_disks.Call.TheVariants.{Len, Read, Write, Sync}
 use Rattle.fedi_outside.proofs.DiskSteps.{torn_none, torn_whole}

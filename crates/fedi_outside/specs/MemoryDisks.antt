@@ -1,5 +1,5 @@
 -- A disk in memory: the calls that it was asked, what they make of its bytes, and what a crash leaves.
-use Rattle.std.specs.Prelude.{ℕ, ◌≡◌, ◌⊎◌, ◌≤◌, Bool, true, false, nat_eq, nat_le, ◌||◌, List, [], ◌∷◌, length, take, fold, Option, None, Some, if◌then◌else◌}
+use Rattle.std.specs.Prelude.{ℕ, ◌≡◌, ◌⊎◌, ◌≤◌, Bool, false, nat_eq, nat_le, ◌||◌, List, [], ◌∷◌, length, take, fold, Option, None, Some, if◌then◌else◌}
 use Rattle.std.specs.List.{list_any}
 use Rattle.fedi_outside.specs.Disks.{DiskCrashes, DiskState, IsTorn, spliced}
 use Rattle.fedi_outside.specs.declared.memory_disks.Call.{Call}

@@ -1,4 +1,4 @@
-use Rattle.std.proofs.Common.{ℕ, ◌≡◌, ◌+◌, ◌<◌, drop, length, arith, length-drop}
+use Rattle.std.proofs.Common.{◌≡◌, drop, length, arith, length-drop}
 use Rattle.fedi_images.proofs.Steps.{of_some}
 use Rattle.fedi_journal.proofs.FindingSteps.{size_spelled}
 use Rattle.fedi_journal.proofs.finding.look.Goals as goal

@@ -1,4 +1,4 @@
-use Rattle.std.proofs.Common.{ℕ, ◌+◌, ◌≡◌, drop, List, true, [], ◌∷◌, ◌++◌, refl, sym, ◌∙◌, ap, subst, arith}
+use Rattle.std.proofs.Common.{ℕ, ◌+◌, ◌≡◌, drop, List, true, refl, sym, ◌∙◌, ap, subst, arith}
 use Rattle.fedi_outside.specs.Disks.{DiskState}
 use Rattle.fedi_images.specs.Known.{are_apart}
 use Rattle.fedi_images.proofs.Gates.{apart_push}

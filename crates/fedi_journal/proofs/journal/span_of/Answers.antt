@@ -1,4 +1,4 @@
-use Rattle.std.proofs.Common.{ℕ, ◌≡◌, ◌+◌, ◌<◌, length, get_or, arith, rules}
+use Rattle.std.proofs.Common.{◌≡◌, ◌+◌, ◌<◌, length, get_or, arith, rules}
 use Rattle.fedi_journal.proofs.KeeperSteps.{apart_next}
 use Rattle.fedi_journal.proofs.journal.span_of.Goals as goal
 

@@ -1,4 +1,4 @@
-use Rattle.std.proofs.Common.{List, [], ℕ, ◌≡◌, length, subst, sym, arith}
+use Rattle.std.proofs.Common.{List, ℕ, ◌≡◌, length, subst, sym, arith}
 use Rattle.std.specs.Prelude.{None}
 use Rattle.fedi_outside.specs.Disks.{spliced}
 use Rattle.fedi_images.specs.Images.{plain}

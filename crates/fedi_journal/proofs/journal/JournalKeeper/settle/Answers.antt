@@ -1,4 +1,4 @@
-use Rattle.std.proofs.Common.{ℕ, ◌≡◌, List, [], ◌∷◌, length, ap, ◌∙◌}
+use Rattle.std.proofs.Common.{[], ◌∷◌, length, ap}
 use Rattle.std.specs.Prelude.{None}
 use Rattle.fedi_outside.specs.Disks.{DiskState, spliced}
 use Rattle.fedi_images.specs.Images.{plain}

@@ -1,4 +1,4 @@
-use Rattle.std.proofs.Common.{◌≡◌, ◌≤◌, sym, subst, rules}
+use Rattle.std.proofs.Common.{◌≤◌, sym, subst, rules}
 use Rattle.fedi_outside.specs.Disks.{Elapses, MayTear}
 use Rattle.fedi_outside.specs.MemoryDisks.{MemoryDiskState, disk_crashes, disk_shown}
 use Rattle.fedi_outside.proofs.MemoryDiskSteps.{crashes_of, write_elapses}
