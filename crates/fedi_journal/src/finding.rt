@@ -33,7 +33,8 @@ fn is_closed<D: Disk>(disk: &mut D, gate: u64) -> Result<bool, Failed>
         → (yes ≡ true → get_or (drop gate bytes) 0 0 ≡ 0)
         × (get_or (drop gate bytes) 0 0 ≡ 0 → yes ≡ true)) }
     ensures shown { D.shown disk.new ≡ after_reading result (D.shown disk.old) }
-    ensures time { Elapses (D.crashes disk.old) (D.crashes disk.new) (D.crashes disk.old).may_leave }
+    ensures time { Elapses (D.crashes disk.old) (D.crashes disk.new)
+        (D.crashes disk.old).may_leave }
 {
     let mut byte = [0];
     disk.read_at(gate, &mut byte)?;
@@ -48,7 +49,8 @@ fn read_head<D: Disk>(disk: &mut D, gate: u64) -> Result<(u8, u64), Failed>
     ensures number { IfOk result (λ head. (bytes : List ℕ) → (D.shown disk.old).reads ≡ Some bytes
         → take 8 (drop 1 (drop gate bytes)) ≡ size_code head.1) }
     ensures shown { D.shown disk.new ≡ after_reading result (D.shown disk.old) }
-    ensures time { Elapses (D.crashes disk.old) (D.crashes disk.new) (D.crashes disk.old).may_leave }
+    ensures time { Elapses (D.crashes disk.old) (D.crashes disk.new)
+        (D.crashes disk.old).may_leave }
 {
     let mut head = [0; 9];
     disk.read_at(gate, &mut head)?;
@@ -65,7 +67,8 @@ fn look<D: Disk>(disk: &mut D, gate: u64, size: u64) -> Result<Gate, Failed>
         → IsGate (drop gate bytes) found) }
     ensures inside { IfOk result (IsInside gate size) }
     ensures shown { D.shown disk.new ≡ after_reading result (D.shown disk.old) }
-    ensures time { Elapses (D.crashes disk.old) (D.crashes disk.new) (D.crashes disk.old).may_leave }
+    ensures time { Elapses (D.crashes disk.old) (D.crashes disk.new)
+        (D.crashes disk.old).may_leave }
 {
     let behind = size - gate;
     if behind < 10 {
@@ -98,7 +101,8 @@ fn scan<D: Disk>(alloc: Global, disk: &mut D, size: u64) -> Result<(Vec<u64>, u6
     ensures size { (D.shown disk.new).size ≡ (D.shown disk.old).size }
     ensures reads { (D.shown disk.new).reads ≡ (D.shown disk.old).reads }
     ensures faults { (D.shown disk.new).faults ≡ faults_found result (D.shown disk.old).faults }
-    ensures time { Elapses (D.crashes disk.old) (D.crashes disk.new) (D.crashes disk.old).may_leave }
+    ensures time { Elapses (D.crashes disk.old) (D.crashes disk.new)
+        (D.crashes disk.old).may_leave }
 {
     let mut gates = Vec::new(alloc);
     let mut gate = 8;
@@ -123,7 +127,8 @@ fn is_store<D: Disk>(disk: &mut D, size: u64) -> Result<bool, Failed>
     ensures no { IfOk result (λ yes. (bytes : List ℕ) → (D.shown disk.old).reads ≡ Some bytes
         → yes ≡ false → IsNoStore plain bytes) }
     ensures shown { D.shown disk.new ≡ after_reading result (D.shown disk.old) }
-    ensures time { Elapses (D.crashes disk.old) (D.crashes disk.new) (D.crashes disk.old).may_leave }
+    ensures time { Elapses (D.crashes disk.old) (D.crashes disk.new)
+        (D.crashes disk.old).may_leave }
 {
     if size < 9 {
         return Ok(false);
@@ -140,7 +145,8 @@ fn synced_size<D: Disk>(disk: &mut D) -> Result<u64, Failed>
         → LeavesOnly (D.crashes disk.new) bytes) }
     ensures reads { (D.shown disk.new).reads ≡ (D.shown disk.old).reads }
     ensures cause { HasCause (D.shown disk.old).faults (D.shown disk.new).faults result }
-    ensures time { Elapses (D.crashes disk.old) (D.crashes disk.new) (D.crashes disk.old).may_leave }
+    ensures time { Elapses (D.crashes disk.old) (D.crashes disk.new)
+        (D.crashes disk.old).may_leave }
 {
     disk.sync()?;
     disk.len()
@@ -162,7 +168,8 @@ pub fn find<D: Disk>(alloc: Global, disk: &mut D) -> Result<(Vec<u64>, u64), Jou
         → (bytes : List ℕ) → (D.shown disk.old).reads ≡ Some bytes → IsNoStore plain bytes }
     ensures reads { (D.shown disk.new).reads ≡ (D.shown disk.old).reads }
     ensures faults { (D.shown disk.new).faults ≡ faults_found result (D.shown disk.old).faults }
-    ensures time { Elapses (D.crashes disk.old) (D.crashes disk.new) (D.crashes disk.old).may_leave }
+    ensures time { Elapses (D.crashes disk.old) (D.crashes disk.new)
+        (D.crashes disk.old).may_leave }
 {
     let size = synced_size(disk)?;
     if !is_store(disk, size)? {

@@ -40,8 +40,10 @@ pub struct Journal<D: Disk> {
     in_doubt: bool,
     // A record that is shorter than this has room.
     spare: usize,
-    ghost room: { 0 < spare → (spare + 8 ≤ vec_capacity block) × (vec_len gates < vec_capacity gates) },
-    ghost known: { IsKnown plain (D.shown disk) (D.crashes disk) end gates.items (doubt_in in_doubt block.items) },
+    ghost room: { 0 < spare
+        → (spare + 8 ≤ vec_capacity block) × (vec_len gates < vec_capacity gates) },
+    ghost known: { IsKnown plain (D.shown disk) (D.crashes disk) end gates.items
+        (doubt_in in_doubt block.items) },
 }
 
 impl<D: Disk> Journal<D> {
@@ -62,7 +64,8 @@ impl<D: Disk> Journal<D> {
             → (rs : List (List ℕ)) × IsImage plain rs bytes
             × ((⟦<Journal<D> as Keeper>⟧.shown journal).records ≡ Some rs)
             × ((⟦<Journal<D> as Keeper>⟧.shown journal).end ≡ length (front plain rs))) }
-        ensures settled { IfOk result (λ journal. (⟦<Journal<D> as Keeper>⟧.shown journal).doubt ≡ None) }
+        ensures settled { IfOk result (λ journal.
+            (⟦<Journal<D> as Keeper>⟧.shown journal).doubt ≡ None) }
         ensures only { IfOk result (λ journal. (bytes : List ℕ) → (D.shown disk).reads ≡ Some bytes
             → LeavesOnly (D.crashes (disk_of journal)) bytes) }
         ensures damaged { (place : ℕ) → IfErr result (λ back. back.0 ≡ JournalFault.Damaged place
@@ -70,8 +73,10 @@ impl<D: Disk> Journal<D> {
         ensures store { IfErr result (λ back. back.0 ≡ JournalFault.NotAStore
             → (bytes : List ℕ) → (D.shown disk).reads ≡ Some bytes → IsNoStore plain bytes) }
         ensures reads { (D.shown (disk_after result)).reads ≡ (D.shown disk).reads }
-        ensures faults { (D.shown (disk_after result)).faults ≡ faults_after result (D.shown disk).faults }
-        ensures time { Elapses (D.crashes disk) (D.crashes (disk_after result)) (D.crashes disk).may_leave }
+        ensures faults { (D.shown (disk_after result)).faults
+            ≡ faults_after result (D.shown disk).faults }
+        ensures time { Elapses (D.crashes disk) (D.crashes (disk_after result))
+            (D.crashes disk).may_leave }
     {
         let mut disk = disk;
         match find(alloc, &mut disk) {
@@ -120,7 +125,8 @@ impl<D: Disk> Journal<D> {
     /// Its disk. Each image that a crash may leave of it is a file of the records, or of these with the one in doubt.
     pub fn into_disk(self) -> D
         ensures disk { result ≡ disk_of self }
-        ensures images { (kept : List (List ℕ)) → (⟦<Journal<D> as Keeper>⟧.shown self).records ≡ Some kept
+        ensures images { (kept : List (List ℕ))
+            → (⟦<Journal<D> as Keeper>⟧.shown self).records ≡ Some kept
             → (image : List ℕ) → (D.crashes result).may_leave image
             → (rs : List (List ℕ)) × IsImage plain rs image
             × MayLeave kept (⟦<Journal<D> as Keeper>⟧.shown self).doubt rs }
@@ -160,8 +166,8 @@ impl<D: Disk> Keeper for Journal<D> {
 
     ghost room = { λ length. 10 + length };
 
-    ghost crash_now = { λ k. leaves_records plain plain_ok (D.shown k.disk) (D.crashes k.disk) k.end k.gates.items
-        (doubt_in k.in_doubt k.block.items) (D.only_now k.disk) k.known };
+    ghost crash_now = { λ k. leaves_records plain plain_ok (D.shown k.disk) (D.crashes k.disk)
+        k.end k.gates.items (doubt_in k.in_doubt k.block.items) (D.only_now k.disk) k.known };
 
     ghost told_held = { λ k. told_count plain plain_ok (length k.gates.items) (D.shown k.disk) };
 

@@ -18,7 +18,8 @@ fn is_blank<D: Disk>(disk: &mut D, size: u64) -> Result<bool, Failed>
         → take 9 bytes ≡ blank → yes ≡ true) }
     ensures long { IfOk result (λ yes. yes ≡ true → 8 < size) }
     ensures shown { D.shown disk.new ≡ after_reading result (D.shown disk.old) }
-    ensures time { Elapses (D.crashes disk.old) (D.crashes disk.new) (D.crashes disk.old).may_leave }
+    ensures time { Elapses (D.crashes disk.old) (D.crashes disk.new)
+        (D.crashes disk.old).may_leave }
 {
     if size < 9 {
         return Ok(false);
@@ -37,7 +38,8 @@ pub fn make<D: Disk>(disk: &mut D) -> Result<(), InitFault>
         → IsOther bytes → ⊥) }
     ensures faults { OnOk result ((D.shown disk.new).faults ≡ (D.shown disk.old).faults) }
     ensures long { OnOk result (8 < (D.shown disk.new).size) }
-    ensures durable { OnOk result (IfSome (D.shown disk.new).reads (LeavesOnly (D.crashes disk.new))) }
+    ensures durable { OnOk result
+        (IfSome (D.shown disk.new).reads (LeavesOnly (D.crashes disk.new))) }
     ensures unmade { IfErr result (λ fault. IsUnmade fault (D.shown disk.old) (D.shown disk.new)) }
     ensures time { Elapses (D.crashes disk.old) (D.crashes disk.new)
         (MayTear 0 blank (D.crashes disk.old)) }

@@ -4,12 +4,12 @@ use fedi_outside::{Keeper, MemoryDisk};
 use std::alloc::Global;
 use std::test::Fail;
 
-/// A file of these records: the magic, each behind an open gate and its length, and a closed gate. The records are short.
+/// A file of these records: the magic, each behind an open gate and its length, and a closed gate.
 pub fn file_of(alloc: Global, records: &[&[u8]]) -> Result<Vec<u8>, Fail> {
     let mut file = b"FEDIJRN1".to_vec(alloc)?;
     for payload in records {
-        file.extend_from_slice(&[1, 0, 0, 0, 0, 0, 0, 0])?;
-        file.push(payload.len() as u8)?;
+        file.push(1)?;
+        file.extend_from_slice(&(payload.len() as u64).to_be_bytes())?;
         file.extend_from_slice(payload)?;
     }
     file.push(0)?;

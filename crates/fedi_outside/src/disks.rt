@@ -41,7 +41,8 @@ pub trait Disk {
     /// Makes all that was written last: a crash then leaves what reads give. After an error a crash leaves what it might have left
     /// before.
     fn sync(&mut self) -> Result<(), Failed>
-        ensures durable { OnOk result (IfSome (shown self.old).reads (LeavesOnly (crashes self.new))) }
+        ensures durable { OnOk result
+            (IfSome (shown self.old).reads (LeavesOnly (crashes self.new))) }
         ensures shown { shown self.new ≡ after_reading result (shown self.old) }
         ensures time { Elapses (crashes self.old) (crashes self.new) (crashes self.old).may_leave };
 
@@ -67,7 +68,8 @@ pub trait Disk {
 pub fn write_synced<D: Disk>(disk: &mut D, at: u64, from: &[u8]) -> Result<(), Failed>
     requires inside { at ≤ (D.shown disk.old).size }
     ensures written { OnOk result (D.shown disk.new ≡ after_write at from.now (D.shown disk.old)) }
-    ensures durable { OnOk result (IfSome (D.shown disk.new).reads (LeavesOnly (D.crashes disk.new))) }
+    ensures durable { OnOk result
+        (IfSome (D.shown disk.new).reads (LeavesOnly (D.crashes disk.new))) }
     ensures refused { OnErr result (HasTorn at from.now (D.shown disk.old) (D.shown disk.new)) }
     ensures time { Elapses (D.crashes disk.old) (D.crashes disk.new)
         (MayTear at from.now (D.crashes disk.old)) }
