@@ -1,7 +1,12 @@
 //! Laws of files of records, each the contract of a function that does nothing.
 ghost use Rattle.std.specs.Prelude.{◌≡◌, ℕ, List};
-ghost use Rattle.fedi_images.specs.Images.{Format, IsFormat, IsImage};
+ghost use Rattle.fedi_images.specs.Images.{Format, IsFormat, IsImage, plain};
 ghost use Rattle.fedi_images.specs.Opening.{IsDamagedAt, IsNoStore};
+
+/// The format without seals is one.
+pub fn plain_is_a_format()
+    ensures { IsFormat plain }
+{}
 
 /// A file has one list of records at most.
 pub fn files_have_one_list()

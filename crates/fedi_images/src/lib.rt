@@ -3,4 +3,4 @@
 
 mod laws;
 
-pub use laws::{files_have_one_list, openings_exclude_each_other};
+pub use laws::{files_have_one_list, openings_exclude_each_other, plain_is_a_format};
