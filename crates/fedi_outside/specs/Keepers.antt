@@ -7,6 +7,7 @@ use Rattle.fedi_outside.specs.declared.keepers.LoadFault.TheVariants.{Failed, Me
 -- a keeper, as its callers see it
 pub record KeeperState : Type 0 where
   pub records : Option (List (List ℕ))  -- the records, if it tells them
+  pub held : ℕ  -- how many records there are
   pub doubt : Option (List ℕ)  -- a record that a failed append may have left behind the others
   pub spare : ℕ  -- a record that is shorter than this has room
   pub end : ℕ  -- where the records end
@@ -41,6 +42,7 @@ Finds records place found = option_map (λ bytes. bytes.items) found ≡ slice_g
 -- after a reserve: all is as before, but for the room that was made
 pub record OnlyRoomChanged (before after : KeeperState) : Type 0 where
   pub records : after.records ≡ before.records
+  pub held : after.held ≡ before.held
   pub doubt : after.doubt ≡ before.doubt
   pub end : after.end ≡ before.end
   pub faults : after.faults ≡ before.faults
@@ -48,6 +50,7 @@ pub record OnlyRoomChanged (before after : KeeperState) : Type 0 where
 -- the record was added, and nothing is in doubt
 pub record HasAdded (growth : ℕ → ℕ) (added : List ℕ) (before after : KeeperState) : Type 0 where
   pub records : after.records ≡ option_map (λ records. records ++ added ∷ []) before.records
+  pub held : after.held ≡ before.held + 1
   pub doubt : after.doubt ≡ None
   pub end : after.end ≡ before.end + growth (length added)
   pub faults : after.faults ≡ before.faults
@@ -55,6 +58,7 @@ pub record HasAdded (growth : ℕ → ℕ) (added : List ℕ) (before after : Ke
 -- a record was not added: all is as before, the fault is counted, and this record may be in doubt
 pub record HasFailed (refused : List ℕ) (before after : KeeperState) : Type 0 where
   pub records : after.records ≡ before.records
+  pub held : after.held ≡ before.held
   pub doubt : (after.doubt ≡ None) ⊎ (after.doubt ≡ Some refused)
   pub spare : after.spare ≡ before.spare
   pub end : after.end ≡ before.end

@@ -1,6 +1,9 @@
 pub mod Causes
+pub mod Disks
 pub mod Entropies
 pub mod Keepers
+pub mod MemoryDiskLaws
+pub mod MemoryDisks
 pub mod MemoryKeepers
 pub mod Plans
 pub mod Sinks

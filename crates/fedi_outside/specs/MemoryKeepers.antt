@@ -1,5 +1,5 @@
 -- Keepers in memory, as their callers see them.
-use Rattle.std.specs.Prelude.{ℕ, Bool, true, false, List, [], Option, None, Some}
+use Rattle.std.specs.Prelude.{ℕ, Bool, true, false, List, [], length, Option, None, Some}
 use Rattle.fedi_outside.specs.Keepers.{Crashes, KeeperState}
 use Rattle.fedi_outside.specs.Plans.{Plan}
 
@@ -26,7 +26,7 @@ doubt_of false bytes = None
 
 -- what a keeper in memory shows, with this count of faults
 abbrev pub shown_with : ℕ → CalmKeeperState → KeeperState
-shown_with faults k = record { records = Some k.records; doubt = k.doubt; spare = k.spare; end = k.end; faults = faults }
+shown_with faults k = record { records = Some k.records; held = length k.records; doubt = k.doubt; spare = k.spare; end = k.end; faults = faults }
 
 -- a keeper in memory tells nothing of crashes
 abbrev pub no_crashes : Crashes

@@ -2,6 +2,7 @@
 ghost use Rattle.std.specs.Prelude.{ℕ, ◌≡◌, ◌↔◌, ◌+◌, ◌^◌, ◌<◌, ◌≤◌, max, List, [], ◌∷◌, ◌++◌, length, Some, None, IsOk, IfOk, IfErr, OnOk, OnErr, IsErrOf, vec_capacity};
 ghost use Rattle.fedi_outside.specs.Keepers.{Finds};
 ghost use Rattle.fedi_outside.specs.MemoryKeepers.{no_crashes, no_records, shown_with};
+ghost use Rattle.std.proofs.Common.{refl};
 
 use crate::Failed;
 use crate::keepers::{Keeper, LoadFault, ReserveFault};
@@ -119,6 +120,8 @@ impl Keeper for CalmKeeper {
     ghost room = { λ length. 10 + length };
 
     ghost crash_now = { λ _. tt };
+
+    ghost told_held = { λ _. refl };
 
     fn count(&self) -> u64
         ensures { result ≡ length self.now.records }

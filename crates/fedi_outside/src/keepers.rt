@@ -1,5 +1,5 @@
 //! Where records are kept.
-ghost use Rattle.std.specs.Prelude.{ℕ, ◌≡◌, ◌↔◌, ◌<◌, length, Some, None, IfSome, IfOk, OnOk, OnErr, IsErrOf};
+ghost use Rattle.std.specs.Prelude.{ℕ, ◌≡◌, ◌↔◌, ◌<◌, length, is_some, nat_lt, Some, None, IfSome, IfOk, OnOk, OnErr, IsErrOf};
 ghost use Rattle.fedi_outside.specs.Keepers.{Crashes, KeeperState, LeavesRecords, PassesTime};
 ghost use Rattle.fedi_outside.specs.Keepers.{Finds, HasAdded, HasFailed, HasRoom, IsFull, OnlyRoomChanged, after_fault, after_load};
 
@@ -66,13 +66,14 @@ pub trait Keeper {
 
     /// How many records there are.
     fn count(&self) -> u64
-        ensures { IfSome (shown self.now).records (λ records. result ≡ length records) };
+        ensures { result ≡ (shown self.now).held };
 
     /// The record at this place, counted from 0, or none exactly if the place is at least the count. All is as before, also after
     /// an error: `Failed` if the keeper failed, `Memory` if out of memory.
     fn load(&mut self, alloc: Global, place: u64) -> Result<Option<Vec<u8>>, LoadFault>
         ensures found { IfSome (shown self.old).records
             (λ records. IfOk result (Finds records place)) }
+        ensures some { IfOk result (λ found. is_some found ≡ nat_lt place (shown self.old).held) }
         ensures shown { shown self.new ≡ after_load result (shown self.old) }
         ensures time { PassesTime (shown self.old).records (shown self.old).doubt
             (crashes self.old) (crashes self.new) };
@@ -109,4 +110,8 @@ pub trait Keeper {
 
     /// A crash now leaves the records, or these with the one in doubt: after a call that settled, the records alone.
     ghost crash_now: { (keeper : Self) → LeavesRecords (shown keeper) (crashes keeper) };
+
+    /// The count is the number of the records.
+    ghost told_held: { (keeper : Self) → IfSome (shown keeper).records
+        (λ records. (shown keeper).held ≡ length records) };
 }

@@ -7,9 +7,11 @@
 
 mod calm_keepers;
 mod clocks;
+mod disks;
 mod entropies;
 mod failure;
 mod keepers;
+mod memory_disks;
 mod memory_keepers;
 mod plans;
 mod sinks;
@@ -17,9 +19,11 @@ mod sources;
 
 pub use calm_keepers::{CalmKeeper, Record};
 pub use clocks::{Clock, FixedClock};
+pub use disks::{Disk, write_synced};
 pub use entropies::{CalmEntropy, Entropy, MemoryEntropy};
 pub use failure::Failed;
 pub use keepers::{Keeper, LoadFault, ReserveFault};
+pub use memory_disks::{Call, MemoryDisk};
 pub use memory_keepers::MemoryKeeper;
 pub use sinks::{MemorySink, Sink};
 pub use sources::{CalmSource, MemorySource, Source};

@@ -3,6 +3,7 @@ ghost use Rattle.std.specs.Prelude.{◌≡◌, ◌↔◌, ◌+◌, ◌^◌, ◌<
 ghost use Rattle.fedi_outside.specs.Keepers.{Finds};
 ghost use Rattle.fedi_outside.specs.MemoryKeepers.{no_crashes, no_records, shown_with};
 ghost use Rattle.fedi_outside.specs.Plans.{after_call, is_to_fail, no_faults};
+ghost use Rattle.std.proofs.Common.{refl};
 
 use crate::Failed;
 use crate::calm_keepers::{CalmKeeper, Record};
@@ -74,6 +75,8 @@ impl Keeper for MemoryKeeper {
     ghost room = { λ length. 10 + length };
 
     ghost crash_now = { λ _. tt };
+
+    ghost told_held = { λ _. refl };
 
     fn count(&self) -> u64
         ensures { result ≡ length self.now.keeper.records }

@@ -57,7 +57,7 @@ still : (growth : ℕ → ℕ) (before after : State) → after.history ≡ befo
 still growth before after same k = unchanged growth before after same k.records k.end k.doubt k.faults
 
 same_room : (k : KeeperState) → OnlyRoomChanged k k
-same_room k = record { records = refl; doubt = refl; end = refl; faults = refl }
+same_room k = record { records = refl; held = refl; doubt = refl; end = refl; faults = refl }
 
 unasked : (growth : ℕ → ℕ) (before after : State) → after.history ≡ before.history → after.keeper ≡ before.keeper → Follows growth before after NoEntry
 unasked growth before after same k =

@@ -1,0 +1,4 @@
+pub mod Gates
+pub mod ImageLemmas
+pub mod Openings
+pub mod Steps

@@ -1,0 +1,3 @@
+pub mod FindingSteps
+pub mod KeeperSteps
+pub mod MakingSteps

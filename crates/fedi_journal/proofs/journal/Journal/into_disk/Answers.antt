@@ -1,0 +1,10 @@
+use Rattle.fedi_images.specs.Images.{plain}
+use Rattle.fedi_images.proofs.ImageLemmas.{plain_ok}
+use Rattle.fedi_images.proofs.Steps.{images_left}
+use Rattle.fedi_journal.specs.Blocks.{doubt_in}
+use Rattle.fedi_journal.proofs.journal.Journal.into_disk.Goals as goal
+
+pub returns-clause-images : goal.returns-clause-images
+returns-clause-images g c =
+    let k = c.args.self in
+    images_left plain plain_ok (g.D.Disk.shown k.disk) (g.D.Disk.crashes k.disk) k.end k.gates.items (doubt_in k.in_doubt k.block.items) k.known

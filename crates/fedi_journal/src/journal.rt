@@ -1,0 +1,225 @@
+//! A keeper of records on a disk.
+ghost use Rattle.std.specs.Prelude.{ℕ, ◌≡◌, ◌<◌, ◌≤◌, ◌+◌, ◌-◌, ◌^◌, true, nat_lt, length, get_or, is_some, IfSome, vec_len, vec_capacity};
+ghost use Rattle.fedi_images.specs.Images.{plain};
+ghost use Rattle.fedi_images.specs.Known.{IsKnown, are_apart, record_crashes, records_told};
+ghost use Rattle.fedi_images.proofs.ImageLemmas.{plain_ok};
+ghost use Rattle.fedi_images.proofs.Steps.{leaves_records, told_count};
+ghost use Rattle.fedi_journal.specs.Blocks.{doubt_in};
+
+use crate::blocks::write_block;
+use crate::faults::{InitFault, JournalFault};
+use crate::finding::{MAGIC, find};
+use crate::making::make;
+use fedi_outside::{Disk, Failed, Keeper, LoadFault, ReserveFault, write_synced};
+use std::alloc::Global;
+
+/// The last end of a keeper.
+const LIMIT: u64 = 1 << 62;
+
+/// By how much more than its length a record moves the end: its gate, and its length in eight bytes.
+const GROWTH: u64 = 9;
+
+/// How much more than its length a record needs below the limit: the next gate too.
+const ROOM: u64 = 10;
+
+/// A keeper of records on a disk. It tells its records, and what a crash may leave of them, if the disk tells its bytes.
+///
+/// Behind the magic stands a gate for each record: a byte 1, the length of the record in eight bytes, the highest first, and the
+/// record. Behind the last one stands a gate that is closed, a byte 0, and then anything. So what is written behind the closed gate
+/// counts for nothing until the gate is opened, by a write of one byte, which no crash can tear.
+#[derive(Drop)]
+pub struct Journal<D: Disk> {
+    disk: D,
+    // Where the gates of the records stand.
+    gates: Vec<u64>,
+    // Where the closed gate stands.
+    end: u64,
+    // What was last written behind the closed gate: the length of a record, the record, and a closed gate.
+    block: Vec<u8>,
+    // Whether the gate before it may have been opened.
+    in_doubt: bool,
+    // A record that is shorter than this has room.
+    spare: usize,
+    ghost room: { 0 < spare
+        → (spare + 8 ≤ vec_capacity block) × (vec_len gates < vec_capacity gates) },
+    ghost known: { IsKnown plain (D.shown disk) (D.crashes disk) end gates.items
+        (doubt_in in_doubt block.items) },
+}
+
+impl<D: Disk> Journal<D> {
+    ghost use Rattle.std.specs.Prelude.{List, Some, None, option_map, IfOk, IfErr};
+    ghost use Rattle.fedi_outside.specs.Disks.{Elapses, LeavesOnly, MayTear, spliced};
+    ghost use Rattle.fedi_outside.specs.Keepers.{MayLeave};
+    ghost use Rattle.fedi_images.specs.Images.{IsImage, front};
+    ghost use Rattle.fedi_images.specs.Opening.{IsDamagedAt, IsNoStore};
+    ghost use Rattle.fedi_journal.specs.Finding.{faults_after};
+    ghost use Rattle.fedi_journal.specs.Making.{IsOther, IsUnmade, blank, blank_shown};
+    ghost use Rattle.fedi_journal.specs.Opening.{disk_after, disk_of};
+
+    /// Opens the records of a disk. It syncs before it reads, so that a crash leaves what it finds. Each error hands the disk back,
+    /// whose bytes are as before: `NotAStore` if it has fewer than 9 bytes or does not begin with the magic, `Damaged` with the place
+    /// of the first gate that is not as it should be, `Failed` if the disk failed, and `Memory` if out of memory.
+    pub fn open(alloc: Global, disk: D) -> Result<Journal<D>, (JournalFault, D)>
+        ensures found { IfOk result (λ journal. (bytes : List ℕ) → (D.shown disk).reads ≡ Some bytes
+            → (rs : List (List ℕ)) × IsImage plain rs bytes
+            × ((⟦<Journal<D> as Keeper>⟧.shown journal).records ≡ Some rs)
+            × ((⟦<Journal<D> as Keeper>⟧.shown journal).end ≡ length (front plain rs))) }
+        ensures settled { IfOk result (λ journal.
+            (⟦<Journal<D> as Keeper>⟧.shown journal).doubt ≡ None) }
+        ensures only { IfOk result (λ journal. (bytes : List ℕ) → (D.shown disk).reads ≡ Some bytes
+            → LeavesOnly (D.crashes (disk_of journal)) bytes) }
+        ensures damaged { (place : ℕ) → IfErr result (λ back. back.0 ≡ JournalFault.Damaged place
+            → (bytes : List ℕ) → (D.shown disk).reads ≡ Some bytes → IsDamagedAt plain place bytes) }
+        ensures store { IfErr result (λ back. back.0 ≡ JournalFault.NotAStore
+            → (bytes : List ℕ) → (D.shown disk).reads ≡ Some bytes → IsNoStore plain bytes) }
+        ensures reads { (D.shown (disk_after result)).reads ≡ (D.shown disk).reads }
+        ensures faults { (D.shown (disk_after result)).faults
+            ≡ faults_after result (D.shown disk).faults }
+        ensures time { Elapses (D.crashes disk) (D.crashes (disk_after result))
+            (D.crashes disk).may_leave }
+    {
+        let mut disk = disk;
+        match find(alloc, &mut disk) {
+            Ok((gates, end)) => Ok(Journal {
+                disk,
+                gates,
+                end,
+                block: Vec::new(alloc),
+                in_doubt: false,
+                spare: 0,
+            }),
+            Err(fault) => Err((fault, disk)),
+        }
+    }
+
+    /// Makes a disk a journal without records, and syncs it. Each error hands the disk back: `Exists` if it has more than 9 bytes and
+    /// does not begin with the magic and a closed gate, and its bytes are as before; `Failed` if the disk failed, and then its first
+    /// nine bytes may be torn, so that it can be made a journal again. It takes no memory.
+    pub fn init(alloc: Global, disk: D) -> Result<Journal<D>, (InitFault, D)>
+        ensures shown { IfOk result (λ journal. ⟦<Journal<D> as Keeper>⟧.shown journal
+            ≡ blank_shown (D.shown disk)) }
+        ensures written { IfOk result (λ journal. (D.shown (disk_of journal)).reads
+            ≡ option_map (spliced 0 blank) (D.shown disk).reads) }
+        ensures fresh { IfOk result (λ _. (bytes : List ℕ) → (D.shown disk).reads ≡ Some bytes
+            → IsOther bytes → ⊥) }
+        ensures durable { IfOk result (λ journal. IfSome (D.shown (disk_of journal)).reads
+            (LeavesOnly (D.crashes (disk_of journal)))) }
+        ensures unmade { IfErr result (λ back. IsUnmade back.0 (D.shown disk) (D.shown back.1)) }
+        ensures time { Elapses (D.crashes disk) (D.crashes (disk_after result))
+            (MayTear 0 blank (D.crashes disk)) }
+    {
+        let mut disk = disk;
+        match make(&mut disk) {
+            Ok(()) => Ok(Journal {
+                disk,
+                gates: Vec::new(alloc),
+                end: MAGIC.len() as u64,
+                block: Vec::new(alloc),
+                in_doubt: false,
+                spare: 0,
+            }),
+            Err(fault) => Err((fault, disk)),
+        }
+    }
+
+    /// Its disk. Each image that a crash may leave of it is a file of the records, or of these with the one in doubt.
+    pub fn into_disk(self) -> D
+        ensures disk { result ≡ disk_of self }
+        ensures images { (kept : List (List ℕ))
+            → (⟦<Journal<D> as Keeper>⟧.shown self).records ≡ Some kept
+            → (image : List ℕ) → (D.crashes result).may_leave image
+            → (rs : List (List ℕ)) × IsImage plain rs image
+            × MayLeave kept (⟦<Journal<D> as Keeper>⟧.shown self).doubt rs }
+    {
+        self.disk
+    }
+}
+
+// Where the record at this place begins, and how many bytes it has, by the gates of all records and the closed gate behind them.
+fn span_of(gates: &[u64], end: u64, place: u64) -> Option<(u64, u64)>
+    requires apart { are_apart 9 gates.now end ≡ true }
+    requires fits { end < 2 ^ 64 }
+    ensures some { is_some result ≡ nat_lt place (length gates.now) }
+    ensures start { IfSome result (λ span. span.0 ≡ get_or gates.now place end + 9) }
+    ensures count { IfSome result (λ span.
+        span.1 ≡ get_or gates.now (place + 1) end - get_or gates.now place end - 9) }
+    ensures inside { IfSome result (λ span. span.0 + span.1 ≤ end) }
+{
+    let gate = *gates.get(place as usize)?;
+    let next = gates.get(place as usize + 1).copied().unwrap_or(end);
+    Some((gate + GROWTH, next - gate - GROWTH))
+}
+
+impl<D: Disk> Keeper for Journal<D> {
+    ghost shown = { λ k. record {
+      records = records_told plain (length k.gates.items) (D.shown k.disk);
+      held = length k.gates.items;
+      doubt = doubt_in k.in_doubt k.block.items;
+      spare = k.spare;
+      end = k.end;
+      faults = (D.shown k.disk).faults;
+    } };
+
+    ghost crashes = { λ k. record_crashes plain (D.shown k.disk) (D.crashes k.disk) };
+
+    ghost growth = { λ length. 9 + length };
+
+    ghost room = { λ length. 10 + length };
+
+    ghost crash_now = { λ k. leaves_records plain plain_ok (D.shown k.disk) (D.crashes k.disk)
+        k.end k.gates.items (doubt_in k.in_doubt k.block.items) (D.only_now k.disk) k.known };
+
+    ghost told_held = { λ k. told_count plain plain_ok (length k.gates.items) (D.shown k.disk) };
+
+    fn count(&self) -> u64 {
+        self.gates.len() as u64
+    }
+
+    fn load(&mut self, alloc: Global, place: u64) -> Result<Option<Vec<u8>>, LoadFault> {
+        let Some((start, count)) = span_of(&self.gates, self.end, place) else {
+            return Ok(None);
+        };
+        let mut bytes = vec![in alloc; 0; count as usize]?;
+        match self.disk.read_at(start, &mut bytes) {
+            Ok(()) => Ok(Some(bytes)),
+            Err(Failed) => Err(LoadFault::Failed),
+        }
+    }
+
+    fn reserve(&mut self, length: usize) -> Result<(), ReserveFault> {
+        let needed = (length as u64).saturating_add(ROOM);
+        if self.end.saturating_add(needed) > LIMIT {
+            return Err(ReserveFault::Full);
+        }
+        self.block.reserve(length + 9)?;
+        self.gates.reserve(1)?;
+        self.spare = self.spare.max(length + 1);
+        Ok(())
+    }
+
+    fn settle(&mut self) -> Result<(), Failed> {
+        if self.in_doubt {
+            write_synced(&mut self.disk, self.end, &[0])?;
+            self.in_doubt = false;
+        }
+        Ok(())
+    }
+
+    fn append(&mut self, payload: &[u8]) -> Result<(), Failed> {
+        let gate = self.end;
+        write_block(&mut self.block, payload);
+        write_synced(&mut self.disk, gate + 1, &self.block)?;
+        match write_synced(&mut self.disk, gate, &[1]) {
+            Ok(()) => {
+                self.gates.push_reserved(gate);
+                self.end = gate + GROWTH + payload.len() as u64;
+                self.spare = 0;
+                Ok(())
+            }
+            Err(Failed) => {
+                self.in_doubt = true;
+                Err(Failed)
+            }
+        }
+    }
+}

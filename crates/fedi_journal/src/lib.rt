@@ -1,0 +1,11 @@
+//! A journal: records on a disk, each whole there or not at all, whenever the program stops.
+#![tactic(auto)]
+
+mod blocks;
+mod faults;
+mod finding;
+mod journal;
+mod making;
+
+pub use faults::{InitFault, JournalFault};
+pub use journal::Journal;

@@ -1,0 +1,2 @@
+pub mod DiskSteps
+pub mod MemoryDiskSteps

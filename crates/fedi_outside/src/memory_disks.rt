@@ -1,0 +1,211 @@
+//! A disk in memory that may be made to fail.
+ghost use Rattle.std.specs.Prelude.{◌≡◌, ◌∷◌, [], ◌++◌, ◌≤◌, length, Some, IfOk, OnOk, OnErr};
+ghost use Rattle.std.proofs.Common.{inl, refl};
+ghost use Rattle.fedi_outside.specs.Causes.{next_count};
+ghost use Rattle.fedi_outside.specs.Disks.{spliced};
+ghost use Rattle.fedi_outside.specs.MemoryDisks.{contents_of, disk_crashes, disk_shown, fresh_disk, is_failing};
+ghost use Rattle.fedi_outside.specs.MemoryDiskLaws.{now_is_since, only_since};
+
+use crate::Failed;
+use crate::disks::Disk;
+use std::alloc::{AllocError, Global};
+use std::marker::Model;
+
+/// A call that a disk was asked.
+#[derive(Drop)]
+pub enum Call {
+    /// The size.
+    Len,
+    /// A read of so many bytes at this offset.
+    Read { at: u64, count: usize },
+    /// A write at this offset, and whether it was done.
+    Write { at: u64, bytes: Vec<u8>, done: bool },
+    /// A sync, and whether it was done.
+    Sync { done: bool },
+}
+
+/// A disk in memory that may be made to fail. It tells its bytes and what a crash may leave, keeps a record of its calls, and counts
+/// its faults. A write that fails leaves the bytes as they were. A call that finds no memory for its record fails too, has no other
+/// effect, and is not recorded.
+#[derive(Drop)]
+pub struct MemoryDisk {
+    alloc: Global,
+    base: Vec<u8>,
+    bytes: Vec<u8>,
+    calls: Vec<Call>,
+    failing: Vec<u64>,
+    stop: Option<u64>,
+    faults: u64,
+}
+
+impl Model for MemoryDisk {
+    ghost use Rattle.std.specs.Prelude.{◌≡◌};
+    ghost use Rattle.fedi_outside.specs.MemoryDisks.{MemoryDiskState, contents_of};
+
+    ghost Value = { MemoryDiskState };
+
+    ghost view = { λ d. record {
+      base = d.base.items;
+      calls = d.calls.items;
+      failing = d.failing.items;
+      stop = d.stop;
+      faults = d.faults;
+    } };
+
+    ghost invariant = { λ d. d.bytes.items ≡ (contents_of d.base.items d.calls.items).reads };
+}
+
+impl MemoryDisk {
+    /// A disk with these bytes, which count as synced. It fails only if out of memory. The error is out of memory.
+    pub fn new(alloc: Global, bytes: Vec<u8>) -> Result<Self, AllocError>
+        ensures { IfOk result (λ disk. disk ≡ fresh_disk bytes.items) }
+    {
+        Ok(MemoryDisk {
+            alloc,
+            base: bytes.to_vec(alloc)?,
+            bytes,
+            calls: Vec::new(alloc),
+            failing: Vec::new(alloc),
+            stop: None,
+            faults: 0,
+        })
+    }
+
+    /// The same disk, whose calls with these numbers, counted from 0, fail.
+    pub fn failing(self, calls: Vec<u64>) -> Self
+        ensures { result ≡ record self { failing = calls.items } }
+    {
+        let mut disk = self;
+        disk.failing = calls;
+        disk
+    }
+
+    /// The same disk, of which all calls from this number on, counted from 0, fail.
+    pub fn stopping(self, call: u64) -> Self
+        ensures { result ≡ record self { stop = Some call } }
+    {
+        let mut disk = self;
+        disk.stop = Some(call);
+        disk
+    }
+
+    /// The bytes that reads give.
+    pub fn bytes(&self) -> &[u8]
+        ensures { result.now ≡ (contents_of self.now.base self.now.calls).reads }
+    {
+        &self.bytes
+    }
+
+    /// The calls, in order.
+    pub fn calls(&self) -> &[Call]
+        ensures { result.now ≡ self.now.calls }
+    {
+        &self.calls
+    }
+
+    // Whether the next call is to fail.
+    fn next_fails(&self) -> bool
+        ensures { result ≡ is_failing self.now (length self.now.calls) }
+    {
+        let number = self.calls.len() as u64;
+        self.failing.contains(&number) || self.stop.is_some_and(|stop| stop <= number)
+    }
+
+    // Counts a fault.
+    fn fault(&mut self) -> Failed
+        ensures { self.new ≡ record self.old { faults = next_count self.old.faults } }
+    {
+        self.faults = self.faults.saturating_add(1);
+        Failed
+    }
+}
+
+// The bytes with others in the place of those at this offset, and past the end. The error is out of memory.
+fn splice(alloc: Global, bytes: &[u8], at: usize, from: &[u8]) -> Result<Vec<u8>, AllocError>
+    requires { at ≤ length bytes.now }
+    ensures { IfOk result (λ after. after.items ≡ spliced at from.now bytes.now) }
+{
+    let mut after = bytes[..at].to_vec(alloc)?;
+    after.extend_from_slice(from)?;
+    if from.len() < bytes.len() - at {
+        after.extend_from_slice(&bytes[at + from.len()..])?;
+    }
+    Ok(after)
+}
+
+// Records a call. The error is out of memory, and then nothing is recorded.
+fn note(calls: &mut Vec<Call>, call: Call) -> Result<(), AllocError>
+    ensures ok { OnOk result (calls.new.items ≡ calls.old.items ++ call ∷ []) }
+    ensures err { OnErr result (calls.new.items ≡ calls.old.items) }
+{
+    calls.push(call)?;
+    Ok(())
+}
+
+impl Disk for MemoryDisk {
+    ghost shown = { disk_shown };
+
+    ghost crashes = { disk_crashes };
+
+    ghost told_size = { λ _. refl };
+
+    ghost reads_stay = { λ _. inl refl };
+
+    ghost counts_now = { λ d. now_is_since d.base d.calls };
+
+    ghost only_now = { λ d. only_since d.base d.calls };
+
+    fn len(&mut self) -> Result<u64, Failed> {
+        let fails = self.next_fails();
+        let Ok(()) = note(&mut self.calls, Call::Len) else {
+            return Err(self.fault());
+        };
+        if fails {
+            return Err(self.fault());
+        }
+        Ok(self.bytes.len() as u64)
+    }
+
+    fn read_at(&mut self, at: u64, into: &mut [u8]) -> Result<(), Failed> {
+        let fails = self.next_fails();
+        let count = into.len();
+        let Ok(()) = note(&mut self.calls, Call::Read { at, count }) else {
+            return Err(self.fault());
+        };
+        if fails {
+            return Err(self.fault());
+        }
+        let start = at as usize;
+        into.copy_from_slice(&self.bytes[start..start + count]);
+        Ok(())
+    }
+
+    fn write_at(&mut self, at: u64, from: &[u8]) -> Result<(), Failed> {
+        let done = !self.next_fails();
+        let (Ok(after), Ok(bytes)) = (
+            splice(self.alloc, &self.bytes, at as usize, from),
+            from.to_vec(self.alloc),
+        ) else {
+            return Err(self.fault());
+        };
+        let Ok(()) = note(&mut self.calls, Call::Write { at, bytes, done }) else {
+            return Err(self.fault());
+        };
+        if !done {
+            return Err(self.fault());
+        }
+        self.bytes = after;
+        Ok(())
+    }
+
+    fn sync(&mut self) -> Result<(), Failed> {
+        let done = !self.next_fails();
+        let Ok(()) = note(&mut self.calls, Call::Sync { done }) else {
+            return Err(self.fault());
+        };
+        if !done {
+            return Err(self.fault());
+        }
+        Ok(())
+    }
+}
