@@ -1,2 +1,8 @@
 pub mod CodeLemmas
 pub mod EntryLemmas
+pub mod Failing
+pub mod Loop
+pub mod ReadEntries
+pub mod ReadObjects
+pub mod ReadingLemmas
+pub mod Texts

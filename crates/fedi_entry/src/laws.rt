@@ -1,8 +1,10 @@
 //! Laws of the definitions, each the contract of a function that does nothing.
 
-ghost use Rattle.std.specs.Prelude.{◌≡◌, ℕ, List, ◌∷◌};
+ghost use Rattle.std.specs.Prelude.{◌≡◌, ℕ, List, [], ◌∷◌, ◌++◌, Ok};
 ghost use Rattle.fedi_objects.specs.declared.entry.Entry.{Entry};
 ghost use Rattle.fedi_entry.specs.Codes.{code_of, entry_number, Fits};
+ghost use Rattle.fedi_entry.specs.Fields.{IsFormed};
+ghost use Rattle.fedi_entry.specs.Reading.{read_entry};
 
 /// The code of an entry begins with the number of its kind, as 4 of a post, and so is not empty.
 #[tactic(auto, unfolding(crate::specs::Codes::code_of))]
@@ -14,4 +16,16 @@ pub fn codes_begin_with_the_kind()
 #[tactic(auto, using(crate::proofs::EntryLemmas::code_of_injective))]
 pub fn codes_are_unique()
     ensures { (a b : Entry) → Fits a → Fits b → code_of a ≡ code_of b → a ≡ b }
+{}
+
+/// What was written is read again: the round trip of an entry whose fields have their forms.
+#[tactic(auto, using(crate::proofs::ReadEntries::whole_again))]
+pub fn codes_are_read()
+    ensures { (entry : Entry) → IsFormed entry → read_entry (code_of entry) ≡ Ok entry }
+{}
+
+/// No code is a front of another: an entry ends where its code does.
+pub fn codes_are_no_fronts()
+    ensures { (a b : Entry) (rest : List ℕ) → IsFormed a → IsFormed b
+        → code_of a ++ rest ≡ code_of b → (a ≡ b) × (rest ≡ []) }
 {}

@@ -1,0 +1,214 @@
+//! Entries from bytes.
+
+ghost use Rattle.std.specs.Prelude.{◌≡◌, ◌≢◌, ℕ, List, length, IfOk, IfErr};
+ghost use Rattle.fedi_objects.specs.declared.entry.Entry.{Entry};
+ghost use Rattle.fedi_entry.specs.Codes.{code_of};
+ghost use Rattle.fedi_entry.specs.Fields.{IsFormed};
+ghost use Rattle.fedi_entry.specs.Reading.{activity_at, came_at, entry_at, hosted_at, last_at, local_at, made_at, option_at, peer_set_at, read_entry, remote_at, repeat_at, sent_at, tried_at, what_at, Ends, Gives, Takes};
+
+use crate::fault::{EntryFault, ReadFault};
+use crate::known_hosts::KnownHosts;
+use crate::read_values::Decode;
+use crate::reader::Reader;
+use fedi_address::Iri;
+use fedi_objects::{Activity, Boxed, Came, Entry, RepeatKey, Sent, What};
+use std::alloc::Global;
+
+/// The key of a post that may come again, with the digest of its body, if there is one.
+#[tactic(auto, unfolding(crate::specs::Reading::option_at))]
+fn take_repeat(reader: &mut Reader<'_>) -> Result<Option<(RepeatKey, [u8; 32])>, ReadFault>
+    ensures { Takes result reader.new (option_at repeat_at reader.old) }
+{
+    if reader.flag()? {
+        let key = reader.repeat_key()?;
+        Ok(Some((key, reader.key()?)))
+    } else {
+        Ok(None)
+    }
+}
+
+/// At which request of a delivery something came.
+#[tactic(auto, unfolding(crate::specs::Reading::sent_at))]
+fn take_sent(reader: &mut Reader<'_>) -> Result<Sent, ReadFault>
+    ensures { Takes result reader.new (sent_at reader.old) }
+{
+    let fault = reader.fault();
+    match reader.byte()? {
+        0 => Ok(Sent::Lookup),
+        1 => Ok(Sent::Post),
+        _ => Err(fault),
+    }
+}
+
+/// What came of a lookup or a post. A bad actor comes of a lookup alone.
+#[tactic(auto, unfolding(crate::specs::Reading::what_at))]
+fn take_what(reader: &mut Reader<'_>, step: Sent) -> Result<What, ReadFault>
+    ensures { Takes result reader.new (what_at step reader.old) }
+{
+    let fault = reader.fault();
+    match (reader.byte()?, step) {
+        (0, _) => Ok(What::Failed),
+        (1, _) => Ok(What::NoHead),
+        (2, Sent::Lookup) => Ok(What::BadActor),
+        (3, _) => Ok(What::Status(reader.status()?)),
+        _ => Err(fault),
+    }
+}
+
+/// What came of an attempt to deliver.
+#[tactic(auto, unfolding(crate::specs::Reading::came_at))]
+fn take_came(reader: &mut Reader<'_>) -> Result<Came, ReadFault>
+    ensures { Takes result reader.new (came_at reader.old) }
+{
+    let step = take_sent(reader)?;
+    let what = take_what(reader, step)?;
+    Ok(Came { step, what })
+}
+
+/// An activity, on the heap.
+fn take_activity(reader: &mut Reader<'_>) -> Result<Boxed<Activity>, ReadFault>
+    ensures { Takes result reader.new (activity_at reader.old) }
+{
+    let activity = Activity::decode(reader)?;
+    Ok(Boxed::new(reader.allocator(), activity)?)
+}
+
+/// That the server was set up, from which on its host is known.
+#[tactic(auto, unfolding(crate::specs::Reading::hosted_at))]
+fn take_hosted(reader: &mut Reader<'_>) -> Result<Entry, ReadFault>
+    ensures { Takes result reader.new (hosted_at reader.old) }
+{
+    let host = reader.host()?;
+    reader.keep_own_host(&host)?;
+    Ok(Entry::Hosted {
+        host,
+        moment: reader.moment()?,
+    })
+}
+
+/// That a member was made.
+#[tactic(auto, unfolding(crate::specs::Reading::made_at))]
+fn take_made(reader: &mut Reader<'_>) -> Result<Entry, ReadFault>
+    ensures { Takes result reader.new (made_at reader.old) }
+{
+    Ok(Entry::Made {
+        name: reader.name()?,
+        digest: reader.key()?,
+        locked: reader.flag()?,
+        moment: reader.moment()?,
+    })
+}
+
+/// That another server became a peer, from which on its host is known.
+#[tactic(auto, unfolding(crate::specs::Reading::peer_set_at))]
+fn take_peer_set(reader: &mut Reader<'_>) -> Result<Entry, ReadFault>
+    ensures { Takes result reader.new (peer_set_at reader.old) }
+{
+    let host = reader.host()?;
+    reader.keep_other_host(&host)?;
+    Ok(Entry::PeerSet {
+        host,
+        key: reader.key()?,
+        address: reader.address()?,
+        relay: reader.flag()?,
+        moment: reader.moment()?,
+    })
+}
+
+/// A member's post.
+#[tactic(auto, unfolding(crate::specs::Reading::local_at))]
+fn take_local(reader: &mut Reader<'_>) -> Result<Entry, ReadFault>
+    ensures { Takes result reader.new (local_at reader.old) }
+{
+    Ok(Entry::Local {
+        name: reader.name()?,
+        repeat: take_repeat(reader)?,
+        activity: take_activity(reader)?,
+        moment: reader.moment()?,
+    })
+}
+
+/// A peer's delivery, from which on the peer's host is known.
+#[tactic(auto, unfolding(crate::specs::Reading::remote_at))]
+fn take_remote(reader: &mut Reader<'_>) -> Result<Entry, ReadFault>
+    ensures { Takes result reader.new (remote_at reader.old) }
+{
+    let peer = reader.host()?;
+    reader.keep_other_host(&peer)?;
+    Ok(Entry::Remote {
+        peer,
+        inbox: reader.name()?,
+        activity: take_activity(reader)?,
+        moment: reader.moment()?,
+    })
+}
+
+/// An attempt to deliver.
+#[tactic(auto, unfolding(crate::specs::Reading::tried_at))]
+fn take_tried(reader: &mut Reader<'_>) -> Result<Entry, ReadFault>
+    ensures { Takes result reader.new (tried_at reader.old) }
+{
+    Ok(Entry::Tried {
+        activity: Iri::decode(reader)?,
+        recipient: Iri::decode(reader)?,
+        came: take_came(reader)?,
+        moment: reader.moment()?,
+    })
+}
+
+/// An entry: which kind, and its fields.
+#[tactic(auto, unfolding(crate::specs::Reading::entry_at))]
+fn take_entry(reader: &mut Reader<'_>) -> Result<Entry, ReadFault>
+    ensures { Takes result reader.new (entry_at reader.old) }
+{
+    let fault = reader.fault();
+    match reader.byte()? {
+        1 => take_hosted(reader),
+        2 => take_made(reader),
+        3 => take_peer_set(reader),
+        4 => take_local(reader),
+        5 => take_remote(reader),
+        6 => take_tried(reader),
+        _ => Err(fault),
+    }
+}
+
+/// An entry, behind which no byte is left.
+#[tactic(auto, unfolding(crate::specs::Reading::last_at))]
+fn take_last(reader: &mut Reader<'_>) -> Result<Entry, ReadFault>
+    ensures { Ends result (last_at reader.old) }
+{
+    let entry = take_entry(reader)?;
+    if reader.left() == 0 {
+        Ok(entry)
+    } else {
+        Err(reader.fault())
+    }
+}
+
+/// The entry of these bytes, which no other entry has. The errors are `BadEntry`, exactly if no
+/// entry whose fields have their forms has these bytes, and `Memory`, out of memory.
+///
+/// `place` is where the first field begins that cannot be read, or where the entry ends, if bytes
+/// follow it. A field is a number, a key, a text or one of the bytes that say what follows.
+///
+/// The hosts are those that are known so far, and then also those that the entry names.
+#[tactic(auto, unfolding(crate::specs::Reading::read_entry))]
+pub fn decode(alloc: Global, hosts: &mut KnownHosts, bytes: &[u8]) -> Result<Entry, EntryFault>
+    ensures code { IfOk result (λ entry. code_of entry ≡ bytes.now) }
+    ensures formed { IfOk result (λ entry. IsFormed entry) }
+    ensures only { IfOk result (λ entry. (other : Entry)
+        → IsFormed other → code_of other ≡ bytes.now → other ≡ entry) }
+    ensures none { IfErr result (λ fault. fault ≢ EntryFault.Memory → (entry : Entry)
+        → IsFormed entry → code_of entry ≢ bytes.now) }
+    ensures exact { Gives result (read_entry bytes.now) }
+{
+    match take_last(&mut Reader::new(alloc, hosts, bytes)) {
+        Ok(entry) => Ok(entry),
+        // No more bytes are left than there were: nothing saturates.
+        Err(ReadFault::BadField { left }) => Err(EntryFault::BadEntry {
+            place: bytes.len().saturating_sub(left),
+        }),
+        Err(ReadFault::Memory) => Err(EntryFault::Memory),
+    }
+}
