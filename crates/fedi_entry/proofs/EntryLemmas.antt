@@ -2,7 +2,7 @@
 use Rattle.std.proofs.Common.{◌≡◌, ℕ, List, [], ◌∷◌, ◌++◌, length, get_or, refl, sym, ◌∙◌, ap, subst, append_assoc, arith, length-append}
 use Rattle.std.specs.Prelude.{Option, Some, None}
 use Rattle.fedi_address.specs.declared.recipients.Recipients.{Recipients}
-use Rattle.fedi_objects.specs.Kinds.{kind_number}
+use Rattle.fedi_objects.specs.Kinds.{kind_number, kinds}
 use Rattle.fedi_objects.specs.declared.kind.Kind.{Kind}
 use Rattle.fedi_objects.specs.declared.kind.Kind.TheVariants.{Accept, Add, Announce, Arrive, Block, Create, Delete, Dislike, Flag, Follow, Ignore, Invite, Join, Leave, Like, Listen, Move, Offer, Question, Read, Reject, Remove, TentativeAccept, TentativeReject, Travel, Undo, Update, View}
 use Rattle.fedi_objects.specs.declared.activity.Activity.{Activity}
@@ -80,12 +80,8 @@ object_ref_back a b s t short e = absurd (omega (arith, (byte_same _ _ _ _ e).0)
 pub object_ref_tells : Tells object_ref_code
 object_ref_tells = record { back = object_ref_back }
 
-kinds : List Kind
-kinds = Accept ∷ Add ∷ Announce ∷ Arrive ∷ Block ∷ Create ∷ Delete ∷ Dislike ∷ Flag ∷ Follow ∷ Ignore ∷ Invite ∷ Join ∷ Leave ∷ Like ∷ Listen ∷ Move ∷ Offer ∷ Question ∷ Read ∷ Reject ∷ Remove ∷ TentativeAccept ∷ TentativeReject ∷ Travel ∷ Undo ∷ Update ∷ View ∷ []
-
 -- the kind of a number
 numbered : (kind : Kind) → get_or (Accept ∷ kinds) (kind_number kind) Accept ≡ kind
-unfolding kinds
 numbered Accept = refl
 numbered Add = refl
 numbered Announce = refl

@@ -21,7 +21,8 @@ use Rattle.fedi_objects.specs.declared.entry.What.TheVariants.{Failed, NoHead, B
 use Rattle.fedi_entry.specs.declared.fault.ReadFault.{ReadFault}
 use Rattle.fedi_entry.specs.declared.fault.ReadFault.TheVariants.{BadField}
 use Rattle.fedi_entry.specs.Codes.{u64_code, bool_code, text_code, option_code, repeat_code, sent_number, what_code, came_code, activity_code, fields_code, code_of}
-use Rattle.fedi_entry.specs.Fields.{is_address, is_address_byte, is_host, is_iri, is_own, IsFormed, IsActivity, IsKey, IsMoment, IsRepeat, IsText, MayCome}
+use Rattle.fedi_objects.specs.Limits.{is_address, is_address_byte}
+use Rattle.fedi_entry.specs.Fields.{is_host, is_iri, is_own, IsFormed, IsActivity, IsKey, IsMoment, IsRepeat, IsText, MayCome}
 use Rattle.fedi_entry.specs.Reading.{◌>>=◌, ◌&◌, made_of, Read, byte_at, bytes_at, text_at, flag_at, iri_at, moment_at, status_at, option_at, activity_at, repeat_at, sent_at, is_lookup, what_at, came_at, hosted_at, made_at, peer_set_at, local_at, remote_at, tried_at, entry_at, ended, last_at, placed, read_entry, Fails}
 use Rattle.fedi_entry.proofs.ReadingLemmas.{Reads, IsBytes, bytes_behind, bind_ok, passed_ok, pair_reads, made_takes, text_reads, byte_is, choice_ok, said, option_reads, moment_reads, status_reads, key_reads, flag_reads}
 use Rattle.fedi_entry.proofs.ReadObjects.{iri_reads, activity_reads}

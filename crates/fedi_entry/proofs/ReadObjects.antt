@@ -18,7 +18,8 @@ use Rattle.fedi_entry.specs.declared.read_objects.ObjectTimes.{ObjectTimes}
 use Rattle.fedi_entry.specs.declared.read_objects.ObjectWords.{ObjectWords}
 use Rattle.fedi_entry.specs.declared.read_objects.Words.{Words}
 use Rattle.fedi_entry.specs.Codes.{text_code, option_code, list_code, tag_code, hidden_code, recipients_code, words_code, object_head, object_words, object_times, object_code, edits_code, change_code, object_ref_code, activity_head, activity_words, activity_code}
-use Rattle.fedi_entry.specs.Fields.{is_iri, is_own, is_content, is_date, is_type, is_date_byte, AreRecipients, AreWords, IfDate, IfGiven, IfIri, IsActivity, IsChange, IsList, IsObject, IsObjectRef, IsTag, IsText}
+use Rattle.fedi_objects.specs.Limits.{is_text, is_date, is_type, is_date_byte}
+use Rattle.fedi_entry.specs.Fields.{is_iri, is_own, AreRecipients, AreWords, IfDate, IfGiven, IfIri, IsActivity, IsChange, IsList, IsObject, IsObjectRef, IsTag, IsText}
 use Rattle.fedi_entry.specs.Reading.{◌>>=◌, made_of, Read, byte_at, text_at, iri_at, content_at, date_at, list_at, tag_at, recipients_at, words_at, object_head_at, object_words_at, object_times_at, object_of, object_at, changed_words_at, change_of, change_at, object_ref_at, all_kinds, kind_of, some_or, kind_at, activity_head_at, activity_words_at, activity_of, activity_at}
 use Rattle.fedi_entry.proofs.ReadingLemmas.{Reads, IsBytes, bind_ok, pair_reads, whole_reads, made_takes, text_reads, byte_is, choice_ok, said, option_reads, edit_reads, list_reads}
 
@@ -31,19 +32,22 @@ iri_short t passes = grind (arith, nat_tests, (and_parts (is_own (normal t) t) (
 pub iri_reads : Reads text_code (IsText is_iri) iri_at
 iri_reads = text_reads is_iri iri_short
 
-content_short : (t : List ℕ) → IsTrue (is_content t) → length t < 2 ^ 32
+content_short : (t : List ℕ) → IsTrue (is_text t) → length t < 2 ^ 32
+unfolding is_text
 content_short t passes = grind (arith, nat_tests, passes)
 
-pub content_reads : Reads text_code (IsText is_content) content_at
-content_reads = text_reads is_content content_short
+pub content_reads : Reads text_code (IsText is_text) content_at
+content_reads = text_reads is_text content_short
 
 type_short : (t : List ℕ) → IsTrue (is_type t) → length t < 2 ^ 32
+unfolding is_type
 type_short t passes = grind (arith, nat_tests, (and_parts (nat_le 1 (length t)) (nat_le (length t) 64) passes).1)
 
 type_reads : Reads text_code (IsText is_type) (text_at is_type)
 type_reads = text_reads is_type type_short
 
 date_short : (t : List ℕ) → IsTrue (is_date t) → length t < 2 ^ 32
+unfolding is_date
 date_short t passes = grind (arith, nat_tests, (and_parts (nat_le (length t) 64) (list_all is_date_byte t) passes).0)
 
 date_reads : Reads text_code (IsText is_date) date_at
@@ -140,7 +144,7 @@ abbrev code_of_changed : ChangedWords → List ℕ
 code_of_changed w = edits_code w.content w.summary w.name
 
 abbrev AreChanged : ChangedWords → Type 0
-AreChanged w = IfGiven (IsText is_content) w.content × (IfGiven (IsText is_content) w.summary × IfGiven (IsText is_content) w.name)
+AreChanged w = IfGiven (IsText is_text) w.content × (IfGiven (IsText is_text) w.summary × IfGiven (IsText is_text) w.name)
 
 changed_words_read : Reads code_of_changed AreChanged changed_words_at
 unfolding edits_code changed_words_at

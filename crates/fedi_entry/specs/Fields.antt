@@ -7,6 +7,7 @@ use Rattle.fedi_address.specs.Hosts.{address, is_host_text}
 use Rattle.fedi_address.specs.Iris.{normal}
 use Rattle.fedi_address.specs.Names.{is_name}
 use Rattle.fedi_objects.specs.Keys.{is_repeat_key}
+use Rattle.fedi_objects.specs.Limits.{is_address, is_date, is_text, is_type}
 use Rattle.fedi_objects.specs.declared.activity.Activity.{Activity}
 use Rattle.fedi_objects.specs.declared.activity.ObjectRef.{ObjectRef}
 use Rattle.fedi_objects.specs.declared.activity.ObjectRef.TheVariants.{Nothing, Id, Whole, Changed}
@@ -37,30 +38,6 @@ is_iri text = is_own (normal text) text && nat_le (length text) 2048
 unfoldable pub is_host : List ℕ → Bool
 is_host text = is_host_text text && is_own (normal (address text (codes "/"))) (address text (codes "/"))
 
--- what an object or an activity says: at most 65,536 bytes
-abbrev pub is_content : List ℕ → Bool
-is_content text = nat_le (length text) 65536
-
--- a type: 1 to 64 bytes
-abbrev pub is_type : List ℕ → Bool
-is_type text = nat_le 1 (length text) && nat_le (length text) 64
-
--- a byte of ASCII that shows, or a space
-abbrev pub is_date_byte : ℕ → Bool
-is_date_byte b = nat_le 32 b && nat_le b 126
-
--- a date as it was given: at most 64 such bytes
-abbrev pub is_date : List ℕ → Bool
-is_date text = nat_le (length text) 64 && list_all is_date_byte text
-
--- a byte of ASCII that shows, and no space
-abbrev pub is_address_byte : ℕ → Bool
-is_address_byte b = nat_le 33 b && nat_le b 126
-
--- where a peer is reached: 1 to 255 such bytes
-abbrev pub is_address : List ℕ → Bool
-is_address text = (nat_le 1 (length text) && nat_le (length text) 255) && list_all is_address_byte text
-
 -- a text in UTF-8 that passes the test
 pub record IsText (test : List ℕ → Bool) (text : List ℕ) : Type 0 where
   pub utf8 : IsTrue (is_utf8 text)
@@ -84,7 +61,7 @@ IfIri o = IfSome o (IsText is_iri)
 
 -- a content, if there is one
 abbrev pub IfContent : Option (List ℕ) → Type 0
-IfContent o = IfSome o (IsText is_content)
+IfContent o = IfSome o (IsText is_text)
 
 -- a date, if there is one
 abbrev pub IfDate : Option (List ℕ) → Type 0
@@ -94,7 +71,7 @@ IfDate o = IfSome o (IsText is_date)
 
 -- a mention
 abbrev pub IsTag : Tag → Type 0
-IsTag tag = IsText is_iri tag.href × IsText is_content tag.name
+IsTag tag = IsText is_iri tag.href × IsText is_text tag.name
 
 -- each of the five fields lists IRIs
 abbrev pub AreRecipients : Recipients → Type 0
@@ -119,7 +96,7 @@ IsObject o =
 abbrev pub IsChange : Change → Type 0
 IsChange c =
     IsText is_iri c.id
-    × ((IfGiven (IsText is_content) c.content × (IfGiven (IsText is_content) c.summary × IfGiven (IsText is_content) c.name))
+    × ((IfGiven (IsText is_text) c.content × (IfGiven (IsText is_text) c.summary × IfGiven (IsText is_text) c.name))
     × (IfGiven (IsText is_iri) c.url × (IfGiven (IsText is_iri) c.in_reply_to × IfGiven (IsList IsTag) c.tags)))
 
 -- what an activity is about

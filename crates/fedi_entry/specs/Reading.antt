@@ -6,7 +6,7 @@ use Rattle.std.specs.Str.{is_utf8}
 use Rattle.fedi_address.specs.declared.recipients.Recipients.{Recipients}
 use Rattle.fedi_address.specs.Names.{is_name}
 use Rattle.fedi_objects.specs.Keys.{is_repeat_key}
-use Rattle.fedi_objects.specs.Kinds.{kind_number}
+use Rattle.fedi_objects.specs.Kinds.{kind_number, kinds as all_kinds}
 use Rattle.fedi_objects.specs.declared.activity.Activity.{Activity}
 use Rattle.fedi_objects.specs.declared.activity.ObjectRef.{ObjectRef}
 use Rattle.fedi_objects.specs.declared.activity.ObjectRef.TheVariants.{Nothing, Id, Whole, Changed}
@@ -24,7 +24,8 @@ use Rattle.fedi_objects.specs.declared.object.Edit.{Edit}
 use Rattle.fedi_objects.specs.declared.object.Edit.TheVariants.{Keep, Remove, Give}
 use Rattle.fedi_objects.specs.declared.object.Object.{Object}
 use Rattle.fedi_objects.specs.declared.object.Tag.{Tag}
-use Rattle.fedi_entry.specs.Fields.{is_address, is_content, is_date, is_host, is_iri, is_type}
+use Rattle.fedi_objects.specs.Limits.{is_address, is_date, is_text, is_type}
+use Rattle.fedi_entry.specs.Fields.{is_host, is_iri}
 use Rattle.fedi_entry.specs.declared.fault.EntryFault.{EntryFault}
 use Rattle.fedi_entry.specs.declared.fault.EntryFault.TheVariants as ends
 use Rattle.fedi_entry.specs.declared.fault.ReadFault.{ReadFault}
@@ -157,7 +158,7 @@ iri_at = text_at is_iri
 
 -- a content, a summary or a name
 abbrev pub content_at : Reader (List ℕ)
-content_at = text_at is_content
+content_at = text_at is_text
 
 -- a date
 abbrev pub date_at : Reader (List ℕ)
@@ -254,15 +255,6 @@ object_ref_at bytes = do
       if b.0 == 1 then made_of Id iri_at b.1 else (
       if b.0 == 2 then made_of Whole object_at b.1 else (
       if b.0 == 3 then made_of Changed change_at b.1 else Err (length bytes))))
-
--- the types of activities, in the order of their numbers
-abbrev pub all_kinds : List Kind
-all_kinds =
-    kinds.Accept ∷ kinds.Add ∷ kinds.Announce ∷ kinds.Arrive ∷ kinds.Block ∷ kinds.Create ∷ kinds.Delete
-    ∷ kinds.Dislike ∷ kinds.Flag ∷ kinds.Follow ∷ kinds.Ignore ∷ kinds.Invite ∷ kinds.Join ∷ kinds.Leave
-    ∷ kinds.Like ∷ kinds.Listen ∷ kinds.Move ∷ kinds.Offer ∷ kinds.Question ∷ kinds.Read ∷ kinds.Reject
-    ∷ kinds.Remove ∷ kinds.TentativeAccept ∷ kinds.TentativeReject ∷ kinds.Travel ∷ kinds.Undo ∷ kinds.Update
-    ∷ kinds.View ∷ []
 
 -- the type of this number
 unfoldable pub kind_of : ℕ → Option Kind

@@ -5,7 +5,7 @@
 
 ghost use Rattle.std.specs.Prelude.{◌≡◌};
 ghost use Rattle.fedi_entry.specs.Reading.{date_at, kind_at, kind_of, option_at, text_at, Takes};
-ghost use Rattle.fedi_entry.specs.Fields.{is_type};
+ghost use Rattle.fedi_objects.specs.Limits.{is_type};
 
 use crate::fault::ReadFault;
 use crate::read_values::Decode;
@@ -259,44 +259,12 @@ impl Decode for ObjectRef {
     }
 }
 
-/// The types of activities, in the order of their numbers.
-const KINDS: [Kind; 28] = [
-    Kind::Accept,
-    Kind::Add,
-    Kind::Announce,
-    Kind::Arrive,
-    Kind::Block,
-    Kind::Create,
-    Kind::Delete,
-    Kind::Dislike,
-    Kind::Flag,
-    Kind::Follow,
-    Kind::Ignore,
-    Kind::Invite,
-    Kind::Join,
-    Kind::Leave,
-    Kind::Like,
-    Kind::Listen,
-    Kind::Move,
-    Kind::Offer,
-    Kind::Question,
-    Kind::Read,
-    Kind::Reject,
-    Kind::Remove,
-    Kind::TentativeAccept,
-    Kind::TentativeReject,
-    Kind::Travel,
-    Kind::Undo,
-    Kind::Update,
-    Kind::View,
-];
-
 /// The type of this number.
 #[tactic(auto, unfolding(crate::specs::Reading::kind_of))]
 fn numbered(number: u8) -> Option<Kind>
     ensures { result ≡ kind_of number }
 {
-    KINDS.iter().copied().find(|kind| kind.number() == number)
+    Kind::ALL.iter().copied().find(|kind| kind.number() == number)
 }
 
 impl Decode for Kind {

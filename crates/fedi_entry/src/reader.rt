@@ -4,6 +4,7 @@ ghost use Rattle.std.specs.Prelude.{◌≡◌, length, IfOk, IfSome, None, false
 ghost use Rattle.std.specs.Int.{w16, w32, w64};
 ghost use Rattle.std.specs.List.{list_all};
 ghost use Rattle.fedi_objects.specs.Keys.{is_repeat_key};
+ghost use Rattle.fedi_objects.specs.Limits as limits;
 ghost use Rattle.fedi_address.specs.Names.{is_name};
 ghost use Rattle.fedi_entry.specs.Fields as fields;
 ghost use Rattle.fedi_entry.specs.Reading.{byte_at, bytes_at, date_at, flag_at, iri_at, moment_at, number_at, slice_at, status_at, text_at, utf8_at, Takes, TakesAs};
@@ -280,9 +281,9 @@ impl<'a> Reader<'a> {
     }
 
     /// A content, a summary or a name: at most 65,536 bytes.
-    #[tactic(auto, unfolding(crate::specs::Reading::text_at))]
+    #[tactic(auto, unfolding(crate::specs::Reading::text_at, fedi_objects::specs::Limits::is_text))]
     pub fn content(&mut self) -> Result<Text, ReadFault>
-        ensures { Takes result self.new (text_at fields.is_content self.old) }
+        ensures { Takes result self.new (text_at limits.is_text self.old) }
     {
         let fault = self.fault();
         let text = self.text()?;
@@ -293,9 +294,9 @@ impl<'a> Reader<'a> {
     }
 
     /// A type: 1 to 64 bytes.
-    #[tactic(auto, unfolding(crate::specs::Reading::text_at))]
+    #[tactic(auto, unfolding(crate::specs::Reading::text_at, fedi_objects::specs::Limits::is_type))]
     pub fn kind_name(&mut self) -> Result<Text, ReadFault>
-        ensures { Takes result self.new (text_at fields.is_type self.old) }
+        ensures { Takes result self.new (text_at limits.is_type self.old) }
     {
         let fault = self.fault();
         let text = self.text()?;
@@ -306,7 +307,7 @@ impl<'a> Reader<'a> {
     }
 
     /// A date as it was given: at most 64 bytes 32 to 126.
-    #[tactic(auto, unfolding(crate::specs::Reading::text_at))]
+    #[tactic(auto, unfolding(crate::specs::Reading::text_at, fedi_objects::specs::Limits::is_date))]
     pub fn date(&mut self) -> Result<Text, ReadFault>
         ensures { Takes result self.new (date_at self.old) }
     {
@@ -321,7 +322,7 @@ impl<'a> Reader<'a> {
     /// Where a peer is reached: 1 to 255 bytes 33 to 126.
     #[tactic(auto, unfolding(crate::specs::Reading::text_at))]
     pub fn address(&mut self) -> Result<Text, ReadFault>
-        ensures { Takes result self.new (text_at fields.is_address self.old) }
+        ensures { Takes result self.new (text_at limits.is_address self.old) }
     {
         let fault = self.fault();
         let text = self.text()?;
@@ -333,31 +334,31 @@ impl<'a> Reader<'a> {
 }
 
 fn is_date_byte(byte: u8) -> bool
-    ensures { result ≡ fields.is_date_byte byte }
+    ensures { result ≡ limits.is_date_byte byte }
 {
     32 <= byte && byte <= 126
 }
 
 fn has_date_bytes(text: &[u8]) -> bool
-    ensures { result ≡ list_all fields.is_date_byte text.now }
+    ensures { result ≡ list_all limits.is_date_byte text.now }
 {
     text.iter().all(|byte| is_date_byte(*byte))
 }
 
 fn is_address_byte(byte: u8) -> bool
-    ensures { result ≡ fields.is_address_byte byte }
+    ensures { result ≡ limits.is_address_byte byte }
 {
     33 <= byte && byte <= 126
 }
 
 fn has_address_bytes(text: &[u8]) -> bool
-    ensures { result ≡ list_all fields.is_address_byte text.now }
+    ensures { result ≡ list_all limits.is_address_byte text.now }
 {
     text.iter().all(|byte| is_address_byte(*byte))
 }
 
 fn is_address(text: &[u8]) -> bool
-    ensures { result ≡ fields.is_address text.now }
+    ensures { result ≡ limits.is_address text.now }
 {
     if text.is_empty() || text.len() > LONGEST_ADDRESS {
         return false;

@@ -5,7 +5,7 @@ use Rattle.fedi_town.specs.Built.{are_built}
 use Rattle.fedi_town.specs.Ids.{actor_id}
 use Rattle.fedi_town.specs.Legal.{IsLegal, is_legal_from}
 use Rattle.fedi_town.specs.Rules.{broken_about}
-use Rattle.fedi_town.specs.Shapes.{is_date, is_text, is_type}
+use Rattle.fedi_objects.specs.Limits.{is_date, is_text, is_type}
 use Rattle.fedi_town.specs.Towns.{empty_town, has_name, has_digest, is_by}
 use Rattle.fedi_example.specs.Example.{history}
 

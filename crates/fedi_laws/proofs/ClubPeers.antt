@@ -16,7 +16,7 @@ use Rattle.fedi_town.specs.Queues.{is_of_pair, progress_of, sends, is_at_peer, d
 use Rattle.fedi_town.specs.Relations.{is_about, has_activity_id, is_actor, is_block_of, has_block_between, is_follow_of, is_open_follow, is_following, followers}
 use Rattle.fedi_town.specs.Rules.{broken_about}
 use Rattle.fedi_town.specs.Seeing.{sees_as, is_of_peer, reaches, sees}
-use Rattle.fedi_town.specs.Shapes.{is_text, is_type, is_date}
+use Rattle.fedi_objects.specs.Limits.{is_text, is_type, is_date}
 use Rattle.fedi_town.specs.Showing.{present_object, shown_ref, shown_activity, sight_of}
 use Rattle.fedi_town.specs.States.{is_like_of, is_announce_of, has_room, is_locked, follow_state, can_be_undone, state_of}
 use Rattle.fedi_town.specs.Towns.{has_name, has_id, has_digest, has_host, is_by}

@@ -16,7 +16,8 @@ use Rattle.fedi_town.specs.declared.addition.Addition.TheVariants as additions
 use Rattle.fedi_town.specs.Effects.{acceptance}
 use Rattle.fedi_town.specs.Histories.{with_addition, member_addition, step, town, is_known}
 use Rattle.fedi_town.specs.Ids.{actor_id}
-use Rattle.fedi_town.specs.Legal.{broken_command, is_address, is_admissible, is_legal_from, is_other_host, IsLegal}
+use Rattle.fedi_objects.specs.Limits.{is_address}
+use Rattle.fedi_town.specs.Legal.{broken_command, is_admissible, is_legal_from, is_other_host, IsLegal}
 use Rattle.fedi_town.specs.Towns.{Town, empty_town, has_host, id_of}
 use Rattle.fedi_town.specs.declared.command_fault.CommandFault.{CommandFault}
 use Rattle.fedi_town.specs.declared.command_fault.CommandFault.TheVariants.{HostTaken, BadAddress}

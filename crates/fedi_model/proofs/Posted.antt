@@ -19,7 +19,8 @@ use Rattle.fedi_reading.proofs.KeptLemmas.{named_by, AreNamed, IsMadeOf, type_ke
 use Rattle.fedi_objects.specs.declared.entry.Entry.TheVariants.{Local}
 use Rattle.fedi_town.specs.Built.{is_built}
 use Rattle.fedi_town.specs.Deeds.{deed_of, is_create}
-use Rattle.fedi_town.specs.Shapes.{is_text, is_type, is_none_or, is_each_once, are_addressed, are_same, are_tags, is_posted}
+use Rattle.fedi_objects.specs.Limits.{is_text, is_type}
+use Rattle.fedi_town.specs.Shapes.{is_none_or, is_each_once, are_addressed, are_same, are_tags, is_posted}
 
 -- ---- lists without doubles
 

@@ -1,4 +1,5 @@
 pub mod Forms
 pub mod Keys
 pub mod Kinds
+pub mod Limits
 pub mod Objects

@@ -38,6 +38,38 @@ pub enum Kind {
 impl Kind {
     ghost use Rattle.fedi_objects.specs.Kinds.{kind_number, kind_name, is_create};
 
+    /// All of them, in the order of their numbers.
+    pub const ALL: [Kind; 28] = [
+        Kind::Accept,
+        Kind::Add,
+        Kind::Announce,
+        Kind::Arrive,
+        Kind::Block,
+        Kind::Create,
+        Kind::Delete,
+        Kind::Dislike,
+        Kind::Flag,
+        Kind::Follow,
+        Kind::Ignore,
+        Kind::Invite,
+        Kind::Join,
+        Kind::Leave,
+        Kind::Like,
+        Kind::Listen,
+        Kind::Move,
+        Kind::Offer,
+        Kind::Question,
+        Kind::Read,
+        Kind::Reject,
+        Kind::Remove,
+        Kind::TentativeAccept,
+        Kind::TentativeReject,
+        Kind::Travel,
+        Kind::Undo,
+        Kind::Update,
+        Kind::View,
+    ];
+
     /// The type's place among the 28, from 1 on.
     pub fn number(self) -> u8
         ensures { result ≡ kind_number self }

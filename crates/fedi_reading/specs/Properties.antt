@@ -5,7 +5,7 @@ use Rattle.std.specs.List.{list_any}
 use Rattle.serde_json.specs.Data.{Data, null, string, Items, no_items, item}
 use Rattle.serde_json.specs.Find.{get, at, as_str, as_array}
 use Rattle.fedi_address.specs.Iris.{normal}
-use Rattle.fedi_objects.specs.Kinds.{kind_name}
+use Rattle.fedi_objects.specs.Kinds.{kind_name, kinds}
 use Rattle.fedi_objects.specs.declared.kind.Kind.{Kind}
 use Rattle.fedi_objects.specs.declared.kind.Kind.TheVariants.{Accept, Add, Announce, Arrive, Block, Create, Delete, Dislike, Flag, Follow, Ignore, Invite, Join, Leave, Like, Listen, Move, Offer, Question, Read, Reject, Remove, TentativeAccept, TentativeReject, Travel, Undo, Update, View}
 use Rattle.fedi_reading.specs.declared.shape_fault.ShapeFault.{ShapeFault}
@@ -66,13 +66,6 @@ type_text text = if nat_le 1 (length text) && nat_le (length text) 64 then Some 
 -- the type of a thing: the first, if it has many (Core, section 4.1)
 unfoldable pub type_of : Data → Option (List ℕ)
 type_of d = option_and_then type_text (option_and_then (λ value. as_str (first_of value)) (property (codes "type") d))
-
--- the types of activities (Vocabulary, section 3.1)
-abbrev pub kinds : List Kind
-kinds =
-    Accept ∷ Add ∷ Announce ∷ Arrive ∷ Block ∷ Create ∷ Delete ∷ Dislike ∷ Flag ∷ Follow ∷ Ignore ∷ Invite ∷ Join ∷ Leave
-    ∷ Like ∷ Listen ∷ Move ∷ Offer ∷ Question ∷ Read ∷ Reject ∷ Remove ∷ TentativeAccept ∷ TentativeReject ∷ Travel ∷ Undo
-    ∷ Update ∷ View ∷ []
 
 -- the text is one of these types
 unfoldable pub is_activity_type : List ℕ → Bool

@@ -20,38 +20,6 @@ const LONGEST_TYPE: usize = 64;
 /// The longest text that is kept, in bytes.
 pub(crate) const LONGEST_TEXT: usize = 65_536;
 
-/// The types of activities.
-const KINDS: [Kind; 28] = [
-    Kind::Accept,
-    Kind::Add,
-    Kind::Announce,
-    Kind::Arrive,
-    Kind::Block,
-    Kind::Create,
-    Kind::Delete,
-    Kind::Dislike,
-    Kind::Flag,
-    Kind::Follow,
-    Kind::Ignore,
-    Kind::Invite,
-    Kind::Join,
-    Kind::Leave,
-    Kind::Like,
-    Kind::Listen,
-    Kind::Move,
-    Kind::Offer,
-    Kind::Question,
-    Kind::Read,
-    Kind::Reject,
-    Kind::Remove,
-    Kind::TentativeAccept,
-    Kind::TentativeReject,
-    Kind::Travel,
-    Kind::Undo,
-    Kind::Update,
-    Kind::View,
-];
-
 // The value of a property. One that is null is absent.
 #[tactic(auto, unfolding(crate::specs::Properties::property))]
 pub(crate) fn property<'a>(value: &'a Value, key: &str) -> Option<&'a Value>
@@ -171,7 +139,7 @@ fn type_of(value: &Value) -> Option<&str>
 fn is_activity_type(text: &str) -> bool
     ensures { result ≡ properties.is_activity_type text.now }
 {
-    KINDS.iter().any(|kind| kind.name() == text)
+    Kind::ALL.iter().any(|kind| kind.name() == text)
 }
 
 // Whether a client may post no object of this type: one of activities, or that of a deleted object.

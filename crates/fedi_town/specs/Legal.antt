@@ -7,6 +7,7 @@ use Rattle.fedi_address.specs.Names.{is_name}
 use Rattle.fedi_objects.specs.declared.activity.Activity.{Activity}
 use Rattle.fedi_objects.specs.declared.entry.Entry.{Entry}
 use Rattle.fedi_objects.specs.declared.entry.Entry.TheVariants.{Hosted, Made, PeerSet, Local, Remote, Tried}
+use Rattle.fedi_objects.specs.Limits.{is_address}
 use Rattle.fedi_town.specs.declared.act.Act.{Act}
 use Rattle.fedi_town.specs.declared.act.Peer.{Peer}
 use Rattle.fedi_town.specs.declared.caller.Caller.{Caller}
@@ -54,20 +55,12 @@ abbrev pub may_deliver : Town → Option Peer → Activity → Bool
 may_deliver t None a = false
 may_deliver t (Some p) a = not (is_foreign t.host p a.actor a.id a.object)
 
--- ---- hosts and addresses
+-- ---- hosts
 
 -- another host than this server's
 abbrev pub is_other_host : Option (List ℕ) → List ℕ → Bool
 is_other_host None host = false
 is_other_host (Some own) host = not (bytes_eq host own)
-
--- a byte of ASCII that shows, and no space
-abbrev pub is_address_byte : ℕ → Bool
-is_address_byte b = nat_le 33 b && nat_le b 126
-
--- where a peer is reached: 1 to 255 such bytes
-abbrev pub is_address : List ℕ → Bool
-is_address text = (nat_le 1 (length text) && nat_le (length text) 255) && list_all is_address_byte text
 
 -- ---- an operator's command
 

@@ -13,27 +13,12 @@ use Rattle.fedi_objects.specs.declared.object.Edit.{Edit}
 use Rattle.fedi_objects.specs.declared.object.Edit.TheVariants.{Keep, Remove, Give}
 use Rattle.fedi_objects.specs.declared.object.Object.{Object}
 use Rattle.fedi_objects.specs.declared.object.Tag.{Tag}
+use Rattle.fedi_objects.specs.Limits.{is_date, is_text, is_type}
 use Rattle.fedi_town.specs.declared.deed.Deed.{Deed}
 use Rattle.fedi_town.specs.Deeds.{deed_of, is_create, is_update, is_follow, is_block, is_other}
 use Rattle.fedi_town.specs.Relations.{ref_id, is_id}
 
 -- ---- limits
-
--- the text has at most 65,536 bytes
-unfoldable pub is_text : List ℕ → Bool
-is_text text = nat_le (length text) 65536
-
--- a type: 1 to 64 bytes
-unfoldable pub is_type : List ℕ → Bool
-is_type text = nat_le 1 (length text) && nat_le (length text) 64
-
--- a byte of ASCII that shows, or a space
-abbrev pub is_date_byte : ℕ → Bool
-is_date_byte b = nat_le 32 b && nat_le b 126
-
--- a date as it was given: at most 64 such bytes
-unfoldable pub is_date : List ℕ → Bool
-is_date text = nat_le (length text) 64 && list_all is_date_byte text
 
 -- where there is one, it passes
 abbrev pub is_none_or : (List ℕ → Bool) → Option (List ℕ) → Bool
