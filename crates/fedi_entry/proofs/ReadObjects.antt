@@ -5,7 +5,7 @@ use Rattle.std.proofs.lemmas.Bool.{and_parts}
 use Rattle.std.proofs.lemmas.Bool.Decides.{nat_tests}
 use Rattle.std.specs.List.{list_all}
 use Rattle.fedi_address.specs.Iris.{normal}
-use Rattle.fedi_objects.specs.Kinds.{kind_number}
+use Rattle.fedi_objects.specs.Kinds.{kind_number, kinds as all_kinds}
 use Rattle.fedi_objects.specs.declared.activity.ObjectRef.{ObjectRef}
 use Rattle.fedi_objects.specs.declared.activity.ObjectRef.TheVariants.{Nothing, Id, Whole, Changed}
 use Rattle.fedi_objects.specs.declared.kind.Kind.{Kind}
@@ -20,7 +20,7 @@ use Rattle.fedi_entry.specs.declared.read_objects.Words.{Words}
 use Rattle.fedi_entry.specs.Codes.{text_code, option_code, list_code, tag_code, hidden_code, recipients_code, words_code, object_head, object_words, object_times, object_code, edits_code, change_code, object_ref_code, activity_head, activity_words, activity_code}
 use Rattle.fedi_objects.specs.Limits.{is_text, is_date, is_type, is_date_byte}
 use Rattle.fedi_entry.specs.Fields.{is_iri, is_own, AreRecipients, AreWords, IfDate, IfGiven, IfIri, IsActivity, IsChange, IsList, IsObject, IsObjectRef, IsTag, IsText}
-use Rattle.fedi_entry.specs.Reading.{◌>>=◌, made_of, Read, byte_at, text_at, iri_at, content_at, date_at, list_at, tag_at, recipients_at, words_at, object_head_at, object_words_at, object_times_at, object_of, object_at, changed_words_at, change_of, change_at, object_ref_at, all_kinds, kind_of, some_or, kind_at, activity_head_at, activity_words_at, activity_of, activity_at}
+use Rattle.fedi_entry.specs.Reading.{◌>>=◌, made_of, Read, byte_at, text_at, iri_at, content_at, date_at, list_at, tag_at, recipients_at, words_at, object_head_at, object_words_at, object_times_at, object_of, object_at, changed_words_at, change_of, change_at, object_ref_at, kind_of, some_or, kind_at, activity_head_at, activity_words_at, activity_of, activity_at}
 use Rattle.fedi_entry.proofs.ReadingLemmas.{Reads, IsBytes, bind_ok, pair_reads, whole_reads, made_takes, text_reads, byte_is, choice_ok, said, option_reads, edit_reads, list_reads}
 
 -- ---- texts
