@@ -3,17 +3,18 @@ ghost use Rattle.std.specs.Prelude.{IsTrue};
 ghost use Rattle.fedi_town.specs.Built.{are_built};
 ghost use Rattle.fedi_town.specs.Legal.{IsLegal};
 
-use crate::program::{SECONDS, USAGE, push_copies, younger_town};
+use crate::program::{SECONDS, USAGE, younger_town};
 use fedi_objects::Entry;
 use fedi_outside::{FixedClock, MemoryEntropy, MemoryKeeper, MemorySink, MemorySource};
 use fedi_program::{Connection, run};
 use std::alloc::{AllocError, Global};
 use std::test::Fail;
 
-/// A run: its arguments, what lies outside, and what it leaves.
+/// A run: its words, and what lies outside.
 #[derive(Clone, Copy)]
 struct Case<'a> {
-    arguments: &'a [&'a str],
+    /// The words, each but the first behind a space.
+    words: &'a str,
     /// How much of the example town it begins with: the host and its members are 5 entries.
     entries: usize,
     /// The bytes that keys are drawn from, and which draws fail.
@@ -23,10 +24,19 @@ struct Case<'a> {
     end: u64,
     failing_keeps: &'a [u64],
     failing_writes: &'a [u64],
-    status: u8,
-    printed: &'a str,
-    /// The one record that is kept, if one is.
-    kept: Option<&'a [u8]>,
+}
+
+/// A run with these words, at which nothing fails.
+fn calm(words: &str) -> Case<'_> {
+    Case {
+        words,
+        entries: 5,
+        drawn: KEY,
+        failing_draws: &[],
+        end: 0,
+        failing_keeps: &[],
+        failing_writes: &[],
+    }
 }
 
 const KEY: &[u8] = b"0123456789abcdefghijklmnopqrstuv";
@@ -38,197 +48,118 @@ const UNLOCKED: &[u8] =
 const LOCKED: &[u8] =
     b"\x02\0\0\0\x03eva\x73\x33\x7f\x47\x9f\xe1\x70\xd7\x3e\x53\xe2\x47\xf3\x05\x2e\x42\x43\xcc\x9c\x2a\x0f\xfa\x62\x18\x53\xd9\x38\x5c\x61\x9e\xfb\x77\x01\0\0\0\0\x2e\xbc\x98\xa1";
 
-/// A run that makes eva, at which nothing fails.
-const EVA: Case = Case {
-    arguments: &["add-actor", "s", "eva"],
-    entries: 5,
-    drawn: KEY,
-    failing_draws: &[],
-    end: 0,
-    failing_keeps: &[],
-    failing_writes: &[],
-    status: 0,
-    printed: "eva 303132333435363738396162636465666768696a6b6c6d6e6f70717273747576\n",
-    kept: Some(UNLOCKED),
-};
+/// The line that tells her key.
+const EVA: &str = "eva 303132333435363738396162636465666768696a6b6c6d6e6f70717273747576\n";
 
-/// The same of eva as locked.
-const LOCKED_EVA: Case = Case {
-    kept: Some(LOCKED),
-    ..EVA
-};
+/// No record.
+const NOTHING: &[u8] = &[];
 
-/// A run whose arguments are not accepted.
-const NOT_ACCEPTED: Case = Case {
-    status: 2,
-    printed: USAGE,
-    kept: None,
-    ..EVA
-};
+/// Words, and the status, what is printed, and the record that is kept.
+const WORDS: [(&str, u8, &str, &[u8]); 17] = [
+    ("add-actor s eva", 0, EVA, UNLOCKED),
+    ("add-actor --locked s eva", 0, EVA, LOCKED),
+    ("add-actor s --locked eva", 0, EVA, LOCKED),
+    ("add-actor s eva --locked", 0, EVA, LOCKED),
+    ("add-actor", 2, USAGE, NOTHING),
+    ("add-actor s", 2, USAGE, NOTHING),
+    ("add-actor s --locked", 2, USAGE, NOTHING),
+    ("add-actor s a b", 2, USAGE, NOTHING),
+    ("add-actor --locked --locked s x", 2, USAGE, NOTHING),
+    ("add-actor --locked s x --locked", 2, USAGE, NOTHING),
+    ("add-actor s x --lock", 2, USAGE, NOTHING),
+    ("add-actor -- s x", 2, USAGE, NOTHING),
+    ("add-actor -s x", 2, USAGE, NOTHING),
+    ("fly s", 2, USAGE, NOTHING),
+    ("add-actor s Ana", 10, "refused: bad name\n", NOTHING),
+    ("add-actor s ", 10, "refused: bad name\n", NOTHING),
+    ("add-actor s ana", 10, "refused: name taken\n", NOTHING),
+];
 
-/// A run that keeps nothing.
-const REFUSED: Case = Case {
-    status: 10,
-    kept: None,
-    ..EVA
-};
+/// Ana's key, and too few bytes for one.
+const ANAS_KEY: &[u8] = &[0; 32];
 
-const CASES: [Case; 32] = [
-    EVA,
-    Case {
-        arguments: &["add-actor", "--locked", "s", "eva"],
-        ..LOCKED_EVA
-    },
-    Case {
-        arguments: &["add-actor", "s", "--locked", "eva"],
-        ..LOCKED_EVA
-    },
-    Case {
-        arguments: &["add-actor", "s", "eva", "--locked"],
-        ..LOCKED_EVA
-    },
-    Case {
-        arguments: &["add-actor"],
-        ..NOT_ACCEPTED
-    },
-    Case {
-        arguments: &["add-actor", "s"],
-        ..NOT_ACCEPTED
-    },
-    Case {
-        arguments: &["add-actor", "s", "--locked"],
-        ..NOT_ACCEPTED
-    },
-    Case {
-        arguments: &["add-actor", "s", "a", "b"],
-        ..NOT_ACCEPTED
-    },
-    Case {
-        arguments: &["add-actor", "--locked", "--locked", "s", "x"],
-        ..NOT_ACCEPTED
-    },
-    Case {
-        arguments: &["add-actor", "--locked", "s", "x", "--locked"],
-        ..NOT_ACCEPTED
-    },
-    Case {
-        arguments: &["add-actor", "s", "x", "--lock"],
-        ..NOT_ACCEPTED
-    },
-    Case {
-        arguments: &["add-actor", "--", "s", "x"],
-        ..NOT_ACCEPTED
-    },
-    Case {
-        arguments: &["add-actor", "-s", "x"],
-        ..NOT_ACCEPTED
-    },
-    Case {
-        arguments: &["fly", "s"],
-        ..NOT_ACCEPTED
-    },
-    Case {
-        arguments: &["add-actor", "s", "Ana"],
-        printed: "refused: bad name\n",
-        ..REFUSED
-    },
-    Case {
-        arguments: &["add-actor", "s", ""],
-        printed: "refused: bad name\n",
-        ..REFUSED
-    },
-    Case {
-        arguments: &["add-actor", "s", "ana"],
-        printed: "refused: name taken\n",
-        ..REFUSED
-    },
-    // Ana's key is drawn, which is 32 bytes 0, and then her name is taken too.
-    Case {
-        drawn: &[0; 32],
-        printed: "refused: key taken\n",
-        ..REFUSED
-    },
-    Case {
-        arguments: &["add-actor", "s", "ana"],
-        drawn: &[0; 32],
-        printed: "refused: name taken\n",
-        ..REFUSED
-    },
-    // No key can be drawn, which comes before the name and the keeper.
-    Case {
-        failing_draws: &[0],
-        status: 6,
-        printed: "",
-        ..REFUSED
-    },
-    Case {
-        arguments: &["add-actor", "s", "Ana"],
-        drawn: &[0; 31],
-        end: 4_611_686_018_427_387_904,
-        status: 6,
-        printed: "",
-        ..REFUSED
-    },
+const TOO_FEW: &[u8] = &[0; 31];
+
+/// Words, how much of the example town there is, the bytes that keys are drawn from, and the status, what is printed, and the record
+/// that is kept.
+const DRAWS: [(&str, usize, &[u8], u8, &str, &[u8]); 7] = [
+    (
+        "add-actor s eva",
+        5,
+        ANAS_KEY,
+        10,
+        "refused: key taken\n",
+        NOTHING,
+    ),
+    (
+        "add-actor s ana",
+        5,
+        ANAS_KEY,
+        10,
+        "refused: name taken\n",
+        NOTHING,
+    ),
+    // No key can be drawn, which comes before the name.
+    ("add-actor s eva", 5, TOO_FEW, 6, "", NOTHING),
+    ("add-actor s Ana", 5, TOO_FEW, 6, "", NOTHING),
     // There is no host, which comes before the draw.
-    Case {
-        entries: 0,
-        status: 3,
-        printed: "not a store\n",
-        ..REFUSED
-    },
-    Case {
-        entries: 0,
-        failing_draws: &[0],
-        status: 3,
-        printed: "not a store\n",
-        ..REFUSED
-    },
+    ("add-actor s eva", 0, TOO_FEW, 3, "not a store\n", NOTHING),
     // The host alone is enough, and members may have gone before.
-    Case { entries: 1, ..EVA },
-    Case { entries: 7, ..EVA },
+    ("add-actor s eva", 1, KEY, 0, EVA, UNLOCKED),
+    ("add-actor s eva", 7, KEY, 0, EVA, UNLOCKED),
+];
+
+/// No call fails, or the first does, or the second.
+const NEVER: &[u64] = &[];
+
+const FIRST: &[u64] = &[0];
+
+const SECOND: &[u64] = &[1];
+
+/// Words, where the keeper ends, which of its calls fail and which writes, and the status, what is printed, and the record that is
+/// kept.
+const FAULTS: [(&str, u64, &[u64], &[u64], u8, &str, &[u8]); 7] = [
     // The record has 49 bytes: the end has to be 59 below the limit.
-    Case {
-        end: 4_611_686_018_427_387_845,
-        ..EVA
-    },
-    Case {
-        end: 4_611_686_018_427_387_846,
-        status: 13,
-        printed: "full\n",
-        ..REFUSED
-    },
-    Case {
-        failing_keeps: &[0],
-        status: 5,
-        printed: "disk fault\n",
-        ..REFUSED
-    },
-    Case {
-        failing_keeps: &[1],
-        status: 5,
-        printed: "disk fault\n",
-        ..REFUSED
-    },
+    (
+        "add-actor s eva",
+        4_611_686_018_427_387_845,
+        NEVER,
+        NEVER,
+        0,
+        EVA,
+        UNLOCKED,
+    ),
+    (
+        "add-actor s eva",
+        4_611_686_018_427_387_846,
+        NEVER,
+        NEVER,
+        13,
+        "full\n",
+        NOTHING,
+    ),
+    (
+        "add-actor s eva",
+        0,
+        FIRST,
+        NEVER,
+        5,
+        "disk fault\n",
+        NOTHING,
+    ),
+    (
+        "add-actor s eva",
+        0,
+        SECOND,
+        NEVER,
+        5,
+        "disk fault\n",
+        NOTHING,
+    ),
     // A write fails: the member was made, and a status that a text would tell stays.
-    Case {
-        failing_writes: &[1],
-        status: 7,
-        printed: "eva 30",
-        ..EVA
-    },
-    Case {
-        arguments: &["add-actor", "s", "ana"],
-        failing_writes: &[1],
-        printed: "refuse",
-        ..REFUSED
-    },
-    Case {
-        failing_keeps: &[1],
-        failing_writes: &[0],
-        status: 5,
-        printed: "",
-        ..REFUSED
-    },
+    ("add-actor s eva", 0, NEVER, SECOND, 7, "eva 30", UNLOCKED),
+    ("add-actor s ana", 0, NEVER, SECOND, 10, "refuse", NOTHING),
+    ("add-actor s eva", 0, SECOND, FIRST, 5, "", NOTHING),
 ];
 
 /// What a run left: its status, how many entries came back, what it kept and what it wrote.
@@ -287,7 +218,9 @@ fn left_in(
 
 fn left_by(alloc: Global, case: &Case) -> Result<Left, AllocError> {
     let mut arguments = Vec::new(alloc);
-    push_copies(alloc, &mut arguments, case.arguments)?;
+    for word in case.words.split(' ') {
+        arguments.push(String::from_str(alloc, word)?)?;
+    }
     let failing = case.failing_keeps.to_vec(alloc)?;
     let keeper = MemoryKeeper::at(alloc, case.end).failing(failing);
     let connection = connection_of(alloc, case)?;
@@ -296,36 +229,88 @@ fn left_by(alloc: Global, case: &Case) -> Result<Left, AllocError> {
     Ok(left_in(alloc, &arguments, connection, history, keeper, entropy))
 }
 
-/// Whether these records are the one that is to be kept, or none.
-fn has_kept(keeper: &MemoryKeeper, kept: Option<&[u8]>) -> bool {
-    match (keeper.records(), kept) {
-        ([], None) => true,
-        ([record], Some(kept)) => record.bytes() == kept,
+/// Whether the keeper has this record alone, or none.
+fn has_kept(keeper: &MemoryKeeper, kept: &[u8]) -> bool {
+    match keeper.records() {
+        [] => kept.is_empty(),
+        [record] => record.bytes() == kept,
         _ => false,
     }
 }
 
-fn is_left(left: &Left, case: &Case) -> bool {
-    left.status == case.status
-        && left.out.bytes() == case.printed.as_bytes()
-        && has_kept(&left.keeper, case.kept)
-        && left.entries.checked_sub(left.keeper.records().len()) == Some(case.entries)
+/// Whether a run ends with this status, prints this, and keeps this record or none.
+fn ends(
+    alloc: Global,
+    case: &Case,
+    status: u8,
+    printed: &str,
+    kept: &[u8],
+) -> Result<bool, AllocError> {
+    let left = left_by(alloc, case)?;
+    Ok(
+        left.status == status
+            && left.out.bytes() == printed.as_bytes()
+            && has_kept(&left.keeper, kept)
+            && left.entries.checked_sub(left.keeper.records().len()) == Some(case.entries),
+    )
 }
 
-fn ends(alloc: Global, case: &Case) -> Result<bool, AllocError> {
-    let left = left_by(alloc, case)?;
-    Ok(is_left(&left, case))
+fn has_words(alloc: Global, row: &(&str, u8, &str, &[u8])) -> Result<bool, AllocError> {
+    let (words, status, printed, kept) = *row;
+    ends(alloc, &calm(words), status, printed, kept)
 }
 
 #[test]
-fn a_member_is_made_or_the_first_reason_is_told(rt: HostRuntime) -> Result<(), Fail> {
-    for case in &CASES {
-        assert!(rt;
-            ends(rt.alloc(), case)?,
-            "{:?} {}",
-            case.arguments,
-            case.status
-        );
+fn words_make_a_member_or_are_refused(rt: HostRuntime) -> Result<(), Fail> {
+    for row in &WORDS {
+        assert!(rt; has_words(rt.alloc(), row)?, "{}", row.0);
+    }
+    Ok(())
+}
+
+fn has_drawn(
+    alloc: Global,
+    row: &(&str, usize, &[u8], u8, &str, &[u8]),
+    failing_draws: &[u64],
+) -> Result<bool, AllocError> {
+    let (words, entries, drawn, status, printed, kept) = *row;
+    let case = Case {
+        entries,
+        drawn,
+        failing_draws,
+        ..calm(words)
+    };
+    ends(alloc, &case, status, printed, kept)
+}
+
+#[test]
+fn a_key_is_drawn_that_nobody_has(rt: HostRuntime) -> Result<(), Fail> {
+    for row in &DRAWS {
+        assert!(rt; has_drawn(rt.alloc(), row, NEVER)?, "{} {}", row.0, row.3);
+    }
+    let fails = ("add-actor s eva", 5, KEY, 6, "", NOTHING);
+    assert!(rt; has_drawn(rt.alloc(), &fails, FIRST)?);
+    Ok(())
+}
+
+fn has_outside(
+    alloc: Global,
+    row: &(&str, u64, &[u64], &[u64], u8, &str, &[u8]),
+) -> Result<bool, AllocError> {
+    let (words, end, failing_keeps, failing_writes, status, printed, kept) = *row;
+    let case = Case {
+        end,
+        failing_keeps,
+        failing_writes,
+        ..calm(words)
+    };
+    ends(alloc, &case, status, printed, kept)
+}
+
+#[test]
+fn a_member_is_kept_and_then_told(rt: HostRuntime) -> Result<(), Fail> {
+    for row in &FAULTS {
+        assert!(rt; has_outside(rt.alloc(), row)?, "{} {}", row.0, row.4);
     }
     Ok(())
 }
