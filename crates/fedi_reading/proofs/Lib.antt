@@ -1,3 +1,4 @@
+pub mod ActivityFaultLemmas
 pub mod FaultLemmas
 pub mod KeptLemmas
 pub mod ReadingLemmas

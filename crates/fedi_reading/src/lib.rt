@@ -3,6 +3,7 @@
 
 mod audience;
 mod body;
+mod need;
 mod posted;
 mod properties;
 mod shape_fault;
