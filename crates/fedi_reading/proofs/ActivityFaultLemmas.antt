@@ -17,7 +17,7 @@ use Rattle.fedi_reading.specs.Properties.{text_at, entries_at, property, referen
 use Rattle.fedi_reading.specs.Reading.{is_bad, recipient_of, distinct, reads_entries, all_entries, reads_iri, reads_reply, reads_people, reads_words, reads_posted}
 use Rattle.fedi_reading.specs.Shapes.{◌>>=◌, Gives}
 use Rattle.fedi_reading.specs.Faults.{is_bad_reference, is_bad_reply, has_fault, faults, first_fault}
-use Rattle.fedi_reading.specs.Activities.{kind_named, kind_of, need_of, object_at, itself, embedded, id_of, object_id, needed, reads_address, reads_target, new_type, reads_new_type, entries_of_both, reads_all_recipients, is_crowd, reads_audience, reads_creation, reads_create, reads_changes, reads_update, needs_id, named_object, is_oneself, reads_other, reads_by_need, reads_kind, reads_activity}
+use Rattle.fedi_reading.specs.Activities.{kind_named, kind_of, need_of, object_at, itself, embedded, id_of, object_id, needed, reads_address, reads_target, new_type, reads_new_type, entries_of_both, reads_all_recipients, is_crowd, reads_audience, reads_creation, reads_create, reads_changes, reads_update, needs_id, reads_id, is_oneself, reads_other, reads_by_need, reads_kind, reads_activity}
 use Rattle.fedi_reading.specs.ActivityFaults.{is_unmade, lacks_object, has_bad_entry, named_by_both, union, crowds, is_self, has_activity_fault, has_post_fault, first_post_fault}
 use Rattle.fedi_reading.specs.declared.need.Need.{Need}
 use Rattle.fedi_reading.specs.declared.need.Need.TheVariants.{Whole, Change, Another, Anything}
@@ -209,47 +209,43 @@ in_order_other false false false false false true wd self = refl
 in_order_other false false false false false false true self = refl
 in_order_other false false false false false false false self = refl
 
-id_fault : (r : Result (List ℕ) ShapeFault) → result_err (r >>= λ id. Ok (Id id)) ≡ result_err r
-id_fault (Ok id) = refl
-id_fault (Err e) = refl
+id_fault : (need : Need) (reference : Option (List ℕ)) → result_err (reads_id need reference) ≡ cond (needs_id need && is_none reference) (Some NoObject) (only (is_bad_reference reference) BadIri)
+unfolding reads_id
+id_fault need reference =
+    elim (needs_id need && is_none reference) as (λ b. result_err (cond b (Err NoObject) (reads_iri reference)) ≡ cond b (Some NoObject) (only (is_bad_reference reference) BadIri))
+    [ true ↦ refl | false ↦ named_fault reference ]
 
-object_fault : (need : Need) (reference : Option (List ℕ)) → result_err (named_object need reference) ≡ cond (needs_id need && is_none reference) (Some NoObject) (only (is_bad_reference reference) BadIri)
-object_fault need None = elim (needs_id need) as (λ b. result_err (cond b (Err NoObject) (Ok Nothing)) ≡ cond (b && true) (Some NoObject) None) [ true ↦ refl | false ↦ refl ]
-object_fault need (Some text) =
-    elim (needs_id need) as (λ b. result_err (named_object need (Some text)) ≡ cond (b && false) (Some NoObject) (only (is_bad_reference (Some text)) BadIri))
-    [ true ↦ id_fault (reads_address text) ∙ address_fault text | false ↦ id_fault (reads_address text) ∙ address_fault text ]
+read_is : (reference id : Option (List ℕ)) → reads_iri reference ≡ Ok id → id ≡ option_and_then iri reference
+read_is None id h = let same : None ≡ id = cc in sym same
+read_is (Some text) id h =
+    elim (iri text) as (λ o. cond (is_some o) (Ok o) (Err BadIri) ≡ Ok id → id ≡ o) [ None ↦ λ h. absurd cc | Some i ↦ λ h. cc ] h
 
--- the address that is read is compared with the author
-abbrev is_named : List ℕ → Option (List ℕ) → Bool
-is_named author reference = option_map_or (λ id. bytes_eq id author) (option_and_then iri reference) false
+id_is : (need : Need) (reference id : Option (List ℕ)) → reads_id need reference ≡ Ok id → id ≡ option_and_then iri reference
+unfolding reads_id
+id_is need reference id =
+    elim (needs_id need && is_none reference) as (λ b. cond b (Err NoObject) (reads_iri reference) ≡ Ok id → id ≡ option_and_then iri reference)
+    [ true ↦ λ h. absurd cc | false ↦ read_is reference id ]
 
-address_is : (text id : List ℕ) → reads_address text ≡ Ok id → iri text ≡ Some id
-unfolding reads_address
-address_is text id = elim (iri text) as (λ o. option_map_or Ok o (Err BadIri) ≡ Ok id → o ≡ Some id) [ None ↦ λ h. absurd cc | Some i ↦ λ h. cc ]
+another_is : (author : List ℕ) (id : Option (List ℕ)) → is_oneself author Another id ≡ option_map_or (λ i. bytes_eq i author) id false
+another_is author None = refl
+another_is author (Some i) = refl
 
-another_is : (author : List ℕ) (reference : Option (List ℕ)) (about : ObjectRef) → named_object Another reference ≡ Ok about → is_oneself author Another about ≡ is_named author reference
-another_is author None about h = absurd cc
-another_is author (Some text) about h =
-    let found = then_ok (reads_address text) (λ id. Ok (Id id)) about h in
-    let whole : Id found.0 ≡ about = cc in
-    subst (λ (a : ObjectRef). is_oneself author Another a ≡ is_named author (Some text)) whole (rw (address_is text found.0 found.1) refl)
-
-self_is : (author : List ℕ) (need : Need) (d : Data) (about : ObjectRef) → named_object need (object_id d) ≡ Ok about → is_oneself author need about ≡ is_self author need d
-self_is author Whole d about h = refl
-self_is author Change d about h = refl
-self_is author Another d about h = another_is author (object_id d) about h
-self_is author needs.Id d about h = refl
-self_is author Anything d about h = refl
+self_is : (author : List ℕ) (need : Need) (d : Data) (id : Option (List ℕ)) → reads_id need (object_id d) ≡ Ok id → is_oneself author need id ≡ is_self author need d
+self_is author Whole d id h = refl
+self_is author Change d id h = refl
+self_is author Another d id h = rw (← id_is Another (object_id d) id h) (another_is author id)
+self_is author needs.Id d id h = refl
+self_is author Anything d id h = refl
 
 other_fault : (author : List ℕ) (kind : Kind) (need : Need) (d : Data) → result_err (reads_other author kind need d)
     ≡ cond (needs_id need && is_none (object_id d)) (Some NoObject) (cond (is_bad_reference (object_id d) || (is_bad_reference (reference_at (codes "target") d) || (false || (is_bad_reply d || (has_bad_entry d || false))))) (Some BadIri) (cond (has_fault d TooManyRecipients || false) (Some TooManyRecipients) (cond (has_fault d BadText || false) (Some BadText) (only (is_self author need d) SelfTarget))))
 unfolding reads_other
 other_fault author kind need d =
-    then_known (named_object need (object_id d)) _ _ _ (object_fault need (object_id d))
-    (λ about given. then_fault (reads_target d) _ _ _ (target_fault d)
+    then_known (reads_id need (object_id d)) _ _ _ (id_fault need (object_id d))
+    (λ id given. then_fault (reads_target d) _ _ _ (target_fault d)
     (λ target. then_fault (reads_people d) _ _ _ (people_fault d)
     (λ people. then_fault (reads_words d) _ _ (only (is_self author need d) SelfTarget) (words_fault d)
-    (λ words. ended_fault (is_oneself author need about) SelfTarget _ ∙ ap (λ b. only b SelfTarget) (self_is author need d about given)))))
+    (λ words. ended_fault (is_oneself author need id) SelfTarget _ ∙ ap (λ b. only b SelfTarget) (self_is author need d id given)))))
     ∙ in_order_other (needs_id need && is_none (object_id d)) _ _ (is_bad_reply d) (has_bad_entry d) (has_fault d TooManyRecipients) (has_fault d BadText) _
 
 -- ---- the whole

@@ -232,24 +232,28 @@ abbrev pub needs_id : Need → Bool
 needs_id needs.Anything = false
 needs_id need = true
 
--- what is named by this text, or nothing if nothing is needed
-abbrev pub named_object : Need → Option (List ℕ) → Result ObjectRef ShapeFault
-named_object need None = if needs_id need then Err NoObject else Ok Nothing
-named_object need (Some text) = reads_address text >>= λ id. Ok (Id id)
+-- the `id` of what the activity is about
+unfoldable pub reads_id : Need → Option (List ℕ) → Result (Option (List ℕ)) ShapeFault
+reads_id need reference = if needs_id need && is_none reference then Err NoObject else reads_iri reference
 
 -- the author follows or blocks the author
-abbrev pub is_oneself : List ℕ → Need → ObjectRef → Bool
-is_oneself author needs.Another (Id id) = bytes_eq id author
-is_oneself author need about = false
+abbrev pub is_oneself : List ℕ → Need → Option (List ℕ) → Bool
+is_oneself author needs.Another (Some id) = bytes_eq id author
+is_oneself author need id = false
+
+-- a thing by its `id`, if there is one
+abbrev pub thing : Option (List ℕ) → ObjectRef
+thing None = Nothing
+thing (Some id) = Id id
 
 -- an activity of another type: of its object the `id` is kept
 unfoldable pub reads_other : List ℕ → Kind → Need → Data → Result Activity ShapeFault
 reads_other author kind need d = do
-  about ← named_object need (object_id d)
+  id ← reads_id need (object_id d)
   target ← reads_target d
   people ← reads_people d
   words ← reads_words d
-  if is_oneself author need about then Err SelfTarget else Ok (said kind about target people words (tags_of d))
+  if is_oneself author need id then Err SelfTarget else Ok (said kind (thing id) target people words (tags_of d))
 
 -- ---- the whole
 

@@ -8,9 +8,10 @@ ghost use Rattle.fedi_reading.specs.Faults.{first_fault};
 ghost use Rattle.fedi_reading.specs.Reading as reading;
 ghost use Rattle.fedi_reading.specs.Shapes.{Gives};
 
-use crate::audience::{check_recipients, entry_count, read_recipients};
+use crate::audience::{MOST_ENTRIES, check_recipients, entry_count, read_recipients};
 use crate::properties::{
-    LONGEST_TEXT, entries_at, has_context, iri_of, read_text, read_type, reference_at, text_at,
+    LONGEST_TEXT, entries_at, has_context, iri_of, read_iri, read_text, read_type, reference_at,
+    text_at,
 };
 use crate::shape_fault::ShapeFault;
 use fedi_address::{Iri, Items, Recipients};
@@ -19,21 +20,12 @@ use fedi_text::Text;
 use serde_json::Value;
 use std::alloc::{AllocError, Global};
 
-/// The most entries that the five fields of recipients may have, as they are written.
-const MOST_ENTRIES: usize = 500;
-
 // What an object replies to.
 #[tactic(auto, unfolding(crate::specs::Reading::reads_reply))]
 fn read_reply(alloc: Global, value: &Value) -> Result<Option<Iri>, ShapeFault>
     ensures { Gives result (reading.reads_reply (view value.now)) }
 {
-    let Some(text) = reference_at(value, "inReplyTo") else {
-        return Ok(None);
-    };
-    match iri_of(alloc, text)? {
-        Some(iri) => Ok(Some(iri)),
-        None => Err(ShapeFault::BadIri),
-    }
+    read_iri(alloc, reference_at(value, "inReplyTo"))
 }
 
 // What an object replies to, and whom it is for.
