@@ -17,7 +17,7 @@ use Rattle.fedi_reading.specs.Properties.{text_at, entries_at, property, referen
 use Rattle.fedi_reading.specs.Reading.{is_bad, recipient_of, distinct, reads_entries, all_entries, reads_iri, reads_reply, reads_people, reads_words, reads_posted}
 use Rattle.fedi_reading.specs.Shapes.{◌>>=◌, Gives}
 use Rattle.fedi_reading.specs.Faults.{is_bad_reference, is_bad_reply, has_fault, faults, first_fault}
-use Rattle.fedi_reading.specs.Activities.{kind_named, kind_of, need_of, object_at, itself, embedded, id_of, object_id, needed, reads_address, reads_target, new_type, reads_new_type, entries_of_both, reads_all_recipients, is_crowd, reads_audience, reads_creation, reads_create, reads_changes, reads_update, needs_id, reads_id, is_oneself, reads_other, reads_by_need, reads_kind, reads_activity}
+use Rattle.fedi_reading.specs.Activities.{kind_named, kind_of, need_of, object_at, itself, embedded, id_of, object_id, needed, reads_address, reads_target, new_type, reads_new_type, entries_of_both, reads_all_recipients, is_crowd, reads_audience, reads_creation, reads_create, reads_own_id, reads_changes, reads_update, needs_id, reads_id, is_oneself, reads_other, reads_by_need, reads_kind, reads_activity}
 use Rattle.fedi_reading.specs.ActivityFaults.{is_unmade, lacks_object, has_bad_entry, named_by_both, union, crowds, is_self, has_activity_fault, has_post_fault, first_post_fault}
 use Rattle.fedi_reading.specs.declared.need.Need.{Need}
 use Rattle.fedi_reading.specs.declared.need.Need.TheVariants.{Whole, Change, Another, Anything}
@@ -134,6 +134,21 @@ audience_fault d o =
     (λ r h. ended_fault (is_crowd d o r) TooManyRecipients r ∙ ap (λ x. only (is_crowd d o x) TooManyRecipients) (all_recipients d o r h))
     ∙ or_cond (has_bad_entry d || has_bad_entry o) BadIri _
 
+-- one of either's entries is bad
+pub bad_audience : (d o : Data) → (has_bad_entry d || has_bad_entry o) ≡ true → reads_audience d o ≡ Err BadIri
+bad_audience d o h = fault_of (reads_audience d o) BadIri (audience_fault d o ∙ rw h refl)
+
+or_front : (a b c : Bool) → (a || b) ≡ true → (a || (b || c)) ≡ true
+or_front true b c h = refl
+or_front false true c h = refl
+or_front false false c h = absurd cc
+
+-- one of the two has too many entries, and none is bad
+pub crowded_audience : (d o : Data) → has_bad_entry d ≡ false → has_bad_entry o ≡ false → (has_fault d TooManyRecipients || has_fault o TooManyRecipients) ≡ true → reads_audience d o ≡ Err TooManyRecipients
+crowded_audience d o h k crowd =
+    fault_of (reads_audience d o) TooManyRecipients (audience_fault d o
+    ∙ rw (h, k, or_front (has_fault d TooManyRecipients) (has_fault o TooManyRecipients) (nat_lt 500 (length (all_of (union d o)))) crowd) refl)
+
 -- ---- the faults of an activity, in their order
 
 -- the tests of a Create: type, address, target, replies, entries, crowd, words
@@ -163,39 +178,36 @@ creation_fault d o =
     (λ words. then_fault (reads_words o) _ _ None (words_fault o) (λ object_words. refl) ∙ or_none (has_fault o BadText) BadText)))))))
     ∙ in_order_create (is_unmade o) _ _ (is_bad_reply o) (is_bad_reply d) (has_bad_entry d || has_bad_entry o) (has_fault d TooManyRecipients || crowds d o) (has_fault d BadText) (has_fault o BadText)
 
--- the tests of an Update: address, target, replies and entries, crowd, words
-in_order_update : (i g ro rd bad m wd wo : Bool) → option_or (only i BadIri) (option_or (only g BadIri) (option_or (only ro BadIri) (option_or (cond (rd || bad) (Some BadIri) (only m TooManyRecipients)) (option_or (only wd BadText) (only wo BadText)))))
-    ≡ cond (i || (g || (ro || (rd || (bad || false))))) (Some BadIri) (cond (m || false) (Some TooManyRecipients) (only (wd || wo) BadText))
-in_order_update true g ro rd bad m wd wo = refl
-in_order_update false true ro rd bad m wd wo = refl
-in_order_update false false true rd bad m wd wo = refl
-in_order_update false false false true bad m wd wo = refl
-in_order_update false false false false true m wd wo = refl
-in_order_update false false false false false true wd wo = refl
-in_order_update false false false false false false true wo = refl
-in_order_update false false false false false false false wo = refl
+-- the tests of an Update: object, address, target, replies and entries, crowd, words
+in_order_update : (n i g ro rd bad m wd wo : Bool) → option_or (cond n (Some NoObject) (only i BadIri)) (option_or (only g BadIri) (option_or (only ro BadIri) (option_or (cond (rd || bad) (Some BadIri) (only m TooManyRecipients)) (option_or (only wd BadText) (only wo BadText)))))
+    ≡ cond n (Some NoObject) (cond (i || (g || (ro || (rd || (bad || false))))) (Some BadIri) (cond (m || false) (Some TooManyRecipients) (only (wd || wo) BadText)))
+in_order_update true i g ro rd bad m wd wo = refl
+in_order_update false true g ro rd bad m wd wo = refl
+in_order_update false false true ro rd bad m wd wo = refl
+in_order_update false false false true rd bad m wd wo = refl
+in_order_update false false false false true bad m wd wo = refl
+in_order_update false false false false false true m wd wo = refl
+in_order_update false false false false false false true wd wo = refl
+in_order_update false false false false false false false true wo = refl
+in_order_update false false false false false false false false wo = refl
 
-needed_fault : {A : Type 0} (o : Option A) → result_err (needed o) ≡ only (is_none o) NoObject
-needed_fault None = refl
-needed_fault (Some x) = refl
-
-needed_is : {A : Type 0} (o : Option A) (x : A) → needed o ≡ Ok x → o ≡ Some x
-needed_is None x h = absurd cc
-needed_is (Some y) x h = cc
+own_id_fault : (o : Data) → result_err (reads_own_id o) ≡ cond (is_none (reference_at (codes "id") o)) (Some NoObject) (only (is_bad_reference (reference_at (codes "id") o)) BadIri)
+unfolding reads_own_id
+own_id_fault o =
+    elim (reference_at (codes "id") o) as (λ r. result_err (needed r >>= reads_address) ≡ cond (is_none r) (Some NoObject) (only (is_bad_reference r) BadIri))
+    [ None ↦ refl | Some text ↦ address_fault text ]
 
 changes_fault : (d o : Data) → result_err (reads_changes d o)
     ≡ cond (is_none (reference_at (codes "id") o)) (Some NoObject) (cond (is_bad_reference (reference_at (codes "id") o) || (is_bad_reference (reference_at (codes "target") d) || (is_bad_reply o || (is_bad_reply d || (has_bad_entry d || false))))) (Some BadIri) (cond (has_fault d TooManyRecipients || false) (Some TooManyRecipients) (only (has_fault d BadText || has_fault o BadText) BadText)))
 unfolding reads_changes
 changes_fault d o =
-    then_known (needed (reference_at (codes "id") o)) _ _ _ (needed_fault (reference_at (codes "id") o))
-    (λ text given. then_fault (reads_address text) _ (only (is_bad_reference (reference_at (codes "id") o)) BadIri) _ (address_fault text ∙ ap (λ r. only (is_bad_reference r) BadIri) (sym (needed_is (reference_at (codes "id") o) text given)))
+    then_fault (reads_own_id o) _ _ _ (own_id_fault o)
     (λ id. then_fault (reads_target d) _ _ _ (target_fault d)
     (λ target. then_fault (reads_reply o) _ _ _ (reply_fault o)
     (λ object_reply. then_fault (reads_people d) _ _ _ (people_fault d)
     (λ people. then_fault (reads_words d) _ _ _ (words_fault d)
     (λ words. then_fault (reads_words o) _ _ None (words_fault o) (λ object_words. refl) ∙ or_none (has_fault o BadText) BadText)))))
-    ∙ in_order_update (is_bad_reference (reference_at (codes "id") o)) _ (is_bad_reply o) (is_bad_reply d) (has_bad_entry d) (has_fault d TooManyRecipients) (has_fault d BadText) (has_fault o BadText))
-    ∙ or_cond (is_none (reference_at (codes "id") o)) NoObject _
+    ∙ in_order_update (is_none (reference_at (codes "id") o)) _ _ (is_bad_reply o) (is_bad_reply d) (has_bad_entry d) (has_fault d TooManyRecipients) (has_fault d BadText) (has_fault o BadText)
 
 -- the tests of another activity: object, address, target, reply and entries, crowd, words, the author
 in_order_other : (n i g rd bad m wd self : Bool) → option_or (cond n (Some NoObject) (only i BadIri)) (option_or (only g BadIri) (option_or (cond (rd || bad) (Some BadIri) (only m TooManyRecipients)) (option_or (only wd BadText) (only self SelfTarget))))

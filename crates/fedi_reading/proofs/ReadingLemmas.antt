@@ -1,6 +1,6 @@
 -- Lists of values, seen as their data.
-use Rattle.std.proofs.Common.{◌≡◌, ℕ, ◌+◌, ◌<◌, List, [], ◌∷◌, ◌++◌, append-nil, map, take, drop, drop-cons, find, get_or, length, Bool, true, false, cond, ◌||◌, Option, Some, None, refl, ap, sym, ◌∙◌}
-use Rattle.std.specs.Prelude.{Ok, Err}
+use Rattle.std.proofs.Common.{◌≡◌, ℕ, ◌+◌, ◌<◌, List, [], ◌∷◌, ◌++◌, append-nil, map, take, drop, drop-cons, find, get_or, length, Bool, true, false, cond, ◌||◌, Option, Some, None, refl, ap, sym, ◌∙◌, arith}
+use Rattle.std.specs.Prelude.{◌≢◌, Ok, Err}
 use Rattle.std.proofs.lemmas.List.{take_more, take-append-drop, map_push}
 use Rattle.std.proofs.lemmas.List.Sums.{fold-append}
 use Rattle.std.proofs.lemmas.List.Folds.{list_any-append, list_any_at, find-append}
@@ -8,7 +8,7 @@ use Rattle.std.proofs.lemmas.List.Elements.{filter_map-append}
 use Rattle.std.specs.List.{list_any, filter_map, cons_option}
 use Rattle.serde_json.specs.Data.{Data}
 use Rattle.serde_json.specs.View.{items_of}
-use Rattle.fedi_reading.specs.Activities.{entries_of_both}
+use Rattle.fedi_reading.specs.Activities.{one_value, one_entry, entries_of_both}
 use Rattle.fedi_reading.specs.Properties.{list_of, entries_at}
 use Rattle.fedi_reading.specs.Reading.{is_bad, recipient_of, reads_entry, reads_entries, add_new, add_all, distinct}
 use Rattle.fedi_reading.specs.declared.shape_fault.ShapeFault.{ShapeFault}
@@ -18,6 +18,18 @@ use Rattle.fedi_reading.specs.declared.shape_fault.ShapeFault.TheVariants.{BadIr
 pub list_of_items : (ds : List Data) → list_of (items_of ds) ≡ ds
 list_of_items [] = refl
 list_of_items (d ∷ ds) = ap (λ es. d ∷ es) (list_of_items ds)
+
+-- a list of one stands for its entry
+pub one_of_one : {X : Type 0} (f : X → Data) (xs : List X) (x : X) → length xs ≡ 1 → one_entry (items_of (map f xs)) ≡ one_value (f (get_or xs 0 x))
+one_of_one f [] x h = absurd (omega arith)
+one_of_one f (y ∷ []) x h = refl
+one_of_one f (y ∷ (z ∷ ys)) x h = absurd (omega arith)
+
+-- and every other list for nothing
+pub none_of_many : {X : Type 0} (f : X → Data) (xs : List X) → length xs ≢ 1 → one_entry (items_of (map f xs)) ≡ None
+none_of_many f [] h = refl
+none_of_many f (y ∷ []) h = absurd (h refl)
+none_of_many f (y ∷ (z ∷ ys)) h = refl
 
 -- a test of what the elements are seen as
 pub list_any_map : {X Y : Type 0} (f : X → Y) (p : Y → Bool) (xs : List X) → list_any p (map f xs) ≡ list_any (λ x. p (f x)) xs

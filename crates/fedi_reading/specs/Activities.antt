@@ -209,11 +209,14 @@ change id o reply words = record {
   tags = edit (codes "tag") o (given_tags o);
 }
 
+-- the `id` of the object that an Update changes
+unfoldable pub reads_own_id : Data → Result (List ℕ) ShapeFault
+reads_own_id o = needed (reference_at (codes "id") o) >>= reads_address
+
 -- an Update by this object, which says what changes
 unfoldable pub reads_changes : Data → Data → Result Activity ShapeFault
 reads_changes d o = do
-  text ← needed (reference_at (codes "id") o)
-  id ← reads_address text
+  id ← reads_own_id o
   target ← reads_target d
   object_reply ← reads_reply o
   people ← reads_people d

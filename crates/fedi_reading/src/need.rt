@@ -1,7 +1,7 @@
 //! What activities need as their objects.
 
-ghost use Rattle.std.specs.Prelude.{◌≡◌, Bool};
-ghost use Rattle.fedi_reading.specs.Activities.{need_of};
+ghost use Rattle.std.specs.Prelude.{◌≡◌};
+ghost use Rattle.fedi_reading.specs.Activities.{need_of, needs_id};
 
 use fedi_objects::Kind;
 
@@ -38,10 +38,14 @@ impl Need {
             _ => Need::Anything,
         }
     }
-}
 
-/// A law for the proof, to be removed.
-#[tactic(auto, using(crate::proofs::ActivityFaultLemmas::least_post_fault))]
-fn probe()
-    ensures { (b : Bool) → b ≡ b }
-{}
+    // Whether an `id` is needed.
+    pub(crate) fn needs_id(self) -> bool
+        ensures { result ≡ needs_id self }
+    {
+        match self {
+            Need::Anything => false,
+            _ => true,
+        }
+    }
+}
