@@ -21,6 +21,7 @@ use crate::properties::{
 use crate::shape_fault::ShapeFault;
 use fedi_address::{Iri, Items};
 use fedi_objects::{Activity, Boxed, Change, Edit, Kind, Object, ObjectRef, Tag};
+use fedi_text::Text;
 use serde_json::Value;
 use std::alloc::{AllocError, Global};
 
@@ -149,14 +150,13 @@ fn read_other(
     ensures { Gives result (activities.reads_other author.now kind need (view value.now)) }
 {
     let mut activity = Activity::new(alloc, kind);
-    fill_other(alloc, value, author, need, &mut activity)?;
-    Ok(activity)
+    fill_other(alloc, value, author, need, &mut activity).and(Ok(activity))
 }
 
 // Reads a Create into one that is empty, and its object into one of its type. The Create's object
-// and recipients are left.
+// is left.
 #[tactic(auto, unfolding(crate::specs::Activities::reads_creation, crate::specs::Reading::url_of))]
-fn fill_create(
+fn fill_both(
     alloc: Global,
     value: &Value,
     object: &Value,
@@ -166,15 +166,15 @@ fn fill_create(
     requires empty { create.old ≡ activity_of_kind kinds.Create }
     requires bare { made.old ≡ object_of_kind made.old.kind }
     requires typed { activities.reads_new_type (view object.now) ≡ Ok made.old.kind }
-    ensures { Fills result
-        (record create.new { object = Whole made.new; recipients = made.new.recipients })
+    ensures { Fills result (record create.new { object = Whole made.new })
         (activities.reads_creation (view value.now) (view object.now)) }
 {
     let _id = read_iri(alloc, reference_at(object, "id"))?;
     create.target = read_target(alloc, value)?;
     made.in_reply_to = read_reply(alloc, object)?;
     create.in_reply_to = read_reply(alloc, value)?;
-    made.recipients = read_audience(alloc, value, object)?;
+    create.recipients = read_audience(alloc, value, object)?;
+    made.recipients = create.recipients.clone()?;
     (create.content, create.summary, create.name) = read_words(alloc, value)?;
     (made.content, made.summary, made.name) = read_words(alloc, object)?;
     made.url = iri_at(alloc, object, "url")?;
@@ -183,17 +183,34 @@ fn fill_create(
     Ok(())
 }
 
+// Reads a Create into one that is empty, with the object, which is of this type.
+fn fill_create(
+    alloc: Global,
+    value: &Value,
+    object: &Value,
+    kind: Text,
+    create: &mut Activity,
+) -> Result<(), ShapeFault>
+    requires empty { create.old ≡ activity_of_kind kinds.Create }
+    requires typed { activities.reads_new_type (view object.now) ≡ Ok kind }
+    ensures { Fills result create.new
+        (activities.reads_creation (view value.now) (view object.now)) }
+{
+    let mut made = Object::new(alloc, kind);
+    fill_both(alloc, value, object, create, &mut made)?;
+    create.object = ObjectRef::Whole(Boxed::new(alloc, made)?);
+    Ok(())
+}
+
 // A Create, with the object that stands in it.
+#[tactic(auto, unfolding(crate::specs::Activities::reads_creation))]
 fn read_create(alloc: Global, value: &Value) -> Result<Activity, ShapeFault>
     ensures { Gives result (activities.reads_create (view value.now)) }
 {
     let object = embedded(value).ok_or(ShapeFault::NoObject)?;
-    let mut made = Object::new(alloc, read_new_type(alloc, object)?);
+    let kind = read_new_type(alloc, object)?;
     let mut create = Activity::new(alloc, Kind::Create);
-    fill_create(alloc, value, object, &mut create, &mut made)?;
-    create.recipients = made.recipients.clone()?;
-    create.object = ObjectRef::Whole(Boxed::new(alloc, made)?);
-    Ok(create)
+    fill_create(alloc, value, object, kind, &mut create).and(Ok(create))
 }
 
 // The `id` of the object that an Update changes.
@@ -263,15 +280,35 @@ fn fill_update(
 }
 
 // An Update, with what it changes in the object whose `id` stands in it.
+#[tactic(auto, unfolding(crate::specs::Activities::reads_changes))]
 fn read_update(alloc: Global, value: &Value) -> Result<Activity, ShapeFault>
     ensures { Gives result (activities.reads_update (view value.now)) }
 {
     let object = embedded(value).ok_or(ShapeFault::NoObject)?;
     let mut change = Change::new(read_own_id(alloc, object)?);
     let mut update = Activity::new(alloc, Kind::Update);
-    fill_update(alloc, value, object, &mut update, &mut change)?;
+    let filled = fill_update(alloc, value, object, &mut update, &mut change);
     update.object = ObjectRef::Changed(change);
-    Ok(update)
+    filled.and(Ok(update))
+}
+
+// An activity of this type.
+fn read_kind(
+    alloc: Global,
+    value: &Value,
+    author: &Iri,
+    kind: Kind,
+) -> Result<Activity, ShapeFault>
+    ensures { Gives result (activities.reads_kind author.now (view value.now) kind) }
+{
+    if !has_context(value) {
+        return Err(ShapeFault::BadContext);
+    }
+    match Need::of(kind) {
+        Need::Whole => read_create(alloc, value),
+        Need::Change => read_update(alloc, value),
+        need => read_other(alloc, value, author, kind, need),
+    }
 }
 
 /// Reads what a client posts
@@ -283,16 +320,9 @@ pub fn read_activity(alloc: Global, value: &Value, author: &Iri) -> Result<Activ
         (λ e. e ≢ ShapeFault.Memory → first_post_fault author.now (view value.now) ≡ Some e) }
     ensures none { OnOk result (first_post_fault author.now (view value.now) ≡ None) }
 {
-    let Some(kind) = kind_of(value) else {
-        return read_posted(alloc, value);
-    };
-    if !has_context(value) {
-        return Err(ShapeFault::BadContext);
-    }
-    match Need::of(kind) {
-        Need::Whole => read_create(alloc, value),
-        Need::Change => read_update(alloc, value),
-        need => read_other(alloc, value, author, kind, need),
+    match kind_of(value) {
+        None => read_posted(alloc, value),
+        Some(kind) => read_kind(alloc, value, author, kind),
     }
 }
 
