@@ -17,8 +17,8 @@ use Rattle.fedi_reading.specs.Properties.{text_at, entries_at, property, referen
 use Rattle.fedi_reading.specs.Reading.{is_bad, recipient_of, distinct, reads_entries, all_entries, reads_iri, reads_reply, reads_people, reads_words, reads_posted}
 use Rattle.fedi_reading.specs.Shapes.{◌>>=◌, Gives}
 use Rattle.fedi_reading.specs.Faults.{is_bad_reference, is_bad_reply, has_fault, faults, first_fault}
-use Rattle.fedi_reading.specs.Activities.{kind_named, kind_of, need_of, object_at, itself, embedded, id_of, object_id, needed, reads_address, reads_target, new_type, reads_new_type, entries_of_both, reads_all_recipients, is_crowd, reads_audience, reads_creation, reads_create, reads_own_id, reads_changes, reads_update, needs_id, reads_id, is_oneself, reads_other, reads_by_need, reads_kind, reads_activity}
-use Rattle.fedi_reading.specs.ActivityFaults.{is_unmade, lacks_object, has_bad_entry, named_by_both, union, crowds, is_self, has_activity_fault, has_post_fault, first_post_fault}
+use Rattle.fedi_reading.specs.Activities.{kind_named, kind_of, need_of, object_at, itself, embedded, id_of, object_id, or_no_object, reads_address, reads_target, new_type, reads_new_type, entries_of_both, reads_all_recipients, is_crowd, reads_audience, reads_creation, reads_create, reads_own_id, reads_changes, reads_update, needs_id, reads_id, is_oneself, reads_other, reads_by_need, reads_kind, reads_activity}
+use Rattle.fedi_reading.specs.ActivityFaults.{has_wrong_type, lacks_object, has_bad_entry, named_by_both, union, has_crowd, is_self, has_activity_fault, has_post_fault, first_post_fault}
 use Rattle.fedi_reading.specs.declared.need.Need.{Need}
 use Rattle.fedi_reading.specs.declared.need.Need.TheVariants.{Whole, Change, Another, Anything}
 use Rattle.fedi_reading.specs.declared.need.Need.TheVariants as needs
@@ -38,7 +38,7 @@ or_swap false false false d = refl
 
 -- ---- the parts
 
-new_type_fault : (o : Data) → result_err (reads_new_type o) ≡ only (is_unmade o) NoType
+new_type_fault : (o : Data) → result_err (reads_new_type o) ≡ only (has_wrong_type o) NoType
 unfolding reads_new_type
 new_type_fault o =
     elim (type_of o) as (λ t. result_err (new_type t) ≡ only (option_map_or (λ text. bytes_eq text (codes "Tombstone")) t true) NoType)
@@ -127,7 +127,7 @@ then_known : {A B : Type 0} (r : Result A ShapeFault) (f : A → Result B ShapeF
 then_known (Ok x) f first rest h k = rw (← h) (k x refl)
 then_known (Err e) f first rest h k = rw (← h) refl
 
-audience_fault : (d o : Data) → result_err (reads_audience d o) ≡ cond (has_bad_entry d || has_bad_entry o) (Some BadIri) (only (has_fault d TooManyRecipients || crowds d o) TooManyRecipients)
+audience_fault : (d o : Data) → result_err (reads_audience d o) ≡ cond (has_bad_entry d || has_bad_entry o) (Some BadIri) (only (has_fault d TooManyRecipients || has_crowd d o) TooManyRecipients)
 unfolding reads_audience
 audience_fault d o =
     then_known (reads_all_recipients d o) _ _ (only (is_crowd d o (union d o)) TooManyRecipients) (all_recipients_fault d o)
@@ -165,7 +165,7 @@ in_order_create false false false false false false false true wo = refl
 in_order_create false false false false false false false false wo = refl
 
 creation_fault : (d o : Data) → result_err (reads_creation d o)
-    ≡ cond (is_unmade o) (Some NoType) (cond (is_bad_reference (reference_at (codes "id") o) || (is_bad_reference (reference_at (codes "target") d) || (is_bad_reply o || (is_bad_reply d || (has_bad_entry d || has_bad_entry o))))) (Some BadIri) (cond (has_fault d TooManyRecipients || crowds d o) (Some TooManyRecipients) (only (has_fault d BadText || has_fault o BadText) BadText)))
+    ≡ cond (has_wrong_type o) (Some NoType) (cond (is_bad_reference (reference_at (codes "id") o) || (is_bad_reference (reference_at (codes "target") d) || (is_bad_reply o || (is_bad_reply d || (has_bad_entry d || has_bad_entry o))))) (Some BadIri) (cond (has_fault d TooManyRecipients || has_crowd d o) (Some TooManyRecipients) (only (has_fault d BadText || has_fault o BadText) BadText)))
 unfolding reads_creation
 creation_fault d o =
     then_fault (reads_new_type o) _ _ _ (new_type_fault o)
@@ -176,7 +176,7 @@ creation_fault d o =
     (λ reply. then_fault (reads_audience d o) _ _ _ (audience_fault d o)
     (λ recipients. then_fault (reads_words d) _ _ _ (words_fault d)
     (λ words. then_fault (reads_words o) _ _ None (words_fault o) (λ object_words. refl) ∙ or_none (has_fault o BadText) BadText)))))))
-    ∙ in_order_create (is_unmade o) _ _ (is_bad_reply o) (is_bad_reply d) (has_bad_entry d || has_bad_entry o) (has_fault d TooManyRecipients || crowds d o) (has_fault d BadText) (has_fault o BadText)
+    ∙ in_order_create (has_wrong_type o) _ _ (is_bad_reply o) (is_bad_reply d) (has_bad_entry d || has_bad_entry o) (has_fault d TooManyRecipients || has_crowd d o) (has_fault d BadText) (has_fault o BadText)
 
 -- the tests of an Update: object, address, target, replies and entries, crowd, words
 in_order_update : (n i g ro rd bad m wd wo : Bool) → option_or (cond n (Some NoObject) (only i BadIri)) (option_or (only g BadIri) (option_or (only ro BadIri) (option_or (cond (rd || bad) (Some BadIri) (only m TooManyRecipients)) (option_or (only wd BadText) (only wo BadText)))))
@@ -194,7 +194,7 @@ in_order_update false false false false false false false false wo = refl
 own_id_fault : (o : Data) → result_err (reads_own_id o) ≡ cond (is_none (reference_at (codes "id") o)) (Some NoObject) (only (is_bad_reference (reference_at (codes "id") o)) BadIri)
 unfolding reads_own_id
 own_id_fault o =
-    elim (reference_at (codes "id") o) as (λ r. result_err (needed r >>= reads_address) ≡ cond (is_none r) (Some NoObject) (only (is_bad_reference r) BadIri))
+    elim (reference_at (codes "id") o) as (λ r. result_err (or_no_object r >>= reads_address) ≡ cond (is_none r) (Some NoObject) (only (is_bad_reference r) BadIri))
     [ None ↦ refl | Some text ↦ address_fault text ]
 
 changes_fault : (d o : Data) → result_err (reads_changes d o)
@@ -281,11 +281,11 @@ pub object_id_is : (d o : Data) → embedded d ≡ Some o → object_id d ≡ re
 unfolding embedded object_id
 object_id_is d o h = embedded_id (object_at d) o h
 
-create_fault : (author : List ℕ) (d : Data) (found : Option Data) → embedded d ≡ found → result_err (needed found >>= reads_creation d) ≡ find (has_activity_fault author Whole d) later
+create_fault : (author : List ℕ) (d : Data) (found : Option Data) → embedded d ≡ found → result_err (or_no_object found >>= reads_creation d) ≡ find (has_activity_fault author Whole d) later
 create_fault author d None h = rw h refl
 create_fault author d (Some o) h = rw (h, object_id_is d o h) (creation_fault d o)
 
-update_fault : (author : List ℕ) (d : Data) (found : Option Data) → embedded d ≡ found → result_err (needed found >>= reads_changes d) ≡ find (has_activity_fault author Change d) later
+update_fault : (author : List ℕ) (d : Data) (found : Option Data) → embedded d ≡ found → result_err (or_no_object found >>= reads_changes d) ≡ find (has_activity_fault author Change d) later
 update_fault author d None h = rw h refl
 update_fault author d (Some o) h = rw (h, object_id_is d o h) (changes_fault d o)
 

@@ -19,13 +19,7 @@ pub list_of_items : (ds : List Data) → list_of (items_of ds) ≡ ds
 list_of_items [] = refl
 list_of_items (d ∷ ds) = ap (λ es. d ∷ es) (list_of_items ds)
 
--- a list of one stands for its entry
-pub one_of_one : {X : Type 0} (f : X → Data) (xs : List X) (x : X) → length xs ≡ 1 → one_entry (items_of (map f xs)) ≡ one_value (f (get_or xs 0 x))
-one_of_one f [] x h = absurd (omega arith)
-one_of_one f (y ∷ []) x h = refl
-one_of_one f (y ∷ (z ∷ ys)) x h = absurd (omega arith)
-
--- and every other list for nothing
+-- a list that has not one entry stands for nothing
 pub none_of_many : {X : Type 0} (f : X → Data) (xs : List X) → length xs ≢ 1 → one_entry (items_of (map f xs)) ≡ None
 none_of_many f [] h = refl
 none_of_many f (y ∷ []) h = absurd (h refl)

@@ -91,9 +91,9 @@ unfoldable pub object_id : Data → Option (List ℕ)
 object_id d = option_and_then id_of (object_at d)
 
 -- what an activity must have
-abbrev pub needed : {A : Type 0} → Option A → Result A ShapeFault
-needed None = Err NoObject
-needed (Some x) = Ok x
+abbrev pub or_no_object : {A : Type 0} → Option A → Result A ShapeFault
+or_no_object None = Err NoObject
+or_no_object (Some x) = Ok x
 
 -- a text that must be an address
 unfoldable pub reads_address : List ℕ → Result (List ℕ) ShapeFault
@@ -107,8 +107,8 @@ reads_target d = reads_iri (reference_at (codes "target") d)
 
 -- An activity of this type, about this, with its target, what it replies to, whom it is for, its words and its mentions: its
 -- `id`, its actor and its time are the server's to give (ActivityPub, section 6).
-abbrev pub said : Kind → ObjectRef → Option (List ℕ) → Option (List ℕ) × Recipients → Option (List ℕ) × Option (List ℕ) × Option (List ℕ) → List Tag → Activity
-said kind about target people words tags = record {
+abbrev pub posted_activity : Kind → ObjectRef → Option (List ℕ) → Option (List ℕ) × Recipients → Option (List ℕ) × Option (List ℕ) × Option (List ℕ) → List Tag → Activity
+posted_activity kind about target people words tags = record {
   id = None;
   kind = kind;
   actor = None;
@@ -169,11 +169,11 @@ reads_creation d o = do
   recipients ← reads_audience d o
   words ← reads_words d
   object_words ← reads_words o
-  Ok (said kinds.Create (Whole (made kind (object_reply, recipients) object_words (url_of o, tags_of o))) target (reply, recipients) words (tags_of d))
+  Ok (posted_activity kinds.Create (Whole (made kind (object_reply, recipients) object_words (url_of o, tags_of o))) target (reply, recipients) words (tags_of d))
 
 -- a Create: it makes the object that stands in it
 abbrev pub reads_create : Data → Result Activity ShapeFault
-reads_create d = needed (embedded d) >>= reads_creation d
+reads_create d = or_no_object (embedded d) >>= reads_creation d
 
 -- ---- an Update (ActivityPub, section 6.3)
 
@@ -211,7 +211,7 @@ change id o reply words = record {
 
 -- the `id` of the object that an Update changes
 unfoldable pub reads_own_id : Data → Result (List ℕ) ShapeFault
-reads_own_id o = needed (reference_at (codes "id") o) >>= reads_address
+reads_own_id o = or_no_object (reference_at (codes "id") o) >>= reads_address
 
 -- an Update by this object, which says what changes
 unfoldable pub reads_changes : Data → Data → Result Activity ShapeFault
@@ -222,11 +222,11 @@ reads_changes d o = do
   people ← reads_people d
   words ← reads_words d
   object_words ← reads_words o
-  Ok (said kinds.Update (Changed (change id o object_reply object_words)) target people words (tags_of d))
+  Ok (posted_activity kinds.Update (Changed (change id o object_reply object_words)) target people words (tags_of d))
 
 -- an Update: the object whose `id` stands in it is changed
 abbrev pub reads_update : Data → Result Activity ShapeFault
-reads_update d = needed (embedded d) >>= reads_changes d
+reads_update d = or_no_object (embedded d) >>= reads_changes d
 
 -- ---- every other activity
 
@@ -245,9 +245,9 @@ is_oneself author needs.Another (Some id) = bytes_eq id author
 is_oneself author need id = false
 
 -- a thing by its `id`, if there is one
-abbrev pub thing : Option (List ℕ) → ObjectRef
-thing None = Nothing
-thing (Some id) = Id id
+abbrev pub object_ref : Option (List ℕ) → ObjectRef
+object_ref None = Nothing
+object_ref (Some id) = Id id
 
 -- an activity of another type: of its object the `id` is kept
 unfoldable pub reads_other : List ℕ → Kind → Need → Data → Result Activity ShapeFault
@@ -256,7 +256,7 @@ reads_other author kind need d = do
   target ← reads_target d
   people ← reads_people d
   words ← reads_words d
-  if is_oneself author need id then Err SelfTarget else Ok (said kind (thing id) target people words (tags_of d))
+  if is_oneself author need id then Err SelfTarget else Ok (posted_activity kind (object_ref id) target people words (tags_of d))
 
 -- ---- the whole
 

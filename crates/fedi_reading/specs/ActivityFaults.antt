@@ -27,8 +27,8 @@ has_read test Change d = option_map_or test (embedded d) false
 has_read test need d = false
 
 -- an object of this type cannot be made
-abbrev pub is_unmade : Data → Bool
-is_unmade o = option_map_or (λ text. bytes_eq text (codes "Tombstone")) (type_of o) true
+abbrev pub has_wrong_type : Data → Bool
+has_wrong_type o = option_map_or (λ text. bytes_eq text (codes "Tombstone")) (type_of o) true
 
 -- the object that the activity needs is not there
 abbrev pub lacks_object : Need → Data → Bool
@@ -55,8 +55,8 @@ union d o = record {
 }
 
 -- the object has too many entries, or names too many together with its Create
-abbrev pub crowds : Data → Data → Bool
-crowds d o = has_fault o TooManyRecipients || nat_lt 500 (length (all_of (union d o)))
+abbrev pub has_crowd : Data → Data → Bool
+has_crowd d o = has_fault o TooManyRecipients || nat_lt 500 (length (all_of (union d o)))
 
 -- the object is another's affair, and it is the author
 abbrev pub is_self : List ℕ → Need → Data → Bool
@@ -67,14 +67,14 @@ is_self author need d = false
 abbrev pub has_activity_fault : List ℕ → Need → Data → ShapeFault → Bool
 has_activity_fault author need d NotObject = has_fault d NotObject
 has_activity_fault author need d BadContext = has_fault d BadContext
-has_activity_fault author need d NoType = has_made is_unmade need d
+has_activity_fault author need d NoType = has_made has_wrong_type need d
 has_activity_fault author need d NoId = false
 has_activity_fault author need d NoActor = false
 has_activity_fault author need d NoObject = lacks_object need d
 has_activity_fault author need d BadIri =
     is_bad_reference (object_id d) || (is_bad_reference (reference_at (codes "target") d)
     || (has_read is_bad_reply need d || (is_bad_reply d || (has_bad_entry d || has_made has_bad_entry need d))))
-has_activity_fault author need d TooManyRecipients = has_fault d TooManyRecipients || has_made (crowds d) need d
+has_activity_fault author need d TooManyRecipients = has_fault d TooManyRecipients || has_made (has_crowd d) need d
 has_activity_fault author need d BadText = has_fault d BadText || has_read (λ o. has_fault o BadText) need d
 has_activity_fault author need d SelfTarget = is_self author need d
 has_activity_fault author need d Memory = false

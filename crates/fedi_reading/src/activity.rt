@@ -105,8 +105,8 @@ fn is_oneself(author: &Iri, need: Need, id: &Option<Iri>) -> bool
 }
 
 // A thing by its `id`, if there is one.
-fn thing(id: Option<Iri>) -> ObjectRef
-    ensures { result ≡ activities.thing id }
+fn object_ref(id: Option<Iri>) -> ObjectRef
+    ensures { result ≡ activities.object_ref id }
 {
     match id {
         None => ObjectRef::Nothing,
@@ -134,7 +134,7 @@ fn fill_other(
     if is_oneself(author, need, &id) {
         return Err(ShapeFault::SelfTarget);
     }
-    activity.object = thing(id);
+    activity.object = object_ref(id);
     activity.tags = read_tags(alloc, value)?;
     Ok(())
 }
@@ -311,7 +311,26 @@ fn read_kind(
     }
 }
 
-/// Reads what a client posts
+/// Reads what a client posts to the outbox of this author: an activity of one of the 28 types, or an
+/// object, which is wrapped in a Create as `read_posted` does (ActivityPub, section 6.2.1).
+///
+/// Of an activity its target, the five fields of recipients, what it replies to, its words and its
+/// mentions are kept, and its object: whole for a `Create`, as a change for an `Update` (section
+/// 6.3), and else by its `id`. A `Create` and its object each get the recipients of both (section
+/// 6.2). What the server gives itself is skipped: `id`, `actor`, `attributedTo` and the times.
+///
+/// The error is the first fault that holds, in this order; what is said of properties holds of the
+/// activity, and of the object of a `Create` or an `Update`. `NotObject`: the value is no JSON
+/// object. `BadContext`: `@context` is there and is neither the one of ActivityStreams nor a list
+/// that holds it. `NoType`: the type is no text of 1 to 64 bytes, nor a list whose first entry is
+/// one; or an object to be made is a `Tombstone`. `NoObject`: an `Accept`, `Announce`, `Block`,
+/// `Delete`, `Follow`, `Like`, `Reject` or `Undo` names no object, in a `Create` no object stands,
+/// or in an `Update` none with an `id`. `BadIri`: a text that names a recipient, the object, the
+/// target or what is replied to is no web address of at most 2,048 bytes. `TooManyRecipients`: the
+/// five fields of the activity, or of the object of a `Create`, have more than 500 entries as
+/// written, or those of both together name more than 500. `BadText`: the content, the summary or
+/// the name has more than 65,536 bytes. `SelfTarget`: a `Follow` or `Block` is of the author.
+/// `Memory`, out of memory, may come at any time.
 #[tactic(auto, unfolding(crate::specs::Activities::reads_activity))]
 pub fn read_activity(alloc: Global, value: &Value, author: &Iri) -> Result<Activity, ShapeFault>
     ensures exact { Gives result (activities.reads_activity author.now (view value.now)) }
