@@ -1,30 +1,28 @@
 -- Reading an activity stops at the fault with the least number.
-use Rattle.std.proofs.Common.{◌≡◌, ℕ, List, [], ◌∷◌, ◌++◌, find, length, append_assoc, Bool, true, false, not, cond, ◌||◌, ◌&&◌, nat_lt, Option, Some, None, codes, bytes_eq, refl, ap, sym, ◌∙◌, subst}
+use Rattle.std.proofs.Common.{◌≡◌, ℕ, List, [], ◌∷◌, find, length, Bool, true, false, not, cond, ◌||◌, ◌&&◌, nat_lt, Option, Some, None, codes, bytes_eq, refl, ap, sym, ◌∙◌}
 use Rattle.std.specs.Prelude.{◌≢◌, Result, Ok, Err, IfErr, OnOk, is_some, is_none, option_and_then}
 use Rattle.std.specs.Option.{option_or, option_map_or}
 use Rattle.std.specs.Result.{result_err}
-use Rattle.std.specs.List.{list_any, filter_map}
+use Rattle.std.specs.List.{list_any}
 use Rattle.std.proofs.lemmas.List.Folds.{list_any-append}
-use Rattle.serde_json.specs.Data.{Data, null, boolean, number, string, array, object, Members}
-use Rattle.serde_json.specs.Find.{as_object, get}
+use Rattle.serde_json.specs.Data.{Data, null, boolean, number, string, array, object}
+use Rattle.serde_json.specs.Find.{as_object}
 use Rattle.fedi_address.specs.Recipients.{all_of}
 use Rattle.fedi_address.specs.declared.recipients.Recipients.{Recipients}
 use Rattle.fedi_objects.specs.declared.activity.Activity.{Activity}
-use Rattle.fedi_objects.specs.declared.activity.ObjectRef.{ObjectRef}
-use Rattle.fedi_objects.specs.declared.activity.ObjectRef.TheVariants.{Nothing, Id}
 use Rattle.fedi_objects.specs.declared.kind.Kind.{Kind}
-use Rattle.fedi_reading.specs.Properties.{text_at, entries_at, property, reference_at, has_context, type_of, iri}
-use Rattle.fedi_reading.specs.Reading.{is_bad, recipient_of, distinct, reads_entries, all_entries, reads_iri, reads_reply, reads_people, reads_words, reads_posted}
+use Rattle.fedi_reading.specs.Properties.{entries_at, property, reference_at, has_context, type_of, iri}
+use Rattle.fedi_reading.specs.Reading.{is_bad, reads_entries, all_entries, reads_iri, reads_reply, reads_people, reads_words, reads_posted}
 use Rattle.fedi_reading.specs.Shapes.{◌>>=◌, Gives}
 use Rattle.fedi_reading.specs.Faults.{is_bad_reference, is_bad_reply, has_fault, faults, first_fault}
-use Rattle.fedi_reading.specs.Activities.{kind_named, kind_of, need_of, object_at, itself, embedded, id_of, object_id, or_no_object, reads_address, reads_target, new_type, reads_new_type, entries_of_both, reads_all_recipients, is_crowd, reads_audience, reads_creation, reads_create, reads_own_id, reads_changes, reads_update, needs_id, reads_id, is_oneself, reads_other, reads_by_need, reads_kind, reads_activity}
-use Rattle.fedi_reading.specs.ActivityFaults.{has_wrong_type, lacks_object, has_bad_entry, named_by_both, union, has_crowd, is_self, has_activity_fault, has_post_fault, first_post_fault}
+use Rattle.fedi_reading.specs.Activities.{kind_of, need_of, object_at, itself, embedded, id_of, object_id, or_no_object, reads_address, reads_target, new_type, reads_new_type, entries_of_both, reads_all_recipients, is_crowd, reads_audience, reads_creation, reads_own_id, reads_changes, needs_id, reads_id, is_oneself, reads_other, reads_by_need, reads_kind, reads_activity}
+use Rattle.fedi_reading.specs.ActivityFaults.{has_wrong_type, has_bad_entry, named_by_both, union, has_crowd, is_self, has_activity_fault, first_post_fault}
 use Rattle.fedi_reading.specs.declared.need.Need.{Need}
 use Rattle.fedi_reading.specs.declared.need.Need.TheVariants.{Whole, Change, Another, Anything}
 use Rattle.fedi_reading.specs.declared.need.Need.TheVariants as needs
 use Rattle.fedi_reading.specs.declared.shape_fault.ShapeFault.{ShapeFault}
 use Rattle.fedi_reading.specs.declared.shape_fault.ShapeFault.TheVariants.{NotObject, BadContext, NoType, NoId, NoActor, NoObject, BadIri, TooManyRecipients, BadText, SelfTarget, Memory}
-use Rattle.fedi_reading.proofs.FaultLemmas.{only, then_fault, or_none, or_cond, or_both, ended_fault, named_fault, entries_fault, both_bad, last_bad, reply_fault, people_fault, words_fault, posted_fault, good_of, fault_of}
+use Rattle.fedi_reading.proofs.FaultLemmas.{only, then_fault, or_none, or_cond, or_both, ended_fault, named_fault, entries_fault, reply_fault, people_fault, words_fault, posted_fault, fault_of}
 use Rattle.fedi_reading.proofs.KeptLemmas.{then_ok, entries_named}
 
 -- ---- tests

@@ -1,21 +1,15 @@
 -- What is read of an activity whose parts are read.
-use Rattle.std.proofs.Common.{◌≡◌, ℕ, List, false, Option, Some, None, codes, refl, ap}
-use Rattle.std.specs.Prelude.{◌≢◌, Ok}
+use Rattle.std.proofs.Common.{◌≡◌, ℕ, List, false, Option, codes, refl}
+use Rattle.std.specs.Prelude.{Ok}
 use Rattle.serde_json.specs.Data.{Data}
 use Rattle.fedi_address.specs.declared.recipients.Recipients.{Recipients}
-use Rattle.fedi_objects.specs.Objects.{activity_of_kind, object_of_kind, no_change}
 use Rattle.fedi_objects.specs.declared.activity.Activity.{Activity}
 use Rattle.fedi_objects.specs.declared.activity.ObjectRef.TheVariants.{Whole, Changed}
-use Rattle.fedi_objects.specs.declared.kind.Kind.{Kind}
 use Rattle.fedi_objects.specs.declared.kind.Kind.TheVariants as kinds
-use Rattle.fedi_objects.specs.declared.object.Change.{Change}
-use Rattle.fedi_objects.specs.declared.object.Object.{Object}
-use Rattle.fedi_objects.specs.declared.object.Tag.{Tag}
-use Rattle.fedi_reading.specs.Activities.{object_id, reads_target, reads_id, is_oneself, object_ref, posted_activity, reads_new_type, reads_audience, reads_creation, reads_own_id, change, reads_changes, reads_other, reads_by_need}
+use Rattle.fedi_reading.specs.Activities.{object_id, reads_target, reads_id, is_oneself, object_ref, posted_activity, reads_new_type, reads_audience, reads_creation, reads_own_id, change, reads_changes, reads_other}
 use Rattle.fedi_reading.specs.Properties.{reference_at}
 use Rattle.fedi_reading.specs.Reading.{reads_iri, reads_reply, reads_people, reads_words, url_of, tags_of, made}
 use Rattle.fedi_reading.specs.declared.need.Need.{Need}
-use Rattle.fedi_reading.specs.declared.need.Need.TheVariants as needs
 
 -- an activity that keeps the `id` of its object
 pub other_said : (author : List ℕ) (need : Need) (d : Data) (a : Activity) (id target : Option (List ℕ)) (people : Option (List ℕ) × Recipients) (words : Option (List ℕ) × Option (List ℕ) × Option (List ℕ))

@@ -1,5 +1,5 @@
 -- Lists of values, seen as their data.
-use Rattle.std.proofs.Common.{◌≡◌, ℕ, ◌+◌, ◌<◌, List, [], ◌∷◌, ◌++◌, append-nil, map, take, drop, drop-cons, find, get_or, length, Bool, true, false, cond, ◌||◌, Option, Some, None, refl, ap, sym, ◌∙◌, arith}
+use Rattle.std.proofs.Common.{◌≡◌, ℕ, ◌+◌, ◌<◌, List, [], ◌∷◌, ◌++◌, append-nil, map, take, drop, drop-cons, find, get_or, length, Bool, true, false, cond, ◌||◌, Option, Some, None, refl, ap, sym, ◌∙◌}
 use Rattle.std.specs.Prelude.{◌≢◌, Ok, Err}
 use Rattle.std.proofs.lemmas.List.{take_more, take-append-drop, map_push}
 use Rattle.std.proofs.lemmas.List.Sums.{fold-append}
@@ -8,7 +8,7 @@ use Rattle.std.proofs.lemmas.List.Elements.{filter_map-append}
 use Rattle.std.specs.List.{list_any, filter_map, cons_option}
 use Rattle.serde_json.specs.Data.{Data}
 use Rattle.serde_json.specs.View.{items_of}
-use Rattle.fedi_reading.specs.Activities.{one_value, one_entry, entries_of_both}
+use Rattle.fedi_reading.specs.Activities.{one_entry, entries_of_both}
 use Rattle.fedi_reading.specs.Properties.{list_of, entries_at}
 use Rattle.fedi_reading.specs.Reading.{is_bad, recipient_of, reads_entry, reads_entries, add_new, add_all, distinct}
 use Rattle.fedi_reading.specs.declared.shape_fault.ShapeFault.{ShapeFault}

@@ -1,13 +1,11 @@
 -- What is read of an activity that a client posts (ActivityStreams 2.0 Vocabulary, sections 3 and 4; ActivityPub, section 6).
-use Rattle.std.specs.Prelude.{ℕ, List, ◌++◌, length, find, Bool, true, false, not, ◌&&◌, ◌||◌, nat_lt, Option, Some, None, is_some, is_none, option_and_then, if◌then◌else◌, codes, bytes_eq, Result, Ok, Err}
+use Rattle.std.specs.Prelude.{ℕ, List, ◌++◌, length, find, Bool, true, false, ◌&&◌, ◌||◌, nat_lt, Option, Some, None, is_none, option_and_then, if◌then◌else◌, codes, bytes_eq, Result, Ok, Err}
 use Rattle.std.specs.Option.{option_map_or}
-use Rattle.std.specs.List.{filter_map}
 use Rattle.serde_json.specs.Data.{Data, null, boolean, number, string, array, object, Items, no_items, item}
 use Rattle.serde_json.specs.Find.{get}
 use Rattle.fedi_address.specs.Recipients.{all_of}
 use Rattle.fedi_address.specs.declared.recipients.Recipients.{Recipients}
 use Rattle.fedi_objects.specs.Kinds.{kind_name}
-use Rattle.fedi_objects.specs.Objects.{creation}
 use Rattle.fedi_objects.specs.declared.activity.Activity.{Activity}
 use Rattle.fedi_objects.specs.declared.activity.ObjectRef.{ObjectRef}
 use Rattle.fedi_objects.specs.declared.activity.ObjectRef.TheVariants.{Nothing, Id, Whole, Changed}
@@ -16,7 +14,6 @@ use Rattle.fedi_objects.specs.declared.kind.Kind.TheVariants as kinds
 use Rattle.fedi_objects.specs.declared.object.Change.{Change}
 use Rattle.fedi_objects.specs.declared.object.Edit.{Edit}
 use Rattle.fedi_objects.specs.declared.object.Edit.TheVariants.{Keep, Remove, Give}
-use Rattle.fedi_objects.specs.declared.object.Object.{Object}
 use Rattle.fedi_objects.specs.declared.object.Tag.{Tag}
 use Rattle.fedi_reading.specs.Properties as properties
 use Rattle.fedi_reading.specs.Properties.{property, entries_at, reference_at, has_context, type_of, iri}

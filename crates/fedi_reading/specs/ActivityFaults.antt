@@ -1,17 +1,16 @@
 -- What is wrong with what a client posts, fault by fault: with an activity, or with an object alone.
-use Rattle.std.specs.Prelude.{ℕ, List, length, find, Bool, true, false, not, ◌&&◌, ◌||◌, nat_lt, Option, is_none, option_and_then, codes, bytes_eq}
+use Rattle.std.specs.Prelude.{ℕ, List, length, find, Bool, true, false, ◌&&◌, ◌||◌, nat_lt, Option, is_none, option_and_then, codes, bytes_eq}
 use Rattle.std.specs.Option.{option_map_or}
 use Rattle.std.specs.List.{list_any, filter_map}
 use Rattle.serde_json.specs.Data.{Data}
 use Rattle.fedi_address.specs.Recipients.{all_of}
 use Rattle.fedi_address.specs.declared.recipients.Recipients.{Recipients}
-use Rattle.fedi_objects.specs.declared.kind.Kind.{Kind}
 use Rattle.fedi_reading.specs.Properties.{reference_at, type_of, iri}
 use Rattle.fedi_reading.specs.Reading.{is_bad, all_entries, recipient_of, distinct}
 use Rattle.fedi_reading.specs.Activities.{kind_of, need_of, embedded, object_id, needs_id, entries_of_both}
 use Rattle.fedi_reading.specs.Faults.{is_bad_reference, is_bad_reply, has_fault, faults}
 use Rattle.fedi_reading.specs.declared.need.Need.{Need}
-use Rattle.fedi_reading.specs.declared.need.Need.TheVariants.{Whole, Change, Another, Id, Anything}
+use Rattle.fedi_reading.specs.declared.need.Need.TheVariants.{Whole, Change, Another}
 use Rattle.fedi_reading.specs.declared.shape_fault.ShapeFault.{ShapeFault}
 use Rattle.fedi_reading.specs.declared.shape_fault.ShapeFault.TheVariants.{NotObject, BadContext, NoType, NoId, NoActor, NoObject, BadIri, TooManyRecipients, BadText, SelfTarget, Memory}
 

@@ -293,12 +293,7 @@ fn read_update(alloc: Global, value: &Value) -> Result<Activity, ShapeFault>
 }
 
 // An activity of this type.
-fn read_kind(
-    alloc: Global,
-    value: &Value,
-    author: &Iri,
-    kind: Kind,
-) -> Result<Activity, ShapeFault>
+fn read_kind(alloc: Global, value: &Value, author: &Iri, kind: Kind) -> Result<Activity, ShapeFault>
     ensures { Gives result (activities.reads_kind author.now (view value.now) kind) }
 {
     if !has_context(value) {

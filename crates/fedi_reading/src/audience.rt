@@ -134,7 +134,7 @@ fn read_both(
 ) -> Result<Items<Iri>, ShapeFault>
     ensures { Gives result
         (reading.reads_entries
-            (activities.entries_of_both key.now (view value.now) (view object.now))) }
+        (activities.entries_of_both key.now (view value.now) (view object.now))) }
 {
     let mut kept = Items::empty(alloc);
     add_entries(alloc, &mut kept, entries_at(value, key))?;

@@ -29,12 +29,8 @@ impl Need {
             Kind::Create => Need::Whole,
             Kind::Update => Need::Change,
             Kind::Follow | Kind::Block => Need::Another,
-            Kind::Accept
-            | Kind::Announce
-            | Kind::Delete
-            | Kind::Like
-            | Kind::Reject
-            | Kind::Undo => Need::Id,
+            Kind::Accept | Kind::Announce | Kind::Delete | Kind::Like | Kind::Reject | Kind::Undo =>
+                Need::Id,
             _ => Need::Anything,
         }
     }

@@ -30,7 +30,10 @@ pub(crate) fn read_reply(alloc: Global, value: &Value) -> Result<Option<Iri>, Sh
 
 // What an object replies to, and whom it is for.
 #[tactic(auto, unfolding(crate::specs::Reading::reads_people))]
-pub(crate) fn read_people(alloc: Global, value: &Value) -> Result<(Option<Iri>, Recipients), ShapeFault>
+pub(crate) fn read_people(
+    alloc: Global,
+    value: &Value,
+) -> Result<(Option<Iri>, Recipients), ShapeFault>
     ensures { Gives result (reading.reads_people (view value.now)) }
 {
     let in_reply_to = read_reply(alloc, value)?;

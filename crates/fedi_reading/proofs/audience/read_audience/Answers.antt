@@ -1,9 +1,8 @@
-use Rattle.std.proofs.Common.{◌≡◌, ◌||◌, true, refl}
+use Rattle.std.proofs.Common.{◌≡◌, true, refl}
 use Rattle.std.proofs.Math.Bool.{or-true}
 use Rattle.std.proofs.lemmas.Bool.{lt-ltb}
 use Rattle.std.proofs.lemmas.Result.{err_from_is_err_and}
 use Rattle.serde_json.specs.View.{view}
-use Rattle.fedi_reading.specs.ActivityFaults.{has_bad_entry}
 use Rattle.fedi_reading.specs.Faults.{has_fault}
 use Rattle.fedi_reading.specs.declared.shape_fault.ShapeFault.TheVariants.{TooManyRecipients}
 use Rattle.fedi_reading.proofs.ActivityFaultLemmas.{bad_audience, crowded_audience}
