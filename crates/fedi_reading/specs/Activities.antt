@@ -1,8 +1,8 @@
 -- What is read of an activity that a client posts (ActivityStreams 2.0 Vocabulary, sections 3 and 4; ActivityPub, section 6).
-use Rattle.std.specs.Prelude.{ℕ, List, ◌++◌, length, find, Bool, true, false, ◌&&◌, ◌||◌, nat_lt, Option, Some, None, is_none, option_and_then, if◌then◌else◌, codes, bytes_eq, Result, Ok, Err}
+use Rattle.std.specs.Prelude.{ℕ, List, ◌++◌, length, find, Bool, true, false, ◌&&◌, ◌||◌, nat_lt, Option, Some, None, is_none, is_some, option_and_then, if◌then◌else◌, codes, bytes_eq, Result, Ok, Err}
 use Rattle.std.specs.Option.{option_map_or}
 use Rattle.serde_json.specs.Data.{Data, null, boolean, number, string, array, object, Items, no_items, item}
-use Rattle.serde_json.specs.Find.{get}
+use Rattle.serde_json.specs.Find.{get, as_object}
 use Rattle.fedi_address.specs.Recipients.{all_of}
 use Rattle.fedi_address.specs.declared.recipients.Recipients.{Recipients}
 use Rattle.fedi_objects.specs.Kinds.{kind_name}
@@ -71,8 +71,7 @@ object_at d = option_and_then one_value (property (codes "object") d)
 
 -- a thing that stands there, and not its address
 abbrev pub itself : Data → Option Data
-itself (object ms) = Some (object ms)
-itself d = None
+itself d = if is_some (as_object d) then Some d else None
 
 -- the object that stands in the activity
 unfoldable pub embedded : Data → Option Data

@@ -50,9 +50,11 @@ fn object_at(value: &Value) -> Option<&Value>
 fn embedded(value: &Value) -> Option<&Value>
     ensures { option_map (λ v. view v.now) result ≡ activities.embedded (view value.now) }
 {
-    match object_at(value) {
-        Some(Value::Object(_)) => object_at(value),
-        _ => None,
+    let object = object_at(value)?;
+    if object.is_object() {
+        Some(object)
+    } else {
+        None
     }
 }
 
