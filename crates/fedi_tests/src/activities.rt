@@ -90,7 +90,10 @@ const OUTCOMES: [(&str, &str); 33] = [
         r#"{"type":"Create","object":"https://far.example/o","to":"x"}"#,
         "NoObject",
     ),
-    (r#"{"type":"Create","object":[[{"type":"Note"}]]}"#, "Create"),
+    (
+        r#"{"type":"Create","object":[[{"type":"Note"}]]}"#,
+        "Create",
+    ),
     (
         r#"{"type":"Create","object":[{"type":"Note"},{"type":"Note"}]}"#,
         "NoObject",
@@ -113,7 +116,10 @@ const OUTCOMES: [(&str, &str); 33] = [
     (r#"{"type":"View","target":["here"]}"#, "BadIri"),
     (r#"{"type":"View","inReplyTo":"x","name":5}"#, "BadIri"),
     (r#"{"type":"View","audience":["all"]}"#, "BadIri"),
-    (r#"{"type":"View","id":"x","actor":7,"published":"x"}"#, "View"),
+    (
+        r#"{"type":"View","id":"x","actor":7,"published":"x"}"#,
+        "View",
+    ),
     (
         r#"{"type":"Create","object":{"type":"Note","id":"x"}}"#,
         "BadIri",
@@ -171,7 +177,8 @@ fn people(alloc: Global, from: usize, count: usize) -> Result<String, Fail> {
     for number in 0..count {
         let comma = if number == 0 { "" } else { "," };
         let one = format!(in alloc;
-            r#"{comma}"https://far.example/{}""#, from.saturating_add(number)
+            r#"{comma}"https://far.example/{}""#,
+            from.saturating_add(number)
         )?;
         list.push_str(one.as_str())?;
     }
@@ -198,7 +205,10 @@ fn recipients_of_both_are_counted_together(rt: HostRuntime) -> Result<(), Fail> 
     ] {
         let first = people(rt.alloc(), 0, own)?;
         let second = people(rt.alloc(), from, others)?;
-        assert_eq!(rt; outcome_of_create(rt.alloc(), first.as_str(), second.as_str())?, name);
+        assert_eq!(rt;
+            outcome_of_create(rt.alloc(), first.as_str(), second.as_str())?,
+            name
+        );
     }
     Ok(())
 }
@@ -347,12 +357,18 @@ fn given_text(edit: &Edit<Text>) -> &str {
 
 // The marks of a change's properties, its `id` and the content that it gives.
 fn text_of_change(alloc: Global, change: &Change) -> Result<String, Fail> {
-    let (content, summary, name) = (mark(&change.content), mark(&change.summary), mark(&change.name));
-    let (url, reply, tags) = (mark(&change.url), mark(&change.in_reply_to), mark(&change.tags));
+    let (content, summary, name) = (
+        mark(&change.content),
+        mark(&change.summary),
+        mark(&change.name),
+    );
+    let (url, reply, tags) = (
+        mark(&change.url),
+        mark(&change.in_reply_to),
+        mark(&change.tags),
+    );
     let (id, given) = (change.id.text(), given_text(&change.content));
-    let text = format!(in alloc;
-        "{id} {content} {summary} {name} {url} {reply} {tags} {given}"
-    )?;
+    let text = format!(in alloc; "{id} {content} {summary} {name} {url} {reply} {tags} {given}")?;
     Ok(text)
 }
 
@@ -406,14 +422,21 @@ const CHANGES: [(&str, &str); 7] = [
         r#","tag":{"type":"Hashtag"},"type":"Tombstone","attributedTo":"x","to":["x"]"#,
         "keep keep keep keep keep give ",
     ),
-    (r#","content":"a","content":null"#, "remove keep keep keep keep keep "),
+    (
+        r#","content":"a","content":null"#,
+        "remove keep keep keep keep keep ",
+    ),
 ];
 
 #[test]
 fn an_update_keeps_removes_and_gives(rt: HostRuntime) -> Result<(), Fail> {
     for (more, text) in &CHANGES {
         let wanted = format!(in rt.alloc(); "https://far.example/o {text}")?;
-        assert_eq!(rt; change_text(rt.alloc(), more)?.as_str(), wanted.as_str(), "{more}");
+        assert_eq!(rt;
+            change_text(rt.alloc(), more)?.as_str(),
+            wanted.as_str(),
+            "{more}"
+        );
     }
     Ok(())
 }
