@@ -16,23 +16,23 @@ use Rattle.fedi_reading.specs.declared.shape_fault.ShapeFault.TheVariants.{NotOb
 use Rattle.fedi_objects.specs.declared.activity.Activity.{Activity}
 
 -- the fault, where the test holds
-abbrev only : Bool → ShapeFault → Option ShapeFault
+abbrev pub only : Bool → ShapeFault → Option ShapeFault
 only b e = cond b (Some e) None
 
 -- what comes next counts where the first has no fault
-then_fault : {A B : Type 0} (r : Result A ShapeFault) (f : A → Result B ShapeFault) (first rest : Option ShapeFault) → result_err r ≡ first → ((x : A) → result_err (f x) ≡ rest) → result_err (r >>= f) ≡ option_or first rest
+pub then_fault : {A B : Type 0} (r : Result A ShapeFault) (f : A → Result B ShapeFault) (first rest : Option ShapeFault) → result_err r ≡ first → ((x : A) → result_err (f x) ≡ rest) → result_err (r >>= f) ≡ option_or first rest
 then_fault (Ok x) f first rest h k = rw (← h) (k x)
 then_fault (Err e) f first rest h k = rw (← h) refl
 
-or_none : (b : Bool) (e : ShapeFault) → option_or (only b e) None ≡ only b e
+pub or_none : (b : Bool) (e : ShapeFault) → option_or (only b e) None ≡ only b e
 or_none true e = refl
 or_none false e = refl
 
-or_cond : (b : Bool) (e : ShapeFault) (rest : Option ShapeFault) → option_or (only b e) rest ≡ cond b (Some e) rest
+pub or_cond : (b : Bool) (e : ShapeFault) (rest : Option ShapeFault) → option_or (only b e) rest ≡ cond b (Some e) rest
 or_cond true e rest = refl
 or_cond false e rest = refl
 
-or_both : (a b : Bool) (e : ShapeFault) → option_or (only a e) (only b e) ≡ only (a || b) e
+pub or_both : (a b : Bool) (e : ShapeFault) → option_or (only a e) (only b e) ≡ only (a || b) e
 or_both true b e = refl
 or_both false b e = refl
 
@@ -51,11 +51,11 @@ either_first : (a b : Bool) (e : ShapeFault) (rest : Option ShapeFault) → opti
 either_first true b e rest = refl
 either_first false b e rest = refl
 
-ended_fault : {A : Type 0} (b : Bool) (e : ShapeFault) (x : A) → result_err (cond b (Err e) (Ok x)) ≡ only b e
+pub ended_fault : {A : Type 0} (b : Bool) (e : ShapeFault) (x : A) → result_err (cond b (Err e) (Ok x)) ≡ only b e
 ended_fault true e x = refl
 ended_fault false e x = refl
 
-named_fault : (text : Option (List ℕ)) → result_err (reads_iri text) ≡ only (option_map_or (λ t. is_none (iri t)) text false) BadIri
+pub named_fault : (text : Option (List ℕ)) → result_err (reads_iri text) ≡ only (option_map_or (λ t. is_none (iri t)) text false) BadIri
 named_fault None = refl
 named_fault (Some text) =
     elim (iri text) as (λ o. result_err (cond (is_some o) (Ok o) (Err BadIri)) ≡ only (is_none o) BadIri) [ None ↦ refl | Some i ↦ refl ]
@@ -74,18 +74,18 @@ top_fault (Some ms) false r f rest h = refl
 top_fault (Some ms) true (Ok x) f rest h = h
 top_fault (Some ms) true (Err e) f rest h = h
 
-entries_fault : (ds : List Data) → result_err (reads_entries ds) ≡ only (list_any is_bad ds) BadIri
+pub entries_fault : (ds : List Data) → result_err (reads_entries ds) ≡ only (list_any is_bad ds) BadIri
 unfolding reads_entries
 entries_fault ds =
     elim (list_any is_bad ds) as (λ b. result_err (cond b (Err BadIri) (Ok (distinct (filter_map recipient_of ds)))) ≡ only b BadIri)
     [ true ↦ refl | false ↦ refl ]
 
 -- two parts that can be bad
-both_bad : {A B : Type 0} (r : Result A ShapeFault) (f : A → Result B ShapeFault) (xs ys : List Data) → result_err r ≡ only (list_any is_bad xs) BadIri → ((x : A) → result_err (f x) ≡ only (list_any is_bad ys) BadIri) → result_err (r >>= f) ≡ only (list_any is_bad (xs ++ ys)) BadIri
+pub both_bad : {A B : Type 0} (r : Result A ShapeFault) (f : A → Result B ShapeFault) (xs ys : List Data) → result_err r ≡ only (list_any is_bad xs) BadIri → ((x : A) → result_err (f x) ≡ only (list_any is_bad ys) BadIri) → result_err (r >>= f) ≡ only (list_any is_bad (xs ++ ys)) BadIri
 both_bad r f xs ys h k = then_fault r f _ _ h k ∙ or_both _ _ BadIri ∙ ap (λ b. only b BadIri) (sym (list_any-append is_bad xs ys))
 
 -- a part after which nothing can be bad
-last_bad : {A B : Type 0} (r : Result A ShapeFault) (f : A → B) (xs : List Data) → result_err r ≡ only (list_any is_bad xs) BadIri → result_err (r >>= λ x. Ok (f x)) ≡ only (list_any is_bad xs) BadIri
+pub last_bad : {A B : Type 0} (r : Result A ShapeFault) (f : A → B) (xs : List Data) → result_err r ≡ only (list_any is_bad xs) BadIri → result_err (r >>= λ x. Ok (f x)) ≡ only (list_any is_bad xs) BadIri
 last_bad r f xs h = then_fault r (λ x. Ok (f x)) _ None h (λ x. refl) ∙ or_none _ BadIri
 
 fields_fault : (first second : List ℕ) (d : Data) → result_err (reads_fields first second d) ≡ only (list_any is_bad (entries_at first d ++ entries_at second d)) BadIri
@@ -103,22 +103,22 @@ recipients_fault d =
     (λ hidden. last_bad _ (λ audience. record { to = told.0; cc = told.1; bto = hidden.0; bcc = hidden.1; audience = audience }) _ (entries_fault (entries_at (codes "audience") d))))
     ∙ ap (λ ds. only (list_any is_bad ds) BadIri) (simp append_assoc)
 
-reply_fault : (d : Data) → result_err (reads_reply d) ≡ only (is_bad_reply d) BadIri
+pub reply_fault : (d : Data) → result_err (reads_reply d) ≡ only (is_bad_reply d) BadIri
 unfolding reads_reply
 reply_fault d = named_fault (reference_at (codes "inReplyTo") d)
 
-people_fault : (d : Data) → result_err (reads_people d) ≡ cond (has_fault d BadIri) (Some BadIri) (only (has_fault d TooManyRecipients) TooManyRecipients)
+pub people_fault : (d : Data) → result_err (reads_people d) ≡ cond (has_fault d BadIri) (Some BadIri) (only (has_fault d TooManyRecipients) TooManyRecipients)
 unfolding reads_people
 people_fault d =
     then_fault (reads_reply d) _ (only (is_bad_reply d) BadIri) (cond (list_any is_bad (all_entries d)) (Some BadIri) (only (has_fault d TooManyRecipients) TooManyRecipients)) (reply_fault d)
     (λ reply. then_fault (reads_recipients d) _ _ _ (recipients_fault d) (λ people. ended_fault _ TooManyRecipients (reply, people)) ∙ or_cond (list_any is_bad (all_entries d)) BadIri (only (nat_lt 500 (length (all_entries d))) TooManyRecipients))
     ∙ either_first (is_bad_reply d) (list_any is_bad (all_entries d)) BadIri _
 
-fault_of : {A : Type 0} (r : Result A ShapeFault) (e : ShapeFault) → result_err r ≡ Some e → r ≡ Err e
+pub fault_of : {A : Type 0} (r : Result A ShapeFault) (e : ShapeFault) → result_err r ≡ Some e → r ≡ Err e
 fault_of (Ok x) e h = absurd cc
 fault_of (Err e) f h = cc
 
-good_of : {A : Type 0} (r : Result A ShapeFault) → result_err r ≡ None → (x : A) × (r ≡ Ok x)
+pub good_of : {A : Type 0} (r : Result A ShapeFault) → result_err r ≡ None → (x : A) × (r ≡ Ok x)
 good_of (Ok x) h = (x, refl)
 good_of (Err e) h = absurd cc
 
@@ -138,7 +138,7 @@ text_fault : (key : List ℕ) (d : Data) → result_err (reads_text key d) ≡ o
 unfolding reads_text
 text_fault key d = long_fault (text_at key d)
 
-words_fault : (d : Data) → result_err (reads_words d) ≡ only (has_fault d BadText) BadText
+pub words_fault : (d : Data) → result_err (reads_words d) ≡ only (has_fault d BadText) BadText
 unfolding reads_words
 words_fault d =
     then_fault (reads_text (codes "content") d) _ _ _ (text_fault (codes "content") d)

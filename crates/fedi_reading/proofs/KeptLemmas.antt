@@ -19,7 +19,7 @@ use Rattle.fedi_reading.specs.declared.shape_fault.ShapeFault.TheVariants.{NotOb
 
 -- ---- steps that found no fault
 
-then_ok : {A B : Type 0} (r : Result A ShapeFault) (f : A → Result B ShapeFault) (y : B) → (r >>= f) ≡ Ok y → (x : A) × (r ≡ Ok x) × (f x ≡ Ok y)
+pub then_ok : {A B : Type 0} (r : Result A ShapeFault) (f : A → Result B ShapeFault) (y : B) → (r >>= f) ≡ Ok y → (x : A) × (r ≡ Ok x) × (f x ≡ Ok y)
 then_ok (Ok x) f y h = (x, refl, h)
 then_ok (Err e) f y h = absurd cc
 
@@ -96,7 +96,7 @@ pub record AreNamed (d : Data) (r : Recipients) : Type 0 where
   pub bcc : r.bcc ≡ named_by (codes "bcc") d
   pub audience : r.audience ≡ named_by (codes "audience") d
 
-entries_named : (ds : List Data) (names : List (List ℕ)) → reads_entries ds ≡ Ok names → names ≡ distinct (filter_map recipient_of ds)
+pub entries_named : (ds : List Data) (names : List (List ℕ)) → reads_entries ds ≡ Ok names → names ≡ distinct (filter_map recipient_of ds)
 unfolding reads_entries
 entries_named ds names h = sym (if_ok (list_any is_bad ds) BadIri (distinct (filter_map recipient_of ds)) names h).1
 

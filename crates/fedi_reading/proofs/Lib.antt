@@ -1,3 +1,5 @@
+pub mod ActivityFaultLemmas
+pub mod ActivityLemmas
 pub mod FaultLemmas
 pub mod KeptLemmas
 pub mod ReadingLemmas

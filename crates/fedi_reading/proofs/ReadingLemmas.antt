@@ -1,15 +1,16 @@
 -- Lists of values, seen as their data.
-use Rattle.std.proofs.Common.{◌≡◌, ℕ, ◌+◌, ◌<◌, List, [], ◌∷◌, ◌++◌, append-nil, map, take, get_or, length, Bool, true, false, cond, ◌||◌, Option, Some, None, refl, ap, ◌∙◌}
-use Rattle.std.specs.Prelude.{Ok, Err}
-use Rattle.std.proofs.lemmas.List.{take_more, map_push}
+use Rattle.std.proofs.Common.{◌≡◌, ℕ, ◌+◌, ◌<◌, List, [], ◌∷◌, ◌++◌, append-nil, map, take, drop, drop-cons, find, get_or, length, Bool, true, false, cond, ◌||◌, Option, Some, None, refl, ap, sym, ◌∙◌}
+use Rattle.std.specs.Prelude.{◌≢◌, Ok, Err}
+use Rattle.std.proofs.lemmas.List.{take_more, take-append-drop, map_push}
 use Rattle.std.proofs.lemmas.List.Sums.{fold-append}
-use Rattle.std.proofs.lemmas.List.Folds.{list_any-append, list_any_at}
+use Rattle.std.proofs.lemmas.List.Folds.{list_any-append, list_any_at, find-append}
 use Rattle.std.proofs.lemmas.List.Elements.{filter_map-append}
 use Rattle.std.specs.List.{list_any, filter_map, cons_option}
 use Rattle.serde_json.specs.Data.{Data}
 use Rattle.serde_json.specs.View.{items_of}
-use Rattle.fedi_reading.specs.Properties.{list_of}
-use Rattle.fedi_reading.specs.Reading.{is_bad, recipient_of, reads_entry, reads_entries, add_new, distinct}
+use Rattle.fedi_reading.specs.Activities.{one_entry, entries_of_both}
+use Rattle.fedi_reading.specs.Properties.{list_of, entries_at}
+use Rattle.fedi_reading.specs.Reading.{is_bad, recipient_of, reads_entry, reads_entries, add_new, add_all, distinct}
 use Rattle.fedi_reading.specs.declared.shape_fault.ShapeFault.{ShapeFault}
 use Rattle.fedi_reading.specs.declared.shape_fault.ShapeFault.TheVariants.{BadIri}
 
@@ -17,6 +18,12 @@ use Rattle.fedi_reading.specs.declared.shape_fault.ShapeFault.TheVariants.{BadIr
 pub list_of_items : (ds : List Data) → list_of (items_of ds) ≡ ds
 list_of_items [] = refl
 list_of_items (d ∷ ds) = ap (λ es. d ∷ es) (list_of_items ds)
+
+-- a list that has not one entry stands for nothing
+pub none_of_many : {X : Type 0} (f : X → Data) (xs : List X) → length xs ≢ 1 → one_entry (items_of (map f xs)) ≡ None
+none_of_many f [] h = refl
+none_of_many f (y ∷ []) h = absurd (h refl)
+none_of_many f (y ∷ (z ∷ ys)) h = refl
 
 -- a test of what the elements are seen as
 pub list_any_map : {X Y : Type 0} (f : X → Y) (p : Y → Bool) (xs : List X) → list_any p (map f xs) ≡ list_any (λ x. p (f x)) xs
@@ -26,6 +33,15 @@ list_any_map f p (x ∷ xs) = ap (λ b. p (f x) || b) (list_any_map f p xs)
 -- one more element, as at a step of a loop
 pub map_take_more : {X Y : Type 0} (f : X → Y) (xs : List X) (i : ℕ) (x : X) → i < length xs → map f (take (i + 1) xs) ≡ map f (take i xs) ++ f (get_or xs i x) ∷ []
 map_take_more f xs i x h = ap (map f) (take_more xs i x h) ∙ map_push f (take i xs) (get_or xs i x)
+
+-- an element that does not pass is gone past in a search
+pub find_past : {X : Type 0} (p : X → Bool) (xs : List X) (i : ℕ) (x : X) → i < length xs → find p (take i xs) ≡ None → p (get_or xs i x) ≡ false → find p (take (i + 1) xs) ≡ None
+find_past p xs i x h none fails = rw (take_more xs i x h, find-append p (take i xs) (get_or xs i x ∷ []), none, fails) refl
+
+-- the first element that passes is what a search finds
+pub find_here : {X : Type 0} (p : X → Bool) (xs : List X) (i : ℕ) (x : X) → i < length xs → find p (take i xs) ≡ None → p (get_or xs i x) ≡ true → find p xs ≡ Some (get_or xs i x)
+find_here p xs i x h none passes =
+    sym (ap (find p) (take-append-drop i xs)) ∙ find-append p (take i xs) (drop i xs) ∙ rw (none, drop-cons xs i x h, passes) refl
 
 -- an entry that is read is not bad
 entry_ok : (d : Data) (o : Option (List ℕ)) → reads_entry d ≡ Ok o → (is_bad d ≡ false) × (recipient_of d ≡ o)
@@ -37,43 +53,36 @@ entry_err : (d : Data) (e : ShapeFault) → reads_entry d ≡ Err e → (is_bad 
 unfolding reads_entry
 entry_err d e = elim (is_bad d) as (λ b. cond b (Err BadIri) (Ok (recipient_of d)) ≡ Err e → (b ≡ true) × (e ≡ BadIri)) [ true ↦ λ h. (refl, cc) | false ↦ λ h. cc ]
 
--- What is kept of the entries so far, of which none is bad.
-pub record HasRead (ds : List Data) (kept : List (List ℕ)) : Type 0 where
+-- What is kept of the entries so far, of which none is bad, beside what was there at the start.
+pub record HasRead (start : List (List ℕ)) (ds : List Data) (kept : List (List ℕ)) : Type 0 where
   pub good : list_any is_bad ds ≡ false
-  pub once : kept ≡ distinct (filter_map recipient_of ds)
+  pub once : kept ≡ add_all start ds
 
-pub none_read : HasRead [] []
-unfolding distinct
-none_read = record { good = refl; once = refl }
+pub none_read : (start : List (List ℕ)) → HasRead start [] start
+none_read start = record { good = refl; once = refl }
 
 goes_past : (ds : List Data) (d : Data) → list_any is_bad ds ≡ false → is_bad d ≡ false → list_any is_bad (ds ++ d ∷ []) ≡ false
 goes_past ds d h k = rw (list_any-append is_bad ds (d ∷ []), h, k) refl
 
-pub read_past : (ds : List Data) (d : Data) (kept : List (List ℕ)) → HasRead ds kept → reads_entry d ≡ Ok None → HasRead (ds ++ d ∷ []) kept
-read_past ds d kept h e =
+pub read_past : (start : List (List ℕ)) (ds : List Data) (d : Data) (kept : List (List ℕ)) → HasRead start ds kept → reads_entry d ≡ Ok None → HasRead start (ds ++ d ∷ []) kept
+read_past start ds d kept h e =
     let read = entry_ok d None e in
     record {
       good = goes_past ds d h.good read.0;
       once = rw (filter_map-append recipient_of ds (d ∷ []), read.1, append-nil) h.once;
     }
 
-pub read_more : (ds : List Data) (d : Data) (kept : List (List ℕ)) (text : List ℕ) → HasRead ds kept → reads_entry d ≡ Ok (Some text) → HasRead (ds ++ d ∷ []) (add_new kept text)
-unfolding distinct
-read_more ds d kept text h e =
+pub read_more : (start : List (List ℕ)) (ds : List Data) (d : Data) (kept : List (List ℕ)) (text : List ℕ) → HasRead start ds kept → reads_entry d ≡ Ok (Some text) → HasRead start (ds ++ d ∷ []) (add_new kept text)
+read_more start ds d kept text h e =
     let read = entry_ok d (Some text) e in
     record {
       good = goes_past ds d h.good read.0;
-      once = rw (filter_map-append recipient_of ds (d ∷ []), read.1, fold-append add_new [] (filter_map recipient_of ds) (text ∷ []), ← h.once) refl;
+      once = rw (filter_map-append recipient_of ds (d ∷ []), read.1, fold-append add_new start (filter_map recipient_of ds) (text ∷ []), ← h.once) refl;
     }
 
 -- none is bad with one more that is read
 pub stays_good : (ds : List Data) (d : Data) (o : Option (List ℕ)) → list_any is_bad ds ≡ false → reads_entry d ≡ Ok o → list_any is_bad (ds ++ d ∷ []) ≡ false
 stays_good ds d o h e = goes_past ds d h (entry_ok d o e).0
-
--- all entries are read
-pub reads_all : (ds : List Data) (kept : List (List ℕ)) → HasRead ds kept → reads_entries ds ≡ Ok kept
-unfolding reads_entries
-reads_all ds kept h = rw (h.good, h.once) refl
 
 -- a bad entry is found among all
 pub finds_bad : {X : Type 0} (f : X → Data) (xs : List X) (i : ℕ) (x : X) (e : ShapeFault) → i < length xs → reads_entry (f (get_or xs i x)) ≡ Err e → (e ≡ BadIri) × (list_any is_bad (map f xs) ≡ true)
@@ -81,12 +90,18 @@ finds_bad f xs i x e h k =
     let bad = entry_err (f (get_or xs i x)) e k in
     (bad.1, list_any_map f is_bad xs ∙ list_any_at (λ y. is_bad (f y)) xs i x h bad.0)
 
--- one bad entry makes the field bad
-pub reads_none : {X : Type 0} (f : X → Data) (xs : List X) (i : ℕ) (x : X) (e : ShapeFault) → i < length xs → reads_entry (f (get_or xs i x)) ≡ Err e → reads_entries (map f xs) ≡ Err e
-unfolding reads_entries
-reads_none f xs i x e h k =
-    let bad = finds_bad f xs i x e h k in
-    rw (bad.1, bad.0) refl
+-- entries that are good are read
+pub reads_good : (ds : List Data) → list_any is_bad ds ≡ false → reads_entries ds ≡ Ok (add_all [] ds)
+unfolding reads_entries distinct
+reads_good ds h = rw h refl
+
+-- the entries of a field of both, of which none is bad
+pub both_good : (key : List ℕ) (d o : Data) (kept more : List (List ℕ)) → list_any is_bad (entries_at key d) ≡ false → list_any is_bad (entries_at key o) ≡ false
+    → kept ≡ add_all [] (entries_at key d) → more ≡ add_all kept (entries_at key o) → reads_entries (entries_of_both key d o) ≡ Ok more
+unfolding entries_of_both
+both_good key d o kept more h k first second =
+    reads_good (entries_at key d ++ entries_at key o) (rw (list_any-append is_bad (entries_at key d) (entries_at key o), h) k)
+    ∙ rw (second, first, filter_map-append recipient_of (entries_at key d) (entries_at key o), fold-append add_new [] (filter_map recipient_of (entries_at key d)) (filter_map recipient_of (entries_at key o))) refl
 
 -- one more element is tried
 pub filter_map_more : {X Y : Type 0} (h : X → Option Y) (xs : List X) (x : X) (o : Option Y) → h x ≡ o → filter_map h (xs ++ x ∷ []) ≡ filter_map h xs ++ cons_option o []

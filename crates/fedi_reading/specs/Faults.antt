@@ -9,9 +9,13 @@ use Rattle.fedi_reading.specs.Reading.{is_bad, all_entries}
 use Rattle.fedi_reading.specs.declared.shape_fault.ShapeFault.{ShapeFault}
 use Rattle.fedi_reading.specs.declared.shape_fault.ShapeFault.TheVariants.{NotObject, BadContext, NoType, NoId, NoActor, NoObject, BadIri, TooManyRecipients, BadText, SelfTarget, Memory}
 
+-- something is named, but by no address
+abbrev pub is_bad_reference : Option (List ℕ) → Bool
+is_bad_reference reference = option_map_or (λ text. is_none (iri text)) reference false
+
 -- what is replied to is named, but by no address
 abbrev pub is_bad_reply : Data → Bool
-is_bad_reply d = option_map_or (λ text. is_none (iri text)) (reference_at (codes "inReplyTo") d) false
+is_bad_reply d = is_bad_reference (reference_at (codes "inReplyTo") d)
 
 -- a text is too long to be kept
 abbrev pub is_long : Option (List ℕ) → Bool

@@ -1,3 +1,5 @@
+pub mod Activities
+pub mod ActivityFaults
 pub mod Bodies
 pub mod Faults
 pub mod Properties

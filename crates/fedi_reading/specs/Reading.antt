@@ -44,6 +44,10 @@ add_new kept text = if is_among text kept then kept else kept ++ text ∷ []
 unfoldable pub distinct : List (List ℕ) → List (List ℕ)
 distinct texts = fold add_new [] texts
 
+-- the texts, and whom the entries name, each that is not there yet
+abbrev pub add_all : List (List ℕ) → List Data → List (List ℕ)
+add_all kept ds = fold add_new kept (filter_map recipient_of ds)
+
 -- a field of recipients, by its entries (ActivityPub, section 6; Vocabulary, section 4)
 unfoldable pub reads_entries : List Data → Result (List (List ℕ)) ShapeFault
 reads_entries ds = if list_any is_bad ds then Err BadIri else Ok (distinct (filter_map recipient_of ds))

@@ -41,3 +41,8 @@ abbrev pub ◌>>=◌ : {A B : Type 0} → Result A ShapeFault → (A → Result 
 abbrev pub Gives : {X : Type 0} → Result X ShapeFault → Result X ShapeFault → Type 0
 Gives (Ok x) read = read ≡ Ok x
 Gives (Err e) read = e ≢ Memory → read ≡ Err e
+
+-- A function left in a value what is read, or ran out of memory.
+abbrev pub Fills : {X : Type 0} → Result (Unit {0}) ShapeFault → X → Result X ShapeFault → Type 0
+Fills (Ok done) x read = read ≡ Ok x
+Fills (Err e) x read = e ≢ Memory → read ≡ Err e

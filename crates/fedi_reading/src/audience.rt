@@ -2,6 +2,7 @@
 
 ghost use Rattle.std.specs.Prelude.{◌≡◌, length, map, IfOk, OnOk};
 ghost use Rattle.serde_json.specs.View.{view};
+ghost use Rattle.fedi_reading.specs.Activities as activities;
 ghost use Rattle.fedi_reading.specs.Reading as reading;
 ghost use Rattle.fedi_reading.specs.Reading.{Checks};
 ghost use Rattle.fedi_reading.specs.Shapes.{Gives};
@@ -11,6 +12,9 @@ use crate::shape_fault::ShapeFault;
 use fedi_address::{Iri, Items, Recipients, is_among};
 use serde_json::Value;
 use std::alloc::{AllocError, Global};
+
+/// The most entries that the five fields of recipients may have, as they are written.
+pub(crate) const MOST_ENTRIES: usize = 500;
 
 // Whom a text names: the short names stand for everyone (ActivityPub, section 5.6).
 #[tactic(auto, unfolding(crate::specs::Reading::recipient, crate::specs::Reading::is_everyone))]
@@ -71,16 +75,26 @@ pub(crate) fn check_recipients(alloc: Global, value: &Value) -> Result<(), Shape
     check_entries(alloc, entries_at(value, "audience"))
 }
 
+// Adds the addresses of a field, each that is not there yet.
+fn add_entries(alloc: Global, kept: &mut Items<Iri>, entries: &[Value]) -> Result<(), ShapeFault>
+    ensures bad { Checks result (map view entries.now) }
+    ensures added { OnOk result (kept.new ≡ reading.add_all kept.old (map view entries.now)) }
+{
+    for entry in entries {
+        if let Some(iri) = read_entry(alloc, entry)? {
+            add_new(kept, iri)?;
+        }
+    }
+    Ok(())
+}
+
 // The addresses of a field, each once.
+#[tactic(auto, unfolding(crate::specs::Reading::reads_entries, crate::specs::Reading::distinct))]
 fn read_entries(alloc: Global, entries: &[Value]) -> Result<Items<Iri>, ShapeFault>
     ensures { Gives result (reading.reads_entries (map view entries.now)) }
 {
     let mut kept = Items::empty(alloc);
-    for entry in entries {
-        if let Some(iri) = read_entry(alloc, entry)? {
-            add_new(&mut kept, iri)?;
-        }
-    }
+    add_entries(alloc, &mut kept, entries)?;
     Ok(kept)
 }
 
@@ -108,4 +122,62 @@ pub(crate) fn entry_count(value: &Value) -> usize
         + entries_at(value, "bto").len()
         + entries_at(value, "bcc").len()
         + entries_at(value, "audience").len()
+}
+
+// The addresses of a field of a Create and its object, each once.
+#[tactic(auto, unfolding(crate::specs::Reading::reads_entries, crate::specs::Reading::distinct, crate::specs::Activities::entries_of_both))]
+fn read_both(
+    alloc: Global,
+    value: &Value,
+    object: &Value,
+    key: &str,
+) -> Result<Items<Iri>, ShapeFault>
+    ensures { Gives result
+        (reading.reads_entries
+        (activities.entries_of_both key.now (view value.now) (view object.now))) }
+{
+    let mut kept = Items::empty(alloc);
+    add_entries(alloc, &mut kept, entries_at(value, key))?;
+    add_entries(alloc, &mut kept, entries_at(object, key))?;
+    Ok(kept)
+}
+
+// The five fields of recipients of a Create and its object.
+#[tactic(auto, unfolding(crate::specs::Activities::reads_all_recipients))]
+fn read_all_recipients(
+    alloc: Global,
+    value: &Value,
+    object: &Value,
+) -> Result<Recipients, ShapeFault>
+    ensures { Gives result
+        (activities.reads_all_recipients (view value.now) (view object.now)) }
+{
+    Ok(Recipients {
+        to: read_both(alloc, value, object, "to")?,
+        cc: read_both(alloc, value, object, "cc")?,
+        bto: read_both(alloc, value, object, "bto")?,
+        bcc: read_both(alloc, value, object, "bcc")?,
+        audience: read_both(alloc, value, object, "audience")?,
+    })
+}
+
+// Whom a Create and its object are for.
+#[tactic(auto, unfolding(crate::specs::Activities::reads_audience))]
+pub(crate) fn read_audience(
+    alloc: Global,
+    value: &Value,
+    object: &Value,
+) -> Result<Recipients, ShapeFault>
+    ensures { Gives result (activities.reads_audience (view value.now) (view object.now)) }
+{
+    if entry_count(value) > MOST_ENTRIES || entry_count(object) > MOST_ENTRIES {
+        check_recipients(alloc, value)?;
+        check_recipients(alloc, object)?;
+        return Err(ShapeFault::TooManyRecipients);
+    }
+    let recipients = read_all_recipients(alloc, value, object)?;
+    if recipients.count() > MOST_ENTRIES {
+        return Err(ShapeFault::TooManyRecipients);
+    }
+    Ok(recipients)
 }

@@ -8,9 +8,10 @@ ghost use Rattle.fedi_reading.specs.Faults.{first_fault};
 ghost use Rattle.fedi_reading.specs.Reading as reading;
 ghost use Rattle.fedi_reading.specs.Shapes.{Gives};
 
-use crate::audience::{check_recipients, entry_count, read_recipients};
+use crate::audience::{MOST_ENTRIES, check_recipients, entry_count, read_recipients};
 use crate::properties::{
-    LONGEST_TEXT, entries_at, has_context, iri_of, read_text, read_type, reference_at, text_at,
+    LONGEST_TEXT, entries_at, has_context, iri_of, read_iri, read_text, read_type, reference_at,
+    text_at,
 };
 use crate::shape_fault::ShapeFault;
 use fedi_address::{Iri, Items, Recipients};
@@ -19,26 +20,20 @@ use fedi_text::Text;
 use serde_json::Value;
 use std::alloc::{AllocError, Global};
 
-/// The most entries that the five fields of recipients may have, as they are written.
-const MOST_ENTRIES: usize = 500;
-
 // What an object replies to.
 #[tactic(auto, unfolding(crate::specs::Reading::reads_reply))]
-fn read_reply(alloc: Global, value: &Value) -> Result<Option<Iri>, ShapeFault>
+pub(crate) fn read_reply(alloc: Global, value: &Value) -> Result<Option<Iri>, ShapeFault>
     ensures { Gives result (reading.reads_reply (view value.now)) }
 {
-    let Some(text) = reference_at(value, "inReplyTo") else {
-        return Ok(None);
-    };
-    match iri_of(alloc, text)? {
-        Some(iri) => Ok(Some(iri)),
-        None => Err(ShapeFault::BadIri),
-    }
+    read_iri(alloc, reference_at(value, "inReplyTo"))
 }
 
 // What an object replies to, and whom it is for.
 #[tactic(auto, unfolding(crate::specs::Reading::reads_people))]
-fn read_people(alloc: Global, value: &Value) -> Result<(Option<Iri>, Recipients), ShapeFault>
+pub(crate) fn read_people(
+    alloc: Global,
+    value: &Value,
+) -> Result<(Option<Iri>, Recipients), ShapeFault>
     ensures { Gives result (reading.reads_people (view value.now)) }
 {
     let in_reply_to = read_reply(alloc, value)?;
@@ -51,7 +46,7 @@ fn read_people(alloc: Global, value: &Value) -> Result<(Option<Iri>, Recipients)
 }
 
 // The address of a property, if it is one.
-fn iri_at(alloc: Global, value: &Value, key: &str) -> Result<Option<Iri>, AllocError>
+pub(crate) fn iri_at(alloc: Global, value: &Value, key: &str) -> Result<Option<Iri>, AllocError>
     ensures { IfOk result (λ iri. iri ≡ reading.iri_at key.now (view value.now)) }
 {
     match text_at(value, key) {
@@ -108,9 +103,17 @@ fn mentions(alloc: Global, tags: &[Value]) -> Result<Items<Tag>, AllocError>
     Ok(found)
 }
 
+// The mentions of a thing.
+#[tactic(auto, unfolding(crate::specs::Reading::tags_of))]
+pub(crate) fn read_tags(alloc: Global, value: &Value) -> Result<Items<Tag>, AllocError>
+    ensures { IfOk result (λ tags. tags ≡ reading.tags_of (view value.now)) }
+{
+    mentions(alloc, entries_at(value, "tag"))
+}
+
 // The content, the summary and the name.
 #[tactic(auto, unfolding(crate::specs::Reading::reads_words))]
-fn read_words(
+pub(crate) fn read_words(
     alloc: Global,
     value: &Value,
 ) -> Result<(Option<Text>, Option<Text>, Option<Text>), ShapeFault>
@@ -124,7 +127,7 @@ fn read_words(
 
 // An object that a client posts. What the server gives itself is skipped. The words are read as one,
 // since each value that is owned over a `?` makes the proof dearer.
-#[tactic(auto, unfolding(crate::specs::Reading::reads_object, crate::specs::Reading::url_of, crate::specs::Reading::tags_of))]
+#[tactic(auto, unfolding(crate::specs::Reading::reads_object, crate::specs::Reading::url_of))]
 fn read_object(alloc: Global, value: &Value) -> Result<Object, ShapeFault>
     ensures { Gives result (reading.reads_object (view value.now)) }
 {
@@ -132,7 +135,7 @@ fn read_object(alloc: Global, value: &Value) -> Result<Object, ShapeFault>
     let people = read_people(alloc, value)?;
     let words = read_words(alloc, value)?;
     let url = iri_at(alloc, value, "url")?;
-    let tags = mentions(alloc, entries_at(value, "tag"))?;
+    let tags = read_tags(alloc, value)?;
     let (in_reply_to, recipients) = people;
     let (content, summary, name) = words;
     Ok(Object {

@@ -1,10 +1,13 @@
 //! The properties of ActivityStreams, as they stand in JSON.
 
-ghost use Rattle.std.specs.Prelude.{◌≡◌, ◌||◌, map, bytes_eq, option_map, IfOk};
+ghost use Rattle.std.specs.Prelude.{◌≡◌, ◌||◌, map, bytes_eq, find, option_map, IfOk};
 ghost use Rattle.std.specs.Option.{option_copied};
 ghost use Rattle.std.specs.List.{list_any};
 ghost use Rattle.serde_json.specs.View.{view};
+ghost use Rattle.fedi_objects.specs.Kinds.{kind_name};
+ghost use Rattle.fedi_reading.specs.Activities as activities;
 ghost use Rattle.fedi_reading.specs.Properties as properties;
+ghost use Rattle.fedi_reading.specs.Reading as reading;
 ghost use Rattle.fedi_reading.specs.Shapes.{Gives};
 
 use crate::shape_fault::ShapeFault;
@@ -122,7 +125,7 @@ pub(crate) fn has_context(value: &Value) -> bool
 
 // The type of a thing: the first, if it has many.
 #[tactic(auto, unfolding(crate::specs::Properties::type_of, crate::specs::Properties::type_text))]
-fn type_of(value: &Value) -> Option<&str>
+pub(crate) fn type_of(value: &Value) -> Option<&str>
     ensures { option_copied result ≡ properties.type_of (view value.now) }
 {
     let found = property(value, "type")?;
@@ -132,6 +135,34 @@ fn type_of(value: &Value) -> Option<&str>
     } else {
         None
     }
+}
+
+// The first of these types that has this name.
+fn named_among(kinds: &[Kind], text: &str) -> Option<Kind>
+    ensures { result ≡ find (λ kind. bytes_eq (kind_name kind) text.now) kinds.now }
+{
+    for kind in kinds {
+        if kind.name() == text {
+            return Some(*kind);
+        }
+    }
+    None
+}
+
+// The type of activity with this name.
+#[tactic(auto, unfolding(crate::specs::Activities::kind_named))]
+fn kind_named(text: &str) -> Option<Kind>
+    ensures { result ≡ activities.kind_named text.now }
+{
+    named_among(&Kind::ALL, text)
+}
+
+// The type of an activity. A thing of another type has none.
+#[tactic(auto, unfolding(crate::specs::Activities::kind_of))]
+pub(crate) fn kind_of(value: &Value) -> Option<Kind>
+    ensures { result ≡ activities.kind_of (view value.now) }
+{
+    type_of(value).and_then(kind_named)
 }
 
 // Whether the text is one of the types of activities.
@@ -148,6 +179,17 @@ fn makes_nothing(text: &str) -> bool
     ensures { result ≡ properties.makes_nothing text.now }
 {
     is_activity_type(text) || text == TOMBSTONE
+}
+
+// The type of the object of a Create.
+#[tactic(auto, unfolding(crate::specs::Activities::reads_new_type))]
+pub(crate) fn read_new_type(alloc: Global, object: &Value) -> Result<Text, ShapeFault>
+    ensures { Gives result (activities.reads_new_type (view object.now)) }
+{
+    match type_of(object) {
+        Some(text) if text != TOMBSTONE => Ok(Text::from_text(alloc, text)?),
+        _ => Err(ShapeFault::NoType),
+    }
 }
 
 // The type of an object to be made.
@@ -188,5 +230,24 @@ pub(crate) fn iri_of(alloc: Global, text: &str) -> Result<Option<Iri>, AllocErro
         Err(IriFault::NotIri) => Ok(None),
         Err(IriFault::TooLong) => Ok(None),
         Err(IriFault::Memory) => Err(AllocError),
+    }
+}
+
+// The address that a text must be.
+#[tactic(auto, unfolding(crate::specs::Activities::reads_address))]
+pub(crate) fn read_address(alloc: Global, text: &str) -> Result<Iri, ShapeFault>
+    ensures { Gives result (activities.reads_address text.now) }
+{
+    iri_of(alloc, text)?.ok_or(ShapeFault::BadIri)
+}
+
+// The address that a text must be, if there is one.
+#[tactic(auto, unfolding(crate::specs::Activities::reads_address))]
+pub(crate) fn read_iri(alloc: Global, text: Option<&str>) -> Result<Option<Iri>, ShapeFault>
+    ensures { Gives result (reading.reads_iri (option_copied text.entry)) }
+{
+    match text {
+        None => Ok(None),
+        Some(text) => Ok(Some(read_address(alloc, text)?)),
     }
 }

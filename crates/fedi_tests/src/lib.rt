@@ -5,6 +5,8 @@
 #![tactic(auto)]
 
 #[cfg(test)]
+mod activities;
+#[cfg(test)]
 mod address;
 #[cfg(test)]
 mod mac;

@@ -1,0 +1,330 @@
+-- Reading an activity stops at the fault with the least number.
+use Rattle.std.proofs.Common.{◌≡◌, ℕ, List, [], ◌∷◌, find, length, Bool, true, false, not, cond, ◌||◌, ◌&&◌, nat_lt, Option, Some, None, codes, bytes_eq, refl, ap, sym, ◌∙◌}
+use Rattle.std.specs.Prelude.{◌≢◌, Result, Ok, Err, IfErr, OnOk, is_some, is_none, option_and_then}
+use Rattle.std.specs.Option.{option_or, option_map_or}
+use Rattle.std.specs.Result.{result_err}
+use Rattle.std.specs.List.{list_any}
+use Rattle.std.proofs.lemmas.List.Folds.{list_any-append}
+use Rattle.serde_json.specs.Data.{Data, null, boolean, number, string, array, object}
+use Rattle.serde_json.specs.Find.{as_object}
+use Rattle.fedi_address.specs.Recipients.{all_of}
+use Rattle.fedi_address.specs.declared.recipients.Recipients.{Recipients}
+use Rattle.fedi_objects.specs.declared.activity.Activity.{Activity}
+use Rattle.fedi_objects.specs.declared.kind.Kind.{Kind}
+use Rattle.fedi_reading.specs.Properties.{entries_at, property, reference_at, has_context, type_of, iri}
+use Rattle.fedi_reading.specs.Reading.{is_bad, reads_entries, all_entries, reads_iri, reads_reply, reads_people, reads_words, reads_posted}
+use Rattle.fedi_reading.specs.Shapes.{◌>>=◌, Gives}
+use Rattle.fedi_reading.specs.Faults.{is_bad_reference, is_bad_reply, has_fault, faults, first_fault}
+use Rattle.fedi_reading.specs.Activities.{kind_of, need_of, object_at, itself, embedded, id_of, object_id, or_no_object, reads_address, reads_target, new_type, reads_new_type, entries_of_both, reads_all_recipients, is_crowd, reads_audience, reads_creation, reads_own_id, reads_changes, needs_id, reads_id, is_oneself, reads_other, reads_by_need, reads_kind, reads_activity}
+use Rattle.fedi_reading.specs.ActivityFaults.{has_wrong_type, has_bad_entry, named_by_both, union, has_crowd, is_self, has_activity_fault, first_post_fault}
+use Rattle.fedi_reading.specs.declared.need.Need.{Need}
+use Rattle.fedi_reading.specs.declared.need.Need.TheVariants.{Whole, Change, Another, Anything}
+use Rattle.fedi_reading.specs.declared.need.Need.TheVariants as needs
+use Rattle.fedi_reading.specs.declared.shape_fault.ShapeFault.{ShapeFault}
+use Rattle.fedi_reading.specs.declared.shape_fault.ShapeFault.TheVariants.{NotObject, BadContext, NoType, NoId, NoActor, NoObject, BadIri, TooManyRecipients, BadText, SelfTarget, Memory}
+use Rattle.fedi_reading.proofs.FaultLemmas.{only, then_fault, or_none, or_cond, or_both, ended_fault, named_fault, entries_fault, reply_fault, people_fault, words_fault, posted_fault, fault_of}
+use Rattle.fedi_reading.proofs.KeptLemmas.{then_ok, entries_named}
+
+-- ---- tests
+
+or_swap : (a b c d : Bool) → ((a || b) || (c || d)) ≡ ((a || c) || (b || d))
+or_swap true b c d = refl
+or_swap false true true d = refl
+or_swap false true false d = refl
+or_swap false false true d = refl
+or_swap false false false d = refl
+
+-- ---- the parts
+
+new_type_fault : (o : Data) → result_err (reads_new_type o) ≡ only (has_wrong_type o) NoType
+unfolding reads_new_type
+new_type_fault o =
+    elim (type_of o) as (λ t. result_err (new_type t) ≡ only (option_map_or (λ text. bytes_eq text (codes "Tombstone")) t true) NoType)
+    [ None ↦ refl | Some text ↦ ended_fault (bytes_eq text (codes "Tombstone")) NoType text ]
+
+target_fault : (d : Data) → result_err (reads_target d) ≡ only (is_bad_reference (reference_at (codes "target") d)) BadIri
+unfolding reads_target
+target_fault d = named_fault (reference_at (codes "target") d)
+
+address_fault : (text : List ℕ) → result_err (reads_address text) ≡ only (is_bad_reference (Some text)) BadIri
+unfolding reads_address
+address_fault text = elim (iri text) as (λ o. result_err (option_map_or Ok o (Err BadIri)) ≡ only (is_none o) BadIri) [ None ↦ refl | Some i ↦ refl ]
+
+-- a field has a bad entry
+abbrev bad_at : List ℕ → Data → Bool
+bad_at key d = list_any is_bad (entries_at key d)
+
+-- five steps, each of which can be bad
+five_faults : {A B C D E F : Type 0} (a : Result A ShapeFault) (b : Result B ShapeFault) (c : Result C ShapeFault) (d : Result D ShapeFault) (e : Result E ShapeFault) (f : A → B → C → D → E → F) (p q r s t : Bool)
+    → result_err a ≡ only p BadIri → result_err b ≡ only q BadIri → result_err c ≡ only r BadIri → result_err d ≡ only s BadIri → result_err e ≡ only t BadIri
+    → result_err (a >>= λ v. b >>= λ w. c >>= λ x. d >>= λ y. e >>= λ z. Ok (f v w x y z)) ≡ only (p || (q || (r || (s || t)))) BadIri
+five_faults a b c d e f p q r s t h i j k l =
+    then_fault a _ _ (only (q || (r || (s || t))) BadIri) h
+    (λ v. then_fault b _ _ (only (r || (s || t)) BadIri) i
+    (λ w. then_fault c _ _ (only (s || t) BadIri) j
+    (λ x. then_fault d _ _ (only t BadIri) k
+    (λ y. then_fault e (λ z. Ok (f v w x y z)) _ None l (λ z. refl) ∙ or_none t BadIri)
+    ∙ or_both s t BadIri)
+    ∙ or_both r (s || t) BadIri)
+    ∙ or_both q (r || (s || t)) BadIri)
+    ∙ or_both p (q || (r || (s || t))) BadIri
+
+-- a bad entry is in one of the five fields
+any_of_five : (d : Data) → has_bad_entry d ≡ (bad_at (codes "to") d || (bad_at (codes "cc") d || (bad_at (codes "bto") d || (bad_at (codes "bcc") d || bad_at (codes "audience") d))))
+unfolding all_entries
+any_of_five d = simp list_any-append
+
+-- two lists of five tests, pair by pair
+five_pairs : (a b c d e v w x y z : Bool) → ((a || v) || ((b || w) || ((c || x) || ((d || y) || (e || z))))) ≡ ((a || (b || (c || (d || e)))) || (v || (w || (x || (y || z)))))
+five_pairs a b c d e v w x y z =
+    ap (λ t. (a || v) || ((b || w) || ((c || x) || t))) (or_swap d y e z)
+    ∙ ap (λ t. (a || v) || ((b || w) || t)) (or_swap c x (d || e) (y || z))
+    ∙ ap (λ t. (a || v) || t) (or_swap b w (c || (d || e)) (x || (y || z)))
+    ∙ or_swap a v (b || (c || (d || e))) (w || (x || (y || z)))
+
+-- a field of either has a bad entry
+abbrev bad_in_both : List ℕ → Data → Data → Bool
+bad_in_both key d o = bad_at key d || bad_at key o
+
+both_fault : (key : List ℕ) (d o : Data) → result_err (reads_entries (entries_of_both key d o)) ≡ only (bad_in_both key d o) BadIri
+unfolding entries_of_both
+both_fault key d o = entries_fault (entries_of_both key d o) ∙ ap (λ b. only b BadIri) (list_any-append is_bad (entries_at key d) (entries_at key o))
+
+any_of_ten : (d o : Data) → (bad_in_both (codes "to") d o || (bad_in_both (codes "cc") d o || (bad_in_both (codes "bto") d o || (bad_in_both (codes "bcc") d o || bad_in_both (codes "audience") d o)))) ≡ (has_bad_entry d || has_bad_entry o)
+any_of_ten d o =
+    five_pairs (bad_at (codes "to") d) (bad_at (codes "cc") d) (bad_at (codes "bto") d) (bad_at (codes "bcc") d) (bad_at (codes "audience") d)
+    (bad_at (codes "to") o) (bad_at (codes "cc") o) (bad_at (codes "bto") o) (bad_at (codes "bcc") o) (bad_at (codes "audience") o)
+    ∙ rw (any_of_five d, any_of_five o) refl
+
+all_recipients_fault : (d o : Data) → result_err (reads_all_recipients d o) ≡ only (has_bad_entry d || has_bad_entry o) BadIri
+unfolding reads_all_recipients
+all_recipients_fault d o =
+    five_faults _ _ _ _ _ (λ to copied bto bcc audience. record { to = to; cc = copied; bto = bto; bcc = bcc; audience = audience }) _ _ _ _ _
+    (both_fault (codes "to") d o) (both_fault (codes "cc") d o) (both_fault (codes "bto") d o) (both_fault (codes "bcc") d o) (both_fault (codes "audience") d o)
+    ∙ ap (λ b. only b BadIri) (any_of_ten d o)
+
+-- the recipients that are read are those that either names
+all_recipients : (d o : Data) (r : Recipients) → reads_all_recipients d o ≡ Ok r → r ≡ union d o
+unfolding reads_all_recipients named_by_both
+all_recipients d o r h =
+    let to = then_ok (reads_entries (entries_of_both (codes "to") d o)) _ r h in
+    let copied = then_ok (reads_entries (entries_of_both (codes "cc") d o)) _ r to.2 in
+    let bto = then_ok (reads_entries (entries_of_both (codes "bto") d o)) _ r copied.2 in
+    let bcc = then_ok (reads_entries (entries_of_both (codes "bcc") d o)) _ r bto.2 in
+    let audience = then_ok (reads_entries (entries_of_both (codes "audience") d o)) _ r bcc.2 in
+    let first : to.0 ≡ named_by_both (codes "to") d o = entries_named _ to.0 to.1 in
+    let second : copied.0 ≡ named_by_both (codes "cc") d o = entries_named _ copied.0 copied.1 in
+    let third : bto.0 ≡ named_by_both (codes "bto") d o = entries_named _ bto.0 bto.1 in
+    let fourth : bcc.0 ≡ named_by_both (codes "bcc") d o = entries_named _ bcc.0 bcc.1 in
+    let fifth : audience.0 ≡ named_by_both (codes "audience") d o = entries_named _ audience.0 audience.1 in
+    let whole : record { to = to.0; cc = copied.0; bto = bto.0; bcc = bcc.0; audience = audience.0 } ≡ r = cc in
+    sym whole ∙ cc
+
+-- what comes next counts where the first has no fault, and knows what the first gave
+then_known : {A B : Type 0} (r : Result A ShapeFault) (f : A → Result B ShapeFault) (first rest : Option ShapeFault) → result_err r ≡ first → ((x : A) → r ≡ Ok x → result_err (f x) ≡ rest) → result_err (r >>= f) ≡ option_or first rest
+then_known (Ok x) f first rest h k = rw (← h) (k x refl)
+then_known (Err e) f first rest h k = rw (← h) refl
+
+audience_fault : (d o : Data) → result_err (reads_audience d o) ≡ cond (has_bad_entry d || has_bad_entry o) (Some BadIri) (only (has_fault d TooManyRecipients || has_crowd d o) TooManyRecipients)
+unfolding reads_audience
+audience_fault d o =
+    then_known (reads_all_recipients d o) _ _ (only (is_crowd d o (union d o)) TooManyRecipients) (all_recipients_fault d o)
+    (λ r h. ended_fault (is_crowd d o r) TooManyRecipients r ∙ ap (λ x. only (is_crowd d o x) TooManyRecipients) (all_recipients d o r h))
+    ∙ or_cond (has_bad_entry d || has_bad_entry o) BadIri _
+
+-- one of either's entries is bad
+pub bad_audience : (d o : Data) → (has_bad_entry d || has_bad_entry o) ≡ true → reads_audience d o ≡ Err BadIri
+bad_audience d o h = fault_of (reads_audience d o) BadIri (audience_fault d o ∙ rw h refl)
+
+or_front : (a b c : Bool) → (a || b) ≡ true → (a || (b || c)) ≡ true
+or_front true b c h = refl
+or_front false true c h = refl
+or_front false false c h = absurd cc
+
+-- one of the two has too many entries, and none is bad
+pub crowded_audience : (d o : Data) → has_bad_entry d ≡ false → has_bad_entry o ≡ false → (has_fault d TooManyRecipients || has_fault o TooManyRecipients) ≡ true → reads_audience d o ≡ Err TooManyRecipients
+crowded_audience d o h k crowd =
+    fault_of (reads_audience d o) TooManyRecipients (audience_fault d o
+    ∙ rw (h, k, or_front (has_fault d TooManyRecipients) (has_fault o TooManyRecipients) (nat_lt 500 (length (all_of (union d o)))) crowd) refl)
+
+-- ---- the faults of an activity, in their order
+
+-- the tests of a Create: type, address, target, replies, entries, crowd, words
+in_order_create : (t i g ro rd bad m wd wo : Bool) → option_or (only t NoType) (option_or (only i BadIri) (option_or (only g BadIri) (option_or (only ro BadIri) (option_or (only rd BadIri) (option_or (cond bad (Some BadIri) (only m TooManyRecipients)) (option_or (only wd BadText) (only wo BadText)))))))
+    ≡ cond t (Some NoType) (cond (i || (g || (ro || (rd || bad)))) (Some BadIri) (cond m (Some TooManyRecipients) (only (wd || wo) BadText)))
+in_order_create true i g ro rd bad m wd wo = refl
+in_order_create false true g ro rd bad m wd wo = refl
+in_order_create false false true ro rd bad m wd wo = refl
+in_order_create false false false true rd bad m wd wo = refl
+in_order_create false false false false true bad m wd wo = refl
+in_order_create false false false false false true m wd wo = refl
+in_order_create false false false false false false true wd wo = refl
+in_order_create false false false false false false false true wo = refl
+in_order_create false false false false false false false false wo = refl
+
+creation_fault : (d o : Data) → result_err (reads_creation d o)
+    ≡ cond (has_wrong_type o) (Some NoType) (cond (is_bad_reference (reference_at (codes "id") o) || (is_bad_reference (reference_at (codes "target") d) || (is_bad_reply o || (is_bad_reply d || (has_bad_entry d || has_bad_entry o))))) (Some BadIri) (cond (has_fault d TooManyRecipients || has_crowd d o) (Some TooManyRecipients) (only (has_fault d BadText || has_fault o BadText) BadText)))
+unfolding reads_creation
+creation_fault d o =
+    then_fault (reads_new_type o) _ _ _ (new_type_fault o)
+    (λ kind. then_fault (reads_iri (reference_at (codes "id") o)) _ _ _ (named_fault (reference_at (codes "id") o))
+    (λ id. then_fault (reads_target d) _ _ _ (target_fault d)
+    (λ target. then_fault (reads_reply o) _ _ _ (reply_fault o)
+    (λ object_reply. then_fault (reads_reply d) _ _ _ (reply_fault d)
+    (λ reply. then_fault (reads_audience d o) _ _ _ (audience_fault d o)
+    (λ recipients. then_fault (reads_words d) _ _ _ (words_fault d)
+    (λ words. then_fault (reads_words o) _ _ None (words_fault o) (λ object_words. refl) ∙ or_none (has_fault o BadText) BadText)))))))
+    ∙ in_order_create (has_wrong_type o) _ _ (is_bad_reply o) (is_bad_reply d) (has_bad_entry d || has_bad_entry o) (has_fault d TooManyRecipients || has_crowd d o) (has_fault d BadText) (has_fault o BadText)
+
+-- the tests of an Update: object, address, target, replies and entries, crowd, words
+in_order_update : (n i g ro rd bad m wd wo : Bool) → option_or (cond n (Some NoObject) (only i BadIri)) (option_or (only g BadIri) (option_or (only ro BadIri) (option_or (cond (rd || bad) (Some BadIri) (only m TooManyRecipients)) (option_or (only wd BadText) (only wo BadText)))))
+    ≡ cond n (Some NoObject) (cond (i || (g || (ro || (rd || (bad || false))))) (Some BadIri) (cond (m || false) (Some TooManyRecipients) (only (wd || wo) BadText)))
+in_order_update true i g ro rd bad m wd wo = refl
+in_order_update false true g ro rd bad m wd wo = refl
+in_order_update false false true ro rd bad m wd wo = refl
+in_order_update false false false true rd bad m wd wo = refl
+in_order_update false false false false true bad m wd wo = refl
+in_order_update false false false false false true m wd wo = refl
+in_order_update false false false false false false true wd wo = refl
+in_order_update false false false false false false false true wo = refl
+in_order_update false false false false false false false false wo = refl
+
+own_id_fault : (o : Data) → result_err (reads_own_id o) ≡ cond (is_none (reference_at (codes "id") o)) (Some NoObject) (only (is_bad_reference (reference_at (codes "id") o)) BadIri)
+unfolding reads_own_id
+own_id_fault o =
+    elim (reference_at (codes "id") o) as (λ r. result_err (or_no_object r >>= reads_address) ≡ cond (is_none r) (Some NoObject) (only (is_bad_reference r) BadIri))
+    [ None ↦ refl | Some text ↦ address_fault text ]
+
+changes_fault : (d o : Data) → result_err (reads_changes d o)
+    ≡ cond (is_none (reference_at (codes "id") o)) (Some NoObject) (cond (is_bad_reference (reference_at (codes "id") o) || (is_bad_reference (reference_at (codes "target") d) || (is_bad_reply o || (is_bad_reply d || (has_bad_entry d || false))))) (Some BadIri) (cond (has_fault d TooManyRecipients || false) (Some TooManyRecipients) (only (has_fault d BadText || has_fault o BadText) BadText)))
+unfolding reads_changes
+changes_fault d o =
+    then_fault (reads_own_id o) _ _ _ (own_id_fault o)
+    (λ id. then_fault (reads_target d) _ _ _ (target_fault d)
+    (λ target. then_fault (reads_reply o) _ _ _ (reply_fault o)
+    (λ object_reply. then_fault (reads_people d) _ _ _ (people_fault d)
+    (λ people. then_fault (reads_words d) _ _ _ (words_fault d)
+    (λ words. then_fault (reads_words o) _ _ None (words_fault o) (λ object_words. refl) ∙ or_none (has_fault o BadText) BadText)))))
+    ∙ in_order_update (is_none (reference_at (codes "id") o)) _ _ (is_bad_reply o) (is_bad_reply d) (has_bad_entry d) (has_fault d TooManyRecipients) (has_fault d BadText) (has_fault o BadText)
+
+-- the tests of another activity: object, address, target, reply and entries, crowd, words, the author
+in_order_other : (n i g rd bad m wd self : Bool) → option_or (cond n (Some NoObject) (only i BadIri)) (option_or (only g BadIri) (option_or (cond (rd || bad) (Some BadIri) (only m TooManyRecipients)) (option_or (only wd BadText) (only self SelfTarget))))
+    ≡ cond n (Some NoObject) (cond (i || (g || (false || (rd || (bad || false))))) (Some BadIri) (cond (m || false) (Some TooManyRecipients) (cond (wd || false) (Some BadText) (only self SelfTarget))))
+in_order_other true i g rd bad m wd self = refl
+in_order_other false true g rd bad m wd self = refl
+in_order_other false false true rd bad m wd self = refl
+in_order_other false false false true bad m wd self = refl
+in_order_other false false false false true m wd self = refl
+in_order_other false false false false false true wd self = refl
+in_order_other false false false false false false true self = refl
+in_order_other false false false false false false false self = refl
+
+id_fault : (need : Need) (reference : Option (List ℕ)) → result_err (reads_id need reference) ≡ cond (needs_id need && is_none reference) (Some NoObject) (only (is_bad_reference reference) BadIri)
+unfolding reads_id
+id_fault need reference =
+    elim (needs_id need && is_none reference) as (λ b. result_err (cond b (Err NoObject) (reads_iri reference)) ≡ cond b (Some NoObject) (only (is_bad_reference reference) BadIri))
+    [ true ↦ refl | false ↦ named_fault reference ]
+
+read_is : (reference id : Option (List ℕ)) → reads_iri reference ≡ Ok id → id ≡ option_and_then iri reference
+read_is None id h = let same : None ≡ id = cc in sym same
+read_is (Some text) id h =
+    elim (iri text) as (λ o. cond (is_some o) (Ok o) (Err BadIri) ≡ Ok id → id ≡ o) [ None ↦ λ h. absurd cc | Some i ↦ λ h. cc ] h
+
+id_is : (need : Need) (reference id : Option (List ℕ)) → reads_id need reference ≡ Ok id → id ≡ option_and_then iri reference
+unfolding reads_id
+id_is need reference id =
+    elim (needs_id need && is_none reference) as (λ b. cond b (Err NoObject) (reads_iri reference) ≡ Ok id → id ≡ option_and_then iri reference)
+    [ true ↦ λ h. absurd cc | false ↦ read_is reference id ]
+
+another_is : (author : List ℕ) (id : Option (List ℕ)) → is_oneself author Another id ≡ option_map_or (λ i. bytes_eq i author) id false
+another_is author None = refl
+another_is author (Some i) = refl
+
+self_is : (author : List ℕ) (need : Need) (d : Data) (id : Option (List ℕ)) → reads_id need (object_id d) ≡ Ok id → is_oneself author need id ≡ is_self author need d
+self_is author Whole d id h = refl
+self_is author Change d id h = refl
+self_is author Another d id h = rw (← id_is Another (object_id d) id h) (another_is author id)
+self_is author needs.Id d id h = refl
+self_is author Anything d id h = refl
+
+other_fault : (author : List ℕ) (kind : Kind) (need : Need) (d : Data) → result_err (reads_other author kind need d)
+    ≡ cond (needs_id need && is_none (object_id d)) (Some NoObject) (cond (is_bad_reference (object_id d) || (is_bad_reference (reference_at (codes "target") d) || (false || (is_bad_reply d || (has_bad_entry d || false))))) (Some BadIri) (cond (has_fault d TooManyRecipients || false) (Some TooManyRecipients) (cond (has_fault d BadText || false) (Some BadText) (only (is_self author need d) SelfTarget))))
+unfolding reads_other
+other_fault author kind need d =
+    then_known (reads_id need (object_id d)) _ _ _ (id_fault need (object_id d))
+    (λ id given. then_fault (reads_target d) _ _ _ (target_fault d)
+    (λ target. then_fault (reads_people d) _ _ _ (people_fault d)
+    (λ people. then_fault (reads_words d) _ _ (only (is_self author need d) SelfTarget) (words_fault d)
+    (λ words. ended_fault (is_oneself author need id) SelfTarget _ ∙ ap (λ b. only b SelfTarget) (self_is author need d id given)))))
+    ∙ in_order_other (needs_id need && is_none (object_id d)) _ _ (is_bad_reply d) (has_bad_entry d) (has_fault d TooManyRecipients) (has_fault d BadText) _
+
+-- ---- the whole
+
+-- the faults that an activity can have once it is an object in its context
+abbrev later : List ShapeFault
+later = NoType ∷ NoId ∷ NoActor ∷ NoObject ∷ BadIri ∷ TooManyRecipients ∷ BadText ∷ SelfTarget ∷ []
+
+-- the `id` of an object that stands in the activity is that of what the activity is about
+embedded_id : (found : Option Data) (o : Data) → option_and_then itself found ≡ Some o → option_and_then id_of found ≡ reference_at (codes "id") o
+unfolding id_of
+embedded_id None o h = absurd cc
+embedded_id (Some null) o h = absurd cc
+embedded_id (Some (boolean b)) o h = absurd cc
+embedded_id (Some (number n)) o h = absurd cc
+embedded_id (Some (string text)) o h = absurd cc
+embedded_id (Some (array ds)) o h = absurd cc
+embedded_id (Some (object ms)) o h = let same : object ms ≡ o = cc in ap (reference_at (codes "id")) same
+
+pub object_id_is : (d o : Data) → embedded d ≡ Some o → object_id d ≡ reference_at (codes "id") o
+unfolding embedded object_id
+object_id_is d o h = embedded_id (object_at d) o h
+
+create_fault : (author : List ℕ) (d : Data) (found : Option Data) → embedded d ≡ found → result_err (or_no_object found >>= reads_creation d) ≡ find (has_activity_fault author Whole d) later
+create_fault author d None h = rw h refl
+create_fault author d (Some o) h = rw (h, object_id_is d o h) (creation_fault d o)
+
+update_fault : (author : List ℕ) (d : Data) (found : Option Data) → embedded d ≡ found → result_err (or_no_object found >>= reads_changes d) ≡ find (has_activity_fault author Change d) later
+update_fault author d None h = rw h refl
+update_fault author d (Some o) h = rw (h, object_id_is d o h) (changes_fault d o)
+
+need_fault : (author : List ℕ) (kind : Kind) (need : Need) (d : Data) → result_err (reads_by_need author kind need d) ≡ find (has_activity_fault author need d) later
+need_fault author kind Whole d = create_fault author d (embedded d) refl
+need_fault author kind Change d = update_fault author d (embedded d) refl
+need_fault author kind Another d = other_fault author kind Another d
+need_fault author kind needs.Id d = other_fault author kind needs.Id d
+need_fault author kind Anything d = other_fault author kind Anything d
+
+-- what has a type is an object
+typed_object : (d : Data) (kind : Kind) → kind_of d ≡ Some kind → is_some (as_object d) ≡ true
+unfolding kind_of type_of property
+typed_object null kind h = absurd cc
+typed_object (boolean b) kind h = absurd cc
+typed_object (number n) kind h = absurd cc
+typed_object (string text) kind h = absurd cc
+typed_object (array ds) kind h = absurd cc
+typed_object (object ms) kind h = refl
+
+in_context : {A : Type 0} (b c : Bool) (r : Result A ShapeFault) (rest : Option ShapeFault) → b ≡ true → result_err r ≡ rest → result_err (cond c r (Err BadContext)) ≡ cond (not b) (Some NotObject) (cond (not c) (Some BadContext) rest)
+in_context b true r rest h k = rw h k
+in_context b false r rest h k = rw h refl
+
+post_fault : (author : List ℕ) (d : Data) (found : Option Kind) → kind_of d ≡ found
+    → result_err (option_map_or (reads_kind author d) found (reads_posted d)) ≡ find (λ fault. option_map_or (λ kind. has_activity_fault author (need_of kind) d fault) found (has_fault d fault)) faults
+unfolding first_fault
+post_fault author d None h = posted_fault d
+post_fault author d (Some kind) h = in_context (is_some (as_object d)) (has_context d) _ _ (typed_object d kind h) (need_fault author kind (need_of kind) d)
+
+-- the fault of what is read is the first that holds
+activity_fault : (author : List ℕ) (d : Data) → result_err (reads_activity author d) ≡ first_post_fault author d
+unfolding reads_activity first_post_fault
+activity_fault author d = post_fault author d (kind_of d) refl
+
+-- what is refused is refused for the first fault
+pub least_post_fault : (author : List ℕ) (d : Data) (r : Result Activity ShapeFault) → Gives r (reads_activity author d) → IfErr r (λ e. e ≢ Memory → first_post_fault author d ≡ Some e)
+least_post_fault author d (Ok a) h = tt
+least_post_fault author d (Err e) h = λ other. sym (activity_fault author d) ∙ ap result_err (h other)
+
+-- what is read has no fault
+pub no_post_fault : (author : List ℕ) (d : Data) (r : Result Activity ShapeFault) → Gives r (reads_activity author d) → OnOk r (first_post_fault author d ≡ None)
+no_post_fault author d (Ok a) h = sym (activity_fault author d) ∙ ap result_err h
+no_post_fault author d (Err e) h = tt
