@@ -1,5 +1,5 @@
 -- What is read of a client's activity has the shape of a post.
-use Rattle.std.proofs.Common.{◌≡◌, ℕ, ◌≤◌, List, [], length, Bool, true, false, cond, not, ◌&&◌, ◌||◌, Option, Some, None, codes, bytes_eq, refl, sym, ap, subst, ◌∙◌}
+use Rattle.std.proofs.Common.{◌≡◌, ℕ, ◌≤◌, List, [], length, Bool, true, false, cond, not, ◌&&◌, ◌||◌, Option, Some, None, codes, refl, sym, subst, ◌∙◌}
 use Rattle.std.specs.Prelude.{Ok, Err, IsTrue, is_none, is_some}
 use Rattle.std.specs.Option.{option_map_or}
 use Rattle.std.specs.List.{filter_map}
@@ -9,15 +9,14 @@ use Rattle.serde_json.specs.Find.{get}
 use Rattle.fedi_address.specs.Recipients.{all_of}
 use Rattle.fedi_address.specs.declared.recipients.Recipients.{Recipients}
 use Rattle.fedi_objects.specs.declared.activity.Activity.{Activity}
-use Rattle.fedi_objects.specs.declared.activity.ObjectRef.TheVariants.{Whole, Changed}
 use Rattle.fedi_objects.specs.declared.kind.Kind.{Kind}
 use Rattle.fedi_objects.specs.declared.kind.Kind.TheVariants as kinds
 use Rattle.fedi_objects.specs.declared.object.Edit.TheVariants.{Keep, Remove}
 use Rattle.fedi_objects.specs.declared.object.Tag.{Tag}
 use Rattle.fedi_reading.specs.ActivityFaults.{named_by_both, union}
-use Rattle.fedi_reading.specs.Activities.{kind_of, need_of, embedded, object_id, or_no_object, entries_of_both, reads_creation, is_null, edit, holds_tags, given_tags, change, reads_changes, needs_id, reads_id, is_oneself, object_ref, reads_other, posted_activity, reads_kind, reads_by_need, reads_activity}
+use Rattle.fedi_reading.specs.Activities.{kind_of, need_of, embedded, object_id, or_no_object, entries_of_both, reads_creation, is_null, edit, holds_tags, given_tags, reads_changes, needs_id, reads_id, is_oneself, object_ref, reads_kind, reads_by_need, reads_activity}
 use Rattle.fedi_reading.specs.Properties.{has_context, iri}
-use Rattle.fedi_reading.specs.Reading.{recipient_of, distinct, reads_iri, reads_words, tags_of, reads_posted}
+use Rattle.fedi_reading.specs.Reading.{recipient_of, distinct, reads_iri, tags_of, reads_posted}
 use Rattle.fedi_reading.specs.declared.shape_fault.ShapeFault.TheVariants.{BadContext, NoObject, BadIri}
 use Rattle.fedi_reading.proofs.ActivityKept.{new_type_kept, audience_kept, IsCreation, creation_parts, IsUpdate, update_parts, IsOther, other_parts}
 use Rattle.fedi_reading.proofs.KeptLemmas.{then_ok, words_kept, people_kept}
@@ -25,7 +24,7 @@ use Rattle.fedi_reading.specs.declared.need.Need.{Need}
 use Rattle.fedi_town.specs.declared.deed.Deed.{Deed}
 use Rattle.fedi_town.specs.Deeds.{deed_of, is_create, is_update, is_follow, is_block, is_other}
 use Rattle.fedi_town.specs.Relations.{ref_id, is_id}
-use Rattle.fedi_town.specs.Shapes.{is_text, is_type, is_none_or, is_each_once, are_addressed, are_tags, is_text_edit, is_tags_edit, is_change_within, is_posted_ref, is_posted}
+use Rattle.fedi_town.specs.Shapes.{is_text, is_type, is_none_or, is_each_once, are_addressed, are_tags, is_text_edit, is_tags_edit, is_posted_ref, is_posted}
 use Rattle.fedi_model.proofs.Posted.{once_folded, same_people, addressed, not_long, named_shortly, read_is_posted}
 
 -- ---- a Create
