@@ -1,6 +1,6 @@
 -- What holds of the parts of an activity that is read.
-use Rattle.std.proofs.Common.{◌≡◌, ℕ, ◌≤◌, List, length, Bool, true, false, cond, ◌&&◌, ◌||◌, nat_le, nat_lt, Option, Some, None, codes, bytes_eq, refl, sym, ap, subst}
-use Rattle.std.specs.Prelude.{Result, Ok, Err}
+use Rattle.std.proofs.Common.{◌≡◌, ℕ, ◌≤◌, List, length, true, false, ◌&&◌, nat_le, nat_lt, Option, Some, None, codes, bytes_eq, sym, ap, subst}
+use Rattle.std.specs.Prelude.{Result, Ok}
 use Rattle.std.proofs.lemmas.Bool.{or_parts, ltb-false}
 use Rattle.serde_json.specs.Data.{Data}
 use Rattle.fedi_address.specs.Recipients.{all_of}
