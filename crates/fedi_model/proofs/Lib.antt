@@ -1,3 +1,4 @@
 pub mod Clean
 pub mod Posted
+pub mod PostedActivity
 pub mod Private

@@ -47,7 +47,7 @@ once_added kept text once =
     elim (is_among text kept) as (λ b. is_among text kept ≡ b → is_each_once (cond b kept (kept ++ text ∷ [])) ≡ true)
     [ true ↦ λ _. once | false ↦ once_pushed kept text once ] refl
 
-once_folded : (kept texts : List (List ℕ)) → is_each_once kept ≡ true → is_each_once (fold add_new kept texts) ≡ true
+pub once_folded : (kept texts : List (List ℕ)) → is_each_once kept ≡ true → is_each_once (fold add_new kept texts) ≡ true
 once_folded kept [] once = once
 once_folded kept (text ∷ texts) once = once_folded (add_new kept text) texts (once_added kept text once)
 
@@ -60,11 +60,11 @@ named_once key d = once_folded [] (filter_map recipient_of (entries_at key d)) r
 same_names : (names : List (List ℕ)) → pointwise bytes_eq names names ≡ true
 same_names names = (lists_equiv nat_list_eq_equiv).refl names
 
-same_people : (r : Recipients) → are_same r r ≡ true
+pub same_people : (r : Recipients) → are_same r r ≡ true
 same_people r = rw (same_names r.to, same_names r.cc, same_names r.bto, same_names r.bcc, same_names r.audience) refl
 
 -- the recipients that are read are at most 500, and none is there twice in a field
-addressed : (d : Data) (r : Recipients) → AreNamed d r → length (all_of r) ≤ 500 → are_addressed 500 r ≡ true
+pub addressed : (d : Data) (r : Recipients) → AreNamed d r → length (all_of r) ≤ 500 → are_addressed 500 r ≡ true
 addressed d r named few =
     let to : is_each_once r.to ≡ true = rw named.to (named_once (codes "to") d) in
     let copied : is_each_once r.cc ≡ true = rw named.cc (named_once (codes "cc") d) in
@@ -75,7 +75,7 @@ addressed d r named few =
 
 -- ---- the whole
 
-not_long : (text : Option (List ℕ)) → is_long text ≡ false → is_none_or is_text text ≡ true
+pub not_long : (text : Option (List ℕ)) → is_long text ≡ false → is_none_or is_text text ≡ true
 unfolding is_text
 not_long None h = refl
 not_long (Some text) h = le-leb (length text) 65536 (ltb-false 65536 (length text) h)
@@ -84,7 +84,7 @@ a_type : (d : Data) (kind : List ℕ) → reads_type d ≡ Ok kind → is_type k
 unfolding is_type
 a_type d kind h = (type_kept d kind h).0
 
-named_shortly : (d : Data) → are_tags (tags_of d) ≡ true
+pub named_shortly : (d : Data) → are_tags (tags_of d) ≡ true
 unfolding is_text
 named_shortly d = tags_kept d
 

@@ -6,6 +6,7 @@ ghost use Rattle.fedi_asks.specs.declared.ask.Ask.{Ask};
 ghost use Rattle.fedi_objects.specs.declared.activity.Activity.{Activity};
 ghost use Rattle.fedi_objects.specs.declared.entry.Entry.{Entry};
 ghost use Rattle.fedi_objects.specs.declared.entry.Entry.TheVariants.{Local};
+ghost use Rattle.fedi_reading.specs.Activities.{reads_activity};
 ghost use Rattle.fedi_reading.specs.Reading.{reads_posted};
 ghost use Rattle.fedi_town.specs.Agreement.{Agree};
 ghost use Rattle.fedi_town.specs.Built.{is_built};
@@ -47,4 +48,11 @@ pub fn what_is_read_may_be_posted()
         → reads_posted d ≡ Ok a → IsTrue (is_posted author a) }
     ensures built { (d : Data) (a : Activity) (name : List ℕ) (moment : ℕ)
         → reads_posted d ≡ Ok a → IsTrue (is_built (Local name None a moment)) }
+{}
+
+/// What is read of an activity that a client posts has the shape of a post by its author.
+#[tactic(auto, using(crate::proofs::PostedActivity::activity_is_posted))]
+pub fn what_is_read_of_activities_may_be_posted()
+    ensures { (d : Data) (a : Activity) (author : List ℕ)
+        → reads_activity author d ≡ Ok a → IsTrue (is_posted author a) }
 {}

@@ -104,7 +104,7 @@ all_recipients_fault d o =
     ∙ ap (λ b. only b BadIri) (any_of_ten d o)
 
 -- the recipients that are read are those that either names
-all_recipients : (d o : Data) (r : Recipients) → reads_all_recipients d o ≡ Ok r → r ≡ union d o
+pub all_recipients : (d o : Data) (r : Recipients) → reads_all_recipients d o ≡ Ok r → r ≡ union d o
 unfolding reads_all_recipients named_by_both
 all_recipients d o r h =
     let to = then_ok (reads_entries (entries_of_both (codes "to") d o)) _ r h in

@@ -23,7 +23,7 @@ pub then_ok : {A B : Type 0} (r : Result A ShapeFault) (f : A → Result B Shape
 then_ok (Ok x) f y h = (x, refl, h)
 then_ok (Err e) f y h = absurd cc
 
-if_ok : {A : Type 0} (b : Bool) (e : ShapeFault) (x y : A) → cond b (Err e) (Ok x) ≡ Ok y → (b ≡ false) × (x ≡ y)
+pub if_ok : {A : Type 0} (b : Bool) (e : ShapeFault) (x y : A) → cond b (Err e) (Ok x) ≡ Ok y → (b ≡ false) × (x ≡ y)
 if_ok true e x y h = absurd cc
 if_ok false e x y h = (refl, cc)
 
@@ -31,7 +31,7 @@ if_some : {A : Type 0} (b : Bool) (x y : A) → cond b (Some x) None ≡ Some y 
 if_some true x y h = (refl, cc)
 if_some false x y h = absurd cc
 
-then_some : {A B : Type 0} (f : A → Option B) (o : Option A) (y : B) → option_and_then f o ≡ Some y → (x : A) × (f x ≡ Some y)
+pub then_some : {A B : Type 0} (f : A → Option B) (o : Option A) (y : B) → option_and_then f o ≡ Some y → (x : A) × (f x ≡ Some y)
 then_some f None y h = absurd cc
 then_some f (Some x) y h = (x, h)
 
@@ -43,7 +43,7 @@ made_ok (Some text) kind h =
     let passed = if_ok (makes_nothing text) NoType text kind h in
     (ap Some passed.1, subst (λ (t : List ℕ). makes_nothing t ≡ false) passed.1 passed.0)
 
-measured : (text kind : List ℕ) → type_text text ≡ Some kind → (nat_le 1 (length kind) && nat_le (length kind) 64) ≡ true
+pub measured : (text kind : List ℕ) → type_text text ≡ Some kind → (nat_le 1 (length kind) && nat_le (length kind) 64) ≡ true
 unfolding type_text
 measured text kind h =
     let passed = if_some (nat_le 1 (length text) && nat_le (length text) 64) text kind h in

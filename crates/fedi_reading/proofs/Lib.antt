@@ -1,4 +1,5 @@
 pub mod ActivityFaultLemmas
+pub mod ActivityKept
 pub mod ActivityLemmas
 pub mod FaultLemmas
 pub mod KeptLemmas

@@ -11,5 +11,6 @@ mod shape_fault;
 
 pub use activity::{objects_alone_are_read_as_posted, read_activity};
 pub use body::{BodyFault, read_body};
+pub use need::Need;
 pub use posted::read_posted;
 pub use shape_fault::ShapeFault;

@@ -7,7 +7,7 @@ use fedi_objects::Kind;
 
 /// What an activity needs as its object, by its type (ActivityPub, sections 6.2 to 6.10).
 #[derive(Clone, Copy, Debug, PartialEq, Eq)]
-pub(crate) enum Need {
+pub enum Need {
     /// The object itself, which is made: `Create`.
     Whole,
     /// The object's `id`, with what changes in it: `Update`.
@@ -22,7 +22,7 @@ pub(crate) enum Need {
 
 impl Need {
     /// What an activity of this type needs.
-    pub(crate) fn of(kind: Kind) -> Need
+    pub fn of(kind: Kind) -> Need
         ensures { result ≡ need_of kind }
     {
         match kind {

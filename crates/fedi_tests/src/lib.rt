@@ -5,8 +5,6 @@
 #![tactic(auto)]
 
 #[cfg(test)]
-mod activities;
-#[cfg(test)]
 mod address;
 #[cfg(test)]
 mod mac;
@@ -18,8 +16,6 @@ mod objects;
 mod outside;
 #[cfg(test)]
 mod program;
-#[cfg(test)]
-mod reading;
 #[cfg(test)]
 mod requests;
 #[cfg(test)]

@@ -1,4 +1,5 @@
 //! Activities as clients write them.
+use crate::reading::repeated;
 use fedi_address::Iri;
 use fedi_objects::{
     Activity, Change, Edit, ObjectRef, Shown, ShownObject, State, StrippedObject, public_text,
@@ -221,11 +222,8 @@ fn outcome_of_words(
     content: usize,
     name: usize,
 ) -> Result<&'static str, Fail> {
-    let mut text = String::new(alloc);
-    for _ in 0..content.max(name) {
-        text.push_str("x")?;
-    }
-    let (content, name) = (&text[..content], &text[..name]);
+    let content = repeated(alloc, "x", content)?;
+    let name = repeated(alloc, "x", name)?;
     let body = format!(in alloc;
         r#"{{"type":"{kind}","content":"{content}","object":{{"type":"Note","id":"https://far.example/o","name":"{name}"}}}}"#
     )?;

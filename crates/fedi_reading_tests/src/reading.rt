@@ -51,8 +51,8 @@ fn faults_come_in_their_order(rt: HostRuntime) -> Result<(), Fail> {
     Ok(())
 }
 
-// The text this many times.
-fn repeated(alloc: Global, text: &str, count: usize) -> Result<String, Fail> {
+/// The text this many times.
+pub(crate) fn repeated(alloc: Global, text: &str, count: usize) -> Result<String, Fail> {
     let mut all = String::new(alloc);
     for _ in 0..count {
         all.push_str(text)?;
