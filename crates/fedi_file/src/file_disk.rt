@@ -9,11 +9,11 @@ use std::fs::{File, Files};
 /// A file of the machine as a disk: each error is a counted fault. It tells neither what it holds nor what a crash leaves.
 ///
 /// The file is opened by the first call, and locked until the disk is dropped. If another has the lock, each call fails until it is
-/// free. If there is no file, it counts as an empty one, and the first write creates it.
+/// free. If there is no file, it counts as an empty one, and the first write creates it, for its owner alone.
 #[derive(Drop)]
 pub struct FileDisk<'a, R: Files<File = File>> {
     file: LockedFile<'a, R>,
-    // How many bytes it had when it was last asked, or more if more were written.
+    // How many bytes it had when that was last asked, with those that were written past them since; 0 before.
     size: u64,
     faults: u64,
 }

@@ -98,7 +98,11 @@ impl<'a, R: Files<File = File>> LockedFile<'a, R> {
 // that is to be created is there.
 fn open_locked<R: Files<File = File>>(rt: &R, path: &str, create: bool) -> io::Result<File> {
     let mut options = OpenOptions::new();
-    options.read(true).write(true).create_new(create).mode(0o600);
+    options
+        .read(true)
+        .write(true)
+        .create_new(create)
+        .mode(0o600);
     let file = options.open(rt, path)?;
     file.try_lock()?;
     Ok(file)

@@ -53,7 +53,8 @@ fn records_outlive_the_disk(rt: HostRuntime) -> Result<(), Fail> {
     assert_eq!(rt;
         bytes.as_slice(),
         b"FEDIJRN1\x01\0\0\0\0\0\0\0\x03one\x01\0\0\0\0\0\0\0\0\x01\0\0\0\0\0\0\0\x05three\
-        \x01\0\0\0\0\0\0\0\x04four\x01\0\0\0\0\0\0\0\x015\x01\0\0\0\0\0\0\0\0\0".as_slice()
+        \x01\0\0\0\0\0\0\0\x04four\x01\0\0\0\0\0\0\0\x015\x01\0\0\0\0\0\0\0\0\0"
+            .as_slice()
     );
     fs::remove_file(&rt, path)?;
     Ok(())
