@@ -6,7 +6,7 @@ use std::os::unix::fs::{FileExt, OpenOptionsExt};
 // What was found at the path.
 #[derive(Drop)]
 enum Found {
-    // Nobody has looked yet.
+    // Nobody has looked yet, or the file could not be opened.
     Unknown,
     // There is no file.
     Missing,
