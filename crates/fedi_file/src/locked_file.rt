@@ -79,8 +79,8 @@ impl<'a, R: Files<File = File>> LockedFile<'a, R> {
         written
     }
 
-    /// Makes all that was written last. The first sync after the opening makes the entry in the folder last too, since whoever created
-    /// the file, in this process or an earlier one, may not have come to that. A file that is missing has nothing to sync.
+    /// Makes all that was written last. The first sync after the opening makes the entry in the folder last too, since whoever
+    /// created the file, in this process or an earlier one, may not have come to that. A file that is missing has nothing to sync.
     pub fn sync(&mut self) -> io::Result<()> {
         self.find()?;
         if let Found::Open(file) = &self.found {
@@ -94,8 +94,8 @@ impl<'a, R: Files<File = File>> LockedFile<'a, R> {
     }
 }
 
-// Opens the file of this path, or creates it for its owner alone, and locks it. It is an error if another has the lock, and if a file
-// that is to be created is there.
+// Opens the file of this path, or creates it for its owner alone, and locks it. It is an error if another has the lock, and if a
+// file that is to be created is there.
 fn open_locked<R: Files<File = File>>(rt: &R, path: &str, create: bool) -> io::Result<File> {
     let mut options = OpenOptions::new();
     options
