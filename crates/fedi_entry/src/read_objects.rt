@@ -264,7 +264,10 @@ impl Decode for ObjectRef {
 fn numbered(number: u8) -> Option<Kind>
     ensures { result ≡ kind_of number }
 {
-    Kind::ALL.iter().copied().find(|kind| kind.number() == number)
+    Kind::ALL
+        .iter()
+        .copied()
+        .find(|kind| kind.number() == number)
 }
 
 impl Decode for Kind {
