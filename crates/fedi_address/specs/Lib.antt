@@ -1,3 +1,4 @@
+pub mod Blocks
 pub mod Hosts
 pub mod Iris
 pub mod Names

@@ -1,6 +1,6 @@
 //! IRIs: the normal texts of web addresses.
 
-ghost use Rattle.std.specs.Prelude.{◌≡◌, ℕ, ◌<◌, ◌≤◌, List, ◌++◌, length, codes, bytes_eq, string_bytes, Some, None, IsTrue, IfOk, IfErr, MatchResult};
+ghost use Rattle.std.specs.Prelude.{◌≡◌, ℕ, ◌<◌, ◌≤◌, List, ◌++◌, length, codes, bytes_eq, Some, None, IsTrue, IfOk, IfErr, MatchResult};
 ghost use Rattle.std.specs.Prelude.{◌≢◌, true, false};
 ghost use Rattle.fedi_address.specs.Hosts.{address, is_plain_path};
 ghost use Rattle.fedi_address.specs.Iris.{IsIri, host_of, host_and_port, normal, path_and_query, target_of, public_iri, web_url};
@@ -10,30 +10,34 @@ ghost use Rattle.std.specs.Cmp.Lexicographic.{nat_list_eq_equiv};
 ghost use Rattle.fedi_address.specs.declared.iri.IriFault.TheVariants.{Memory};
 ghost use Rattle.url.specs.Parts.{Parts};
 
+use crate::block::{Block, new_block, text_of};
 use crate::host::{Host, address_text};
 use crate::pieces::{after, after_any, before, from};
 use std::alloc::{AllocError, Global};
 use std::marker::Model;
 use std::ops::DerefStr;
+use std::sync::Arc;
 use thiserror::Error;
 use url::{ParseError, Url};
 
 /// An IRI: the normal text of an `http` or `https` URL (URL Standard, 4.4 and 4.5), of at most
-/// 2,048 bytes. Two IRIs are the same if their texts are.
+/// 2,048 bytes. Two IRIs are the same if their texts are. It takes one machine word, and its copies
+/// share one text.
 #[derive(Drop)]
 pub struct Iri {
-    text: String,
+    block: Arc<Block>,
 }
 
 impl Model for Iri {
-    ghost use Rattle.std.specs.Prelude.{ℕ, List, string_bytes};
+    ghost use Rattle.std.specs.Prelude.{ℕ, List};
+    ghost use Rattle.fedi_address.specs.Blocks.{text_in};
     ghost use Rattle.fedi_address.specs.Iris.{IsIri};
 
     ghost Value = { List ℕ };
 
-    ghost view = { λ a. string_bytes a.text };
+    ghost view = { λ a. text_in a.block.value };
 
-    ghost invariant = { λ a. IsIri (string_bytes a.text) };
+    ghost invariant = { λ a. IsIri (text_in a.block.value) };
 }
 
 /// Why a text gives no IRI.
@@ -144,8 +148,8 @@ impl Iri {
         if url.as_str().len() > Self::LONGEST {
             return Err(IriFault::TooLong);
         }
-        let text = String::from_str(alloc, url.as_str())?;
-        Ok(Iri { text })
+        let block = new_block(alloc, url.as_str())?;
+        Ok(Iri { block })
     }
 
     /// The IRI of a plain path at a host: `https://`, the host and the path. The error is out of
@@ -156,16 +160,17 @@ impl Iri {
         ensures host { IfOk result (λ iri. host_of iri ≡ host.now) }
         ensures target { IfOk result (λ iri. target_of iri ≡ path.now) }
     {
-        let text = address_text(alloc, host.text(), path)?;
-        Ok(Iri { text })
+        let address = address_text(alloc, host.text(), path)?;
+        let block = new_block(alloc, address.as_str())?;
+        Ok(Iri { block })
     }
 
     /// The IRI that stands for everyone (W3C ActivityPub, 5.6). The error is out of memory.
     pub fn public(alloc: Global) -> Result<Iri, AllocError>
         ensures { IfOk result (λ iri. iri ≡ public_iri) }
     {
-        let text = String::from_str(alloc, Self::PUBLIC)?;
-        Ok(Iri { text })
+        let block = new_block(alloc, Self::PUBLIC)?;
+        Ok(Iri { block })
     }
 
     /// The normal text.
@@ -175,7 +180,7 @@ impl Iri {
         ensures normal { normal self.now ≡ Some self.now }
         ensures short { length self.now ≤ 2048 }
     {
-        self.text.as_str()
+        text_of(&self.block)
     }
 
     /// The host, with the port if there is one. User information is no part of it.
@@ -185,7 +190,7 @@ impl Iri {
         ensures of_url { (url : Parts) → web_url self.now ≡ Some url
             → result.now ≡ host_and_port url }
     {
-        let onward = after_slashes(self.text.as_str());
+        let onward = after_slashes(text_of(&self.block));
         after_any(before(onward, '/'), '@')
     }
 
@@ -196,11 +201,11 @@ impl Iri {
         ensures of_url { (url : Parts) → web_url self.now ≡ Some url
             → result.now ≡ path_and_query url }
     {
-        let onward = after_slashes(self.text.as_str());
+        let onward = after_slashes(text_of(&self.block));
         before(from(onward, '/'), '#')
     }
 
-    /// A copy. The error is out of memory.
+    /// A copy, which shares the text. The error is that the text has too many owners.
     pub fn copy(&self) -> Result<Iri, AllocError>
         ensures { IfOk result (λ iri. iri ≡ self.now) }
     {
@@ -213,7 +218,7 @@ impl Clone for Iri {
 
     fn clone(&self) -> Result<Iri, AllocError> {
         Ok(Iri {
-            text: self.text.clone()?,
+            block: Arc::try_clone(&self.block)?,
         })
     }
 }
@@ -224,7 +229,7 @@ impl PartialEq for Iri {
     ghost laws = { partial_equiv_from_equiv nat_list_eq_equiv };
 
     fn eq(&self, other: &Iri) -> bool {
-        self.text.as_str() == other.text.as_str()
+        text_of(&self.block) == text_of(&other.block)
     }
 }
 
@@ -236,6 +241,6 @@ impl DerefStr for Iri {
     ghost deref_gives = { λ iri text. text ≡ iri };
 
     fn deref(&self) -> &str {
-        self.text.as_str()
+        text_of(&self.block)
     }
 }

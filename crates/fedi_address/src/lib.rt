@@ -1,6 +1,7 @@
 //! Addresses: IRIs, hosts, names of members and the recipients of an activity.
 #![tactic(auto)]
 
+mod block;
 mod host;
 mod iri;
 mod items;

@@ -6,7 +6,7 @@ use fedi_reading::ShapeFault;
 /// What was read of the body of a post.
 #[derive(Drop)]
 pub enum Read {
-    /// The body is no JSON (RFC 8259).
+    /// The body is no JSON (RFC 8259), or it was not read, since nothing shows who posts it.
     NotJson,
     /// The body has not the shape of what may be posted. It is never `ShapeFault::Memory`.
     Bad(ShapeFault),

@@ -1,30 +1,37 @@
--- What becomes of a post while members post Creates alone, and none under a key. A line goes when what it closes is built.
-use Rattle.std.specs.Prelude.{ℕ, List, Result, Ok, Err}
-use Rattle.fedi_objects.specs.declared.activity.Activity.{Activity}
+-- What becomes of a post, as the judgement on it is told.
+use Rattle.std.specs.Prelude.{◌≡◌, List, ℕ, Option, option_copied, Result, Ok, Err}
 use Rattle.fedi_town.specs.declared.caller.Caller.{Caller}
-use Rattle.fedi_town.specs.declared.refusal.Refusal.TheVariants.{BadBody}
+use Rattle.fedi_town.specs.declared.caller.Caller.TheVariants.{Actor}
+use Rattle.fedi_town.specs.declared.refusal.Refusal.{Refusal}
+use Rattle.fedi_objects.specs.declared.activity.Activity.{Activity}
 use Rattle.fedi_asks.specs.declared.post.Post.{Post}
-use Rattle.fedi_asks.specs.declared.post.Read.{Read}
-use Rattle.fedi_asks.specs.declared.post.Read.TheVariants.{NotJson, Bad, Ready}
-use Rattle.fedi_asks.specs.Answers.{Refuse, Misshape, Created}
-use Rattle.fedi_asks.specs.Posting.{Judgement, Stop, Repeat, Keep, by_steps, is_bad_key, with_room}
+use Rattle.fedi_asks.specs.Answers.{Answer, Refuse}
+use Rattle.fedi_asks.specs.Posting.{Judgement, Stop, Repeat, Keep, by_steps, is_bad_key}
 use Rattle.fedi_asks.specs.Reading.{is_nobody, is_self}
 use Rattle.fedi_model.specs.Replies.{reply_of}
-use Rattle.fedi_model.specs.declared.reply.Reply.{Reply}
+use Rattle.fedi_core.specs.declared.posts.Judged.{Judged}
+use Rattle.fedi_core.specs.declared.posts.Judged.TheVariants.{Refused, Repeated, Kept}
 
--- what was read of the post of an author with so many activities: a Create breaks no rule, and repeats nothing
-abbrev pub judge_create : ℕ → Read → Judgement
-judge_create count NotJson = Stop (Refuse BadBody)
-judge_create count (Bad fault) = Stop (Misshape fault)
-judge_create count (Ready a) = with_room count (Keep a)
+-- what is told is the judgement on a post, which is kept under this key
+abbrev pub IsJudged : Judgement → Option (List ℕ × List ℕ) → Judged → Type 0
+IsJudged j repeat (Refused r) = (a : Answer) × (j ≡ Stop a) × (r ≡ reply_of a)
+IsJudged j repeat (Repeated id) = j ≡ Repeat (option_copied id)
+IsJudged j repeat (Kept a key) = (j ≡ Keep a) × (key ≡ repeat)
 
--- the post at this name, of an author with so many activities
-abbrev pub judge_built_post : Caller → List ℕ → ℕ → Post → Judgement
-judge_built_post c name count post =
-    by_steps (is_bad_key post.key) (is_nobody c) (is_self c name) post.is_typed (judge_create count post.read)
+-- what comes of the steps before the body of the post at this name, if they are passed with this behind them
+abbrev pub steps_before : Caller → List ℕ → Post → Judgement → Judgement
+steps_before c name post j = by_steps (is_bad_key post.key) (is_nobody c) (is_self c name) post.is_typed j
 
--- the activity that is kept, or the reply
-abbrev pub kept_or_reply : Judgement → Result Activity Reply
-kept_or_reply (Stop a) = Err (reply_of a)
-kept_or_reply (Repeat id) = Err (reply_of (Created id))
-kept_or_reply (Keep a) = Ok a
+-- the post is its author's, and passes these steps
+pub record IsAdmitted (c : Caller) (name : List ℕ) (post : Post) : Type 0 where
+  pub own : c ≡ Actor name
+  pub passes : (j : Judgement) → steps_before c name post j ≡ j
+
+-- one of them refuses it so
+abbrev pub IsTurnedAway : Caller → List ℕ → Post → Refusal → Type 0
+IsTurnedAway c name post r = (j : Judgement) → steps_before c name post j ≡ Stop (Refuse r)
+
+-- the judgement on an activity, as whether it may be posted
+abbrev pub told_of : Result Unit Refusal → Activity → Judgement
+told_of (Ok _) a = Keep a
+told_of (Err r) a = Stop (Refuse r)

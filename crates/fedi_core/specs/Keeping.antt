@@ -1,5 +1,5 @@
 -- What becomes of an entry that is to be kept: of the history, and of the keeper of its records.
-use Rattle.std.specs.Prelude.{◌≡◌, ◌⊎◌, ℕ, false, List, [], ◌∷◌, ◌++◌, length, IsTrue, Option, None, Some}
+use Rattle.std.specs.Prelude.{◌≡◌, ◌⊎◌, ℕ, false, true, List, [], ◌∷◌, ◌++◌, length, IsTrue, Option, None, Some}
 use Rattle.fedi_entry.specs.Codes.{code_of}
 use Rattle.fedi_objects.specs.declared.activity.Activity.{Activity}
 use Rattle.fedi_objects.specs.declared.entry.Entry.{Entry}
@@ -10,6 +10,7 @@ use Rattle.fedi_town.specs.declared.caller.Caller.{Caller}
 use Rattle.fedi_town.specs.Activities.{local_act}
 use Rattle.fedi_town.specs.Agreement.{Agree}
 use Rattle.fedi_town.specs.Built.{is_built}
+use Rattle.fedi_town.specs.Deeds.{changes_nothing, deed_of}
 use Rattle.fedi_town.specs.Histories.{town}
 use Rattle.fedi_town.specs.Legal.{is_admissible}
 use Rattle.fedi_town.specs.Seeing.{sees}
@@ -51,9 +52,10 @@ pub record IsKept (growth room : ℕ → ℕ) (h : List Entry) (e : Entry) (befo
   pub fits : HasRoom room before.end (length (code_of e))
   pub keeper : HasAdded growth (code_of e) before after
 
--- a post that came to the history changed nothing for a caller who does not see it
+-- A post that came to the history and changes nothing earlier (a Create, a Follow, a Like, an Announce, or a type without side
+-- effects) changed nothing for a caller who does not see it.
 abbrev pub HidesPosts : List Entry → List Entry → Type 0
 HidesPosts h h' =
     (host name : List ℕ) (repeat : Option (List ℕ × List ℕ)) (a : Activity) (moment : ℕ) (c : Caller)
-    → (town h).host ≡ Some host → h' ≡ h ++ Local name repeat a moment ∷ []
+    → (town h).host ≡ Some host → h' ≡ h ++ Local name repeat a moment ∷ [] → changes_nothing (deed_of a.kind) ≡ true
     → sees (town h) c (local_act (town h) host name repeat a moment) ≡ false → Agree (town h') (town h) c

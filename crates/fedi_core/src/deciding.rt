@@ -2,20 +2,21 @@
 
 ghost use Rattle.std.specs.Prelude.{◌≡◌, ◌<◌, ◌+◌, IfOk, IsTrue, option_copied, option_map};
 ghost use Rattle.fedi_asks.specs.Asks.{entry_of};
-ghost use Rattle.fedi_asks.specs.Built.{is_built_ask, is_built_key, is_built_read};
+ghost use Rattle.fedi_asks.specs.Built.{is_built_ask};
 ghost use Rattle.fedi_asks.specs.Posting.{entry_at, post_answer};
 ghost use Rattle.fedi_model.specs.Replies.{reply, reply_of, without_body};
 ghost use Rattle.fedi_town.specs.Ids.{activity_id};
 ghost use Rattle.fedi_town.specs.Towns.{id_of};
 
-use crate::posts::judge;
+use crate::posts::{Judged, judge};
 use crate::profiles::{actor_reply, webfinger_reply, wrong_method_reply};
-use fedi_address::{Host, LocalName};
-use fedi_facts::{Facts, activity_iri, activity_reply, object_reply};
+use fedi_address::{Host, Iri, LocalName};
+use fedi_effects::Facts;
 use fedi_model::{Ask, Body, Form, Post, Reply, refusal_reply};
 use fedi_objects::Entry;
 use fedi_text::Moment;
-use fedi_town::{Caller, Refusal};
+use fedi_town::{Caller, Refusal, activity_iri};
+use fedi_visible::{activity_reply, object_reply};
 use http::StatusCode;
 use std::alloc::{AllocError, Global};
 
@@ -28,27 +29,43 @@ pub struct Decision {
     pub entry: Option<Entry>,
 }
 
-// The reply that tells the id of a new activity.
-fn created_reply(
-    alloc: Global,
-    host: Option<&Host>,
-    name: &LocalName,
-    number: u64,
-) -> Result<Reply, AllocError>
-    ensures { IfOk result (λ r. r ≡ without_body 201
-        (option_map (λ h. activity_id h name.now number) (option_copied host.entry))) }
+// The reply that tells the id of the activity that a post made, now or before.
+fn created_reply(location: Option<Iri>) -> Reply
+    ensures { result ≡ without_body 201 location }
 {
-    let location = match host {
-        Some(host) => Some(activity_iri(alloc, host, name, number)?),
-        None => None,
-    };
-    Ok(Reply {
+    Reply {
         status: StatusCode::CREATED,
         form: Form::None,
         location,
         allow: None,
         body: Body::empty(),
-    })
+    }
+}
+
+// The id of the member's activity of this number, once the server was set up.
+fn id_at(
+    alloc: Global,
+    host: Option<&Host>,
+    name: &LocalName,
+    number: u64,
+) -> Result<Option<Iri>, AllocError>
+    ensures { IfOk result (λ id. id
+        ≡ option_map (λ h. activity_id h name.now number) (option_copied host.entry)) }
+{
+    match host {
+        Some(host) => Ok(Some(activity_iri(alloc, host, name, number)?)),
+        None => Ok(None),
+    }
+}
+
+// A copy of the id, if there is one.
+fn copy_id(id: Option<&Iri>) -> Result<Option<Iri>, AllocError>
+    ensures { IfOk result (λ copy. copy ≡ option_copied id.entry) }
+{
+    match id {
+        Some(id) => Ok(Some(id.copy()?)),
+        None => Ok(None),
+    }
 }
 
 // What is decided on a post to the outbox of the member of this name.
@@ -56,35 +73,40 @@ fn decide_post(
     alloc: Global,
     facts: &Facts,
     caller: &Caller,
-    name: &LocalName,
+    name: LocalName,
     post: Post,
     moment: Moment,
 ) -> Result<Decision, AllocError>
-    requires key { IsTrue (is_built_key post.key) }
-    requires read { IsTrue (is_built_read post.read) }
     ensures reply { IfOk result (λ d. d.reply ≡ reply_of (post_answer facts.now.town caller.now
-        name.now post (id_of facts.now.town name.now))) }
+        name post (id_of facts.now.town name))) }
     ensures entry { IfOk result (λ d. d.entry ≡ entry_at facts.now.town caller.now
-        name.now post moment (id_of facts.now.town name.now)) }
+        name post moment (id_of facts.now.town name)) }
 {
-    let Some(author) = facts.id_of(name) else {
+    let Some(author) = facts.id_of(&name) else {
         return Ok(Decision {
             reply: refusal_reply(Refusal::NotFound),
             entry: None,
         });
     };
-    let count = facts.count_of(author);
-    match judge(caller, name, count, post) {
-        Ok(activity) => Ok(Decision {
-            reply: created_reply(alloc, facts.host(), name, count as u64 + 1)?,
-            entry: Some(Entry::Local {
-                name: name.copy(),
-                repeat: None,
-                activity,
-                moment,
-            }),
+    match judge(facts, caller, &name, author, post) {
+        Judged::Refused(reply) => Ok(Decision { reply, entry: None }),
+        Judged::Repeated(id) => Ok(Decision {
+            reply: created_reply(copy_id(id)?),
+            entry: None,
         }),
-        Err(reply) => Ok(Decision { reply, entry: None }),
+        Judged::Kept(activity, repeat) => {
+            let number = facts.count_of(author) as u64 + 1;
+            let id = id_at(alloc, facts.host(), &name, number)?;
+            Ok(Decision {
+                reply: created_reply(id),
+                entry: Some(Entry::Local {
+                    name,
+                    repeat,
+                    activity,
+                    moment,
+                }),
+            })
+        }
     }
 }
 
@@ -108,7 +130,7 @@ pub fn decide(
         Ask::Activity(name, number) => activity_reply(alloc, facts, caller, &name, number)?,
         Ask::Object(name, number) => object_reply(alloc, facts, caller, &name, number)?,
         Ask::Outbox(name, post) => {
-            return decide_post(alloc, facts, caller, &name, post, moment);
+            return decide_post(alloc, facts, caller, name, post, moment);
         }
         Ask::Collection(..) => unreachable!(),
         Ask::Inbox(..) => unreachable!(),

@@ -3,13 +3,13 @@
 ghost use Rattle.std.specs.Prelude.{◌≡◌, ◌++◌, ◌∷◌, [], ◌+◌, ◌≤◌, IfErr, IsTrue, IsErrOf, OnOk, OnErr, length, vec_capacity, vec_len};
 ghost use Rattle.fedi_entry.specs.Codes.{code_of};
 ghost use Rattle.fedi_town.specs.Built.{is_built};
-ghost use Rattle.fedi_town.specs.Histories.{step};
 ghost use Rattle.fedi_outside.specs.Keepers.{HasAdded, HasRoom};
 ghost use Rattle.fedi_core.specs.Keeping.{Refuses};
+ghost use Rattle.fedi_core.specs.Machines.{IsGrown, IsSame};
 ghost use Rattle.fedi_core.specs.declared.keeping.KeepFault.TheVariants.{Memory};
 
+use fedi_effects::Facts;
 use fedi_entry::encode;
-use fedi_facts::Facts;
 use fedi_objects::Entry;
 use fedi_outside::{Failed, Keeper, ReserveFault};
 use std::alloc::{AllocError, Global};
@@ -81,9 +81,9 @@ pub fn store_entry<P: Keeper>(
     entry: &Entry,
 ) -> Result<(), KeepFault>
     requires { IsTrue (is_built entry.now) }
-    ensures facts { OnOk result (facts.new.town ≡ step facts.old.town entry.now) }
+    ensures facts { OnOk result (IsGrown facts.old entry.now facts.new) }
     ensures room { OnOk result (vec_len history.new + 1 ≤ vec_capacity history.new) }
-    ensures facts_kept { OnErr result (facts.new.town ≡ facts.old.town) }
+    ensures facts_kept { OnErr result (IsSame facts.old facts.new) }
     ensures history { history.new.items ≡ history.old.items }
     ensures fits { OnOk result
         (HasRoom P.room (P.shown keeper.old).end (length (code_of entry.now))) }
@@ -94,10 +94,9 @@ pub fn store_entry<P: Keeper>(
 {
     let code = encode(alloc, entry)?;
     history.reserve(1)?;
-    facts.reserve()?;
-    let addition = facts.prepare(alloc, entry)?;
+    facts.reserve(alloc, entry)?;
     store(keeper, &code)?;
-    facts.add(addition);
+    facts.apply(entry);
     Ok(())
 }
 

@@ -8,18 +8,19 @@ ghost use Rattle.fedi_town.specs.Built.{are_built};
 ghost use Rattle.fedi_town.specs.Histories.{town};
 ghost use Rattle.fedi_town.specs.Legal.{IsLegal, broken_command};
 ghost use Rattle.fedi_town.specs.Towns.{has_digest};
-ghost use Rattle.fedi_asks.specs.Asks.{IsPostable, entry_of};
+ghost use Rattle.fedi_asks.specs.Asks.{entry_of};
 ghost use Rattle.fedi_asks.specs.Built.{is_built_ask};
 ghost use Rattle.fedi_model.specs.Callers.{caller_by, member_or_refused};
 ghost use Rattle.fedi_model.specs.Credentials.{shown_by as credentials_shown_by};
 ghost use Rattle.fedi_model.specs.Replies.{IsPrivate, reply};
+ghost use Rattle.fedi_model.specs.Routes.{IsPostableAt};
 ghost use Rattle.fedi_core.specs.Commands.{IsCommand, RefusesCommand};
 ghost use Rattle.fedi_core.specs.Keeping.{HidesPosts, IsKept, MayAdd, Refuses};
 
 use crate::deciding::{Decision, decide};
 use crate::keeping::{KeepError, KeepFault, push, store_entry};
 use fedi_address::Host;
-use fedi_facts::Facts;
+use fedi_effects::Facts;
 use fedi_mac::digest;
 use fedi_model::{Ask, Credentials};
 use fedi_objects::Entry;
@@ -45,18 +46,18 @@ impl<P: Keeper> Model for Core<P> {
 
     ghost view = { λ c. record { history = c.history.items; keeper = c.keeper } };
 
-    ghost invariant = { λ c. Stands c.facts.town c.history.items };
+    ghost invariant = { λ c. Stands c.facts c.history.items };
 }
 
 fn facts_of(alloc: Global, history: &[Entry]) -> Result<Facts, AllocError>
     requires { IsTrue (are_built history.now) }
-    ensures { IfOk result (λ facts. facts.town ≡ town history.now) }
+    ensures held { IfOk result (λ facts. facts.history ≡ history.now) }
+    ensures made { IfOk result (λ facts. facts.town ≡ town history.now) }
 {
-    let mut facts = Facts::empty(alloc);
+    let mut facts = Facts::empty(alloc)?;
     for entry in history {
-        facts.reserve()?;
-        let addition = facts.prepare(alloc, entry)?;
-        facts.add(addition);
+        facts.reserve(alloc, entry)?;
+        facts.apply(entry);
     }
     Ok(facts)
 }
@@ -130,7 +131,7 @@ impl<P: Keeper> Core<P> {
         ask: Ask,
         moment: Moment,
     ) -> Result<Decision, AllocError>
-        requires postable { IsPostable (town self.now.history) ask }
+        requires postable { IsPostableAt (town self.now.history).host ask }
         requires built { IsTrue (is_built_ask ask) }
         ensures reply { IfOk result (λ d. d.reply ≡ reply (town self.now.history) caller.now ask) }
         ensures entry { IfOk result (λ d.
@@ -156,7 +157,7 @@ impl<P: Keeper> Core<P> {
         ensures same { OnErr result (self.new.history ≡ self.old.history) }
         ensures legal { IsLegal self.new.history }
         ensures built { IsTrue (are_built self.new.history) }
-        // A post tells nothing to a caller who does not see it.
+        // A post that changes nothing earlier tells nothing to a caller who does not see it.
         ensures unseen { HidesPosts self.old.history self.new.history }
     {
         match store_entry(

@@ -1,17 +1,32 @@
 //! What becomes of a post, before it is kept.
 
-ghost use Rattle.std.specs.Prelude.{◌≡◌, ◌<◌, IfOk};
-ghost use Rattle.fedi_asks.specs.Posting.{is_bad_key};
+ghost use Rattle.std.specs.Prelude.{◌≡◌, ℕ, List, Option, Some, MatchResult};
+ghost use Rattle.fedi_asks.specs.Posting.{is_bad_key, Judgement, judge_activity, judge_post, repeat_by, repeat_under, unless_repeat};
 ghost use Rattle.fedi_asks.specs.Reading.{is_nobody, is_self};
-ghost use Rattle.fedi_core.specs.Judging.{judge_built_post, kept_or_reply};
+ghost use Rattle.fedi_core.specs.Judging.{IsAdmitted, IsJudged, IsTurnedAway, told_of};
+ghost use Rattle.fedi_town.specs.Agreement.{repeats_of};
+ghost use Rattle.fedi_town.specs.Towns.{id_of};
+ghost use Rattle.fedi_town.specs.declared.caller.Caller.TheVariants.{Actor};
 
-use fedi_address::LocalName;
+use fedi_address::{Iri, LocalName};
+use fedi_effects::{Facts, Repeat, judge_local};
 use fedi_model::{KeyAsk, Post, Read, Reply, misshapen_reply, refusal_reply};
-use fedi_objects::{Activity, Boxed};
+use fedi_objects::{Activity, Boxed, RepeatKey};
 use fedi_town::{Caller, Refusal};
 
 /// The most activities that a member may have.
 const MOST: usize = 4_294_967_295;
+
+/// What becomes of a post.
+#[derive(Drop)]
+pub enum Judged<'a> {
+    /// It is refused by this reply.
+    Refused(Reply),
+    /// It is the repeat of the post that made the activity of this id.
+    Repeated(Option<&'a Iri>),
+    /// Its activity is kept, under this key and digest if it has a key.
+    Kept(Boxed<Activity>, Option<(RepeatKey, [u8; 32])>),
+}
 
 fn is_bad_key(key: &KeyAsk) -> bool
     ensures { result ≡ is_bad_key key.now }
@@ -40,34 +55,112 @@ fn is_self(caller: &Caller, name: &LocalName) -> bool
     }
 }
 
-/// The activity of a post at the name of a member with so many activities, or the reply that refuses
-/// it: a key that is none, nobody known, somebody else, another media type, no JSON, no shape of a
-/// post, too many activities. The first reason counts.
-pub fn judge(
-    caller: &Caller,
-    name: &LocalName,
-    count: usize,
-    post: Post,
-) -> Result<Boxed<Activity>, Reply>
-    ensures judgement { result ≡ kept_or_reply (judge_built_post caller.now name.now count post) }
-    ensures room { IfOk result (λ _. count < 4294967295) }
+// Whether the body of the post at this name is looked at: not if its key is none, if nobody is known to
+// post or somebody else, or if it has another media type. The first reason counts.
+#[tactic(auto, using(crate::proofs::Judging::is_own))]
+fn admit(caller: &Caller, name: &LocalName, post: &Post) -> Result<(), Refusal>
+    ensures { MatchResult result
+        (λ _. IsAdmitted caller.now name.now post.now)
+        (λ refusal. IsTurnedAway caller.now name.now post.now refusal) }
 {
     if is_bad_key(&post.key) {
-        return Err(refusal_reply(Refusal::BadQuery));
+        return Err(Refusal::BadQuery);
     }
     if is_nobody(caller) {
-        return Err(refusal_reply(Refusal::NoKey));
+        return Err(Refusal::NoKey);
     }
     if !is_self(caller, name) {
-        return Err(refusal_reply(Refusal::NotOwner));
+        return Err(Refusal::NotOwner);
     }
     if !post.is_typed {
-        return Err(refusal_reply(Refusal::WrongType));
+        return Err(Refusal::WrongType);
     }
-    match post.read {
-        Read::NotJson => Err(refusal_reply(Refusal::BadBody)),
-        Read::Bad(fault) => Err(misshapen_reply(fault)),
-        Read::Ready(_) if count >= MOST => Err(refusal_reply(Refusal::ActorFull)),
-        Read::Ready(activity) => Ok(activity),
+    Ok(())
+}
+
+// What the author posted under the key of a post before.
+fn repeat_under<'a>(facts: &'a Facts, author: &Iri, key: &KeyAsk) -> Option<Repeat<'a>>
+    ensures { result ≡ repeat_under (repeats_of facts.now.town author.now) key.now }
+{
+    match key {
+        KeyAsk::Given(key) => facts.repeat_of(author, key),
+        KeyAsk::Absent | KeyAsk::Malformed => None,
+    }
+}
+
+// What becomes of a post under the key of this one: it is the same again if its body is.
+fn judge_repeat<'a>(repeat: &Repeat<'a>, digest: &[u8; 32]) -> Judged<'a>
+    ensures { (j : Judgement) → (key : Option (List ℕ × List ℕ))
+        → IsJudged (unless_repeat digest.now (Some repeat.now) j) key result }
+{
+    if repeat.digest() == digest {
+        Judged::Repeated(repeat.activity())
+    } else {
+        Judged::Refused(refusal_reply(Refusal::KeyReused))
+    }
+}
+
+// The key under which a post is kept, with the digest of its body.
+fn repeat_by(digest: [u8; 32], key: KeyAsk) -> Option<(RepeatKey, [u8; 32])>
+    ensures { result ≡ repeat_by digest key }
+{
+    match key {
+        KeyAsk::Given(key) => {
+            let pair = (key, digest);
+            Some(pair)
+        }
+        KeyAsk::Absent | KeyAsk::Malformed => None,
+    }
+}
+
+// Whether the author may post an activity that repeats nothing: no rule is broken, and there is room for
+// one more of the author.
+fn judge_activity(facts: &Facts, author: &Iri, activity: &Activity) -> Result<(), Refusal>
+    ensures { (name : List ℕ) → id_of facts.now.town name ≡ Some author.now
+        → judge_activity facts.now.town (Actor name) author.now activity.now
+        ≡ told_of result activity.now }
+{
+    judge_local(facts, author, activity)?;
+    if facts.count_of(author) >= MOST {
+        return Err(Refusal::ActorFull);
+    }
+    Ok(())
+}
+
+/// What becomes of the post at the name of the member who is the author with this id. It is refused for
+/// a key that is none, if nobody is known to post or somebody else, for another media type, for what is
+/// no JSON or has not the shape of a post, for a key that was used for another body, for a rule that it
+/// breaks, or since the author has the most activities. The first reason counts.
+pub fn judge<'a>(
+    facts: &'a Facts,
+    caller: &Caller,
+    name: &LocalName,
+    author: &Iri,
+    post: Post,
+) -> Judged<'a>
+    requires { id_of facts.now.town name.now ≡ Some author.now }
+    ensures { IsJudged (judge_post facts.now.town caller.now name.now author.now post)
+        (repeat_by post.digest post.key) result }
+{
+    if let Err(refusal) = admit(caller, name, &post) {
+        return Judged::Refused(refusal_reply(refusal));
+    }
+    let Post {
+        is_typed: _,
+        key,
+        digest,
+        read,
+    } = post;
+    let activity = match read {
+        Read::NotJson => return Judged::Refused(refusal_reply(Refusal::BadBody)),
+        Read::Bad(fault) => return Judged::Refused(misshapen_reply(fault)),
+        Read::Ready(activity) => activity,
+    };
+    if let Some(repeat) = repeat_under(facts, author, &key) {
+        return judge_repeat(&repeat, &digest);
+    }
+    match judge_activity(facts, author, activity.get()) {
+        Ok(()) => Judged::Kept(activity, repeat_by(digest, key)),
+        Err(refusal) => Judged::Refused(refusal_reply(refusal)),
     }
 }

@@ -9,7 +9,7 @@ ghost use Rattle.fedi_model.specs.Replies.{disallowed, reply_of, showing};
 ghost use Rattle.fedi_town.specs.Towns.{id_of};
 
 use fedi_address::LocalName;
-use fedi_facts::Facts;
+use fedi_effects::Facts;
 use fedi_model::{Allow, Body, Form, Reply, Resource, refusal_reply};
 use fedi_objects::public_text;
 use fedi_routes::{actor_value, jrd};

@@ -8,9 +8,9 @@ ghost use Rattle.fedi_town.specs.Legal.{IsLegal};
 ghost use Rattle.fedi_example.specs.Example as example;
 
 use fedi_address::{Host, HostFault, Iri, Items, LocalName, Recipients};
-use fedi_facts::actor_iri;
 use fedi_objects::{Activity, Boxed, Entry, Kind, Object, ObjectRef};
 use fedi_text::{Moment, Text};
+use fedi_town::actor_iri;
 use std::alloc::{AllocError, Global};
 
 /// The SHA-256 digest of ana's key, which is 32 bytes 0.

@@ -16,7 +16,7 @@ use Rattle.fedi_laws.proofs.Finding.{PassesOnce-push, PassesOnce-map}
 use Rattle.fedi_town.specs.Lists.{PassesOnce}
 use Rattle.fedi_laws.proofs.Lists.{list_any-through, filter-through}
 use Rattle.fedi_laws.proofs.Members.{name_bytes}
-use Rattle.fedi_laws.proofs.Paths.{activity_path_is_plain}
+use Rattle.fedi_town.proofs.Paths.{activity_path_is_plain}
 use Rattle.fedi_town.specs.Ids.{actor_id, activity_id, activity_path}
 use Rattle.fedi_town.specs.Relations.{has_activity_id}
 use Rattle.fedi_town.specs.Towns.{is_by}
@@ -124,7 +124,7 @@ foreign_once host acts x id h shape own new other =
     (λ i has. let is : bytes_eq id i ≡ true = rw own at has in subst (λ (j : List ℕ). list_any (has_activity_id j) acts ≡ false) (bytes_eq-is id i is) new)
     (λ name n named above few. rw own (is_false (bytes_eq id (activity_id host name n)) (λ e.
     let same : id ≡ activity_id host name n = bytes_eq-is id (activity_id host name n) e in
-    let at : host_of id ≡ host = ap host_of same ∙ host_of-address host (activity_path name n) shape (activity_path_is_plain name n few named) in
+    let at : host_of id ≡ host = ap host_of same ∙ host_of-address host (activity_path name n) shape (activity_path_is_plain name n (omega arith) named) in
     not_both (bytes_eq (host_of id) host) (rw at (bytes_eq-same host)) other)))
 
 -- changes that leave author and id

@@ -20,8 +20,8 @@ pub mod MadeOnce
 pub mod Members
 pub mod Naming
 pub mod Next
+pub mod Nobody
 pub mod Pages
-pub mod Paths
 pub mod People
 pub mod Posted
 pub mod Queued

@@ -11,7 +11,7 @@ use Rattle.fedi_objects.specs.declared.entry.Entry.{Entry}
 use Rattle.fedi_objects.specs.declared.entry.Entry.TheVariants.{Local, Remote}
 use Rattle.fedi_asks.specs.Answers.{Refuse}
 use Rattle.fedi_asks.specs.Asks.{IsRead, IsReadFor, IsPostable, entry_of}
-use Rattle.fedi_asks.specs.Built.{is_built_key, is_built_read, is_built_ask}
+use Rattle.fedi_asks.specs.Built.{is_built_ask}
 use Rattle.fedi_asks.specs.Posting.{Judgement, Stop, Repeat, Keep, by_steps, judge_read, unless_repeat, judge_activity, unless_broken, with_room, judge_post, repeat_under, is_bad_key, is_there, judge_delivery, judge_inbox, repeat_by, post_entry, inbox_entry, entry_at, inbox_entry_at, delivery_of}
 use Rattle.fedi_asks.specs.Reading.{is_nobody, is_self}
 use Rattle.fedi_asks.specs.declared.ask.Ask.{Ask}
@@ -201,28 +201,17 @@ read_ready t c author post (Ready a) b e =
     let second = rule_kept (broken t c author (deed_of a.kind) (ref_id a.object)) (with_room (count_of t author) (Keep a)) b first.1 in
     ap (λ (x : activities.Activity). Ready x) (room_kept (count_of t author) a b second.1).1
 
-no_repeat : (digest : List ℕ) (key : KeyAsk) → is_built_key key ≡ true → is_none (repeat_by digest key) ≡ true
-no_repeat digest Absent h = refl
-no_repeat digest Malformed h = refl
-no_repeat digest (Given key) h = absurd cc
-
-post_built : (t : Town) (c : Caller) (name author : List ℕ) (post : Post) (moment : ℕ) (v : Judgement) (e : Entry)
-    → is_built_key post.key ≡ true → is_built_read post.read ≡ true
-    → judge_post t c name author post ≡ v → post_entry name post moment v ≡ Some e → is_built e ≡ true
-post_built t c name author post moment (Stop r) e key read verdict made = absurd cc
-post_built t c name author post moment (Repeat l) e key read verdict made = absurd cc
-post_built t c name author post moment (Keep a) e key read verdict made =
-    let steps = steps_kept (is_bad_key post.key) (is_nobody c) (is_self c name) post.is_typed (judge_read t c author post post.read) a verdict in
-    let create : is_create (deed_of a.kind) ≡ true =
-    subst (λ (r : Read). is_built_read r ≡ true) (read_ready t c author post post.read a steps.1) read in
-    let same : Local name (repeat_by post.digest post.key) a moment ≡ e = cc in
-    subst (λ (x : Entry). is_built x ≡ true) same (rw (create, no_repeat post.digest post.key key) refl)
-
 built_by : (t : Town) (c : Caller) (name : List ℕ) (post : Post) (moment : ℕ) (a : Option (List ℕ)) (e : Entry)
-    → is_built_key post.key ≡ true → is_built_read post.read ≡ true → entry_at t c name post moment a ≡ Some e → is_built e ≡ true
-built_by t c name post moment None e key read made = absurd cc
-built_by t c name post moment (Some author) e key read made =
-    post_built t c name author post moment (judge_post t c name author post) e key read refl made
+    → entry_at t c name post moment a ≡ Some e → is_built e ≡ true
+built_by t c name post moment None e made = absurd cc
+built_by t c name post moment (Some author) e made = by (judge_post t c name author post) made
+  where
+    by : (v : Judgement) → post_entry name post moment v ≡ Some e → is_built e ≡ true
+    by (Stop r) h = absurd cc
+    by (Repeat id) h = absurd cc
+    by (Keep a) h =
+        let same : Local name (repeat_by post.digest post.key) a moment ≡ e = cc in
+        subst (λ (x : Entry). is_built x ≡ true) same refl
 
 -- The entry that an ask makes that is built is built.
 pub entry_built : (t : Town) (c : Caller) (ask : Ask) (moment : ℕ) (e : Entry) → is_built_ask ask ≡ true → entry_of t c ask moment ≡ Some e → is_built e ≡ true
@@ -233,7 +222,5 @@ entry_built t c (Actor name) moment e p made = absurd cc
 entry_built t c (Collection which ask) moment e p made = absurd cc
 entry_built t c (Activity name number) moment e p made = absurd cc
 entry_built t c (Object name number) moment e p made = absurd cc
-entry_built t c (Outbox name post) moment e p made =
-    let parts = and_parts (is_built_key post.key) (is_built_read post.read) p in
-    built_by t c name post moment (id_of t name) e parts.0 parts.1 made
+entry_built t c (Outbox name post) moment e p made = built_by t c name post moment (id_of t name) e made
 entry_built t c (Inbox name post) moment e p made = absurd cc

@@ -22,11 +22,14 @@ use Rattle.fedi_town.specs.Relations.{has_activity_id}
 use Rattle.fedi_town.specs.Replays.{acts_of, replay}
 use Rattle.fedi_town.specs.Seeing.{sees}
 use Rattle.fedi_town.specs.Towns.{Town, has_name, id_of}
+use Rattle.fedi_town.specs.declared.caller.Caller.TheVariants as callers
 use Rattle.fedi_asks.specs.declared.ask.Ask.{Ask}
 use Rattle.fedi_asks.specs.declared.ask.Ask.TheVariants as asks
 use Rattle.fedi_asks.specs.Asks.{answer_of, entry_of, IsPostable}
 use Rattle.fedi_asks.specs.Built.{is_built_ask}
 use Rattle.fedi_asks.specs.Cleanness.{is_clean_answer}
+use Rattle.fedi_asks.specs.declared.post.Post.{Post}
+use Rattle.fedi_asks.specs.Posting.{is_bad_key}
 use Rattle.fedi_asks.specs.Reading.{is_self}
 
 -- ---- what a caller may learn
@@ -49,6 +52,12 @@ ProfilesTellNamesAlone =
     (g h : List Entry) (c d : Caller) (ask : Ask) → IsLegal g → IsLegal h → (town g).host ≡ (town h).host
     → member_names (town g) ≡ member_names (town h) → is_of_profiles ask ≡ true
     → answer_of (town g) c ask ≡ answer_of (town h) d ask
+
+-- What is answered to nobody for a post does not depend on its body, so the body need not be read.
+abbrev pub PostsOfNobodyAreUnread : Type 0
+PostsOfNobodyAreUnread =
+    (t : Town) (name : List ℕ) (post other : Post) → is_bad_key post.key ≡ is_bad_key other.key
+    → answer_of t callers.Nobody (asks.Outbox name post) ≡ answer_of t callers.Nobody (asks.Outbox name other)
 
 -- A member's post that changes nothing earlier changes nothing that a caller knows who does not see it. So the agreement is
 -- no empty one: a private post changes no answer to a stranger.

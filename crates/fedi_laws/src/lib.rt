@@ -21,5 +21,6 @@ pub use objects::{
 };
 pub use privacy::{
     added_inboxes_tell_their_owners, answers_are_clean, answers_are_private,
-    profiles_tell_names_alone, unseen_deliveries_tell_nothing, unseen_posts_tell_nothing,
+    posts_of_nobody_are_unread, profiles_tell_names_alone, unseen_deliveries_tell_nothing,
+    unseen_posts_tell_nothing,
 };

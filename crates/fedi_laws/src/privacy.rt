@@ -1,6 +1,6 @@
 //! What a caller may learn.
 
-ghost use Rattle.fedi_laws.specs.Statements.{AddedInboxesTellTheirOwners, AnswersAreClean, AnswersArePrivate, ProfilesTellNamesAlone, UnseenDeliveriesTellNothing, UnseenPostsTellNothing};
+ghost use Rattle.fedi_laws.specs.Statements.{AddedInboxesTellTheirOwners, AnswersAreClean, AnswersArePrivate, PostsOfNobodyAreUnread, ProfilesTellNamesAlone, UnseenDeliveriesTellNothing, UnseenPostsTellNothing};
 
 /// Histories that agree for a caller give the caller the same answer, whatever else stands in them.
 #[tactic(auto, using(crate::proofs::Isolation::private_answers))]
@@ -13,6 +13,12 @@ pub fn answers_are_private()
 #[tactic(auto, using(crate::proofs::Isolation::public_profiles))]
 pub fn profiles_tell_names_alone()
     ensures { ProfilesTellNamesAlone }
+{}
+
+/// What is answered to nobody for a post does not depend on its body, so the body need not be read.
+#[tactic(auto, using(crate::proofs::Nobody::nobody_is_answered))]
+pub fn posts_of_nobody_are_unread()
+    ensures { PostsOfNobodyAreUnread }
 {}
 
 /// A post that changes nothing earlier, as a Create, a Follow or a Like, changes nothing that a caller

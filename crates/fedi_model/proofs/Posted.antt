@@ -1,4 +1,4 @@
--- What is read of a client's post has the shape of a post, and is a Create.
+-- What is read of an object that a client posts alone has the shape of a post.
 use Rattle.std.proofs.Common.{◌≡◌, ℕ, ◌≤◌, List, [], ◌∷◌, ◌++◌, length, true, false, cond, not, Option, Some, None, codes, refl, sym, subst, ◌∙◌}
 use Rattle.std.specs.Prelude.{Ok, IsTrue}
 use Rattle.std.specs.Cmp.Lexicographic.{pointwise}
@@ -16,9 +16,6 @@ use Rattle.fedi_reading.specs.Faults.{is_long}
 use Rattle.fedi_reading.specs.Properties.{entries_at, reads_type}
 use Rattle.fedi_reading.specs.Reading.{recipient_of, add_new, distinct, tags_of, wrapped, reads_posted}
 use Rattle.fedi_reading.proofs.KeptLemmas.{named_by, AreNamed, IsMadeOf, type_kept, words_kept, people_kept, tags_kept, object_parts, posted_object}
-use Rattle.fedi_objects.specs.declared.entry.Entry.TheVariants.{Local}
-use Rattle.fedi_town.specs.Built.{is_built}
-use Rattle.fedi_town.specs.Deeds.{deed_of, is_create}
 use Rattle.fedi_objects.specs.Limits.{is_text, is_type}
 use Rattle.fedi_town.specs.Shapes.{is_none_or, is_each_once, are_addressed, are_same, are_tags, is_posted}
 
@@ -108,11 +105,3 @@ pub read_is_posted : (d : Data) (a : Activity) (author : List ℕ) → reads_pos
 read_is_posted d a author h =
     let found = posted_object d a h in
     subst (λ (x : Activity). is_posted author x ≡ true) (sym found.2) (object_kept author d found.0 (object_parts d found.0 found.1))
-
-pub read_is_create : (d : Data) (a : Activity) → reads_posted d ≡ Ok a → is_create (deed_of a.kind) ≡ true
-read_is_create d a h =
-    let found = posted_object d a h in
-    subst (λ (x : Activity). is_create (deed_of x.kind) ≡ true) (sym found.2) refl
-
-pub read_is_built : (d : Data) (a : Activity) (name : List ℕ) (moment : ℕ) → reads_posted d ≡ Ok a → IsTrue (is_built (Local name None a moment))
-read_is_built d a name moment h = rw (read_is_create d a h) refl

@@ -1,9 +1,10 @@
 -- What a request asks for, by its path and then by its method (RFC 9110, section 9.3; ActivityPub, sections 3.2 and 6).
-use Rattle.std.specs.Prelude.{◌≡◌, ℕ, ◌==◌, Bool, false, ◌||◌, ◌⊎◌, List, map, replicate, codes, bytes_eq, MatchBool, Option, Some, None, Ok, Err}
+use Rattle.std.specs.Prelude.{◌≡◌, ℕ, ◌==◌, Bool, false, ◌&&◌, ◌||◌, ◌⊎◌, is_none, if◌then◌else◌, List, map, replicate, codes, bytes_eq, MatchBool, Option, Some, None, Ok, Err}
 use Rattle.std.specs.Char.{to_ascii_lowercase}
 use Rattle.std.specs.List.{before_first}
 use Rattle.serde_json.specs.Data.{Data}
 use Rattle.sha2.specs.Sha256.{sha256}
+use Rattle.fedi_asks.specs.Asks.{IsPostable}
 use Rattle.fedi_asks.specs.declared.ask.Ask.{Ask}
 use Rattle.fedi_asks.specs.declared.ask.Ask.TheVariants.{Nowhere, WrongMethod, Webfinger, Actor, Activity, Object, Outbox}
 use Rattle.fedi_asks.specs.declared.post.KeyAsk.{KeyAsk}
@@ -12,7 +13,12 @@ use Rattle.fedi_asks.specs.declared.post.Post.{Post}
 use Rattle.fedi_asks.specs.declared.post.Read.{Read}
 use Rattle.fedi_asks.specs.declared.post.Read.TheVariants.{NotJson, Bad, Ready}
 use Rattle.fedi_reading.specs.Bodies.{IsBodyOf}
-use Rattle.fedi_reading.specs.Reading.{reads_posted}
+use Rattle.fedi_objects.specs.Keys.{is_repeat_key}
+use Rattle.fedi_reading.specs.Activities.{reads_activity}
+use Rattle.fedi_objects.specs.declared.entry.Entry.{Entry}
+use Rattle.fedi_town.specs.Histories.{town}
+use Rattle.fedi_town.specs.Ids.{actor_id}
+use Rattle.fedi_town.specs.Legal.{IsLegal}
 use Rattle.fedi_town.specs.declared.caller.Which.TheVariants as which
 use Rattle.fedi_model.specs.declared.place.Place.{Place}
 use Rattle.fedi_model.specs.declared.place.Place.TheVariants as place
@@ -43,16 +49,24 @@ abbrev pub is_typed : Option (List ℕ) → Bool
 is_typed None = false
 is_typed (Some value) = is_read_type (media_type value)
 
--- what is read of a body
-abbrev pub ReadsBody : List ℕ → Read → Type 0
-ReadsBody body NotJson = (d : Data) → ¬ (IsBodyOf body d)
-ReadsBody body (Bad fault) = (d : Data) × IsBodyOf body d × (reads_posted d ≡ Err fault)
-ReadsBody body (Ready a) = (d : Data) × IsBodyOf body d × (reads_posted d ≡ Ok a)
+-- what is read of a body that the author posts
+abbrev pub ReadsBody : List ℕ → List ℕ → Read → Type 0
+ReadsBody author body NotJson = (d : Data) → ¬ (IsBodyOf body d)
+ReadsBody author body (Bad fault) = (d : Data) × IsBodyOf body d × (reads_activity author d ≡ Err fault)
+ReadsBody author body (Ready a) = (d : Data) × IsBodyOf body d × (reads_activity author d ≡ Ok a)
 
--- the key under which the post is repeated (the field Idempotency-Key): no value is taken as one yet
+-- the request shows nothing of who makes it
+abbrev pub is_anonymous : Request → Bool
+is_anonymous q = is_none q.fields.authorization && (is_none q.fields.peer_host && is_none q.fields.peer_mac)
+
+-- What is read of the author's post. Of one that shows nothing of who makes it nothing is: nobody may post, whatever it holds.
+abbrev pub ReadsPost : Request → List ℕ → List ℕ → Read → Type 0
+ReadsPost q author body read = MatchBool (is_anonymous q) (read ≡ NotJson) (ReadsBody author body read)
+
+-- the key under which the post is repeated (the field Idempotency-Key): 1 to 64 bytes 33 to 126
 abbrev pub repeat_key : Option (List ℕ) → KeyAsk
 repeat_key None = Absent
-repeat_key (Some value) = Malformed
+repeat_key (Some value) = if is_repeat_key value then Given value else Malformed
 
 -- no digest
 abbrev pub no_digest : List ℕ
@@ -64,12 +78,12 @@ digest_under Absent body = no_digest
 digest_under Malformed body = no_digest
 digest_under (Given key) body = sha256 body
 
--- the post that a request with this body makes
-pub record IsPost (q : Request) (body : List ℕ) (post : Post) : Type 0 where
+-- the author's post that a request with this body makes
+pub record IsPost (q : Request) (author body : List ℕ) (post : Post) : Type 0 where
   pub typed : post.is_typed ≡ is_typed q.fields.content_type
   pub key : post.key ≡ repeat_key q.fields.idempotency_key
   pub digest : post.digest ≡ digest_under post.key body
-  pub read : ReadsBody body post.read
+  pub read : ReadsPost q author body post.read
 
 -- ---- asks
 
@@ -86,16 +100,21 @@ abbrev pub refused_at : Place → Ask
 refused_at (place.Collection (which.Inbox name)) = Nowhere
 refused_at there = WrongMethod (allow_of there)
 
+-- what is asked for by posting to the outbox of this name: before the server was set up nobody has one
+abbrev pub PostsAs : Option (List ℕ) → Request → List ℕ → List ℕ → Ask → Type 0
+PostsAs None q body name ask = ask ≡ Nowhere
+PostsAs (Some host) q body name ask = (post : Post) × IsPost q (actor_id host name) body post × (ask ≡ Outbox name post)
+
 -- what is asked for by posting to what stands there: members post to their outboxes (ActivityPub, section 6)
-abbrev pub PostsTo : Request → List ℕ → Place → Ask → Type 0
-PostsTo q body (place.Collection (which.Outbox name)) ask = (post : Post) × IsPost q body post × (ask ≡ Outbox name post)
-PostsTo q body there ask = ask ≡ refused_at there
+abbrev pub PostsTo : Option (List ℕ) → Request → List ℕ → Place → Ask → Type 0
+PostsTo host q body (place.Collection (which.Outbox name)) ask = PostsAs host q body name ask
+PostsTo host q body there ask = ask ≡ refused_at there
 
 -- what a request for what stands there asks for, by its method
 abbrev pub AsksAt : Option (List ℕ) → Request → List ℕ → Place → Ask → Type 0
 AsksAt host q body there ask =
     MatchBool (is_reading q.method) (ask ≡ read_at host (query_of q.target) there)
-    (MatchBool (is_post q.method) (PostsTo q body there ask) (ask ≡ refused_at there))
+    (MatchBool (is_post q.method) (PostsTo host q body there ask) (ask ≡ refused_at there))
 
 -- what a request with this body asks for at the server of this host: its path leads somewhere, or it asks for nothing
 abbrev pub Asks : Option (List ℕ) → Request → List ℕ → Ask → Type 0
@@ -106,3 +125,7 @@ Asks host q body ask =
 -- a request asks for one thing at most
 abbrev pub IsAskedOnce : Option (List ℕ) → Request → List ℕ → Type 0
 IsAskedOnce host q body = (a b : Ask) → Asks host q body a → Asks host q body b → a ≡ b
+
+-- it holds what the members of a legal history at this host may post
+abbrev pub IsPostableAt : Option (List ℕ) → Ask → Type 0
+IsPostableAt host ask = (history : List Entry) → IsLegal history → (town history).host ≡ host → IsPostable (town history) ask

@@ -1,15 +1,12 @@
 //! Laws of the definitions, each the contract of a function that does nothing.
 
-ghost use Rattle.std.specs.Prelude.{◌≡◌, ℕ, List, IsTrue, None, Ok};
+ghost use Rattle.std.specs.Prelude.{◌≡◌, ℕ, List, IsTrue, Ok};
 ghost use Rattle.serde_json.specs.Data.{Data};
 ghost use Rattle.fedi_asks.specs.declared.ask.Ask.{Ask};
 ghost use Rattle.fedi_objects.specs.declared.activity.Activity.{Activity};
 ghost use Rattle.fedi_objects.specs.declared.entry.Entry.{Entry};
-ghost use Rattle.fedi_objects.specs.declared.entry.Entry.TheVariants.{Local};
 ghost use Rattle.fedi_reading.specs.Activities.{reads_activity};
-ghost use Rattle.fedi_reading.specs.Reading.{reads_posted};
 ghost use Rattle.fedi_town.specs.Agreement.{Agree};
-ghost use Rattle.fedi_town.specs.Built.{is_built};
 ghost use Rattle.fedi_town.specs.Histories.{town};
 ghost use Rattle.fedi_town.specs.Legal.{IsLegal};
 ghost use Rattle.fedi_town.specs.Shapes.{is_posted};
@@ -40,19 +37,9 @@ pub fn refusals_are_clean()
     ensures { (refusal : Refusal) → IsCleanBody (refused refusal).body }
 {}
 
-/// What is read of a client's post has the shape of a post, whoever the author is, and is one that this
-/// server takes so far: a Create.
-#[tactic(auto, using(crate::proofs::Posted::read_is_posted))]
-pub fn what_is_read_may_be_posted()
-    ensures posted { (d : Data) (a : Activity) (author : List ℕ)
-        → reads_posted d ≡ Ok a → IsTrue (is_posted author a) }
-    ensures built { (d : Data) (a : Activity) (name : List ℕ) (moment : ℕ)
-        → reads_posted d ≡ Ok a → IsTrue (is_built (Local name None a moment)) }
-{}
-
-/// What is read of an activity that a client posts has the shape of a post by its author.
+/// What is read of a client's post has the shape of a post by its author.
 #[tactic(auto, using(crate::proofs::PostedActivity::activity_is_posted))]
-pub fn what_is_read_of_activities_may_be_posted()
+pub fn what_is_read_may_be_posted()
     ensures { (d : Data) (a : Activity) (author : List ℕ)
         → reads_activity author d ≡ Ok a → IsTrue (is_posted author a) }
 {}

@@ -15,7 +15,7 @@ use Rattle.fedi_objects.specs.declared.activity.Activity.{Activity}
 use Rattle.fedi_objects.specs.declared.activity.ObjectRef.{ObjectRef}
 use Rattle.fedi_objects.specs.declared.activity.ObjectRef.TheVariants as refs
 use Rattle.fedi_objects.specs.Objects.{stripped_object}
-use Rattle.fedi_objects.specs.Forms.{is_open, is_clean, items_are_clean, members_are_clean, with_text, with_list, with_context, with_collections, tag_form, with_audience, with_words, kind_members, with_id, with_links, live_members, tombstone_members, is_tombstone, object_form, with_object, activity_kind_members, with_activity_links, activity_members, activity_form}
+use Rattle.fedi_objects.specs.Forms.{is_open, is_clean, items_are_clean, members_are_clean, with_text, with_list, with_context, with_collections, tag_form, with_audience, with_words, kind_members, with_id, with_links, live_members, tombstone_members, is_tombstone, object_members, object_form, with_object, activity_kind_members, with_activity_links, activity_members, activity_form}
 
 record IsShown (d : Data) : Type 0 where
   clean : is_clean d ≡ true

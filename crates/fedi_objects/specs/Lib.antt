@@ -3,3 +3,4 @@ pub mod Keys
 pub mod Kinds
 pub mod Limits
 pub mod Objects
+pub mod Views

@@ -29,11 +29,22 @@ impl<T: Drop> Boxed<T> {
 }
 
 impl<T> Boxed<T> {
+    ghost use Rattle.std.specs.Borrow.{Lends, sem};
+    ghost use Rattle.fedi_objects.specs.contracts.boxed.Boxed.{the_row};
+
     /// The value.
     pub fn get(&self) -> &T
         ensures { result.now ≡ self.now }
     {
         &*self.inner
+    }
+
+    /// The value, to be changed.
+    pub fn get_mut(&mut self) -> &mut T
+        ensures* writes_back { sem 𝓛 (Lends (the_row T.row) T.row self.entry result (λ w. w)) }
+        ensures value { result.now ≡ self.old }
+    {
+        &mut *self.inner
     }
 
     /// Moves the value out.

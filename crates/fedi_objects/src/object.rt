@@ -7,6 +7,9 @@ use fedi_address::{Iri, Items, Recipients};
 use fedi_text::Text;
 use std::alloc::{AllocError, Global};
 
+/// The type of what is left of a deleted object (ActivityStreams 2.0 Vocabulary, section 3.3).
+pub const TOMBSTONE: &str = "Tombstone";
+
 /// A mention of somebody (ActivityStreams 2.0 Vocabulary, section 5.5).
 #[derive(Drop)]
 pub struct Tag {

@@ -6,10 +6,11 @@ ghost use Rattle.serde_json.specs.Data.{string, put, object};
 ghost use Rattle.serde_json.specs.View.{view, members_view};
 ghost use Rattle.serde_json.specs.Written.{compact_text, has_float};
 ghost use Rattle.fedi_objects.specs.Forms.{with_text, with_list, with_context, with_collections, tag_form, with_audience, with_words, with_links, live_members, tombstone_members, object_members, object_form, with_object, activity_members, activity_form, object_in, shown_in, is_clean};
+ghost use Rattle.fedi_objects.specs.Views.{viewed};
 
 use crate::members::{put_joined, put_str};
-use crate::object::{Object, Tag};
-use crate::shown::{Shown, ShownObject};
+use crate::object::{TOMBSTONE, Tag};
+use crate::shown::{ObjectView, Shown, ShownObject, StrippedObject};
 use fedi_address::Iri;
 use fedi_text::Text;
 use serde_json::{Map, Value};
@@ -20,9 +21,6 @@ pub const CONTEXT: &str = "https://www.w3.org/ns/activitystreams";
 
 /// The type of a mention (ActivityStreams 2.0 Vocabulary, section 5.5).
 pub const MENTION: &str = "Mention";
-
-/// The type of what is left of a deleted object (ActivityStreams 2.0 Vocabulary, section 3.3).
-pub const TOMBSTONE: &str = "Tombstone";
 
 #[tactic(auto, unfolding(crate::specs::Forms::with_text))]
 fn put_text(
@@ -187,84 +185,66 @@ fn put_words(
 fn put_links(
     members: &mut Map<String, Value>,
     alloc: Global,
-    object: &Object,
+    object: &ObjectView,
 ) -> Result<(), AllocError>
     ensures { OnOk result (members_view members.new.entries
-        ≡ with_links object.now (members_view members.old.entries)) }
+        ≡ with_links (viewed object.now) (members_view members.old.entries)) }
 {
-    put_iri(members, alloc, "url", object.url.as_ref())?;
-    put_iri(members, alloc, "inReplyTo", object.in_reply_to.as_ref())?;
-    put_iri(
-        members,
-        alloc,
-        "attributedTo",
-        object.attributed_to.as_ref(),
-    )
+    put_iri(members, alloc, "url", object.url)?;
+    put_iri(members, alloc, "inReplyTo", object.in_reply_to)?;
+    put_iri(members, alloc, "attributedTo", object.attributed_to)
 }
 
 /// The members of an object as it stands.
 #[tactic(auto, unfolding(crate::specs::Forms::kind_members, crate::specs::Forms::with_id))]
 fn live_members(
     alloc: Global,
-    object: &Object,
+    object: &ObjectView,
     local: bool,
 ) -> Result<Map<String, Value>, AllocError>
     ensures { IfOk result
-        (λ members. members_view members.entries ≡ live_members local object.now) }
+        (λ members. members_view members.entries ≡ live_members local (viewed object.now)) }
 {
     let mut members = Map::new(alloc);
-    put_text(&mut members, alloc, "updated", object.updated.as_ref())?;
-    put_str(&mut members, alloc, "type", &object.kind)?;
-    put_text(&mut members, alloc, "published", object.published.as_ref())?;
+    put_text(&mut members, alloc, "updated", object.updated)?;
+    put_str(&mut members, alloc, "type", object.kind)?;
+    put_text(&mut members, alloc, "published", object.published)?;
     put_words(
         &mut members,
         alloc,
-        object.content.as_ref(),
-        object.summary.as_ref(),
-        object.name.as_ref(),
-        &object.tags,
+        object.content,
+        object.summary,
+        object.name,
+        object.tags,
     )?;
-    let recipients = &object.recipients;
-    put_audience(
-        &mut members,
-        alloc,
-        &recipients.to,
-        &recipients.cc,
-        &recipients.audience,
-    )?;
-    let id = object.id.as_ref();
-    put_collections(&mut members, alloc, local, id)?;
-    put_iri(&mut members, alloc, "id", id)?;
+    put_audience(&mut members, alloc, object.to, object.cc, object.audience)?;
+    put_collections(&mut members, alloc, local, object.id)?;
+    put_iri(&mut members, alloc, "id", object.id)?;
     put_links(&mut members, alloc, object)?;
     Ok(members)
 }
 
 /// The members of what is left of a deleted object.
 #[tactic(auto, unfolding(crate::specs::Forms::tombstone_members))]
-fn tombstone_members(alloc: Global, object: &Object) -> Result<Map<String, Value>, AllocError>
+fn tombstone_members(alloc: Global, object: &ObjectView) -> Result<Map<String, Value>, AllocError>
     ensures { IfOk result
-        (λ members. members_view members.entries ≡ tombstone_members object.now) }
+        (λ members. members_view members.entries ≡ tombstone_members (viewed object.now)) }
 {
     let mut members = Map::new(alloc);
-    put_str(&mut members, alloc, "type", object.kind.text())?;
-    put_iri(&mut members, alloc, "id", object.id.as_ref())?;
-    put_text(
-        &mut members,
-        alloc,
-        "formerType",
-        object.former_kind.as_ref(),
-    )?;
-    put_text(&mut members, alloc, "deleted", object.deleted.as_ref())?;
+    put_str(&mut members, alloc, "type", object.kind)?;
+    put_iri(&mut members, alloc, "id", object.id)?;
+    put_text(&mut members, alloc, "formerType", object.former_kind)?;
+    put_text(&mut members, alloc, "deleted", object.deleted)?;
     Ok(members)
 }
 
 fn object_members(
     alloc: Global,
-    object: &Object,
+    object: &ObjectView,
     local: bool,
 ) -> Result<Map<String, Value>, AllocError>
     ensures { IfOk result
-        (λ members. members_view members.entries ≡ object_members local object.now) }
+        (λ members. members_view members.entries ≡ object_members local (viewed object.now)) }
 {
     if object.kind.text() == TOMBSTONE {
         tombstone_members(alloc, object)
@@ -281,7 +261,7 @@ fn object_members(
 #[tactic(auto, unfolding(crate::specs::Forms::object_form))]
 pub fn object_value(
     alloc: Global,
-    object: &Object,
+    object: &StrippedObject,
     local: bool,
     context: bool,
 ) -> Result<Value, AllocError>
@@ -289,12 +269,12 @@ pub fn object_value(
     ensures clean { IfOk result (λ value. is_clean (view value) ≡ true) }
     ensures whole { IfOk result (λ value. has_float (view value) ≡ false) }
 {
-    let mut members = object_members(alloc, object, local)?;
+    let mut members = object_members(alloc, object.view(), local)?;
     put_context(&mut members, alloc, context)?;
     Ok(Value::Object(members))
 }
 
-#[tactic(auto, unfolding(crate::specs::Forms::with_object), using(crate::proofs::FormLemmas::object_form_stripped))]
+#[tactic(auto, unfolding(crate::specs::Forms::with_object))]
 fn put_object(
     members: &mut Map<String, Value>,
     alloc: Global,
@@ -308,7 +288,7 @@ fn put_object(
         ShownObject::Nothing => Ok(()),
         ShownObject::Id(id) => put_str(members, alloc, "object", id.text()),
         ShownObject::Present(object) => {
-            let value = object_value(alloc, object.whole(), local, false)?;
+            let value = object_value(alloc, object, local, false)?;
             serde_json::put(members, alloc, "object", value)
         }
     }

@@ -1,5 +1,5 @@
 //! Bodies as clients write them.
-use fedi_objects::{Activity, ObjectRef, object_value, public_text};
+use fedi_objects::{Activity, ObjectRef, StrippedObject, object_value, public_text};
 use fedi_reading::{read_body, read_posted};
 use serde_json::Value;
 use std::alloc::Global;
@@ -111,7 +111,7 @@ fn text_of(alloc: Global, activity: &Activity) -> Result<Vec<u8>, Fail> {
     let ObjectRef::Whole(note) = &activity.object else {
         return Err(Fail::from("another object"));
     };
-    let value = object_value(alloc, note, false, false)?;
+    let value = object_value(alloc, &StrippedObject::new(note), false, false)?;
     Ok(public_text(alloc, &value)?)
 }
 

@@ -1,58 +1,98 @@
 //! What a post holds (ActivityPub, section 6).
 
-ghost use Rattle.std.specs.Prelude.{◌≡◌, map, IfOk};
+ghost use Rattle.std.specs.Prelude.{◌≡◌, ◌&&◌, is_none, map, IfOk};
 ghost use Rattle.std.specs.Char.{to_ascii_lowercase};
 ghost use Rattle.serde_json.specs.View.{view};
 ghost use Rattle.fedi_model.specs.Routes as model;
 ghost use Rattle.fedi_routes.specs.Posts.{ReadsValue};
 
 use crate::texts::up_to;
+use fedi_address::Iri;
 use fedi_http::{is_same_name, without_back_blanks};
+use fedi_mac::digest;
 use fedi_model::{Fields, KeyAsk, Post, Read, Request};
-use fedi_objects::Boxed;
-use fedi_reading::{BodyFault, ShapeFault, read_body, read_posted};
+use fedi_objects::{Boxed, RepeatKey};
+use fedi_reading::{BodyFault, ShapeFault, read_activity, read_body};
 use serde_json::Value;
 use std::alloc::{AllocError, Global};
 
-/// The post that the request with this body makes. The error is that there is no memory for it.
-pub(crate) fn post_of(alloc: Global, request: &Request, body: &[u8]) -> Result<Post, AllocError>
-    ensures { IfOk result (λ post. model.IsPost request.now body.now post) }
+/// The post that the request with this body makes for the author's outbox. The error is that there is
+/// no memory for it.
+pub(crate) fn post_of(
+    alloc: Global,
+    request: &Request,
+    body: &[u8],
+    author: &Iri,
+) -> Result<Post, AllocError>
+    ensures { IfOk result (λ post. model.IsPost request.now author.now body.now post) }
 {
+    let key = key_of(&request.fields);
+    let digest = digest_under(&key, body);
     Ok(Post {
         is_typed: is_typed(&request.fields),
-        key: key_of(&request.fields),
-        // No key is taken yet, so nobody asks for the digest of the body.
-        digest: [0; 32],
-        read: body_of(alloc, body)?,
+        key,
+        digest,
+        read: read_of(alloc, request, body, author)?,
     })
 }
 
-/// The key under which the post is repeated: no value of the field is taken as one yet.
+/// The key under which the post is repeated.
 fn key_of(fields: &Fields) -> KeyAsk
     ensures { result ≡ model.repeat_key fields.now.idempotency_key }
 {
-    match &fields.idempotency_key {
-        Some(_) => KeyAsk::Malformed,
-        None => KeyAsk::Absent,
+    let Some(value) = &fields.idempotency_key else {
+        return KeyAsk::Absent;
+    };
+    match RepeatKey::parse(value.bytes()) {
+        Some(key) => KeyAsk::Given(key),
+        None => KeyAsk::Malformed,
     }
 }
 
+/// The digest of the body, if somebody asks for it: under a key.
+fn digest_under(key: &KeyAsk, body: &[u8]) -> [u8; 32]
+    ensures { result ≡ model.digest_under key.now body.now }
+{
+    match key {
+        KeyAsk::Given(_) => digest(body),
+        KeyAsk::Absent | KeyAsk::Malformed => [0; 32],
+    }
+}
+
+/// Whether the request shows nothing of who makes it.
+fn is_anonymous(fields: &Fields) -> bool
+    ensures { result ≡ (is_none fields.now.authorization
+        && (is_none fields.now.peer_host && is_none fields.now.peer_mac)) }
+{
+    fields.authorization.is_none() && fields.peer_host.is_none() && fields.peer_mac.is_none()
+}
+
+/// What is read of the post: nothing, if nobody shows who posts.
+fn read_of(alloc: Global, request: &Request, body: &[u8], author: &Iri) -> Result<Read, AllocError>
+    ensures { IfOk result (λ read. model.ReadsPost request.now author.now body.now read) }
+{
+    if is_anonymous(&request.fields) {
+        return Ok(Read::NotJson);
+    }
+    body_of(alloc, body, author)
+}
+
 /// What is read of the body.
-fn body_of(alloc: Global, body: &[u8]) -> Result<Read, AllocError>
-    ensures { IfOk result (λ read. model.ReadsBody body.now read) }
+fn body_of(alloc: Global, body: &[u8], author: &Iri) -> Result<Read, AllocError>
+    ensures { IfOk result (λ read. model.ReadsBody author.now body.now read) }
 {
     match read_body(alloc, body) {
-        Ok(value) => value_of(alloc, &value),
+        Ok(value) => value_of(alloc, &value, author),
         Err(BodyFault::BadBody) => Ok(Read::NotJson),
         Err(BodyFault::Memory) => Err(AllocError),
     }
 }
 
 /// What is read of the value that a body stands for.
-fn value_of(alloc: Global, value: &Value) -> Result<Read, AllocError>
-    ensures { IfOk result (λ read. ReadsValue (view value.now) read) }
+fn value_of(alloc: Global, value: &Value, author: &Iri) -> Result<Read, AllocError>
+    ensures { IfOk result (λ read. ReadsValue author.now (view value.now) read) }
 {
-    match read_posted(alloc, value) {
+    match read_activity(alloc, value, author) {
         Ok(activity) => Ok(Read::Ready(Boxed::new(alloc, activity)?)),
         Err(ShapeFault::Memory) => Err(AllocError),
         Err(fault) => Ok(Read::Bad(fault)),

@@ -1,22 +1,21 @@
 //! What a request asks for, by its path and its method.
 
 ghost use Rattle.std.specs.Prelude.{◌≡◌, IsTrue, IfOk, OnErr, option_copied};
-ghost use Rattle.fedi_asks.specs.Asks.{IsPostable};
 ghost use Rattle.fedi_asks.specs.Built.{is_built_ask};
 ghost use Rattle.fedi_model.specs.Places as places;
 ghost use Rattle.fedi_model.specs.Queries as queries;
 ghost use Rattle.fedi_model.specs.Requests as requests;
 ghost use Rattle.fedi_model.specs.Routes as model;
 ghost use Rattle.fedi_routes.specs.Memory.{MayNeedMemory, needs_memory};
-ghost use Rattle.fedi_town.specs.Towns.{Town};
 
 use crate::places::place_of;
 use crate::posts::post_of;
 use crate::router::Routes;
 use crate::texts::{behind, up_to};
 use crate::webfinger::resource_in;
-use fedi_address::Host;
+use fedi_address::{Host, LocalName};
 use fedi_model::{Allow, Ask, Place, Request, Which};
+use fedi_town::actor_iri;
 use http::Method;
 use std::alloc::{AllocError, Global};
 
@@ -41,8 +40,8 @@ pub fn route(
     ensures asks { IfOk result (λ ask.
         model.Asks (option_copied host.entry) request.now body.now ask) }
     ensures once { model.IsAskedOnce (option_copied host.entry) request.now body.now }
-    // An activity to be posted is one that a history may take from its author, and one that is built.
-    ensures postable { IfOk result (λ ask. (t : Town) → IsPostable t ask) }
+    // An activity to be posted is one that a history at this host may take from its author.
+    ensures postable { IfOk result (λ ask. model.IsPostableAt (option_copied host.entry) ask) }
     ensures built { IfOk result (λ ask. IsTrue (is_built_ask ask)) }
     ensures memory { OnErr result (MayNeedMemory request.now) }
 {
@@ -81,7 +80,7 @@ fn ask_at(
     if is_reading(&request.method) {
         read_at(alloc, query_of(request), host, place)
     } else if request.method == Method::POST {
-        post_to(alloc, request, body, place)
+        post_to(alloc, request, body, host, place)
     } else {
         Ok(refused_at(&place))
     }
@@ -115,17 +114,40 @@ fn read_at(
 }
 
 /// What is asked for by posting to the place.
-fn post_to(alloc: Global, request: &Request, body: &[u8], place: Place) -> Result<Ask, AllocError>
+fn post_to(
+    alloc: Global,
+    request: &Request,
+    body: &[u8],
+    host: Option<&Host>,
+    place: Place,
+) -> Result<Ask, AllocError>
     requires { IsTrue (requests.is_post request.now.method) }
-    ensures asks { IfOk result (λ ask. model.PostsTo request.now body.now place ask) }
+    ensures asks { IfOk result (λ ask.
+        model.PostsTo (option_copied host.entry) request.now body.now place ask) }
     ensures memory { OnErr result (IsTrue (needs_memory request.now.method place)) }
 {
     match place {
-        Place::Collection(Which::Outbox(name)) => {
-            Ok(Ask::Outbox(name, post_of(alloc, request, body)?))
-        }
+        Place::Collection(Which::Outbox(name)) => outbox_of(alloc, request, body, host, name),
         place => Ok(refused_at(&place)),
     }
+}
+
+/// What is asked for by posting to the outbox of this name.
+fn outbox_of(
+    alloc: Global,
+    request: &Request,
+    body: &[u8],
+    host: Option<&Host>,
+    name: LocalName,
+) -> Result<Ask, AllocError>
+    ensures { IfOk result (λ ask.
+        model.PostsAs (option_copied host.entry) request.now body.now name ask) }
+{
+    let Some(host) = host else {
+        return Ok(Ask::Nowhere);
+    };
+    let author = actor_iri(alloc, host, &name)?;
+    Ok(Ask::Outbox(name, post_of(alloc, request, body, &author)?))
 }
 
 /// What is asked for by a method that the place does not have.

@@ -720,7 +720,7 @@ const REFUSED_POSTS: [(&str, &str, &str, &str, &str, &str); 14] = [
     (
         "/users/ana/outbox",
         BEN,
-        "Content-Type: application/json\r\nIdempotency-Key: k\r\n",
+        "Content-Type: application/json\r\nIdempotency-Key: a key\r\n",
         "{",
         "400",
         "{\"error\":\"BadQuery\"}",
@@ -769,9 +769,9 @@ const REFUSED_POSTS: [(&str, &str, &str, &str, &str, &str); 14] = [
         "/users/ana/outbox",
         ANA,
         JSON,
-        "{\"type\":\"Follow\",\"object\":\"https://club.example/users/ben\"}",
+        "{\"type\":\"Follow\"}",
         "422",
-        "{\"error\":\"BadShape\",\"fault\":\"NoType\"}",
+        "{\"error\":\"BadShape\",\"fault\":\"NoObject\"}",
     ),
     (
         "/users/ana/outbox",

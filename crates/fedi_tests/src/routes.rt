@@ -62,6 +62,14 @@ fn fields_show_who_asks(rt: HostRuntime) -> Result<(), Fail> {
     Ok(())
 }
 
+// The host at which it is asked.
+fn host(alloc: Global) -> Result<Host, AllocError> {
+    match Host::parse(alloc, "club.example") {
+        Ok(host) => Ok(host),
+        Err(_) => Err(AllocError),
+    }
+}
+
 // What is asked, and the number of an activity or an object.
 fn name_and_number(ask: &Ask) -> (&'static str, u32) {
     match ask {
@@ -84,7 +92,9 @@ fn asked_by(
     routes: &Routes,
     request: &Request,
 ) -> Result<(&'static str, u32), AllocError> {
-    Ok(name_and_number(&route(alloc, request, b"", None, routes)?))
+    let host = host(alloc)?;
+    let ask = route(alloc, request, b"", Some(&host), routes)?;
+    Ok(name_and_number(&ask))
 }
 
 // The same of this method and target.
@@ -401,17 +411,22 @@ fn documents_say_who_a_member_is(rt: HostRuntime) -> Result<(), Fail> {
     Ok(())
 }
 
-// Whether the post is typed and keyed, and what is read of its body.
-fn of_post(ask: &Ask) -> (bool, bool, &'static str) {
+// Whether the post is typed, whether it has a key, and what is read of its body.
+fn of_post(ask: &Ask) -> (bool, &'static str, &'static str) {
     let Ask::Outbox(_, post) = ask else {
-        return (false, false, "no post");
+        return (false, "no post", "no post");
+    };
+    let key = match post.key {
+        KeyAsk::Absent => "no key",
+        KeyAsk::Malformed => "bad key",
+        KeyAsk::Given(_) => "key",
     };
     let read = match post.read {
         Read::NotJson => "no JSON",
         Read::Bad(_) => "bad",
         Read::Ready(_) => "ready",
     };
-    (post.is_typed, matches!(post.key, KeyAsk::Malformed), read)
+    (post.is_typed, key, read)
 }
 
 // The same of a request and a body.
@@ -419,9 +434,11 @@ fn of_request(
     alloc: Global,
     request: &Request,
     body: &str,
-) -> Result<(bool, bool, &'static str), AllocError> {
+) -> Result<(bool, &'static str, &'static str), AllocError> {
     let routes = Routes::new(alloc)?;
-    Ok(of_post(&route(alloc, request, body.as_bytes(), None, &routes)?))
+    let host = host(alloc)?;
+    let ask = route(alloc, request, body.as_bytes(), Some(&host), &routes)?;
+    Ok(of_post(&ask))
 }
 
 // The same of a post with these fields and this body.
@@ -429,36 +446,46 @@ fn posted(
     alloc: Global,
     fields: &str,
     body: &str,
-) -> Result<(bool, bool, &'static str), AllocError> {
+) -> Result<(bool, &'static str, &'static str), AllocError> {
     match request_of(alloc, "POST /users/ana/outbox", fields)? {
         Some(request) => of_request(alloc, &request, body),
-        None => Ok((false, false, "refused")),
+        None => Ok((false, "refused", "refused")),
     }
 }
 
-// The fields of a post and its body, and whether it is typed and keyed, and what is read of it.
-const POSTED: [(&str, &str, (bool, bool, &str)); 5] = [
+// The fields of a post and its body, and whether it is typed and keyed, and what is read of it: nothing,
+// if nothing shows who posts it.
+const POSTED: [(&str, &str, (bool, &str, &str)); 6] = [
     (
-        "Content-Type: application/activity+json\r\nContent-Length: 33\r\n",
+        "Authorization: Bearer 00\r\nContent-Type: application/activity+json\r\nContent-Length: 33\r\n",
         "{\"type\":\"Note\",\"content\":\"hello\"}",
-        (true, false, "ready"),
+        (true, "no key", "ready"),
     ),
     (
-        "content-type: Application/LD+json \t; profile=\"x\"\r\nContent-Length: 15\r\n",
+        "Peer-Host: a\r\ncontent-type: Application/LD+json \t; profile=\"x\"\r\nContent-Length: 15\r\n",
         "{\"type\":\"Note\"}",
-        (true, false, "ready"),
+        (true, "no key", "ready"),
     ),
     (
-        "Content-Type: application/json\r\nIdempotency-Key: k\r\nContent-Length: 2\r\n",
+        "Content-Type: application/activity+json\r\nContent-Length: 15\r\n",
+        "{\"type\":\"Note\"}",
+        (true, "no key", "no JSON"),
+    ),
+    (
+        "Peer-Mac: a\r\nContent-Type: application/json\r\nIdempotency-Key: k\r\nContent-Length: 2\r\n",
         "{}",
-        (true, true, "bad"),
+        (true, "key", "bad"),
     ),
     (
-        "Content-Type: application/jsonx\r\nidempotency-key:\r\nContent-Length: 1\r\n",
+        "Authorization:\r\nContent-Type: application/jsonx\r\nidempotency-key:\r\nContent-Length: 1\r\n",
         "[",
-        (false, true, "no JSON"),
+        (false, "bad key", "no JSON"),
     ),
-    ("Content-Length: 0\r\n", "", (false, false, "no JSON")),
+    (
+        "Authorization:\r\nContent-Length: 0\r\n",
+        "",
+        (false, "no key", "no JSON"),
+    ),
 ];
 
 #[test]

@@ -8,6 +8,7 @@ mod caller;
 mod command_fault;
 mod deed;
 mod effect;
+mod ids;
 mod outcome;
 mod refusal;
 
@@ -17,5 +18,6 @@ pub use caller::{Caller, Which};
 pub use command_fault::CommandFault;
 pub use deed::Deed;
 pub use effect::Effect;
+pub use ids::{activity_iri, actor_iri, object_iri};
 pub use outcome::Outcome;
 pub use refusal::Refusal;

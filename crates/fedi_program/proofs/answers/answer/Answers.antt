@@ -1,6 +1,7 @@
-use Rattle.std.proofs.Common.{◌≡◌, None, Some, refl, sym}
+use Rattle.std.proofs.Common.{◌≡◌, ℕ, List, Option, None, Some, refl, subst, sym}
 use Rattle.fedi_entry.specs.Codes.{code_of}
 use Rattle.fedi_log.specs.Keeping.{state_of}
+use Rattle.fedi_model.specs.Routes.{IsPostableAt}
 use Rattle.fedi_town.specs.Histories.{town}
 use Rattle.fedi_program.proofs.AnswerLemmas.{IsDecided, decided, failed_by, failed_turn, failed_untold, full_by, full_turn, full_untold, kept_turn, memory_by, nothing_done, nothing_kept, read_turn, refused_turn, texted, untexted}
 use Rattle.fedi_program.proofs.answers.answer.Goals as goal
@@ -88,4 +89,4 @@ pub returns-in_err-ask-clause-unanswered : goal.returns-in_err-ask-clause-unansw
 returns-in_err-ask-clause-unanswered g c = untexted _ _ _ _ _ c.args.request.now c.args.body.now c.from_residual.result (nothing_done _ _ _ _ c.args.request.now c.args.body.now)
 
 pub decide-requires-clause-postable : goal.decide-requires-clause-postable
-decide-requires-clause-postable g c = c.in_ok-ask.ensures.postable (town c.args.core.now.history)
+decide-requires-clause-postable g c = subst (λ (host : Option (List ℕ)). IsPostableAt host c.in_ok-ask.ask) c.host.ensures c.in_ok-ask.ensures.postable

@@ -1,4 +1,4 @@
-use Rattle.std.proofs.Common.{ap, subst, ◌∙◌}
+use Rattle.std.proofs.Common.{ap, subst, refl, ◌∙◌}
 use Rattle.fedi_town.specs.Histories.{town}
 use Rattle.fedi_town.specs.Legal.{IsLegal}
 use Rattle.fedi_core.proofs.Accepting.{decided_may, decided_private}
@@ -7,7 +7,8 @@ use Rattle.fedi_core.proofs.machine.Core.decide.Goals as goal
 pub returns-clause-may_add : goal.returns-clause-may_add
 returns-clause-may_add g c =
     decided_may c.args.self.now.history c.self.inside.facts.town c.args.caller.now c.args.ask c.args.moment c.decide.result
-    (c.self.invariant.made ∙ ap (λ m. town m.history) c.self.view_is) c.requires.postable c.requires.built c.decide.ensures.entry
+    (c.self.invariant.made ∙ ap (λ m. town m.history) c.self.view_is)
+    (c.requires.postable c.args.self.now.history (subst IsLegal (ap (λ m. m.history) c.self.view_is) c.self.invariant.legal) refl) c.requires.built c.decide.ensures.entry
 
 pub returns-clause-private : goal.returns-clause-private
 returns-clause-private g c =

@@ -6,7 +6,7 @@ use Rattle.fedi_core.proofs.machine.Core.keep.Goals as goal
 
 pub invariant_of-self : goal.invariant_of-self
 invariant_of-self g c =
-    grown c.self.inside.facts.town c.store_entry.new.facts.town c.self.inside.history.items c.args.self.now.history c.push.new.history.items c.args.entry
+    grown c.self.inside.facts c.store_entry.new.facts c.self.inside.history.items c.args.self.now.history c.push.new.history.items c.args.entry
     c.self.invariant (ap (λ m. m.history) c.self.view_is) c.requires c.in-Ok.ensures.facts
     (c.push.ensures ∙ ap (λ (h : List Entry). h ++ c.args.entry ∷ []) c.store_entry.ensures.history)
 
@@ -19,4 +19,4 @@ returns-in-Ok-clause-built g c = (invariant_of-self g c).built
 pub returns-in-Ok-clause-unseen : goal.returns-in-Ok-clause-unseen
 returns-in-Ok-clause-unseen g c =
     let after = invariant_of-self g c in
-    posts_hidden c.args.self.now.history c.push.new.history.items (subst IsLegal (ap (λ m. m.history) c.self.view_is) c.self.invariant.legal) after.legal after.built
+    posts_hidden c.args.self.now.history c.push.new.history.items (subst IsLegal (ap (λ m. m.history) c.self.view_is) c.self.invariant.legal) after.legal

@@ -1,0 +1,5 @@
+//! What members do to each other, over whole runs of the example town.
+#![tactic(auto)]
+
+mod rules;
+mod scenes;

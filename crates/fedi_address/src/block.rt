@@ -1,0 +1,43 @@
+//! Texts that have several owners.
+
+ghost use Rattle.std.specs.Prelude.{◌≡◌, IfOk};
+ghost use Rattle.fedi_address.specs.Blocks.{text_in};
+
+use arrayvec::ArrayString;
+use std::alloc::{AllocError, Global};
+use std::sync::Arc;
+
+// Where a text lies, once for all its owners. Most texts have at most 40 bytes, and these lie in the
+// block itself.
+#[derive(Drop)]
+pub(crate) enum Block {
+    Short(ArrayString<40>),
+    Long(String),
+}
+
+fn block_of(alloc: Global, text: &str) -> Result<Block, AllocError>
+    ensures { IfOk result (λ block. text_in block ≡ text.now) }
+{
+    match ArrayString::from(text) {
+        Ok(short) => Ok(Block::Short(short)),
+        Err(_) => Ok(Block::Long(String::from_str(alloc, text)?)),
+    }
+}
+
+/// A block of this text, with one owner. The error is out of memory.
+pub(crate) fn new_block(alloc: Global, text: &str) -> Result<Arc<Block>, AllocError>
+    ensures { IfOk result (λ block. text_in block.value ≡ text.now) }
+{
+    let block = Arc::new(alloc, block_of(alloc, text)?)?;
+    Ok(block)
+}
+
+/// The text that lies in a block.
+pub(crate) fn text_of(block: &Block) -> &str
+    ensures { result.now ≡ text_in block.now }
+{
+    match block {
+        Block::Short(text) => text.as_str(),
+        Block::Long(text) => text.as_str(),
+    }
+}

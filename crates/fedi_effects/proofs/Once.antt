@@ -1,0 +1,74 @@
+-- A change of what passes a test is a change at one place, where one passes at most.
+use Rattle.std.proofs.Common.{◌≡◌, ℕ, suc, ◌+◌, arith, Bool, true, false, List, [], ◌∷◌, Some, None, refl, sym, ap, ◌∙◌, get_or, set, length, ltb}
+use Rattle.std.proofs.lemmas.Bool.{lt-ltb, le-ltb, ltb-true, ltb-false}
+use Rattle.std.specs.Prelude.{nat_lt, map, if◌then◌else◌, ◌||◌}
+use Rattle.std.specs.List.{list_any, position_or_len}
+use Rattle.fedi_town.specs.declared.act.Act.{Act}
+use Rattle.fedi_town.specs.declared.effect.Effect.TheVariants as effects
+use Rattle.fedi_town.specs.Effects.{affect}
+use Rattle.fedi_town.specs.Lists.{PassesOnce}
+
+-- neither the first nor another
+none_first : (a b : Bool) → (a || b) ≡ false → a ≡ false
+none_first true b e = absurd cc
+none_first false b e = refl
+
+none_other : (a b : Bool) → (a || b) ≡ false → b ≡ false
+none_other true b e = absurd cc
+none_other false b e = e
+
+none-changed : {A : Type 0} (p : A → Bool) (f : A → A) (xs : List A) → list_any p xs ≡ false → map (λ x. if p x then f x else x) xs ≡ xs
+none-changed p f [] none = refl
+none-changed p f (x ∷ xs) none = rw (none_first (p x) (list_any p xs) none, none-changed p f xs (none_other (p x) (list_any p xs) none)) refl
+
+-- where one passes at most, a change of what passes is a change at one place
+map-once : {A : Type 0} (p : A → Bool) (f : A → A) (xs : List A) → PassesOnce p xs → list_any p xs ≡ true
+    → (d : A) → map (λ x. if p x then f x else x) xs ≡ set xs (position_or_len p xs) (f (get_or xs (position_or_len p xs) d))
+map-once p f [] once any d = absurd cc
+map-once {A} p f (x ∷ xs) once any d =
+    elim (p x) as (λ b. p x ≡ b → map (λ y. if p y then f y else y) (x ∷ xs) ≡ set (x ∷ xs) (position_or_len p (x ∷ xs)) (f (get_or (x ∷ xs) (position_or_len p (x ∷ xs)) d))) [
+      | true ↦ λ e. rw e (ap (λ (ys : List A). f x ∷ ys) (none-changed p f xs (once.0 e)))
+      | false ↦ λ e. let k : 1 + position_or_len p xs ≡ suc (position_or_len p xs) = omega arith in rw (e, k) (ap (λ (ys : List A). x ∷ ys) (map-once p f xs once.1 (rw e at any) d))
+    ] refl
+
+lt_step : (k n : ℕ) → ltb (1 + k) (suc n) ≡ ltb k n
+lt_step k n =
+    elim (ltb k n) as (λ b. ltb k n ≡ b → ltb (1 + k) (suc n) ≡ b) [
+      | true ↦ λ e. lt-ltb (1 + k) (suc n) (omega (arith, ltb-true k n e))
+      | false ↦ λ e. le-ltb (1 + k) (suc n) (omega (arith, ltb-false k n e))
+    ] refl
+
+pub place_any : {A : Type 0} (p : A → Bool) (xs : List A) → ltb (position_or_len p xs) (length xs) ≡ list_any p xs
+place_any p [] = refl
+place_any p (x ∷ xs) =
+    elim (p x) as (λ b. p x ≡ b → ltb (position_or_len p (x ∷ xs)) (length (x ∷ xs)) ≡ list_any p (x ∷ xs)) [
+      | true ↦ λ e. rw e (lt-ltb 0 (suc (length xs)) (omega arith))
+      | false ↦ λ e. rw e (lt_step (position_or_len p xs) (length xs) ∙ place_any p xs)
+    ] refl
+
+-- the same, where the place is known
+pub map_at_once : {A : Type 0} (p : A → Bool) (f : A → A) (xs : List A) (i : ℕ) (y d : A) → PassesOnce p xs
+    → (if nat_lt (position_or_len p xs) (length xs) then Some (position_or_len p xs) else None) ≡ Some i → y ≡ f (get_or xs i d)
+    → set xs i y ≡ map (λ x. if p x then f x else x) xs
+map_at_once {A} p f xs i y d once at is =
+    elim (ltb (position_or_len p xs) (length xs)) as (λ b. ltb (position_or_len p xs) (length xs) ≡ b → (if b then Some (position_or_len p xs) else None) ≡ Some i → set xs i y ≡ map (λ x. if p x then f x else x) xs) [
+      | true ↦ λ e h.
+          let place : position_or_len p xs ≡ i = cc in
+          let any : list_any p xs ≡ true = sym (place_any p xs) ∙ e in
+          let made : y ≡ f (get_or xs (position_or_len p xs) d) = rw place is in
+          sym (map-once p f xs once any d ∙ ap (λ (z : A). set xs (position_or_len p xs) z) (sym made) ∙ ap (λ (k : ℕ). set xs k y) place)
+      | false ↦ λ e h. absurd cc
+    ] refl at
+
+pub map_at_none : {A : Type 0} (p : A → Bool) (f : A → A) (xs : List A)
+    → (if nat_lt (position_or_len p xs) (length xs) then Some (position_or_len p xs) else None) ≡ None → xs ≡ map (λ x. if p x then f x else x) xs
+map_at_none p f xs at =
+    elim (ltb (position_or_len p xs) (length xs)) as (λ b. ltb (position_or_len p xs) (length xs) ≡ b → (if b then Some (position_or_len p xs) else None) ≡ None → xs ≡ map (λ x. if p x then f x else x) xs) [
+      | true ↦ λ e h. absurd cc
+      | false ↦ λ e h. sym (none-changed p f xs (sym (place_any p xs) ∙ e))
+    ] refl at
+
+-- what is affected by nothing stays
+pub nothing_changes : (acts : List Act) → acts ≡ map (affect effects.Nothing) acts
+nothing_changes [] = refl
+nothing_changes (x ∷ acts) = ap (λ (xs : List Act). x ∷ xs) (nothing_changes acts)

@@ -1,0 +1,50 @@
+-- What was made ready of an addition.
+use Rattle.std.specs.Prelude.{ℕ, ⊤, IsTrue, List, Option, Some, None}
+use Rattle.fedi_address.specs.Recipients.{is_among}
+use Rattle.fedi_town.specs.declared.act.Act.{Act}
+use Rattle.fedi_town.specs.declared.addition.Addition.{Addition}
+use Rattle.fedi_town.specs.declared.addition.Addition.TheVariants as additions
+use Rattle.fedi_effects.specs.declared.ready.Ready.{Ready}
+use Rattle.fedi_effects.specs.Following.{with_one}
+use Rattle.fedi_effects.specs.declared.ready.Ready.TheVariants as ready
+
+-- the addition that it was made of
+abbrev pub addition_in : Ready → Addition
+addition_in ready.Nothing = additions.Nothing
+addition_in (ready.Host host) = additions.Host host
+addition_in (ready.Member member) = additions.Member member
+addition_in (ready.Activity act effect answer) = additions.Activity (record { act = act; effect = effect; answer = answer })
+
+-- peers, inboxes and attempts are not built
+abbrev pub IsBuiltAddition : Addition → Type 0
+IsBuiltAddition additions.Nothing = ⊤
+IsBuiltAddition (additions.Host host) = ⊤
+IsBuiltAddition (additions.Member member) = ⊤
+IsBuiltAddition (additions.Peer peer) = ⊥
+IsBuiltAddition (additions.Activity a) = ⊤
+IsBuiltAddition (additions.Inbox id owner) = ⊥
+IsBuiltAddition (additions.Attempt attempt) = ⊥
+
+-- the answer's author is known
+abbrev pub HasAnswerer : List (List ℕ) → Option Act → Type 0
+HasAnswerer known None = ⊤
+HasAnswerer known (Some answer) = IsTrue (is_among answer.author known)
+
+-- the authors of the activities are known
+abbrev pub HasAuthors : List (List ℕ) → Ready → Type 0
+HasAuthors known ready.Nothing = ⊤
+HasAuthors known (ready.Host host) = ⊤
+HasAuthors known (ready.Member member) = ⊤
+HasAuthors known (ready.Activity act effect answer) = IsTrue (is_among act.author known) × HasAnswerer known answer
+
+-- the answer's author becomes known
+abbrev pub with_answerer : List (List ℕ) → Option Act → List (List ℕ)
+with_answerer known None = known
+with_answerer known (Some answer) = with_one known answer.author
+
+-- the authors of the activities become known
+abbrev pub with_authors : List (List ℕ) → Ready → List (List ℕ)
+with_authors known ready.Nothing = known
+with_authors known (ready.Host host) = known
+with_authors known (ready.Member member) = known
+with_authors known (ready.Activity act effect answer) = with_answerer (with_one known act.author) answer

@@ -1,0 +1,62 @@
+-- The facts, as their callers see them.
+use Rattle.std.specs.Prelude.{◌≡◌, ℕ, ◌+◌, ◌≤◌, ⊤, IsTrue, List, [], map, Option, Some, None, vec_len, vec_capacity}
+use Rattle.fedi_address.specs.Recipients.{is_among}
+use Rattle.fedi_objects.specs.declared.entry.Entry.{Entry}
+use Rattle.fedi_town.specs.declared.act.Act.{Act}
+use Rattle.fedi_town.specs.declared.addition.Addition.{Addition}
+use Rattle.fedi_town.specs.declared.addition.Addition.TheVariants as additions
+use Rattle.fedi_town.specs.Histories.{addition_of, town}
+use Rattle.fedi_town.specs.Towns.{Town}
+use Rattle.fedi_effects.specs.declared.facts.Facts.TheInside.{Inside}
+use Rattle.fedi_effects.specs.declared.ready.Ready.{Ready}
+use Rattle.fedi_effects.specs.declared.facts.Room.{Room}
+use Rattle.fedi_effects.specs.Additions.{HasAuthors, addition_in}
+
+-- the history that is held, the town that it has made, and the entry that room was made for
+pub record Holding : Type 0 where
+  pub history : List Entry
+  pub town : Town
+  pub room : Option Entry
+
+-- the id of the activity that is added
+abbrev pub added_id : Addition → Option (List ℕ)
+added_id additions.Nothing = None
+added_id (additions.Host host) = None
+added_id (additions.Member member) = None
+added_id (additions.Peer peer) = None
+added_id (additions.Activity a) = a.act.activity.id
+added_id (additions.Inbox id owner) = None
+added_id (additions.Attempt attempt) = None
+
+-- the id of the activity that the entry will make, where room was made for one
+abbrev pub id_ahead : Town → Option Entry → Option (List ℕ)
+id_ahead t None = None
+id_ahead t (Some e) = added_id (addition_of t e)
+
+-- ---- what is held
+
+-- the town of what is held
+abbrev pub town_in : Inside → Town
+town_in f = record { host = f.host; actors = f.actors.items; peers = []; acts = f.register.acts; attempts = [] }
+
+-- the entry that there is room for
+abbrev pub entry_in : Option Room → Option Entry
+entry_in None = None
+entry_in (Some r) = Some r.entry.value
+
+-- the facts, as their callers see them
+abbrev pub holding_in : Inside → Holding
+holding_in f = record { history = f.history; town = town_in f; room = entry_in f.room }
+
+-- what was made ready is what the entry adds, and there is room for it
+abbrev pub IsRoom : Inside → Option Room → Type 0
+IsRoom f None = ⊤
+IsRoom f (Some r) =
+    (addition_in r.ready ≡ addition_of (town_in f) r.entry.value)
+    × (vec_len f.actors + 1 ≤ vec_capacity f.actors)
+    × (f.register.room ≡ 2)
+    × HasAuthors f.register.known r.ready
+
+-- the town is what the history has made
+abbrev pub IsSound : Inside → Type 0
+IsSound f = (town_in f ≡ town f.history) × IsRoom f f.room

@@ -1,0 +1,9 @@
+pub mod Additions
+pub mod Changes
+pub mod Following
+pub mod Gathering
+pub mod Holdings
+pub mod Keys
+pub mod Registers
+pub mod Stamps
+pub mod Subjects

@@ -1,0 +1,255 @@
+//! Who gets a member's activity.
+
+ghost use Rattle.std.specs.Prelude.{◌≡◌, ◌<◌, IfOk, IfSome, OnOk, [], bytes_eq, filter, is_some, length};
+ghost use Rattle.std.specs.List.{fold};
+ghost use Rattle.fedi_address.specs.Iris.{public_iri};
+ghost use Rattle.fedi_address.specs.Recipients.{all_of, is_among, names};
+ghost use Rattle.fedi_town.specs.Addressing.{is_of_town, is_recipient, recipients_with};
+ghost use Rattle.fedi_town.specs.Ids.{followers_id, is_of_host};
+ghost use Rattle.fedi_town.specs.Relations.{followers};
+ghost use Rattle.fedi_effects.specs.Gathering.{first_place, is_new_recipient, with_addressees, with_reached};
+
+use crate::facts::Facts;
+use fedi_address::{Host, Iri, Items, Recipients, is_among};
+use std::alloc::{AllocError, Global};
+
+fn is_public(iri: &Iri) -> bool
+    ensures { result ≡ bytes_eq iri.now public_iri }
+{
+    iri.text() == Iri::PUBLIC
+}
+
+#[tactic(auto, unfolding(fedi_town::specs::Ids::is_of_host))]
+fn is_of_host(host: &Host, iri: &Iri) -> bool
+    ensures { result ≡ is_of_host host.now iri.now }
+{
+    iri.text().as_bytes().starts_with(b"https://") && iri.host() == host.text()
+}
+
+/// Whether the IRI is of the host that was set up.
+pub fn is_of_town(facts: &Facts, iri: &Iri) -> bool
+    ensures { result ≡ is_of_town facts.now.town.host iri.now }
+{
+    match facts.host() {
+        Some(host) => is_of_host(host, iri),
+        None => false,
+    }
+}
+
+// Whether this one may get the author's activity: Public is everybody and nobody's address
+// (ActivityPub, section 5.6), the author needs no copy, what is of this host and no member's id has no
+// inbox, and a Block keeps both sides away (6.9).
+#[tactic(auto, unfolding(fedi_town::specs::Addressing::is_recipient, fedi_town::specs::Addressing::is_nobody_here))]
+fn is_recipient(facts: &Facts, author: &Iri, iri: &Iri) -> bool
+    ensures { result ≡ is_recipient facts.now.town author.now iri.now }
+{
+    !is_public(iri)
+        && iri != author
+        && !(is_of_town(facts, iri) && !facts.is_actor(iri))
+        && !facts.has_block_between(iri, author)
+}
+
+// ---- the followers collection
+
+// Whether the IRI is that of the author's followers collection (ActivityPub, section 5.3).
+#[tactic(auto, using(crate::proofs::Prefixes::rest_after, crate::proofs::Prefixes::other_prefix))]
+fn is_followers_id(author: &Iri, iri: &Iri) -> bool
+    ensures { result ≡ bytes_eq iri.now (followers_id author.now) }
+{
+    match iri.text().as_bytes().strip_prefix(author.text().as_bytes()) {
+        Some(rest) => rest == b"/followers".as_slice(),
+        None => false,
+    }
+}
+
+#[tactic(auto, unfolding(fedi_address::specs::Recipients::is_among))]
+fn has_followers_id(author: &Iri, iris: &[Iri]) -> bool
+    ensures { result ≡ is_among (followers_id author.now) iris.now }
+{
+    iris.iter().any(|iri| is_followers_id(author, iri))
+}
+
+/// Whether the author's followers are named (ActivityPub, section 5.3).
+#[tactic(auto, using(fedi_address::proofs::Audience::is_among_all))]
+pub fn names_followers(author: &Iri, named: &Recipients) -> bool
+    ensures { result ≡ names named.now (followers_id author.now) }
+{
+    has_followers_id(author, named.to.as_slice())
+        || has_followers_id(author, named.cc.as_slice())
+        || has_followers_id(author, named.bto.as_slice())
+        || has_followers_id(author, named.bcc.as_slice())
+        || has_followers_id(author, named.audience.as_slice())
+}
+
+// ---- recipients
+
+// Whether the author's activity may go there, and it was not found before.
+#[tactic(auto, unfolding(crate::specs::Gathering::is_new_recipient))]
+fn is_new_recipient(facts: &Facts, author: &Iri, found: &[Iri], iri: &Iri) -> bool
+    ensures { result ≡ is_new_recipient facts.now.town author.now found.now iri.now }
+{
+    is_recipient(facts, author, iri) && !is_among(iri.text(), found)
+}
+
+#[tactic(auto, unfolding(crate::specs::Gathering::with_reached))]
+fn reach_one(facts: &Facts, author: &Iri, found: &mut Vec<Iri>, iri: &Iri) -> Result<(), AllocError>
+    ensures { OnOk result (found.new.items
+        ≡ with_reached facts.now.town author.now found.old.items iri.now) }
+{
+    if is_new_recipient(facts, author, found, iri) {
+        let iri = iri.clone()?;
+        found.push(iri)?;
+    }
+    Ok(())
+}
+
+// Where the IRI stands first among those found.
+fn first_place(found: &[Iri], iri: &Iri) -> Option<usize>
+    ensures { result ≡ first_place (λ u. bytes_eq u iri.now) found.now }
+{
+    found.iter().position(|other| other == iri)
+}
+
+// Where the IRI stands among those found. It is looked for first at this place.
+#[tactic(auto, using(crate::proofs::FirstPlaces::among_at), unfolding(fedi_address::specs::Recipients::is_among))]
+fn place_of(found: &[Iri], iri: &Iri, near: usize) -> Option<usize>
+    ensures among { is_some result ≡ is_among iri.now found.now }
+    ensures bound { IfSome result (λ place. place < length found.now) }
+{
+    if near < found.len() && found[near] == *iri {
+        return Some(near);
+    }
+    first_place(found, iri)
+}
+
+// Adds the IRI if it is new. It is looked for first at this place, and the place to look at for the next
+// one is returned.
+#[tactic(auto, unfolding(crate::specs::Gathering::with_reached, crate::specs::Gathering::is_new_recipient))]
+fn reach_near(
+    facts: &Facts,
+    author: &Iri,
+    found: &mut Vec<Iri>,
+    iri: &Iri,
+    near: usize,
+) -> Result<usize, AllocError>
+    ensures { OnOk result (found.new.items
+        ≡ with_reached facts.now.town author.now found.old.items iri.now) }
+{
+    if let Some(place) = place_of(found, iri, near) {
+        return Ok(place + 1);
+    }
+    if is_recipient(facts, author, iri) {
+        let iri = iri.clone()?;
+        found.push(iri)?;
+    }
+    Ok(near)
+}
+
+// Adds those who are new. They may be many, and mostly stand in the order in which they were found: so
+// each is looked for first behind the one before it.
+fn reach(facts: &Facts, author: &Iri, found: &mut Vec<Iri>, iris: &[Iri]) -> Result<(), AllocError>
+    ensures { OnOk result (found.new.items
+        ≡ fold (with_reached facts.now.town author.now) found.old.items iris.now) }
+{
+    let mut near = 0;
+    for iri in iris {
+        near = reach_near(facts, author, found, iri, near)?;
+    }
+    Ok(())
+}
+
+fn keep_new(facts: &Facts, author: &Iri, found: &[Iri], iris: &mut Vec<Iri>)
+    ensures { iris.new.items
+        ≡ filter (is_new_recipient facts.now.town author.now found.now) iris.old.items }
+{
+    iris.retain(|iri| is_new_recipient(facts, author, found, iri));
+}
+
+// The author's present followers. They are many and stand once each, so each of them is looked for
+// only among those who were found before.
+#[tactic(auto, using(crate::proofs::Apart::followers_apart))]
+fn reach_followers(
+    alloc: Global,
+    facts: &Facts,
+    author: &Iri,
+    found: &mut Vec<Iri>,
+) -> Result<(), AllocError>
+    ensures { OnOk result (found.new.items ≡ fold (with_reached facts.now.town author.now)
+        found.old.items (followers facts.now.town author.now)) }
+{
+    let mut followers = facts.followers_of(alloc, author)?;
+    keep_new(facts, author, found, &mut followers);
+    found.append(&mut followers)?;
+    Ok(())
+}
+
+// The author's followers collection stands for the present followers (ActivityPub, section 7.1).
+#[tactic(auto, unfolding(crate::specs::Gathering::with_addressees, fedi_town::specs::Addressing::addressees))]
+fn reach_named(
+    alloc: Global,
+    facts: &Facts,
+    author: &Iri,
+    found: &mut Vec<Iri>,
+    iri: &Iri,
+) -> Result<(), AllocError>
+    ensures { OnOk result (found.new.items
+        ≡ with_addressees facts.now.town author.now found.old.items iri.now) }
+{
+    if is_followers_id(author, iri) {
+        reach_followers(alloc, facts, author, found)
+    } else {
+        reach_one(facts, author, found, iri)
+    }
+}
+
+fn reach_each(
+    alloc: Global,
+    facts: &Facts,
+    author: &Iri,
+    found: &mut Vec<Iri>,
+    iris: &[Iri],
+) -> Result<(), AllocError>
+    ensures { OnOk result (found.new.items
+        ≡ fold (with_addressees facts.now.town author.now) found.old.items iris.now) }
+{
+    for iri in iris {
+        reach_named(alloc, facts, author, found, iri)?;
+    }
+    Ok(())
+}
+
+fn reach_all(
+    alloc: Global,
+    facts: &Facts,
+    author: &Iri,
+    found: &mut Vec<Iri>,
+    named: &Recipients,
+) -> Result<(), AllocError>
+    ensures { OnOk result (found.new.items
+        ≡ fold (with_addressees facts.now.town author.now) found.old.items (all_of named.now)) }
+{
+    reach_each(alloc, facts, author, found, named.to.as_slice())?;
+    reach_each(alloc, facts, author, found, named.cc.as_slice())?;
+    reach_each(alloc, facts, author, found, named.bto.as_slice())?;
+    reach_each(alloc, facts, author, found, named.bcc.as_slice())?;
+    reach_each(alloc, facts, author, found, named.audience.as_slice())
+}
+
+/// The recipients of a member's activity: those of `to`, `cc`, `bto`, `bcc` and `audience` in this
+/// order and then the others, each once (ActivityPub, sections 6 and 7.1). The error is out of memory.
+#[tactic(auto, using(crate::proofs::Gathering::reached_are_recipients))]
+pub fn recipients_with(
+    alloc: Global,
+    facts: &Facts,
+    author: &Iri,
+    named: &Recipients,
+    others: &[Iri],
+) -> Result<Items<Iri>, AllocError>
+    ensures { IfOk result
+        (λ found. found ≡ recipients_with facts.now.town author.now named.now others.now) }
+{
+    let mut found = Vec::new(alloc);
+    reach_all(alloc, facts, author, &mut found, named)?;
+    reach(facts, author, &mut found, others)?;
+    Ok(Items::new(found))
+}

@@ -1,0 +1,323 @@
+//! The facts that a history has made, kept as plain lists.
+
+ghost use Rattle.std.specs.Prelude.{◌≡◌, ◌∷◌, ◌++◌, [], ◌+◌, ◌^◌, ◌<◌, ◌≤◌, IsTrue, IfOk, None, OnOk, Some, map, option_copied, option_to_list, vec_len, vec_capacity};
+ghost use Rattle.std.specs.List.{find};
+ghost use Rattle.fedi_town.specs.Built.{is_built};
+ghost use Rattle.fedi_town.specs.Effects.{affect};
+ghost use Rattle.fedi_town.specs.Histories.{addition_of, town, with_addition};
+ghost use Rattle.fedi_town.specs.Objects.{maker};
+ghost use Rattle.fedi_town.specs.Relations.{has_activity_id, is_actor};
+ghost use Rattle.fedi_town.specs.Towns.{count_of, empty_town, has_digest, has_id, has_name, id_of};
+ghost use Rattle.fedi_address.specs.Recipients.{is_among};
+ghost use Rattle.fedi_effects.specs.Additions.{HasAnswerer, HasAuthors, addition_in};
+ghost use Rattle.fedi_effects.specs.Changes.{AreMadeOnce};
+ghost use Rattle.fedi_effects.specs.Holdings.{added_id, id_ahead};
+
+use crate::acts::has_activity_id;
+use crate::making::prepare;
+use crate::ready::{Ready, know_authors, make_ready};
+use crate::register::Register;
+use fedi_address::{Host, Iri, LocalName};
+use fedi_kept::{Kept, Pool, Trace};
+use fedi_objects::Entry;
+use fedi_town::{Actor, Effect};
+use std::alloc::{AllocError, Global};
+use std::marker::Model;
+use std::snapshot::Snapshot;
+
+// What was made for the entry that comes next.
+#[derive(Drop)]
+struct Room {
+    entry: Snapshot<Entry>,
+    ready: Ready,
+}
+
+/// What the entries of a history have made: the host, the members and the activities. The entries
+/// themselves are not kept, but contracts see them. So far there are neither peers nor attempts to
+/// deliver.
+#[derive(Drop)]
+pub struct Facts {
+    history: Trace<Entry>,
+    host: Option<Host>,
+    actors: Vec<Actor>,
+    register: Register,
+    room: Option<Room>,
+    pool: Pool,
+}
+
+impl Model for Facts {
+    ghost use Rattle.fedi_effects.specs.Holdings.{Holding, IsSound, holding_in};
+
+    ghost Value = { Holding };
+
+    ghost view = { holding_in };
+
+    ghost invariant = { IsSound };
+}
+
+#[tactic(auto, using(crate::proofs::Towns::authors_known))]
+fn know(register: &mut Register, ready: &Ready) -> Result<(), AllocError>
+    ensures acts { register.new.acts ≡ register.old.acts }
+    ensures room { register.new.room ≡ register.old.room }
+    ensures known { OnOk result (HasAuthors register.new.known ready.now) }
+{
+    know_authors(register, ready)?;
+    Ok(())
+}
+
+// The members and the activities get room for one entry more, which was made ready.
+fn make_room(
+    actors: &mut Vec<Actor>,
+    register: &mut Register,
+    ready: &Ready,
+) -> Result<(), AllocError>
+    ensures actors { actors.new.items ≡ actors.old.items }
+    ensures acts { register.new.acts ≡ register.old.acts }
+    ensures actors_room { OnOk result (vec_len actors.new + 1 ≤ vec_capacity actors.new) }
+    ensures acts_room { OnOk result (register.new.room ≡ 2) }
+    ensures known { OnOk result (HasAuthors register.new.known ready.now) }
+{
+    actors.reserve(1)?;
+    register.reserve()?;
+    know(register, ready)
+}
+
+// Adds an activity and its answer, after its effect.
+fn add_activity(register: &mut Register, act: Kept, effect: Effect, answer: Option<Kept>)
+    requires once { AreMadeOnce register.old.acts }
+    requires room { register.old.room ≡ 2 }
+    requires known { IsTrue (is_among act.author register.old.known) }
+    requires answerer { HasAnswerer register.old.known answer }
+    ensures { register.new.acts
+        ≡ map (affect effect) register.old.acts ++ act ∷ option_to_list answer }
+{
+    register.apply(effect);
+    register.push(act);
+    if let Some(answer) = answer {
+        register.push(answer);
+    }
+}
+
+// Adds what was made ready.
+fn add(host: &mut Option<Host>, actors: &mut Vec<Actor>, register: &mut Register, ready: Ready)
+    requires once { AreMadeOnce register.old.acts }
+    requires actors { vec_len actors.old + 1 ≤ vec_capacity actors.old }
+    requires room { register.old.room ≡ 2 }
+    requires known { HasAuthors register.old.known ready }
+    ensures { record {
+      host = host.new;
+      actors = actors.new.items;
+      peers = [];
+      acts = register.new.acts;
+      attempts = [];
+    } ≡ with_addition (record {
+      host = host.old;
+      actors = actors.old.items;
+      peers = [];
+      acts = register.old.acts;
+      attempts = [];
+    }) (addition_in ready) }
+{
+    match ready {
+        Ready::Nothing => {}
+        Ready::Host(new) => *host = Some(new),
+        Ready::Member(member) => actors.push_reserved(member),
+        Ready::Activity {
+            act,
+            effect,
+            answer,
+        } => add_activity(register, act, effect, answer),
+    }
+}
+
+// The id of the activity that was made ready.
+fn ready_id(ready: &Ready) -> Option<&Iri>
+    ensures { option_copied result ≡ added_id (addition_in ready.now) }
+{
+    match ready {
+        Ready::Nothing | Ready::Host(_) | Ready::Member(_) => None,
+        Ready::Activity { act, .. } => act.id(),
+    }
+}
+
+impl Facts {
+    /// The facts of no entry. The error is out of memory.
+    pub fn empty(alloc: Global) -> Result<Facts, AllocError>
+        ensures { IfOk result (λ facts.
+            facts ≡ record { history = []; town = empty_town; room = None }) }
+    {
+        let pool = Pool::new(alloc)?;
+        Ok(Facts {
+            history: Trace::new(),
+            host: None,
+            actors: Vec::new(alloc),
+            register: Register::empty(alloc),
+            room: None,
+            pool,
+        })
+    }
+
+    /// The town is what the history has made.
+    pub fn stands(&self)
+        ensures { self.now.town ≡ town self.now.history }
+    {
+        let _ = &self.host;
+    }
+
+    #[tactic(auto, using(crate::proofs::Towns::built_addition))]
+    fn make(&self, alloc: Global, entry: &Entry) -> Result<Ready, AllocError>
+        requires { IsTrue (is_built entry.now) }
+        ensures { IfOk result (λ ready. addition_in ready ≡ addition_of self.now.town entry.now) }
+    {
+        let addition = prepare(alloc, self, entry)?;
+        make_ready(alloc, addition)
+    }
+
+    /// Does for an entry all that takes memory, so that it can be added without. An earlier entry for
+    /// which this was done has room no longer. The error is out of memory, and then no entry has room.
+    pub fn reserve(&mut self, alloc: Global, entry: &Entry) -> Result<(), AllocError>
+        requires { IsTrue (is_built entry.now) }
+        ensures ok { OnOk result (self.new ≡ record self.old { room = Some entry.now }) }
+        ensures history { self.new.history ≡ self.old.history }
+        ensures town { self.new.town ≡ self.old.town }
+    {
+        let mut ready = self.make(alloc, entry)?;
+        ready.share(&mut self.pool);
+        self.room = None;
+        make_room(&mut self.actors, &mut self.register, &ready)?;
+        let entry = Snapshot::of(entry);
+        self.room = Some(Room { entry, ready });
+        Ok(())
+    }
+
+    /// The id of the activity that the entry will make for which there is room.
+    pub fn reserved_id(&self) -> Option<&Iri>
+        ensures { option_copied result ≡ id_ahead self.now.town self.now.room }
+    {
+        match &self.room {
+            Some(room) => ready_id(&room.ready),
+            None => None,
+        }
+    }
+
+    /// Adds the entry for which there is room. It takes no memory.
+    #[tactic(auto, using(crate::proofs::Towns::town_pushed, crate::proofs::Towns::town_made_once))]
+    pub fn apply(&mut self, entry: &Entry)
+        requires { self.old.room ≡ Some entry.now }
+        ensures { self.new ≡ record {
+          history = self.old.history ++ entry.now ∷ [];
+          town = town (self.old.history ++ entry.now ∷ []);
+          room = None;
+        } }
+    {
+        match self.room.take() {
+            None => unreachable!(),
+            Some(Room { entry: _, ready }) => {
+                add(&mut self.host, &mut self.actors, &mut self.register, ready);
+                self.history.push(entry);
+            }
+        }
+    }
+
+    pub(crate) fn register(&self) -> &Register
+        ensures { result.now.acts ≡ self.now.town.acts }
+    {
+        &self.register
+    }
+
+    /// The host, once the server was set up.
+    pub fn host(&self) -> Option<&Host>
+        ensures { option_copied result ≡ self.now.town.host }
+    {
+        self.host.as_ref()
+    }
+
+    /// The members, in the order in which they were made.
+    pub fn actors(&self) -> &[Actor]
+        ensures { result.now ≡ self.now.town.actors }
+    {
+        self.actors.as_slice()
+    }
+
+    /// The activities, in the order of acceptance.
+    pub fn acts(&self) -> &[Kept]
+        ensures { result.now ≡ self.now.town.acts }
+    {
+        self.register.acts()
+    }
+
+    /// The id of the member of this name, or none if there is no such member.
+    pub fn id_of(&self, name: &LocalName) -> Option<&Iri>
+        ensures { option_copied result ≡ id_of self.now.town name.now }
+    {
+        self.actors
+            .iter()
+            .find(|a| has_name(a, name))
+            .map(|a| &a.id)
+    }
+
+    /// The member whose key has this digest, or none if there is no such member.
+    pub fn actor_with(&self, digest: &[u8; 32]) -> Option<&Actor>
+        ensures { option_copied result ≡ find (has_digest digest.now) self.now.town.actors }
+    {
+        self.actors.iter().find(|a| has_digest(a, digest))
+    }
+
+    /// The member of this id, or none if there is no such member.
+    pub fn actor_of(&self, id: &Iri) -> Option<&Actor>
+        ensures { option_copied result ≡ find (has_id id.now) self.now.town.actors }
+    {
+        self.actors.iter().find(|a| has_id(a, id))
+    }
+
+    /// Whether the IRI is the id of a member.
+    #[tactic(auto, unfolding(fedi_town::specs::Relations::is_actor))]
+    pub fn is_actor(&self, iri: &Iri) -> bool
+        ensures { result ≡ is_actor self.now.town iri.now }
+    {
+        self.actors.iter().any(|a| has_id(a, iri))
+    }
+
+    /// How many activities the author has.
+    pub fn count_of(&self, author: &Iri) -> usize
+        ensures value { result ≡ count_of self.now.town author.now }
+        ensures few { result < 2 ^ 63 }
+    {
+        self.register.count_of(author)
+    }
+
+    /// The activity of this id, or none if there is no such activity.
+    pub fn activity_of(&self, id: &Iri) -> Option<&Kept>
+        ensures { option_copied result ≡ find (has_activity_id id.now) self.now.town.acts }
+    {
+        self.acts().iter().find(|x| has_activity_id(x, id))
+    }
+
+    /// The activity that made the object of this id, or none if there is no such object.
+    pub fn maker(&self, id: &Iri) -> Option<&Kept>
+        ensures { option_copied result ≡ maker self.now.town id.now }
+    {
+        self.register.maker(id)
+    }
+}
+
+#[tactic(auto, unfolding(fedi_town::specs::Towns::has_name))]
+pub(crate) fn has_name(actor: &Actor, name: &LocalName) -> bool
+    ensures { result ≡ has_name name.now actor.now }
+{
+    actor.name == *name
+}
+
+#[tactic(auto, unfolding(fedi_town::specs::Towns::has_id))]
+pub(crate) fn has_id(actor: &Actor, id: &Iri) -> bool
+    ensures { result ≡ has_id id.now actor.now }
+{
+    actor.id == *id
+}
+
+#[tactic(auto, unfolding(fedi_town::specs::Towns::has_digest))]
+pub(crate) fn has_digest(actor: &Actor, digest: &[u8; 32]) -> bool
+    ensures { result ≡ has_digest digest.now actor.now }
+{
+    actor.digest.as_slice() == digest.as_slice()
+}

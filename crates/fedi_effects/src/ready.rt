@@ -1,0 +1,135 @@
+//! What an entry adds, made ready to be added without memory.
+
+ghost use Rattle.std.specs.Prelude.{◌≡◌, IfOk, OnOk};
+ghost use Rattle.fedi_effects.specs.Additions.{IsBuiltAddition, addition_in, with_answerer, with_authors};
+ghost use Rattle.fedi_town.specs.declared.addition.Addition.TheVariants as additions;
+ghost use Rattle.fedi_effects.specs.Following.{with_one};
+
+use crate::register::Register;
+use fedi_address::Host;
+use fedi_kept::{Kept, Pool};
+use fedi_town::{Acceptance, Act, Actor, Addition, Effect};
+use std::alloc::{AllocError, Global};
+
+/// What an entry adds: each activity is in the form in which it is kept.
+#[derive(Drop)]
+pub(crate) enum Ready {
+    /// Nothing.
+    Nothing,
+    /// The server's host.
+    Host(Host),
+    /// A member.
+    Member(Actor),
+    /// An activity, with all that follows from it.
+    Activity {
+        /// The activity.
+        act: Kept,
+        /// What it does to earlier ones.
+        effect: Effect,
+        /// The Accept that follows it.
+        answer: Option<Kept>,
+    },
+}
+
+fn keep_answer(alloc: Global, answer: Option<Act>) -> Result<Option<Kept>, AllocError>
+    ensures { IfOk result (λ kept. kept ≡ answer) }
+{
+    match answer {
+        Some(answer) => Ok(Some(Kept::new(alloc, answer)?)),
+        None => Ok(None),
+    }
+}
+
+fn keep_all(alloc: Global, acceptance: Acceptance) -> Result<Ready, AllocError>
+    ensures { IfOk result (λ ready. addition_in ready ≡ additions.Activity acceptance) }
+{
+    let Acceptance {
+        act,
+        effect,
+        answer,
+    } = acceptance;
+    let act = Kept::new(alloc, act)?;
+    let answer = keep_answer(alloc, answer)?;
+    Ok(Ready::Activity {
+        act,
+        effect,
+        answer,
+    })
+}
+
+fn share_answer(answer: &mut Option<Kept>, pool: &mut Pool)
+    ensures { answer.new ≡ answer.old }
+{
+    match answer {
+        Some(answer) => answer.share(pool),
+        None => {}
+    }
+}
+
+impl Ready {
+    /// Lets what comes again and again share the texts of equal ones. It takes no memory.
+    pub(crate) fn share(&mut self, pool: &mut Pool)
+        ensures { addition_in self.new ≡ addition_in self.old }
+    {
+        match self {
+            Ready::Activity {
+                act,
+                effect: _,
+                answer,
+            } => {
+                act.share(pool);
+                share_answer(answer, pool);
+            }
+            Ready::Nothing | Ready::Host(_) | Ready::Member(_) => {}
+        }
+    }
+}
+
+/// Makes an addition ready. The error is out of memory.
+pub(crate) fn make_ready(alloc: Global, addition: Addition) -> Result<Ready, AllocError>
+    requires { IsBuiltAddition addition }
+    ensures { IfOk result (λ ready. addition_in ready ≡ addition) }
+{
+    match addition {
+        Addition::Nothing => Ok(Ready::Nothing),
+        Addition::Host(host) => Ok(Ready::Host(host)),
+        Addition::Member(member) => Ok(Ready::Member(member)),
+        Addition::Activity(acceptance) => keep_all(alloc, acceptance),
+        Addition::Peer(_) => unreachable!(),
+        Addition::Inbox { .. } => unreachable!(),
+        Addition::Attempt(_) => unreachable!(),
+    }
+}
+
+fn know_answerer(register: &mut Register, answer: &Option<Kept>) -> Result<(), AllocError>
+    ensures acts { register.new.acts ≡ register.old.acts }
+    ensures room { register.new.room ≡ register.old.room }
+    ensures known { OnOk result (register.new.known ≡ with_answerer register.old.known answer.now) }
+{
+    match answer {
+        Some(answer) => register.know(answer.author()),
+        None => Ok(()),
+    }
+}
+
+fn know_both(register: &mut Register, act: &Kept, answer: &Option<Kept>) -> Result<(), AllocError>
+    ensures acts { register.new.acts ≡ register.old.acts }
+    ensures room { register.new.room ≡ register.old.room }
+    ensures known { OnOk result (register.new.known
+        ≡ with_answerer (with_one register.old.known act.now.author) answer.now) }
+{
+    register.know(act.author())?;
+    know_answerer(register, answer)
+}
+
+/// Makes the authors of what is ready known. The error is out of memory.
+pub(crate) fn know_authors(register: &mut Register, ready: &Ready) -> Result<(), AllocError>
+    ensures acts { register.new.acts ≡ register.old.acts }
+    ensures room { register.new.room ≡ register.old.room }
+    ensures known { OnOk result (register.new.known ≡ with_authors register.old.known ready.now) }
+{
+    match ready {
+        Ready::Nothing | Ready::Host(_) | Ready::Member(_) => Ok(()),
+        Ready::Activity { act, answer, .. } => know_both(register, act, answer),
+    }
+}

@@ -1,0 +1,207 @@
+//! The rules that a member's post may break (ActivityPub, section 6).
+
+ghost use Rattle.std.specs.Prelude.{◌≡◌, ◌&&◌, ℕ, List, Some, None, option_copied};
+ghost use Rattle.std.specs.List.{find};
+ghost use Rattle.std.specs.Result.{result_err};
+ghost use Rattle.fedi_town.specs.declared.caller.Caller.TheVariants.{Actor};
+ghost use Rattle.fedi_town.specs.declared.refusal.Refusal.TheVariants.{Blocked, NotFound};
+ghost use Rattle.fedi_town.specs.Addressing.{is_nobody_here};
+ghost use Rattle.fedi_town.specs.Deeds.{deed_of, is_follow, is_open, is_pending};
+ghost use Rattle.fedi_town.specs.Objects.{makes};
+ghost use Rattle.fedi_town.specs.Relations.{has_activity_id, has_block_between, ref_id};
+ghost use Rattle.fedi_town.specs.Rules.{announce_rule, answer_rule, broken, broken_about, change_rule, like_rule, refuse_if, seen_act, seen_maker, undo_rule};
+ghost use Rattle.fedi_town.specs.Seeing.{sees_as};
+ghost use Rattle.fedi_town.specs.Towns.{id_of};
+
+use crate::acts::{
+    can_be_undone, has_activity_id, is_about, is_by, is_follow, is_open, is_pending, makes,
+};
+use crate::addressing::is_of_town;
+use crate::facts::Facts;
+use crate::seeing::sees_as;
+use crate::subjects::ref_id;
+use fedi_address::Iri;
+use fedi_kept::Kept;
+use fedi_objects::Activity;
+use fedi_town::{Deed, Refusal};
+
+// ---- what the author sees
+
+// The first of these that made the object of this id and that the author sees.
+fn first_maker<'a>(acts: &'a [Kept], facts: &Facts, author: &Iri, id: &Iri) -> Option<&'a Kept>
+    ensures { option_copied result
+        ≡ find (λ x. makes id.now x && sees_as facts.now.town author.now x) acts.now }
+{
+    acts.iter()
+        .find(|x| makes(x, id) && sees_as(facts, author, x))
+}
+
+// The first of these that has this id and that the author sees.
+fn first_act<'a>(acts: &'a [Kept], facts: &Facts, author: &Iri, id: &Iri) -> Option<&'a Kept>
+    ensures { option_copied result
+        ≡ find (λ x. has_activity_id id.now x && sees_as facts.now.town author.now x) acts.now }
+{
+    acts.iter()
+        .find(|x| has_activity_id(x, id) && sees_as(facts, author, x))
+}
+
+// The activity that made the object of this id, where the author sees it.
+fn seen_maker<'a>(facts: &'a Facts, author: &Iri, id: &Iri) -> Option<&'a Kept>
+    ensures { (name : List ℕ) → id_of facts.now.town name ≡ Some author.now
+        → option_copied result ≡ seen_maker facts.now.town (Actor name) id.now }
+{
+    first_maker(facts.acts(), facts, author, id)
+}
+
+// The activity of this id, where the author sees it.
+fn seen_act<'a>(facts: &'a Facts, author: &Iri, id: &Iri) -> Option<&'a Kept>
+    ensures { (name : List ℕ) → id_of facts.now.town name ≡ Some author.now
+        → option_copied result ≡ seen_act facts.now.town (Actor name) id.now }
+{
+    first_act(facts.acts(), facts, author, id)
+}
+
+// ---- the rules
+
+// An Update or a Delete: of the author's own object, which was not deleted.
+fn judge_change(author: &Iri, made: Option<&Kept>) -> Result<(), Refusal>
+    ensures { result_err result ≡ change_rule author.now (option_copied made.entry) }
+{
+    match made {
+        None => Err(Refusal::NotFound),
+        Some(made) if !is_by(made, author) => Err(Refusal::NotOwner),
+        Some(made) if made.is_deleted() => Err(Refusal::Gone),
+        Some(_) => Ok(()),
+    }
+}
+
+// A Like: of an object that was not deleted.
+fn judge_like(liked: Option<&Kept>) -> Result<(), Refusal>
+    ensures { result_err result ≡ like_rule (option_copied liked.entry) }
+{
+    match liked {
+        None => Err(Refusal::NotFound),
+        Some(liked) if liked.is_deleted() => Err(Refusal::Gone),
+        Some(_) => Ok(()),
+    }
+}
+
+// An Announce: of an object that was not deleted and is public.
+fn judge_announce(shared: Option<&Kept>) -> Result<(), Refusal>
+    ensures { result_err result ≡ announce_rule (option_copied shared.entry) }
+{
+    match shared {
+        None => Err(Refusal::NotFound),
+        Some(shared) if shared.is_deleted() => Err(Refusal::Gone),
+        Some(shared) if !shared.is_public() => Err(Refusal::NotPublic),
+        Some(_) => Ok(()),
+    }
+}
+
+// An Accept: of a Follow of the author that waits.
+fn judge_accept(author: &Iri, follow: Option<&Kept>) -> Result<(), Refusal>
+    ensures { result_err result ≡ answer_rule is_pending author.now (option_copied follow.entry) }
+{
+    match follow {
+        None => Err(Refusal::NotFound),
+        Some(follow) if !is_follow(follow) || !is_about(follow, author) => Err(Refusal::NotFound),
+        Some(follow) if !is_pending(follow.state()) => Err(Refusal::NotStanding),
+        Some(_) => Ok(()),
+    }
+}
+
+// A Reject: of a Follow of the author that waits or was accepted.
+fn judge_reject(author: &Iri, follow: Option<&Kept>) -> Result<(), Refusal>
+    ensures { result_err result ≡ answer_rule is_open author.now (option_copied follow.entry) }
+{
+    match follow {
+        None => Err(Refusal::NotFound),
+        Some(follow) if !is_follow(follow) || !is_about(follow, author) => Err(Refusal::NotFound),
+        Some(follow) if !is_open(follow.state()) => Err(Refusal::NotStanding),
+        Some(_) => Ok(()),
+    }
+}
+
+// An Undo: of the author's own activity, which can be undone.
+fn judge_undo(author: &Iri, undone: Option<&Kept>) -> Result<(), Refusal>
+    ensures { result_err result ≡ undo_rule author.now (option_copied undone.entry) }
+{
+    match undone {
+        None => Err(Refusal::NotFound),
+        Some(undone) if !is_by(undone, author) => Err(Refusal::NotOwner),
+        Some(undone) if !can_be_undone(undone) => Err(Refusal::NotStanding),
+        Some(_) => Ok(()),
+    }
+}
+
+// Whether the IRI is of this host, and no member's id.
+#[tactic(auto, unfolding(fedi_town::specs::Addressing::is_nobody_here))]
+fn is_nobody_here(facts: &Facts, iri: &Iri) -> bool
+    ensures { result ≡ is_nobody_here facts.now.town iri.now }
+{
+    is_of_town(facts, iri) && !facts.is_actor(iri)
+}
+
+// A Follow: of somebody who is there, where no Block stands between the two.
+fn judge_follow(facts: &Facts, author: &Iri, id: &Iri) -> Result<(), Refusal>
+    ensures { result_err result
+        ≡ refuse_if (is_nobody_here facts.now.town id.now) NotFound
+        (refuse_if (has_block_between facts.now.town author.now id.now) Blocked None) }
+{
+    if is_nobody_here(facts, id) {
+        Err(Refusal::NotFound)
+    } else if facts.has_block_between(author, id) {
+        Err(Refusal::Blocked)
+    } else {
+        Ok(())
+    }
+}
+
+// A Block: of somebody who is there.
+fn judge_block(facts: &Facts, id: &Iri) -> Result<(), Refusal>
+    ensures { result_err result
+        ≡ refuse_if (is_nobody_here facts.now.town id.now) NotFound None }
+{
+    if is_nobody_here(facts, id) {
+        Err(Refusal::NotFound)
+    } else {
+        Ok(())
+    }
+}
+
+// What the author does about this id.
+#[tactic(auto, unfolding(fedi_town::specs::Rules::broken_about))]
+fn judge_about(facts: &Facts, author: &Iri, deed: Deed, id: &Iri) -> Result<(), Refusal>
+    ensures { (name : List ℕ) → id_of facts.now.town name ≡ Some author.now
+        → result_err result
+        ≡ broken_about facts.now.town (Actor name) author.now deed id.now }
+{
+    match deed {
+        Deed::Create | Deed::Other => Ok(()),
+        Deed::Update | Deed::Delete => judge_change(author, seen_maker(facts, author, id)),
+        Deed::Follow => judge_follow(facts, author, id),
+        Deed::Like => judge_like(seen_maker(facts, author, id)),
+        Deed::Announce => judge_announce(seen_maker(facts, author, id)),
+        Deed::Block => judge_block(facts, id),
+        Deed::Accept => judge_accept(author, seen_act(facts, author, id)),
+        Deed::Reject => judge_reject(author, seen_act(facts, author, id)),
+        Deed::Undo => judge_undo(author, seen_act(facts, author, id)),
+    }
+}
+
+/// Whether a member, who is the author with this id, may post the activity (ActivityPub, section 6).
+/// What the author does not see is missing to the author. The error is the first rule that the
+/// activity breaks: it is about nothing that is there, about what somebody else made or did, about an
+/// object that was deleted or that may not be shared, about an actor behind a Block, or it answers or
+/// takes back what does not stand. It takes no memory.
+pub fn judge_local(facts: &Facts, author: &Iri, activity: &Activity) -> Result<(), Refusal>
+    ensures { (name : List ℕ) → id_of facts.now.town name ≡ Some author.now
+        → result_err result
+        ≡ broken facts.now.town (Actor name) author.now (deed_of activity.now.kind)
+        (ref_id activity.now.object) }
+{
+    match ref_id(&activity.object) {
+        Some(id) => judge_about(facts, author, Deed::of(activity.kind), id),
+        None => Ok(()),
+    }
+}

@@ -1,0 +1,20 @@
+//! What an actor sees.
+
+ghost use Rattle.std.specs.Prelude.{◌≡◌};
+ghost use Rattle.fedi_town.specs.Seeing.{sees_as};
+
+use crate::acts::is_by;
+use crate::facts::Facts;
+use fedi_address::{Iri, is_among};
+use fedi_kept::Kept;
+
+/// Whether the actor of this id sees the activity (ActivityPub, sections 5, 6 and 6.9): its own, and
+/// where no Block stands between it and the author what is public and what goes to it.
+#[tactic(auto, unfolding(fedi_town::specs::Seeing::sees_as))]
+pub fn sees_as(facts: &Facts, id: &Iri, act: &Kept) -> bool
+    ensures { result ≡ sees_as facts.now.town id.now act.now }
+{
+    is_by(act, id)
+        || (!facts.has_block_between(id, act.author())
+            && (act.is_public() || is_among(id.text(), act.recipients())))
+}

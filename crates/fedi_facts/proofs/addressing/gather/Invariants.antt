@@ -1,7 +1,0 @@
-use Rattle.std.proofs.Common.{◌≡◌, take}
-use Rattle.std.specs.List.{fold}
-use Rattle.fedi_facts.specs.Gathering.{with_reached}
-use Rattle.fedi_facts.proofs.addressing.gather.Given as goal
-
-abbrev pub invariant-loop-iri : goal.invariant-loop-iri
-invariant-loop-iri l = l.found.items ≡ fold (with_reached l.facts.town l.author) l.fn.found.items (take l.iri-index l.iris)

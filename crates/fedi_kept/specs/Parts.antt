@@ -1,0 +1,93 @@
+-- What is seen of what is kept.
+use Rattle.std.specs.Prelude.{ℕ, List, [], Option, Some, None}
+use Rattle.std.specs.declared.boxed.Box.{Box}
+use Rattle.fedi_objects.specs.declared.activity.ObjectRef.{ObjectRef}
+use Rattle.fedi_objects.specs.declared.activity.ObjectRef.TheVariants as refs
+use Rattle.fedi_objects.specs.declared.object.Object.{Object}
+use Rattle.fedi_kept.specs.declared.about.About.{About}
+use Rattle.fedi_kept.specs.declared.about.About.TheVariants as abouts
+use Rattle.fedi_kept.specs.declared.object.KeptObject.{KeptObject}
+use Rattle.fedi_kept.specs.declared.parts.Named.{Named}
+use Rattle.fedi_kept.specs.declared.parts.Parts.{Parts}
+use Rattle.fedi_kept.specs.declared.parts.Rare.{Rare}
+
+-- ---- the object
+
+-- the object, with whom it hides
+abbrev pub whole : KeptObject → Object
+whole k = record {
+  id = k.id;
+  kind = k.kind;
+  attributed_to = k.attributed_to;
+  recipients = record { to = k.to; cc = k.cc; bto = k.hidden.bto.value; bcc = k.hidden.bcc.value; audience = k.audience };
+  in_reply_to = k.in_reply_to;
+  content = k.content;
+  summary = k.summary;
+  name = k.name;
+  url = k.url;
+  published = k.published;
+  updated = k.updated;
+  former_kind = k.former_kind;
+  deleted = k.deleted;
+  tags = k.tags;
+}
+
+-- what an activity is about
+abbrev pub referred : About → ObjectRef
+referred abouts.Nothing = refs.Nothing
+referred (abouts.Id id) = refs.Id id
+referred (abouts.Whole k) = refs.Whole (whole k.value)
+referred (abouts.Changed c) = refs.Changed (record c.change.value { id = c.id })
+
+-- ---- what an activity has of its own
+
+-- whom an activity or an object names, and when it was published
+pub record Names : Type 0 where
+  pub to : List (List ℕ)
+  pub cc : List (List ℕ)
+  pub audience : List (List ℕ)
+  pub published : Option (List ℕ)
+
+-- nobody, and at no time
+abbrev pub no_names : Names
+no_names = record { to = []; cc = []; audience = []; published = None }
+
+-- those of an object
+abbrev pub named_in : KeptObject → Names
+named_in k = record { to = k.to; cc = k.cc; audience = k.audience; published = k.published }
+
+-- those of an activity that is new
+abbrev pub names_given : Named → Names
+names_given n = record { to = n.to; cc = n.cc; audience = n.audience; published = n.published }
+
+-- those of the object that is carried
+abbrev pub object_names : About → Names
+object_names abouts.Nothing = no_names
+object_names (abouts.Id id) = no_names
+object_names (abouts.Whole k) = named_in k.value
+object_names (abouts.Changed c) = no_names
+
+-- those of an activity: its own, or else its object's
+abbrev pub named_part : {A : Type 0} → Option (Box Parts A) → About → Names
+named_part None about = object_names about
+named_part (Some p) about =
+    record { to = p.value.to; cc = p.value.cc; audience = p.value.audience; published = p.value.published }
+
+-- nothing that is rare
+abbrev pub no_rare : Rare
+no_rare = record { target = None; in_reply_to = None; content = None; summary = None; name = None; tags = []; forwards = [] }
+
+-- what is rare, where there is any
+abbrev pub rare_in : {A : Type 0} → Option (Box Rare A) → Rare
+rare_in None = no_rare
+rare_in (Some r) = r.value
+
+-- what an activity has that is rare
+abbrev pub rare_part : {A : Type 0} → Option (Box Parts A) → Rare
+rare_part None = no_rare
+rare_part (Some p) = rare_in p.value.rare
+
+-- what is lent of it
+abbrev pub rare_lent : Option Rare → Rare
+rare_lent None = no_rare
+rare_lent (Some r) = r

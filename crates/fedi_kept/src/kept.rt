@@ -1,0 +1,386 @@
+//! One accepted activity, as it is kept.
+
+ghost use Rattle.std.specs.Prelude.{◌≡◌, IfOk, option_copied, option_map};
+ghost use Rattle.fedi_objects.specs.Objects.{stripped_object};
+ghost use Rattle.fedi_town.specs.Deeds.{deed_of};
+ghost use Rattle.fedi_town.specs.Objects.{is_deleted, rewrite_act, tombstone_of, update_object, whole_of};
+ghost use Rattle.fedi_town.specs.Relations.{ref_id};
+ghost use Rattle.fedi_kept.specs.Seen.{unboxed};
+
+use crate::about::About;
+use crate::iris::Iris;
+use crate::object::{Hidden, hidden_of};
+use crate::parts::{Named, Parts, Rare, own_of, rare_of_own, share_own};
+use crate::pool::Pool;
+use fedi_address::{Iri, Recipients};
+use fedi_objects::{Activity, Kind, ObjectRef, RepeatKey, State, StrippedObject, Tag};
+use fedi_text::{Moment, Text};
+use fedi_town::{Act, Deed};
+use std::alloc::{AllocError, Global};
+use std::marker::Model;
+use std::snapshot::Snapshot;
+
+/// An accepted activity. A contract sees it as the whole activity of the definitions, of which what no
+/// reader is told, as `bto` and `bcc`, is not held, and what an activity and its object have alike is
+/// held once.
+#[derive(Drop)]
+pub struct Kept {
+    author: Iri,
+    id: Option<Iri>,
+    about: About,
+    // `None` if the activity names whom its object names, was published when its object was, and has
+    // nothing that is rare.
+    own: Option<Box<Parts>>,
+    repeat: Option<Box<(RepeatKey, [u8; 32])>>,
+    recipients: Iris,
+    moment: Moment,
+    kind: Kind,
+    state: State,
+    is_public: bool,
+    for_followers: bool,
+    actor: Snapshot<Option<Iri>>,
+    hidden: Hidden,
+}
+
+impl Model for Kept {
+    ghost use Rattle.fedi_town.specs.declared.act.Act.{Act};
+
+    ghost Value = { Act };
+
+    ghost use Rattle.fedi_kept.specs.Seen.{seen};
+
+    ghost view = { seen };
+}
+
+fn boxed<T: Drop>(alloc: Global, value: Option<T>) -> Result<Option<Box<T>>, AllocError>
+    ensures { IfOk result (λ kept. unboxed kept ≡ value) }
+{
+    match value {
+        None => Ok(None),
+        Some(value) => Ok(Some(Box::new(alloc, value)?)),
+    }
+}
+
+impl Kept {
+    /// The activity, made ready to be kept. The error is out of memory.
+    pub fn new(alloc: Global, act: Act) -> Result<Kept, AllocError>
+        ensures { IfOk result (λ kept. kept ≡ act) }
+    {
+        let Act {
+            author,
+            activity,
+            repeat,
+            moment,
+            recipients,
+            forwards,
+            is_public,
+            for_followers,
+            state,
+        } = act;
+        let Activity {
+            id,
+            kind,
+            actor,
+            object,
+            target,
+            recipients: names,
+            in_reply_to,
+            content,
+            summary,
+            name,
+            published,
+            tags,
+        } = activity.into_inner();
+        let hidden = hidden_of(&names);
+        let actor = Snapshot::of(&actor);
+        let Recipients {
+            to,
+            cc,
+            bto: _,
+            bcc: _,
+            audience,
+        } = names;
+        let named = Named {
+            to,
+            cc,
+            audience,
+            published,
+        };
+        let rare = Rare {
+            target,
+            in_reply_to,
+            content,
+            summary,
+            name,
+            tags,
+            forwards,
+        };
+        let about = About::new(alloc, object)?;
+        let own = own_of(alloc, named, rare, &about)?;
+        let repeat = boxed(alloc, repeat)?;
+        let recipients = Iris::new(alloc, recipients)?;
+        Ok(Kept {
+            author,
+            id,
+            about,
+            own,
+            repeat,
+            recipients,
+            moment,
+            kind,
+            state,
+            is_public,
+            for_followers,
+            actor,
+            hidden,
+        })
+    }
+
+    /// The id of its author.
+    pub fn author(&self) -> &Iri
+        ensures { result.now ≡ self.now.author }
+    {
+        &self.author
+    }
+
+    /// Its id.
+    pub fn id(&self) -> Option<&Iri>
+        ensures { option_copied result ≡ self.now.activity.id }
+    {
+        self.id.as_ref()
+    }
+
+    /// Its type.
+    pub fn kind(&self) -> Kind
+        ensures { result ≡ self.now.activity.kind }
+    {
+        self.kind
+    }
+
+    /// What it does.
+    pub fn deed(&self) -> Deed
+        ensures { result ≡ deed_of self.now.activity.kind }
+    {
+        Deed::of(self.kind)
+    }
+
+    /// What has become of it.
+    pub fn state(&self) -> State
+        ensures { result ≡ self.now.state }
+    {
+        self.state
+    }
+
+    /// When it was accepted.
+    pub fn moment(&self) -> Moment
+        ensures { result ≡ self.now.moment }
+    {
+        self.moment
+    }
+
+    /// Whether everybody may see it (ActivityPub, section 5.6).
+    pub fn is_public(&self) -> bool
+        ensures { result ≡ self.now.is_public }
+    {
+        self.is_public
+    }
+
+    /// Whether it is addressed to its author's followers collection (ActivityPub, section 5.3).
+    pub fn is_for_followers(&self) -> bool
+        ensures { result ≡ self.now.for_followers }
+    {
+        self.for_followers
+    }
+
+    /// To whom it goes (ActivityPub, section 7.1).
+    pub fn recipients(&self) -> &[Iri]
+        ensures { result.now ≡ self.now.recipients }
+    {
+        self.recipients.as_slice()
+    }
+
+    /// To whom an activity from elsewhere is forwarded (ActivityPub, section 7.1.2).
+    pub fn forwards(&self) -> &[Iri]
+        ensures { result.now ≡ self.now.forwards }
+    {
+        match rare_of_own(&self.own) {
+            Some(rare) => rare.forwards.as_slice(),
+            None => &[],
+        }
+    }
+
+    /// The key under which a repeat is known, and the digest of the posted body.
+    pub fn repeat(&self) -> Option<&(RepeatKey, [u8; 32])>
+        ensures { option_copied result ≡ self.now.repeat }
+    {
+        match &self.repeat {
+            Some(repeat) => Some(&**repeat),
+            None => None,
+        }
+    }
+
+    /// The id of what it is about.
+    pub fn object_id(&self) -> Option<&Iri>
+        ensures { option_copied result ≡ ref_id self.now.activity.object }
+    {
+        self.about.id()
+    }
+
+    /// The object that it carries, without `bto` and `bcc`.
+    pub fn object(&self) -> Option<StrippedObject<'_>>
+        ensures { result ≡ option_map stripped_object (whole_of self.now.activity.object) }
+    {
+        self.about.object()
+    }
+
+    /// What it is about beside the object: another object or actor.
+    pub fn target(&self) -> Option<&Iri>
+        ensures { option_copied result ≡ self.now.activity.target }
+    {
+        match rare_of_own(&self.own) {
+            Some(rare) => rare.target.as_ref(),
+            None => None,
+        }
+    }
+
+    /// Whom `to` names.
+    pub fn to(&self) -> &[Iri]
+        ensures { result.now ≡ self.now.activity.recipients.to }
+    {
+        match (&self.own, &self.about) {
+            (Some(own), _) => own.to.as_slice(),
+            (None, About::Whole(object)) => object.to.as_slice(),
+            (None, _) => &[],
+        }
+    }
+
+    /// Whom `cc` names.
+    pub fn cc(&self) -> &[Iri]
+        ensures { result.now ≡ self.now.activity.recipients.cc }
+    {
+        match (&self.own, &self.about) {
+            (Some(own), _) => own.cc.as_slice(),
+            (None, About::Whole(object)) => object.cc.as_slice(),
+            (None, _) => &[],
+        }
+    }
+
+    /// Whom `audience` names.
+    pub fn audience(&self) -> &[Iri]
+        ensures { result.now ≡ self.now.activity.recipients.audience }
+    {
+        match (&self.own, &self.about) {
+            (Some(own), _) => own.audience.as_slice(),
+            (None, About::Whole(object)) => object.audience.as_slice(),
+            (None, _) => &[],
+        }
+    }
+
+    /// What it replies to.
+    pub fn in_reply_to(&self) -> Option<&Iri>
+        ensures { option_copied result ≡ self.now.activity.in_reply_to }
+    {
+        match rare_of_own(&self.own) {
+            Some(rare) => rare.in_reply_to.as_ref(),
+            None => None,
+        }
+    }
+
+    /// What it says.
+    pub fn content(&self) -> Option<&Text>
+        ensures { option_copied result ≡ self.now.activity.content }
+    {
+        match rare_of_own(&self.own) {
+            Some(rare) => rare.content.as_ref(),
+            None => None,
+        }
+    }
+
+    /// Its summary.
+    pub fn summary(&self) -> Option<&Text>
+        ensures { option_copied result ≡ self.now.activity.summary }
+    {
+        match rare_of_own(&self.own) {
+            Some(rare) => rare.summary.as_ref(),
+            None => None,
+        }
+    }
+
+    /// Its name.
+    pub fn name(&self) -> Option<&Text>
+        ensures { option_copied result ≡ self.now.activity.name }
+    {
+        match rare_of_own(&self.own) {
+            Some(rare) => rare.name.as_ref(),
+            None => None,
+        }
+    }
+
+    /// When it was published.
+    pub fn published(&self) -> Option<&Text>
+        ensures { option_copied result ≡ self.now.activity.published }
+    {
+        match (&self.own, &self.about) {
+            (Some(own), _) => own.published.as_ref(),
+            (None, About::Whole(object)) => object.published.as_ref(),
+            (None, _) => None,
+        }
+    }
+
+    /// Whom it mentions.
+    pub fn tags(&self) -> &[Tag]
+        ensures { result.now ≡ self.now.activity.tags }
+    {
+        match rare_of_own(&self.own) {
+            Some(rare) => rare.tags.as_slice(),
+            None => &[],
+        }
+    }
+
+    /// Gives it another state.
+    pub fn set_state(&mut self, state: State)
+        ensures { self.new ≡ record self.old { state = state } }
+    {
+        self.state = state;
+    }
+
+    /// Whether it made an object that was deleted since (ActivityPub, section 6.4).
+    #[tactic(auto, unfolding(fedi_town::specs::Objects::is_deleted))]
+    pub fn is_deleted(&self) -> bool
+        ensures { result ≡ is_deleted self.now }
+    {
+        match (self.kind, self.state) {
+            (Kind::Create, State::Done) => self.about.is_tombstone(),
+            _ => false,
+        }
+    }
+
+    /// Changes the object that it carries by what an Update carries, which was accepted at the moment
+    /// `stamp` (ActivityPub, sections 6.3 and 7.3). It takes no memory.
+    #[tactic(auto, unfolding(fedi_town::specs::Objects::rewrite_act))]
+    pub fn update_object(&mut self, by: ObjectRef, stamp: Text)
+        ensures { self.new ≡ rewrite_act (update_object by stamp) self.old }
+    {
+        self.about.update(by, stamp);
+    }
+
+    /// Leaves a Tombstone of the object that it carries: `kind` is the type of a Tombstone, and `stamp`
+    /// the moment of the Delete (ActivityPub, sections 6.4 and 7.4). It takes no memory.
+    #[tactic(auto, unfolding(fedi_town::specs::Objects::rewrite_act))]
+    pub fn bury(&mut self, kind: Text, stamp: Text)
+        ensures { self.new ≡ rewrite_act (tombstone_of kind stamp) self.old }
+    {
+        self.about.bury(kind, stamp);
+    }
+
+    /// Lets the IRIs that come again and again, as the author's, share the texts of equal ones. Nothing
+    /// of it can be seen, and it takes no memory.
+    pub fn share(&mut self, pool: &mut Pool)
+        ensures { self.new ≡ self.old }
+    {
+        pool.share(&mut self.author);
+        self.about.share(pool);
+        share_own(&mut self.own, pool);
+        self.recipients.share(pool);
+    }
+}

@@ -1,0 +1,220 @@
+//! The object that an activity carries, as it is kept.
+
+ghost use Rattle.std.specs.Prelude.{◌≡◌, IfOk};
+ghost use Rattle.fedi_objects.specs.Objects.{stripped_object};
+ghost use Rattle.fedi_town.specs.Objects as objects;
+ghost use Rattle.fedi_kept.specs.Parts.{named_in, whole};
+
+use crate::iris::Iris;
+use crate::pool::Pool;
+use fedi_address::{Iri, Items, Recipients};
+use fedi_objects::{Change, Edit, Object, ObjectRef, ObjectView, StrippedObject, Tag};
+use fedi_text::Text;
+use std::alloc::{AllocError, Global};
+use std::mem;
+use std::snapshot::Snapshot;
+
+// Who is hidden from all but the author (ActivityPub, section 6). A contract sees them, and none is held.
+#[derive(Drop)]
+pub(crate) struct Hidden {
+    pub(crate) bto: Snapshot<Items<Iri>>,
+    pub(crate) bcc: Snapshot<Items<Iri>>,
+}
+
+// An object. What an Update or a Delete may change lies in place, so that neither takes memory.
+#[derive(Drop)]
+pub(crate) struct KeptObject {
+    pub(crate) id: Option<Iri>,
+    pub(crate) kind: Text,
+    pub(crate) attributed_to: Option<Iri>,
+    pub(crate) to: Iris,
+    pub(crate) cc: Iris,
+    pub(crate) audience: Iris,
+    pub(crate) in_reply_to: Option<Iri>,
+    pub(crate) content: Option<Text>,
+    pub(crate) summary: Option<Text>,
+    pub(crate) name: Option<Text>,
+    pub(crate) url: Option<Iri>,
+    pub(crate) published: Option<Text>,
+    pub(crate) updated: Option<Text>,
+    pub(crate) former_kind: Option<Text>,
+    pub(crate) deleted: Option<Text>,
+    pub(crate) tags: Items<Tag>,
+    pub(crate) hidden: Hidden,
+}
+
+// A property after a client's Update.
+fn edit<T: Drop>(property: &mut Option<T>, by: Edit<T>)
+    ensures { property.new ≡ objects.edit by property.old }
+{
+    match by {
+        Edit::Keep => {}
+        Edit::Remove => *property = None,
+        Edit::Give(value) => *property = Some(value),
+    }
+}
+
+// A list after a client's Update.
+fn edit_list<T: Drop>(list: &mut Items<T>, by: Edit<Items<T>>)
+    ensures { list.new ≡ objects.edit_list by list.old }
+{
+    match by {
+        Edit::Keep => {}
+        Edit::Remove => *list = Items::empty(list.allocator()),
+        Edit::Give(values) => *list = values,
+    }
+}
+
+/// Whom `bto` and `bcc` name, for contracts alone.
+pub(crate) fn hidden_of(recipients: &Recipients) -> Hidden
+    ensures bto { result.bto.value ≡ recipients.now.bto }
+    ensures bcc { result.bcc.value ≡ recipients.now.bcc }
+{
+    Hidden {
+        bto: Snapshot::of(&recipients.bto),
+        bcc: Snapshot::of(&recipients.bcc),
+    }
+}
+
+impl KeptObject {
+    /// The object, made ready to be kept. The error is out of memory.
+    pub(crate) fn new(alloc: Global, object: Object) -> Result<KeptObject, AllocError>
+        ensures { IfOk result (λ kept. whole kept ≡ object) }
+    {
+        let Object {
+            id,
+            kind,
+            attributed_to,
+            recipients,
+            in_reply_to,
+            content,
+            summary,
+            name,
+            url,
+            published,
+            updated,
+            former_kind,
+            deleted,
+            tags,
+        } = object;
+        let hidden = hidden_of(&recipients);
+        let Recipients {
+            to,
+            cc,
+            bto: _,
+            bcc: _,
+            audience,
+        } = recipients;
+        let to = Iris::new(alloc, to)?;
+        let cc = Iris::new(alloc, cc)?;
+        let audience = Iris::new(alloc, audience)?;
+        Ok(KeptObject {
+            id,
+            kind,
+            attributed_to,
+            to,
+            cc,
+            audience,
+            in_reply_to,
+            content,
+            summary,
+            name,
+            url,
+            published,
+            updated,
+            former_kind,
+            deleted,
+            tags,
+            hidden,
+        })
+    }
+
+    /// The object without its `bto` and `bcc`.
+    pub(crate) fn strip(&self) -> StrippedObject<'_>
+        ensures { result ≡ stripped_object (whole self.now) }
+    {
+        StrippedObject::of(ObjectView {
+            id: self.id.as_ref(),
+            kind: &self.kind,
+            attributed_to: self.attributed_to.as_ref(),
+            to: self.to.as_slice(),
+            cc: self.cc.as_slice(),
+            audience: self.audience.as_slice(),
+            in_reply_to: self.in_reply_to.as_ref(),
+            content: self.content.as_ref(),
+            summary: self.summary.as_ref(),
+            name: self.name.as_ref(),
+            url: self.url.as_ref(),
+            published: self.published.as_ref(),
+            updated: self.updated.as_ref(),
+            former_kind: self.former_kind.as_ref(),
+            deleted: self.deleted.as_ref(),
+            tags: self.tags.as_slice(),
+        })
+    }
+
+    // The object after a client's Update.
+    #[tactic(auto, unfolding(fedi_town::specs::Objects::change_object))]
+    fn change(&mut self, by: Change, stamp: Text)
+        ensures changed { whole self.new ≡ objects.change_object by stamp (whole self.old) }
+        ensures named { named_in self.new ≡ named_in self.old }
+    {
+        edit(&mut self.content, by.content);
+        edit(&mut self.summary, by.summary);
+        edit(&mut self.name, by.name);
+        edit(&mut self.url, by.url);
+        edit(&mut self.in_reply_to, by.in_reply_to);
+        edit_list(&mut self.tags, by.tags);
+        self.updated = Some(stamp);
+    }
+
+    // The object after a peer's Update, which gives it whole.
+    #[tactic(auto, unfolding(fedi_town::specs::Objects::replace_object))]
+    fn replace(&mut self, by: Object)
+        ensures replaced { whole self.new ≡ objects.replace_object by (whole self.old) }
+        ensures named { named_in self.new ≡ named_in self.old }
+    {
+        self.content = by.content;
+        self.summary = by.summary;
+        self.name = by.name;
+        self.url = by.url;
+        self.in_reply_to = by.in_reply_to;
+        self.tags = by.tags;
+        self.updated = by.updated;
+    }
+
+    /// Changes the object by what an Update carries, of a client (ActivityPub, section 6.3) or of a
+    /// peer (section 7.3). It takes no memory.
+    pub(crate) fn update(&mut self, by: ObjectRef, stamp: Text)
+        ensures updated { whole self.new ≡ objects.update_object by stamp (whole self.old) }
+        ensures named { named_in self.new ≡ named_in self.old }
+    {
+        match by {
+            ObjectRef::Nothing | ObjectRef::Id(_) => {}
+            ObjectRef::Whole(new) => self.replace(new.into_inner()),
+            ObjectRef::Changed(by) => self.change(by, stamp),
+        }
+    }
+
+    /// Leaves a Tombstone of the object (ActivityPub, section 6.4). It takes no memory.
+    #[tactic(auto, unfolding(fedi_town::specs::Objects::tombstone_of))]
+    pub(crate) fn bury(&mut self, kind: Text, stamp: Text)
+        ensures buried { whole self.new ≡ objects.tombstone_of kind stamp (whole self.old) }
+        ensures named { named_in self.new ≡ named_in self.old }
+    {
+        let former = mem::replace(&mut self.kind, kind);
+        self.former_kind = Some(former);
+        self.deleted = Some(stamp);
+    }
+
+    /// Lets the IRIs that come again and again share the texts of equal ones.
+    pub(crate) fn share(&mut self, pool: &mut Pool)
+        ensures { self.new ≡ self.old }
+    {
+        pool.share_some(&mut self.attributed_to);
+        pool.share_some(&mut self.in_reply_to);
+        self.to.share(pool);
+        self.cc.share(pool);
+        self.audience.share(pool);
+    }
+}

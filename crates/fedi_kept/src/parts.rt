@@ -1,0 +1,182 @@
+//! What an activity has beside its object, as it is kept.
+
+ghost use Rattle.std.specs.Prelude.{◌≡◌, true, false, IfOk, [], option_copied};
+ghost use Rattle.fedi_kept.specs.Parts.{named_part, names_given, no_names, no_rare, object_names, rare_in, rare_lent, rare_part};
+
+use crate::about::About;
+use crate::iris::{Iris, are_same};
+use crate::object::KeptObject;
+use crate::pool::Pool;
+use fedi_address::{Iri, Items};
+use fedi_objects::Tag;
+use fedi_text::Text;
+use std::alloc::{AllocError, Global};
+
+// What few activities have.
+#[derive(Drop)]
+pub(crate) struct Rare {
+    pub(crate) target: Option<Iri>,
+    pub(crate) in_reply_to: Option<Iri>,
+    pub(crate) content: Option<Text>,
+    pub(crate) summary: Option<Text>,
+    pub(crate) name: Option<Text>,
+    pub(crate) tags: Items<Tag>,
+    pub(crate) forwards: Items<Iri>,
+}
+
+// What an activity has of its own, where that is not what its object has too.
+#[derive(Drop)]
+pub(crate) struct Parts {
+    pub(crate) to: Iris,
+    pub(crate) cc: Iris,
+    pub(crate) audience: Iris,
+    pub(crate) published: Option<Text>,
+    pub(crate) rare: Option<Box<Rare>>,
+}
+
+// Whom an activity names, and when it was published.
+#[derive(Drop)]
+pub(crate) struct Named {
+    pub(crate) to: Items<Iri>,
+    pub(crate) cc: Items<Iri>,
+    pub(crate) audience: Items<Iri>,
+    pub(crate) published: Option<Text>,
+}
+
+fn is_same_text(left: &Option<Text>, right: &Option<Text>) -> bool
+    ensures { result ≡ true → left.now ≡ right.now }
+{
+    match (left, right) {
+        (None, None) => true,
+        (Some(left), Some(right)) => left.text() == right.text(),
+        _ => false,
+    }
+}
+
+fn is_empty<T>(list: &Items<T>) -> bool
+    ensures { result ≡ true → list.now ≡ [] }
+{
+    list.as_slice().is_empty()
+}
+
+fn has_nothing(rare: &Rare) -> bool
+    ensures { result ≡ true → rare.now ≡ no_rare }
+{
+    rare.target.is_none()
+        && rare.in_reply_to.is_none()
+        && rare.content.is_none()
+        && rare.summary.is_none()
+        && rare.name.is_none()
+        && is_empty(&rare.tags)
+        && is_empty(&rare.forwards)
+}
+
+fn is_named_alike(named: &Named, object: &KeptObject) -> bool
+    ensures to { result ≡ true → named.now.to ≡ object.now.to }
+    ensures cc { result ≡ true → named.now.cc ≡ object.now.cc }
+    ensures audience { result ≡ true → named.now.audience ≡ object.now.audience }
+    ensures published { result ≡ true → named.now.published ≡ object.now.published }
+{
+    are_same(named.to.as_slice(), object.to.as_slice())
+        && are_same(named.cc.as_slice(), object.cc.as_slice())
+        && are_same(named.audience.as_slice(), object.audience.as_slice())
+        && is_same_text(&named.published, &object.published)
+}
+
+fn names_nobody(named: &Named) -> bool
+    ensures { result ≡ true → names_given named.now ≡ no_names }
+{
+    is_empty(&named.to)
+        && is_empty(&named.cc)
+        && is_empty(&named.audience)
+        && named.published.is_none()
+}
+
+// Whether an activity names whom its object names, and was published when its object was; without an
+// object, whether it names nobody.
+fn is_named_as_object(named: &Named, about: &About) -> bool
+    ensures { result ≡ true → names_given named.now ≡ object_names about.now }
+{
+    match about {
+        About::Whole(object) => is_named_alike(named, object),
+        About::Nothing | About::Id(_) | About::Changed(_) => names_nobody(named),
+    }
+}
+
+fn rare_of(alloc: Global, rare: Rare) -> Result<Option<Box<Rare>>, AllocError>
+    ensures { IfOk result (λ kept. rare_in kept ≡ rare) }
+{
+    if has_nothing(&rare) {
+        return Ok(None);
+    }
+    let rare = Box::new(alloc, rare)?;
+    Ok(Some(rare))
+}
+
+fn parts_of(
+    alloc: Global,
+    named: Named,
+    rare: Option<Box<Rare>>,
+) -> Result<Option<Box<Parts>>, AllocError>
+    ensures named { IfOk result (λ kept. (about : _) → named_part kept about ≡ names_given named) }
+    ensures rare { IfOk result (λ kept. rare_part kept ≡ rare_in rare) }
+{
+    let to = Iris::new(alloc, named.to)?;
+    let cc = Iris::new(alloc, named.cc)?;
+    let audience = Iris::new(alloc, named.audience)?;
+    let published = named.published;
+    let parts = Box::new(
+        alloc,
+        Parts {
+            to,
+            cc,
+            audience,
+            published,
+            rare,
+        },
+    )?;
+    Ok(Some(parts))
+}
+
+/// What an activity has of its own, where that is not what its object has too. The error is out of
+/// memory.
+pub(crate) fn own_of(
+    alloc: Global,
+    named: Named,
+    rare: Rare,
+    about: &About,
+) -> Result<Option<Box<Parts>>, AllocError>
+    ensures named { IfOk result (λ kept. named_part kept about.now ≡ names_given named) }
+    ensures rare { IfOk result (λ kept. rare_part kept ≡ rare) }
+{
+    let rare = rare_of(alloc, rare)?;
+    if rare.is_none() && is_named_as_object(&named, about) {
+        return Ok(None);
+    }
+    parts_of(alloc, named, rare)
+}
+
+/// What few activities have, where this one has something of it.
+pub(crate) fn rare_of_own(own: &Option<Box<Parts>>) -> Option<&Rare>
+    ensures { rare_lent (option_copied result) ≡ rare_part own.now }
+{
+    match own {
+        Some(own) => match &own.rare {
+            Some(rare) => Some(&**rare),
+            None => None,
+        },
+        None => None,
+    }
+}
+
+/// Lets the IRIs that come again and again share the texts of equal ones.
+pub(crate) fn share_own(own: &mut Option<Box<Parts>>, pool: &mut Pool)
+    ensures rare { rare_part own.new ≡ rare_part own.old }
+    ensures named { (about : _) → named_part own.new about ≡ named_part own.old about }
+{
+    if let Some(own) = own {
+        own.to.share(pool);
+        own.cc.share(pool);
+        own.audience.share(pool);
+    }
+}

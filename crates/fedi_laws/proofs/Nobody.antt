@@ -1,0 +1,22 @@
+-- Nobody is refused before the body of a post is looked at.
+use Rattle.std.proofs.Common.{◌≡◌, ℕ, Bool, true, false, List, Option, Some, None, refl}
+use Rattle.fedi_asks.specs.Answers.{Answer}
+use Rattle.fedi_asks.specs.Posting.{is_bad_key, post_answer}
+use Rattle.fedi_asks.specs.declared.post.Post.{Post}
+use Rattle.fedi_town.specs.declared.caller.Caller.TheVariants.{Nobody}
+use Rattle.fedi_town.specs.Towns.{Town, id_of}
+use Rattle.fedi_asks.specs.Asks.{answer_of}
+use Rattle.fedi_asks.specs.declared.ask.Ask.TheVariants.{Outbox}
+
+answered : (t : Town) (name : List ℕ) (post other : Post) (id : Option (List ℕ)) → is_bad_key post.key ≡ is_bad_key other.key
+    → post_answer t Nobody name post id ≡ post_answer t Nobody name other id
+answered t name post other None same = refl
+answered t name post other (Some id) same =
+    elim (is_bad_key other.key) as (λ b. is_bad_key other.key ≡ b → post_answer t Nobody name post (Some id) ≡ post_answer t Nobody name other (Some id)) [
+      | true ↦ λ bad. rw (same, bad) refl
+      | false ↦ λ good. rw (same, good) refl
+    ] refl
+
+pub nobody_is_answered : (t : Town) (name : List ℕ) (post other : Post) → is_bad_key post.key ≡ is_bad_key other.key
+    → answer_of t Nobody (Outbox name post) ≡ answer_of t Nobody (Outbox name other)
+nobody_is_answered t name post other same = answered t name post other (id_of t name) same

@@ -1,0 +1,166 @@
+//! The replies to what is read. Out of memory is the only error.
+
+ghost use Rattle.std.specs.Prelude.{◌≡◌, ◌&&◌, false, IfOk, IfSome, Some, option_copied, if◌then◌else◌};
+ghost use Rattle.std.specs.List.{find};
+ghost use Rattle.serde_json.specs.View.{view};
+ghost use Rattle.serde_json.specs.Written.{has_float};
+ghost use Rattle.fedi_asks.specs.Asks.{id_at};
+ghost use Rattle.fedi_asks.specs.Reading.{activity_answer, activity_document, object_answer, object_document};
+ghost use Rattle.fedi_model.specs.Replies.{reply_of, showing};
+ghost use Rattle.fedi_objects.specs.Forms.{is_tombstone};
+ghost use Rattle.fedi_town.specs.Ids.{activity_id, object_id};
+ghost use Rattle.fedi_town.specs.Objects.{makes};
+ghost use Rattle.fedi_town.specs.Relations.{has_activity_id};
+ghost use Rattle.fedi_town.specs.Rules.{seen_act, seen_maker};
+ghost use Rattle.fedi_town.specs.Seeing.{sees};
+
+use crate::seeing::sees;
+use crate::showing::{present_object, shown_of};
+use fedi_address::{Iri, LocalName};
+use fedi_effects::{Facts, has_activity_id, makes};
+use fedi_kept::Kept;
+use fedi_model::{Body, Form, Reply, refusal_reply};
+use fedi_objects::{StrippedObject, object_value, public_text, public_value};
+use fedi_town::{Caller, Refusal, activity_iri, object_iri};
+use http::StatusCode;
+use serde_json::Value;
+use std::alloc::{AllocError, Global};
+
+fn showing(alloc: Global, status: StatusCode, value: &Value) -> Result<Reply, AllocError>
+    requires { has_float (view value.now) ≡ false }
+    ensures { IfOk result (λ r. r ≡ showing status Form.Activity (view value.now)) }
+{
+    let text = public_text(alloc, value)?;
+    Ok(Reply {
+        status,
+        form: Form::Activity,
+        location: None,
+        allow: None,
+        body: Body::from(text),
+    })
+}
+
+// ---- activities
+
+#[tactic(auto, unfolding(fedi_asks::specs::Reading::activity_document))]
+fn activity_document(
+    alloc: Global,
+    facts: &Facts,
+    act: &Kept,
+    id: &Iri,
+) -> Result<Reply, AllocError>
+    requires { act.now.activity.id ≡ Some id.now }
+    ensures { IfOk result (λ r. r ≡ reply_of (activity_document facts.now.town act.now)) }
+{
+    let value = public_value(alloc, &shown_of(facts, act, id), true)?;
+    showing(alloc, StatusCode::OK, &value)
+}
+
+// The first of these that has this id and that the caller sees. It stands alone, as `first_maker`
+// does, since the proof of the function that calls it needs what the search finds.
+fn first_act<'a>(acts: &'a [Kept], facts: &Facts, caller: &Caller, id: &Iri) -> Option<&'a Kept>
+    ensures { option_copied result
+        ≡ find (λ x. has_activity_id id.now x && sees facts.now.town caller.now x) acts.now }
+{
+    acts.iter()
+        .find(|x| has_activity_id(x, id) && sees(facts, caller, x))
+}
+
+// The activity of this id, among those that the caller sees.
+fn seen_act<'a>(facts: &'a Facts, caller: &Caller, id: &Iri) -> Option<&'a Kept>
+    ensures found { option_copied result ≡ seen_act facts.now.town caller.now id.now }
+    ensures own { IfSome (option_copied result) (λ x. x.activity.id ≡ Some id.now) }
+{
+    first_act(facts.acts(), facts, caller, id)
+}
+
+/// The reply to who asks for the member's activity of this number: its document, where the caller
+/// sees it, and else that there is none (ActivityPub, section 3.2).
+pub fn activity_reply(
+    alloc: Global,
+    facts: &Facts,
+    caller: &Caller,
+    name: &LocalName,
+    number: u32,
+) -> Result<Reply, AllocError>
+    ensures { IfOk result (λ r. r ≡ reply_of (activity_answer facts.now.town caller.now
+        (id_at facts.now.town.host activity_id name.now number))) }
+{
+    let Some(host) = facts.host() else {
+        return Ok(refusal_reply(Refusal::NotFound));
+    };
+    let id = activity_iri(alloc, host, name, u64::from(number))?;
+    match seen_act(facts, caller, &id) {
+        Some(act) => activity_document(alloc, facts, act, &id),
+        None => Ok(refusal_reply(Refusal::NotFound)),
+    }
+}
+
+// ---- objects
+
+// The status with which an object is shown: what is left of a deleted one is gone.
+fn status_of(object: &StrippedObject) -> StatusCode
+    ensures { result ≡ (if is_tombstone object.now then 410 else 200) }
+{
+    if object.is_tombstone() {
+        StatusCode::GONE
+    } else {
+        StatusCode::OK
+    }
+}
+
+#[tactic(auto, using(crate::proofs::ShownForms::shown_object))]
+fn object_document(alloc: Global, object: &StrippedObject) -> Result<Reply, AllocError>
+    ensures { IfOk result (λ r. r ≡ reply_of (object_document (Some object.now))) }
+{
+    let value = object_value(alloc, object, true, true)?;
+    showing(alloc, status_of(object), &value)
+}
+
+// The first of these that made the object of this id and that the caller sees.
+fn first_maker<'a>(acts: &'a [Kept], facts: &Facts, caller: &Caller, id: &Iri) -> Option<&'a Kept>
+    ensures { option_copied result
+        ≡ find (λ x. makes id.now x && sees facts.now.town caller.now x) acts.now }
+{
+    acts.iter().find(|x| makes(x, id) && sees(facts, caller, x))
+}
+
+// The activity that made the object of this id, among those that the caller sees.
+fn seen_maker<'a>(facts: &'a Facts, caller: &Caller, id: &Iri) -> Option<&'a Kept>
+    ensures { option_copied result ≡ seen_maker facts.now.town caller.now id.now }
+{
+    first_maker(facts.acts(), facts, caller, id)
+}
+
+// The object of this id, if the caller sees the activity that made it.
+fn seen_object<'a>(facts: &'a Facts, caller: &Caller, id: &Iri) -> Option<StrippedObject<'a>>
+    ensures { object_document result ≡ object_answer facts.now.town caller.now (Some id.now) }
+{
+    match seen_maker(facts, caller, id) {
+        Some(act) => present_object(facts, act),
+        None => None,
+    }
+}
+
+/// The reply to who asks for the object that the member's activity of this number made: its document,
+/// or the Tombstone that is left of it, where the caller sees the activity, and else that there is
+/// none (ActivityPub, sections 3.2 and 6.4).
+pub fn object_reply(
+    alloc: Global,
+    facts: &Facts,
+    caller: &Caller,
+    name: &LocalName,
+    number: u32,
+) -> Result<Reply, AllocError>
+    ensures { IfOk result (λ r. r ≡ reply_of (object_answer facts.now.town caller.now
+        (id_at facts.now.town.host object_id name.now number))) }
+{
+    let Some(host) = facts.host() else {
+        return Ok(refusal_reply(Refusal::NotFound));
+    };
+    let id = object_iri(alloc, host, name, u64::from(number))?;
+    match seen_object(facts, caller, &id) {
+        Some(object) => object_document(alloc, &object),
+        None => Ok(refusal_reply(Refusal::NotFound)),
+    }
+}

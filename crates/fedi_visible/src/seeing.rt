@@ -1,0 +1,55 @@
+//! Who sees what.
+
+ghost use Rattle.std.specs.Prelude.{◌≡◌};
+ghost use Rattle.std.specs.List.{list_any};
+ghost use Rattle.fedi_town.specs.Seeing.{is_of_peer, reaches, sees};
+
+use fedi_address::{Host, Iri};
+use fedi_effects::{Facts, sees_as};
+use fedi_kept::Kept;
+use fedi_town::Caller;
+
+#[tactic(auto, unfolding(fedi_town::specs::Seeing::is_of_peer))]
+fn is_of_peer(host: &Host, iri: &Iri) -> bool
+    ensures { result ≡ is_of_peer host.now iri.now }
+{
+    iri.host() == host.text()
+}
+
+#[tactic(auto, unfolding(fedi_town::specs::Seeing::reaches))]
+fn reaches(facts: &Facts, host: &Host, author: &Iri, recipient: &Iri) -> bool
+    ensures { result ≡ reaches facts.now.town host.now author.now recipient.now }
+{
+    is_of_peer(host, recipient) && !facts.has_block_between(recipient, author)
+}
+
+// Whether the activity goes to somebody of the other server whom no Block keeps away.
+fn reaches_any(facts: &Facts, host: &Host, author: &Iri, recipients: &[Iri]) -> bool
+    ensures { result ≡ list_any (reaches facts.now.town host.now author.now) recipients.now }
+{
+    recipients
+        .iter()
+        .any(|iri| reaches(facts, host, author, iri))
+}
+
+/// Whether the caller sees the activity (ActivityPub, sections 5, 6 and 6.9): a member sees what the
+/// member wrote, and where no Block stands between member and author what is public and what goes to
+/// the member; a peer what is public, of the peer or to somebody of the peer whom no Block keeps
+/// away; everybody else what is public.
+#[tactic(auto, unfolding(fedi_town::specs::Seeing::sees))]
+pub fn sees(facts: &Facts, caller: &Caller, act: &Kept) -> bool
+    ensures { result ≡ sees facts.now.town caller.now act.now }
+{
+    match caller {
+        Caller::Nobody => act.is_public(),
+        Caller::Actor(name) => match facts.id_of(name) {
+            Some(id) => sees_as(facts, id, act),
+            None => act.is_public(),
+        },
+        Caller::Peer(host) => {
+            act.is_public()
+                || is_of_peer(host, act.author())
+                || reaches_any(facts, host, act.author(), act.recipients())
+        }
+    }
+}

@@ -1,0 +1,91 @@
+//! What is shown of an activity.
+
+ghost use Rattle.std.specs.Prelude.{◌≡◌, Bool, Some, true, option_copied, option_map};
+ghost use Rattle.fedi_objects.specs.Forms.{activity_form, object_in, shown_in};
+ghost use Rattle.fedi_objects.specs.Objects.{stripped_object};
+ghost use Rattle.fedi_town.specs.Objects.{object_of, maker_of, whole_of};
+ghost use Rattle.fedi_town.specs.Relations.{ref_id};
+ghost use Rattle.fedi_town.specs.Showing.{object_or_id, present_object, ref_to, shown_activity, shown_ref};
+
+use fedi_address::Iri;
+use fedi_effects::Facts;
+use fedi_kept::Kept;
+use fedi_objects::{Shown, ShownObject, State, StrippedObject};
+use fedi_town::Deed;
+
+// The object that an Update of this id changed, as it stands now.
+fn changed_object<'a>(facts: &'a Facts, id: Option<&Iri>) -> Option<StrippedObject<'a>>
+    ensures { result
+        ≡ option_map stripped_object (object_of (maker_of facts.now.town (option_copied id.entry))) }
+{
+    match id {
+        Some(id) => facts.maker(id)?.object(),
+        None => None,
+    }
+}
+
+/// The object of an activity as it stands now: what a Create made, and what an Update changed, where
+/// they were done.
+#[tactic(auto, unfolding(fedi_town::specs::Showing::present_object))]
+pub fn present_object<'a>(facts: &'a Facts, act: &'a Kept) -> Option<StrippedObject<'a>>
+    ensures { result ≡ option_map stripped_object (present_object facts.now.town act.now) }
+{
+    match (act.deed(), act.state()) {
+        (Deed::Create, State::Done) => act.object(),
+        (Deed::Update, State::Done) => changed_object(facts, act.object_id()),
+        _ => None,
+    }
+}
+
+fn id_or_nothing(id: Option<&Iri>) -> ShownObject<'_>
+    ensures { object_in result ≡ ref_to (option_copied id.entry) }
+{
+    match id {
+        Some(id) => ShownObject::Id(id),
+        None => ShownObject::Nothing,
+    }
+}
+
+// What an activity is about: its object as it stands now, where there is one, else its address.
+#[tactic(auto, unfolding(fedi_town::specs::Showing::shown_ref))]
+fn shown_object<'a>(facts: &'a Facts, act: &'a Kept) -> ShownObject<'a>
+    ensures { object_in result ≡ shown_ref facts.now.town act.now }
+{
+    match present_object(facts, act) {
+        Some(object) => ShownObject::Present(object),
+        None => id_or_nothing(act.object_id()),
+    }
+}
+
+/// What those see of a member's activity of this id who may see it: without `bto` and `bcc`, and with
+/// its object as it stands now (ActivityPub, section 6).
+#[tactic(auto, using(crate::proofs::ShownForms::shown_form))]
+pub fn shown_of<'a>(facts: &'a Facts, act: &'a Kept, id: &'a Iri) -> Shown<'a>
+    requires { act.now.activity.id ≡ Some id.now }
+    ensures local { result.local ≡ true }
+    ensures state { result.state ≡ act.now.state }
+    ensures public { result.public ≡ act.now.is_public }
+    ensures form { (local context : Bool)
+        → activity_form local context result.author.now (shown_in result)
+        ≡ activity_form local context act.now.author (shown_activity facts.now.town act.now) }
+{
+    Shown {
+        id,
+        author: act.author(),
+        kind: act.kind(),
+        target: act.target(),
+        to: act.to(),
+        cc: act.cc(),
+        audience: act.audience(),
+        in_reply_to: act.in_reply_to(),
+        content: act.content(),
+        summary: act.summary(),
+        name: act.name(),
+        published: act.published(),
+        tags: act.tags(),
+        state: act.state(),
+        public: act.is_public(),
+        local: true,
+        object: shown_object(facts, act),
+    }
+}
