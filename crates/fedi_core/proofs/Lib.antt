@@ -2,3 +2,4 @@ pub mod Commanding
 pub mod Accepting
 pub mod Growing
 pub mod Judging
+pub mod Crashing

@@ -2,3 +2,4 @@ pub mod Judging
 pub mod Keeping
 pub mod Commands
 pub mod Machines
+pub mod Crashing

@@ -11,12 +11,13 @@ ghost use Rattle.fedi_town.specs.Towns.{id_of};
 use crate::posts::{Judged, judge};
 use crate::profiles::{actor_reply, webfinger_reply, wrong_method_reply};
 use fedi_address::{Host, Iri, LocalName};
+use fedi_collections::collection_reply;
 use fedi_effects::Facts;
 use fedi_model::{Ask, Body, Form, Post, Reply, refusal_reply};
 use fedi_objects::Entry;
 use fedi_text::Moment;
 use fedi_town::{Caller, Refusal, activity_iri};
-use fedi_visible::{activity_reply, object_reply};
+use fedi_visible::{Shelf, activity_reply, object_reply};
 use http::StatusCode;
 use std::alloc::{AllocError, Global};
 
@@ -110,18 +111,21 @@ fn decide_post(
     }
 }
 
-/// Decides on an ask by the facts of a history. The only error is out of memory.
-pub fn decide(
+/// Decides on an ask by the history on a shelf. The only error is out of memory.
+pub fn decide<S: Shelf>(
     alloc: Global,
-    facts: &Facts,
+    shelf: &S,
     caller: &Caller,
     ask: Ask,
     moment: Moment,
 ) -> Result<Decision, AllocError>
     requires { IsTrue (is_built_ask ask) }
-    ensures reply { IfOk result (λ d. d.reply ≡ reply facts.now.town caller.now ask) }
-    ensures entry { IfOk result (λ d. d.entry ≡ entry_of facts.now.town caller.now ask moment) }
+    ensures reply { IfOk result (λ d.
+        d.reply ≡ reply (S.holding shelf.now).town caller.now ask) }
+    ensures entry { IfOk result (λ d.
+        d.entry ≡ entry_of (S.holding shelf.now).town caller.now ask moment) }
 {
+    let facts = shelf.facts();
     let reply = match ask {
         Ask::Nowhere => refusal_reply(Refusal::NotFound),
         Ask::WrongMethod(allow) => wrong_method_reply(allow),
@@ -132,7 +136,7 @@ pub fn decide(
         Ask::Outbox(name, post) => {
             return decide_post(alloc, facts, caller, name, post, moment);
         }
-        Ask::Collection(..) => unreachable!(),
+        Ask::Collection(which, part) => collection_reply(alloc, shelf, caller, &which, &part)?,
         Ask::Inbox(..) => unreachable!(),
     };
     Ok(Decision { reply, entry: None })

@@ -4,14 +4,15 @@ ghost use Rattle.std.specs.Prelude.{◌≡◌, ◌++◌, ◌∷◌, [], ◌+◌,
 ghost use Rattle.fedi_entry.specs.Codes.{code_of};
 ghost use Rattle.fedi_town.specs.Built.{is_built};
 ghost use Rattle.fedi_outside.specs.Keepers.{HasAdded, HasRoom};
+ghost use Rattle.fedi_core.specs.Crashing.{PassesTimeUnkept, PassesTimeWith};
 ghost use Rattle.fedi_core.specs.Keeping.{Refuses};
 ghost use Rattle.fedi_core.specs.Machines.{IsGrown, IsSame};
 ghost use Rattle.fedi_core.specs.declared.keeping.KeepFault.TheVariants.{Memory};
 
-use fedi_effects::Facts;
 use fedi_entry::encode;
 use fedi_objects::Entry;
 use fedi_outside::{Failed, Keeper, ReserveFault};
+use fedi_visible::Shelf;
 use std::alloc::{AllocError, Global};
 use thiserror::Error;
 
@@ -56,6 +57,12 @@ pub fn store<P: Keeper>(keeper: &mut P, code: &[u8]) -> Result<(), KeepFault>
     // The keeper was asked for room, and there was room.
     ensures memory { IsErrOf result KeepFault.Memory
         → HasRoom P.room (P.shown keeper.old).end (length code.now) }
+    // A crash on the way leaves the records, with the one in doubt, or with this one.
+    ensures time { let k = P.shown keeper.old in OnOk result
+        (PassesTimeWith k.records k.doubt code.now (P.crashes keeper.old) (P.crashes keeper.new)) }
+    ensures time_refused { let k = P.shown keeper.old in IfErr result (λ fault.
+        PassesTimeUnkept fault k.records k.doubt code.now
+        (P.crashes keeper.old) (P.crashes keeper.new)) }
 {
     match keeper.reserve(code.len()) {
         Ok(()) => {}
@@ -71,19 +78,19 @@ pub fn store<P: Keeper>(keeper: &mut P, code: &[u8]) -> Result<(), KeepFault>
     }
 }
 
-/// Keeps the bytes of an entry, after all that takes memory. Then the facts have what the entry makes and
+/// Keeps the bytes of an entry, after all that takes memory. Then the shelf has what the entry makes and
 /// the history has room for it; after an error both are as before.
-pub fn store_entry<P: Keeper>(
+pub fn store_entry<S: Shelf, P: Keeper>(
     alloc: Global,
-    facts: &mut Facts,
+    shelf: &mut S,
     history: &mut Vec<Entry>,
     keeper: &mut P,
     entry: &Entry,
 ) -> Result<(), KeepFault>
     requires { IsTrue (is_built entry.now) }
-    ensures facts { OnOk result (IsGrown facts.old entry.now facts.new) }
+    ensures grown { OnOk result (IsGrown (S.holding shelf.old) entry.now (S.holding shelf.new)) }
     ensures room { OnOk result (vec_len history.new + 1 ≤ vec_capacity history.new) }
-    ensures facts_kept { OnErr result (IsSame facts.old facts.new) }
+    ensures same { OnErr result (IsSame (S.holding shelf.old) (S.holding shelf.new)) }
     ensures history { history.new.items ≡ history.old.items }
     ensures fits { OnOk result
         (HasRoom P.room (P.shown keeper.old).end (length (code_of entry.now))) }
@@ -91,12 +98,17 @@ pub fn store_entry<P: Keeper>(
         (HasAdded P.growth (code_of entry.now) (P.shown keeper.old) (P.shown keeper.new)) }
     ensures refused { IfErr result (λ fault.
         Refuses P.room (code_of entry.now) fault (P.shown keeper.old) (P.shown keeper.new)) }
+    ensures time { let k = P.shown keeper.old in OnOk result (PassesTimeWith k.records k.doubt
+        (code_of entry.now) (P.crashes keeper.old) (P.crashes keeper.new)) }
+    ensures time_refused { let k = P.shown keeper.old in IfErr result (λ fault.
+        PassesTimeUnkept fault k.records k.doubt (code_of entry.now)
+        (P.crashes keeper.old) (P.crashes keeper.new)) }
 {
     let code = encode(alloc, entry)?;
     history.reserve(1)?;
-    facts.reserve(alloc, entry)?;
+    shelf.reserve(alloc, entry)?;
     store(keeper, &code)?;
-    facts.apply(entry);
+    shelf.push(entry);
     Ok(())
 }
 

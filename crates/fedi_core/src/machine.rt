@@ -15,7 +15,9 @@ ghost use Rattle.fedi_model.specs.Credentials.{shown_by as credentials_shown_by}
 ghost use Rattle.fedi_model.specs.Replies.{IsPrivate, reply};
 ghost use Rattle.fedi_model.specs.Routes.{IsPostableAt};
 ghost use Rattle.fedi_core.specs.Commands.{IsCommand, RefusesCommand};
+ghost use Rattle.fedi_core.specs.Crashing.{PassesTimeRefused, PassesTimeUnkept, PassesTimeWith};
 ghost use Rattle.fedi_core.specs.Keeping.{HidesPosts, IsKept, MayAdd, Refuses};
+ghost use Rattle.fedi_visible.specs.Shelves.{empty_holding};
 
 use crate::deciding::{Decision, decide};
 use crate::keeping::{KeepError, KeepFault, push, store_entry};
@@ -27,39 +29,41 @@ use fedi_objects::Entry;
 use fedi_outside::Keeper;
 use fedi_text::Moment;
 use fedi_town::{Caller, CommandFault, Refusal};
+use fedi_visible::Shelf;
 use std::alloc::{AllocError, Global};
 use std::marker::Model;
 
-/// The machine: a legal history of entries that this server takes so far, with the facts that it has
-/// made, and the keeper of its records. A contract sees it as its history and its keeper.
+/// The machine: a legal history of entries that this server takes so far, with the shelf that stands for
+/// it, and the keeper of its records. A contract sees it as its history and its keeper.
 #[derive(Drop)]
-pub struct Core<P: Keeper> {
+pub struct Core<S: Shelf, P: Keeper> {
     history: Vec<Entry>,
-    facts: Facts,
+    shelf: S,
     keeper: P,
 }
 
-impl<P: Keeper> Model for Core<P> {
+impl<S: Shelf, P: Keeper> Model for Core<S, P> {
     ghost use Rattle.fedi_core.specs.Machines.{Machine, Stands};
 
     ghost Value = { Machine P };
 
     ghost view = { λ c. record { history = c.history.items; keeper = c.keeper } };
 
-    ghost invariant = { λ c. Stands c.facts c.history.items };
+    ghost invariant = { λ c. Stands (S.holding c.shelf) c.history.items };
 }
 
-fn facts_of(alloc: Global, history: &[Entry]) -> Result<Facts, AllocError>
-    requires { IsTrue (are_built history.now) }
-    ensures held { IfOk result (λ facts. facts.history ≡ history.now) }
-    ensures made { IfOk result (λ facts. facts.town ≡ town history.now) }
+// Puts a history on a shelf that is empty.
+fn fill<S: Shelf>(alloc: Global, shelf: &mut S, history: &[Entry]) -> Result<(), AllocError>
+    requires empty { S.holding shelf.old ≡ empty_holding }
+    requires built { IsTrue (are_built history.now) }
+    ensures held { OnOk result ((S.holding shelf.new).history ≡ history.now) }
+    ensures made { OnOk result ((S.holding shelf.new).town ≡ town history.now) }
 {
-    let mut facts = Facts::empty(alloc)?;
     for entry in history {
-        facts.reserve(alloc, entry)?;
-        facts.apply(entry);
+        shelf.reserve(alloc, entry)?;
+        shelf.push(entry);
     }
-    Ok(facts)
+    Ok(())
 }
 
 fn member_with(facts: &Facts, key: &[u8; 32]) -> Result<Caller, Refusal>
@@ -83,10 +87,17 @@ fn caller_of(facts: &Facts, credentials: &Credentials) -> Result<Caller, Refusal
     }
 }
 
-impl<P: Keeper> Core<P> {
-    /// The machine over a legal history of entries that this server takes so far, with the keeper of
-    /// its records. The error is out of memory, and hands both back.
-    pub fn open(alloc: Global, history: Vec<Entry>, keeper: P) -> Result<Core<P>, (Vec<Entry>, P)>
+impl<S: Shelf + Drop, P: Keeper> Core<S, P> {
+    /// The machine over a legal history of entries that this server takes so far, on a shelf that is
+    /// empty, with the keeper of its records. The error is out of memory, and hands history and keeper
+    /// back.
+    pub fn open(
+        alloc: Global,
+        history: Vec<Entry>,
+        shelf: S,
+        keeper: P,
+    ) -> Result<Core<S, P>, (Vec<Entry>, P)>
+        requires empty { S.holding shelf ≡ empty_holding }
         requires legal { IsLegal history.items }
         requires built { IsTrue (are_built history.items) }
         ensures ok { IfOk result (λ core.
@@ -94,10 +105,11 @@ impl<P: Keeper> Core<P> {
         ensures err { IfErr result (λ back. back.0.items ≡ history.items) }
         ensures err_keeper { IfErr result (λ back. back.1 ≡ keeper) }
     {
-        match facts_of(alloc, &history) {
-            Ok(facts) => Ok(Core {
+        let mut shelf = shelf;
+        match fill(alloc, &mut shelf, &history) {
+            Ok(()) => Ok(Core {
                 history,
-                facts,
+                shelf,
                 keeper,
             }),
             Err(AllocError) => Err((history, keeper)),
@@ -108,7 +120,7 @@ impl<P: Keeper> Core<P> {
     pub fn host(&self) -> Option<&Host>
         ensures { option_copied result ≡ (town self.now.history).host }
     {
-        self.facts.host()
+        self.shelf.facts().host()
     }
 
     /// Who makes a request with these credentials (RFC 6750, section 2.1): nobody without any, and the
@@ -118,7 +130,7 @@ impl<P: Keeper> Core<P> {
         ensures { result
             ≡ caller_by (town self.now.history) (credentials_shown_by credentials.now) }
     {
-        caller_of(&self.facts, credentials)
+        caller_of(self.shelf.facts(), credentials)
     }
 
     /// Decides on an ask at a moment (ActivityPub, sections 3.2, 4.1 and 6; RFC 7033, section 4.2): the
@@ -140,7 +152,7 @@ impl<P: Keeper> Core<P> {
         // Each legal history that agrees with this one on what the caller may know gives the same reply.
         ensures private { IfOk result (λ d. IsPrivate self.now.history caller.now ask d.reply) }
     {
-        decide(alloc, &self.facts, caller, ask, moment)
+        decide(alloc, &self.shelf, caller, ask, moment)
     }
 
     /// Appends the entry of a post to the history, once the keeper has its bytes. All that takes memory
@@ -157,12 +169,19 @@ impl<P: Keeper> Core<P> {
         ensures same { OnErr result (self.new.history ≡ self.old.history) }
         ensures legal { IsLegal self.new.history }
         ensures built { IsTrue (are_built self.new.history) }
+        // A crash on the way leaves the keeper's records, with the one in doubt, or with the entry's.
+        ensures time { let k = P.shown self.old.keeper in OnOk result
+            (PassesTimeWith k.records k.doubt (code_of entry)
+            (P.crashes self.old.keeper) (P.crashes self.new.keeper)) }
+        ensures time_refused { let k = P.shown self.old.keeper in IfErr result (λ e.
+            PassesTimeUnkept e.fault k.records k.doubt (code_of entry)
+            (P.crashes self.old.keeper) (P.crashes self.new.keeper)) }
         // A post that changes nothing earlier tells nothing to a caller who does not see it.
         ensures unseen { HidesPosts self.old.history self.new.history }
     {
         match store_entry(
             alloc,
-            &mut self.facts,
+            &mut self.shelf,
             &mut self.history,
             &mut self.keeper,
             &entry,
@@ -189,8 +208,14 @@ impl<P: Keeper> Core<P> {
         ensures same { OnErr result (self.new.history ≡ self.old.history) }
         ensures legal { IsLegal self.new.history }
         ensures built { IsTrue (are_built self.new.history) }
+        ensures time { let k = P.shown self.old.keeper in OnOk result
+            (PassesTimeWith k.records k.doubt (code_of entry)
+            (P.crashes self.old.keeper) (P.crashes self.new.keeper)) }
+        ensures time_refused { let k = P.shown self.old.keeper in IfErr result (λ fault.
+            PassesTimeRefused fault k.records k.doubt (code_of entry)
+            (P.crashes self.old.keeper) (P.crashes self.new.keeper)) }
     {
-        self.facts.judge_command(&entry)?;
+        self.shelf.facts().judge_command(&entry)?;
         match self.keep(alloc, entry) {
             Ok(()) => Ok(()),
             Err(error) => match error.fault {
@@ -210,7 +235,7 @@ impl<P: Keeper> Core<P> {
     {
         let Core {
             history,
-            facts: _,
+            shelf: _,
             keeper,
         } = self;
         (history, keeper)

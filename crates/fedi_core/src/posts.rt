@@ -2,7 +2,6 @@
 
 ghost use Rattle.std.specs.Prelude.{◌≡◌, ℕ, List, Option, Some, MatchResult};
 ghost use Rattle.fedi_asks.specs.Posting.{is_bad_key, Judgement, judge_activity, judge_post, repeat_by, repeat_under, unless_repeat};
-ghost use Rattle.fedi_asks.specs.Reading.{is_nobody, is_self};
 ghost use Rattle.fedi_core.specs.Judging.{IsAdmitted, IsJudged, IsTurnedAway, told_of};
 ghost use Rattle.fedi_town.specs.Agreement.{repeats_of};
 ghost use Rattle.fedi_town.specs.Towns.{id_of};
@@ -13,6 +12,7 @@ use fedi_effects::{Facts, Repeat, judge_local};
 use fedi_model::{KeyAsk, Post, Read, Reply, misshapen_reply, refusal_reply};
 use fedi_objects::{Activity, Boxed, RepeatKey};
 use fedi_town::{Caller, Refusal};
+use fedi_visible::{is_nobody, is_self};
 
 /// The most activities that a member may have.
 const MOST: usize = 4_294_967_295;
@@ -34,24 +34,6 @@ fn is_bad_key(key: &KeyAsk) -> bool
     match key {
         KeyAsk::Malformed => true,
         KeyAsk::Absent | KeyAsk::Given(_) => false,
-    }
-}
-
-fn is_nobody(caller: &Caller) -> bool
-    ensures { result ≡ is_nobody caller.now }
-{
-    match caller {
-        Caller::Nobody => true,
-        Caller::Actor(_) | Caller::Peer(_) => false,
-    }
-}
-
-fn is_self(caller: &Caller, name: &LocalName) -> bool
-    ensures { result ≡ is_self caller.now name.now }
-{
-    match caller {
-        Caller::Actor(own) => own == name,
-        Caller::Nobody | Caller::Peer(_) => false,
     }
 }
 

@@ -1,22 +1,23 @@
 //! The replies to who asks who a member is, and to a method that a path does not have. Out of memory is
 //! the only error.
 
-ghost use Rattle.std.specs.Prelude.{◌≡◌, false, IfOk, option_copied};
-ghost use Rattle.serde_json.specs.View.{view};
-ghost use Rattle.serde_json.specs.Written.{has_float};
+ghost use Rattle.std.specs.Prelude.{◌≡◌, IfOk, option_copied};
+ghost use Rattle.serde_json.specs.Data.{Data};
+ghost use Rattle.fedi_asks.specs.Documents.{actor_form, jrd_form};
 ghost use Rattle.fedi_asks.specs.Reading.{actor_or_missing, profile_or_missing, webfinger_answer};
 ghost use Rattle.fedi_model.specs.Replies.{disallowed, reply_of, showing};
+ghost use Rattle.fedi_objects.specs.Writing.{IsDocument};
 ghost use Rattle.fedi_town.specs.Towns.{id_of};
 
-use fedi_address::LocalName;
+use fedi_address::{Host, LocalName};
 use fedi_effects::Facts;
 use fedi_model::{Allow, Body, Form, Reply, Resource, refusal_reply};
-use fedi_objects::public_text;
-use fedi_routes::{actor_value, jrd};
+use fedi_objects::{new_document, text_of};
+use fedi_routes::{write_actor, write_jrd};
 use fedi_text::Text;
 use fedi_town::Refusal;
 use http::StatusCode;
-use serde_json::Value;
+use json::Writer;
 use std::alloc::{AllocError, Global};
 
 /// The reply to a method that a path does not have, which tells those that it has (RFC 9110, sections
@@ -30,18 +31,37 @@ pub fn wrong_method_reply(allow: Allow) -> Reply
 }
 
 // A document of this media type.
-fn showing(alloc: Global, form: Form, value: &Value) -> Result<Reply, AllocError>
-    requires { has_float (view value.now) ≡ false }
-    ensures { IfOk result (λ r. r ≡ showing 200 form (view value.now)) }
+fn showing(form: Form, out: Writer) -> Reply
+    ensures { (d : Data) → IsDocument d out → result ≡ showing 200 form d }
 {
-    let text = public_text(alloc, value)?;
-    Ok(Reply {
+    Reply {
         status: StatusCode::OK,
         form,
         location: None,
         allow: None,
-        body: Body::from(text),
-    })
+        body: Body::from(text_of(out)),
+    }
+}
+
+fn actor_document(alloc: Global, name: &LocalName, host: &Host) -> Result<Reply, AllocError>
+    ensures { IfOk result (λ r. r ≡ showing 200 Form.Activity (actor_form host.now name.now)) }
+{
+    let mut out = new_document(alloc)?;
+    write_actor(&mut out, alloc, name, host)?;
+    Ok(showing(Form::Activity, out))
+}
+
+fn profile_document(
+    alloc: Global,
+    name: &LocalName,
+    host: &Host,
+    rels: &[Text],
+) -> Result<Reply, AllocError>
+    ensures { IfOk result (λ r. r ≡ showing 200 Form.Jrd (jrd_form host.now name.now rels.now)) }
+{
+    let mut out = new_document(alloc)?;
+    write_jrd(&mut out, alloc, name, host, rels)?;
+    Ok(showing(Form::Jrd, out))
 }
 
 /// The reply to who reads the actor document of the member of this name (ActivityPub, section 4.1).
@@ -55,8 +75,7 @@ pub fn actor_reply(alloc: Global, facts: &Facts, name: &LocalName) -> Result<Rep
     let Some(_id) = facts.id_of(name) else {
         return Ok(refusal_reply(Refusal::NotFound));
     };
-    let value = actor_value(alloc, name, host)?;
-    showing(alloc, Form::Activity, &value)
+    actor_document(alloc, name, host)
 }
 
 // The reply that describes the member of this name by these relations (RFC 7033, sections 4.2 to 4.4).
@@ -75,8 +94,7 @@ fn profile_reply(
     let Some(_id) = facts.id_of(name) else {
         return Ok(refusal_reply(Refusal::NotFound));
     };
-    let value = jrd(alloc, name, host, rels)?;
-    showing(alloc, Form::Jrd, &value)
+    profile_document(alloc, name, host, rels)
 }
 
 /// The reply to a query of WebFinger (RFC 7033, section 4.2): who the member is whom it names, 404 if it

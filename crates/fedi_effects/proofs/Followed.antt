@@ -9,7 +9,7 @@ use Rattle.fedi_town.specs.declared.act.Act.{Act}
 use Rattle.fedi_town.specs.Lists.{each_once}
 use Rattle.fedi_town.specs.Relations.{followers, is_following}
 use Rattle.fedi_town.specs.Towns.{Town}
-use Rattle.fedi_effects.specs.Following.{with_follower, with_one}
+use Rattle.fedi_register.specs.Following.{with_follower, with_one}
 
 -- those who follow b by these activities, and as often
 abbrev following : List ℕ → List Act → List (List ℕ)

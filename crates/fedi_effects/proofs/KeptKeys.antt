@@ -6,7 +6,9 @@ use Rattle.std.specs.Str.{bytes_eq}
 use Rattle.fedi_town.specs.declared.act.Act.{Act}
 use Rattle.fedi_town.specs.Agreement.{repeats_of}
 use Rattle.fedi_town.specs.Towns.{Town, is_by}
-use Rattle.fedi_effects.specs.Keys.{has_key, is_repeat, repeat_in}
+use Rattle.fedi_town.specs.Legal.{has_key}
+use Rattle.fedi_register.specs.Keys.{is_repeat}
+use Rattle.fedi_effects.specs.Repeats.{repeat_in}
 
 abbrev under : List ℕ → (List ℕ × List ℕ) × Option (List ℕ) → Bool
 under key r = bytes_eq r.0.0 key

@@ -1,14 +1,10 @@
 pub mod Apart
-pub mod Counts
 pub mod Finds
 pub mod FirstPlaces
 pub mod Followed
 pub mod Found
 pub mod Gathering
-pub mod Indexed
 pub mod KeptKeys
-pub mod Once
 pub mod Originals
-pub mod Places
 pub mod Prefixes
 pub mod Towns

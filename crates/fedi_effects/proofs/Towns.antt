@@ -17,8 +17,8 @@ use Rattle.fedi_laws.proofs.MadeOnce.{made_once}
 use Rattle.fedi_effects.specs.declared.ready.Ready.{Ready}
 use Rattle.fedi_effects.specs.declared.ready.Ready.TheVariants as ready
 use Rattle.fedi_effects.specs.Additions.{HasAuthors, IsBuiltAddition, addition_in, with_answerer, with_authors}
-use Rattle.fedi_effects.specs.Changes.{AreMadeOnce}
-use Rattle.fedi_effects.specs.Following.{with_one}
+use Rattle.fedi_register.specs.Changes.{AreMadeOnce}
+use Rattle.fedi_register.specs.Following.{with_one}
 
 -- ---- histories
 

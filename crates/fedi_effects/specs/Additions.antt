@@ -5,7 +5,7 @@ use Rattle.fedi_town.specs.declared.act.Act.{Act}
 use Rattle.fedi_town.specs.declared.addition.Addition.{Addition}
 use Rattle.fedi_town.specs.declared.addition.Addition.TheVariants as additions
 use Rattle.fedi_effects.specs.declared.ready.Ready.{Ready}
-use Rattle.fedi_effects.specs.Following.{with_one}
+use Rattle.fedi_register.specs.Following.{with_one}
 use Rattle.fedi_effects.specs.declared.ready.Ready.TheVariants as ready
 
 -- the addition that it was made of

@@ -1,9 +1,6 @@
 pub mod Additions
-pub mod Changes
-pub mod Following
 pub mod Gathering
 pub mod Holdings
-pub mod Keys
-pub mod Registers
+pub mod Repeats
 pub mod Stamps
 pub mod Subjects

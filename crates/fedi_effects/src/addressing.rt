@@ -4,7 +4,7 @@ ghost use Rattle.std.specs.Prelude.{◌≡◌, ◌<◌, IfOk, IfSome, OnOk, [], 
 ghost use Rattle.std.specs.List.{fold};
 ghost use Rattle.fedi_address.specs.Iris.{public_iri};
 ghost use Rattle.fedi_address.specs.Recipients.{all_of, is_among, names};
-ghost use Rattle.fedi_town.specs.Addressing.{is_of_town, is_recipient, recipients_with};
+ghost use Rattle.fedi_town.specs.Addressing.{is_nobody_here, is_of_town, is_recipient, recipients_with};
 ghost use Rattle.fedi_town.specs.Ids.{followers_id, is_of_host};
 ghost use Rattle.fedi_town.specs.Relations.{followers};
 ghost use Rattle.fedi_effects.specs.Gathering.{first_place, is_new_recipient, with_addressees, with_reached};
@@ -36,16 +36,24 @@ pub fn is_of_town(facts: &Facts, iri: &Iri) -> bool
     }
 }
 
+/// Whether the IRI is of this host, and no member's id.
+#[tactic(auto, unfolding(fedi_town::specs::Addressing::is_nobody_here))]
+pub fn is_nobody_here(facts: &Facts, iri: &Iri) -> bool
+    ensures { result ≡ is_nobody_here facts.now.town iri.now }
+{
+    is_of_town(facts, iri) && !facts.is_actor(iri)
+}
+
 // Whether this one may get the author's activity: Public is everybody and nobody's address
 // (ActivityPub, section 5.6), the author needs no copy, what is of this host and no member's id has no
 // inbox, and a Block keeps both sides away (6.9).
-#[tactic(auto, unfolding(fedi_town::specs::Addressing::is_recipient, fedi_town::specs::Addressing::is_nobody_here))]
+#[tactic(auto, unfolding(fedi_town::specs::Addressing::is_recipient))]
 fn is_recipient(facts: &Facts, author: &Iri, iri: &Iri) -> bool
     ensures { result ≡ is_recipient facts.now.town author.now iri.now }
 {
     !is_public(iri)
         && iri != author
-        && !(is_of_town(facts, iri) && !facts.is_actor(iri))
+        && !is_nobody_here(facts, iri)
         && !facts.has_block_between(iri, author)
 }
 

@@ -10,7 +10,6 @@ ghost use Rattle.fedi_town.specs.Relations.{ref_id};
 ghost use Rattle.fedi_town.specs.Showing.{ref_to};
 ghost use Rattle.fedi_effects.specs.Subjects.{subject_of};
 
-use crate::acts::{is_accepted, is_done, is_follow, is_standing};
 use crate::addressing::recipients_with;
 use crate::facts::Facts;
 use crate::states::count_after;
@@ -18,6 +17,7 @@ use crate::subjects::ref_id;
 use fedi_address::{Host, Iri, Items, Recipients};
 use fedi_kept::Kept;
 use fedi_objects::{Activity, Boxed, Kind, ObjectRef, State};
+use fedi_register::{is_accepted, is_done, is_follow, is_standing};
 use fedi_text::Text;
 use fedi_town::{Acceptance, Act, Actor, Deed, Effect, activity_iri};
 use std::alloc::{AllocError, Global};

@@ -1,6 +1,6 @@
 //! The facts that a history has made, kept as plain lists.
 
-ghost use Rattle.std.specs.Prelude.{◌≡◌, ◌∷◌, ◌++◌, [], ◌+◌, ◌^◌, ◌<◌, ◌≤◌, IsTrue, IfOk, None, OnOk, Some, map, option_copied, option_to_list, vec_len, vec_capacity};
+ghost use Rattle.std.specs.Prelude.{◌≡◌, ◌∷◌, ◌++◌, [], ◌+◌, ◌^◌, ◌<◌, ◌≤◌, IsTrue, IfOk, None, OnErr, OnOk, Some, map, option_copied, option_to_list, vec_len, vec_capacity};
 ghost use Rattle.std.specs.List.{find};
 ghost use Rattle.fedi_town.specs.Built.{is_built};
 ghost use Rattle.fedi_town.specs.Effects.{affect};
@@ -10,16 +10,15 @@ ghost use Rattle.fedi_town.specs.Relations.{has_activity_id, is_actor};
 ghost use Rattle.fedi_town.specs.Towns.{count_of, empty_town, has_digest, has_id, has_name, id_of};
 ghost use Rattle.fedi_address.specs.Recipients.{is_among};
 ghost use Rattle.fedi_effects.specs.Additions.{HasAnswerer, HasAuthors, addition_in};
-ghost use Rattle.fedi_effects.specs.Changes.{AreMadeOnce};
+ghost use Rattle.fedi_register.specs.Changes.{AreMadeOnce};
 ghost use Rattle.fedi_effects.specs.Holdings.{added_id, id_ahead};
 
-use crate::acts::has_activity_id;
 use crate::making::prepare;
 use crate::ready::{Ready, know_authors, make_ready};
-use crate::register::Register;
 use fedi_address::{Host, Iri, LocalName};
 use fedi_kept::{Kept, Pool, Trace};
 use fedi_objects::Entry;
+use fedi_register::{Register, has_activity_id};
 use fedi_town::{Actor, Effect};
 use std::alloc::{AllocError, Global};
 use std::marker::Model;
@@ -178,12 +177,11 @@ impl Facts {
     pub fn reserve(&mut self, alloc: Global, entry: &Entry) -> Result<(), AllocError>
         requires { IsTrue (is_built entry.now) }
         ensures ok { OnOk result (self.new ≡ record self.old { room = Some entry.now }) }
-        ensures history { self.new.history ≡ self.old.history }
-        ensures town { self.new.town ≡ self.old.town }
+        ensures err { OnErr result (self.new ≡ record self.old { room = None }) }
     {
+        self.room = None;
         let mut ready = self.make(alloc, entry)?;
         ready.share(&mut self.pool);
-        self.room = None;
         make_room(&mut self.actors, &mut self.register, &ready)?;
         let entry = Snapshot::of(entry);
         self.room = Some(Room { entry, ready });

@@ -5,12 +5,12 @@ ghost use Rattle.fedi_town.specs.Addressing.{author_of, complete_recipients, imp
 ghost use Rattle.fedi_town.specs.Relations.{ref_id};
 ghost use Rattle.fedi_effects.specs.Subjects.{subject_of};
 
-use crate::acts::is_block;
 use crate::facts::Facts;
 use crate::subjects::ref_id;
 use fedi_address::{Iri, Recipients};
 use fedi_kept::Kept;
 use fedi_objects::ObjectRef;
+use fedi_register::is_block;
 use fedi_town::Deed;
 use std::alloc::{AllocError, Global};
 

@@ -1,16 +1,13 @@
 //! The facts that a history has made, and what an entry adds to them.
 #![tactic(auto)]
 
-mod acts;
 mod addressing;
-mod applying;
 mod commands;
 mod effects;
 mod facts;
 mod implied;
 mod making;
 mod ready;
-mod register;
 mod relations;
 mod repeats;
 mod rules;
@@ -18,8 +15,12 @@ mod seeing;
 mod states;
 mod subjects;
 
-pub use acts::{has_activity_id, makes};
+pub use addressing::is_of_town;
 pub use facts::Facts;
+pub use fedi_register::{
+    has_activity_id, is_about, is_accepted, is_announce, is_by, is_follow, is_following, is_like,
+    is_standing, makes,
+};
 pub use making::prepare;
 pub use repeats::Repeat;
 pub use rules::judge_local;

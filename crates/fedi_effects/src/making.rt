@@ -13,7 +13,6 @@ ghost use Rattle.fedi_town.specs.Relations.{ref_id};
 ghost use Rattle.fedi_effects.specs.Stamps.{stamped};
 ghost use Rattle.fedi_effects.specs.Subjects.{original_among, subject_of};
 
-use crate::acts::is_done;
 use crate::addressing::{names_followers, recipients_with};
 use crate::effects::acceptance;
 use crate::facts::Facts;
@@ -23,6 +22,7 @@ use crate::subjects::subject_of;
 use fedi_address::{Host, Iri, Items, LocalName, Recipients};
 use fedi_kept::Kept;
 use fedi_objects::{Activity, Boxed, Entry, Object, ObjectRef, RepeatKey};
+use fedi_register::is_done;
 use fedi_text::{Moment, Text};
 use fedi_town::{Acceptance, Act, Actor, Addition, Deed, activity_iri, actor_iri, object_iri};
 use std::alloc::{AllocError, Global};

@@ -3,11 +3,11 @@
 ghost use Rattle.std.specs.Prelude.{◌≡◌, IfOk, OnOk};
 ghost use Rattle.fedi_effects.specs.Additions.{IsBuiltAddition, addition_in, with_answerer, with_authors};
 ghost use Rattle.fedi_town.specs.declared.addition.Addition.TheVariants as additions;
-ghost use Rattle.fedi_effects.specs.Following.{with_one};
+ghost use Rattle.fedi_register.specs.Following.{with_one};
 
-use crate::register::Register;
 use fedi_address::Host;
 use fedi_kept::{Kept, Pool};
+use fedi_register::Register;
 use fedi_town::{Acceptance, Act, Actor, Addition, Effect};
 use std::alloc::{AllocError, Global};
 

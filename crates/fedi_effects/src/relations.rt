@@ -1,39 +1,11 @@
 //! Who blocks whom, and who follows whom.
 
-ghost use Rattle.std.specs.Prelude.{◌≡◌, [], IfOk, OnOk};
-ghost use Rattle.std.specs.List.{fold};
+ghost use Rattle.std.specs.Prelude.{◌≡◌, IfOk};
 ghost use Rattle.fedi_town.specs.Relations.{blocks, followers, has_block_between};
-ghost use Rattle.fedi_effects.specs.Following.{with_follower, with_one};
 
-use crate::acts::is_following;
 use crate::facts::Facts;
-use fedi_address::{Iri, is_among};
-use fedi_kept::Kept;
+use fedi_address::Iri;
 use std::alloc::{AllocError, Global};
-
-// Adds the IRI unless it was found before.
-#[tactic(auto, unfolding(crate::specs::Following::with_one))]
-pub(crate) fn add_one(found: &mut Vec<Iri>, iri: &Iri) -> Result<(), AllocError>
-    ensures { OnOk result (found.new.items ≡ with_one found.old.items iri.now) }
-{
-    if is_among(iri.text(), found) {
-        return Ok(());
-    }
-    let iri = iri.clone()?;
-    found.push(iri)?;
-    Ok(())
-}
-
-// Adds the author of a Follow of b that was accepted.
-#[tactic(auto, unfolding(crate::specs::Following::with_follower))]
-pub(crate) fn add_follower(found: &mut Vec<Iri>, act: &Kept, b: &Iri) -> Result<(), AllocError>
-    ensures { OnOk result (found.new.items ≡ with_follower b.now found.old.items act.now) }
-{
-    if is_following(act, b) {
-        add_one(found, act.author())?;
-    }
-    Ok(())
-}
 
 impl Facts {
     /// Whether a blocks b (ActivityPub, section 6.9).

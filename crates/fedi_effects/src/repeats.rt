@@ -4,9 +4,9 @@ ghost use Rattle.std.specs.Prelude.{◌≡◌, option_copied};
 ghost use Rattle.std.specs.List.{find};
 ghost use Rattle.std.specs.Str.{bytes_eq};
 ghost use Rattle.fedi_town.specs.Agreement.{repeats_of};
-ghost use Rattle.fedi_effects.specs.Keys.{has_key, is_repeat, repeat_in};
+ghost use Rattle.fedi_register.specs.Keys.{is_repeat};
+ghost use Rattle.fedi_effects.specs.Repeats.{repeat_in};
 
-use crate::acts::is_by;
 use crate::facts::Facts;
 use fedi_address::Iri;
 use fedi_kept::Kept;
@@ -43,23 +43,6 @@ impl<'a> Repeat<'a> {
     {
         self.activity
     }
-}
-
-fn has_key(pair: Option<&(RepeatKey, [u8; 32])>, key: &RepeatKey) -> bool
-    ensures { result ≡ has_key key.now (option_copied pair.entry) }
-{
-    match pair {
-        Some(pair) => pair.0 == *key,
-        None => false,
-    }
-}
-
-// Whether the author posted it under this key.
-#[tactic(auto, unfolding(crate::specs::Keys::is_repeat))]
-pub(crate) fn is_repeat(act: &Kept, author: &Iri, key: &RepeatKey) -> bool
-    ensures { result ≡ is_repeat author.now key.now act.now }
-{
-    is_by(act, author) && has_key(act.repeat(), key)
 }
 
 // What is known of the activity, if it was posted under a key.

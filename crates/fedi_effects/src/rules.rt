@@ -13,16 +13,16 @@ ghost use Rattle.fedi_town.specs.Rules.{announce_rule, answer_rule, broken, brok
 ghost use Rattle.fedi_town.specs.Seeing.{sees_as};
 ghost use Rattle.fedi_town.specs.Towns.{id_of};
 
-use crate::acts::{
-    can_be_undone, has_activity_id, is_about, is_by, is_follow, is_open, is_pending, makes,
-};
-use crate::addressing::is_of_town;
+use crate::addressing::is_nobody_here;
 use crate::facts::Facts;
 use crate::seeing::sees_as;
 use crate::subjects::ref_id;
 use fedi_address::Iri;
 use fedi_kept::Kept;
 use fedi_objects::Activity;
+use fedi_register::{
+    can_be_undone, has_activity_id, is_about, is_by, is_follow, is_open, is_pending, makes,
+};
 use fedi_town::{Deed, Refusal};
 
 // ---- what the author sees
@@ -132,14 +132,6 @@ fn judge_undo(author: &Iri, undone: Option<&Kept>) -> Result<(), Refusal>
         Some(undone) if !can_be_undone(undone) => Err(Refusal::NotStanding),
         Some(_) => Ok(()),
     }
-}
-
-// Whether the IRI is of this host, and no member's id.
-#[tactic(auto, unfolding(fedi_town::specs::Addressing::is_nobody_here))]
-fn is_nobody_here(facts: &Facts, iri: &Iri) -> bool
-    ensures { result ≡ is_nobody_here facts.now.town iri.now }
-{
-    is_of_town(facts, iri) && !facts.is_actor(iri)
 }
 
 // A Follow: of somebody who is there, where no Block stands between the two.

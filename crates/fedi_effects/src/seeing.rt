@@ -3,10 +3,10 @@
 ghost use Rattle.std.specs.Prelude.{◌≡◌};
 ghost use Rattle.fedi_town.specs.Seeing.{sees_as};
 
-use crate::acts::is_by;
 use crate::facts::Facts;
 use fedi_address::{Iri, is_among};
 use fedi_kept::Kept;
+use fedi_register::is_by;
 
 /// Whether the actor of this id sees the activity (ActivityPub, sections 5, 6 and 6.9): its own, and
 /// where no Block stands between it and the author what is public and what goes to it.

@@ -9,15 +9,15 @@ ghost use Rattle.fedi_town.specs.States.{can_be_undone, follow_state, has_room, 
 ghost use Rattle.fedi_town.specs.Towns.{count_after, has_id};
 ghost use Rattle.fedi_effects.specs.Subjects.{subject_of};
 
-use crate::acts::{
-    can_be_undone, is_about, is_announce_of, is_by, is_follow, is_like_of, is_open, is_pending,
-};
 use crate::facts::{Facts, has_id};
 use crate::seeing::sees_as;
 use crate::subjects::{is_whole, ref_id};
 use fedi_address::Iri;
 use fedi_kept::Kept;
 use fedi_objects::{ObjectRef, State};
+use fedi_register::{
+    can_be_undone, is_about, is_announce_of, is_by, is_follow, is_like_of, is_open, is_pending,
+};
 use fedi_town::{Actor, Deed};
 
 // The state where the condition holds, and else Plain.

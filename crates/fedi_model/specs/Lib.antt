@@ -4,6 +4,7 @@ pub mod Callers
 pub mod Places
 pub mod Queries
 pub mod Webfinger
+pub mod Pages
 pub mod Routes
 pub mod Refusals
 pub mod Refusing

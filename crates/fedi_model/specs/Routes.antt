@@ -6,7 +6,7 @@ use Rattle.serde_json.specs.Data.{Data}
 use Rattle.sha2.specs.Sha256.{sha256}
 use Rattle.fedi_asks.specs.Asks.{IsPostable}
 use Rattle.fedi_asks.specs.declared.ask.Ask.{Ask}
-use Rattle.fedi_asks.specs.declared.ask.Ask.TheVariants.{Nowhere, WrongMethod, Webfinger, Actor, Activity, Object, Outbox}
+use Rattle.fedi_asks.specs.declared.ask.Ask.TheVariants.{Nowhere, WrongMethod, Webfinger, Actor, Collection, Activity, Object, Outbox}
 use Rattle.fedi_asks.specs.declared.post.KeyAsk.{KeyAsk}
 use Rattle.fedi_asks.specs.declared.post.KeyAsk.TheVariants.{Absent, Malformed, Given}
 use Rattle.fedi_asks.specs.declared.post.Post.{Post}
@@ -23,6 +23,7 @@ use Rattle.fedi_town.specs.declared.caller.Which.TheVariants as which
 use Rattle.fedi_model.specs.declared.place.Place.{Place}
 use Rattle.fedi_model.specs.declared.place.Place.TheVariants as place
 use Rattle.fedi_model.specs.declared.request.Request.{Request}
+use Rattle.fedi_model.specs.Pages.{page_in}
 use Rattle.fedi_model.specs.Places.{LeadsTo, allow_of}
 use Rattle.fedi_model.specs.Queries.{query_of}
 use Rattle.fedi_model.specs.Requests.{is_post, is_reading, without_back_blanks}
@@ -87,17 +88,16 @@ pub record IsPost (q : Request) (author body : List ℕ) (post : Post) : Type 0 
 
 -- ---- asks
 
--- What is asked for by reading what stands there (RFC 9110, sections 9.3.1 and 9.3.2). No collection is read yet.
+-- what is asked for by reading what stands there (RFC 9110, sections 9.3.1 and 9.3.2)
 abbrev pub read_at : Option (List ℕ) → List ℕ → Place → Ask
 read_at host query place.Webfinger = Webfinger (resource_in host query)
 read_at host query (place.Actor name) = Actor name
-read_at host query (place.Collection which) = Nowhere
+read_at host query (place.Collection which) = Collection which (page_in query)
 read_at host query (place.Activity name number) = Activity name number
 read_at host query (place.Object name number) = Object name number
 
--- What is asked for by a method that is not served there (RFC 9110, section 15.5.6). An inbox is not served at all yet.
+-- what is asked for by a method that the place does not have (RFC 9110, section 15.5.6)
 abbrev pub refused_at : Place → Ask
-refused_at (place.Collection (which.Inbox name)) = Nowhere
 refused_at there = WrongMethod (allow_of there)
 
 -- what is asked for by posting to the outbox of this name: before the server was set up nobody has one
@@ -105,9 +105,11 @@ abbrev pub PostsAs : Option (List ℕ) → Request → List ℕ → List ℕ →
 PostsAs None q body name ask = ask ≡ Nowhere
 PostsAs (Some host) q body name ask = (post : Post) × IsPost q (actor_id host name) body post × (ask ≡ Outbox name post)
 
--- what is asked for by posting to what stands there: members post to their outboxes (ActivityPub, section 6)
+-- What is asked for by posting to what stands there: members post to their outboxes (ActivityPub, section 6). What other
+-- servers deliver to inboxes (section 7) is not taken yet.
 abbrev pub PostsTo : Option (List ℕ) → Request → List ℕ → Place → Ask → Type 0
 PostsTo host q body (place.Collection (which.Outbox name)) ask = PostsAs host q body name ask
+PostsTo host q body (place.Collection (which.Inbox name)) ask = ask ≡ Nowhere
 PostsTo host q body there ask = ask ≡ refused_at there
 
 -- what a request for what stands there asks for, by its method

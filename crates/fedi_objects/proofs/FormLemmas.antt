@@ -1,5 +1,5 @@
--- What is shown names nobody who is hidden, and has no float.
-use Rattle.std.proofs.Common.{◌≡◌, ℕ, List, [], ◌∷◌, map, length, Bool, true, false, ◌&&◌, ◌||◌, cond, codes, Option, Some, None, refl}
+-- What is shown names nobody who is hidden.
+use Rattle.std.proofs.Common.{◌≡◌, ℕ, List, [], ◌∷◌, map, length, Bool, true, false, ◌&&◌, cond, codes, Option, Some, None, refl}
 use Rattle.std.specs.Prelude.{◌==◌}
 use Rattle.std.specs.Ordering.{nat_cmp, match_ordering}
 use Rattle.std.specs.declared.cmp.Ordering.TheVariants.{Less, Equal, Greater}
@@ -7,7 +7,6 @@ use Rattle.std.specs.Cmp.Lexicographic.{slice_cmp}
 use Rattle.std.proofs.lemmas.Bool.{and_parts}
 use Rattle.serde_json.specs.Data.{Data, string, array, object, Items, item, Members, no_members, member, put}
 use Rattle.serde_json.specs.View.{items_of}
-use Rattle.serde_json.specs.Written.{has_float, items_have_float, members_have_float}
 use Rattle.fedi_objects.specs.declared.object.Tag.{Tag}
 use Rattle.fedi_objects.specs.declared.object.Object.{Object}
 use Rattle.fedi_objects.specs.Kinds.{kind_name}
@@ -15,53 +14,42 @@ use Rattle.fedi_objects.specs.declared.activity.Activity.{Activity}
 use Rattle.fedi_objects.specs.declared.activity.ObjectRef.{ObjectRef}
 use Rattle.fedi_objects.specs.declared.activity.ObjectRef.TheVariants as refs
 use Rattle.fedi_objects.specs.Objects.{stripped_object}
-use Rattle.fedi_objects.specs.Forms.{is_open, is_clean, items_are_clean, members_are_clean, with_text, with_list, with_context, with_collections, tag_form, with_audience, with_words, kind_members, with_id, with_links, live_members, tombstone_members, is_tombstone, object_members, object_form, with_object, activity_kind_members, with_activity_links, activity_members, activity_form}
+use Rattle.fedi_objects.specs.Forms.{is_open, is_clean, items_are_clean, members_are_clean, with_text, with_list, with_context, with_collections, tag_form, with_audience, with_words, kind_members, with_id, with_links, live_members, tombstone_members, is_tombstone, object_form, with_object, activity_kind_members, with_activity_links, activity_members, activity_form}
 
 record IsShown (d : Data) : Type 0 where
   clean : is_clean d ≡ true
-  whole : has_float d ≡ false
 
 record AreShown (ds : Items) : Type 0 where
   clean : items_are_clean ds ≡ true
-  whole : items_have_float ds ≡ false
 
 record HasShown (ms : Members) : Type 0 where
   clean : members_are_clean ms ≡ true
-  whole : members_have_float ms ≡ false
 
 both : (a b : Bool) → a ≡ true → b ≡ true → (a && b) ≡ true
 both a b h k = rw (h, k) refl
 
-neither : (a b : Bool) → a ≡ false → b ≡ false → (a || b) ≡ false
-neither a b h k = rw (h, k) refl
-
-or_parts : (a b : Bool) → (a || b) ≡ false → (a ≡ false) × (b ≡ false)
-or_parts true b h = cc
-or_parts false b h = (refl, h)
-
 string_shown : (text : List ℕ) → IsShown (string text)
-string_shown text = record { clean = refl; whole = refl }
+string_shown text = record { clean = refl }
 
 object_shown : (ms : Members) → HasShown ms → IsShown (object ms)
-object_shown ms h = record { clean = h.clean; whole = h.whole }
+object_shown ms h = record { clean = h.clean }
 
 array_shown : (ds : Items) → AreShown ds → IsShown (array ds)
-array_shown ds h = record { clean = h.clean; whole = h.whole }
+array_shown ds h = record { clean = h.clean }
 
 none_shown : HasShown no_members
-none_shown = record { clean = refl; whole = refl }
+none_shown = record { clean = refl }
 
 member_shown : (k : List ℕ) (d : Data) (ms : Members) → is_open k ≡ true → IsShown d → HasShown ms → HasShown (member k d ms)
 member_shown k d ms free shown rest =
-    record { clean = both _ _ free (both _ _ shown.clean rest.clean); whole = neither _ _ shown.whole rest.whole }
+    record { clean = both _ _ free (both _ _ shown.clean rest.clean) }
 
 -- what the members of a shown object are
 member_parts : (k : List ℕ) (d : Data) (ms : Members) → HasShown (member k d ms) → (is_open k ≡ true) × IsShown d × HasShown ms
 member_parts k d ms h =
     let free = and_parts _ _ h.clean in
     let clean = and_parts _ _ free.1 in
-    let whole = or_parts _ _ h.whole in
-    (free.0, record { clean = clean.0; whole = whole.0 }, record { clean = clean.1; whole = whole.1 })
+    (free.0, record { clean = clean.0 }, record { clean = clean.1 })
 
 put_shown : (k : List ℕ) (d : Data) (ms : Members) → is_open k ≡ true → IsShown d → HasShown ms → HasShown (put k d ms)
 put_shown k d no_members free shown rest = member_shown k d no_members free shown rest
@@ -85,10 +73,10 @@ with_list_shown k ds ms free shown rest =
     [ true ↦ rest | false ↦ put_shown k (array (items_of ds)) ms free (array_shown (items_of ds) shown) rest ]
 
 item_shown : (d : Data) (ds : Items) → IsShown d → AreShown ds → AreShown (item d ds)
-item_shown d ds h rest = record { clean = both _ _ h.clean rest.clean; whole = neither _ _ h.whole rest.whole }
+item_shown d ds h rest = record { clean = both _ _ h.clean rest.clean }
 
 texts_shown : (texts : List (List ℕ)) → AreShown (items_of (map string texts))
-texts_shown [] = record { clean = refl; whole = refl }
+texts_shown [] = record { clean = refl }
 texts_shown (text ∷ texts) = item_shown (string text) _ (string_shown text) (texts_shown texts)
 
 tag_shown : (t : Tag) → IsShown (tag_form t)
@@ -99,7 +87,7 @@ tag_shown t =
     (put_shown (codes "type") _ _ refl (string_shown (codes "Mention")) none_shown)))
 
 tags_shown : (tags : List Tag) → AreShown (items_of (map tag_form tags))
-tags_shown [] = record { clean = refl; whole = refl }
+tags_shown [] = record { clean = refl }
 tags_shown (t ∷ tags) = item_shown (tag_form t) _ (tag_shown t) (tags_shown tags)
 
 with_context_shown : (context : Bool) (ms : Members) → HasShown ms → HasShown (with_context context ms)
@@ -163,9 +151,6 @@ object_form_shown local context o =
 pub is_clean-object_form : (local context : Bool) (o : Object) → is_clean (object_form local context o) ≡ true
 is_clean-object_form local context o = (object_form_shown local context o).clean
 
-pub has_float-object_form : (local context : Bool) (o : Object) → has_float (object_form local context o) ≡ false
-has_float-object_form local context o = (object_form_shown local context o).whole
-
 with_object_shown : (local : Bool) (o : ObjectRef) (ms : Members) → HasShown ms → HasShown (with_object local o ms)
 unfolding with_object
 with_object_shown local refs.Nothing ms rest = rest
@@ -195,9 +180,6 @@ activity_form_shown local context author a = object_shown _ (with_context_shown 
 
 pub is_clean-activity_form : (local context : Bool) (author : List ℕ) (a : Activity) → is_clean (activity_form local context author a) ≡ true
 is_clean-activity_form local context author a = (activity_form_shown local context author a).clean
-
-pub has_float-activity_form : (local context : Bool) (author : List ℕ) (a : Activity) → has_float (activity_form local context author a) ≡ false
-has_float-activity_form local context author a = (activity_form_shown local context author a).whole
 
 -- the form of an object tells nothing of `bto` and `bcc`
 pub object_form_stripped : (local context : Bool) (o : Object) → object_form local context (stripped_object o) ≡ object_form local context o

@@ -1,2 +1,5 @@
+pub mod Additions
 pub mod FormLemmas
 pub mod KeyLemmas
+pub mod Ordered
+pub mod Slots

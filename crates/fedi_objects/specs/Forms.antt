@@ -140,7 +140,7 @@ object_in (shows.Present o) = refs.Whole o
 -- the activity that is shown, which names nobody in `bto` and `bcc`
 abbrev pub shown_in : Shown → Activity
 shown_in s = record {
-  id = Some s.id.now;
+  id = option_copied s.id;
   kind = s.kind;
   actor = Some s.author.now;
   object = object_in s.object;

@@ -4,3 +4,4 @@ pub mod Kinds
 pub mod Limits
 pub mod Objects
 pub mod Views
+pub mod Writing

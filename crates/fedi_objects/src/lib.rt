@@ -9,16 +9,18 @@ mod kind;
 mod members;
 mod object;
 mod options;
-mod public;
 mod repeat_key;
 mod shown;
+mod writing;
 
 pub use activity::{Activity, ObjectRef};
 pub use boxed::Boxed;
 pub use entry::{Came, Entry, Sent, What};
 pub use kind::{Kind, State};
-pub use members::{put_joined, put_str};
+pub use members::{
+    new_document, text_of, write_iri, write_iris, write_joined, write_str, write_text,
+};
 pub use object::{Change, Edit, Object, TOMBSTONE, Tag};
-pub use public::{CONTEXT, MENTION, object_value, public_text, public_value};
 pub use repeat_key::RepeatKey;
 pub use shown::{ObjectView, Shown, ShownObject, StrippedObject};
+pub use writing::{CONTEXT, MENTION, write_activity, write_object};

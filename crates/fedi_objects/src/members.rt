@@ -1,46 +1,97 @@
-//! Members of JSON objects whose values are texts.
+//! Documents in JSON and their members, written straight (RFC 8259).
 
-ghost use Rattle.std.specs.Prelude.{◌≡◌, ◌++◌, IfOk, OnOk};
-ghost use Rattle.std.specs.String.{string_bytes};
-ghost use Rattle.serde_json.specs.Data.{string, put};
-ghost use Rattle.serde_json.specs.View.{members_view};
+ghost use Rattle.std.specs.Prelude.{◌≡◌, ◌+◌, ◌≤◌, ◌++◌, length, [], map, IfOk, OnOk, Some, option_map};
+ghost use Rattle.std.specs.Option.{option_copied};
+ghost use Rattle.serde_json.specs.Data.{Data, string};
+ghost use Rattle.serde_json.specs.Written.{compact_text};
+ghost use Rattle.fedi_objects.specs.Writing.{Adds, IsDocument, listed, member_tokens};
 
-use serde_json::{Map, Value};
+use arrayvec::ArrayString;
+use fedi_address::Iri;
+use fedi_text::Text;
+use json::Writer;
 use std::alloc::{AllocError, Global};
 
-/// Puts a member with this text. The error is out of memory.
-pub fn put_str(
-    members: &mut Map<String, Value>,
-    alloc: Global,
-    key: &str,
-    text: &str,
-) -> Result<(), AllocError>
-    ensures { OnOk result (members_view members.new.entries
-        ≡ put key.now (string text.now) (members_view members.old.entries)) }
+/// The room in bytes that a document has before more memory is taken for it.
+const ROOM: usize = 512;
+
+/// The longest text that is joined of two: an address, and a path after it.
+const LONGEST: usize = 2_304;
+
+/// An empty document. The error is out of memory.
+pub fn new_document(alloc: Global) -> Result<Writer, AllocError>
+    ensures before { IfOk result (λ out. out.before ≡ []) }
+    ensures tokens { IfOk result (λ out. out.tokens ≡ []) }
 {
-    serde_json::put(members, alloc, key, Value::try_from_str(alloc, text)?)
+    let bytes = Vec::with_capacity(alloc, ROOM)?;
+    Ok(Writer::new(bytes))
 }
 
-/// Puts a member with the one text after the other. The error is out of memory.
-pub fn put_joined(
-    members: &mut Map<String, Value>,
-    alloc: Global,
-    key: &str,
-    front: &str,
-    back: &str,
-) -> Result<(), AllocError>
-    ensures { OnOk result (members_view members.new.entries
-        ≡ put key.now (string (front.now ++ back.now)) (members_view members.old.entries)) }
+/// The bytes of a document, with no space between what was written. It takes no memory.
+pub fn text_of(out: Writer) -> Vec<u8>
+    ensures { (d : Data) → IsDocument d out → result.items ≡ compact_text d }
 {
-    let text = joined(alloc, front, back)?;
-    serde_json::put(members, alloc, key, Value::String(text))
+    out.into_inner()
 }
 
-/// The one text after the other.
-fn joined(alloc: Global, front: &str, back: &str) -> Result<String, AllocError>
-    ensures { IfOk result (λ text. string_bytes text ≡ front.now ++ back.now) }
+/// Writes a member with a text. The error is out of memory.
+pub fn write_str(out: &mut Writer, key: &str, text: &str) -> Result<(), AllocError>
+    ensures { OnOk result
+        (Adds (member_tokens key.now (Some (string text.now))) out.old out.new) }
 {
-    let mut text = String::from_str(alloc, front)?;
-    text.push_str(back)?;
-    Ok(text)
+    out.key(key)?;
+    out.string(text)
+}
+
+/// Writes a member with the one text after the other, of at most 2,304 bytes together. The error is
+/// out of memory.
+pub fn write_joined(out: &mut Writer, key: &str, front: &str, back: &str) -> Result<(), AllocError>
+    requires { length front.now + length back.now ≤ 2304 }
+    ensures { OnOk result
+        (Adds (member_tokens key.now (Some (string (front.now ++ back.now)))) out.old out.new) }
+{
+    let mut text = ArrayString::<LONGEST>::new();
+    text.push_str(front);
+    text.push_str(back);
+    write_str(out, key, text.as_str())
+}
+
+/// Writes a member with a text, if there is one. The error is out of memory.
+pub fn write_text(out: &mut Writer, key: &str, text: Option<&Text>) -> Result<(), AllocError>
+    ensures { OnOk result
+        (Adds (member_tokens key.now (option_map string (option_copied text.entry)))
+        out.old out.new) }
+{
+    match text {
+        None => Ok(()),
+        Some(text) => write_str(out, key, text.text()),
+    }
+}
+
+/// Writes a member with an address, if there is one. The error is out of memory.
+pub fn write_iri(out: &mut Writer, key: &str, iri: Option<&Iri>) -> Result<(), AllocError>
+    ensures { OnOk result
+        (Adds (member_tokens key.now (option_map string (option_copied iri.entry)))
+        out.old out.new) }
+{
+    match iri {
+        None => Ok(()),
+        Some(iri) => write_str(out, key, iri.text()),
+    }
+}
+
+/// Writes a member with these addresses, if there is one at least. The error is out of memory.
+pub fn write_iris(out: &mut Writer, key: &str, iris: &[Iri]) -> Result<(), AllocError>
+    ensures { OnOk result
+        (Adds (member_tokens key.now (listed (map string iris.now))) out.old out.new) }
+{
+    if iris.is_empty() {
+        return Ok(());
+    }
+    out.key(key)?;
+    out.begin_array()?;
+    for iri in iris {
+        out.string(iri.text())?;
+    }
+    out.end_array()
 }

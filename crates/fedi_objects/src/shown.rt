@@ -108,7 +108,7 @@ pub enum ShownObject<'a> {
 /// One activity as a reader may see it, without `bto` and `bcc` (ActivityPub, section 6).
 #[derive(Drop)]
 pub struct Shown<'a> {
-    pub id: &'a Iri,
+    pub id: Option<&'a Iri>,
     pub author: &'a Iri,
     pub kind: Kind,
     pub target: Option<&'a Iri>,

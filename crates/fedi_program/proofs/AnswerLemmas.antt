@@ -117,10 +117,10 @@ kept_turn growth room before after moment q body c ask r e d k = record {
   };
 }
 
-still : (growth : ℕ → ℕ) (before after : State) → after.history ≡ before.history → OnlyRoomChanged before.keeper after.keeper → Follows growth before after NoEntry
+pub still : (growth : ℕ → ℕ) (before after : State) → after.history ≡ before.history → OnlyRoomChanged before.keeper after.keeper → Follows growth before after NoEntry
 still growth before after same k = unchanged growth before after same k.records k.end k.doubt k.faults
 
-still_full : (growth : ℕ → ℕ) (before after : State) (e : Entry) → Follows growth before after NoEntry → Follows growth before after (Full e)
+pub still_full : (growth : ℕ → ℕ) (before after : State) (e : Entry) → Follows growth before after NoEntry → Follows growth before after (Full e)
 still_full growth before after e f = record { history = f.history; records = f.records; end = f.end; doubt = f.doubt; faults = f.faults }
 
 pub full_turn : (growth room : ℕ → ℕ) (before after : State) (moment : ℕ) (q : Request) (body : List ℕ) (c : Caller) (ask : Ask) (r : Reply) (e : Entry)
@@ -132,7 +132,7 @@ full_turn growth room before after moment q body c ask r e d same k = record {
   follows = still_full growth before after e (still growth before after same k.1);
 }
 
-failed_follows : (growth room : ℕ → ℕ) (before after : State) (e : Entry) → after.history ≡ before.history → Refuses room (code_of e) faults.Failed before.keeper after.keeper
+pub failed_follows : (growth room : ℕ → ℕ) (before after : State) (e : Entry) → after.history ≡ before.history → Refuses room (code_of e) faults.Failed before.keeper after.keeper
     → Follows growth before after (Failed e)
 failed_follows growth room before after e same k =
     let quiet : Follows growth before (record after { keeper = before.keeper }) NoEntry = unchanged growth before (record after { keeper = before.keeper }) same refl refl refl refl in

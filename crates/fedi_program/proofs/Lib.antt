@@ -1,8 +1,10 @@
 pub mod AnswerLemmas
 pub mod Conversing
+pub mod CrashLemmas
 pub mod Determined
 pub mod MemberLemmas
 pub mod RunLemmas
 pub mod SessionLemmas
+pub mod Surviving
 pub mod Talks
 pub mod WordLemmas

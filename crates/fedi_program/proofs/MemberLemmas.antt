@@ -2,17 +2,20 @@
 use Rattle.std.proofs.Common.{◌≡◌, ℕ, Bool, true, false, List, Option, Some, None, Bor, is_some, is_none, inl, inr, refl, sym, ap, subst, ◌∙◌, arith}
 use Rattle.std.specs.Option.{option_copied}
 use Rattle.fedi_core.specs.Commands.{RefusesCommand}
+use Rattle.fedi_core.specs.Crashing.{PassesTimeRefused}
 use Rattle.fedi_core.specs.Keeping.{IsKept}
+use Rattle.fedi_entry.specs.Codes.{code_of}
 use Rattle.fedi_log.specs.Keeping.{Follows, State, base_of}
 use Rattle.fedi_log.specs.Log.{Failed, Full, Kept, NoEntry, Outcome, given}
 use Rattle.fedi_log.proofs.Keeping.{holds_given, since_more, unchanged}
 use Rattle.fedi_objects.specs.declared.entry.Entry.{Entry}
-use Rattle.fedi_outside.specs.Keepers.{KeeperState, OnlyRoomChanged}
+use Rattle.fedi_outside.specs.Keepers.{Crashes, KeeperState, OnlyRoomChanged}
 use Rattle.fedi_town.specs.declared.command_fault.CommandFault.{CommandFault}
 use Rattle.fedi_town.specs.declared.command_fault.CommandFault.TheVariants as faults
 use Rattle.fedi_town.specs.Histories.{town}
 use Rattle.fedi_town.specs.Towns.{Town}
 use Rattle.fedi_program.specs.Commands.{AddActor, Task}
+use Rattle.fedi_program.specs.Crashing.{SurvivesTurn}
 use Rattle.fedi_program.specs.Endings.{HoldsALog, Output, Prints, setting_of}
 use Rattle.fedi_program.specs.Members.{Chance, EndsWith, MakesMember, TellsFault, key_line, member_entry}
 use Rattle.fedi_program.specs.Runs.{is_status_of}
@@ -46,7 +49,7 @@ end_status growth room before after first now name locked e line status (inr (_,
 pub member_status : (growth room : ℕ → ℕ) (told : Option ℕ) (chance left : Chance) (before after : State) (first now : Output) (name : List ℕ) (locked : Bool) (status : ℕ)
     → MakesMember growth room told chance left before after first now name locked status → is_status_of (Some (AddActor name locked)) status ≡ true
 member_status growth room told chance left before after first now name locked status (inl none) = ends_with (Some (AddActor name locked)) status 12 refl none.0
-member_status growth room told chance left before after first now name locked status (inr (inl none)) = ends_with (Some (AddActor name locked)) status 3 refl none.2.0
+member_status growth room told chance left before after first now name locked status (inr (inl none)) = ends_with (Some (AddActor name locked)) status 3 refl none.3.0
 member_status growth room told chance left before after first now name locked status (inr (inr (_, inl failed))) = ends_with (Some (AddActor name locked)) status 6 refl failed.0
 member_status growth room told chance left before after first now name locked status (inr (inr (_, inr (key, moment, _, _, ends)))) =
     end_status growth room before after first now name locked (member_entry name key locked moment) (key_line name key) status ends
@@ -87,7 +90,7 @@ refused_follows growth room t before after e faults.KeeperFault same refused =
       },
     )
 
-kept_follows : (growth room : ℕ → ℕ) (before after : State) (e : Entry) → IsKept growth room before.history e before.keeper after.keeper after.history → Follows growth before after (Kept e)
+pub kept_follows : (growth room : ℕ → ℕ) (before after : State) (e : Entry) → IsKept growth room before.history e before.keeper after.keeper after.history → Follows growth before after (Kept e)
 kept_follows growth room before after e k = record {
   history = k.history;
   records = k.keeper.records;
@@ -121,6 +124,21 @@ member_holds growth room told chance left before after first now name locked sta
     let f = member_follows growth room told chance left before after first now name locked status made in
     let b = base_of growth room before in
     (_, since_more b None before after (given before.history) f.0 ((holds_given b None before refl refl).holds) f.1)
+
+-- ---- a crash
+
+-- a command was refused
+pub command_survives : (growth room : ℕ → ℕ) (t : Town) (state next : State) (e : Entry) (fault : CommandFault) (y z : Crashes) → next.history ≡ state.history
+    → RefusesCommand room t e fault state.keeper next.keeper → PassesTimeRefused fault state.keeper.records state.keeper.doubt (code_of e) y z
+    → SurvivesTurn growth state next y z
+unfolding refused_follows
+command_survives growth room t state next e faults.NameTaken y z same k time = (NoEntry, (refused_follows growth room t state next e faults.NameTaken same k).1, time)
+command_survives growth room t state next e faults.KeyTaken y z same k time = (NoEntry, (refused_follows growth room t state next e faults.KeyTaken same k).1, time)
+command_survives growth room t state next e faults.HostTaken y z same k time = (NoEntry, (refused_follows growth room t state next e faults.HostTaken same k).1, time)
+command_survives growth room t state next e faults.BadAddress y z same k time = (NoEntry, (refused_follows growth room t state next e faults.BadAddress same k).1, time)
+command_survives growth room t state next e faults.Full y z same k time = (Full e, (refused_follows growth room t state next e faults.Full same k).1, time)
+command_survives growth room t state next e faults.KeeperFault y z same k time = (Failed e, (refused_follows growth room t state next e faults.KeeperFault same k).1, time)
+command_survives growth room t state next e faults.Memory y z same k time = (NoEntry, (refused_follows growth room t state next e faults.Memory same k).1, time)
 
 -- ---- the host
 

@@ -1,5 +1,6 @@
 pub mod Commands
 pub mod Conversations
+pub mod Crashing
 pub mod Endings
 pub mod Members
 pub mod Runs

@@ -40,6 +40,10 @@ pub record FailsToDraw (before now : Chance) : Type 0 where
   pub bytes : Keeps before.next now.next
   pub cause : now.faults ≡ next_count before.faults
 
+-- one key was drawn at most, and no draw failed
+abbrev pub DrawsAtMostOne : Chance → Chance → Type 0
+DrawsAtMostOne before now = (now ≡ before) ⊎ ((key : List ℕ) × Draws before now key)
+
 -- ---- what is printed
 
 -- the line that tells the operator the key of a new member: the name, a space, and the key in 64 digits
@@ -96,11 +100,12 @@ EndsWith growth room before after first now name e line status =
     ⊎ ((is_name name ≡ true) × (IsRefused room before after first now e status ⊎ IsMade growth room before after first now e line status))
 
 -- How a run ends that is to make a member of this name: out of memory (12), when no draw failed, nothing is kept and nothing
--- printed; there is no host, so no store (3); no key could be drawn (6); or a key was drawn, and it ended as above.
+-- printed; there is no host, so no store (3), and nothing was drawn; no key could be drawn (6); or a key was drawn, and it ended
+-- as above.
 abbrev pub MakesMember : (ℕ → ℕ) → (ℕ → ℕ) → Option ℕ → Chance → Chance → State → State → Output → Output → List ℕ → Bool → ℕ → Type 0
 MakesMember growth room told chance left before after first now name locked status =
-    ((status ≡ 12) × (left.faults ≡ chance.faults) × IsUnchanged before after × Writes first now [])
-    ⊎ (((is_none (town before.history).host ≡ true) × (after ≡ before) × Tells first now 3 (codes "not a store\n") status)
+    ((status ≡ 12) × DrawsAtMostOne chance left × IsUnchanged before after × Writes first now [])
+    ⊎ (((is_none (town before.history).host ≡ true) × (after ≡ before) × (left ≡ chance) × Tells first now 3 (codes "not a store\n") status)
     ⊎ ((is_none (town before.history).host ≡ false)
     × (((status ≡ 6) × FailsToDraw chance left × (after ≡ before) × Writes first now [])
     ⊎ ((key : List ℕ) × (moment : ℕ) × Draws chance left key × IsNow told moment

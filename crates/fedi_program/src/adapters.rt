@@ -145,17 +145,17 @@ impl<'a, R: Files> SystemEntropy<'a, R> {
         }
     }
 
-    // Reads into the bytes, and returns how many it gave.
-    fn read(&mut self, into: &mut [u8; 32]) -> io::Result<usize>
+    // Reads until all the bytes are there.
+    fn read(&mut self, into: &mut [u8; 32]) -> io::Result<()>
         ensures { self.new.faults ≡ self.old.faults }
     {
         let mut file = match self.file.take() {
             Some(file) => file,
             None => File::open(self.rt, "/dev/urandom")?,
         };
-        let count = file.read(into);
+        let read = file.read_exact(into);
         self.file = Some(file);
-        count
+        read
     }
 }
 
@@ -169,8 +169,8 @@ impl<R: Files> Entropy for SystemEntropy<'_, R> {
         ensures cause { HasCause self.old.faults self.new.faults result }
     {
         match self.read(into) {
-            Ok(32) => Ok(()),
-            _ => {
+            Ok(()) => Ok(()),
+            Err(_) => {
                 self.faults = self.faults.saturating_add(1);
                 Err(Failed)
             }

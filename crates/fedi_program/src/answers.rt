@@ -4,6 +4,7 @@ ghost use Rattle.std.specs.Prelude.{◌≡◌, IfOk, OnErr};
 ghost use Rattle.fedi_log.specs.Keeping.{state_of};
 ghost use Rattle.fedi_model.specs.Refusing.{refused};
 ghost use Rattle.fedi_model.specs.ReplyText.{reply_text};
+ghost use Rattle.fedi_program.specs.Crashing.{SurvivesTurn};
 ghost use Rattle.fedi_program.specs.Endings.{IsAnswerText, IsUnanswered};
 
 use fedi_core::{Core, Decision, KeepError, KeepFault};
@@ -11,6 +12,7 @@ use fedi_http::reply_bytes;
 use fedi_model::{Refusal, Request, refusal_reply};
 use fedi_outside::Keeper;
 use fedi_routes::{Routes, credentials, route};
+use fedi_store::PlainShelf;
 use fedi_text::Moment;
 use std::alloc::{AllocError, Global};
 
@@ -34,7 +36,7 @@ pub fn refusal_text(
 /// reply to a post is made before the post is kept. The error is out of memory, and then nothing was kept.
 pub fn answer<P: Keeper>(
     alloc: Global,
-    core: &mut Core<P>,
+    core: &mut Core<PlainShelf, P>,
     routes: &Routes,
     request: &Request,
     body: &[u8],
@@ -49,6 +51,11 @@ pub fn answer<P: Keeper>(
         (state_of core.old.history (P.shown core.old.keeper))
         (state_of core.new.history (P.shown core.new.keeper))
         moment request.now body.now) }
+    // A crash on the way leaves the records, with at most one more: the one in doubt, or the post's.
+    ensures crash { SurvivesTurn P.growth
+        (state_of core.old.history (P.shown core.old.keeper))
+        (state_of core.new.history (P.shown core.new.keeper))
+        (P.crashes core.old.keeper) (P.crashes core.new.keeper) }
 {
     let head_only = request.head_only;
     let caller = match core.caller_of(&credentials(request, body)) {

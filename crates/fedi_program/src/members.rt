@@ -2,6 +2,7 @@
 
 ghost use Rattle.std.specs.Prelude.{◌≡◌, IfOk};
 ghost use Rattle.fedi_log.specs.Keeping.{state_of};
+ghost use Rattle.fedi_program.specs.Crashing.{SurvivesTurn};
 ghost use Rattle.fedi_program.specs.Endings.{output_by};
 ghost use Rattle.fedi_program.specs.Members.{MakesMember, TellsFault, chance_by, key_line};
 
@@ -12,6 +13,7 @@ use fedi_core::Core;
 use fedi_mac::{digest, hex_text};
 use fedi_objects::Entry;
 use fedi_outside::{Clock, Entropy, Failed, Keeper, Sink};
+use fedi_store::PlainShelf;
 use fedi_text::Moment;
 use fedi_town::CommandFault;
 use std::alloc::{AllocError, Global};
@@ -51,19 +53,24 @@ fn tell_fault<O: Sink>(out: &mut O, fault: CommandFault) -> u8
 /// is the exit status: a member was made at 0 and 7, and at no other.
 pub fn make_member<O: Sink, P: Keeper, C: Clock, E: Entropy>(
     alloc: Global,
-    core: &mut Core<P>,
+    core: &mut Core<PlainShelf, P>,
     out: &mut O,
     clock: &C,
     entropy: &mut E,
     name: &str,
     locked: bool,
 ) -> u8
-    ensures { MakesMember P.growth P.room (C.told clock.now)
+    ensures made { MakesMember P.growth P.room (C.told clock.now)
         (chance_by E.next E.faults entropy.old) (chance_by E.next E.faults entropy.new)
         (state_of core.old.history (P.shown core.old.keeper))
         (state_of core.new.history (P.shown core.new.keeper))
         (output_by O.sent O.write_faults out.old) (output_by O.sent O.write_faults out.new)
         name.now locked result }
+    // A crash on the way leaves the records, with at most one more: the one in doubt, or the member's.
+    ensures crash { SurvivesTurn P.growth
+        (state_of core.old.history (P.shown core.old.keeper))
+        (state_of core.new.history (P.shown core.new.keeper))
+        (P.crashes core.old.keeper) (P.crashes core.new.keeper) }
 {
     if core.host().is_none() {
         return tell(out, NOT_A_STORE, b"not a store\n");

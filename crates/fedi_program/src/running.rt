@@ -1,9 +1,11 @@
 //! The whole program, over whatever lies outside.
 
-ghost use Rattle.std.specs.Prelude.{◌≡◌, ◌≢◌, ◌↔◌, ℕ, Bool, false, List, [], IsTrue, Some, None, map, string_bytes};
-ghost use Rattle.fedi_log.specs.Keeping.{state_of};
+ghost use Rattle.std.specs.Prelude.{◌≡◌, ◌≢◌, ◌↔◌, ℕ, Bool, false, List, [], IfErr, IfOk, IsTrue, Some, None, map, string_bytes};
+ghost use Rattle.fedi_log.specs.Keeping.{base_of, state_of};
 ghost use Rattle.fedi_log.specs.Log.{given};
 ghost use Rattle.fedi_program.specs.Commands.{AddActor, Inetd, Usage, task_in};
+ghost use Rattle.fedi_outside.specs.Keepers.{LeavesRecords};
+ghost use Rattle.fedi_program.specs.Crashing.{SurvivesSince, SurvivesTurn};
 ghost use Rattle.fedi_program.specs.Endings.{HasCauses, HoldsALog, Prints, RunsTo, TalksIfTold, WritesUnlessFailed, faults_by, output_by, scene_by, setting_of, status_of};
 ghost use Rattle.fedi_program.specs.Members.{MakesMember, chance_by};
 ghost use Rattle.fedi_program.specs.Runs.{is_status_of, may_draw, may_keep};
@@ -22,7 +24,8 @@ use fedi_core::Core;
 use fedi_objects::Entry;
 use fedi_outside::{Clock, Entropy, Keeper, Sink, Source};
 use fedi_routes::Routes;
-use std::alloc::Global;
+use fedi_store::PlainShelf;
+use std::alloc::{AllocError, Global};
 
 /// How a run ended.
 #[derive(Drop)]
@@ -48,6 +51,25 @@ fn status_of(end: SessionEnd) -> u8
     }
 }
 
+/// Opens the machine over the history. The error is out of memory, and hands both back.
+fn open<P: Keeper>(
+    alloc: Global,
+    history: Vec<Entry>,
+    keeper: P,
+) -> Result<Core<PlainShelf, P>, (Vec<Entry>, P)>
+    requires legal { IsLegal history.items }
+    requires built { IsTrue (are_built history.items) }
+    ensures ok { IfOk result (λ core.
+        core ≡ record { history = history.items; keeper = keeper }) }
+    ensures err { IfErr result (λ back. back.0.items ≡ history.items) }
+    ensures err_keeper { IfErr result (λ back. back.1 ≡ keeper) }
+{
+    match PlainShelf::empty(alloc) {
+        Ok(shelf) => Core::open(alloc, history, shelf, keeper),
+        Err(AllocError) => Err((history, keeper)),
+    }
+}
+
 /// Serves the connection.
 fn inetd<S: Source, O: Sink, P: Keeper, C: Clock>(
     alloc: Global,
@@ -62,6 +84,10 @@ fn inetd<S: Source, O: Sink, P: Keeper, C: Clock>(
         (scene_by S.left O.sent O.write_faults connection.old.input connection.old.out)
         (scene_by S.left O.sent O.write_faults connection.new.input connection.new.out)
         (state_of result.history.items (P.shown result.keeper)) result.status }
+    ensures crashes { let opened = state_of history.items (P.shown keeper) in
+        SurvivesSince (base_of P.growth P.room opened) None (given history.items)
+        (state_of result.history.items (P.shown result.keeper))
+        (P.crashes keeper) (P.crashes result.keeper) }
     ensures legal { IsLegal result.history.items }
     ensures built { IsTrue (are_built result.history.items) }
     ensures causes { HasCauses
@@ -78,7 +104,7 @@ fn inetd<S: Source, O: Sink, P: Keeper, C: Clock>(
             keeper,
         };
     };
-    match Core::open(alloc, history, keeper) {
+    match open(alloc, history, keeper) {
         Ok(mut core) => {
             let end = session(alloc, &mut core, &routes, connection);
             let (history, keeper) = core.close();
@@ -114,12 +140,16 @@ fn add_actor<S, O: Sink, P: Keeper, C: Clock, E: Entropy>(
         (state_of result.history.items (P.shown result.keeper))
         (output_by O.sent O.write_faults connection.old.out)
         (output_by O.sent O.write_faults connection.new.out) name.now locked result.status }
+    ensures crash { SurvivesTurn P.growth
+        (state_of history.items (P.shown keeper))
+        (state_of result.history.items (P.shown result.keeper))
+        (P.crashes keeper) (P.crashes result.keeper) }
     ensures legal { IsLegal result.history.items }
     ensures built { IsTrue (are_built result.history.items) }
     ensures input { connection.new.input ≡ connection.old.input }
     ensures clock { connection.new.clock ≡ connection.old.clock }
 {
-    match Core::open(alloc, history, keeper) {
+    match open(alloc, history, keeper) {
         Ok(mut core) => {
             let (out, clock) = (&mut connection.out, &connection.clock);
             let status = make_member(alloc, &mut core, out, clock, entropy, name, locked);
@@ -217,6 +247,16 @@ pub fn run<S: Source, O: Sink, P: Keeper, C: Clock, E: Entropy>(
         HoldsALog (setting_of P.growth P.room (C.told connection.old.clock) opened)
         (given history.items)
         (state_of result.history.items (P.shown result.keeper)) }
+
+    // A crash at any moment of the run leaves the records that the keeper had, then those of the
+    // first entries, none or more, that the run made, and behind them at most one that was in doubt
+    // then: the one of the opening, or that of an entry which the keeper was to keep. After the run
+    // it leaves the records of all of them, with at most the one in doubt.
+    ensures crashes { let opened = state_of history.items (P.shown keeper) in
+        SurvivesSince (base_of P.growth P.room opened) None (given history.items)
+        (state_of result.history.items (P.shown result.keeper))
+        (P.crashes keeper) (P.crashes result.keeper) }
+    ensures leaves { LeavesRecords (P.shown result.keeper) (P.crashes result.keeper) }
 
     // The usage is printed whole, unless a write failed.
     ensures usage { task_in (map string_bytes arguments.now) ≡ Some Usage

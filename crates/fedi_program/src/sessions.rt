@@ -1,9 +1,10 @@
 //! One connection, request by request (RFC 9112, section 9.3).
 
-ghost use Rattle.std.specs.Prelude.{◌≡◌, ◌||◌, ◌-◌, ℕ, nat_le, not, MatchResult};
+ghost use Rattle.std.specs.Prelude.{◌≡◌, ◌||◌, ◌-◌, ℕ, None, nat_le, not, MatchResult};
 ghost use Rattle.fedi_log.specs.Keeping.{Holds, State, base_of, state_of};
 ghost use Rattle.fedi_log.specs.Log.{Log, given};
 ghost use Rattle.fedi_program.specs.Conversations.{most_requests};
+ghost use Rattle.fedi_program.specs.Crashing.{SurvivesSince, SurvivesTurn};
 ghost use Rattle.fedi_program.specs.Endings.{EndsSession, Exchanges, GivesUp, IsCaused, IsCounted, Replies, faults_by, faults_of, output_by, scene_by, setting_of};
 
 use crate::answers::{answer, refusal_text};
@@ -13,6 +14,7 @@ use fedi_http::{Arrived, Buffer, memory_text, read_request, send};
 use fedi_model::Request;
 use fedi_outside::{Clock, Failed, Keeper, Sink, Source};
 use fedi_routes::Routes;
+use fedi_store::PlainShelf;
 use fedi_text::Moment;
 use std::alloc::{AllocError, Global};
 
@@ -76,7 +78,7 @@ fn is_last(request: &Request, served: u64) -> bool
 /// The answer is how the session ends, if it does.
 fn exchange<S: Source, O: Sink, P: Keeper, C: Clock>(
     alloc: Global,
-    core: &mut Core<P>,
+    core: &mut Core<PlainShelf, P>,
     routes: &Routes,
     connection: &mut Connection<S, O, C>,
     buffer: &mut Buffer,
@@ -92,6 +94,10 @@ fn exchange<S: Source, O: Sink, P: Keeper, C: Clock>(
         (scene_by S.left O.sent O.write_faults connection.new.input connection.new.out)
         buffer.new.pending
         (state_of core.new.history (P.shown core.new.keeper)) result }
+    ensures crash { SurvivesTurn P.growth
+        (state_of core.old.history (P.shown core.old.keeper))
+        (state_of core.new.history (P.shown core.new.keeper))
+        (P.crashes core.old.keeper) (P.crashes core.new.keeper) }
     ensures counted { IsCounted
         (faults_by S.read_faults O.write_faults connection.old.input connection.old.out)
         (faults_by S.read_faults O.write_faults connection.new.input connection.new.out)
@@ -129,7 +135,7 @@ fn exchange<S: Source, O: Sink, P: Keeper, C: Clock>(
 /// reply closes it, or a read or a write fails (RFC 9112, sections 9.3 and 9.6).
 pub fn session<S: Source, O: Sink, P: Keeper, C: Clock>(
     alloc: Global,
-    core: &mut Core<P>,
+    core: &mut Core<PlainShelf, P>,
     routes: &Routes,
     connection: &mut Connection<S, O, C>,
 ) -> SessionEnd
@@ -141,6 +147,12 @@ pub fn session<S: Source, O: Sink, P: Keeper, C: Clock>(
         (scene_by S.left O.sent O.write_faults connection.old.input connection.old.out)
         (scene_by S.left O.sent O.write_faults connection.new.input connection.new.out)
         (state_of core.new.history (P.shown core.new.keeper)) result }
+    // A crash at any moment of it leaves the records, then the first of those that were kept since,
+    // and then at most one that was in doubt.
+    ensures crashes { let opened = state_of core.old.history (P.shown core.old.keeper) in
+        SurvivesSince (base_of P.growth P.room opened) None (given core.old.history)
+        (state_of core.new.history (P.shown core.new.keeper))
+        (P.crashes core.old.keeper) (P.crashes core.new.keeper) }
     ensures causes { IsCaused
         (faults_by S.read_faults O.write_faults connection.old.input connection.old.out)
         (faults_by S.read_faults O.write_faults connection.new.input connection.new.out)

@@ -2,8 +2,8 @@
 use crate::reading::repeated;
 use fedi_address::Iri;
 use fedi_objects::{
-    Activity, Change, Edit, ObjectRef, Shown, ShownObject, State, StrippedObject, public_text,
-    public_value,
+    Activity, Change, Edit, ObjectRef, Shown, ShownObject, State, StrippedObject, new_document,
+    text_of, write_activity,
 };
 use fedi_reading::{read_activity, read_body};
 use fedi_text::Text;
@@ -257,9 +257,9 @@ fn shown_object(object: &ObjectRef) -> ShownObject<'_> {
 }
 
 // The text of an activity, with the author's address for its own.
-fn text_of(alloc: Global, activity: &Activity, author: &Iri) -> Result<Vec<u8>, Fail> {
+fn shown_text(alloc: Global, activity: &Activity, author: &Iri) -> Result<Vec<u8>, Fail> {
     let shown = Shown {
-        id: author,
+        id: Some(author),
         author,
         kind: activity.kind,
         target: activity.target.as_ref(),
@@ -277,14 +277,15 @@ fn text_of(alloc: Global, activity: &Activity, author: &Iri) -> Result<Vec<u8>, 
         local: false,
         object: shown_object(&activity.object),
     };
-    let value = public_value(alloc, &shown, false)?;
-    Ok(public_text(alloc, &value)?)
+    let mut out = new_document(alloc)?;
+    write_activity(&mut out, &shown, false)?;
+    Ok(text_of(out))
 }
 
 // The text of what is read of a value.
 fn text_in(alloc: Global, value: &Value, author: &Iri) -> Result<Vec<u8>, Fail> {
     match read_activity(alloc, value, author) {
-        Ok(activity) => text_of(alloc, &activity, author),
+        Ok(activity) => shown_text(alloc, &activity, author),
         Err(_) => Err(Fail::from("refused")),
     }
 }

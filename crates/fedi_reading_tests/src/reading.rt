@@ -1,5 +1,5 @@
 //! Bodies as clients write them.
-use fedi_objects::{Activity, ObjectRef, StrippedObject, object_value, public_text};
+use fedi_objects::{Activity, ObjectRef, StrippedObject, new_document, text_of, write_object};
 use fedi_reading::{read_body, read_posted};
 use serde_json::Value;
 use std::alloc::Global;
@@ -107,18 +107,19 @@ const OBJECTS: [(&str, &str); 4] = [
 ];
 
 // The text of the object of an activity, as its reader sees it.
-fn text_of(alloc: Global, activity: &Activity) -> Result<Vec<u8>, Fail> {
+fn shown_text(alloc: Global, activity: &Activity) -> Result<Vec<u8>, Fail> {
     let ObjectRef::Whole(note) = &activity.object else {
         return Err(Fail::from("another object"));
     };
-    let value = object_value(alloc, &StrippedObject::new(note), false, false)?;
-    Ok(public_text(alloc, &value)?)
+    let mut out = new_document(alloc)?;
+    write_object(&mut out, &StrippedObject::new(note), false, false)?;
+    Ok(text_of(out))
 }
 
 // The same of what is posted.
 fn text_in(alloc: Global, value: &Value) -> Result<Vec<u8>, Fail> {
     match read_posted(alloc, value) {
-        Ok(activity) => text_of(alloc, &activity),
+        Ok(activity) => shown_text(alloc, &activity),
         Err(_) => Err(Fail::from("refused")),
     }
 }

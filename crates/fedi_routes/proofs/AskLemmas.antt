@@ -97,7 +97,6 @@ read_sound host query (Activity name number) = record { postable = λ h legal ho
 read_sound host query (Object name number) = record { postable = λ h legal hosted. tt; built = refl }
 
 refused_sound : (host : Option (List ℕ)) (there : Place) → IsSound host (refused_at there)
-refused_sound host (Collection (which.Inbox name)) = record { postable = λ h legal hosted. tt; built = refl }
 refused_sound host there = record { postable = λ h legal hosted. tt; built = refl }
 
 outbox_sound : (host : List ℕ) (q : Request) (body name : List ℕ) (post : Post) → IsPost q (actor_id host name) body post
@@ -116,6 +115,7 @@ posted_as (Some host) q body name ask h = subst (IsSound (Some host)) (sym h.2) 
 
 posted_sound : (host : Option (List ℕ)) (q : Request) (body : List ℕ) (there : Place) (ask : Ask) → PostsTo host q body there ask → IsSound host ask
 posted_sound host q body (Collection (which.Outbox name)) ask h = posted_as host q body name ask h
+posted_sound host q body (Collection (which.Inbox name)) ask h = subst (IsSound host) (sym h) (record { postable = λ h legal hosted. tt; built = refl })
 posted_sound host q body there ask h = subst (IsSound host) (sym h) (refused_sound host there)
 
 sound_at : (host : Option (List ℕ)) (q : Request) (body : List ℕ) (there : Place) (ask : Ask) → AsksAt host q body there ask → IsSound host ask

@@ -1,27 +1,21 @@
--- The documents that say who a member is have no float.
-use Rattle.std.proofs.Common.{◌≡◌, ℕ, List, [], ◌∷◌, ◌++◌, length, Bool, true, false, ◌||◌, codes, refl}
-use Rattle.std.specs.Prelude.{◌==◌, if◌then◌else◌}
-use Rattle.serde_json.specs.Data.{string, array, object, no_members, put}
-use Rattle.serde_json.specs.View.{items_of}
-use Rattle.serde_json.specs.Written.{has_float}
-use Rattle.fedi_address.specs.Recipients.{is_among}
-use Rattle.fedi_asks.specs.Documents.{actor_form, jrd_form, self_link}
-use Rattle.fedi_objects.specs.Forms.{with_context}
+-- The id of a member is short.
+use Rattle.std.proofs.Common.{◌≡◌, ℕ, ◌≤◌, List, ◌++◌, length, codes, true, arith, length-append}
+use Rattle.std.specs.Prelude.{◌&&◌, nat_le}
+use Rattle.std.specs.List.{list_all}
+use Rattle.std.proofs.lemmas.Bool.{and_parts}
+use Rattle.std.proofs.lemmas.Bool.Decides.{nat_tests}
+use Rattle.fedi_address.specs.Hosts.{address}
+use Rattle.fedi_address.specs.Names.{is_name, is_name_byte}
 use Rattle.fedi_town.specs.Ids.{actor_id}
 
-pub has_float-actor_form : (host name : List ℕ) → has_float (actor_form host name) ≡ false
-unfolding actor_form with_context
-has_float-actor_form host name = refl
+name_is_short : (name : List ℕ) → is_name name ≡ true → length name ≤ 30
+name_is_short name h =
+    let sized = and_parts (nat_le 1 (length name) && nat_le (length name) 30) (list_all is_name_byte name) h in
+    let most = (and_parts (nat_le 1 (length name)) (nat_le (length name) 30) sized.0).1 in
+    grind (arith, nat_tests)
 
--- with the links or without
-described : (linked : Bool) (id account : List ℕ)
-    → has_float (object (put (codes "aliases") (array (items_of (string id ∷ [])))
-    (put (codes "links") (array (items_of (if linked then self_link id ∷ [] else [])))
-    (put (codes "subject") (string account) no_members)))) ≡ false
-described true id account = refl
-described false id account = refl
-
-pub has_float-jrd_form : (host name : List ℕ) (rels : List (List ℕ)) → has_float (jrd_form host name rels) ≡ false
-unfolding jrd_form
-has_float-jrd_form host name rels =
-    described (length rels == 0 || is_among (codes "self") rels) (actor_id host name) (codes "acct:" ++ (name ++ (codes "@" ++ host)))
+pub id_is_short : (host name : List ℕ) → length (address host (codes "/")) ≤ 2048 → is_name name ≡ true → length (actor_id host name) ≤ 2200
+unfolding actor_id
+id_is_short host name root named =
+    let short = name_is_short name named in
+    omega (arith, root, short, length-append host (codes "/"), length-append host (codes "/users/" ++ name))

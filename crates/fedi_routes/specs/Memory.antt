@@ -1,5 +1,5 @@
 -- Which requests may need memory before it is known what they ask for.
-use Rattle.std.specs.Prelude.{ℕ, Bool, false, List, IsTrue}
+use Rattle.std.specs.Prelude.{ℕ, Bool, true, false, ◌&&◌, ◌||◌, List, IsTrue}
 use Rattle.fedi_town.specs.declared.caller.Which.TheVariants as which
 use Rattle.fedi_model.specs.declared.place.Place.{Place}
 use Rattle.fedi_model.specs.declared.place.Place.TheVariants as place
@@ -8,11 +8,20 @@ use Rattle.fedi_model.specs.Places.{LeadsTo}
 use Rattle.fedi_model.specs.Requests.{is_post, is_reading}
 use Rattle.fedi_model.specs.Routes.{path_of}
 
--- a query of WebFinger, and a post to an outbox
+-- WebFinger and collections have queries
+abbrev pub has_query : Place → Bool
+has_query place.Webfinger = true
+has_query (place.Collection which) = true
+has_query there = false
+
+-- an outbox is posted to
+abbrev pub has_posts : Place → Bool
+has_posts (place.Collection (which.Outbox name)) = true
+has_posts there = false
+
+-- a query of WebFinger or of a collection, and a post to an outbox
 abbrev pub needs_memory : List ℕ → Place → Bool
-needs_memory method place.Webfinger = is_reading method
-needs_memory method (place.Collection (which.Outbox name)) = is_post method
-needs_memory method there = false
+needs_memory method there = (is_reading method && has_query there) || (is_post method && has_posts there)
 
 -- the request is such a one
 abbrev pub MayNeedMemory : Request → Type 0

@@ -1,122 +1,126 @@
 //! Documents that say who a member is: the actor document (ActivityPub, section 4.1) and the JRD of
 //! WebFinger (RFC 7033, section 4.4).
 
-ghost use Rattle.std.specs.Prelude.{◌≡◌, ◌++◌, codes, false, IfOk, OnOk};
+ghost use Rattle.std.specs.Prelude.{◌≡◌, ◌≤◌, [], ◌∷◌, ◌++◌, codes, length, true, IfOk, OnOk};
 ghost use Rattle.std.specs.String.{string_bytes};
-ghost use Rattle.serde_json.specs.Data.{array, object, string, put};
-ghost use Rattle.serde_json.specs.View.{items_of, view, members_view};
-ghost use Rattle.serde_json.specs.Written.{has_float};
+ghost use Rattle.serde_json.specs.Data.{array, object, string, no_members, put};
+ghost use Rattle.serde_json.specs.View.{items_of};
 ghost use Rattle.fedi_address.specs.Recipients.{is_among};
-ghost use Rattle.fedi_asks.specs.Documents.{actor_form, jrd_form, links_of, self_link};
+ghost use Rattle.fedi_asks.specs.Documents.{actor_form, actor_members, jrd_form, links_of, self_link};
 ghost use Rattle.fedi_objects.specs.Forms.{with_context};
+ghost use Rattle.fedi_objects.specs.Writing.{IsWritten};
 ghost use Rattle.fedi_town.specs.Ids.{actor_id};
 
 use fedi_address::{Host, LocalName};
-use fedi_objects::{CONTEXT, put_joined, put_str};
+use fedi_objects::{CONTEXT, write_joined, write_str};
 use fedi_text::Text;
-use serde_json::{Map, Value, json};
+use json::Writer;
 use std::alloc::{AllocError, Global};
 
 /// The relation of the link that leads to the actor document.
 const SELF: &str = "self";
 
-/// The member's actor document. The error is out of memory.
-pub fn actor_value(alloc: Global, name: &LocalName, host: &Host) -> Result<Value, AllocError>
-    ensures form { IfOk result (λ value. view value ≡ actor_form host.now name.now) }
-    ensures whole { IfOk result (λ value. has_float (view value) ≡ false) }
-{
-    let members = actor_members(alloc, name, host)?;
-    Ok(Value::Object(members))
-}
-
-/// The members of the actor document.
-#[tactic(auto, unfolding(fedi_asks::specs::Documents::actor_form, fedi_objects::specs::Forms::with_context))]
-fn actor_members(
+/// Writes the member's actor document. The error is out of memory.
+#[tactic(auto, unfolding(fedi_asks::specs::Documents::actor_form))]
+pub fn write_actor(
+    out: &mut Writer,
     alloc: Global,
     name: &LocalName,
     host: &Host,
-) -> Result<Map<String, Value>, AllocError>
-    ensures { IfOk result (λ members.
-        object (members_view members.entries) ≡ actor_form host.now name.now) }
+) -> Result<(), AllocError>
+    ensures { OnOk result (IsWritten (actor_form host.now name.now) out.old out.new) }
 {
     let id = actor_text(alloc, name, host)?;
-    let id = id.as_str();
-    let mut members = Map::new(alloc);
-    put_str(&mut members, alloc, "type", "Person")?;
-    put_str(&mut members, alloc, "preferredUsername", name.text())?;
-    put_joined(&mut members, alloc, "outbox", id, "/outbox")?;
-    put_joined(&mut members, alloc, "liked", id, "/liked")?;
-    put_joined(&mut members, alloc, "inbox", id, "/inbox")?;
-    put_str(&mut members, alloc, "id", id)?;
-    put_joined(&mut members, alloc, "following", id, "/following")?;
-    put_joined(&mut members, alloc, "followers", id, "/followers")?;
-    put_str(&mut members, alloc, "@context", CONTEXT)?;
-    Ok(members)
+    write_person(out, id.as_str(), name.text())
 }
 
-/// What WebFinger says of the member, with the links of these relations alone, or with all if there is
-/// none. The error is out of memory.
-pub fn jrd(alloc: Global, name: &LocalName, host: &Host, rels: &[Text]) -> Result<Value, AllocError>
-    ensures form { IfOk result (λ value. view value ≡ jrd_form host.now name.now rels.now) }
-    ensures whole { IfOk result (λ value. has_float (view value) ≡ false) }
+// Writes the actor document of this id.
+fn write_person(out: &mut Writer, id: &str, name: &str) -> Result<(), AllocError>
+    requires { length id.now ≤ 2200 }
+    ensures { OnOk result
+        (IsWritten (object (with_context true (actor_members id.now name.now))) out.old out.new) }
 {
-    let members = jrd_members(alloc, name, host, rels)?;
-    Ok(Value::Object(members))
+    out.begin_object()?;
+    write_str(out, "@context", CONTEXT)?;
+    write_joined(out, "followers", id, "/followers")?;
+    write_joined(out, "following", id, "/following")?;
+    write_str(out, "id", id)?;
+    write_joined(out, "inbox", id, "/inbox")?;
+    write_joined(out, "liked", id, "/liked")?;
+    write_joined(out, "outbox", id, "/outbox")?;
+    write_str(out, "preferredUsername", name)?;
+    write_str(out, "type", "Person")?;
+    out.end_object()
 }
 
-/// The members of what WebFinger says.
+/// Writes what WebFinger says of the member, with the links of these relations alone, or with all if
+/// there is none. The error is out of memory.
 #[tactic(auto, unfolding(fedi_asks::specs::Documents::jrd_form))]
-fn jrd_members(
+pub fn write_jrd(
+    out: &mut Writer,
     alloc: Global,
     name: &LocalName,
     host: &Host,
     rels: &[Text],
-) -> Result<Map<String, Value>, AllocError>
-    ensures { IfOk result (λ members.
-        object (members_view members.entries) ≡ jrd_form host.now name.now rels.now) }
+) -> Result<(), AllocError>
+    ensures { OnOk result (IsWritten (jrd_form host.now name.now rels.now) out.old out.new) }
 {
     let id = actor_text(alloc, name, host)?;
-    let id = id.as_str();
-    let mut members = Map::new(alloc);
-    put_account(&mut members, alloc, name.text(), host.text())?;
-    serde_json::put(&mut members, alloc, "links", links_of(alloc, id, rels)?)?;
-    serde_json::put(&mut members, alloc, "aliases", json!(in alloc; [id])?)?;
-    Ok(members)
+    let account = account_text(alloc, name.text(), host.text())?;
+    write_description(out, id.as_str(), account.as_str(), rels)
+}
+
+// Writes what WebFinger says of the account with this id.
+fn write_description(
+    out: &mut Writer,
+    id: &str,
+    account: &str,
+    rels: &[Text],
+) -> Result<(), AllocError>
+    ensures { OnOk result (IsWritten
+        (object (put (codes "aliases") (array (items_of (string id.now ∷ [])))
+        (put (codes "links") (array (items_of (links_of id.now rels.now)))
+        (put (codes "subject") (string account.now) no_members)))) out.old out.new) }
+{
+    out.begin_object()?;
+    out.key("aliases")?;
+    out.begin_array()?;
+    out.string(id)?;
+    out.end_array()?;
+    out.key("links")?;
+    write_links(out, id, rels)?;
+    write_str(out, "subject", account)?;
+    out.end_object()
 }
 
 /// The id of the member.
 #[tactic(auto, unfolding(fedi_town::specs::Ids::actor_id))]
 fn actor_text(alloc: Global, name: &LocalName, host: &Host) -> Result<String, AllocError>
-    ensures { IfOk result (λ id. string_bytes id ≡ actor_id host.now name.now) }
+    ensures value { IfOk result (λ id. string_bytes id ≡ actor_id host.now name.now) }
+    ensures short { IfOk result (λ id. length (string_bytes id) ≤ 2200) }
 {
     let name = name.text();
     let host = host.text();
     format!(in alloc; "https://{host}/users/{name}")
 }
 
-/// Puts the account of the name at the host (RFC 7565, section 7).
-fn put_account(
-    members: &mut Map<String, Value>,
-    alloc: Global,
-    name: &str,
-    host: &str,
-) -> Result<(), AllocError>
-    ensures { OnOk result (members_view members.new.entries
-        ≡ put (codes "subject") (string (codes "acct:" ++ (name.now ++ (codes "@" ++ host.now))))
-        (members_view members.old.entries)) }
+/// The account of the name at the host (RFC 7565, section 7).
+fn account_text(alloc: Global, name: &str, host: &str) -> Result<String, AllocError>
+    ensures { IfOk result (λ account.
+        string_bytes account ≡ codes "acct:" ++ (name.now ++ (codes "@" ++ host.now))) }
 {
-    let account = format!(in alloc; "acct:{name}@{host}")?;
-    serde_json::put(members, alloc, "subject", Value::String(account))
+    format!(in alloc; "acct:{name}@{host}")
 }
 
-/// The links of these relations, or all if there is none.
-fn links_of(alloc: Global, id: &str, rels: &[Text]) -> Result<Value, AllocError>
-    ensures { IfOk result (λ links. view links ≡ array (items_of (links_of id.now rels.now))) }
+// Writes the links of these relations, or all if there is none.
+fn write_links(out: &mut Writer, id: &str, rels: &[Text]) -> Result<(), AllocError>
+    ensures { OnOk result
+        (IsWritten (array (items_of (links_of id.now rels.now))) out.old out.new) }
 {
     if rels.is_empty() || names_self(rels) {
-        json!(in alloc; [self_link(alloc, id)?])
+        write_self_link(out, id)
     } else {
-        json!(in alloc; [])
+        write_no_link(out)
     }
 }
 
@@ -128,13 +132,22 @@ fn names_self(rels: &[Text]) -> bool
     rels.iter().any(|rel| rel.text() == SELF)
 }
 
-/// The link to the actor document (RFC 7033, section 4.4.4).
-fn self_link(alloc: Global, id: &str) -> Result<Value, AllocError>
-    ensures { IfOk result (λ link. view link ≡ self_link id.now) }
+// Writes the link to the actor document alone (RFC 7033, section 4.4.4).
+fn write_self_link(out: &mut Writer, id: &str) -> Result<(), AllocError>
+    ensures { OnOk result (IsWritten (array (items_of (self_link id.now ∷ []))) out.old out.new) }
 {
-    json!(in alloc; {
-        "href": id,
-        "rel": SELF,
-        "type": "application/activity+json",
-    })
+    out.begin_array()?;
+    out.begin_object()?;
+    write_str(out, "href", id)?;
+    write_str(out, "rel", SELF)?;
+    write_str(out, "type", "application/activity+json")?;
+    out.end_object()?;
+    out.end_array()
+}
+
+fn write_no_link(out: &mut Writer) -> Result<(), AllocError>
+    ensures { OnOk result (IsWritten (array (items_of [])) out.old out.new) }
+{
+    out.begin_array()?;
+    out.end_array()
 }

@@ -4,6 +4,7 @@
 mod documents;
 mod kinds;
 mod number;
+mod pages;
 mod places;
 mod posts;
 mod queries;
@@ -13,7 +14,7 @@ mod shown;
 mod texts;
 mod webfinger;
 
-pub use documents::{actor_value, jrd};
+pub use documents::{write_actor, write_jrd};
 pub use router::Routes;
 pub use routes::route;
 pub use shown::credentials;

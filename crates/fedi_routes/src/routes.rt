@@ -6,8 +6,9 @@ ghost use Rattle.fedi_model.specs.Places as places;
 ghost use Rattle.fedi_model.specs.Queries as queries;
 ghost use Rattle.fedi_model.specs.Requests as requests;
 ghost use Rattle.fedi_model.specs.Routes as model;
-ghost use Rattle.fedi_routes.specs.Memory.{MayNeedMemory, needs_memory};
+ghost use Rattle.fedi_routes.specs.Memory.{MayNeedMemory, has_query, needs_memory};
 
+use crate::pages::page_in;
 use crate::places::place_of;
 use crate::posts::post_of;
 use crate::router::Routes;
@@ -22,13 +23,13 @@ use std::alloc::{AllocError, Global};
 /// What the request with this body asks for, at the server of this host, once that is set: by the
 /// place to which its path leads, and then by its method.
 ///
-/// Members, activities, objects and WebFinger are read by GET and HEAD, and an outbox is posted to.
-/// Another method asks for `Ask::WrongMethod`. Collections are not read yet, and an inbox is not served
-/// at all: these ask for `Ask::Nowhere`, as a path that leads nowhere does. The path is the target up
-/// to its first question mark (RFC 3986, section 3.3). It is compared byte for byte and never decoded.
+/// Members, activities, objects, collections and WebFinger are read by GET and HEAD, and an outbox is
+/// posted to. Another method asks for `Ask::WrongMethod`. A post to an inbox is not taken yet, and asks
+/// for `Ask::Nowhere`, as a path that leads nowhere does. The path is the target up to its first
+/// question mark (RFC 3986, section 3.3). It is compared byte for byte and never decoded.
 ///
-/// The error is out of memory. It comes only of a query of WebFinger and of a post to an outbox, whose
-/// body is read.
+/// The error is out of memory. It comes only of a query of WebFinger or of a collection, and of a post to
+/// an outbox, whose body is read.
 #[tactic(auto, using(crate::proofs::AskLemmas::asked_once))]
 pub fn route(
     alloc: Global,
@@ -102,12 +103,12 @@ fn read_at(
 ) -> Result<Ask, AllocError>
     ensures asks { IfOk result (λ ask.
         ask ≡ model.read_at (option_copied host.entry) query.now place) }
-    ensures memory { OnErr result (place ≡ Place.Webfinger) }
+    ensures memory { OnErr result (IsTrue (has_query place)) }
 {
     match place {
         Place::Webfinger => Ok(Ask::Webfinger(resource_in(alloc, query, host)?)),
         Place::Actor(name) => Ok(Ask::Actor(name)),
-        Place::Collection(_) => Ok(Ask::Nowhere),
+        Place::Collection(which) => Ok(Ask::Collection(which, page_in(alloc, query)?)),
         Place::Activity(name, number) => Ok(Ask::Activity(name, number)),
         Place::Object(name, number) => Ok(Ask::Object(name, number)),
     }
@@ -128,6 +129,7 @@ fn post_to(
 {
     match place {
         Place::Collection(Which::Outbox(name)) => outbox_of(alloc, request, body, host, name),
+        Place::Collection(Which::Inbox(_)) => Ok(Ask::Nowhere),
         place => Ok(refused_at(&place)),
     }
 }
@@ -154,10 +156,7 @@ fn outbox_of(
 fn refused_at(place: &Place) -> Ask
     ensures { result ≡ model.refused_at place.now }
 {
-    match place {
-        Place::Collection(Which::Inbox(_)) => Ask::Nowhere,
-        place => Ask::WrongMethod(allow_of(place)),
-    }
+    Ask::WrongMethod(allow_of(place))
 }
 
 /// The methods that the place has.

@@ -1,22 +1,10 @@
-//! Tests of what no contract of the libraries says: that calls succeed with ample memory, and what outside vectors and worked texts
-//! want. They stand apart from the libraries, since a crate with tests is proved with them and without.
+//! Tests of whole runs of the program: that calls succeed with ample memory, and what outside vectors and worked texts want. They stand
+//! apart from the libraries, since a crate with tests is proved with them and without.
 //!
 //! What a test owns over many exits is slow to prove. So values are made in helper functions, and lent.
 #![tactic(auto)]
 
 #[cfg(test)]
-mod address;
-#[cfg(test)]
-mod mac;
-#[cfg(test)]
 mod members;
 #[cfg(test)]
-mod objects;
-#[cfg(test)]
-mod outside;
-#[cfg(test)]
 mod program;
-#[cfg(test)]
-mod requests;
-#[cfg(test)]
-mod routes;

@@ -13,6 +13,7 @@ use fedi_outside::{
     Source,
 };
 use fedi_program::{Connection, Reading, SystemClock, SystemEntropy, Writing, run};
+use fedi_store::PlainShelf;
 use fedi_text::Moment;
 use std::alloc::{AllocError, Global};
 use std::test::Fail;
@@ -984,9 +985,12 @@ const SIGHTS: [(&str, &str, &str); 42] = [
     ),
 ];
 
-/// The heads of the replies to readings of ana's first object, and of nothing.
+/// The heads of the replies to readings of ana's first object, of her outbox, and of nothing.
 const HELLO_HEAD: &str =
     "HTTP/1.1 200 OK\r\nDate: Sun, 06 Nov 1994 08:49:37 GMT\r\nContent-Type: application/activity+json\r\nContent-Length: 367\r\nConnection: close\r\n\r\n";
+
+const OUTBOX_HEAD: &str =
+    "HTTP/1.1 200 OK\r\nDate: Sun, 06 Nov 1994 08:49:37 GMT\r\nContent-Type: application/activity+json\r\nContent-Length: 248\r\nConnection: close\r\n\r\n";
 
 const NOT_FOUND_HEAD: &str =
     "HTTP/1.1 404 Not Found\r\nDate: Sun, 06 Nov 1994 08:49:37 GMT\r\nContent-Type: application/json\r\nContent-Length: 20\r\nConnection: close\r\n\r\n";
@@ -997,11 +1001,11 @@ const WRONG_KEY_HEAD: &str =
 const WRONG_METHOD_LAST: &str =
     "HTTP/1.1 405 Method Not Allowed\r\nDate: Sun, 06 Nov 1994 08:49:37 GMT\r\nAllow: GET, HEAD\r\nContent-Type: application/json\r\nContent-Length: 23\r\nConnection: close\r\n\r\n{\"error\":\"WrongMethod\"}";
 
-const NO_OUTBOX_METHOD_LAST: &str =
+const NO_POSTING_METHOD_LAST: &str =
     "HTTP/1.1 405 Method Not Allowed\r\nDate: Sun, 06 Nov 1994 08:49:37 GMT\r\nAllow: GET, HEAD, POST\r\nContent-Type: application/json\r\nContent-Length: 23\r\nConnection: close\r\n\r\n{\"error\":\"WrongMethod\"}";
 
 /// The last request of a connection, by its method, its version and how it closes, and the reply.
-const LAST_REQUESTS: [(&str, &str); 15] = [
+const LAST_REQUESTS: [(&str, &str); 16] = [
     (
         "HEAD /users/ana/o/1 HTTP/1.1\r\nHost: a\r\nConnection: close\r\n\r\n",
         HELLO_HEAD,
@@ -1015,7 +1019,8 @@ const LAST_REQUESTS: [(&str, &str); 15] = [
         WRONG_KEY_HEAD,
     ),
     ("HEAD /users/ana/o/1 HTTP/1.0\r\n\r\n", HELLO_HEAD),
-    ("HEAD /users/ana/outbox HTTP/1.0\r\n\r\n", NOT_FOUND_HEAD),
+    ("HEAD /users/ana/outbox HTTP/1.0\r\n\r\n", OUTBOX_HEAD),
+    ("HEAD /users/ana/boxes HTTP/1.0\r\n\r\n", NOT_FOUND_HEAD),
     ("GET /users/ana/o/1 HTTP/1.0\r\n\r\n", HELLO_LAST),
     (
         "GET /users/ana/o/1 HTTP/1.0\r\nHost: a\r\nHost: b\r\nConnection: keep-alive\r\n\r\n",
@@ -1061,8 +1066,28 @@ fn requests_are_answered_by_method_and_version(rt: HostRuntime) -> Result<(), Fa
     Ok(())
 }
 
-/// The paths of the server, each with the reply to a method that is served nowhere, and to GET. Collections and inboxes
-/// are not served yet.
+const OUTBOX_LAST: &str =
+    "HTTP/1.1 200 OK\r\nDate: Sun, 06 Nov 1994 08:49:37 GMT\r\nContent-Type: application/activity+json\r\nContent-Length: 248\r\nConnection: close\r\n\r\n{\"@context\":\"https://www.w3.org/ns/activitystreams\",\"first\":\"https://club.example/users/ana/outbox?page=0\",\"id\":\"https://club.example/users/ana/outbox\",\"last\":\"https://club.example/users/ana/outbox?page=0\",\"totalItems\":1,\"type\":\"OrderedCollection\"}";
+
+const FOLLOWERS_LAST: &str =
+    "HTTP/1.1 200 OK\r\nDate: Sun, 06 Nov 1994 08:49:37 GMT\r\nContent-Type: application/activity+json\r\nContent-Length: 142\r\nConnection: close\r\n\r\n{\"@context\":\"https://www.w3.org/ns/activitystreams\",\"id\":\"https://club.example/users/ana/followers\",\"totalItems\":0,\"type\":\"OrderedCollection\"}";
+
+const FOLLOWING_LAST: &str =
+    "HTTP/1.1 200 OK\r\nDate: Sun, 06 Nov 1994 08:49:37 GMT\r\nContent-Type: application/activity+json\r\nContent-Length: 142\r\nConnection: close\r\n\r\n{\"@context\":\"https://www.w3.org/ns/activitystreams\",\"id\":\"https://club.example/users/ana/following\",\"totalItems\":0,\"type\":\"OrderedCollection\"}";
+
+const LIKED_LAST: &str =
+    "HTTP/1.1 200 OK\r\nDate: Sun, 06 Nov 1994 08:49:37 GMT\r\nContent-Type: application/activity+json\r\nContent-Length: 138\r\nConnection: close\r\n\r\n{\"@context\":\"https://www.w3.org/ns/activitystreams\",\"id\":\"https://club.example/users/ana/liked\",\"totalItems\":0,\"type\":\"OrderedCollection\"}";
+
+const LIKES_LAST: &str =
+    "HTTP/1.1 200 OK\r\nDate: Sun, 06 Nov 1994 08:49:37 GMT\r\nContent-Type: application/activity+json\r\nContent-Length: 142\r\nConnection: close\r\n\r\n{\"@context\":\"https://www.w3.org/ns/activitystreams\",\"id\":\"https://club.example/users/ana/o/1/likes\",\"totalItems\":0,\"type\":\"OrderedCollection\"}";
+
+const SHARES_LAST: &str =
+    "HTTP/1.1 200 OK\r\nDate: Sun, 06 Nov 1994 08:49:37 GMT\r\nContent-Type: application/activity+json\r\nContent-Length: 143\r\nConnection: close\r\n\r\n{\"@context\":\"https://www.w3.org/ns/activitystreams\",\"id\":\"https://club.example/users/ana/o/1/shares\",\"totalItems\":0,\"type\":\"OrderedCollection\"}";
+
+const NO_KEY_LAST: &str =
+    "HTTP/1.1 401 Unauthorized\r\nDate: Sun, 06 Nov 1994 08:49:37 GMT\r\nWWW-Authenticate: Bearer\r\nContent-Type: application/json\r\nContent-Length: 17\r\nConnection: close\r\n\r\n{\"error\":\"NoKey\"}";
+
+/// The paths of the server, each with the reply to a method that is served nowhere, and to GET.
 const PATHS: [(&str, &str, &str); 13] = [
     (
         "/.well-known/webfinger?resource=acct:ana@club.example",
@@ -1071,15 +1096,15 @@ const PATHS: [(&str, &str, &str); 13] = [
     ),
     ("/.well-known/webfinger", WRONG_METHOD_LAST, BAD_QUERY_LAST),
     ("/users/ana", WRONG_METHOD_LAST, ACTOR_LAST),
-    ("/users/ana/outbox", NO_OUTBOX_METHOD_LAST, NOT_FOUND_LAST),
-    ("/users/ana/inbox", NOT_FOUND_LAST, NOT_FOUND_LAST),
-    ("/users/ana/followers", WRONG_METHOD_LAST, NOT_FOUND_LAST),
-    ("/users/ana/following", WRONG_METHOD_LAST, NOT_FOUND_LAST),
-    ("/users/ana/liked", WRONG_METHOD_LAST, NOT_FOUND_LAST),
+    ("/users/ana/outbox", NO_POSTING_METHOD_LAST, OUTBOX_LAST),
+    ("/users/ana/inbox", NO_POSTING_METHOD_LAST, NO_KEY_LAST),
+    ("/users/ana/followers", WRONG_METHOD_LAST, FOLLOWERS_LAST),
+    ("/users/ana/following", WRONG_METHOD_LAST, FOLLOWING_LAST),
+    ("/users/ana/liked", WRONG_METHOD_LAST, LIKED_LAST),
     ("/users/eve/a/9", WRONG_METHOD_LAST, NOT_FOUND_LAST),
     ("/users/ana/o/1", WRONG_METHOD_LAST, HELLO_LAST),
-    ("/users/ana/o/1/likes", WRONG_METHOD_LAST, NOT_FOUND_LAST),
-    ("/users/ana/o/1/shares", WRONG_METHOD_LAST, NOT_FOUND_LAST),
+    ("/users/ana/o/1/likes", WRONG_METHOD_LAST, LIKES_LAST),
+    ("/users/ana/o/1/shares", WRONG_METHOD_LAST, SHARES_LAST),
     ("/users/ana/o/01", NOT_FOUND_LAST, NOT_FOUND_LAST),
 ];
 
@@ -1174,7 +1199,7 @@ fn is_body_of(body: &[u8], reply: &str) -> bool {
 /// Whether the machine answers this caller so.
 fn is_answered(
     alloc: Global,
-    core: &Core<MemoryKeeper>,
+    core: &Core<PlainShelf, MemoryKeeper>,
     row: &(&str, u32, &str),
 ) -> Result<bool, Fail> {
     let (who, number, wanted) = *row;
@@ -1187,8 +1212,8 @@ fn is_answered(
 
 /// The same of the machine over the example town.
 fn is_answered_in_town(alloc: Global, row: &(&str, u32, &str)) -> Result<bool, Fail> {
-    let keeper = MemoryKeeper::new(alloc);
-    match Core::open(alloc, example_history(alloc)?, keeper) {
+    let (shelf, keeper) = (PlainShelf::empty(alloc)?, MemoryKeeper::new(alloc));
+    match Core::open(alloc, example_history(alloc)?, shelf, keeper) {
         Ok(core) => is_answered(alloc, &core, row),
         Err(_) => Ok(false),
     }

@@ -1,13 +1,13 @@
 //! The replies to what is read. Out of memory is the only error.
 
-ghost use Rattle.std.specs.Prelude.{◌≡◌, ◌&&◌, false, IfOk, IfSome, Some, option_copied, if◌then◌else◌};
+ghost use Rattle.std.specs.Prelude.{◌≡◌, ◌&&◌, IfOk, option_copied, if◌then◌else◌};
 ghost use Rattle.std.specs.List.{find};
-ghost use Rattle.serde_json.specs.View.{view};
-ghost use Rattle.serde_json.specs.Written.{has_float};
+ghost use Rattle.serde_json.specs.Data.{Data};
 ghost use Rattle.fedi_asks.specs.Asks.{id_at};
 ghost use Rattle.fedi_asks.specs.Reading.{activity_answer, activity_document, object_answer, object_document};
 ghost use Rattle.fedi_model.specs.Replies.{reply_of, showing};
 ghost use Rattle.fedi_objects.specs.Forms.{is_tombstone};
+ghost use Rattle.fedi_objects.specs.Writing.{IsDocument};
 ghost use Rattle.fedi_town.specs.Ids.{activity_id, object_id};
 ghost use Rattle.fedi_town.specs.Objects.{makes};
 ghost use Rattle.fedi_town.specs.Relations.{has_activity_id};
@@ -20,40 +20,33 @@ use fedi_address::{Iri, LocalName};
 use fedi_effects::{Facts, has_activity_id, makes};
 use fedi_kept::Kept;
 use fedi_model::{Body, Form, Reply, refusal_reply};
-use fedi_objects::{StrippedObject, object_value, public_text, public_value};
+use fedi_objects::{StrippedObject, new_document, text_of, write_activity, write_object};
 use fedi_town::{Caller, Refusal, activity_iri, object_iri};
 use http::StatusCode;
-use serde_json::Value;
+use json::Writer;
 use std::alloc::{AllocError, Global};
 
-fn showing(alloc: Global, status: StatusCode, value: &Value) -> Result<Reply, AllocError>
-    requires { has_float (view value.now) ≡ false }
-    ensures { IfOk result (λ r. r ≡ showing status Form.Activity (view value.now)) }
+// A document of ActivityStreams.
+fn showing(status: StatusCode, out: Writer) -> Reply
+    ensures { (d : Data) → IsDocument d out → result ≡ showing status Form.Activity d }
 {
-    let text = public_text(alloc, value)?;
-    Ok(Reply {
+    Reply {
         status,
         form: Form::Activity,
         location: None,
         allow: None,
-        body: Body::from(text),
-    })
+        body: Body::from(text_of(out)),
+    }
 }
 
 // ---- activities
 
-#[tactic(auto, unfolding(fedi_asks::specs::Reading::activity_document))]
-fn activity_document(
-    alloc: Global,
-    facts: &Facts,
-    act: &Kept,
-    id: &Iri,
-) -> Result<Reply, AllocError>
-    requires { act.now.activity.id ≡ Some id.now }
+fn activity_document(alloc: Global, facts: &Facts, act: &Kept) -> Result<Reply, AllocError>
     ensures { IfOk result (λ r. r ≡ reply_of (activity_document facts.now.town act.now)) }
 {
-    let value = public_value(alloc, &shown_of(facts, act, id), true)?;
-    showing(alloc, StatusCode::OK, &value)
+    let mut out = new_document(alloc)?;
+    write_activity(&mut out, &shown_of(facts, act, true), true)?;
+    Ok(showing(StatusCode::OK, out))
 }
 
 // The first of these that has this id and that the caller sees. It stands alone, as `first_maker`
@@ -68,8 +61,7 @@ fn first_act<'a>(acts: &'a [Kept], facts: &Facts, caller: &Caller, id: &Iri) -> 
 
 // The activity of this id, among those that the caller sees.
 fn seen_act<'a>(facts: &'a Facts, caller: &Caller, id: &Iri) -> Option<&'a Kept>
-    ensures found { option_copied result ≡ seen_act facts.now.town caller.now id.now }
-    ensures own { IfSome (option_copied result) (λ x. x.activity.id ≡ Some id.now) }
+    ensures { option_copied result ≡ seen_act facts.now.town caller.now id.now }
 {
     first_act(facts.acts(), facts, caller, id)
 }
@@ -91,7 +83,7 @@ pub fn activity_reply(
     };
     let id = activity_iri(alloc, host, name, u64::from(number))?;
     match seen_act(facts, caller, &id) {
-        Some(act) => activity_document(alloc, facts, act, &id),
+        Some(act) => activity_document(alloc, facts, act),
         None => Ok(refusal_reply(Refusal::NotFound)),
     }
 }
@@ -109,12 +101,12 @@ fn status_of(object: &StrippedObject) -> StatusCode
     }
 }
 
-#[tactic(auto, using(crate::proofs::ShownForms::shown_object))]
 fn object_document(alloc: Global, object: &StrippedObject) -> Result<Reply, AllocError>
     ensures { IfOk result (λ r. r ≡ reply_of (object_document (Some object.now))) }
 {
-    let value = object_value(alloc, object, true, true)?;
-    showing(alloc, status_of(object), &value)
+    let mut out = new_document(alloc)?;
+    write_object(&mut out, object, true, true)?;
+    Ok(showing(status_of(object), out))
 }
 
 // The first of these that made the object of this id and that the caller sees.
@@ -125,8 +117,8 @@ fn first_maker<'a>(acts: &'a [Kept], facts: &Facts, caller: &Caller, id: &Iri) -
     acts.iter().find(|x| makes(x, id) && sees(facts, caller, x))
 }
 
-// The activity that made the object of this id, among those that the caller sees.
-fn seen_maker<'a>(facts: &'a Facts, caller: &Caller, id: &Iri) -> Option<&'a Kept>
+/// The activity that made the object of this id, among those that the caller sees, or none.
+pub fn seen_maker<'a>(facts: &'a Facts, caller: &Caller, id: &Iri) -> Option<&'a Kept>
     ensures { option_copied result ≡ seen_maker facts.now.town caller.now id.now }
 {
     first_maker(facts.acts(), facts, caller, id)

@@ -1,6 +1,6 @@
 //! What is shown of an activity.
 
-ghost use Rattle.std.specs.Prelude.{◌≡◌, Bool, Some, true, option_copied, option_map};
+ghost use Rattle.std.specs.Prelude.{◌≡◌, Bool, option_copied, option_map};
 ghost use Rattle.fedi_objects.specs.Forms.{activity_form, object_in, shown_in};
 ghost use Rattle.fedi_objects.specs.Objects.{stripped_object};
 ghost use Rattle.fedi_town.specs.Objects.{object_of, maker_of, whole_of};
@@ -57,12 +57,11 @@ fn shown_object<'a>(facts: &'a Facts, act: &'a Kept) -> ShownObject<'a>
     }
 }
 
-/// What those see of a member's activity of this id who may see it: without `bto` and `bcc`, and with
-/// its object as it stands now (ActivityPub, section 6).
+/// What those see of an activity who may see it: without `bto` and `bcc`, and with its object as it
+/// stands now (ActivityPub, section 6). `local` is whether its author is a member of this server.
 #[tactic(auto, using(crate::proofs::ShownForms::shown_form))]
-pub fn shown_of<'a>(facts: &'a Facts, act: &'a Kept, id: &'a Iri) -> Shown<'a>
-    requires { act.now.activity.id ≡ Some id.now }
-    ensures local { result.local ≡ true }
+pub fn shown_of<'a>(facts: &'a Facts, act: &'a Kept, local: bool) -> Shown<'a>
+    ensures local { result.local ≡ local }
     ensures state { result.state ≡ act.now.state }
     ensures public { result.public ≡ act.now.is_public }
     ensures form { (local context : Bool)
@@ -70,7 +69,7 @@ pub fn shown_of<'a>(facts: &'a Facts, act: &'a Kept, id: &'a Iri) -> Shown<'a>
         ≡ activity_form local context act.now.author (shown_activity facts.now.town act.now) }
 {
     Shown {
-        id,
+        id: act.id(),
         author: act.author(),
         kind: act.kind(),
         target: act.target(),
@@ -85,7 +84,7 @@ pub fn shown_of<'a>(facts: &'a Facts, act: &'a Kept, id: &'a Iri) -> Shown<'a>
         tags: act.tags(),
         state: act.state(),
         public: act.is_public(),
-        local: true,
+        local,
         object: shown_object(facts, act),
     }
 }

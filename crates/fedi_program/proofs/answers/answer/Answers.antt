@@ -2,8 +2,9 @@ use Rattle.std.proofs.Common.{◌≡◌, ℕ, List, Option, None, Some, refl, su
 use Rattle.fedi_entry.specs.Codes.{code_of}
 use Rattle.fedi_log.specs.Keeping.{state_of}
 use Rattle.fedi_model.specs.Routes.{IsPostableAt}
-use Rattle.fedi_town.specs.Histories.{town}
 use Rattle.fedi_program.proofs.AnswerLemmas.{IsDecided, decided, failed_by, failed_turn, failed_untold, full_by, full_turn, full_untold, kept_turn, memory_by, nothing_done, nothing_kept, read_turn, refused_turn, texted, untexted}
+use Rattle.fedi_program.proofs.CrashLemmas.{survives_still}
+use Rattle.fedi_program.proofs.Surviving.{kept_survives, refused_survives}
 use Rattle.fedi_program.proofs.answers.answer.Goals as goal
 
 pub returns-in-Err-clause-text : goal.returns-in-Err-clause-text
@@ -90,3 +91,36 @@ returns-in_err-ask-clause-unanswered g c = untexted _ _ _ _ _ c.args.request.now
 
 pub decide-requires-clause-postable : goal.decide-requires-clause-postable
 decide-requires-clause-postable g c = subst (λ (host : Option (List ℕ)). IsPostableAt host c.in_ok-ask.ask) c.host.ensures c.in_ok-ask.ensures.postable
+
+pub returns-in-Err-clause-crash : goal.returns-in-Err-clause-crash
+returns-in-Err-clause-crash g c = survives_still _ _ _ (g.met.P.Keeper.crash_now c.args.core.now.keeper)
+
+pub returns-in_err-ask-clause-crash : goal.returns-in_err-ask-clause-crash
+returns-in_err-ask-clause-crash g c = survives_still _ _ _ (g.met.P.Keeper.crash_now c.args.core.now.keeper)
+
+pub returns-in_err-reply-clause-crash : goal.returns-in_err-reply-clause-crash
+returns-in_err-reply-clause-crash g c = survives_still _ _ _ (g.met.P.Keeper.crash_now c.args.core.now.keeper)
+
+pub returns-in_err-text-clause-crash : goal.returns-in_err-text-clause-crash
+returns-in_err-text-clause-crash g c = survives_still _ _ _ (g.met.P.Keeper.crash_now c.args.core.now.keeper)
+
+pub returns-in_default-clause-crash : goal.returns-in_default-clause-crash
+returns-in_default-clause-crash g c = survives_still _ _ _ (g.met.P.Keeper.crash_now c.args.core.now.keeper)
+
+pub returns-in-Ok-keep-clause-crash : goal.returns-in-Ok-keep-clause-crash
+returns-in-Ok-keep-clause-crash g c = kept_survives _ _ _ _ c.in-Some.entry _ _ c.in-Ok-keep.ensures.kept c.in-Ok-keep.ensures.time
+
+pub returns-in-Full-clause-crash : goal.returns-in-Full-clause-crash
+returns-in-Full-clause-crash g c =
+    let e = c.in-Err-keep.ensures in
+    refused_survives _ g.P.Keeper.room _ _ c.in-Some.entry c.in-Err-keep.field-0.fault _ _ e.same e.refused e.time_refused
+
+pub returns-in-Failed-clause-crash : goal.returns-in-Failed-clause-crash
+returns-in-Failed-clause-crash g c =
+    let e = c.in-Err-keep.ensures in
+    refused_survives _ g.P.Keeper.room _ _ c.in-Some.entry c.in-Err-keep.field-0.fault _ _ e.same e.refused e.time_refused
+
+pub returns-clause-crash : goal.returns-clause-crash
+returns-clause-crash g c =
+    let e = c.in-Err-keep.ensures in
+    refused_survives _ g.P.Keeper.room _ _ c.in-Some.entry c.in-Err-keep.field-0.fault _ _ e.same e.refused e.time_refused

@@ -1,6 +1,7 @@
 use Rattle.std.proofs.Common.{refl}
 use Rattle.fedi_program.specs.Endings.{output_by, scene_of}
 use Rattle.fedi_program.proofs.SessionLemmas.{counted_on, cut_steps, end_steps, fault_steps, no_memory_steps, now_of, refused_steps, request_steps}
+use Rattle.fedi_program.proofs.CrashLemmas.{survives_still}
 use Rattle.fedi_program.proofs.sessions.exchange.Goals as goal
 
 pub returns-in-Request-clause-steps : goal.returns-in-Request-clause-steps
@@ -38,3 +39,18 @@ returns-in-Request-clause-counted g c =
     let reads = g.S.Source.read_faults c.read_request.new.source in
     counted_on (g.S.Source.read_faults c.args.connection.now.input) reads (g.O.Sink.write_faults c.args.connection.now.out) _ c.send_reply.result
     c.in-Request.ensures.reads.faults (c.send_reply.ensures.counted reads)
+
+pub returns-in-Refused-clause-crash : goal.returns-in-Refused-clause-crash
+returns-in-Refused-clause-crash g c = survives_still _ _ _ (g.met.P.Keeper.crash_now c.args.core.now.keeper)
+
+pub returns-in-End-clause-crash : goal.returns-in-End-clause-crash
+returns-in-End-clause-crash g c = survives_still _ _ _ (g.met.P.Keeper.crash_now c.args.core.now.keeper)
+
+pub returns-in-CutShort-clause-crash : goal.returns-in-CutShort-clause-crash
+returns-in-CutShort-clause-crash g c = survives_still _ _ _ (g.met.P.Keeper.crash_now c.args.core.now.keeper)
+
+pub returns-in-ReadFault-clause-crash : goal.returns-in-ReadFault-clause-crash
+returns-in-ReadFault-clause-crash g c = survives_still _ _ _ (g.met.P.Keeper.crash_now c.args.core.now.keeper)
+
+pub returns-in-Memory-clause-crash : goal.returns-in-Memory-clause-crash
+returns-in-Memory-clause-crash g c = survives_still _ _ _ (g.met.P.Keeper.crash_now c.args.core.now.keeper)

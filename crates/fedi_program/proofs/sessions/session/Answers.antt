@@ -3,12 +3,14 @@ use Rattle.fedi_log.specs.Keeping.{state_of}
 use Rattle.fedi_log.specs.Log.{given}
 use Rattle.fedi_program.specs.Endings.{output_by, scene_of, setting_of}
 use Rattle.fedi_program.proofs.Conversing.{caused_on, stands_first, stands_next, stands_over, told_on}
+use Rattle.fedi_program.proofs.CrashLemmas.{survives_first, survives_more}
 use Rattle.fedi_program.proofs.sessions.session.Goals as goal
 
 pub loop-served-init : goal.loop-served-init
 loop-served-init g c = record {
   stands = rw c.new-buffer.ensures (stands_first _ _ _ refl refl);
   counted = refl;
+  survives = survives_first _ _ _ _ refl refl (g.met.P.Keeper.crash_now c.args.core.now.keeper);
   clock = refl;
 }
 
@@ -25,6 +27,9 @@ returns-in-Some-clause-ends g c =
     c.loop-served.buffer.pending c.exchange.new.buffer.pending was state c.loop-served.served c.in-Some.end held.stands
     (λ log holds. told_on g.P.Keeper.growth g.P.Keeper.room (g.C.Clock.told c.args.connection.now.clock) (g.C.Clock.told c.loop-served.connection.clock) opened log c.loop-served.served
     before c.loop-served.buffer.pending after_it c.exchange.new.buffer.pending state (Some c.in-Some.end) (ap g.C.Clock.told held.clock) (c.in-Some.ensures.steps opened log holds))
+
+pub returns-in-Some-clause-crashes : goal.returns-in-Some-clause-crashes
+returns-in-Some-clause-crashes g c = survives_more _ _ _ _ _ _ _ _ c.loop-served.invariant.survives c.exchange.ensures.crash
 
 pub returns-in-Some-clause-causes : goal.returns-in-Some-clause-causes
 returns-in-Some-clause-causes g c = caused_on _ _ _ c.in-Some.end c.loop-served.invariant.counted c.in-Some.ensures.counted
@@ -47,5 +52,6 @@ loop-served-preserved g c =
           (λ log holds. told_on g.P.Keeper.growth g.P.Keeper.room (g.C.Clock.told c.args.connection.now.clock) (g.C.Clock.told c.loop-served.connection.clock) opened log c.loop-served.served
           before c.loop-served.buffer.pending after_it c.exchange.new.buffer.pending state None (ap g.C.Clock.told held.clock) (c.in_default.ensures.steps opened log holds));
       counted = c.in_default.ensures.counted ∙ held.counted;
+      survives = survives_more _ _ _ _ _ _ _ _ held.survives c.exchange.ensures.crash;
       clock = c.exchange.ensures.clock ∙ held.clock;
     }

@@ -6,8 +6,8 @@ use Rattle.fedi_core.proofs.machine.Core.keep.Goals as goal
 
 pub invariant_of-self : goal.invariant_of-self
 invariant_of-self g c =
-    grown c.self.inside.facts c.store_entry.new.facts c.self.inside.history.items c.args.self.now.history c.push.new.history.items c.args.entry
-    c.self.invariant (ap (λ m. m.history) c.self.view_is) c.requires c.in-Ok.ensures.facts
+    grown (g.S.Shelf.holding c.self.inside.shelf) (g.S.Shelf.holding c.store_entry.new.shelf) c.self.inside.history.items c.args.self.now.history c.push.new.history.items c.args.entry
+    c.self.invariant (ap (λ m. m.history) c.self.view_is) c.requires c.in-Ok.ensures.grown
     (c.push.ensures ∙ ap (λ (h : List Entry). h ++ c.args.entry ∷ []) c.store_entry.ensures.history)
 
 pub returns-in-Ok-clause-legal : goal.returns-in-Ok-clause-legal

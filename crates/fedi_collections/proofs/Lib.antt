@@ -1,0 +1,4 @@
+mod Adding
+mod DocumentParts
+mod Found
+mod ItemTokens

@@ -1,0 +1,85 @@
+//! The items of a page. Out of memory is the only error.
+
+ghost use Rattle.std.specs.Prelude.{◌≡◌, List, OnOk, Some, map, option_copied, reverse, slice_get};
+ghost use Rattle.serde_json.specs.Data.{array};
+ghost use Rattle.serde_json.specs.View.{items_of};
+ghost use Rattle.fedi_asks.specs.Documents.{embedded_form, item_form};
+ghost use Rattle.fedi_collections.specs.Members.{tokens_at};
+ghost use Rattle.fedi_objects.specs.Writing.{Adds, IsWritten};
+ghost use Rattle.fedi_town.specs.Collections.{text_of};
+ghost use Rattle.fedi_town.specs.declared.act.Act.{Act};
+
+use fedi_address::Iri;
+use fedi_effects::{Facts, is_of_town};
+use fedi_kept::Kept;
+use fedi_objects::write_activity;
+use fedi_town::Which;
+use fedi_visible::shown_of;
+use json::Writer;
+use std::alloc::AllocError;
+
+// Writes an activity as it stands in a page.
+fn write_embedded(out: &mut Writer, facts: &Facts, act: &Kept) -> Result<(), AllocError>
+    ensures { OnOk result (IsWritten (embedded_form facts.now.town act.now) out.old out.new) }
+{
+    let local = is_of_town(facts, act.author());
+    let shown = shown_of(facts, act, local);
+    write_activity(out, &shown, false)
+}
+
+fn text_or_empty(iri: Option<&Iri>) -> &str
+    ensures { result.now ≡ text_of (option_copied iri.entry) }
+{
+    match iri {
+        Some(iri) => iri.text(),
+        None => "",
+    }
+}
+
+// Writes an item of this collection.
+fn write_item(out: &mut Writer, facts: &Facts, which: &Which, act: &Kept) -> Result<(), AllocError>
+    ensures { OnOk result
+        (IsWritten (item_form facts.now.town which.now act.now) out.old out.new) }
+{
+    match which {
+        Which::Inbox(_) | Which::Outbox(_) => write_embedded(out, facts, act),
+        Which::Followers(_) => out.string(act.author().text()),
+        Which::Following(_) | Which::Liked(_) => out.string(text_or_empty(act.object_id())),
+        Which::Likes(..) | Which::Shares(..) => out.string(text_or_empty(act.id())),
+    }
+}
+
+// Writes the item at this place among the activities.
+fn write_place(
+    out: &mut Writer,
+    facts: &Facts,
+    which: &Which,
+    place: usize,
+) -> Result<(), AllocError>
+    ensures { OnOk result (Adds (tokens_at (item_form facts.now.town which.now)
+        (slice_get facts.now.town.acts place)) out.old out.new) }
+{
+    match facts.acts().get(place) {
+        Some(act) => write_item(out, facts, which, act),
+        None => Ok(()),
+    }
+}
+
+/// Writes the items at these places among the activities, the last one first.
+pub(crate) fn write_items(
+    out: &mut Writer,
+    facts: &Facts,
+    which: &Which,
+    places: &[usize],
+) -> Result<(), AllocError>
+    ensures { OnOk result ((xs : List Act)
+        → map (slice_get facts.now.town.acts) places.now ≡ map Some xs
+        → IsWritten (array (items_of (map (item_form facts.now.town which.now) (reverse xs))))
+        out.old out.new) }
+{
+    out.begin_array()?;
+    for place in places.iter().rev() {
+        write_place(out, facts, which, *place)?;
+    }
+    out.end_array()
+}

@@ -1,0 +1,228 @@
+//! The replies to who reads a collection. Out of memory is the only error.
+
+ghost use Rattle.std.specs.Prelude.{◌≡◌, IfOk, Some, option_copied};
+ghost use Rattle.fedi_asks.specs.Reading.{collection_answer, is_malformed, items_answer, marks_rule, name_of, object_rule, owner_answer, reading_rule};
+ghost use Rattle.fedi_town.specs.Collections.{owner_of};
+ghost use Rattle.fedi_town.specs.Towns.{id_of};
+ghost use Rattle.fedi_town.specs.declared.caller.Which.TheVariants.{Inbox, Likes};
+ghost use Rattle.fedi_model.specs.Replies.{reply_of};
+ghost use Rattle.fedi_model.specs.declared.reply.Form.TheVariants.{Activity};
+
+use crate::pages::{page, summary};
+use fedi_address::{Iri, LocalName};
+use fedi_effects::Facts;
+use fedi_kept::Kept;
+use fedi_model::{Body, Form, PageAsk, Reply, refusal_reply};
+use fedi_town::{Caller, Refusal, Which, object_iri};
+use fedi_visible::{Shelf, is_nobody, is_self, seen_maker};
+use http::StatusCode;
+use std::alloc::{AllocError, Global};
+
+// A document with this text.
+fn showing(text: Vec<u8>) -> Reply
+    ensures { result ≡ record {
+      status = 200;
+      form = Activity;
+      location = None;
+      allow = None;
+      body = text.items;
+    } }
+{
+    Reply {
+        status: StatusCode::OK,
+        form: Form::Activity,
+        location: None,
+        allow: None,
+        body: Body::from(text),
+    }
+}
+
+// ---- rules
+
+fn name_of(which: &Which) -> &LocalName
+    ensures { result.now ≡ name_of which.now }
+{
+    match which {
+        Which::Inbox(name)
+        | Which::Outbox(name)
+        | Which::Followers(name)
+        | Which::Following(name)
+        | Which::Liked(name)
+        | Which::Likes(name, _)
+        | Which::Shares(name, _) => name,
+    }
+}
+
+// Why the caller may not read the member's inbox, which is the member's alone (ActivityPub, section 5.2).
+fn inbox_rule(caller: &Caller, name: &LocalName) -> Option<Refusal>
+    ensures { result ≡ reading_rule caller.now (Inbox name.now) }
+{
+    if is_nobody(caller) {
+        Some(Refusal::NoKey)
+    } else if is_self(caller, name) {
+        None
+    } else {
+        Some(Refusal::NotOwner)
+    }
+}
+
+// Why the caller may not read the collection, whatever it has.
+fn reading_rule(caller: &Caller, which: &Which) -> Option<Refusal>
+    ensures { result ≡ reading_rule caller.now which.now }
+{
+    match which {
+        Which::Inbox(name) => inbox_rule(caller, name),
+        Which::Outbox(_) | Which::Followers(_) | Which::Following(_) | Which::Liked(_) => None,
+        Which::Likes(..) | Which::Shares(..) => None,
+    }
+}
+
+// Why the Likes and Announces are not read of the object that this activity made.
+fn marks_rule(maker: Option<&Kept>) -> Option<Refusal>
+    ensures { result ≡ marks_rule (option_copied maker.entry) }
+{
+    match maker {
+        Some(maker) => maker.is_deleted().then_some(Refusal::Gone),
+        None => Some(Refusal::NotFound),
+    }
+}
+
+// Why the collection is not read of the object of this id, if it is an object's.
+fn object_rule(facts: &Facts, caller: &Caller, which: &Which, id: &Iri) -> Option<Refusal>
+    ensures { result ≡ object_rule facts.now.town caller.now which.now id.now }
+{
+    match which {
+        Which::Likes(..) | Which::Shares(..) => marks_rule(seen_maker(facts, caller, id)),
+        Which::Inbox(_) | Which::Outbox(_) => None,
+        Which::Followers(_) | Which::Following(_) | Which::Liked(_) => None,
+    }
+}
+
+// ---- owners
+
+// The id of the object that the member's activity of this number made.
+fn object_owner(
+    alloc: Global,
+    facts: &Facts,
+    name: &LocalName,
+    number: u32,
+) -> Result<Option<Iri>, AllocError>
+    ensures { IfOk result (λ owner. owner ≡ owner_of facts.now.town (Likes name.now number)) }
+{
+    match facts.host() {
+        Some(host) => {
+            let id = object_iri(alloc, host, name, u64::from(number))?;
+            Ok(Some(id))
+        }
+        None => Ok(None),
+    }
+}
+
+// The id of the member or the object whose collection it is. The member's id is known.
+fn owner_of(
+    alloc: Global,
+    facts: &Facts,
+    which: &Which,
+    member: &Iri,
+) -> Result<Option<Iri>, AllocError>
+    ensures { IfOk result (λ owner. id_of facts.now.town (name_of which.now) ≡ Some member.now
+        → owner ≡ owner_of facts.now.town which.now) }
+{
+    match which {
+        Which::Likes(name, number) | Which::Shares(name, number) => {
+            object_owner(alloc, facts, name, *number)
+        }
+        Which::Inbox(_)
+        | Which::Outbox(_)
+        | Which::Followers(_)
+        | Which::Following(_)
+        | Which::Liked(_) => {
+            let id = member.clone()?;
+            Ok(Some(id))
+        }
+    }
+}
+
+// ---- replies
+
+#[tactic(auto, unfolding(fedi_asks::specs::Reading::items_answer))]
+fn items_reply<S: Shelf>(
+    alloc: Global,
+    shelf: &S,
+    caller: &Caller,
+    which: &Which,
+    owner: &Iri,
+    part: &PageAsk,
+) -> Result<Reply, AllocError>
+    ensures { IfOk result (λ r. r ≡ reply_of
+        (items_answer (S.holding shelf.now).town caller.now which.now owner.now part.now)) }
+{
+    match part {
+        PageAsk::Summary => {
+            let text = summary(alloc, shelf, caller, which, owner)?;
+            Ok(showing(text))
+        }
+        PageAsk::Page(number) => match page(alloc, shelf, caller, which, owner, *number)? {
+            Some(text) => Ok(showing(text)),
+            None => Ok(refusal_reply(Refusal::NotFound)),
+        },
+        PageAsk::Malformed => Ok(refusal_reply(Refusal::BadQuery)),
+    }
+}
+
+// The reply to who reads the collection of the owner with this id.
+fn owner_reply<S: Shelf>(
+    alloc: Global,
+    shelf: &S,
+    caller: &Caller,
+    which: &Which,
+    owner: &Iri,
+    part: &PageAsk,
+) -> Result<Reply, AllocError>
+    ensures { IfOk result (λ r. r ≡ reply_of (owner_answer
+        (S.holding shelf.now).town caller.now which.now part.now (Some owner.now))) }
+{
+    if let Some(refusal) = reading_rule(caller, which) {
+        return Ok(refusal_reply(refusal));
+    }
+    if let Some(refusal) = object_rule(shelf.facts(), caller, which, owner) {
+        return Ok(refusal_reply(refusal));
+    }
+    items_reply(alloc, shelf, caller, which, owner, part)
+}
+
+fn is_malformed(part: &PageAsk) -> bool
+    ensures { result ≡ is_malformed part.now }
+{
+    match part {
+        PageAsk::Malformed => true,
+        PageAsk::Summary | PageAsk::Page(_) => false,
+    }
+}
+
+/// The reply to who reads a collection, or a page of it (ActivityPub, section 5). `NotFound` if there is no
+/// such member, or no page of that number; `BadQuery` if the page is no number; `NoKey` and `NotOwner` if
+/// an inbox is read by somebody else than its owner (section 5.2); for the Likes and Announces of an object
+/// `NotFound` if the reader does not see the object, and `Gone` if it was deleted.
+pub fn collection_reply<S: Shelf>(
+    alloc: Global,
+    shelf: &S,
+    caller: &Caller,
+    which: &Which,
+    part: &PageAsk,
+) -> Result<Reply, AllocError>
+    ensures { IfOk result (λ r. r ≡ reply_of
+        (collection_answer (S.holding shelf.now).town caller.now which.now part.now)) }
+{
+    let facts = shelf.facts();
+    let Some(member) = facts.id_of(name_of(which)) else {
+        return Ok(refusal_reply(Refusal::NotFound));
+    };
+    if is_malformed(part) {
+        return Ok(refusal_reply(Refusal::BadQuery));
+    }
+    match owner_of(alloc, facts, which, member)? {
+        Some(owner) => owner_reply(alloc, shelf, caller, which, &owner, part),
+        None => Ok(refusal_reply(Refusal::NotFound)),
+    }
+}

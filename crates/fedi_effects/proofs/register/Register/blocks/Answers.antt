@@ -1,8 +1,0 @@
-use Rattle.std.proofs.Common.{◌≡◌, rules, sym, ap, ◌∙◌}
-use Rattle.fedi_effects.proofs.Places.{blocks_found}
-use Rattle.fedi_effects.proofs.register.Register.blocks.Goals as goal
-
-pub returns : goal.returns
-returns c =
-    c.blocks_among.ensures
-    ∙ rw (c.deref.ensures.value, c.deref-2.ensures.value, ← c.self.view_is) (blocks_found c.args.a.now c.args.b.now _ _ _ _ _ _ c.self.invariant.0)

@@ -1,6 +1,0 @@
-use Rattle.std.proofs.Common.{◌≡◌, subst, sym}
-use Rattle.fedi_effects.specs.Changes.{AreMadeOnce}
-use Rattle.fedi_effects.proofs.register.apply_in_place.Goals as goal
-
-pub apply_effect-requires : goal.apply_effect-requires
-apply_effect-requires c = subst AreMadeOnce (sym c.as_mut_slice.ensures.value) c.requires

@@ -1,0 +1,198 @@
+-- The look-ups stay right.
+use Rattle.std.proofs.Common.{◌≡◌, ℕ, zero, suc, ◌+◌, arith, Bool, true, false, List, [], ◌∷◌, ◌++◌, length, refl, sym, ap, ◌∙◌}
+use Rattle.std.specs.Prelude.{filter, is_some, map, Option, option_map, if◌then◌else◌}
+use Rattle.std.specs.Str.{bytes_eq}
+use Rattle.std.proofs.lemmas.List.{append-nil, length-append}
+use Rattle.std.proofs.lemmas.List.Elements.{filter-append}
+use Rattle.fedi_town.specs.declared.act.Act.{Act}
+use Rattle.fedi_town.specs.declared.effect.Effect.{Effect}
+use Rattle.fedi_town.specs.declared.effect.Effect.TheVariants as effects
+use Rattle.fedi_town.specs.declared.deed.Deed.{Deed}
+use Rattle.fedi_town.specs.Deeds.{is_block, is_create, is_follow}
+use Rattle.fedi_town.specs.Effects.{affect, end_follow, in_state, is_pending_follow, is_standing_activity, where_passes}
+use Rattle.fedi_objects.specs.declared.kind.State.{State}
+use Rattle.fedi_objects.specs.declared.kind.State.TheVariants.{Accepted, Undone}
+use Rattle.fedi_town.specs.Objects.{change_object, makes, replace_object, rewrite_act, rewrite_ref, tombstone_of, update_object}
+use Rattle.fedi_town.specs.Relations.{is_open_follow, ref_id}
+use Rattle.fedi_town.specs.Towns.{deed, is_by}
+use Rattle.fedi_objects.specs.declared.activity.ObjectRef.{ObjectRef}
+use Rattle.fedi_objects.specs.declared.activity.ObjectRef.TheVariants.{Nothing, Id, Whole, Changed}
+use Rattle.fedi_objects.specs.declared.object.Object.{Object}
+use Rattle.fedi_register.specs.declared.register.Author.{Author}
+use Rattle.fedi_register.specs.declared.register.Mark.{Mark}
+use Rattle.fedi_register.specs.Registers.{CountsOne, IsIndexed, SameCounts, asks_to_follow, count_by, count_in, is_keyed, is_making, keeps_away, key_mark, marks_from, object_mark, places_from, ref_mark}
+
+-- ---- one more activity
+
+places-push : (p : Act → Bool) (n : ℕ) (acts : List Act) (x : Act)
+    → places_from p n (acts ++ x ∷ []) ≡ places_from p n acts ++ (if p x then (n + length acts) ∷ [] else [])
+places-push p n [] x = let here : n + 0 ≡ n = omega arith in rw here refl
+places-push p n (y ∷ acts) x =
+    let further : suc n + length acts ≡ n + length (y ∷ acts) = omega arith in
+    let rest : places_from p (suc n) (acts ++ x ∷ []) ≡ places_from p (suc n) acts ++ (if p x then (n + length (y ∷ acts)) ∷ [] else []) =
+    places-push p (suc n) acts x ∙ ap (λ (k : ℕ). places_from p (suc n) acts ++ (if p x then k ∷ [] else [])) further in
+    elim (p y) as (λ b. (if b then n ∷ places_from p (suc n) (acts ++ x ∷ []) else places_from p (suc n) (acts ++ x ∷ []))
+    ≡ (if b then n ∷ places_from p (suc n) acts else places_from p (suc n) acts) ++ (if p x then (n + length (y ∷ acts)) ∷ [] else [])) [
+      | true ↦ ap (λ (places : List ℕ). n ∷ places) rest
+      | false ↦ rest
+    ]
+
+pub places_pushed : (p : Act → Bool) (acts : List Act) (x : Act) (old new : List ℕ) (place : ℕ) (passes : Bool) → place ≡ length acts → passes ≡ p x
+    → old ≡ places_from p 0 acts → new ≡ old ++ (if passes then place ∷ [] else []) → new ≡ places_from p 0 (acts ++ x ∷ [])
+places_pushed p acts x old new place passes at is before after =
+    let from_none : 0 + length acts ≡ length acts = omega arith in
+    rw (after, before, is, at) (sym (places-push p 0 acts x ∙ ap (λ (k : ℕ). places_from p 0 acts ++ (if p x then k ∷ [] else [])) from_none))
+
+marks-push : (p : Act → Bool) (mark : Act → ℕ) (n : ℕ) (acts : List Act) (x : Act)
+    → marks_from p mark n (acts ++ x ∷ []) ≡ marks_from p mark n acts ++ (if p x then record { mark = mark x; place = n + length acts } ∷ [] else [])
+marks-push p mark n [] x = let here : n + 0 ≡ n = omega arith in rw here refl
+marks-push p mark n (y ∷ acts) x =
+    let further : suc n + length acts ≡ n + length (y ∷ acts) = omega arith in
+    let new : ℕ → List Mark = λ k. if p x then record { mark = mark x; place = k } ∷ [] else [] in
+    let rest : marks_from p mark (suc n) (acts ++ x ∷ []) ≡ marks_from p mark (suc n) acts ++ new (n + length (y ∷ acts)) =
+    marks-push p mark (suc n) acts x ∙ ap (λ (k : ℕ). marks_from p mark (suc n) acts ++ new k) further in
+    let own : Mark = record { mark = mark y; place = n } in
+    elim (p y) as (λ b. (if b then own ∷ marks_from p mark (suc n) (acts ++ x ∷ []) else marks_from p mark (suc n) (acts ++ x ∷ []))
+    ≡ (if b then own ∷ marks_from p mark (suc n) acts else marks_from p mark (suc n) acts) ++ new (n + length (y ∷ acts))) [
+      | true ↦ ap (λ (marks : List Mark). own ∷ marks) rest
+      | false ↦ rest
+    ]
+
+pub marks_pushed : (p : Act → Bool) (mark : Act → ℕ) (acts : List Act) (x : Act) (old new : List Mark) (place own : ℕ) (passes : Bool) → place ≡ length acts
+    → passes ≡ p x → own ≡ mark x → old ≡ marks_from p mark 0 acts → new ≡ old ++ (if passes then record { mark = own; place = place } ∷ [] else [])
+    → new ≡ marks_from p mark 0 (acts ++ x ∷ [])
+marks_pushed p mark acts x old new place own passes at is marked before after =
+    let from_none : 0 + length acts ≡ length acts = omega arith in
+    rw (after, before, is, at, marked)
+    (sym (marks-push p mark 0 acts x ∙ ap (λ (k : ℕ). marks_from p mark 0 acts ++ (if p x then record { mark = mark x; place = k } ∷ [] else [])) from_none))
+
+count-push : (id : List ℕ) (acts : List Act) (x : Act) → count_by (acts ++ x ∷ []) id ≡ count_by acts id + (if bytes_eq x.author id then 1 else 0)
+unfolding is_by
+count-push id acts x =
+    ap (λ (xs : List Act). length xs) (filter-append (is_by id) acts (x ∷ []))
+    ∙ length-append (filter (is_by id) acts) (filter (is_by id) (x ∷ []))
+    ∙ elim (bytes_eq x.author id) as (λ b. count_by acts id + length (if b then x ∷ [] else []) ≡ count_by acts id + (if b then 1 else 0)) [ true ↦ refl | false ↦ refl ]
+
+pub indexed_pushed : (acts : List Act) (x : Act) (f b f' b' : List ℕ) (k m k' m' : List Mark) (authors authors' : List Author) → IsIndexed acts f b k m authors
+    → f' ≡ places_from asks_to_follow 0 (acts ++ x ∷ []) → b' ≡ places_from keeps_away 0 (acts ++ x ∷ []) → k' ≡ marks_from is_keyed key_mark 0 (acts ++ x ∷ [])
+    → m' ≡ marks_from is_making object_mark 0 (acts ++ x ∷ []) → CountsOne authors authors' x.author → IsIndexed (acts ++ x ∷ []) f' b' k' m' authors'
+indexed_pushed acts x f b f' b' k m k' m' authors authors' h follows blocks keyed made counts = record {
+  made = made;
+  follows = follows;
+  blocks = blocks;
+  keyed = keyed;
+  count = λ id. counts.count id ∙ ap (λ (n : ℕ). n + (if bytes_eq x.author id then 1 else 0)) (h.count id) ∙ sym (count-push id acts x);
+}
+
+-- ---- what is affected
+
+-- what is looked up of an activity stays
+pub record IsAlike (x y : Act) : Type 0 where
+  pub author : y.author ≡ x.author
+  pub deed : deed y ≡ deed x
+  pub repeat : y.repeat ≡ x.repeat
+  pub about : ref_id y.activity.object ≡ ref_id x.activity.object
+
+alike : (y : Act) → IsAlike y y
+alike y = record { author = refl; deed = refl; repeat = refl; about = refl }
+
+then-alike : (x y z : Act) → IsAlike x y → IsAlike y z → IsAlike x z
+then-alike x y z h k = record { author = k.author ∙ h.author; deed = k.deed ∙ h.deed; repeat = k.repeat ∙ h.repeat; about = k.about ∙ h.about }
+
+where-alike : (p : Act → Bool) (f : Act → Act) (y : Act) → IsAlike y (f y) → IsAlike y (where_passes p f y)
+where-alike p f y h = elim (p y) as (λ b. IsAlike y (if b then f y else y)) [ true ↦ h | false ↦ alike y ]
+
+end-alike : (a b : List ℕ) (s : State) (y : Act) → IsAlike y (end_follow a b s y)
+unfolding end_follow
+end-alike a b s y = where-alike (is_open_follow a b) (in_state s) y (record { author = refl; deed = refl; repeat = refl; about = refl })
+
+changed-about : (f : Object → Object) → ((o : Object) → (f o).id ≡ o.id) → (r : ObjectRef) → ref_id (rewrite_ref f r) ≡ ref_id r
+changed-about f same Nothing = refl
+changed-about f same (Id iri) = refl
+changed-about f same (Whole o) = same o
+changed-about f same (Changed change) = refl
+
+updated-id : (by : ObjectRef) (stamp : List ℕ) (o : Object) → (update_object by stamp o).id ≡ o.id
+unfolding change_object replace_object
+updated-id Nothing stamp o = refl
+updated-id (Id iri) stamp o = refl
+updated-id (Whole new) stamp o = refl
+updated-id (Changed change) stamp o = refl
+
+buried-id : (kind stamp : List ℕ) (o : Object) → (tombstone_of kind stamp o).id ≡ o.id
+unfolding tombstone_of
+buried-id kind stamp o = refl
+
+updated-about : (by : ObjectRef) (stamp : List ℕ) (r : ObjectRef) → ref_id (rewrite_ref (update_object by stamp) r) ≡ ref_id r
+updated-about by stamp r = changed-about (update_object by stamp) (updated-id by stamp) r
+
+buried-about : (kind stamp : List ℕ) (r : ObjectRef) → ref_id (rewrite_ref (tombstone_of kind stamp) r) ≡ ref_id r
+buried-about kind stamp r = changed-about (tombstone_of kind stamp) (buried-id kind stamp) r
+
+affected-alike : (e : Effect) (y : Act) → IsAlike y (affect e y)
+unfolding rewrite_act
+affected-alike effects.Nothing y = alike y
+affected-alike (effects.Update id by stamp) y = where-alike (makes id) (rewrite_act (update_object by stamp)) y (record { author = refl; deed = refl; repeat = refl; about = updated-about by stamp y.activity.object })
+affected-alike (effects.Delete id kind stamp) y = where-alike (makes id) (rewrite_act (tombstone_of kind stamp)) y (record { author = refl; deed = refl; repeat = refl; about = buried-about kind stamp y.activity.object })
+affected-alike (effects.Accept id) y = where-alike (is_pending_follow id) (in_state Accepted) y (record { author = refl; deed = refl; repeat = refl; about = refl })
+affected-alike (effects.EndFollows a b s) y = end-alike a b s y
+affected-alike (effects.EndBoth a b) y = then-alike y (end_follow b a Undone y) (end_follow a b Undone (end_follow b a Undone y)) (end-alike b a Undone y) (end-alike a b Undone (end_follow b a Undone y))
+affected-alike (effects.Undo id) y = where-alike (is_standing_activity id) (in_state Undone) y (record { author = refl; deed = refl; repeat = refl; about = refl })
+
+places-mapped : (p : Act → Bool) (f : Act → Act) → ((x : Act) → p (f x) ≡ p x) → (n : ℕ) (acts : List Act) → places_from p n (map f acts) ≡ places_from p n acts
+places-mapped p f same n [] = refl
+places-mapped p f same n (x ∷ acts) = rw (same x, places-mapped p f same (suc n) acts) refl
+
+count-mapped : (p : Act → Bool) (f : Act → Act) → ((x : Act) → p (f x) ≡ p x) → (acts : List Act) → length (filter p (map f acts)) ≡ length (filter p acts)
+count-mapped p f same [] = refl
+count-mapped p f same (x ∷ acts) =
+    rw (same x) (elim (p x) as (λ b. length (if b then f x ∷ filter p (map f acts) else filter p (map f acts)) ≡ length (if b then x ∷ filter p acts else filter p acts)) [
+      | true ↦ ap suc (count-mapped p f same acts)
+      | false ↦ count-mapped p f same acts
+    ])
+
+marks-mapped : (p : Act → Bool) (mark : Act → ℕ) (f : Act → Act) → ((x : Act) → p (f x) ≡ p x) → ((x : Act) → mark (f x) ≡ mark x) → (n : ℕ) (acts : List Act)
+    → marks_from p mark n (map f acts) ≡ marks_from p mark n acts
+marks-mapped p mark f passes same n [] = refl
+marks-mapped p mark f passes same n (x ∷ acts) = rw (passes x, same x, marks-mapped p mark f passes same (suc n) acts) refl
+
+key-alike : (e : Effect) (x : Act) → key_mark (affect e x) ≡ key_mark x
+unfolding key_mark
+key-alike e x = ap (λ (r : Option (List ℕ × List ℕ)). ref_mark (option_map (λ pair. pair.0) r)) (affected-alike e x).repeat
+
+making-alike : (e : Effect) (x : Act) → is_making (affect e x) ≡ is_making x
+unfolding is_making
+making-alike e x = ap (λ (d : Deed). is_create d) (affected-alike e x).deed
+
+mark-alike : (e : Effect) (x : Act) → object_mark (affect e x) ≡ object_mark x
+unfolding object_mark
+mark-alike e x = ap (λ (o : Option (List ℕ)). ref_mark o) (affected-alike e x).about
+
+follows-alike : (e : Effect) (x : Act) → asks_to_follow (affect e x) ≡ asks_to_follow x
+unfolding asks_to_follow
+follows-alike e x = ap (λ (d : Deed). is_follow d) (affected-alike e x).deed
+
+blocks-alike : (e : Effect) (x : Act) → keeps_away (affect e x) ≡ keeps_away x
+unfolding keeps_away
+blocks-alike e x = ap (λ (d : Deed). is_block d) (affected-alike e x).deed
+
+keyed-alike : (e : Effect) (x : Act) → is_keyed (affect e x) ≡ is_keyed x
+unfolding is_keyed
+keyed-alike e x = ap (λ (r : Option (List ℕ × List ℕ)). is_some r) (affected-alike e x).repeat
+
+by-alike : (id : List ℕ) (e : Effect) (x : Act) → is_by id (affect e x) ≡ is_by id x
+unfolding is_by
+by-alike id e x = ap (λ (author : List ℕ). bytes_eq author id) (affected-alike e x).author
+
+pub indexed_affected : (e : Effect) (acts : List Act) (f b : List ℕ) (k m : List Mark) (authors : List Author) → IsIndexed acts f b k m authors → IsIndexed (map (affect e) acts) f b k m authors
+indexed_affected e acts f b k m authors h = record {
+  made = h.made ∙ sym (marks-mapped is_making object_mark (affect e) (making-alike e) (mark-alike e) 0 acts);
+  follows = h.follows ∙ sym (places-mapped asks_to_follow (affect e) (follows-alike e) 0 acts);
+  blocks = h.blocks ∙ sym (places-mapped keeps_away (affect e) (blocks-alike e) 0 acts);
+  keyed = h.keyed ∙ sym (marks-mapped is_keyed key_mark (affect e) (keyed-alike e) (key-alike e) 0 acts);
+  count = λ id. h.count id ∙ sym (count-mapped (is_by id) (affect e) (by-alike id e) acts);
+}
+
+-- where the authors count the same
+pub indexed_known : (acts : List Act) (f b : List ℕ) (k m : List Mark) (old new : List Author) → IsIndexed acts f b k m old → SameCounts old new → IsIndexed acts f b k m new
+indexed_known acts f b k m old new h same = record { made = h.made; follows = h.follows; blocks = h.blocks; keyed = h.keyed; count = λ id. same.count id ∙ h.count id }

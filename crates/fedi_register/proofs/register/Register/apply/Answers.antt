@@ -1,0 +1,18 @@
+use Rattle.std.proofs.Common.{◌≡◌, rules, subst, sym, ap, arith, List}
+use Rattle.fedi_town.specs.declared.act.Act.{Act}
+use Rattle.fedi_register.specs.Changes.{AreMadeOnce}
+use Rattle.fedi_register.proofs.Indexed.{indexed_affected}
+use Rattle.fedi_register.proofs.register.Register.apply.Goals as goal
+
+pub apply_in_place-requires : goal.apply_in_place-requires
+apply_in_place-requires c = subst AreMadeOnce (sym (ap (λ r. r.acts) c.self.view_is)) c.requires
+
+pub invariant_of-self : goal.invariant_of-self
+invariant_of-self c = (
+  rw c.apply_in_place.ensures.items (indexed_affected c.args.effect _ _ _ _ _ _ c.self.invariant.0),
+  rw (c.apply_in_place.ensures.len, c.apply_in_place.ensures.capacity) c.self.invariant.1,
+  c.self.invariant.2,
+  c.self.invariant.3,
+  c.self.invariant.4,
+  c.self.invariant.5,
+)

@@ -1,0 +1,4 @@
+pub mod Changes
+pub mod Following
+pub mod Keys
+pub mod Registers

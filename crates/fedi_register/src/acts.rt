@@ -1,0 +1,208 @@
+//! What is asked of one activity.
+
+ghost use Rattle.std.specs.Prelude.{◌≡◌, option_copied};
+ghost use Rattle.fedi_town.specs.Deeds.{deed_of, is_accepted, is_announce, is_block, is_create, is_done, is_follow, is_like, is_open, is_pending, is_standing};
+ghost use Rattle.fedi_town.specs.Objects.{makes};
+ghost use Rattle.fedi_town.specs.Relations.{has_activity_id, is_about, is_block_of, is_following, is_id, is_open_follow};
+ghost use Rattle.fedi_town.specs.States.{can_be_undone, is_announce_of, is_like_of};
+ghost use Rattle.fedi_town.specs.Towns.{is_by};
+
+use fedi_address::Iri;
+use fedi_kept::Kept;
+use fedi_objects::State;
+use fedi_town::Deed;
+
+/// Whether the effect of an activity in this state has happened.
+pub fn is_done(state: State) -> bool
+    ensures { result ≡ is_done state }
+{
+    match state {
+        State::Done => true,
+        _ => false,
+    }
+}
+
+/// Whether a Follow in this state waits for an answer.
+pub fn is_pending(state: State) -> bool
+    ensures { result ≡ is_pending state }
+{
+    match state {
+        State::Pending => true,
+        _ => false,
+    }
+}
+
+/// Whether a Follow in this state was accepted.
+pub fn is_accepted(state: State) -> bool
+    ensures { result ≡ is_accepted state }
+{
+    match state {
+        State::Accepted => true,
+        _ => false,
+    }
+}
+
+/// Whether a Follow in this state waits or was accepted.
+pub fn is_open(state: State) -> bool
+    ensures { result ≡ is_open state }
+{
+    match state {
+        State::Pending | State::Accepted => true,
+        _ => false,
+    }
+}
+
+/// Whether a Like, an Announce or a Block in this state stands.
+pub fn is_standing(state: State) -> bool
+    ensures { result ≡ is_standing state }
+{
+    match state {
+        State::Standing => true,
+        _ => false,
+    }
+}
+
+// Whether there is an id, and it is this one.
+fn is_id(own: Option<&Iri>, id: &Iri) -> bool
+    ensures { result ≡ is_id id.now (option_copied own.entry) }
+{
+    match own {
+        Some(own) => own == id,
+        None => false,
+    }
+}
+
+/// Whether the activity is this author's.
+#[tactic(auto, unfolding(fedi_town::specs::Towns::is_by))]
+pub fn is_by(act: &Kept, author: &Iri) -> bool
+    ensures { result ≡ is_by author.now act.now }
+{
+    act.author() == author
+}
+
+/// Whether the activity has this id.
+#[tactic(auto, unfolding(fedi_town::specs::Relations::has_activity_id))]
+pub fn has_activity_id(act: &Kept, id: &Iri) -> bool
+    ensures { result ≡ has_activity_id id.now act.now }
+{
+    is_id(act.id(), id)
+}
+
+/// Whether the activity is about this.
+#[tactic(auto, unfolding(fedi_town::specs::Relations::is_about))]
+pub fn is_about(act: &Kept, id: &Iri) -> bool
+    ensures { result ≡ is_about id.now act.now }
+{
+    is_id(act.object_id(), id)
+}
+
+/// Whether it makes an object.
+pub fn is_create(act: &Kept) -> bool
+    ensures { result ≡ is_create (deed_of act.now.activity.kind) }
+{
+    match act.deed() {
+        Deed::Create => true,
+        _ => false,
+    }
+}
+
+/// Whether it asks to follow.
+pub fn is_follow(act: &Kept) -> bool
+    ensures { result ≡ is_follow (deed_of act.now.activity.kind) }
+{
+    match act.deed() {
+        Deed::Follow => true,
+        _ => false,
+    }
+}
+
+/// Whether the activity made the object of this id (ActivityPub, section 6.2).
+#[tactic(auto, unfolding(fedi_town::specs::Objects::makes))]
+pub fn makes(act: &Kept, id: &Iri) -> bool
+    ensures { result ≡ makes id.now act.now }
+{
+    is_create(act) && is_done(act.state()) && is_about(act, id)
+}
+
+/// Whether it keeps an actor away.
+pub fn is_block(act: &Kept) -> bool
+    ensures { result ≡ is_block (deed_of act.now.activity.kind) }
+{
+    match act.deed() {
+        Deed::Block => true,
+        _ => false,
+    }
+}
+
+/// Whether the activity is a Block of b by a that stands (ActivityPub, section 6.9).
+#[tactic(auto, unfolding(fedi_town::specs::Relations::is_block_of))]
+pub fn is_block_of(act: &Kept, a: &Iri, b: &Iri) -> bool
+    ensures { result ≡ is_block_of a.now b.now act.now }
+{
+    is_block(act) && is_standing(act.state()) && is_by(act, a) && is_about(act, b)
+}
+
+/// Whether the activity is a Follow of b by a that waits or was accepted (ActivityPub, section 6.5).
+#[tactic(auto, unfolding(fedi_town::specs::Relations::is_open_follow))]
+pub fn is_open_follow(act: &Kept, a: &Iri, b: &Iri) -> bool
+    ensures { result ≡ is_open_follow a.now b.now act.now }
+{
+    is_follow(act) && is_open(act.state()) && is_by(act, a) && is_about(act, b)
+}
+
+/// Whether the activity is a Follow of b that was accepted.
+#[tactic(auto, unfolding(fedi_town::specs::Relations::is_following))]
+pub fn is_following(act: &Kept, b: &Iri) -> bool
+    ensures { result ≡ is_following b.now act.now }
+{
+    is_follow(act) && is_accepted(act.state()) && is_about(act, b)
+}
+
+/// Whether it likes an object.
+pub fn is_like(act: &Kept) -> bool
+    ensures { result ≡ is_like (deed_of act.now.activity.kind) }
+{
+    match act.deed() {
+        Deed::Like => true,
+        _ => false,
+    }
+}
+
+/// Whether it shares an object.
+pub fn is_announce(act: &Kept) -> bool
+    ensures { result ≡ is_announce (deed_of act.now.activity.kind) }
+{
+    match act.deed() {
+        Deed::Announce => true,
+        _ => false,
+    }
+}
+
+/// Whether the activity is a Like of this by this author that stands (ActivityPub, section 6.8).
+#[tactic(auto, unfolding(fedi_town::specs::States::is_like_of))]
+pub fn is_like_of(act: &Kept, author: &Iri, id: &Iri) -> bool
+    ensures { result ≡ is_like_of author.now id.now act.now }
+{
+    is_like(act) && is_standing(act.state()) && is_by(act, author) && is_about(act, id)
+}
+
+/// Whether the activity is an Announce of this by this author that stands (ActivityPub, section 7.11).
+#[tactic(auto, unfolding(fedi_town::specs::States::is_announce_of))]
+pub fn is_announce_of(act: &Kept, author: &Iri, id: &Iri) -> bool
+    ensures { result ≡ is_announce_of author.now id.now act.now }
+{
+    is_announce(act) && is_standing(act.state()) && is_by(act, author) && is_about(act, id)
+}
+
+/// Whether the activity can be undone: a Follow that waits or was accepted, or a Like, an Announce or
+/// a Block that stands (ActivityPub, section 6.10).
+#[tactic(auto, unfolding(fedi_town::specs::States::can_be_undone))]
+pub fn can_be_undone(act: &Kept) -> bool
+    ensures { result ≡ can_be_undone act.now }
+{
+    match act.deed() {
+        Deed::Follow => is_open(act.state()),
+        Deed::Like | Deed::Announce | Deed::Block => is_standing(act.state()),
+        _ => false,
+    }
+}

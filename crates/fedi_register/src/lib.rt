@@ -1,0 +1,15 @@
+//! The accepted activities, with what is looked up among them, and what is asked of one of them.
+#![tactic(auto)]
+
+mod acts;
+mod applying;
+mod followers;
+mod register;
+mod repeats;
+
+pub use acts::{
+    can_be_undone, has_activity_id, is_about, is_accepted, is_announce, is_announce_of, is_block,
+    is_block_of, is_by, is_create, is_done, is_follow, is_following, is_like, is_like_of, is_open,
+    is_open_follow, is_pending, is_standing, makes,
+};
+pub use register::Register;

@@ -1,0 +1,7 @@
+//! A history that is gone through for what its readers see of its collections.
+#![tactic(auto)]
+
+mod places;
+mod plain_shelf;
+
+pub use plain_shelf::PlainShelf;

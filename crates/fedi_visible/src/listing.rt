@@ -1,0 +1,54 @@
+//! What stands in a collection (ActivityPub, section 5).
+
+ghost use Rattle.std.specs.Prelude.{◌≡◌, option_copied};
+ghost use Rattle.fedi_town.specs.Collections.{is_item, is_same_item, text_of};
+
+use fedi_address::{Iri, is_among};
+use fedi_effects::{
+    is_about, is_accepted, is_announce, is_by, is_follow, is_following, is_like, is_standing,
+};
+use fedi_kept::Kept;
+use fedi_town::Which;
+
+/// Whether the activity stands in the owner's collection (ActivityPub, section 5): what the owner got
+/// or posted, the Follows of and by the owner that were accepted, the Likes by the owner, and the
+/// Likes and Announces of the owner, that stand. The owner is the member or the object with this id.
+#[tactic(auto, unfolding(fedi_town::specs::Collections::is_item, fedi_town::specs::Relations::is_following))]
+pub fn is_item(act: &Kept, which: &Which, owner: &Iri) -> bool
+    ensures { result ≡ is_item which.now owner.now act.now }
+{
+    match which {
+        Which::Inbox(_) => is_among(owner.text(), act.recipients()),
+        Which::Outbox(_) => is_by(act, owner),
+        Which::Followers(_) => is_following(act, owner),
+        Which::Following(_) => is_follow(act) && is_accepted(act.state()) && is_by(act, owner),
+        Which::Liked(_) => is_like(act) && is_standing(act.state()) && is_by(act, owner),
+        Which::Likes(_, _) => is_like(act) && is_standing(act.state()) && is_about(act, owner),
+        Which::Shares(_, _) => {
+            is_announce(act) && is_standing(act.state()) && is_about(act, owner)
+        }
+    }
+}
+
+// The text of an id, or an empty one.
+fn text_of(id: Option<&Iri>) -> &str
+    ensures { result.now ≡ text_of (option_copied id.entry) }
+{
+    match id {
+        Some(id) => id.text(),
+        None => "",
+    }
+}
+
+/// Whether two activities of the collection stand for the same item: in that of the followers those by
+/// the same author, in that of the followed those about the same (ActivityPub, sections 5.3 and 5.4).
+#[tactic(auto, unfolding(fedi_town::specs::Collections::is_same_item))]
+pub fn is_same_item(which: &Which, a: &Kept, b: &Kept) -> bool
+    ensures { result ≡ is_same_item which.now a.now b.now }
+{
+    match which {
+        Which::Followers(_) => a.author() == b.author(),
+        Which::Following(_) => text_of(a.object_id()) == text_of(b.object_id()),
+        _ => false,
+    }
+}
