@@ -1,0 +1,113 @@
+//! Records of a small history, worked by hand from the format of entries.
+
+/// The server was set up for club.example.
+pub const HOSTED: &[u8] = b"\
+    \x01\
+    \0\0\0\x0cclub.example\
+    \0\0\0\0.\xbc\x98\xa1";
+
+/// A member was made.
+pub const ANA: &[u8] = b"\
+    \x02\
+    \0\0\0\x03ana\
+    0123456789abcdef0123456789abcdef\
+    \0\
+    \0\0\0\0.\xbc\x98\xa1";
+
+/// Another member was made.
+pub const BEN: &[u8] = b"\
+    \x02\
+    \0\0\0\x03ben\
+    fedcba9876543210fedcba9876543210\
+    \0\
+    \0\0\0\0.\xbc\x98\xa1";
+
+/// A post under a key for repeats: a note to everyone.
+pub const CREATE: &[u8] = b"\
+    \x04\
+    \0\0\0\x03ana\
+    \x01\
+    \0\0\0\x05first\
+    0123456789abcdef0123456789abcdef\
+    \0\x06\0\x02\0\
+    \0\0\0\x04Note\
+    \0\0\0\0\x01\
+    \0\0\0,https://www.w3.org/ns/activitystreams#Public\
+    \0\0\0\0\0\0\0\0\0\0\0\0\0\0\0\0\0\
+    \x01\0\0\0\x0cGood morning\
+    \0\0\0\0\0\0\0\0\0\0\0\0\
+    \0\0\0\x01\
+    \0\0\0,https://www.w3.org/ns/activitystreams#Public\
+    \0\0\0\0\0\0\0\0\0\0\0\0\0\0\0\0\0\
+    \0\0\0\0\0\0\0\0\
+    \0\0\0\0.\xbc\x98\xa1";
+
+/// A Follow of the first member by the other, which is accepted at once.
+pub const FOLLOW: &[u8] = b"\
+    \x04\
+    \0\0\0\x03ben\
+    \0\0\x0a\0\x01\
+    \0\0\0\x1ehttps://club.example/users/ana\
+    \0\0\0\0\0\0\0\0\0\0\0\0\0\0\0\0\0\0\0\0\0\0\0\0\0\0\0\0\0\0\
+    \0\0\0\0.\xbc\x98\xa1";
+
+/// A Like of the note by the other.
+pub const LIKE: &[u8] = b"\
+    \x04\
+    \0\0\0\x03ben\
+    \0\0\x0f\0\x01\
+    \0\0\0\x22https://club.example/users/ana/o/1\
+    \0\0\0\0\0\0\0\0\0\0\0\0\0\0\0\0\0\0\0\0\0\0\0\0\0\0\0\0\0\0\
+    \0\0\0\0.\xbc\x98\xa1";
+
+/// A Follow of herself.
+pub const OWN_FOLLOW: &[u8] = b"\
+    \x04\
+    \0\0\0\x03ana\
+    \0\0\x0a\0\x01\
+    \0\0\0\x1ehttps://club.example/users/ana\
+    \0\0\0\0\0\0\0\0\0\0\0\0\0\0\0\0\0\0\0\0\0\0\0\0\0\0\0\0\0\0\
+    \0\0\0\0.\xbc\x98\xa1";
+
+/// A post that has an id.
+pub const WITH_ID: &[u8] = b"\
+    \x04\
+    \0\0\0\x03ana\
+    \0\x01\0\0\0\x22https://club.example/users/ana/a/1\
+    \x0a\0\x01\
+    \0\0\0\x1ehttps://club.example/users/ben\
+    \0\0\0\0\0\0\0\0\0\0\0\0\0\0\0\0\0\0\0\0\0\0\0\0\0\0\0\0\0\0\
+    \0\0\0\0.\xbc\x98\xa1";
+
+/// A Follow that names a recipient twice.
+pub const TWICE_TO: &[u8] = b"\
+    \x04\
+    \0\0\0\x03ben\
+    \0\0\x0a\0\x01\
+    \0\0\0\x1ehttps://club.example/users/ana\
+    \0\
+    \0\0\0\x02\
+    \0\0\0\x1ehttps://club.example/users/ana\
+    \0\0\0\x1ehttps://club.example/users/ana\
+    \0\0\0\0\0\0\0\0\0\0\0\0\0\0\0\0\0\0\0\0\0\0\0\0\0\
+    \0\0\0\0.\xbc\x98\xa1";
+
+/// Another member was made with the first one's key.
+pub const SAME_KEY: &[u8] = b"\
+    \x02\
+    \0\0\0\x03eli\
+    0123456789abcdef0123456789abcdef\
+    \0\
+    \0\0\0\0.\xbc\x98\xa1";
+
+/// Another server became a peer, which is not taken so far.
+pub const PEER_SET: &[u8] = b"\
+    \x03\
+    \0\0\0\x0clake.example\
+    0123456789abcdef0123456789abcdef\
+    \0\0\0\x0e127.0.0.1:8081\
+    \0\
+    \0\0\0\0.\xbc\x98\xa1";
+
+/// The history.
+pub const HISTORY: [&[u8]; 6] = [HOSTED, ANA, BEN, CREATE, FOLLOW, LIKE];
