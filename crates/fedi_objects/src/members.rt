@@ -18,6 +18,9 @@ const ROOM: usize = 512;
 /// The longest text that is joined of two: an address, and a path after it.
 const LONGEST: usize = 2_304;
 
+/// How long most such texts are at most.
+const SHORT: usize = 160;
+
 /// An empty document. The error is out of memory.
 pub fn new_document(alloc: Global) -> Result<Writer, AllocError>
     ensures before { IfOk result (λ out. out.before ≡ []) }
@@ -50,6 +53,13 @@ pub fn write_joined(out: &mut Writer, key: &str, front: &str, back: &str) -> Res
     ensures { OnOk result
         (Adds (member_tokens key.now (Some (string (front.now ++ back.now)))) out.old out.new) }
 {
+    // The room is cleared first, so most texts are joined in less of it.
+    if front.len() + back.len() <= SHORT {
+        let mut text = ArrayString::<SHORT>::new();
+        text.push_str(front);
+        text.push_str(back);
+        return write_str(out, key, text.as_str());
+    }
     let mut text = ArrayString::<LONGEST>::new();
     text.push_str(front);
     text.push_str(back);
