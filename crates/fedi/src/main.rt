@@ -1,9 +1,10 @@
 //! The program `fedi`, an ActivityPub server for a club or a town.
 #![tactic(auto)]
 
-use fedi_example::example_history;
-use fedi_outside::MemoryKeeper;
-use fedi_program::{Connection, OUT_OF_MEMORY, Reading, SystemClock, SystemEntropy, Writing, run};
+use fedi_file::FileDisk;
+use fedi_program::{
+    Connection, OUT_OF_MEMORY, Reading, SystemClock, SystemEntropy, Writing, run, store_of,
+};
 use std::alloc::AllocError;
 use std::process::ExitCode;
 use std::{env, io};
@@ -20,7 +21,7 @@ fn arguments(rt: &HostRuntime) -> Result<Vec<String>, AllocError> {
 }
 
 fn main(rt: HostRuntime) -> ExitCode {
-    let (Ok(arguments), Ok(history)) = (arguments(&rt), example_history(rt.alloc())) else {
+    let Ok(arguments) = arguments(&rt) else {
         return ExitCode::from(OUT_OF_MEMORY);
     };
     let mut connection = Connection {
@@ -28,15 +29,9 @@ fn main(rt: HostRuntime) -> ExitCode {
         out: Writing::new(io::writer(&rt)),
         clock: SystemClock::new(&rt),
     };
-    let keeper = MemoryKeeper::new(rt.alloc());
+    // Arguments that name no store never ask the disk, and so open nothing.
+    let disk = FileDisk::new(&rt, store_of(&arguments).unwrap_or_default());
     let mut entropy = SystemEntropy::new(&rt);
-    let ended = run(
-        rt.alloc(),
-        &arguments,
-        &mut connection,
-        history,
-        keeper,
-        &mut entropy,
-    );
+    let ended = run(rt.alloc(), &arguments, &mut connection, disk, &mut entropy);
     ExitCode::from(ended.status)
 }

@@ -98,8 +98,8 @@ fn filled(alloc: Global, text: &str, number: u8) -> Result<String, AllocError> {
 }
 
 // The posts that make so many items.
-fn posts_of(alloc: Global, case: &Case, length: u8) -> Result<Vec<u8>, AllocError> {
-    let mut input = Vec::new(alloc);
+fn posts_of(alloc: Global, case: &Case, length: u8) -> Result<String, AllocError> {
+    let mut input = String::new(alloc);
     if let Some(body) = case.before {
         push_post(alloc, &mut input, 1, body)?;
     }
@@ -124,9 +124,9 @@ fn highest(length: u8) -> u8 {
 }
 
 // The reading of the collection, of each page, and of the one above.
-fn readings_of(alloc: Global, case: &Case, length: u8) -> Result<Vec<u8>, AllocError> {
+fn readings_of(alloc: Global, case: &Case, length: u8) -> Result<String, AllocError> {
     let path = case.id.strip_prefix("https://club.example").unwrap_or("");
-    let mut input = Vec::new(alloc);
+    let mut input = String::new(alloc);
     push_get(alloc, &mut input, Some(0), path)?;
     for page in 0..highest(length).saturating_add(2) {
         push_get(
@@ -168,8 +168,8 @@ fn summary_of(alloc: Global, case: &Case, length: u8) -> Result<String, AllocErr
 
 // Appends an item of a list that was begun.
 fn push_item(text: &mut String, item: &str) -> Result<(), AllocError> {
-    if !text.ends_with('[') {
-        text.push(',')?;
+    if !text.as_bytes().ends_with(b"[") {
+        text.push_str(",")?;
     }
     text.push_str(item)
 }
@@ -219,20 +219,20 @@ fn replies_of(alloc: Global, case: &Case, length: u8) -> Result<String, AllocErr
     Ok(out)
 }
 
-// Whether m0 reads the collection so, once it has so many items.
-fn is_read(alloc: Global, case: &Case, length: u8) -> Result<bool, AllocError> {
-    let town = town_of(alloc, MEMBERS)?;
-    let (town, _) = serve(alloc, town, posts_of(alloc, case, length)?)?;
-    let (_, out) = serve(alloc, town, readings_of(alloc, case, length)?)?;
-    Ok(out.bytes() == replies_of(alloc, case, length)?.as_bytes())
+// Whether m0 reads the collection so in this town, once it has so many items.
+fn is_read(alloc: Global, town: &[u8], case: &Case, length: u8) -> Result<bool, AllocError> {
+    let posted = serve(alloc, town, &posts_of(alloc, case, length)?)?;
+    let read = serve(alloc, &posted.disk, &readings_of(alloc, case, length)?)?;
+    Ok(read.out.as_slice() == replies_of(alloc, case, length)?.as_bytes())
 }
 
 #[test]
 fn collections_of_each_length_are_read(rt: HostRuntime) -> Result<(), Fail> {
+    let town = town_of(rt.alloc(), MEMBERS)?;
     for case in &CASES {
         for length in &LENGTHS {
             assert!(rt;
-                is_read(rt.alloc(), case, *length)?,
+                is_read(rt.alloc(), &town, case, *length)?,
                 "{} {}",
                 case.id,
                 length

@@ -9,8 +9,8 @@ const NOBODY: Option<u8> = None;
 
 // m0 posts 21 notes, of which the fifth goes to m1 alone, and m2 likes the fourth for everybody and the
 // sixth for m0 alone.
-fn posts(alloc: Global) -> Result<Vec<u8>, AllocError> {
-    let mut input = Vec::new(alloc);
+fn posts(alloc: Global) -> Result<String, AllocError> {
+    let mut input = String::new(alloc);
     for number in 1u8..22 {
         let to = if number == 5 {
             "https://club.example/users/m1"
@@ -215,30 +215,35 @@ fn is_reply(reply: &str, row: &Row) -> bool {
     reply.starts_with(status) && reply.contains(has) && !reply.contains(lacks)
 }
 
-// Whether each row is answered so.
-fn are_answered(alloc: Global) -> Result<bool, AllocError> {
-    let (town, _) = serve(alloc, town_of(alloc, 3)?, posts(alloc)?)?;
-    let mut input = Vec::new(alloc);
-    for row in &ROWS {
-        push_get(alloc, &mut input, row.0, row.1)?;
-    }
-    let (_, out) = serve(alloc, town, input)?;
-    let Ok(text) = str::from_utf8(out.bytes()) else {
-        return Ok(false);
-    };
+// Whether these are the replies to the rows, one after another.
+fn are_replies(text: &str) -> bool {
     let mut replies = text.split("HTTP/1.1 ");
     if replies.next() != Some("") {
-        return Ok(false);
+        return false;
     }
     for row in &ROWS {
         let Some(reply) = replies.next() else {
-            return Ok(false);
+            return false;
         };
         if !is_reply(reply, row) {
-            return Ok(false);
+            return false;
         }
     }
-    Ok(replies.next().is_none())
+    replies.next().is_none()
+}
+
+// Whether each row is answered so.
+fn are_answered(alloc: Global) -> Result<bool, AllocError> {
+    let posted = serve(alloc, &town_of(alloc, 3)?, &posts(alloc)?)?;
+    let mut input = String::new(alloc);
+    for row in &ROWS {
+        push_get(alloc, &mut input, row.0, row.1)?;
+    }
+    let read = serve(alloc, &posted.disk, &input)?;
+    match str::from_utf8(&read.out) {
+        Ok(text) => Ok(are_replies(text)),
+        Err(_) => Ok(false),
+    }
 }
 
 #[test]

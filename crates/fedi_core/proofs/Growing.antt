@@ -1,11 +1,14 @@
--- A legal history stays one if a post is added that may be.
-use Rattle.std.proofs.Common.{◌≡◌, ℕ, true, false, List, [], ◌∷◌, ◌++◌, Option, None, refl, sym, ap, subst, ◌∙◌}
+-- What a machine keeps true stays true over an entry.
+use Rattle.std.proofs.Common.{inl, inr, ◌≡◌, ℕ, ◌+◌, true, false, List, [], ◌∷◌, ◌++◌, length, map, Option, None, Some, Result, Ok, Err, refl, sym, ap, subst, ◌∙◌}
 use Rattle.std.specs.Cmp.Derive.{both_true}
-use Rattle.std.specs.Prelude.{◌&&◌}
-use Rattle.std.specs.List.{find, fold, list_all, list_any}
+use Rattle.std.specs.Prelude.{◌&&◌, IfErr, IfSome, IsErrOf, OnErr, OnOk, option_map}
+use Rattle.std.specs.List.{AllByRecursion, find, fold, list_all, list_any}
 use Rattle.std.proofs.lemmas.Bool.{and_parts}
+use Rattle.std.proofs.lemmas.List.{length-append, map-append}
 use Rattle.std.proofs.lemmas.List.Folds.{list_all-append}
-use Rattle.std.proofs.lemmas.List.Sums.{fold-append}
+use Rattle.fedi_entry.specs.Codes.{code_of}
+use Rattle.fedi_entry.specs.Fields.{IsFormed}
+use Rattle.fedi_opening.specs.Opening.{IsNext}
 use Rattle.fedi_objects.specs.declared.activity.Activity.{Activity}
 use Rattle.fedi_objects.specs.declared.entry.Entry.{Entry}
 use Rattle.fedi_objects.specs.declared.entry.Entry.TheVariants.{Local}
@@ -13,12 +16,14 @@ use Rattle.fedi_laws.proofs.Isolation.{unseen_posts}
 use Rattle.fedi_laws.proofs.Lists.{find-none}
 use Rattle.fedi_town.specs.Agreement.{Agree}
 use Rattle.fedi_town.specs.Built.{are_built, is_built}
-use Rattle.fedi_town.specs.Deeds.{changes_nothing, deed_of}
 use Rattle.fedi_town.specs.Histories.{step, town}
 use Rattle.fedi_town.specs.Legal.{IsLegal, is_admissible, is_legal_from, may_post}
 use Rattle.fedi_town.specs.Towns.{Town, empty_town, has_name, id_of}
-use Rattle.fedi_core.specs.Keeping.{HidesPosts, MayAdd}
-use Rattle.fedi_core.specs.Machines.{IsGrown, Stands}
+use Rattle.fedi_outside.specs.Keepers.{HasAdded, KeeperState}
+use Rattle.fedi_core.specs.declared.keeping.KeepFault.{KeepFault}
+use Rattle.fedi_core.specs.declared.keeping.KeepFault.TheVariants.{Full, Failed, Memory}
+use Rattle.fedi_core.specs.Keeping.{HidesPosts, MayAdd, Refuses}
+use Rattle.fedi_core.specs.Machines.{IsGrown, IsKeeping, IsNextCode, IsSame, Stands}
 use Rattle.fedi_effects.specs.Holdings.{Holding}
 
 legal_from_grown : (t : Town) (h : List Entry) (e : Entry) → is_legal_from t h ≡ true → is_admissible (fold step t h) e ≡ true → is_legal_from t (h ++ e ∷ []) ≡ true
@@ -27,18 +32,87 @@ legal_from_grown t (x ∷ h) e legal next =
     both_true ((and_parts (is_admissible t x) (is_legal_from (step t x) h) legal).0)
     (legal_from_grown (step t x) h e ((and_parts (is_admissible t x) (is_legal_from (step t x) h) legal).1) next)
 
+-- the keeper added the record of one entry more
+keeps_more : (growth : ℕ → ℕ) (k k' : KeeperState) (h : List Entry) (e : Entry) → IsKeeping k h → HasAdded growth (code_of e) k k' → IsKeeping k' (h ++ e ∷ [])
+keeps_more growth k k' h e keeps added = record {
+  held = added.held ∙ (ap (λ (n : ℕ). n + 1) keeps.held ∙ sym (length-append h (e ∷ [])));
+  spelled = subst (λ (told : Option (List (List ℕ))). IfSome told (λ records. map code_of (h ++ e ∷ []) ≡ records)) (sym added.records)
+      (more k.records keeps.spelled);
+  doubted = subst (λ (d : Option (List ℕ)). IfSome d (IsNextCode (h ++ e ∷ []))) (sym added.doubt) tt;
+}
+  where
+    more : (told : Option (List (List ℕ))) → IfSome told (λ records. map code_of h ≡ records)
+        → IfSome (option_map (λ records. records ++ code_of e ∷ []) told) (λ records. map code_of (h ++ e ∷ []) ≡ records)
+    more None is = tt
+    more (Some records) is = map-append code_of h (e ∷ []) ∙ ap (λ (r : List (List ℕ)). r ++ code_of e ∷ []) is
+
+formed_more : (h : List Entry) (e : Entry) → AllByRecursion IsFormed h → IsFormed e → AllByRecursion IsFormed (h ++ e ∷ [])
+formed_more [] e all formed = (formed, tt)
+formed_more (x ∷ h) e all formed = (all.0, formed_more h e all.1 formed)
+
 -- it stands after an entry that may be added
-pub grown : (f f' : Holding) (h k h' : List Entry) (e : Entry) → Stands f h → h ≡ k → MayAdd (town k) e
-    → IsGrown f e f' → h' ≡ h ++ e ∷ [] → Stands f' h'
-grown f f' h k h' e stands same may more longer =
-    let next : is_admissible (town h) e ≡ true = subst (λ (x : List Entry). is_admissible (town x) e ≡ true) (sym same) may.admissible in
-    let held : f.history ++ e ∷ [] ≡ h ++ e ∷ [] = ap (λ (x : List Entry). x ++ e ∷ []) stands.held in
-    subst (λ (x : List Entry). Stands f' x) (sym longer) (record {
-      held = more.held ∙ held;
-      made = more.made ∙ ap (λ (x : List Entry). town x) held;
-      legal = record { admissible = legal_from_grown empty_town h e stands.legal.admissible next };
-      built = list_all-append is_built h (e ∷ []) ∙ both_true stands.built (both_true may.built refl);
-    })
+grown : (growth : ℕ → ℕ) (f f' : Holding) (k k' : KeeperState) (e : Entry) → Stands f k → MayAdd (town f.history) e → IsFormed e → IsGrown f e f'
+    → HasAdded growth (code_of e) k k' → Stands f' k'
+grown growth f f' k k' e stands may formed more added = record {
+  made = more.made ∙ ap (λ (h : List Entry). town h) (sym more.held);
+  legal = subst IsLegal (sym more.held) (record { admissible = legal_from_grown empty_town f.history e stands.legal.admissible may.admissible });
+  built = subst (λ (h : List Entry). are_built h ≡ true) (sym more.held)
+      (list_all-append is_built f.history (e ∷ []) ∙ both_true stands.built (both_true may.built refl));
+  formed = subst (AllByRecursion IsFormed) (sym more.held) (formed_more f.history e stands.formed formed);
+  kept = subst (λ (h : List Entry). IsKeeping k' h) (sym more.held) (keeps_more growth k k' f.history e stands.kept added);
+}
+
+-- a keeper that refused a record has those that it had
+refuser_keeps : (room : ℕ → ℕ) (code : List ℕ) (fault : KeepFault) (k k' : KeeperState) → Refuses room code fault k k'
+    → (k'.held ≡ k.held) × (k'.records ≡ k.records)
+refuser_keeps room code Full k k' refused = (refused.1.held, refused.1.records)
+refuser_keeps room code Failed k k' refused = (refused.1.held, refused.1.records)
+refuser_keeps room code Memory k k' refused = (refused.held, refused.records)
+
+-- an entry that may be added, and whose fields have their forms, may come next
+pub comes_next : (t : Town) (e : Entry) → MayAdd t e → IsFormed e → IsNext t e
+comes_next t e may formed = record { formed = formed; admissible = may.admissible; built = may.built }
+
+-- what is in doubt then may come next
+refuser_doubts : (room : ℕ → ℕ) (e : Entry) (fault : KeepFault) (k k' : KeeperState) (h : List Entry) → IfSome k.doubt (IsNextCode h)
+    → (fault ≡ Failed → IsNext (town h) e) → Refuses room (code_of e) fault k k' → IfSome k'.doubt (IsNextCode h)
+refuser_doubts room e Full k k' h doubted next refused = subst (λ (d : Option (List ℕ)). IfSome d (IsNextCode h)) (sym refused.1.doubt) doubted
+refuser_doubts room e Memory k k' h doubted next refused = subst (λ (d : Option (List ℕ)). IfSome d (IsNextCode h)) (sym refused.doubt) doubted
+refuser_doubts room e Failed k k' h doubted next refused =
+    elim refused.1.doubt as (λ _. IfSome k'.doubt (IsNextCode h)) [
+      | inl same ↦ subst (λ (d : Option (List ℕ)). IfSome d (IsNextCode h)) (sym same) doubted
+      | inr other ↦ elim other as (λ _. IfSome k'.doubt (IsNextCode h)) [
+        | inl none ↦ subst (λ (d : Option (List ℕ)). IfSome d (IsNextCode h)) (sym none) tt
+        | inr this ↦ subst (λ (d : Option (List ℕ)). IfSome d (IsNextCode h)) (sym this) (e, next refl, refl)
+      ]
+    ]
+
+-- it stands after an entry that was refused
+unchanged : (room : ℕ → ℕ) (e : Entry) (fault : KeepFault) (f f' : Holding) (k k' : KeeperState) → Stands f k → IsSame f f'
+    → (fault ≡ Failed → IsNext (town f.history) e) → Refuses room (code_of e) fault k k' → Stands f' k'
+unchanged room e fault f f' k k' stands same next refused =
+    let keeper = refuser_keeps room (code_of e) fault k k' refused in
+    record {
+      made = same.made ∙ (stands.made ∙ ap (λ (h : List Entry). town h) (sym same.held));
+      legal = subst IsLegal (sym same.held) stands.legal;
+      built = subst (λ (h : List Entry). are_built h ≡ true) (sym same.held) stands.built;
+      formed = subst (AllByRecursion IsFormed) (sym same.held) stands.formed;
+      kept = record {
+        held = keeper.0 ∙ (stands.kept.held ∙ ap (λ (h : List Entry). length h) (sym same.held));
+        spelled = subst (λ (told : Option (List (List ℕ))). IfSome told (λ records. map code_of f'.history ≡ records)) (sym keeper.1)
+            (subst (λ (h : List Entry). IfSome k.records (λ records. map code_of h ≡ records)) (sym same.held) stands.kept.spelled);
+        doubted = subst (λ (h : List Entry). IfSome k'.doubt (IsNextCode h)) (sym same.held)
+            (refuser_doubts room e fault k k' f.history stands.kept.doubted next refused);
+      };
+    }
+
+-- it stands after an entry that may be added was kept or refused
+pub stays : (growth room : ℕ → ℕ) (r : Result (Unit {0}) KeepFault) (f f' : Holding) (k k' : KeeperState) (e : Entry) → Stands f k
+    → MayAdd (town f.history) e → OnOk r (IsFormed e) → (IsErrOf r Failed → IsFormed e) → OnOk r (IsGrown f e f') → OnErr r (IsSame f f')
+    → OnOk r (HasAdded growth (code_of e) k k') → IfErr r (λ fault. Refuses room (code_of e) fault k k') → Stands f' k'
+stays growth room (Ok done) f f' k k' e stands may formed failed more same added refused = grown growth f f' k k' e stands may formed more added
+stays growth room (Err fault) f f' k k' e stands may formed failed more same added refused =
+    unchanged room e fault f f' k k' stands same (λ is. comes_next (town f.history) e may (failed (ap (λ (x : KeepFault). Err x) is))) refused
 
 -- ---- posts that are not seen
 

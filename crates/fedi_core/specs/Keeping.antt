@@ -34,6 +34,7 @@ MayDoubt code before after = (after ≡ before) ⊎ ((after ≡ None) ⊎ (after
 -- the keeper failed once, and has the records that it had
 pub record HasFailedOnce (code : List ℕ) (before after : KeeperState) : Type 0 where
   pub records : after.records ≡ before.records
+  pub held : after.held ≡ before.held
   pub doubt : MayDoubt code before.doubt after.doubt
   pub end : after.end ≡ before.end
   pub faults : after.faults ≡ next_count before.faults

@@ -3,3 +3,4 @@ pub mod Keeping
 pub mod Commands
 pub mod Machines
 pub mod Crashing
+pub mod Opening

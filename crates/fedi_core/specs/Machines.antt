@@ -1,6 +1,11 @@
 -- A machine, as its callers see it, and what it keeps true.
-use Rattle.std.specs.Prelude.{◌≡◌, IsTrue, List, [], ◌∷◌, ◌++◌}
+use Rattle.std.specs.Prelude.{◌≡◌, ℕ, IfSome, IsTrue, List, [], ◌∷◌, ◌++◌, length, map}
+use Rattle.std.specs.List.{AllByRecursion}
+use Rattle.fedi_entry.specs.Codes.{code_of}
+use Rattle.fedi_entry.specs.Fields.{IsFormed}
 use Rattle.fedi_objects.specs.declared.entry.Entry.{Entry}
+use Rattle.fedi_opening.specs.Opening.{IsNext}
+use Rattle.fedi_outside.specs.Keepers.{KeeperState}
 use Rattle.fedi_town.specs.Built.{are_built}
 use Rattle.fedi_town.specs.Histories.{town}
 use Rattle.fedi_town.specs.Legal.{IsLegal}
@@ -11,12 +16,25 @@ pub record Machine (P : Type 0) : Type 0 where
   pub history : List Entry
   pub keeper : P
 
--- the facts are those of the history, which is legal and made of entries that this server takes so far
-pub record Stands (facts : Holding) (history : List Entry) : Type 0 where
-  pub held : facts.history ≡ history
-  pub made : facts.town ≡ town history
-  pub legal : IsLegal history
-  pub built : IsTrue (are_built history)
+-- it is the code of an entry that may come next, so that it can be read there
+abbrev pub IsNextCode : List Entry → List ℕ → Type 0
+IsNextCode history code = (e : Entry) × IsNext (town history) e × (code ≡ code_of e)
+
+-- the keeper has a record for each entry, and if it tells them, they are the codes of the entries in order; and what is in doubt
+-- behind them may come next
+pub record IsKeeping (k : KeeperState) (history : List Entry) : Type 0 where
+  pub held : k.held ≡ length history
+  pub spelled : IfSome k.records (λ records. map code_of history ≡ records)
+  pub doubted : IfSome k.doubt (IsNextCode history)
+
+-- the facts are those of a history that is legal, made of entries that this server takes so far, whose fields have their forms,
+-- and kept by the keeper
+pub record Stands (facts : Holding) (k : KeeperState) : Type 0 where
+  pub made : facts.town ≡ town facts.history
+  pub legal : IsLegal facts.history
+  pub built : IsTrue (are_built facts.history)
+  pub formed : AllByRecursion IsFormed facts.history
+  pub kept : IsKeeping k facts.history
 
 -- the facts have one more entry
 pub record IsGrown (before : Holding) (e : Entry) (after : Holding) : Type 0 where

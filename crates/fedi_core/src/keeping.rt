@@ -1,7 +1,8 @@
 //! Keeping an entry.
 
-ghost use Rattle.std.specs.Prelude.{◌≡◌, ◌++◌, ◌∷◌, [], ◌+◌, ◌≤◌, IfErr, IsTrue, IsErrOf, OnOk, OnErr, length, vec_capacity, vec_len};
+ghost use Rattle.std.specs.Prelude.{◌≡◌, IfErr, IsTrue, IsErrOf, OnOk, OnErr, length};
 ghost use Rattle.fedi_entry.specs.Codes.{code_of};
+ghost use Rattle.fedi_entry.specs.Fields.{IsFormed};
 ghost use Rattle.fedi_town.specs.Built.{is_built};
 ghost use Rattle.fedi_outside.specs.Keepers.{HasAdded, HasRoom};
 ghost use Rattle.fedi_core.specs.Crashing.{PassesTimeUnkept, PassesTimeWith};
@@ -48,6 +49,10 @@ pub struct KeepError {
 }
 
 /// Keeps one more record. Room is made first, so that nothing takes memory once the doubt is settled.
+///
+/// The errors are `Full`, if the keeper has no room for the record; `Failed`, if the keeper failed, which it
+/// counts once, and then the record may be in doubt; and `Memory`, out of memory. After an error the records
+/// are as before.
 pub fn store<P: Keeper>(keeper: &mut P, code: &[u8]) -> Result<(), KeepFault>
     ensures fits { OnOk result (HasRoom P.room (P.shown keeper.old).end (length code.now)) }
     ensures added { OnOk result
@@ -78,20 +83,19 @@ pub fn store<P: Keeper>(keeper: &mut P, code: &[u8]) -> Result<(), KeepFault>
     }
 }
 
-/// Keeps the bytes of an entry, after all that takes memory. Then the shelf has what the entry makes and
-/// the history has room for it; after an error both are as before.
+/// Keeps the bytes of an entry, after all that takes memory. Then the shelf has what the entry makes; after an
+/// error it is as before.
 pub fn store_entry<S: Shelf, P: Keeper>(
     alloc: Global,
     shelf: &mut S,
-    history: &mut Vec<Entry>,
     keeper: &mut P,
     entry: &Entry,
 ) -> Result<(), KeepFault>
     requires { IsTrue (is_built entry.now) }
+    ensures formed { OnOk result (IsFormed entry.now) }
+    ensures formed_failed { IsErrOf result KeepFault.Failed → IsFormed entry.now }
     ensures grown { OnOk result (IsGrown (S.holding shelf.old) entry.now (S.holding shelf.new)) }
-    ensures room { OnOk result (vec_len history.new + 1 ≤ vec_capacity history.new) }
     ensures same { OnErr result (IsSame (S.holding shelf.old) (S.holding shelf.new)) }
-    ensures history { history.new.items ≡ history.old.items }
     ensures fits { OnOk result
         (HasRoom P.room (P.shown keeper.old).end (length (code_of entry.now))) }
     ensures added { OnOk result
@@ -105,20 +109,8 @@ pub fn store_entry<S: Shelf, P: Keeper>(
         (P.crashes keeper.old) (P.crashes keeper.new)) }
 {
     let code = encode(alloc, entry)?;
-    history.reserve(1)?;
     shelf.reserve(alloc, entry)?;
     store(keeper, &code)?;
     shelf.push(entry);
     Ok(())
-}
-
-/// Appends an entry to a history that has room for one more.
-pub fn push(history: &mut Vec<Entry>, entry: Entry)
-    requires { vec_len history.old + 1 ≤ vec_capacity history.old }
-    ensures { history.new.items ≡ history.old.items ++ entry ∷ [] }
-{
-    match history.push(entry) {
-        Ok(()) => {}
-        Err(_) => unreachable!(),
-    }
 }

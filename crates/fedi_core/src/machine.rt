@@ -1,9 +1,10 @@
 //! The machine over one history and the keeper of its records.
 
-ghost use Rattle.std.specs.Prelude.{◌≡◌, IfOk, IfErr, IfSome, IsTrue, MatchResult, None, OnOk, OnErr, Some, option_copied};
-ghost use Rattle.std.specs.List.{find};
+ghost use Rattle.std.specs.Prelude.{◌≡◌, ◌↔◌, List, IfOk, IfErr, IfSome, IsErrOf, IsTrue, None, OnOk, OnErr, length, map, option_copied};
+ghost use Rattle.std.specs.List.{AllByRecursion, find};
 ghost use Rattle.sha2.specs.Sha256.{sha256};
 ghost use Rattle.fedi_entry.specs.Codes.{code_of};
+ghost use Rattle.fedi_entry.specs.Fields.{IsFormed};
 ghost use Rattle.fedi_town.specs.Built.{are_built};
 ghost use Rattle.fedi_town.specs.Histories.{town};
 ghost use Rattle.fedi_town.specs.Legal.{IsLegal, broken_command};
@@ -17,15 +18,21 @@ ghost use Rattle.fedi_model.specs.Routes.{IsPostableAt};
 ghost use Rattle.fedi_core.specs.Commands.{IsCommand, RefusesCommand};
 ghost use Rattle.fedi_core.specs.Crashing.{PassesTimeRefused, PassesTimeUnkept, PassesTimeWith};
 ghost use Rattle.fedi_core.specs.Keeping.{HidesPosts, IsKept, MayAdd, Refuses};
+ghost use Rattle.fedi_core.specs.Opening.{keeper_after, outcome_of};
+ghost use Rattle.fedi_objects.specs.declared.entry.Entry.{Entry};
+ghost use Rattle.fedi_core.specs.Machines.{IsNextCode};
+ghost use Rattle.fedi_opening.specs.Opening.{IsNext, IsRead, IsStopped, after_open};
+ghost use Rattle.fedi_outside.specs.Keepers.{PassesTime};
 ghost use Rattle.fedi_visible.specs.Shelves.{empty_holding};
 
 use crate::deciding::{Decision, decide};
-use crate::keeping::{KeepError, KeepFault, push, store_entry};
+use crate::keeping::{KeepError, KeepFault, store_entry};
 use fedi_address::Host;
 use fedi_effects::Facts;
 use fedi_mac::digest;
 use fedi_model::{Ask, Credentials};
 use fedi_objects::Entry;
+use fedi_opening::{OpenFault, open_history};
 use fedi_outside::Keeper;
 use fedi_text::Moment;
 use fedi_town::{Caller, CommandFault, Refusal};
@@ -33,11 +40,11 @@ use fedi_visible::Shelf;
 use std::alloc::{AllocError, Global};
 use std::marker::Model;
 
-/// The machine: a legal history of entries that this server takes so far, with the shelf that stands for
-/// it, and the keeper of its records. A contract sees it as its history and its keeper.
+/// The machine: a shelf with a legal history of entries that this server takes so far, and the keeper of
+/// its records, which are the codes of the entries in order. A contract sees it as the history and the
+/// keeper.
 #[derive(Drop)]
 pub struct Core<S: Shelf, P: Keeper> {
-    history: Vec<Entry>,
     shelf: S,
     keeper: P,
 }
@@ -47,23 +54,9 @@ impl<S: Shelf, P: Keeper> Model for Core<S, P> {
 
     ghost Value = { Machine P };
 
-    ghost view = { λ c. record { history = c.history.items; keeper = c.keeper } };
+    ghost view = { λ c. record { history = (S.holding c.shelf).history; keeper = c.keeper } };
 
-    ghost invariant = { λ c. Stands (S.holding c.shelf) c.history.items };
-}
-
-// Puts a history on a shelf that is empty.
-fn fill<S: Shelf>(alloc: Global, shelf: &mut S, history: &[Entry]) -> Result<(), AllocError>
-    requires empty { S.holding shelf.old ≡ empty_holding }
-    requires built { IsTrue (are_built history.now) }
-    ensures held { OnOk result ((S.holding shelf.new).history ≡ history.now) }
-    ensures made { OnOk result ((S.holding shelf.new).town ≡ town history.now) }
-{
-    for entry in history {
-        shelf.reserve(alloc, entry)?;
-        shelf.push(entry);
-    }
-    Ok(())
+    ghost invariant = { λ c. Stands (S.holding c.shelf) (P.shown c.keeper) };
 }
 
 fn member_with(facts: &Facts, key: &[u8; 32]) -> Result<Caller, Refusal>
@@ -88,32 +81,49 @@ fn caller_of(facts: &Facts, credentials: &Credentials) -> Result<Caller, Refusal
 }
 
 impl<S: Shelf + Drop, P: Keeper> Core<S, P> {
-    /// The machine over a legal history of entries that this server takes so far, on a shelf that is
-    /// empty, with the keeper of its records. The error is out of memory, and hands history and keeper
-    /// back.
-    pub fn open(
-        alloc: Global,
-        history: Vec<Entry>,
-        shelf: S,
-        keeper: P,
-    ) -> Result<Core<S, P>, (Vec<Entry>, P)>
+    /// Opens the history of the records that the keeper holds on a shelf that is empty: each record is read as
+    /// the entry of which it is the code, which has to be one that may come there.
+    ///
+    /// An error hands the keeper back. It is `Empty`, exactly if there is no record; `Damaged`, with the
+    /// place of the first record that is the code of no entry that may come there; `Failed`, if the keeper
+    /// failed, which it counts once; and `Memory`, out of memory. The keeper's records, what is in doubt and
+    /// the end of it are as before, whatever comes. Nothing may be in doubt when it is opened.
+    pub fn open(alloc: Global, shelf: S, keeper: P) -> Result<Core<S, P>, (OpenFault, P)>
         requires empty { S.holding shelf ≡ empty_holding }
-        requires legal { IsLegal history.items }
-        requires built { IsTrue (are_built history.items) }
-        ensures ok { IfOk result (λ core.
-            core ≡ record { history = history.items; keeper = keeper }) }
-        ensures err { IfErr result (λ back. back.0.items ≡ history.items) }
-        ensures err_keeper { IfErr result (λ back. back.1 ≡ keeper) }
+        requires settled { (P.shown keeper).doubt ≡ None }
+        ensures opened { IfOk result (λ core.
+            IsRead (P.shown keeper).records (P.shown keeper).held core.history) }
+        ensures none { IsErrOf (outcome_of result) OpenFault.Empty ↔ ((P.shown keeper).held ≡ 0) }
+        ensures stopped { IfErr result (λ back.
+            (history : List Entry) × IsStopped back.0 (P.shown keeper) history) }
+        ensures shown { P.shown (keeper_after result)
+            ≡ after_open (outcome_of result) (P.shown keeper) }
+        ensures time { PassesTime (P.shown keeper).records (P.shown keeper).doubt
+            (P.crashes keeper) (P.crashes (keeper_after result)) }
     {
-        let mut shelf = shelf;
-        match fill(alloc, &mut shelf, &history) {
-            Ok(()) => Ok(Core {
-                history,
-                shelf,
-                keeper,
-            }),
-            Err(AllocError) => Err((history, keeper)),
+        let (mut shelf, mut keeper) = (shelf, keeper);
+        match open_history(alloc, &mut keeper, &mut shelf) {
+            Ok(()) => {
+                shelf.facts().stands();
+                Ok(Core { shelf, keeper })
+            }
+            Err(fault) => Err((fault, keeper)),
         }
+    }
+
+    /// The facts of the history.
+    pub fn facts(&self) -> &Facts
+        ensures history { result.now.history ≡ self.now.history }
+        ensures town { result.now.town ≡ town self.now.history }
+    {
+        self.shelf.facts()
+    }
+
+    /// How many entries the history has.
+    pub fn count(&self) -> u64
+        ensures { result ≡ length self.now.history }
+    {
+        self.keeper.count()
     }
 
     /// The host, once the server was set up.
@@ -166,6 +176,9 @@ impl<S: Shelf + Drop, P: Keeper> Core<S, P> {
         ensures refused { IfErr result (λ e. Refuses P.room (code_of entry) e.fault
             (P.shown self.old.keeper) (P.shown self.new.keeper)) }
         ensures back { IfErr result (λ e. e.entry ≡ entry) }
+        // What may then be in doubt can be read where it stands.
+        ensures next { IfErr result (λ e.
+            e.fault ≡ KeepFault.Failed → IsNext (town self.old.history) entry) }
         ensures same { OnErr result (self.new.history ≡ self.old.history) }
         ensures legal { IsLegal self.new.history }
         ensures built { IsTrue (are_built self.new.history) }
@@ -179,17 +192,8 @@ impl<S: Shelf + Drop, P: Keeper> Core<S, P> {
         // A post that changes nothing earlier tells nothing to a caller who does not see it.
         ensures unseen { HidesPosts self.old.history self.new.history }
     {
-        match store_entry(
-            alloc,
-            &mut self.shelf,
-            &mut self.history,
-            &mut self.keeper,
-            &entry,
-        ) {
-            Ok(()) => {
-                push(&mut self.history, entry);
-                Ok(())
-            }
+        match store_entry(alloc, &mut self.shelf, &mut self.keeper, &entry) {
+            Ok(()) => Ok(()),
             Err(fault) => Err(KeepError { fault, entry }),
         }
     }
@@ -205,6 +209,8 @@ impl<S: Shelf + Drop, P: Keeper> Core<S, P> {
         ensures refused { IfErr result (λ fault. RefusesCommand P.room
             (town self.old.history) entry fault
             (P.shown self.old.keeper) (P.shown self.new.keeper)) }
+        ensures next { IfErr result (λ fault.
+            fault ≡ CommandFault.KeeperFault → IsNext (town self.old.history) entry) }
         ensures same { OnErr result (self.new.history ≡ self.old.history) }
         ensures legal { IsLegal self.new.history }
         ensures built { IsTrue (are_built self.new.history) }
@@ -226,18 +232,18 @@ impl<S: Shelf + Drop, P: Keeper> Core<S, P> {
         }
     }
 
-    /// The history and the keeper.
-    pub fn close(self) -> (Vec<Entry>, P)
-        ensures history { result.0.items ≡ self.history }
-        ensures keeper { result.1 ≡ self.keeper }
+    /// The keeper, which holds the records of the history.
+    pub fn close(self) -> P
+        ensures keeper { result ≡ self.keeper }
+        ensures kept { IfSome (P.shown self.keeper).records (λ records.
+            map code_of self.history ≡ records) }
+        ensures held { (P.shown self.keeper).held ≡ length self.history }
+        ensures doubted { IfSome (P.shown self.keeper).doubt (IsNextCode self.history) }
         ensures legal { IsLegal self.history }
         ensures built { IsTrue (are_built self.history) }
+        ensures formed { AllByRecursion IsFormed self.history }
     {
-        let Core {
-            history,
-            shelf: _,
-            keeper,
-        } = self;
-        (history, keeper)
+        let Core { shelf: _, keeper } = self;
+        keeper
     }
 }

@@ -1,6 +1,7 @@
 pub mod CodeLemmas
 pub mod EntryLemmas
 pub mod Failing
+pub mod Formed
 pub mod Loop
 pub mod ReadEntries
 pub mod ReadObjects

@@ -1,6 +1,6 @@
 -- What the fields of an entry have to look like, each by itself.
 use Rattle.std.specs.Prelude.{◌≡◌, ◌<◌, ◌≤◌, ◌^◌, ℕ, Bool, false, ◌&&◌, nat_le, List, length, Option, Some, None, IfSome, IsTrue, codes, bytes_eq}
-use Rattle.std.specs.List.{list_all, AllByRecursion}
+use Rattle.std.specs.List.{AllByRecursion}
 use Rattle.std.specs.Str.{is_utf8}
 use Rattle.fedi_address.specs.declared.recipients.Recipients.{Recipients}
 use Rattle.fedi_address.specs.Hosts.{address, is_host_text}
@@ -63,6 +63,10 @@ IfIri o = IfSome o (IsText is_iri)
 abbrev pub IfContent : Option (List ℕ) → Type 0
 IfContent o = IfSome o (IsText is_text)
 
+-- a type, if there is one
+abbrev pub IfKind : Option (List ℕ) → Type 0
+IfKind o = IfSome o (IsText is_type)
+
 -- a date, if there is one
 abbrev pub IfDate : Option (List ℕ) → Type 0
 IfDate o = IfSome o (IsText is_date)
@@ -83,14 +87,19 @@ AreRecipients r =
 abbrev pub AreWords : Option (List ℕ) → Option (List ℕ) → Option (List ℕ) → Type 0
 AreWords content summary name = IfContent content × (IfContent summary × IfContent name)
 
+-- what an object says
+abbrev pub AreObjectWords : Object → Type 0
+AreObjectWords o = IfIri o.in_reply_to × (AreWords o.content o.summary o.name × IfIri o.url)
+
+-- what became of an object, and when
+abbrev pub AreObjectTimes : Object → Type 0
+AreObjectTimes o = IfDate o.published × (IfDate o.updated × (IfKind o.former_kind × IfDate o.deleted))
+
 -- an object
 abbrev pub IsObject : Object → Type 0
 IsObject o =
     (IfIri o.id × (IsText is_type o.kind × IfIri o.attributed_to))
-    × (AreRecipients o.recipients
-    × ((IfIri o.in_reply_to × (AreWords o.content o.summary o.name × IfIri o.url))
-    × ((IfDate o.published × (IfDate o.updated × (IfSome o.former_kind (IsText is_type) × IfDate o.deleted)))
-    × IsList IsTag o.tags)))
+    × (AreRecipients o.recipients × (AreObjectWords o × (AreObjectTimes o × IsList IsTag o.tags)))
 
 -- a change of an object
 abbrev pub IsChange : Change → Type 0
@@ -106,14 +115,16 @@ IsObjectRef (Id iri) = IsText is_iri iri
 IsObjectRef (Whole object) = IsObject object
 IsObjectRef (Changed change) = IsChange change
 
+-- what an activity itself says
+abbrev pub AreActivityWords : Activity → Type 0
+AreActivityWords a =
+    IfIri a.in_reply_to × (AreWords a.content a.summary a.name × (IfDate a.published × IsList IsTag a.tags))
+
 -- an activity
 abbrev pub IsActivity : Activity → Type 0
 IsActivity a =
     (IfIri a.id × IfIri a.actor)
-    × (IsObjectRef a.object
-    × (IfIri a.target
-    × (AreRecipients a.recipients
-    × (IfIri a.in_reply_to × (AreWords a.content a.summary a.name × (IfDate a.published × IsList IsTag a.tags))))))
+    × (IsObjectRef a.object × (IfIri a.target × (AreRecipients a.recipients × AreActivityWords a)))
 
 -- ---- entries
 

@@ -18,7 +18,6 @@ use Rattle.fedi_objects.specs.declared.entry.Sent.TheVariants.{Lookup, Post}
 use Rattle.fedi_objects.specs.declared.entry.What.{What}
 use Rattle.fedi_objects.specs.declared.entry.What.TheVariants.{Failed, NoHead, BadActor, Status}
 use Rattle.fedi_objects.specs.declared.kind.Kind.{Kind}
-use Rattle.fedi_objects.specs.declared.kind.Kind.TheVariants as kinds
 use Rattle.fedi_objects.specs.declared.object.Change.{Change}
 use Rattle.fedi_objects.specs.declared.object.Edit.{Edit}
 use Rattle.fedi_objects.specs.declared.object.Edit.TheVariants.{Keep, Remove, Give}

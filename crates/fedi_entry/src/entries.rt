@@ -1,10 +1,13 @@
 //! Entries as bytes.
 
-ghost use Rattle.std.specs.Prelude.{◌≡◌, ◌++◌, ◌<◌, ◌^◌, length, IfOk, OnOk};
-ghost use Rattle.fedi_entry.specs.Codes.{came_code, code_of, entry_number, fields_code, option_code, repeat_code, what_code, Fits, HasDigest, HasSizes, HasStatus};
+ghost use Rattle.std.specs.Prelude.{◌≡◌, ◌++◌, ◌<◌, ◌^◌, length, IfOk, IfSome, OnOk};
+ghost use Rattle.fedi_entry.specs.Codes.{came_code, code_of, entry_number, fields_code, option_code, repeat_code, what_code, Fits};
+ghost use Rattle.fedi_entry.specs.Fields.{IsFormed, IsRepeat, MayCome};
 
-use crate::values::{Encode, put_bool, put_byte, put_key, put_moment, put_status, put_text};
-use fedi_objects::{Came, Entry, ObjectRef, RepeatKey, What};
+use crate::values::{
+    Encode, put_address, put_bool, put_byte, put_bytes, put_key, put_moment, put_status,
+};
+use fedi_objects::{Came, Entry, ObjectRef, RepeatKey, Sent, What};
 use std::alloc::{AllocError, Global};
 
 /// The room for an entry without long texts.
@@ -14,33 +17,34 @@ const ROOM: usize = 1024;
 const LONGEST: usize = 4_294_967_295;
 
 /// Appends the repeat key, if there is one, with its digest.
-#[tactic(auto, unfolding(crate::specs::Codes::option_code, crate::specs::Codes::repeat_code))]
+#[tactic(auto, using(crate::proofs::Texts::is_utf8_key), unfolding(crate::specs::Codes::option_code, crate::specs::Codes::repeat_code))]
 fn put_repeat(bytes: &mut Vec<u8>, repeat: &Option<(RepeatKey, [u8; 32])>) -> Result<(), AllocError>
     ensures code { OnOk result (bytes.new.items
         ≡ bytes.old.items ++ option_code repeat_code repeat.now) }
-    ensures size { OnOk result (HasDigest repeat.now) }
+    ensures formed { OnOk result (IfSome repeat.now IsRepeat) }
 {
     match repeat {
         None => put_byte(bytes, 0),
         Some(repeat) => {
             put_byte(bytes, 1)?;
-            put_text(bytes, repeat.0.bytes())?;
+            put_bytes(bytes, repeat.0.bytes())?;
             put_key(bytes, &repeat.1)
         }
     }
 }
 
-/// Appends what came of a request.
+/// Appends what came of a lookup or a post. A bad actor that came of a post is refused.
 #[tactic(auto, unfolding(crate::specs::Codes::what_code))]
-fn put_what(bytes: &mut Vec<u8>, what: &What) -> Result<(), AllocError>
+fn put_what(bytes: &mut Vec<u8>, step: Sent, what: &What) -> Result<(), AllocError>
     ensures code { OnOk result (bytes.new.items ≡ bytes.old.items ++ what_code what.now) }
-    ensures size { OnOk result (HasStatus what.now) }
+    ensures formed { OnOk result (MayCome step what.now) }
 {
-    match what {
-        What::Failed => put_byte(bytes, 0),
-        What::NoHead => put_byte(bytes, 1),
-        What::BadActor => put_byte(bytes, 2),
-        What::Status(status) => {
+    match (what, step) {
+        (What::Failed, _) => put_byte(bytes, 0),
+        (What::NoHead, _) => put_byte(bytes, 1),
+        (What::BadActor, Sent::Lookup) => put_byte(bytes, 2),
+        (What::BadActor, Sent::Post) => Err(AllocError),
+        (What::Status(status), _) => {
             put_byte(bytes, 3)?;
             put_status(bytes, *status)
         }
@@ -51,10 +55,10 @@ fn put_what(bytes: &mut Vec<u8>, what: &What) -> Result<(), AllocError>
 #[tactic(auto, unfolding(crate::specs::Codes::came_code))]
 fn put_came(bytes: &mut Vec<u8>, came: &Came) -> Result<(), AllocError>
     ensures code { OnOk result (bytes.new.items ≡ bytes.old.items ++ came_code came.now) }
-    ensures size { OnOk result (HasStatus came.now.what) }
+    ensures formed { OnOk result (MayCome came.now.step came.now.what) }
 {
     put_byte(bytes, came.step as u8)?;
-    put_what(bytes, &came.what)
+    put_what(bytes, came.step, &came.what)
 }
 
 /// The byte that says which kind of entry it is.
@@ -72,10 +76,10 @@ fn kind_number(entry: &Entry) -> u8
 }
 
 /// Appends the fields of an entry.
-#[tactic(auto, unfolding(crate::specs::Codes::fields_code))]
+#[tactic(auto, unfolding(crate::specs::Codes::fields_code, crate::specs::Fields::IsFormed))]
 fn put_fields(bytes: &mut Vec<u8>, entry: &Entry) -> Result<(), AllocError>
     ensures code { OnOk result (bytes.new.items ≡ bytes.old.items ++ fields_code entry.now) }
-    ensures sizes { OnOk result (HasSizes entry.now) }
+    ensures formed { OnOk result (IsFormed entry.now) }
 {
     let moment = match entry {
         Entry::Hosted { host, moment } => {
@@ -102,7 +106,7 @@ fn put_fields(bytes: &mut Vec<u8>, entry: &Entry) -> Result<(), AllocError>
         } => {
             host.put(bytes)?;
             put_key(bytes, key)?;
-            address.put(bytes)?;
+            put_address(bytes, address)?;
             put_bool(bytes, *relay)?;
             moment
         }
@@ -143,12 +147,18 @@ fn put_fields(bytes: &mut Vec<u8>, entry: &Entry) -> Result<(), AllocError>
     put_moment(bytes, *moment)
 }
 
-/// The bytes of an entry. The error is that it is out of memory, or that the entry is longer than 4,294,967,295 bytes.
+/// The bytes of an entry, from which the same entry is read again.
+///
+/// The error is out of memory. It is given too for an entry that could not be read again, as it is
+/// longer than 4,294,967,295 bytes, or a field of it is past its limit: a content, a summary or a
+/// name of more than 65,536 bytes, what is no type, no date, no address of a peer or no status, or
+/// a bad actor that came of a post. No member meets this: such a post is refused when it is read.
 #[tactic(auto, unfolding(crate::specs::Codes::code_of))]
 pub fn encode(alloc: Global, entry: &Entry) -> Result<Vec<u8>, AllocError>
     ensures code { IfOk result (λ bytes. bytes.items ≡ code_of entry.now) }
     ensures short { IfOk result (λ bytes. length bytes.items < 2 ^ 32) }
     ensures fits { OnOk result (Fits entry.now) }
+    ensures formed { OnOk result (IsFormed entry.now) }
 {
     let mut bytes = Vec::with_capacity(alloc, room_for(entry))?;
     put_byte(&mut bytes, kind_number(entry))?;

@@ -8,6 +8,7 @@ mod entries;
 mod fault;
 mod known_hosts;
 mod laws;
+mod limits;
 mod objects;
 mod read_entries;
 mod read_objects;

@@ -2,8 +2,9 @@
 
 ghost use Rattle.std.specs.Prelude.{◌≡◌, ◌++◌, OnOk};
 ghost use Rattle.fedi_entry.specs.Codes.{activity_words, object_times, object_words, words_code};
+ghost use Rattle.fedi_entry.specs.Fields.{AreActivityWords, AreObjectTimes, AreObjectWords, AreWords};
 
-use crate::values::{Encode, put_byte};
+use crate::values::{Encode, put_byte, put_date, put_former_kind, put_kind_name};
 use fedi_address::Recipients;
 use fedi_objects::{Activity, Change, Object, ObjectRef, Tag};
 use fedi_text::Text;
@@ -11,8 +12,11 @@ use std::alloc::AllocError;
 
 impl Encode for Tag {
     ghost use Rattle.fedi_entry.specs.Codes.{tag_code};
+    ghost use Rattle.fedi_entry.specs.Fields.{IsTag};
 
     ghost code = { tag_code };
+
+    ghost form = { IsTag };
 
     #[tactic(auto, unfolding(crate::specs::Codes::tag_code))]
     fn put(&self, bytes: &mut Vec<u8>) -> Result<(), AllocError> {
@@ -23,8 +27,11 @@ impl Encode for Tag {
 
 impl Encode for Recipients {
     ghost use Rattle.fedi_entry.specs.Codes.{recipients_code};
+    ghost use Rattle.fedi_entry.specs.Fields.{AreRecipients};
 
     ghost code = { recipients_code };
+
+    ghost form = { AreRecipients };
 
     #[tactic(auto, unfolding(crate::specs::Codes::recipients_code, crate::specs::Codes::hidden_code))]
     fn put(&self, bytes: &mut Vec<u8>) -> Result<(), AllocError> {
@@ -44,8 +51,9 @@ fn put_words(
     summary: &Option<Text>,
     name: &Option<Text>,
 ) -> Result<(), AllocError>
-    ensures { OnOk result (bytes.new.items
+    ensures code { OnOk result (bytes.new.items
         ≡ bytes.old.items ++ words_code content.now summary.now name.now) }
+    ensures formed { OnOk result (AreWords content.now summary.now name.now) }
 {
     content.put(bytes)?;
     summary.put(bytes)?;
@@ -55,7 +63,8 @@ fn put_words(
 /// Appends what an object says.
 #[tactic(auto, unfolding(crate::specs::Codes::object_words))]
 fn put_object_words(bytes: &mut Vec<u8>, object: &Object) -> Result<(), AllocError>
-    ensures { OnOk result (bytes.new.items ≡ bytes.old.items ++ object_words object.now) }
+    ensures code { OnOk result (bytes.new.items ≡ bytes.old.items ++ object_words object.now) }
+    ensures formed { OnOk result (AreObjectWords object.now) }
 {
     object.in_reply_to.put(bytes)?;
     put_words(bytes, &object.content, &object.summary, &object.name)?;
@@ -65,23 +74,27 @@ fn put_object_words(bytes: &mut Vec<u8>, object: &Object) -> Result<(), AllocErr
 /// Appends when an object was published, updated and deleted, and its former type.
 #[tactic(auto, unfolding(crate::specs::Codes::object_times))]
 fn put_times(bytes: &mut Vec<u8>, object: &Object) -> Result<(), AllocError>
-    ensures { OnOk result (bytes.new.items ≡ bytes.old.items ++ object_times object.now) }
+    ensures code { OnOk result (bytes.new.items ≡ bytes.old.items ++ object_times object.now) }
+    ensures formed { OnOk result (AreObjectTimes object.now) }
 {
-    object.published.put(bytes)?;
-    object.updated.put(bytes)?;
-    object.former_kind.put(bytes)?;
-    object.deleted.put(bytes)
+    put_date(bytes, &object.published)?;
+    put_date(bytes, &object.updated)?;
+    put_former_kind(bytes, &object.former_kind)?;
+    put_date(bytes, &object.deleted)
 }
 
 impl Encode for Object {
     ghost use Rattle.fedi_entry.specs.Codes.{object_code};
+    ghost use Rattle.fedi_entry.specs.Fields.{IsObject};
 
     ghost code = { object_code };
+
+    ghost form = { IsObject };
 
     #[tactic(auto, unfolding(crate::specs::Codes::object_code, crate::specs::Codes::object_head))]
     fn put(&self, bytes: &mut Vec<u8>) -> Result<(), AllocError> {
         self.id.put(bytes)?;
-        self.kind.put(bytes)?;
+        put_kind_name(bytes, &self.kind)?;
         self.attributed_to.put(bytes)?;
         self.recipients.put(bytes)?;
         put_object_words(bytes, self)?;
@@ -92,8 +105,11 @@ impl Encode for Object {
 
 impl Encode for Change {
     ghost use Rattle.fedi_entry.specs.Codes.{change_code};
+    ghost use Rattle.fedi_entry.specs.Fields.{IsChange};
 
     ghost code = { change_code };
+
+    ghost form = { IsChange };
 
     #[tactic(auto, unfolding(crate::specs::Codes::change_code, crate::specs::Codes::edits_code))]
     fn put(&self, bytes: &mut Vec<u8>) -> Result<(), AllocError> {
@@ -109,8 +125,11 @@ impl Encode for Change {
 
 impl Encode for ObjectRef {
     ghost use Rattle.fedi_entry.specs.Codes.{object_ref_code};
+    ghost use Rattle.fedi_entry.specs.Fields.{IsObjectRef};
 
     ghost code = { object_ref_code };
+
+    ghost form = { IsObjectRef };
 
     #[tactic(auto, unfolding(crate::specs::Codes::object_ref_code))]
     fn put(&self, bytes: &mut Vec<u8>) -> Result<(), AllocError> {
@@ -135,18 +154,22 @@ impl Encode for ObjectRef {
 /// Appends what an activity itself says.
 #[tactic(auto, unfolding(crate::specs::Codes::activity_words))]
 fn put_activity_words(bytes: &mut Vec<u8>, activity: &Activity) -> Result<(), AllocError>
-    ensures { OnOk result (bytes.new.items ≡ bytes.old.items ++ activity_words activity.now) }
+    ensures code { OnOk result (bytes.new.items ≡ bytes.old.items ++ activity_words activity.now) }
+    ensures formed { OnOk result (AreActivityWords activity.now) }
 {
     activity.in_reply_to.put(bytes)?;
     put_words(bytes, &activity.content, &activity.summary, &activity.name)?;
-    activity.published.put(bytes)?;
+    put_date(bytes, &activity.published)?;
     activity.tags.put(bytes)
 }
 
 impl Encode for Activity {
     ghost use Rattle.fedi_entry.specs.Codes.{activity_code};
+    ghost use Rattle.fedi_entry.specs.Fields.{IsActivity};
 
     ghost code = { activity_code };
+
+    ghost form = { IsActivity };
 
     #[tactic(auto, unfolding(crate::specs::Codes::activity_code, crate::specs::Codes::activity_head))]
     fn put(&self, bytes: &mut Vec<u8>) -> Result<(), AllocError> {

@@ -1,8 +1,7 @@
 //! Reading numbers, keys and texts at the front of bytes.
 
-ghost use Rattle.std.specs.Prelude.{◌≡◌, length, IfOk, IfSome, None, false, true};
+ghost use Rattle.std.specs.Prelude.{◌≡◌, ◌↔◌, length, IfOk, IfSome, IsSome, IsTrue, None, false, true};
 ghost use Rattle.std.specs.Int.{w16, w32, w64};
-ghost use Rattle.std.specs.List.{list_all};
 ghost use Rattle.fedi_objects.specs.Keys.{is_repeat_key};
 ghost use Rattle.fedi_objects.specs.Limits as limits;
 ghost use Rattle.fedi_address.specs.Names.{is_name};
@@ -11,21 +10,13 @@ ghost use Rattle.fedi_entry.specs.Reading.{byte_at, bytes_at, date_at, flag_at, 
 
 use crate::fault::ReadFault;
 use crate::known_hosts::KnownHosts;
+use crate::limits::{is_address, is_content, is_date, is_kind_name};
 use fedi_address::{Host, HostFault, Iri, IriFault, LocalName};
 use fedi_objects::RepeatKey;
 use fedi_text::{Moment, Text};
 use std::alloc::{AllocError, Global};
 use std::marker::Model;
 use std::str;
-
-/// The most bytes that a content, a summary or a name has.
-const LONGEST_CONTENT: usize = 65_536;
-
-/// The most bytes that a type or a date has.
-const LONGEST_WORD: usize = 64;
-
-/// The most bytes that the address of a peer has.
-const LONGEST_ADDRESS: usize = 255;
 
 /// Bytes that are read from left to right. Each method reads what begins at their front, and then
 /// the front is behind it. After an error the front may be anywhere.
@@ -81,52 +72,44 @@ impl<'a> Reader<'a> {
     fn short(&mut self) -> Result<u16, ReadFault>
         ensures { Takes result self.new (number_at w16 self.old) }
     {
-        if self.rest.len() < 2 {
+        let Some((front, rest)) = self.rest.split_first_chunk::<2>() else {
             return Err(self.fault());
-        }
-        let (front, rest) = self.rest.split_at(2);
+        };
         self.rest = rest;
-        Ok(u16::from_be_bytes([front[0], front[1]]))
+        Ok(u16::from_be_bytes(*front))
     }
 
     /// A length or a count: a number of four bytes.
     pub fn count(&mut self) -> Result<u32, ReadFault>
         ensures { Takes result self.new (number_at w32 self.old) }
     {
-        if self.rest.len() < 4 {
+        let Some((front, rest)) = self.rest.split_first_chunk::<4>() else {
             return Err(self.fault());
-        }
-        let (front, rest) = self.rest.split_at(4);
+        };
         self.rest = rest;
-        Ok(u32::from_be_bytes([front[0], front[1], front[2], front[3]]))
+        Ok(u32::from_be_bytes(*front))
     }
 
     /// A number of eight bytes.
     fn long(&mut self) -> Result<u64, ReadFault>
         ensures { Takes result self.new (number_at w64 self.old) }
     {
-        if self.rest.len() < 8 {
+        let Some((front, rest)) = self.rest.split_first_chunk::<8>() else {
             return Err(self.fault());
-        }
-        let (front, rest) = self.rest.split_at(8);
+        };
         self.rest = rest;
-        Ok(u64::from_be_bytes([
-            front[0], front[1], front[2], front[3], front[4], front[5], front[6], front[7],
-        ]))
+        Ok(u64::from_be_bytes(*front))
     }
 
     /// A key or a digest.
     pub fn key(&mut self) -> Result<[u8; 32], ReadFault>
         ensures { Takes result self.new (bytes_at 32 self.old) }
     {
-        if self.rest.len() < 32 {
+        let Some((front, rest)) = self.rest.split_first_chunk::<32>() else {
             return Err(self.fault());
-        }
-        let (front, rest) = self.rest.split_at(32);
+        };
         self.rest = rest;
-        let mut key = [0; 32];
-        key.copy_from_slice(front);
-        Ok(key)
+        Ok(*front)
     }
 
     /// A byte that says what follows.
@@ -230,7 +213,7 @@ impl<'a> Reader<'a> {
     {
         let fault = self.fault();
         let text = self.text()?;
-        match RepeatKey::parse(text.as_bytes()) {
+        match key_of(text) {
             Some(key) => Ok(key),
             None => Err(fault),
         }
@@ -281,39 +264,39 @@ impl<'a> Reader<'a> {
     }
 
     /// A content, a summary or a name: at most 65,536 bytes.
-    #[tactic(auto, unfolding(crate::specs::Reading::text_at, fedi_objects::specs::Limits::is_text))]
+    #[tactic(auto, unfolding(crate::specs::Reading::text_at))]
     pub fn content(&mut self) -> Result<Text, ReadFault>
         ensures { Takes result self.new (text_at limits.is_text self.old) }
     {
         let fault = self.fault();
         let text = self.text()?;
-        if text.len() > LONGEST_CONTENT {
+        if !is_content(text) {
             return Err(fault);
         }
         Ok(Text::from_text(self.alloc, text)?)
     }
 
     /// A type: 1 to 64 bytes.
-    #[tactic(auto, unfolding(crate::specs::Reading::text_at, fedi_objects::specs::Limits::is_type))]
+    #[tactic(auto, unfolding(crate::specs::Reading::text_at))]
     pub fn kind_name(&mut self) -> Result<Text, ReadFault>
         ensures { Takes result self.new (text_at limits.is_type self.old) }
     {
         let fault = self.fault();
         let text = self.text()?;
-        if text.is_empty() || text.len() > LONGEST_WORD {
+        if !is_kind_name(text) {
             return Err(fault);
         }
         Ok(Text::from_text(self.alloc, text)?)
     }
 
     /// A date as it was given: at most 64 bytes 32 to 126.
-    #[tactic(auto, unfolding(crate::specs::Reading::text_at, fedi_objects::specs::Limits::is_date))]
+    #[tactic(auto, unfolding(crate::specs::Reading::text_at))]
     pub fn date(&mut self) -> Result<Text, ReadFault>
         ensures { Takes result self.new (date_at self.old) }
     {
         let fault = self.fault();
         let text = self.text()?;
-        if text.len() > LONGEST_WORD || !has_date_bytes(text.as_bytes()) {
+        if !is_date(text) {
             return Err(fault);
         }
         Ok(Text::from_text(self.alloc, text)?)
@@ -326,44 +309,19 @@ impl<'a> Reader<'a> {
     {
         let fault = self.fault();
         let text = self.text()?;
-        if !is_address(text.as_bytes()) {
+        if !is_address(text) {
             return Err(fault);
         }
         Ok(Text::from_text(self.alloc, text)?)
     }
 }
 
-fn is_date_byte(byte: u8) -> bool
-    ensures { result ≡ limits.is_date_byte byte }
+// The key for repeats with this text.
+fn key_of(text: &str) -> Option<RepeatKey>
+    ensures key { IsSome result ↔ IsTrue (is_repeat_key text.now) }
+    ensures same { IfSome result (λ key. key ≡ text.now) }
 {
-    32 <= byte && byte <= 126
-}
-
-fn has_date_bytes(text: &[u8]) -> bool
-    ensures { result ≡ list_all limits.is_date_byte text.now }
-{
-    text.iter().all(|byte| is_date_byte(*byte))
-}
-
-fn is_address_byte(byte: u8) -> bool
-    ensures { result ≡ limits.is_address_byte byte }
-{
-    33 <= byte && byte <= 126
-}
-
-fn has_address_bytes(text: &[u8]) -> bool
-    ensures { result ≡ list_all limits.is_address_byte text.now }
-{
-    text.iter().all(|byte| is_address_byte(*byte))
-}
-
-fn is_address(text: &[u8]) -> bool
-    ensures { result ≡ limits.is_address text.now }
-{
-    if text.is_empty() || text.len() > LONGEST_ADDRESS {
-        return false;
-    }
-    has_address_bytes(text)
+    RepeatKey::parse(text.as_bytes())
 }
 
 // The IRI with this very text. `None` exactly if its normal text is another, or there is none.

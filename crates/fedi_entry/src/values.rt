@@ -1,23 +1,34 @@
 //! Appending values to a buffer.
+//!
+//! What no type says is tested: the limits of texts, counts and statuses. What is past its limit is
+//! refused as out of memory.
 
-ghost use Rattle.std.specs.Prelude.{◌≡◌, ◌<◌, ◌^◌, ◌∷◌, [], ◌++◌, length, OnOk};
-ghost use Rattle.std.specs.List.{flat_map};
-ghost use Rattle.fedi_entry.specs.Codes.{bool_code, text_code, u16_code, u32_code, u64_code};
+ghost use Rattle.std.specs.Prelude.{◌≡◌, ◌<◌, ◌≤◌, ◌^◌, ◌∷◌, [], ◌++◌, length, IsTrue, OnOk};
+ghost use Rattle.std.specs.List.{flat_map, All};
+ghost use Rattle.std.specs.Str.{is_utf8};
+ghost use Rattle.fedi_objects.specs.Limits as limits;
+ghost use Rattle.fedi_entry.specs.Codes.{bool_code, option_code, text_code, u16_code, u32_code, u64_code};
+ghost use Rattle.fedi_entry.specs.Fields.{IfDate, IfKind, IsKey, IsMoment, IsText};
 
+use crate::limits::{is_address, is_content, is_date, is_kind_name};
 use fedi_address::{Host, Iri, Items, LocalName};
 use fedi_objects::Edit;
 use fedi_text::{Moment, Text};
 use std::alloc::AllocError;
 
-/// A value that has a code.
+/// A value that has a code, and a form in which it is read again.
 pub trait Encode {
     ghost use Rattle.std.specs.Prelude.{List, ℕ};
 
     ghost code: { Self → List ℕ };
 
-    /// Appends the code of the value. After an error the buffer ends with a part of it.
+    ghost form: { Self → Type 0 };
+
+    /// Appends the code of the value. The error is that it is out of memory, or that the value has
+    /// not its form. After an error the buffer ends with a part of the code.
     fn put(&self, bytes: &mut Vec<u8>) -> Result<(), AllocError>
-        ensures { OnOk result (bytes.new.items ≡ bytes.old.items ++ code self.now) };
+        ensures code { OnOk result (bytes.new.items ≡ bytes.old.items ++ code self.now) }
+        ensures formed { OnOk result (form self.now) };
 }
 
 /// Appends one byte.
@@ -35,19 +46,23 @@ pub fn put_bool(bytes: &mut Vec<u8>, value: bool) -> Result<(), AllocError>
     put_byte(bytes, if value { 1 } else { 0 })
 }
 
-/// Appends a status.
+/// Appends a status. One that is not 100 to 999 is refused.
 #[tactic(auto, unfolding(crate::specs::Codes::u16_code))]
 pub fn put_status(bytes: &mut Vec<u8>, status: u16) -> Result<(), AllocError>
     ensures code { OnOk result (bytes.new.items ≡ bytes.old.items ++ u16_code status) }
-    ensures size { OnOk result (status < 2 ^ 16) }
+    ensures formed { OnOk result ((100 ≤ status) × (status ≤ 999)) }
 {
+    if status < 100 || 999 < status {
+        return Err(AllocError);
+    }
     bytes.extend_from_slice(&status.to_be_bytes())
 }
 
-/// Appends a length or a count. One that does not fit in four bytes is refused as out of memory.
+/// Appends a length or a count. One that does not fit in four bytes is refused.
 #[tactic(auto, unfolding(crate::specs::Codes::u32_code))]
 fn put_count(bytes: &mut Vec<u8>, count: usize) -> Result<(), AllocError>
-    ensures { OnOk result (bytes.new.items ≡ bytes.old.items ++ u32_code count) }
+    ensures code { OnOk result (bytes.new.items ≡ bytes.old.items ++ u32_code count) }
+    ensures short { OnOk result (count < 2 ^ 32) }
 {
     match u32::try_from(count) {
         Ok(count) => bytes.extend_from_slice(&count.to_be_bytes()),
@@ -59,7 +74,7 @@ fn put_count(bytes: &mut Vec<u8>, count: usize) -> Result<(), AllocError>
 #[tactic(auto, unfolding(crate::specs::Codes::u64_code))]
 pub fn put_moment(bytes: &mut Vec<u8>, moment: Moment) -> Result<(), AllocError>
     ensures code { OnOk result (bytes.new.items ≡ bytes.old.items ++ u64_code moment) }
-    ensures size { OnOk result (moment < 2 ^ 64) }
+    ensures formed { OnOk result (IsMoment moment) }
 {
     bytes.extend_from_slice(&moment.seconds().to_be_bytes())
 }
@@ -67,64 +82,151 @@ pub fn put_moment(bytes: &mut Vec<u8>, moment: Moment) -> Result<(), AllocError>
 /// Appends a key or a digest.
 pub fn put_key(bytes: &mut Vec<u8>, key: &[u8; 32]) -> Result<(), AllocError>
     ensures code { OnOk result (bytes.new.items ≡ bytes.old.items ++ key.now) }
-    ensures size { OnOk result (length key.now ≡ 32) }
+    ensures formed { OnOk result (IsKey key.now) }
 {
     bytes.extend_from_slice(key)
 }
 
-/// Appends a text, or a repeat key, with its length before it.
+/// Appends the bytes of a text, or of a repeat key, with their length before them.
 #[tactic(auto, unfolding(crate::specs::Codes::text_code))]
-pub fn put_text(bytes: &mut Vec<u8>, text: &[u8]) -> Result<(), AllocError>
+pub fn put_bytes(bytes: &mut Vec<u8>, text: &[u8]) -> Result<(), AllocError>
     ensures { OnOk result (bytes.new.items ≡ bytes.old.items ++ text_code text.now) }
 {
     put_count(bytes, text.len())?;
     bytes.extend_from_slice(text)
 }
 
-impl Encode for Iri {
-    ghost use Rattle.fedi_entry.specs.Codes.{text_code};
+/// Appends a text with its length before it.
+#[tactic(auto, using(crate::proofs::Texts::is_utf8_text))]
+fn put_text(bytes: &mut Vec<u8>, text: &str) -> Result<(), AllocError>
+    ensures code { OnOk result (bytes.new.items ≡ bytes.old.items ++ text_code text.now) }
+    ensures utf8 { OnOk result (IsTrue (is_utf8 text.now)) }
+{
+    put_bytes(bytes, text.as_bytes())
+}
 
-    ghost code = { text_code };
+/// Appends a type. One that is not 1 to 64 bytes is refused.
+pub fn put_kind_name(bytes: &mut Vec<u8>, kind: &Text) -> Result<(), AllocError>
+    ensures code { OnOk result (bytes.new.items ≡ bytes.old.items ++ text_code kind.now) }
+    ensures formed { OnOk result (IsText limits.is_type kind.now) }
+{
+    if !is_kind_name(kind.text()) {
+        return Err(AllocError);
+    }
+    put_text(bytes, kind.text())
+}
 
-    fn put(&self, bytes: &mut Vec<u8>) -> Result<(), AllocError> {
-        put_text(bytes, self.text().as_bytes())
+/// Appends a type, if there is one.
+#[tactic(auto, unfolding(crate::specs::Codes::option_code))]
+pub fn put_former_kind(bytes: &mut Vec<u8>, kind: &Option<Text>) -> Result<(), AllocError>
+    ensures code { OnOk result (bytes.new.items
+        ≡ bytes.old.items ++ option_code text_code kind.now) }
+    ensures formed { OnOk result (IfKind kind.now) }
+{
+    match kind {
+        None => put_byte(bytes, 0),
+        Some(kind) => {
+            put_byte(bytes, 1)?;
+            put_kind_name(bytes, kind)
+        }
     }
 }
 
-impl Encode for Text {
+/// Appends a date, if there is one. One that is not at most 64 bytes 32 to 126 is refused.
+#[tactic(auto, unfolding(crate::specs::Codes::option_code))]
+pub fn put_date(bytes: &mut Vec<u8>, date: &Option<Text>) -> Result<(), AllocError>
+    ensures code { OnOk result (bytes.new.items
+        ≡ bytes.old.items ++ option_code text_code date.now) }
+    ensures formed { OnOk result (IfDate date.now) }
+{
+    match date {
+        None => put_byte(bytes, 0),
+        Some(date) if is_date(date.text()) => {
+            put_byte(bytes, 1)?;
+            put_text(bytes, date.text())
+        }
+        Some(_) => Err(AllocError),
+    }
+}
+
+/// Appends where a peer is reached. What is not 1 to 255 bytes 33 to 126 is refused.
+pub fn put_address(bytes: &mut Vec<u8>, address: &Text) -> Result<(), AllocError>
+    ensures code { OnOk result (bytes.new.items ≡ bytes.old.items ++ text_code address.now) }
+    ensures formed { OnOk result (IsText limits.is_address address.now) }
+{
+    if !is_address(address.text()) {
+        return Err(AllocError);
+    }
+    put_text(bytes, address.text())
+}
+
+impl Encode for Iri {
     ghost use Rattle.fedi_entry.specs.Codes.{text_code};
+    ghost use Rattle.fedi_entry.specs.Fields.{is_iri, IsText};
 
     ghost code = { text_code };
 
+    ghost form = { IsText is_iri };
+
+    #[tactic(auto, unfolding(crate::specs::Fields::is_iri))]
     fn put(&self, bytes: &mut Vec<u8>) -> Result<(), AllocError> {
-        put_text(bytes, self.text().as_bytes())
+        put_text(bytes, self.text())
+    }
+}
+
+// A content, a summary or a name.
+impl Encode for Text {
+    ghost use Rattle.fedi_objects.specs.Limits.{is_text};
+    ghost use Rattle.fedi_entry.specs.Codes.{text_code};
+    ghost use Rattle.fedi_entry.specs.Fields.{IsText};
+
+    ghost code = { text_code };
+
+    ghost form = { IsText is_text };
+
+    fn put(&self, bytes: &mut Vec<u8>) -> Result<(), AllocError> {
+        if !is_content(self.text()) {
+            return Err(AllocError);
+        }
+        put_text(bytes, self.text())
     }
 }
 
 impl Encode for Host {
     ghost use Rattle.fedi_entry.specs.Codes.{text_code};
+    ghost use Rattle.fedi_entry.specs.Fields.{is_host, IsText};
 
     ghost code = { text_code };
 
+    ghost form = { IsText is_host };
+
+    #[tactic(auto, unfolding(crate::specs::Fields::is_host))]
     fn put(&self, bytes: &mut Vec<u8>) -> Result<(), AllocError> {
-        put_text(bytes, self.text().as_bytes())
+        put_text(bytes, self.text())
     }
 }
 
 impl Encode for LocalName {
+    ghost use Rattle.fedi_address.specs.Names.{is_name};
     ghost use Rattle.fedi_entry.specs.Codes.{text_code};
+    ghost use Rattle.fedi_entry.specs.Fields.{IsText};
 
     ghost code = { text_code };
 
+    ghost form = { IsText is_name };
+
     fn put(&self, bytes: &mut Vec<u8>) -> Result<(), AllocError> {
-        put_text(bytes, self.text().as_bytes())
+        put_text(bytes, self.text())
     }
 }
 
 impl<T: Encode> Encode for Option<T> {
+    ghost use Rattle.std.specs.Prelude.{IfSome};
     ghost use Rattle.fedi_entry.specs.Codes.{option_code};
 
     ghost code = { option_code T.code };
+
+    ghost form = { λ o. IfSome o T.form };
 
     #[tactic(auto, unfolding(crate::specs::Codes::option_code))]
     fn put(&self, bytes: &mut Vec<u8>) -> Result<(), AllocError> {
@@ -140,8 +242,11 @@ impl<T: Encode> Encode for Option<T> {
 
 impl<T: Encode> Encode for Edit<T> {
     ghost use Rattle.fedi_entry.specs.Codes.{edit_code};
+    ghost use Rattle.fedi_entry.specs.Fields.{IfGiven};
 
     ghost code = { edit_code T.code };
+
+    ghost form = { IfGiven T.form };
 
     #[tactic(auto, unfolding(crate::specs::Codes::edit_code))]
     fn put(&self, bytes: &mut Vec<u8>) -> Result<(), AllocError> {
@@ -158,7 +263,8 @@ impl<T: Encode> Encode for Edit<T> {
 
 // Appends each value.
 fn put_each<T: Encode>(bytes: &mut Vec<u8>, items: &[T]) -> Result<(), AllocError>
-    ensures { OnOk result (bytes.new.items ≡ bytes.old.items ++ flat_map T.code items.now) }
+    ensures code { OnOk result (bytes.new.items ≡ bytes.old.items ++ flat_map T.code items.now) }
+    ensures formed { OnOk result (All T.form items.now) }
 {
     for item in items {
         item.put(bytes)?;
@@ -168,10 +274,13 @@ fn put_each<T: Encode>(bytes: &mut Vec<u8>, items: &[T]) -> Result<(), AllocErro
 
 impl<T: Encode> Encode for Items<T> {
     ghost use Rattle.fedi_entry.specs.Codes.{list_code};
+    ghost use Rattle.fedi_entry.specs.Fields.{IsList};
 
     ghost code = { list_code T.code };
 
-    #[tactic(auto, unfolding(crate::specs::Codes::list_code))]
+    ghost form = { IsList T.form };
+
+    #[tactic(auto, using(std::proofs::lemmas::List::Elements::recursion_from_All), unfolding(crate::specs::Codes::list_code))]
     fn put(&self, bytes: &mut Vec<u8>) -> Result<(), AllocError> {
         put_count(bytes, self.len())?;
         put_each(bytes, self.as_slice())

@@ -1,3 +1,4 @@
+pub mod Finding
 pub mod Gates
 pub mod ImageLemmas
 pub mod Openings

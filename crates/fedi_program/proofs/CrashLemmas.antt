@@ -12,7 +12,10 @@ use Rattle.fedi_log.specs.Log.{Failed, Full, Kept, Log, NoEntry, Outcome, doubts
 use Rattle.fedi_log.proofs.Growing.{doubts_failed}
 use Rattle.fedi_log.proofs.Keeping.{history_more, holds_given, since_more, since_on, unchanged}
 use Rattle.fedi_outside.specs.Keepers.{Adds, Crashes, IfTold, KeeperState, LeavesRecords, MayLeave}
-use Rattle.fedi_program.specs.Crashing.{CrashesAlong, IsLeft, LeavesAfter, SurvivesSince, SurvivesTurn, TurnPasses}
+use Rattle.fedi_log.specs.Leaving.{CrashesAlong, IsLeft, LeavesAfter}
+use Rattle.fedi_startup.specs.Marks.{MarksMayCome, SurvivesMarked}
+use Rattle.fedi_startup.proofs.Marks.{given_marks, marks_append}
+use Rattle.fedi_program.specs.Crashing.{MayFail, SurvivesTurn, TurnPasses}
 
 -- ---- what one turn may leave
 
@@ -161,24 +164,34 @@ crashes_more b by k log o x y z keeps along turn = record {
 
 -- at the opening
 pub survives_first : (b : Base) (by : Option ℕ) (opened : State) (c : Crashes) → b.kept ≡ length opened.history → b.shown ≡ opened.keeper
-    → LeavesRecords opened.keeper c → SurvivesSince b by (given opened.history) opened c c
+    → LeavesRecords opened.keeper c → SurvivesMarked b by (given opened.history) opened c c
 survives_first b by opened c kept shown now = (
   given opened.history,
   holds_given b by opened kept shown,
   crashes_first b (given opened.history) c (subst (λ (k : KeeperState). LeavesRecords k c) (sym shown) now),
+  given_marks [] opened.history,
 )
 
+-- what a turn marks may come where its mark stands
+turn_marks : (by : Option ℕ) (history : List Entry) (o : Outcome) → MayFail history o → MarksMayCome history (items_of by o)
+turn_marks by history NoEntry may = tt
+turn_marks by history (Kept e) may = (tt, tt)
+turn_marks by history (Full e) may = tt
+turn_marks by history (Failed e) may = (may, tt)
+
 -- one turn more
-pub survives_more : (b : Base) (by : Option ℕ) (seen : Log) (state next : State) (x y z : Crashes) → SurvivesSince b by seen state x y
-    → SurvivesTurn b.growth state next y z → SurvivesSince b by seen next x z
+pub survives_more : (b : Base) (by : Option ℕ) (seen : Log) (state next : State) (x y z : Crashes) → SurvivesMarked b by seen state x y
+    → SurvivesTurn b.growth state next y z → SurvivesMarked b by seen next x z
 survives_more b by seen state next x y z was turn =
     let log : Log = was.0 in
     let o : Outcome = turn.0 in (
       log ++ items_of by o,
       since_on b by seen log (log ++ items_of by o) state next was.1 (since_more b by state next log o was.1.holds turn.1),
       crashes_more b by state.keeper log o x y z was.1.holds.keeper was.2 turn.2,
+      marks_append [] log (items_of by o) was.3
+          (turn_marks by (history_of log) o (subst (λ (h : List Entry). MayFail h o) was.1.holds.history turn.3)),
     )
 
 -- nothing was to be kept, and the machine is as it was
 pub survives_still : (growth : ℕ → ℕ) (state : State) (c : Crashes) → LeavesRecords state.keeper c → SurvivesTurn growth state state c c
-survives_still growth state c now = (NoEntry, unchanged growth state state refl refl refl refl refl, stands_still state.keeper c now)
+survives_still growth state c now = (NoEntry, unchanged growth state state refl refl refl refl refl, stands_still state.keeper c now, tt)

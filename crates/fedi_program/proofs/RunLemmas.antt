@@ -1,19 +1,20 @@
--- From the end of a session to that of the program.
-use Rattle.std.proofs.Common.{◌≡◌, ℕ, List, length, Option, Some, None, IfSome, inl, inr, sym, subst, ◌∙◌}
-use Rattle.fedi_log.specs.Keeping.{State}
+-- From what becomes of a store, and from the end of a session, to the end of a run.
+use Rattle.std.proofs.Common.{◌≡◌, ℕ, Bool, true, List, Option, Some, None, IfSome, inl, inr, refl, sym, ◌∙◌}
 use Rattle.fedi_log.specs.Log.{Log, given}
+use Rattle.fedi_startup.specs.Surviving.{growth, room}
+use Rattle.fedi_startup.specs.declared.faults.StoreFault.{StoreFault}
+use Rattle.fedi_startup.specs.declared.faults.StoreFault.TheVariants as faults
+use Rattle.fedi_log.specs.Keeping.{State}
 use Rattle.fedi_program.specs.declared.sessions.SessionEnd.{SessionEnd}
 use Rattle.fedi_program.specs.declared.sessions.SessionEnd.TheVariants.{End, CutShort, Closed, ReadFault, WriteFault, Memory}
+use Rattle.fedi_program.specs.Commands.{Inetd, Task}
 use Rattle.fedi_program.specs.Conversations.{Setting}
-use Rattle.fedi_program.specs.Endings.{EndsSession, HoldsALog, Output, RunsTo, Scene, Serves, Talks, TalksIfTold, status_of}
-use Rattle.fedi_log.proofs.Keeping.{holds_given}
+use Rattle.fedi_program.specs.Endings.{EndsSession, Faults, HasCauses, Output, Scene, Serves, Talks, TalksIfTold, setting_of, status_of}
+use Rattle.fedi_program.specs.Members.{Chance}
+use Rattle.fedi_program.specs.Runs.{is_status_of}
+use Rattle.fedi_program.specs.Stores.{AddsMember, ChecksStore, IsKeptSafe, Medium, ServesStore, TalksOverStore, TellsOfStore, status_by}
 
--- whatever became of it, the machine stands for a log
-pub run_holds : (w : Setting) (opened : State) (first now : Scene) (state : State) (status : ℕ) → w.base.kept ≡ length opened.history → w.base.shown ≡ opened.keeper
-    → RunsTo w opened first now state status → HoldsALog w (given opened.history) state
-run_holds w opened first now state status kept shown (inl ran) = (ran.2.0, ran.2.1)
-run_holds w opened first now state status kept shown (inr none) =
-    subst (λ (s : State). HoldsALog w (given opened.history) s) (sym none.2) (given opened.history, holds_given w.base w.by opened kept shown)
+-- ---- the end of a session
 
 ended_talks : (w : Setting) (seen : Log) (first : Output) (now : Scene) (log : Log) (known : Option (List ℕ)) → IfSome known (Serves w seen first now log End) → IfSome known (Talks w seen first now log)
 ended_talks w seen first now log None s = tt
@@ -31,8 +32,64 @@ session_talks w seen first now state ReadFault is ran = absurd cc
 session_talks w seen first now state WriteFault is ran = absurd cc
 session_talks w seen first now state Memory is ran = absurd cc
 
+not_done : (fault : StoreFault) → 0 ≡ status_by fault → ⊥
+not_done faults.NotAStore is = absurd cc
+not_done (faults.DamagedByte place) is = absurd cc
+not_done (faults.DamagedRecord place) is = absurd cc
+not_done faults.Failed is = absurd cc
+not_done faults.Memory is = absurd cc
+
 -- at status 0 the whole conversation was held
-pub run_talks : (w : Setting) (opened : State) (first now : Scene) (state : State) (status : ℕ) → status ≡ 0
-    → RunsTo w opened first now state status → TalksIfTold w (given opened.history) first now state
-run_talks w opened first now state status done (inl ran) = session_talks w (given opened.history) first now state ran.0 (sym done ∙ ran.1) ran.2
-run_talks w opened first now state status done (inr none) = let clash : 0 ≡ 12 = sym done ∙ none.0 in absurd cc
+pub store_talks : (told : Option ℕ) (before after : Medium) (first now : Scene) (status : ℕ) → status ≡ 0
+    → ServesStore told before after first now status → TalksOverStore told before after first now
+store_talks told before after first now status done (inl (fault, _, _, is)) = absurd (not_done fault (sym done ∙ is))
+store_talks told before after first now status done (inr (opened, closed, served, ran)) =
+    (opened, closed, served, session_talks (setting_of growth room told opened) (given opened.history) first now closed ran.0 (sym done ∙ ran.1) ran.2)
+
+-- ---- what becomes of the store
+
+pub served_safe : (told : Option ℕ) (before after : Medium) (first now : Scene) (status : ℕ) → ServesStore told before after first now status → IsKeptSafe before after
+served_safe told before after first now status (inl (fault, refused, _, _)) = inl (fault, refused)
+served_safe told before after first now status (inr (opened, closed, served, _)) = inr (opened, closed, served)
+
+pub added_safe : (told : Option ℕ) (before after : Medium) (chance left : Chance) (first now : Output) (name : List ℕ) (locked : Bool) (status : ℕ)
+    → AddsMember told before after chance left first now name locked status → IsKeptSafe before after
+added_safe told before after chance left first now name locked status (inl (fault, refused, _, _)) = inl (fault, refused)
+added_safe told before after chance left first now name locked status (inr (opened, closed, served, _)) = inr (opened, closed, served)
+
+pub checked_safe : (before after : Medium) (first now : Output) (status : ℕ) → ChecksStore before after first now status → IsKeptSafe before after
+checked_safe before after first now status (inl (fault, refused, _)) = inl (fault, refused)
+checked_safe before after first now status (inr (opened, served, _)) = inr (opened, opened, served)
+
+-- ---- the status
+
+-- a status that is known is one of the task
+pub known_status : (task : Option Task) (status known : ℕ) → is_status_of task known ≡ true → status ≡ known → is_status_of task status ≡ true
+known_status task status known may is = rw is may
+
+-- a connection was not served
+pub refused_status : (fault : StoreFault) → is_status_of (Some Inetd) (status_by fault) ≡ true
+refused_status faults.NotAStore = refl
+refused_status (faults.DamagedByte place) = refl
+refused_status (faults.DamagedRecord place) = refl
+refused_status faults.Failed = refl
+refused_status faults.Memory = refl
+
+-- it is told that a store is not opened
+pub told_status : (task : Option Task) (fault : StoreFault) (first now : Output) (status : ℕ) → is_status_of task 3 ≡ true → is_status_of task 4 ≡ true
+    → is_status_of task 5 ≡ true → is_status_of task 12 ≡ true → TellsOfStore fault first now status → is_status_of task status ≡ true
+told_status task faults.NotAStore first now status three four five twelve told = known_status task status 3 three told.0
+told_status task (faults.DamagedByte place) first now status three four five twelve told = known_status task status 4 four told.0
+told_status task (faults.DamagedRecord place) first now status three four five twelve told = known_status task status 4 four told.0
+told_status task faults.Failed first now status three four five twelve told = known_status task status 5 five told.0
+told_status task faults.Memory first now status three four five twelve told = known_status task status 12 twelve told.0
+
+-- ---- causes
+
+-- nothing was read or written
+pub refused_causes : (counts : Faults) (fault : StoreFault) → HasCauses counts counts (status_by fault)
+refused_causes counts faults.NotAStore = record { reads = refl; writes = inl refl; failed = λ is. absurd cc; calm = λ is. refl }
+refused_causes counts (faults.DamagedByte place) = record { reads = refl; writes = inl refl; failed = λ is. absurd cc; calm = λ is. refl }
+refused_causes counts (faults.DamagedRecord place) = record { reads = refl; writes = inl refl; failed = λ is. absurd cc; calm = λ is. refl }
+refused_causes counts faults.Failed = record { reads = refl; writes = inl refl; failed = λ is. absurd cc; calm = λ is. refl }
+refused_causes counts faults.Memory = record { reads = refl; writes = inl refl; failed = λ is. absurd cc; calm = λ is. refl }

@@ -1,21 +1,25 @@
 -- The arguments that the program takes.
-use Rattle.std.specs.Prelude.{ℕ, Bool, not, ◌&&◌, nat_eq, List, [], ◌∷◌, codes, bytes_eq, Option, Some, None, if◌then◌else◌}
-use Rattle.std.specs.List.{starts_with, list_any}
+use Rattle.std.specs.Prelude.{ℕ, Bool, true, false, not, ◌&&◌, nat_eq, List, [], ◌∷◌, codes, bytes_eq, Option, Some, None, if◌then◌else◌}
+use Rattle.std.specs.List.{starts_with, list_any, find}
 use Rattle.fedi_program.specs.declared.commands.Command.{Command}
 use Rattle.fedi_program.specs.declared.commands.Command.TheVariants as commands
 
--- What the program is asked to do: to print its usage, to serve one connection, or to make a member of this name, who is
--- locked or not.
+-- What the program is asked to do: to print its usage, to begin a store for this host, to serve one connection, to make a
+-- member of this name, who is locked or not, or to count what a store holds.
 pub data Task : Type 0 where
   Usage : Task
+  Init : List ℕ → Task
   Inetd : Task
   AddActor : List ℕ → Bool → Task
+  Check : Task
 
 -- the task of a command, without its references
 abbrev pub task_of : Command → Task
 task_of commands.Usage = Usage
+task_of (commands.Init host) = Init host.now
 task_of commands.Inetd = Inetd
 task_of (commands.AddActor name locked) = AddActor name.now locked
+task_of commands.Check = Check
 
 -- an argument that begins with `-` is no position
 abbrev pub is_position : List ℕ → Bool
@@ -42,11 +46,18 @@ add_actor_at (store ∷ name ∷ other ∷ others) locked = None
 abbrev pub add_actor_with : List (List ℕ) → Option Task
 add_actor_with arguments = add_actor_at (without_flag arguments) (list_any is_locked_flag arguments)
 
--- what `inetd` is to do with these arguments
-abbrev pub inetd_with : List (List ℕ) → Option Task
-inetd_with [] = None
-inetd_with (store ∷ []) = if is_position store then Some Inetd else None
-inetd_with (store ∷ other ∷ others) = None
+-- what `init` is to do with these arguments, a store and a host
+abbrev pub init_with : List (List ℕ) → Option Task
+init_with [] = None
+init_with (store ∷ []) = None
+init_with (store ∷ host ∷ []) = if is_position store && is_position host then Some (Init host) else None
+init_with (store ∷ host ∷ other ∷ others) = None
+
+-- this task, if the arguments are a store alone
+abbrev pub on_store : Task → List (List ℕ) → Option Task
+on_store task [] = None
+on_store task (store ∷ []) = if is_position store then Some task else None
+on_store task (store ∷ other ∷ others) = None
 
 -- what `usage` is to do with these arguments
 abbrev pub usage_with : List (List ℕ) → Option Task
@@ -58,5 +69,21 @@ abbrev pub task_in : List (List ℕ) → Option Task
 task_in [] = None
 task_in (name ∷ arguments) =
     if bytes_eq name (codes "usage") then usage_with arguments else (
-    if bytes_eq name (codes "inetd") then inetd_with arguments else (
-    if bytes_eq name (codes "add-actor") then add_actor_with arguments else None))
+    if bytes_eq name (codes "init") then init_with arguments else (
+    if bytes_eq name (codes "inetd") then on_store Inetd arguments else (
+    if bytes_eq name (codes "add-actor") then add_actor_with arguments else (
+    if bytes_eq name (codes "check") then on_store Check arguments else None))))
+
+-- whether arguments that ask for this name a store
+abbrev pub names_store : Option Task → Bool
+names_store None = false
+names_store (Some Usage) = false
+names_store (Some (Init host)) = true
+names_store (Some Inetd) = true
+names_store (Some (AddActor name locked)) = true
+names_store (Some Check) = true
+
+-- the store that the arguments name, if they are accepted: the first position after the command
+abbrev pub store_in : List (List ℕ) → Option (List ℕ)
+store_in [] = None
+store_in (name ∷ arguments) = if names_store (task_in (name ∷ arguments)) then find is_position arguments else None

@@ -1,39 +1,13 @@
--- What a crash may leave of a keeper's records, at any moment of a run.
-use Rattle.std.specs.Prelude.{ℕ, ◌≡◌, ◌⊎◌, ◌≤◌, List, [], ◌∷◌, ◌++◌, map, Option, option_to_list, Contains}
+-- What a crash may leave of a keeper's records during one turn of the machine.
+use Rattle.std.specs.Prelude.{ℕ, List}
 use Rattle.fedi_entry.specs.Codes.{code_of}
 use Rattle.fedi_core.specs.Crashing.{PassesTimeWith}
-use Rattle.fedi_log.specs.Keeping.{Base, Follows, HoldsSince, State, since}
-use Rattle.fedi_log.specs.Log.{Failed, Full, Kept, Log, NoEntry, Outcome, doubts_of, history_of}
-use Rattle.fedi_outside.specs.Keepers.{Adds, Crashes, IfTold, KeeperState, PassesTime}
-
--- ---- many turns
-
--- After these items since the opening a crash leaves the records that the keeper had there, then those of the entries that
--- were kept, and behind them at most one that is in doubt.
-abbrev pub LeavesAfter : Base → List (List ℕ) → Log → List (List ℕ) → Type 0
-LeavesAfter b kept past left =
-    (left ≡ kept ++ map code_of (history_of past))
-    ⊎ ((d : List ℕ) × Contains (doubts_of (option_to_list b.shown.doubt) past) d × (left ≡ (kept ++ map code_of (history_of past)) ++ d ∷ []))
-
--- a crash may have left these records at some moment of the log: after the first of its items since the opening, none or more
-pub record IsLeft (b : Base) (log : Log) (kept left : List (List ℕ)) : Type 0 where
-  pub past : Log
-  pub rest : Log
-  pub is : since b log ≡ past ++ rest
-  pub leaves : LeavesAfter b kept past left
-
--- The clock does not fall, and a crash while the log came to be leaves such records, where these are the ones that the keeper
--- had at the opening: if crashes are told, they are told too.
-pub record CrashesAlong (b : Base) (log : Log) (before after : Crashes) : Type 0 where
-  pub clock : before.clock ≤ after.clock
-  pub told : after.told ≡ before.told
-  pub crash : IfTold before.told b.shown.records (λ kept. Adds before.clock before.left_since after.left_since (IsLeft b log kept))
-
--- the machine stands for a log that goes on from what was seen, by one's own items alone, and crashes were so along it
-abbrev pub SurvivesSince : Base → Option ℕ → Log → State → Crashes → Crashes → Type 0
-SurvivesSince b by seen state before after = (log : Log) × HoldsSince b by seen state log × CrashesAlong b log before after
-
--- ---- one turn
+use Rattle.fedi_log.specs.Keeping.{Follows, State}
+use Rattle.fedi_log.specs.Log.{Failed, Full, Kept, NoEntry, Outcome}
+use Rattle.fedi_objects.specs.declared.entry.Entry.{Entry}
+use Rattle.fedi_opening.specs.Opening.{IsNext}
+use Rattle.fedi_outside.specs.Keepers.{Crashes, KeeperState, PassesTime}
+use Rattle.fedi_town.specs.Histories.{town}
 
 -- a crash during a turn leaves the records, or these with the one in doubt, or with that of the entry, if the keeper was to keep it
 abbrev pub TurnPasses : Outcome → KeeperState → Crashes → Crashes → Type 0
@@ -42,6 +16,14 @@ TurnPasses (Kept e) k before after = PassesTimeWith k.records k.doubt (code_of e
 TurnPasses (Full e) k before after = PassesTime k.records k.doubt before after
 TurnPasses (Failed e) k before after = PassesTimeWith k.records k.doubt (code_of e) before after
 
+-- an entry that the keeper failed to keep may come next
+abbrev pub MayFail : List Entry → Outcome → Type 0
+MayFail history NoEntry = Unit {0}
+MayFail history (Kept e) = Unit {0}
+MayFail history (Full e) = Unit {0}
+MayFail history (Failed e) = IsNext (town history) e
+
 -- one turn of the machine, with what a crash during it leaves
 abbrev pub SurvivesTurn : (ℕ → ℕ) → State → State → Crashes → Crashes → Type 0
-SurvivesTurn growth state next before after = (o : Outcome) × Follows growth state next o × TurnPasses o state.keeper before after
+SurvivesTurn growth state next before after =
+    (o : Outcome) × Follows growth state next o × TurnPasses o state.keeper before after × MayFail state.history o

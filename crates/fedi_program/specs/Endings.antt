@@ -1,6 +1,5 @@
 -- How a session and a run may end, each with what has then happened.
-use Rattle.std.specs.Prelude.{◌≡◌, ◌⊎◌, ℕ, ◌<◌, Bool, false, true, ◌==◌, List, [], ◌∷◌, ◌++◌, length, take, Option, Some, None, IfSome, if◌then◌else◌}
-use Rattle.std.specs.List.{list_any}
+use Rattle.std.specs.Prelude.{◌≡◌, ◌⊎◌, ℕ, ◌<◌, Bool, false, true, ◌==◌, List, [], ◌++◌, length, take, Option, Some, None, IfSome, if◌then◌else◌}
 use Rattle.std.specs.Io.KnownBytes.{Appends, prepend_known}
 use Rattle.fedi_http.specs.Arrivals.{LacksRequest}
 use Rattle.fedi_http.specs.declared.arrivals.Arrived.TheVariants as arrivals
@@ -220,10 +219,6 @@ IsCounted before now (Some ending) = IsCaused before now ending
 
 -- ---- the program
 
--- the statuses of the program
-abbrev pub is_status : ℕ → Bool
-is_status status = list_any (λ s. s == status) (0 ∷ 2 ∷ 6 ∷ 7 ∷ 8 ∷ 12 ∷ [])
-
 -- the status of each end of a session
 abbrev pub status_of : SessionEnd → ℕ
 status_of End = 0
@@ -233,11 +228,10 @@ status_of ReadFault = 6
 status_of WriteFault = 7
 status_of Memory = 12
 
--- a session ended with this status, or none began since there was no memory
+-- a session ended with this status
 abbrev pub RunsTo : Setting → State → Scene → Scene → State → ℕ → Type 0
 RunsTo w opened first now state status =
-    ((ending : SessionEnd) × (status ≡ status_of ending) × EndsSession w (given opened.history) first now state ending)
-    ⊎ ((status ≡ 12) × (now ≡ first) × (state ≡ opened))
+    (ending : SessionEnd) × (status ≡ status_of ending) × EndsSession w (given opened.history) first now state ending
 
 -- the whole conversation over this input was held: each request has its reply, and nothing else was written
 pub record Talks (w : Setting) (seen : Log) (first : Output) (now : Scene) (log : Log) (input : List ℕ) : Type 0 where

@@ -4,4 +4,5 @@ pub mod Crashing
 pub mod Endings
 pub mod Members
 pub mod Runs
+pub mod Stores
 pub mod Usage

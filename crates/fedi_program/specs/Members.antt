@@ -1,5 +1,5 @@
 -- Making a member: the operator's command, the key that is drawn for it, and what is printed.
-use Rattle.std.specs.Prelude.{◌≡◌, ◌⊎◌, ℕ, Bool, true, false, List, [], ◌++◌, length, codes, Option, None, is_none}
+use Rattle.std.specs.Prelude.{◌≡◌, ◌⊎◌, ℕ, Bool, true, false, List, [], ◌++◌, length, codes, Option, None}
 use Rattle.std.specs.Io.KnownBytes.{Consumes, Keeps}
 use Rattle.hex.specs.Hex.{encode_lower}
 use Rattle.sha2.specs.Sha256.{sha256}
@@ -99,14 +99,11 @@ EndsWith growth room before after first now name e line status =
     ((is_name name ≡ false) × (after ≡ before) × Tells first now 10 (refusal_line (codes "bad name")) status)
     ⊎ ((is_name name ≡ true) × (IsRefused room before after first now e status ⊎ IsMade growth room before after first now e line status))
 
--- How a run ends that is to make a member of this name: out of memory (12), when no draw failed, nothing is kept and nothing
--- printed; there is no host, so no store (3), and nothing was drawn; no key could be drawn (6); or a key was drawn, and it ended
--- as above.
+-- How the making of a member of this name ends: out of memory (12), when no draw failed, nothing is kept and nothing printed; no
+-- key could be drawn (6); or a key was drawn, and it ended as above.
 abbrev pub MakesMember : (ℕ → ℕ) → (ℕ → ℕ) → Option ℕ → Chance → Chance → State → State → Output → Output → List ℕ → Bool → ℕ → Type 0
 MakesMember growth room told chance left before after first now name locked status =
     ((status ≡ 12) × DrawsAtMostOne chance left × IsUnchanged before after × Writes first now [])
-    ⊎ (((is_none (town before.history).host ≡ true) × (after ≡ before) × (left ≡ chance) × Tells first now 3 (codes "not a store\n") status)
-    ⊎ ((is_none (town before.history).host ≡ false)
-    × (((status ≡ 6) × FailsToDraw chance left × (after ≡ before) × Writes first now [])
+    ⊎ (((status ≡ 6) × FailsToDraw chance left × (after ≡ before) × Writes first now [])
     ⊎ ((key : List ℕ) × (moment : ℕ) × Draws chance left key × IsNow told moment
-    × EndsWith growth room before after first now name (member_entry name key locked moment) (key_line name key) status))))
+    × EndsWith growth room before after first now name (member_entry name key locked moment) (key_line name key) status))

@@ -1,13 +1,19 @@
 //! The arguments of the program.
 
-ghost use Rattle.std.specs.Prelude.{◌≡◌, ◌∷◌, [], map, option_map, string_bytes};
-ghost use Rattle.fedi_program.specs.Commands.{add_actor_at, add_actor_with, inetd_with, is_locked_flag, is_position, task_in, task_of, usage_with};
+ghost use Rattle.std.specs.Prelude.{◌≡◌, ◌∷◌, [], map, is_some, option_map, string_bytes};
+ghost use Rattle.std.specs.List.{find};
+ghost use Rattle.fedi_program.specs.Commands.{add_actor_at, add_actor_with, init_with, is_locked_flag, is_position, names_store, on_store, store_in, task_in, task_of, usage_with};
 
 /// What the program is asked to do.
-#[derive(Clone, Copy, Debug)]
+#[derive(Clone, Copy, Debug, PartialEq, Eq)]
 pub enum Command<'a> {
     /// To print the arguments that the program takes.
     Usage,
+    /// To begin a store.
+    Init {
+        /// The host that the store belongs to.
+        host: &'a str,
+    },
     /// To serve one connection on the input.
     Inetd,
     /// To make a member of this name.
@@ -17,6 +23,8 @@ pub enum Command<'a> {
         /// Whether Follows of the member wait for an answer.
         locked: bool,
     },
+    /// To count what a store holds.
+    Check,
 }
 
 fn is_position(argument: &str) -> bool
@@ -29,6 +37,16 @@ fn is_locked_flag(argument: &str) -> bool
     ensures { result ≡ is_locked_flag argument.now }
 {
     argument == "--locked"
+}
+
+fn first_position(arguments: &[String]) -> Option<&str>
+    ensures { option_map (λ argument. argument.now) result
+        ≡ find is_position (map string_bytes arguments.now) }
+{
+    arguments
+        .iter()
+        .map(String::as_str)
+        .find(|argument| is_position(argument))
 }
 
 // The making of a member of this name, if the store and the name are positions.
@@ -79,11 +97,22 @@ fn add_actor(arguments: &[String]) -> Option<Command<'_>>
     }
 }
 
-fn inetd(arguments: &[String]) -> Option<Command<'_>>
-    ensures { option_map task_of result ≡ inetd_with (map string_bytes arguments.now) }
+fn init(arguments: &[String]) -> Option<Command<'_>>
+    ensures { option_map task_of result ≡ init_with (map string_bytes arguments.now) }
 {
     match arguments {
-        [store] if is_position(store) => Some(Command::Inetd),
+        [store, host] if is_position(store) && is_position(host) => Some(Command::Init { host }),
+        _ => None,
+    }
+}
+
+// This command, if the arguments are a store alone.
+fn on_store<'a>(command: Command<'a>, arguments: &[String]) -> Option<Command<'a>>
+    ensures { option_map task_of result
+        ≡ on_store (task_of command.entry) (map string_bytes arguments.now) }
+{
+    match arguments {
+        [store] if is_position(store) => Some(command),
         _ => None,
     }
 }
@@ -107,8 +136,26 @@ pub fn command_of(arguments: &[String]) -> Option<Command<'_>>
     };
     match name.as_str() {
         "usage" => usage(arguments),
-        "inetd" => inetd(arguments),
+        "init" => init(arguments),
+        "inetd" => on_store(Command::Inetd, arguments),
         "add-actor" => add_actor(arguments),
+        "check" => on_store(Command::Check, arguments),
         _ => None,
+    }
+}
+
+/// The store that the arguments name: the first position after the command. There is none if the
+/// command is done without a store, or if the arguments are not accepted.
+pub fn store_of(arguments: &[String]) -> Option<&str>
+    ensures named { is_some result ≡ names_store (task_in (map string_bytes arguments.now)) }
+    ensures store { option_map (λ store. store.now) result
+        ≡ store_in (map string_bytes arguments.now) }
+{
+    let [_, others @ ..] = arguments else {
+        return None;
+    };
+    match command_of(arguments) {
+        None | Some(Command::Usage) => None,
+        Some(_) => first_position(others),
     }
 }

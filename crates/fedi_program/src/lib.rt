@@ -12,11 +12,12 @@ mod printing;
 mod running;
 mod sessions;
 mod statuses;
+mod stores;
 mod usage;
 
 pub use adapters::{Reading, SystemClock, SystemEntropy, Writing};
 pub use answers::answer;
-pub use commands::{Command, command_of};
+pub use commands::{Command, command_of, store_of};
 pub use connection::Connection;
 pub use laws::{
     conversations_are_determined, conversations_have_no_gaps, conversations_own_their_items,

@@ -1,13 +1,15 @@
 //! Making a member, as an operator asks.
 
-ghost use Rattle.std.specs.Prelude.{◌≡◌, IfOk};
-ghost use Rattle.fedi_log.specs.Keeping.{state_of};
-ghost use Rattle.fedi_program.specs.Crashing.{SurvivesTurn};
+ghost use Rattle.std.specs.Prelude.{◌≡◌, IfOk, IsTrue, None, is_some};
+ghost use Rattle.fedi_log.specs.Keeping.{base_of, state_of};
+ghost use Rattle.fedi_log.specs.Log.{given};
+ghost use Rattle.fedi_startup.specs.Marks.{SurvivesMarked};
 ghost use Rattle.fedi_program.specs.Endings.{output_by};
 ghost use Rattle.fedi_program.specs.Members.{MakesMember, TellsFault, chance_by, key_line};
+ghost use Rattle.fedi_town.specs.Histories.{town};
 
 use crate::printing::{print, tell};
-use crate::statuses::{DISK_FAULT, FULL, NOT_A_STORE, OUT_OF_MEMORY, READ_FAULT, REFUSED};
+use crate::statuses::{DISK_FAULT, FULL, OUT_OF_MEMORY, READ_FAULT, REFUSED};
 use fedi_address::LocalName;
 use fedi_core::Core;
 use fedi_mac::{digest, hex_text};
@@ -60,6 +62,7 @@ pub fn make_member<O: Sink, P: Keeper, C: Clock, E: Entropy>(
     name: &str,
     locked: bool,
 ) -> u8
+    requires hosted { IsTrue (is_some (town core.old.history).host) }
     ensures made { MakesMember P.growth P.room (C.told clock.now)
         (chance_by E.next E.faults entropy.old) (chance_by E.next E.faults entropy.new)
         (state_of core.old.history (P.shown core.old.keeper))
@@ -67,14 +70,11 @@ pub fn make_member<O: Sink, P: Keeper, C: Clock, E: Entropy>(
         (output_by O.sent O.write_faults out.old) (output_by O.sent O.write_faults out.new)
         name.now locked result }
     // A crash on the way leaves the records, with at most one more: the one in doubt, or the member's.
-    ensures crash { SurvivesTurn P.growth
-        (state_of core.old.history (P.shown core.old.keeper))
+    ensures crashes { let opened = state_of core.old.history (P.shown core.old.keeper) in
+        SurvivesMarked (base_of P.growth P.room opened) None (given core.old.history)
         (state_of core.new.history (P.shown core.new.keeper))
         (P.crashes core.old.keeper) (P.crashes core.new.keeper) }
 {
-    if core.host().is_none() {
-        return tell(out, NOT_A_STORE, b"not a store\n");
-    }
     let mut key = [0; 32];
     let Ok(()) = entropy.fill(&mut key) else {
         return READ_FAULT;

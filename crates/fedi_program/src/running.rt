@@ -1,17 +1,15 @@
 //! The whole program, over whatever lies outside.
 
-ghost use Rattle.std.specs.Prelude.{◌≡◌, ◌≢◌, ◌↔◌, ℕ, Bool, false, List, [], IfErr, IfOk, IsTrue, Some, None, map, string_bytes};
+ghost use Rattle.std.specs.Prelude.{◌≡◌, ◌≢◌, ◌↔◌, ℕ, Bool, false, true, List, [], IfSome, IsTrue, Some, None, map, string_bytes};
+ghost use Rattle.fedi_program.specs.Commands.{AddActor, Check, Inetd, Init, Usage, names_store, task_in};
+ghost use Rattle.fedi_program.specs.Endings.{HasCauses, Prints, WritesUnlessFailed, faults_by, output_by, scene_by, status_of};
+ghost use Rattle.fedi_program.specs.Members.{chance_by};
+ghost use Rattle.fedi_program.specs.Runs.{is_status_of, may_draw, opens_store};
 ghost use Rattle.fedi_log.specs.Keeping.{base_of, state_of};
 ghost use Rattle.fedi_log.specs.Log.{given};
-ghost use Rattle.fedi_program.specs.Commands.{AddActor, Inetd, Usage, task_in};
-ghost use Rattle.fedi_outside.specs.Keepers.{LeavesRecords};
-ghost use Rattle.fedi_program.specs.Crashing.{SurvivesSince, SurvivesTurn};
-ghost use Rattle.fedi_program.specs.Endings.{HasCauses, HoldsALog, Prints, RunsTo, TalksIfTold, WritesUnlessFailed, faults_by, output_by, scene_by, setting_of, status_of};
-ghost use Rattle.fedi_program.specs.Members.{MakesMember, chance_by};
-ghost use Rattle.fedi_program.specs.Runs.{is_status_of, may_draw, may_keep};
+ghost use Rattle.fedi_startup.specs.Marks.{SurvivesMarked};
+ghost use Rattle.fedi_program.specs.Stores.{AddsMember, ChecksStore, Counts, IsKeptSafe, MakesStore, ServesStore, TalksOverStore, medium_by};
 ghost use Rattle.fedi_program.specs.Usage.{usage_text};
-ghost use Rattle.fedi_town.specs.Built.{are_built};
-ghost use Rattle.fedi_town.specs.Legal.{IsLegal};
 
 use crate::commands::{Command, command_of};
 use crate::connection::Connection;
@@ -19,23 +17,23 @@ use crate::members::make_member;
 use crate::printing::{print, tell};
 use crate::sessions::{SessionEnd, session};
 use crate::statuses::{CUT_SHORT, DONE, NOT_ACCEPTED, OUT_OF_MEMORY, READ_FAULT, WRITE_FAULT};
+use crate::stores::{begin_store, status_by, tell_of_store};
 use crate::usage::usage;
 use fedi_core::Core;
-use fedi_objects::Entry;
-use fedi_outside::{Clock, Entropy, Keeper, Sink, Source};
+use fedi_outside::{Clock, Disk, Entropy, Keeper, Sink, Source};
+use fedi_report::check_line;
 use fedi_routes::Routes;
+use fedi_startup::{close_store, open_store};
 use fedi_store::PlainShelf;
 use std::alloc::{AllocError, Global};
 
 /// How a run ended.
 #[derive(Drop)]
-pub struct Ended<P> {
+pub struct Ended<D> {
     /// The exit status.
     pub status: u8,
-    /// The history that was given, and the entries that the run made.
-    pub history: Vec<Entry>,
-    /// The keeper, which has kept these entries.
-    pub keeper: P,
+    /// The disk, with all that the run kept.
+    pub disk: D,
 }
 
 fn status_of(end: SessionEnd) -> u8
@@ -51,45 +49,18 @@ fn status_of(end: SessionEnd) -> u8
     }
 }
 
-/// Opens the machine over the history. The error is out of memory, and hands both back.
-fn open<P: Keeper>(
+/// Serves the connection over the store of the disk.
+fn serve<S: Source, O: Sink, D: Disk, C: Clock>(
     alloc: Global,
-    history: Vec<Entry>,
-    keeper: P,
-) -> Result<Core<PlainShelf, P>, (Vec<Entry>, P)>
-    requires legal { IsLegal history.items }
-    requires built { IsTrue (are_built history.items) }
-    ensures ok { IfOk result (λ core.
-        core ≡ record { history = history.items; keeper = keeper }) }
-    ensures err { IfErr result (λ back. back.0.items ≡ history.items) }
-    ensures err_keeper { IfErr result (λ back. back.1 ≡ keeper) }
-{
-    match PlainShelf::empty(alloc) {
-        Ok(shelf) => Core::open(alloc, history, shelf, keeper),
-        Err(AllocError) => Err((history, keeper)),
-    }
-}
-
-/// Serves the connection.
-fn inetd<S: Source, O: Sink, P: Keeper, C: Clock>(
-    alloc: Global,
+    routes: &Routes,
     connection: &mut Connection<S, O, C>,
-    history: Vec<Entry>,
-    keeper: P,
-) -> Ended<P>
-    requires legal { IsLegal history.items }
-    requires built { IsTrue (are_built history.items) }
-    ensures session { let opened = state_of history.items (P.shown keeper) in
-        RunsTo (setting_of P.growth P.room (C.told connection.old.clock) opened) opened
+    disk: D,
+) -> Ended<D>
+    ensures session { ServesStore (C.told connection.old.clock)
+        (medium_by D.shown D.crashes disk) (medium_by D.shown D.crashes result.disk)
         (scene_by S.left O.sent O.write_faults connection.old.input connection.old.out)
         (scene_by S.left O.sent O.write_faults connection.new.input connection.new.out)
-        (state_of result.history.items (P.shown result.keeper)) result.status }
-    ensures crashes { let opened = state_of history.items (P.shown keeper) in
-        SurvivesSince (base_of P.growth P.room opened) None (given history.items)
-        (state_of result.history.items (P.shown result.keeper))
-        (P.crashes keeper) (P.crashes result.keeper) }
-    ensures legal { IsLegal result.history.items }
-    ensures built { IsTrue (are_built result.history.items) }
+        result.status }
     ensures causes { HasCauses
         (faults_by S.read_faults O.write_faults connection.old.input connection.old.out)
         (faults_by S.read_faults O.write_faults connection.new.input connection.new.out)
@@ -97,166 +68,207 @@ fn inetd<S: Source, O: Sink, P: Keeper, C: Clock>(
     ensures statuses { IsTrue (is_status_of (Some Inetd) result.status) }
     ensures clock { connection.new.clock ≡ connection.old.clock }
 {
-    let Ok(routes) = Routes::new(alloc) else {
-        return Ended {
-            status: OUT_OF_MEMORY,
-            history,
-            keeper,
-        };
-    };
-    match open(alloc, history, keeper) {
+    match open_store(alloc, disk) {
         Ok(mut core) => {
-            let end = session(alloc, &mut core, &routes, connection);
-            let (history, keeper) = core.close();
+            let end = session(alloc, &mut core, routes, connection);
             Ended {
                 status: status_of(end),
-                history,
-                keeper,
+                disk: close_store(core),
             }
         }
-        Err((history, keeper)) => Ended {
-            status: OUT_OF_MEMORY,
-            history,
-            keeper,
+        Err((fault, disk)) => Ended {
+            status: status_by(fault),
+            disk,
         },
     }
 }
 
-/// Makes a member.
-fn add_actor<S, O: Sink, P: Keeper, C: Clock, E: Entropy>(
+/// Makes the routes, and serves the connection.
+fn inetd<S: Source, O: Sink, D: Disk, C: Clock>(
     alloc: Global,
     connection: &mut Connection<S, O, C>,
-    history: Vec<Entry>,
-    keeper: P,
+    disk: D,
+) -> Ended<D>
+    ensures session { ServesStore (C.told connection.old.clock)
+        (medium_by D.shown D.crashes disk) (medium_by D.shown D.crashes result.disk)
+        (scene_by S.left O.sent O.write_faults connection.old.input connection.old.out)
+        (scene_by S.left O.sent O.write_faults connection.new.input connection.new.out)
+        result.status }
+    ensures causes { HasCauses
+        (faults_by S.read_faults O.write_faults connection.old.input connection.old.out)
+        (faults_by S.read_faults O.write_faults connection.new.input connection.new.out)
+        result.status }
+    ensures statuses { IsTrue (is_status_of (Some Inetd) result.status) }
+    ensures clock { connection.new.clock ≡ connection.old.clock }
+{
+    match Routes::new(alloc) {
+        Ok(routes) => serve(alloc, &routes, connection, disk),
+        Err(AllocError) => Ended {
+            status: OUT_OF_MEMORY,
+            disk,
+        },
+    }
+}
+
+/// Makes a member of the store of the disk.
+fn add_actor<S, O: Sink, D: Disk, C: Clock, E: Entropy>(
+    alloc: Global,
+    connection: &mut Connection<S, O, C>,
+    disk: D,
     entropy: &mut E,
     name: &str,
     locked: bool,
-) -> Ended<P>
-    requires legal { IsLegal history.items }
-    requires built { IsTrue (are_built history.items) }
-    ensures added { MakesMember P.growth P.room (C.told connection.old.clock)
+) -> Ended<D>
+    ensures added { AddsMember (C.told connection.old.clock)
+        (medium_by D.shown D.crashes disk) (medium_by D.shown D.crashes result.disk)
         (chance_by E.next E.faults entropy.old) (chance_by E.next E.faults entropy.new)
-        (state_of history.items (P.shown keeper))
-        (state_of result.history.items (P.shown result.keeper))
         (output_by O.sent O.write_faults connection.old.out)
         (output_by O.sent O.write_faults connection.new.out) name.now locked result.status }
-    ensures crash { SurvivesTurn P.growth
-        (state_of history.items (P.shown keeper))
-        (state_of result.history.items (P.shown result.keeper))
-        (P.crashes keeper) (P.crashes result.keeper) }
-    ensures legal { IsLegal result.history.items }
-    ensures built { IsTrue (are_built result.history.items) }
     ensures input { connection.new.input ≡ connection.old.input }
     ensures clock { connection.new.clock ≡ connection.old.clock }
 {
-    match open(alloc, history, keeper) {
+    match open_store(alloc, disk) {
         Ok(mut core) => {
             let (out, clock) = (&mut connection.out, &connection.clock);
             let status = make_member(alloc, &mut core, out, clock, entropy, name, locked);
-            let (history, keeper) = core.close();
             Ended {
                 status,
-                history,
-                keeper,
+                disk: close_store(core),
             }
         }
-        Err((history, keeper)) => Ended {
-            status: OUT_OF_MEMORY,
-            history,
-            keeper,
+        Err((fault, disk)) => Ended {
+            status: tell_of_store(&mut connection.out, fault),
+            disk,
         },
     }
 }
 
-/// Runs the program on the arguments after its name.
+/// Prints how much the machine has. The answer is the exit status.
+fn count<O: Sink, P: Keeper>(alloc: Global, out: &mut O, core: &Core<PlainShelf, P>) -> u8
+    ensures counted { Counts (output_by O.sent O.write_faults out.old)
+        (output_by O.sent O.write_faults out.new) core.now.history result }
+    // The machine is only looked at.
+    ensures crashes { let opened = state_of core.now.history (P.shown core.now.keeper) in
+        SurvivesMarked (base_of P.growth P.room opened) None (given core.now.history) opened
+        (P.crashes core.now.keeper) (P.crashes core.now.keeper) }
+{
+    match check_line(alloc, core) {
+        Ok(line) => print(out, &line),
+        Err(AllocError) => OUT_OF_MEMORY,
+    }
+}
+
+/// Counts what the store of the disk has.
+fn check<O: Sink, D: Disk>(alloc: Global, out: &mut O, disk: D) -> Ended<D>
+    ensures checked { ChecksStore
+        (medium_by D.shown D.crashes disk) (medium_by D.shown D.crashes result.disk)
+        (output_by O.sent O.write_faults out.old) (output_by O.sent O.write_faults out.new)
+        result.status }
+{
+    match open_store(alloc, disk) {
+        Ok(core) => {
+            let status = count(alloc, out, &core);
+            Ended {
+                status,
+                disk: close_store(core),
+            }
+        }
+        Err((fault, disk)) => Ended {
+            status: tell_of_store(out, fault),
+            disk,
+        },
+    }
+}
+
+/// Runs the program on the arguments after its name, over the disk of the store that they name.
 ///
-/// `usage` prints the arguments that the program takes. `inetd STORE` serves one connection: it
-/// answers the requests on the input one after the other, and keeps what they make. `add-actor STORE
-/// NAME` makes a member of this name, whose key is drawn from the entropy, and prints `NAME KEY`, the
-/// key in 64 digits; with `--locked`, which may stand anywhere behind the command, the member answers
-/// each Follow. Until stores exist a run begins at the given history, and keeps the entries with the
-/// given keeper. Other arguments are answered with the usage.
+/// `usage` prints the arguments that the program takes. `init STORE HOST` makes a store for the host,
+/// and prints `made HOST`. `add-actor STORE NAME` makes a member of this name, whose key is drawn from
+/// the entropy, and prints `NAME KEY`, the key in 64 digits; with `--locked`, which may stand anywhere
+/// behind the command, the member answers each Follow. `inetd STORE` serves one connection: it answers
+/// the requests on the input one after the other, and keeps what they make. `check STORE` opens the
+/// store and prints how many entries, members and activities it has. Other arguments are answered with
+/// the usage, and do not ask the disk.
 ///
-/// | Status | When | Printed |
+/// | Status | When | Printed, but by `inetd` |
 /// |---|---|---|
-/// | 0 | it is done: the input ended behind the last request, or a reply closed the connection; the usage or the member's key was printed | |
+/// | 0 | it is done; by `inetd` the input ended behind the last request, or a reply closed the connection | as above |
 /// | 2 | the arguments are not accepted | the usage |
-/// | 3 | the history has no host, so that there is no server to make a member of | `not a store` |
-/// | 5 | the keeper failed to keep the member | `disk fault` |
-/// | 6 | a read failed, or no key could be drawn | nothing more |
-/// | 7 | a write failed; a member that was to be made was | |
+/// | 3 | the disk has fewer than 9 bytes, or does not begin with a store's, or has no record | `not a store` |
+/// | 4 | the store is damaged | `damaged at byte P`, `damaged at record R` |
+/// | 5 | the disk failed | `disk fault` |
+/// | 6 | a read failed, or no key could be drawn | nothing |
+/// | 7 | a write failed; a member or store that was to be made was | |
 /// | 8 | the input ended inside a request | |
-/// | 10 | the name is none, or a member has it or the key | `refused: bad name`, `refused: name taken`, `refused: key taken` |
-/// | 12 | out of memory | |
-/// | 13 | the keeper has no room for the member | `full` |
+/// | 9 | a store was to be made, and the disk has other bytes | `exists` |
+/// | 10 | a rule is broken | `refused: bad name`, `refused: name taken`, `refused: key taken`, `refused: bad host` |
+/// | 12 | out of memory | nothing |
+/// | 13 | the store has no room for a member | `full` |
 ///
-/// A status other than 0 stays if its text cannot be written. The history comes back with the entries
-/// that were made, and the keeper with their records.
-pub fn run<S: Source, O: Sink, P: Keeper, C: Clock, E: Entropy>(
+/// A status other than 0 stays if its text cannot be written. The disk comes back with all that was
+/// kept.
+pub fn run<S: Source, O: Sink, D: Disk, C: Clock, E: Entropy>(
     alloc: Global,
     arguments: &[String],
     connection: &mut Connection<S, O, C>,
-    history: Vec<Entry>,
-    keeper: P,
+    disk: D,
     entropy: &mut E,
-) -> Ended<P>
-    requires legal { IsLegal history.items }
-    requires built { IsTrue (are_built history.items) }
-
+) -> Ended<D>
     // The status is one that the task may end with, and 2 exactly if the arguments are not accepted.
     ensures statuses { IsTrue
         (is_status_of (task_in (map string_bytes arguments.now)) result.status) }
     ensures arguments { (result.status ≡ 2) ↔ (task_in (map string_bytes arguments.now) ≡ None) }
 
-    // At 0 the whole conversation over the input was held: each request has the reply that the
-    // machine gives at the history so far, which each history that agrees on what the caller may
-    // know gives too, or one that tells of the keeper and has its cause there. What was kept are
-    // the entries that were acknowledged.
-    ensures talk { let opened = state_of history.items (P.shown keeper) in
-        task_in (map string_bytes arguments.now) ≡ Some Inetd → result.status ≡ 0
-        → TalksIfTold (setting_of P.growth P.room (C.told connection.old.clock) opened)
-        (given history.items)
+    // At 0 the whole conversation over the input was held, over the history of the disk's file: each
+    // request has the reply that the machine gives at the history so far, which each history that
+    // agrees on what the caller may know gives too, or one that tells of the disk and has its cause
+    // there. What was kept are the entries that were acknowledged.
+    ensures talk { task_in (map string_bytes arguments.now) ≡ Some Inetd → result.status ≡ 0
+        → TalksOverStore (C.told connection.old.clock)
+        (medium_by D.shown D.crashes disk) (medium_by D.shown D.crashes result.disk)
         (scene_by S.left O.sent O.write_faults connection.old.input connection.old.out)
-        (scene_by S.left O.sent O.write_faults connection.new.input connection.new.out)
-        (state_of result.history.items (P.shown result.keeper)) }
+        (scene_by S.left O.sent O.write_faults connection.new.input connection.new.out) }
 
-    // At every other status, too, it is a conversation as far as it went.
-    ensures session { let opened = state_of history.items (P.shown keeper) in
-        task_in (map string_bytes arguments.now) ≡ Some Inetd
-        → RunsTo (setting_of P.growth P.room (C.told connection.old.clock) opened) opened
+    // At every other status, too, it is a conversation as far as it went, or the store was not opened,
+    // for a reason that is told, and nothing was read or written.
+    ensures session { task_in (map string_bytes arguments.now) ≡ Some Inetd
+        → ServesStore (C.told connection.old.clock)
+        (medium_by D.shown D.crashes disk) (medium_by D.shown D.crashes result.disk)
         (scene_by S.left O.sent O.write_faults connection.old.input connection.old.out)
         (scene_by S.left O.sent O.write_faults connection.new.input connection.new.out)
-        (state_of result.history.items (P.shown result.keeper)) result.status }
+        result.status }
 
     // A member is made of the key that was drawn, or the first reason not to is told, and each
-    // reason has its cause: at 6 the draw failed, at 7 a write, and at 5 the keeper.
+    // reason has its cause: at 6 the draw failed, at 7 a write, and at 5 the disk.
     ensures added { (name : List ℕ) (locked : Bool)
         → task_in (map string_bytes arguments.now) ≡ Some (AddActor name locked)
-        → MakesMember P.growth P.room (C.told connection.old.clock)
+        → AddsMember (C.told connection.old.clock)
+        (medium_by D.shown D.crashes disk) (medium_by D.shown D.crashes result.disk)
         (chance_by E.next E.faults entropy.old) (chance_by E.next E.faults entropy.new)
-        (state_of history.items (P.shown keeper))
-        (state_of result.history.items (P.shown result.keeper))
         (output_by O.sent O.write_faults connection.old.out)
         (output_by O.sent O.write_faults connection.new.out) name locked result.status }
 
-    // Whatever the task and the input, the history comes back legal, with no entry that is not
-    // built, and the entries that the run made are the records that came to the keeper.
-    ensures legal { IsLegal result.history.items }
-    ensures built { IsTrue (are_built result.history.items) }
-    ensures kept { let opened = state_of history.items (P.shown keeper) in
-        HoldsALog (setting_of P.growth P.room (C.told connection.old.clock) opened)
-        (given history.items)
-        (state_of result.history.items (P.shown result.keeper)) }
+    // A store is made, or the first reason not to is told.
+    ensures made { (host : List ℕ)
+        → task_in (map string_bytes arguments.now) ≡ Some (Init host)
+        → MakesStore D.shown D.crashes (C.told connection.old.clock) disk result.disk
+        (output_by O.sent O.write_faults connection.old.out)
+        (output_by O.sent O.write_faults connection.new.out) host result.status }
 
-    // A crash at any moment of the run leaves the records that the keeper had, then those of the
-    // first entries, none or more, that the run made, and behind them at most one that was in doubt
-    // then: the one of the opening, or that of an entry which the keeper was to keep. After the run
-    // it leaves the records of all of them, with at most the one in doubt.
-    ensures crashes { let opened = state_of history.items (P.shown keeper) in
-        SurvivesSince (base_of P.growth P.room opened) None (given history.items)
-        (state_of result.history.items (P.shown result.keeper))
-        (P.crashes keeper) (P.crashes result.keeper) }
-    ensures leaves { LeavesRecords (P.shown result.keeper) (P.crashes result.keeper) }
+    // What a store has is counted, and stays.
+    ensures checked { task_in (map string_bytes arguments.now) ≡ Some Check
+        → ChecksStore
+        (medium_by D.shown D.crashes disk) (medium_by D.shown D.crashes result.disk)
+        (output_by O.sent O.write_faults connection.old.out)
+        (output_by O.sent O.write_faults connection.new.out) result.status }
+
+    // Whatever the task and the input, a store that is opened comes back with the records of a legal
+    // history: those that the opening found, and those of the entries that the run made. A crash at
+    // any moment of the run leaves the records of before the run, or those that the opening found with
+    // the first of these, none or more, and behind them at most one that was in doubt then. After the
+    // run it leaves the records of all of them, with at most the one in doubt.
+    ensures crashes { opens_store (task_in (map string_bytes arguments.now)) ≡ true
+        → IsKeptSafe (medium_by D.shown D.crashes disk) (medium_by D.shown D.crashes result.disk) }
 
     // The usage is printed whole, unless a write failed.
     ensures usage { task_in (map string_bytes arguments.now) ≡ Some Usage
@@ -266,37 +278,42 @@ pub fn run<S: Source, O: Sink, P: Keeper, C: Clock, E: Entropy>(
         → WritesUnlessFailed (output_by O.sent O.write_faults connection.old.out)
         (output_by O.sent O.write_faults connection.new.out) [] usage_text }
 
-    // Only a connection is read from, only a connection and the making of a member keep anything,
-    // and only the latter draws a key.
+    // Only a connection is read from, only the tasks of a store ask the disk, and only the making of a
+    // member draws a key.
     ensures idle { task_in (map string_bytes arguments.now) ≢ Some Inetd
         → connection.new.input ≡ connection.old.input }
-    ensures unkept { may_keep (task_in (map string_bytes arguments.now)) ≡ false
-        → (result.history.items ≡ history.items) × (result.keeper ≡ keeper) }
+    ensures unasked { names_store (task_in (map string_bytes arguments.now)) ≡ false
+        → result.disk ≡ disk }
+
     ensures undrawn { may_draw (task_in (map string_bytes arguments.now)) ≡ false
         → entropy.new ≡ entropy.old }
 
     // A failure has its cause outside: the count of failed reads rose exactly at 6, and that of
-    // failed writes at 7. (Of the making of a member `added` says so.)
-    ensures causes { may_draw (task_in (map string_bytes arguments.now)) ≡ false → HasCauses
+    // failed writes at 7. (Of the making of a member or a store `added` and `made` say so.)
+    ensures causes { task_in (map string_bytes arguments.now) ≡ Some Inetd → HasCauses
         (faults_by S.read_faults O.write_faults connection.old.input connection.old.out)
         (faults_by S.read_faults O.write_faults connection.new.input connection.new.out)
         result.status }
     ensures clock { connection.new.clock ≡ connection.old.clock }
 {
     match command_of(arguments) {
-        Some(Command::Inetd) => inetd(alloc, connection, history, keeper),
+        Some(Command::Inetd) => inetd(alloc, connection, disk),
         Some(Command::AddActor { name, locked }) => {
-            add_actor(alloc, connection, history, keeper, entropy, name, locked)
+            add_actor(alloc, connection, disk, entropy, name, locked)
         }
+        Some(Command::Init { host }) => {
+            let (out, clock) = (&mut connection.out, &connection.clock);
+            let (status, disk) = begin_store(alloc, out, clock, disk, host);
+            Ended { status, disk }
+        }
+        Some(Command::Check) => check(alloc, &mut connection.out, disk),
         Some(Command::Usage) => Ended {
             status: print(&mut connection.out, usage().as_bytes()),
-            history,
-            keeper,
+            disk,
         },
         None => Ended {
             status: tell(&mut connection.out, NOT_ACCEPTED, usage().as_bytes()),
-            history,
-            keeper,
+            disk,
         },
     }
 }

@@ -4,7 +4,8 @@ ghost use Rattle.std.specs.Prelude.{◌≡◌, ◌||◌, ◌-◌, ℕ, None, nat
 ghost use Rattle.fedi_log.specs.Keeping.{Holds, State, base_of, state_of};
 ghost use Rattle.fedi_log.specs.Log.{Log, given};
 ghost use Rattle.fedi_program.specs.Conversations.{most_requests};
-ghost use Rattle.fedi_program.specs.Crashing.{SurvivesSince, SurvivesTurn};
+ghost use Rattle.fedi_startup.specs.Marks.{SurvivesMarked};
+ghost use Rattle.fedi_program.specs.Crashing.{SurvivesTurn};
 ghost use Rattle.fedi_program.specs.Endings.{EndsSession, Exchanges, GivesUp, IsCaused, IsCounted, Replies, faults_by, faults_of, output_by, scene_by, setting_of};
 
 use crate::answers::{answer, refusal_text};
@@ -150,7 +151,7 @@ pub fn session<S: Source, O: Sink, P: Keeper, C: Clock>(
     // A crash at any moment of it leaves the records, then the first of those that were kept since,
     // and then at most one that was in doubt.
     ensures crashes { let opened = state_of core.old.history (P.shown core.old.keeper) in
-        SurvivesSince (base_of P.growth P.room opened) None (given core.old.history)
+        SurvivesMarked (base_of P.growth P.room opened) None (given core.old.history)
         (state_of core.new.history (P.shown core.new.keeper))
         (P.crashes core.old.keeper) (P.crashes core.new.keeper) }
     ensures causes { IsCaused

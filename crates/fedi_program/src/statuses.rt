@@ -6,10 +6,13 @@ pub const DONE: u8 = 0;
 /// The arguments are not accepted.
 pub const NOT_ACCEPTED: u8 = 2;
 
-/// The history has no host.
+/// The disk has no store.
 pub const NOT_A_STORE: u8 = 3;
 
-/// The keeper failed.
+/// The store is damaged.
+pub const DAMAGED: u8 = 4;
+
+/// The disk failed.
 pub const DISK_FAULT: u8 = 5;
 
 /// A read failed, or a draw of random bytes.
@@ -21,11 +24,14 @@ pub const WRITE_FAULT: u8 = 7;
 /// The input ended inside a request.
 pub const CUT_SHORT: u8 = 8;
 
+/// What is to be made a store holds something else.
+pub const EXISTS: u8 = 9;
+
 /// A command breaks a rule.
 pub const REFUSED: u8 = 10;
 
 /// Out of memory.
 pub const OUT_OF_MEMORY: u8 = 12;
 
-/// The keeper has no room.
+/// The store has no room.
 pub const FULL: u8 = 13;

@@ -5,6 +5,14 @@
 #![tactic(auto)]
 
 #[cfg(test)]
+mod arguments;
+#[cfg(test)]
+mod machine;
+#[cfg(test)]
 mod members;
 #[cfg(test)]
+mod outside;
+#[cfg(test)]
 mod program;
+#[cfg(test)]
+mod stores;

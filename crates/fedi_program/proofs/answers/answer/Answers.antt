@@ -113,14 +113,14 @@ returns-in-Ok-keep-clause-crash g c = kept_survives _ _ _ _ c.in-Some.entry _ _ 
 pub returns-in-Full-clause-crash : goal.returns-in-Full-clause-crash
 returns-in-Full-clause-crash g c =
     let e = c.in-Err-keep.ensures in
-    refused_survives _ g.P.Keeper.room _ _ c.in-Some.entry c.in-Err-keep.field-0.fault _ _ e.same e.refused e.time_refused
+    refused_survives _ g.P.Keeper.room _ _ c.in-Some.entry c.in-Err-keep.field-0.fault _ _ e.same e.next e.refused e.time_refused
 
 pub returns-in-Failed-clause-crash : goal.returns-in-Failed-clause-crash
 returns-in-Failed-clause-crash g c =
     let e = c.in-Err-keep.ensures in
-    refused_survives _ g.P.Keeper.room _ _ c.in-Some.entry c.in-Err-keep.field-0.fault _ _ e.same e.refused e.time_refused
+    refused_survives _ g.P.Keeper.room _ _ c.in-Some.entry c.in-Err-keep.field-0.fault _ _ e.same e.next e.refused e.time_refused
 
 pub returns-clause-crash : goal.returns-clause-crash
 returns-clause-crash g c =
     let e = c.in-Err-keep.ensures in
-    refused_survives _ g.P.Keeper.room _ _ c.in-Some.entry c.in-Err-keep.field-0.fault _ _ e.same e.refused e.time_refused
+    refused_survives _ g.P.Keeper.room _ _ c.in-Some.entry c.in-Err-keep.field-0.fault _ _ e.same e.next e.refused e.time_refused

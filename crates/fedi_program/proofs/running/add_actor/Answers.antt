@@ -1,15 +1,24 @@
-use Rattle.fedi_program.proofs.CrashLemmas.{survives_still}
+use Rattle.std.proofs.Common.{length, inr, refl}
+use Rattle.fedi_program.proofs.Hosted.{hosted}
+use Rattle.fedi_program.proofs.StoreLemmas.{served}
 use Rattle.fedi_program.proofs.running.add_actor.Goals as goal
+
+pub make_member-status-requires : goal.make_member-status-requires
+make_member-status-requires g c =
+    let opens = c.in-Ok.ensures.opened in
+    record { hosted = hosted c.in-Ok.core.history opens.some opens.sound.legal opens.sound.built }
 
 pub returns-in-Ok-clause-added : goal.returns-in-Ok-clause-added
 returns-in-Ok-clause-added g c =
-    let made = rw c.in-Ok.ensures.ok at c.make_member-status.ensures.made in
-    rw (c.close-history.ensures.history, c.close-history.ensures.keeper) made
-
-pub returns-in-Ok-clause-crash : goal.returns-in-Ok-clause-crash
-returns-in-Ok-clause-crash g c =
-    let survived = rw c.in-Ok.ensures.ok at c.make_member-status.ensures.crash in
-    rw (c.close-history.ensures.history, c.close-history.ensures.keeper) survived
-
-pub returns-in-Err-clause-crash : goal.returns-in-Err-clause-crash
-returns-in-Err-clause-crash g c = rw (c.in-Err.ensures.err, c.in-Err.ensures.err_keeper) (survives_still _ _ _ (g.met.P.Keeper.crash_now c.args.keeper))
+    let core = c.in-Ok.core in
+    let now = c.make_member-status.new.core in
+    let last = now.keeper.disk in
+    let closed = rw c.close_store.ensures.disk at c.close_store.ensures.closed in
+    inr (
+      _,
+      _,
+      rw c.close_store.ensures.disk (served (g.D.Disk.shown c.args.disk) (g.D.Disk.shown core.keeper.disk) (g.D.Disk.shown last) (g.D.Disk.crashes c.args.disk)
+          (g.D.Disk.crashes core.keeper.disk) (g.D.Disk.crashes last) _ _ (length core.keeper.gates.items)
+          c.in-Ok.ensures.opened refl c.in-Ok.ensures.clock c.in-Ok.ensures.time c.make_member-status.ensures.crashes closed),
+      c.make_member-status.ensures.made,
+    )

@@ -1,5 +1,5 @@
 use Rattle.std.proofs.Common.{◌∙◌, Some, None, ap, refl}
-use Rattle.fedi_log.specs.Keeping.{state_of}
+use Rattle.fedi_log.specs.Keeping.{base_of, state_of}
 use Rattle.fedi_log.specs.Log.{given}
 use Rattle.fedi_program.specs.Endings.{output_by, scene_of, setting_of}
 use Rattle.fedi_program.proofs.Conversing.{caused_on, stands_first, stands_next, stands_over, told_on}
@@ -7,12 +7,15 @@ use Rattle.fedi_program.proofs.CrashLemmas.{survives_first, survives_more}
 use Rattle.fedi_program.proofs.sessions.session.Goals as goal
 
 pub loop-served-init : goal.loop-served-init
-loop-served-init g c = record {
-  stands = rw c.new-buffer.ensures (stands_first _ _ _ refl refl);
-  counted = refl;
-  survives = survives_first _ _ _ _ refl refl (g.met.P.Keeper.crash_now c.args.core.now.keeper);
-  clock = refl;
-}
+loop-served-init g c =
+    let opened = state_of c.args.core.now.history (g.P.Keeper.shown c.args.core.now.keeper) in
+    record {
+      stands = rw c.new-buffer.ensures (stands_first _ _ _ refl refl);
+      counted = refl;
+      survives = survives_first (base_of g.P.Keeper.growth g.P.Keeper.room opened) None opened (g.P.Keeper.crashes c.args.core.now.keeper) refl refl
+          (g.met.P.Keeper.crash_now c.args.core.now.keeper);
+      clock = refl;
+    }
 
 pub returns-in-Some-clause-ends : goal.returns-in-Some-clause-ends
 returns-in-Some-clause-ends g c =

@@ -1,7 +1,7 @@
 use Rattle.std.proofs.Common.{◌≡◌, None}
 use Rattle.fedi_log.specs.Keeping.{base_of, state_of}
 use Rattle.fedi_log.specs.Log.{given}
-use Rattle.fedi_program.specs.Crashing.{SurvivesSince}
+use Rattle.fedi_startup.specs.Marks.{SurvivesMarked}
 use Rattle.fedi_program.specs.Endings.{faults_of, output_by, scene_of, setting_of}
 use Rattle.fedi_program.proofs.Conversing.{StandsFor}
 use Rattle.fedi_program.proofs.sessions.session.Given as goal
@@ -16,7 +16,7 @@ invariant-loop-served g l =
           (state_of l.core.history (g.P.Keeper.shown l.core.keeper)) l.served;
       counted : faults_of (g.S.Source.read_faults l.connection.input) (g.O.Sink.write_faults l.connection.out)
           ≡ faults_of (g.S.Source.read_faults l.fn.connection.input) (g.O.Sink.write_faults l.fn.connection.out);
-      survives : SurvivesSince (base_of g.P.Keeper.growth g.P.Keeper.room opened) None (given l.fn.core.history)
+      survives : SurvivesMarked (base_of g.P.Keeper.growth g.P.Keeper.room opened) None (given l.fn.core.history)
           (state_of l.core.history (g.P.Keeper.shown l.core.keeper)) (g.P.Keeper.crashes l.fn.core.keeper) (g.P.Keeper.crashes l.core.keeper);
       clock : l.connection.clock ≡ l.fn.connection.clock;
     }

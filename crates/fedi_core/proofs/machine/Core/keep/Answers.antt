@@ -1,22 +1,23 @@
-use Rattle.std.proofs.Common.{List, [], ◌∷◌, ◌++◌, ap, subst, ◌∙◌}
-use Rattle.fedi_objects.specs.declared.entry.Entry.{Entry}
+use Rattle.std.proofs.Common.{ap, subst, sym}
+use Rattle.fedi_town.specs.Histories.{town}
 use Rattle.fedi_town.specs.Legal.{IsLegal}
-use Rattle.fedi_core.proofs.Growing.{grown, posts_hidden}
+use Rattle.fedi_core.specs.Keeping.{MayAdd}
+use Rattle.fedi_core.proofs.Growing.{posts_hidden, stays}
 use Rattle.fedi_core.proofs.machine.Core.keep.Goals as goal
 
 pub invariant_of-self : goal.invariant_of-self
 invariant_of-self g c =
-    grown (g.S.Shelf.holding c.self.inside.shelf) (g.S.Shelf.holding c.store_entry.new.shelf) c.self.inside.history.items c.args.self.now.history c.push.new.history.items c.args.entry
-    c.self.invariant (ap (λ m. m.history) c.self.view_is) c.requires c.in-Ok.ensures.grown
-    (c.push.ensures ∙ ap (λ (h : List Entry). h ++ c.args.entry ∷ []) c.store_entry.ensures.history)
+    let stored = c.store_entry.ensures in
+    let holding = g.S.Shelf.holding in
+    let shown = g.P.Keeper.shown in
+    stays g.P.Keeper.growth g.P.Keeper.room c.store_entry.result (holding c.self.inside.shelf) (holding c.store_entry.new.shelf)
+    (shown c.self.inside.keeper) (shown c.store_entry.new.keeper) c.args.entry c.self.invariant
+    (subst (λ m. MayAdd (town m.history) c.args.entry) (sym c.self.view_is) c.requires) stored.formed stored.formed_failed stored.grown stored.same stored.added stored.refused
 
-pub returns-in-Ok-clause-legal : goal.returns-in-Ok-clause-legal
-returns-in-Ok-clause-legal g c = (invariant_of-self g c).legal
+pub returns-clause-legal : goal.returns-clause-legal
+returns-clause-legal g c = (invariant_of-self g c).legal
 
-pub returns-in-Ok-clause-built : goal.returns-in-Ok-clause-built
-returns-in-Ok-clause-built g c = (invariant_of-self g c).built
-
-pub returns-in-Ok-clause-unseen : goal.returns-in-Ok-clause-unseen
-returns-in-Ok-clause-unseen g c =
-    let after = invariant_of-self g c in
-    posts_hidden c.args.self.now.history c.push.new.history.items (subst IsLegal (ap (λ m. m.history) c.self.view_is) c.self.invariant.legal) after.legal
+pub returns-clause-unseen : goal.returns-clause-unseen
+returns-clause-unseen g c =
+    posts_hidden c.args.self.now.history (g.S.Shelf.holding c.store_entry.new.shelf).history
+    (subst IsLegal (ap (λ m. m.history) c.self.view_is) c.self.invariant.legal) (invariant_of-self g c).legal

@@ -1,2 +1,0 @@
-pub mod Club
-pub mod ExampleTown

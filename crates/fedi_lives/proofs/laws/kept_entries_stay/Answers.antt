@@ -1,0 +1,11 @@
+use Rattle.fedi_lives.proofs.Lives.{entries_stay, next_finds, places_stay}
+use Rattle.fedi_lives.proofs.laws.kept_entries_stay.Goals as goal
+
+pub returns-clause-history : goal.returns-clause-history
+returns-clause-history c = entries_stay
+
+pub returns-clause-place : goal.returns-clause-place
+returns-clause-place c = places_stay
+
+pub returns-clause-behind : goal.returns-clause-behind
+returns-clause-behind c = next_finds

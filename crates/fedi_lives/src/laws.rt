@@ -1,0 +1,70 @@
+//! Laws of lives, each the contract of a function that does nothing.
+
+ghost use Rattle.std.specs.Prelude.{◌≡◌, ℕ, List, [], ◌∷◌, ◌++◌, map, Some, slice_get};
+ghost use Rattle.std.specs.List.{AllByRecursion};
+ghost use Rattle.fedi_entry.specs.Codes.{code_of};
+ghost use Rattle.fedi_entry.specs.Fields.{IsFormed};
+ghost use Rattle.fedi_images.specs.Images.{Format, IsFormat, IsImage};
+ghost use Rattle.fedi_images.specs.Known.{record_crashes};
+ghost use Rattle.fedi_objects.specs.declared.entry.Entry.{Entry};
+ghost use Rattle.fedi_outside.specs.Keepers.{Adds, MayLeave};
+ghost use Rattle.fedi_log.specs.Keeping.{Base, since};
+ghost use Rattle.fedi_log.specs.Leaving.{IsLeft};
+ghost use Rattle.fedi_log.specs.Log.{Log, history_of};
+ghost use Rattle.fedi_lives.specs.Lives.{AreLives, IsFollowed, IsFoundAfter, IsLife, Life, history_at_end};
+
+use fedi_outside::Disk;
+
+/// Whatever a crash since the opening leaves on a disk is a file: of the records of the opening, those of
+/// the first of the entries that were kept since, and behind them at most one that was in doubt. It
+/// follows from what a keeper on that disk tells of lists of records alone.
+pub fn crashes_leave_files<D: Disk>()
+    ensures { (f : Format) (opened now : D) (base : Base) (log : Log) (kept : List (List ℕ))
+        → let before = D.crashes opened in let after = D.crashes now in
+        let told = record_crashes f (D.shown opened) before in IsFormat f
+        → ((left : List (List ℕ)) → told.left_since before.clock left
+        → MayLeave kept base.shown.doubt left)
+        → Adds before.clock told.left_since
+        (record_crashes f (D.shown now) after).left_since (IsLeft base log kept)
+        → (image : List ℕ) → after.left_since before.clock image
+        → (left : List (List ℕ)) × IsImage f left image × IsLeft base log kept left }
+{}
+
+/// A crash at any moment of a run ends a life, whose log is the run's up to that moment, since the fields
+/// of all that a run keeps have their forms.
+pub fn crashes_end_lives()
+    ensures { (base : Base) (opened : List Entry) (log : Log) (left : List (List ℕ))
+        → AllByRecursion IsFormed (opened ++ history_of (since base log))
+        → (crash : IsLeft base log (map code_of opened) left)
+        → IsLife (record { base = base; opened = opened; log = crash.past; left = left }) }
+{}
+
+/// A life that opens the file that another one left opens the records that this one left.
+pub fn files_join_lives()
+    ensures { (f : Format) (life next : Life) (image : List ℕ) → IsFormat f
+        → IsImage f life.left image → IsImage f (map code_of next.opened) image
+        → IsFollowed life (next ∷ []) }
+{}
+
+/// No record that was kept is lost, none is torn and none changes its place: the records that a life
+/// had at its end are the first of those that each later life opens.
+pub fn kept_records_stay()
+    ensures { (before between after : List Life) (life later : Life)
+        → AreLives (before ++ life ∷ (between ++ later ∷ after)) → (more : List (List ℕ))
+        × (map code_of later.opened ≡ map code_of (history_at_end life) ++ more) }
+{}
+
+/// No entry that was kept is lost, none is torn and none changes its place: the history of a life at its
+/// end is the front of the history that each later life opens. What the next life finds behind it is at
+/// most the one entry that was in doubt.
+pub fn kept_entries_stay()
+    ensures history { (before between after : List Life) (life later : Life)
+        → AreLives (before ++ life ∷ (between ++ later ∷ after))
+        → (more : List Entry) × (later.opened ≡ history_at_end life ++ more) }
+    ensures place { (before between after : List Life) (life later : Life)
+        → AreLives (before ++ life ∷ (between ++ later ∷ after))
+        → (place : ℕ) (entry : Entry) → slice_get (history_at_end life) place ≡ Some entry
+        → slice_get later.opened place ≡ Some entry }
+    ensures behind { (before after : List Life) (life next : Life)
+        → AreLives (before ++ life ∷ (next ∷ after)) → IsFoundAfter life next.opened }
+{}

@@ -1,0 +1,134 @@
+-- What a run does with the store of a disk, and what it prints of it.
+use Rattle.std.specs.Prelude.{◌≡◌, ◌⊎◌, ℕ, Bool, List, [], ◌∷◌, ◌++◌, codes, decimal, Option, IfSome}
+use Rattle.fedi_address.specs.Hosts.{IsHost}
+use Rattle.fedi_log.specs.Keeping.{State}
+use Rattle.fedi_log.specs.Log.{given}
+use Rattle.fedi_entry.specs.Codes.{code_of}
+use Rattle.fedi_objects.specs.declared.entry.Entry.{Entry}
+use Rattle.fedi_objects.specs.declared.entry.Entry.TheVariants.{Hosted}
+use Rattle.fedi_outside.specs.Disks.{DiskCrashes, DiskState}
+use Rattle.fedi_program.specs.Conversations.{IsNow}
+use Rattle.fedi_program.specs.Endings.{Output, Prints, RunsTo, Scene, TalksIfTold, Writes, setting_of}
+use Rattle.fedi_program.specs.Members.{Chance, MakesMember, Tells, refusal_line}
+use Rattle.fedi_report.specs.Reports.{check_text}
+use Rattle.fedi_startup.specs.Making.{IsMade, IsNotMade, LeavesAtMost}
+use Rattle.fedi_startup.specs.Stores.{ComesBack, IsClosed, IsOpened, LeavesNothingNew, LeavesStores}
+use Rattle.fedi_startup.specs.Surviving.{LeavesStoresAlong, SurvivesOnDisk, growth, room}
+use Rattle.fedi_startup.specs.declared.faults.MakeFault.{MakeFault}
+use Rattle.fedi_startup.specs.declared.faults.MakeFault.TheVariants as makes
+use Rattle.fedi_startup.specs.declared.faults.StoreFault.{StoreFault}
+use Rattle.fedi_startup.specs.declared.faults.StoreFault.TheVariants.{NotAStore, DamagedByte, DamagedRecord, Failed, Memory}
+
+-- ---- disks
+
+-- a disk, and what a crash may leave of it
+pub record Medium : Type 1 where
+  pub shown : DiskState
+  pub crashes : DiskCrashes
+
+-- the medium of this disk, by what tells of such
+abbrev pub medium_by : {D : Type 0} → (D → DiskState) → (D → DiskCrashes) → D → Medium
+medium_by shown crashes disk = record { shown = shown disk; crashes = crashes disk }
+
+-- No machine was opened over the disk, for this reason: it has the records that it had, and a crash on the way leaves what a
+-- crash before might have left.
+pub record IsRefused (before after : Medium) (fault : StoreFault) : Type 0 where
+  pub back : ComesBack fault before.shown after.shown
+  pub still : IfSome before.shown.reads (λ _. LeavesNothingNew before.crashes after.crashes)
+
+-- A machine was opened over the disk, in the first of these states, and closed in the second. The disk's file has the records of
+-- its history. If its bytes are told, a crash after the run leaves a store of that history, or of it with the entry in doubt; and
+-- a crash on the way left files of the records, and these are stores.
+pub record IsServed (before after : Medium) (opened closed : State) : Type 0 where
+  pub opens : IsOpened before.shown opened
+  pub closes : IsClosed after.shown after.crashes closed
+  pub leaves : IfSome after.shown.reads (λ _. LeavesStores after.crashes closed.history closed.keeper.doubt)
+  pub files : IfSome before.shown.reads (λ _. SurvivesOnDisk before.crashes after.crashes opened closed)
+  pub stores : IfSome before.shown.reads (λ _. LeavesStoresAlong before.crashes after.crashes opened.history closed.history)
+
+-- one of the two
+abbrev pub IsKeptSafe : Medium → Medium → Type 0
+IsKeptSafe before after =
+    ((fault : StoreFault) × IsRefused before after fault) ⊎ ((opened : State) × (closed : State) × IsServed before after opened closed)
+
+-- ---- what is printed of a store that is not opened
+
+-- the line that tells where a store is damaged
+unfoldable pub damage_line : List ℕ → ℕ → List ℕ
+damage_line what place = (((codes "damaged at " ++ what) ++ codes " ") ++ decimal place) ++ codes "\n"
+
+-- the status of a run whose store is not opened
+abbrev pub status_by : StoreFault → ℕ
+status_by NotAStore = 3
+status_by (DamagedByte place) = 4
+status_by (DamagedRecord place) = 4
+status_by Failed = 5
+status_by Memory = 12
+
+-- and what is printed, but out of memory nothing
+abbrev pub TellsOfStore : StoreFault → Output → Output → ℕ → Type 0
+TellsOfStore NotAStore before now status = Tells before now 3 (codes "not a store\n") status
+TellsOfStore (DamagedByte place) before now status = Tells before now 4 (damage_line (codes "byte") place) status
+TellsOfStore (DamagedRecord place) before now status = Tells before now 4 (damage_line (codes "record") place) status
+TellsOfStore Failed before now status = Tells before now 5 (codes "disk fault\n") status
+TellsOfStore Memory before now status = (status ≡ 12) × Writes before now []
+
+-- ---- what a run does
+
+-- How a run serves one connection over the store of a disk: it is not opened, and nothing is read or written; or it is, and a
+-- session is held.
+abbrev pub ServesStore : Option ℕ → Medium → Medium → Scene → Scene → ℕ → Type 0
+ServesStore told before after first now status =
+    ((fault : StoreFault) × IsRefused before after fault × (now ≡ first) × (status ≡ status_by fault))
+    ⊎ ((opened : State) × (closed : State) × IsServed before after opened closed × RunsTo (setting_of growth room told opened) opened first now closed status)
+
+-- the whole conversation over the input was held, over the store of a disk
+abbrev pub TalksOverStore : Option ℕ → Medium → Medium → Scene → Scene → Type 0
+TalksOverStore told before after first now =
+    (opened : State) × (closed : State) × IsServed before after opened closed
+    × TalksIfTold (setting_of growth room told opened) (given opened.history) first now closed
+
+-- how a run makes a member of the store of a disk
+abbrev pub AddsMember : Option ℕ → Medium → Medium → Chance → Chance → Output → Output → List ℕ → Bool → ℕ → Type 0
+AddsMember told before after chance left first now name locked status =
+    ((fault : StoreFault) × IsRefused before after fault × (left ≡ chance) × TellsOfStore fault first now status)
+    ⊎ ((opened : State) × (closed : State) × IsServed before after opened closed
+    × MakesMember growth room told chance left opened closed first now name locked status)
+
+-- it is printed how much this history has, unless there is no memory for the line (12) or a write failed (7)
+abbrev pub Counts : Output → Output → List Entry → ℕ → Type 0
+Counts first now history status = Prints first now (check_text history) status ⊎ ((status ≡ 12) × Writes first now [])
+
+-- how a run counts what the store of a disk has, which stays so
+abbrev pub ChecksStore : Medium → Medium → Output → Output → ℕ → Type 0
+ChecksStore before after first now status =
+    ((fault : StoreFault) × IsRefused before after fault × TellsOfStore fault first now status)
+    ⊎ ((opened : State) × IsServed before after opened opened × Counts first now opened.history status)
+
+-- ---- making a store
+
+-- the line that tells that a store was made for this host
+abbrev pub made_line : List ℕ → List ℕ
+made_line host = codes "made " ++ (host ++ codes "\n")
+
+-- what is printed of a store that is not made, but out of memory nothing, and the status
+abbrev pub TellsOfMaking : MakeFault → Output → Output → ℕ → Type 0
+TellsOfMaking makes.Exists before now status = Tells before now 9 (codes "exists\n") status
+TellsOfMaking makes.Failed before now status = Tells before now 5 (codes "disk fault\n") status
+TellsOfMaking makes.Memory before now status = (status ≡ 12) × Writes before now []
+
+-- how the making of a store ends whose first entry is this one
+abbrev pub EndsMaking : DiskState → DiskState → DiskCrashes → Output → Output → List ℕ → Entry → ℕ → Type 0
+EndsMaking before after crashes first now host e status =
+    (IsMade (e ∷ []) before after crashes × Prints first now (made_line host) status)
+    ⊎ ((fault : MakeFault) × IsNotMade (code_of e) fault before after × TellsOfMaking fault first now status)
+
+-- How a run makes the disk a store for this host: out of memory (12) or for a text that is no host (10) the disk is not asked;
+-- else the first entry says the host and the moment.
+abbrev pub MakesStore : {D : Type 0} → (D → DiskState) → (D → DiskCrashes) → Option ℕ → D → D → Output → Output → List ℕ → ℕ → Type 0
+MakesStore shown crashes told before after first now host status =
+    ((status ≡ 12) × (after ≡ before) × Writes first now [])
+    ⊎ (((IsHost host → ⊥) × (after ≡ before) × Tells first now 10 (refusal_line (codes "bad host")) status)
+    ⊎ (IsHost host × (moment : ℕ) × IsNow told moment
+    × LeavesAtMost shown crashes (code_of (Hosted host moment)) before after
+    × EndsMaking (shown before) (shown after) (crashes after) first now host (Hosted host moment) status))

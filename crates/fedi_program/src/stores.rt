@@ -1,0 +1,120 @@
+//! What a run tells of a store that is made, or not opened.
+
+ghost use Rattle.std.specs.Prelude.{◌≡◌, ◌≤◌, IfOk, length};
+ghost use Rattle.fedi_program.specs.Endings.{output_by};
+ghost use Rattle.fedi_program.specs.Members.{Tells};
+ghost use Rattle.fedi_program.specs.Stores.{MakesStore, TellsOfMaking, TellsOfStore, damage_line, made_line, status_by};
+
+use crate::printing::{print, tell};
+use crate::statuses::{DAMAGED, DISK_FAULT, EXISTS, NOT_A_STORE, OUT_OF_MEMORY, REFUSED};
+use arrayvec::ArrayString;
+use fedi_address::{Host, HostFault};
+use fedi_outside::{Clock, Disk, Sink};
+use fedi_startup::{MakeFault, StoreFault, make_store};
+use fedi_text::Moment;
+use std::alloc::{AllocError, Global};
+
+/// The status of a run whose store is not opened.
+pub fn status_by(fault: StoreFault) -> u8
+    ensures { result ≡ status_by fault }
+{
+    match fault {
+        StoreFault::NotAStore => NOT_A_STORE,
+        StoreFault::DamagedByte { .. } => DAMAGED,
+        StoreFault::DamagedRecord { .. } => DAMAGED,
+        StoreFault::Failed => DISK_FAULT,
+        StoreFault::Memory => OUT_OF_MEMORY,
+    }
+}
+
+/// The line that tells where a store is damaged: at which byte, or at which record.
+#[tactic(auto, unfolding(crate::specs::Stores::damage_line))]
+fn damage_line(what: &str, place: u64) -> ArrayString<64>
+    requires { length what.now ≤ 8 }
+    ensures { result.bytes ≡ damage_line what.now place }
+{
+    let mut digits = itoa::Buffer::new();
+    let mut line = ArrayString::new();
+    line.push_str("damaged at ");
+    line.push_str(what);
+    line.push_str(" ");
+    line.push_str(digits.format(place));
+    line.push_str("\n");
+    line
+}
+
+/// Tells where a store is damaged. The answer is the exit status.
+fn tell_damage<O: Sink>(out: &mut O, what: &str, place: u64) -> u8
+    requires { length what.now ≤ 8 }
+    ensures { Tells (output_by O.sent O.write_faults out.old)
+        (output_by O.sent O.write_faults out.new) DAMAGED (damage_line what.now place) result }
+{
+    let line = damage_line(what, place);
+    tell(out, DAMAGED, line.as_bytes())
+}
+
+/// Tells why a store is not opened. The answer is the exit status.
+pub fn tell_of_store<O: Sink>(out: &mut O, fault: StoreFault) -> u8
+    ensures { TellsOfStore fault (output_by O.sent O.write_faults out.old)
+        (output_by O.sent O.write_faults out.new) result }
+{
+    match fault {
+        StoreFault::NotAStore => tell(out, NOT_A_STORE, b"not a store\n"),
+        StoreFault::DamagedByte { place } => tell_damage(out, "byte", place),
+        StoreFault::DamagedRecord { place } => tell_damage(out, "record", place),
+        StoreFault::Failed => tell(out, DISK_FAULT, b"disk fault\n"),
+        StoreFault::Memory => OUT_OF_MEMORY,
+    }
+}
+
+/// Tells why a store is not made. The answer is the exit status.
+fn tell_of_making<O: Sink>(out: &mut O, fault: MakeFault) -> u8
+    ensures { TellsOfMaking fault (output_by O.sent O.write_faults out.old)
+        (output_by O.sent O.write_faults out.new) result }
+{
+    match fault {
+        MakeFault::Exists => tell(out, EXISTS, b"exists\n"),
+        MakeFault::Failed => tell(out, DISK_FAULT, b"disk fault\n"),
+        MakeFault::Memory => OUT_OF_MEMORY,
+    }
+}
+
+/// The line that tells that a store was made for this host. The error is out of memory.
+fn made_line(alloc: Global, host: &str) -> Result<Vec<u8>, AllocError>
+    ensures { IfOk result (λ line. line.items ≡ made_line host.now) }
+{
+    let mut line = Vec::new(alloc);
+    line.extend_from_slice(b"made ")?;
+    line.extend_from_slice(host.as_bytes())?;
+    line.push(b'\n')?;
+    Ok(line)
+}
+
+/// Makes the disk a store for this host, as an operator asks, and prints that it was made. The line is
+/// made before the store, so that a store is not made of which this cannot be told, being out of memory.
+/// The answer is the exit status: a store was made at 0 and 7. The disk comes back.
+pub fn begin_store<O: Sink, D: Disk, C: Clock>(
+    alloc: Global,
+    out: &mut O,
+    clock: &C,
+    disk: D,
+    host: &str,
+) -> (u8, D)
+    ensures { MakesStore D.shown D.crashes (C.told clock.now) disk result.1
+        (output_by O.sent O.write_faults out.old) (output_by O.sent O.write_faults out.new)
+        host.now result.0 }
+{
+    let moment = Moment::clamped(clock.now());
+    let Ok(line) = made_line(alloc, host) else {
+        return (OUT_OF_MEMORY, disk);
+    };
+    let host = match Host::parse(alloc, host) {
+        Ok(host) => host,
+        Err(HostFault::BadHost) => return (tell(out, REFUSED, b"refused: bad host\n"), disk),
+        Err(HostFault::Memory) => return (OUT_OF_MEMORY, disk),
+    };
+    match make_store(alloc, disk, host, moment) {
+        (Ok(()), disk) => (print(out, &line), disk),
+        (Err(fault), disk) => (tell_of_making(out, fault), disk),
+    }
+}

@@ -1,0 +1,41 @@
+//! What an operator reads of a store.
+#![tactic(auto)]
+
+ghost use Rattle.std.specs.Prelude.{◌≡◌, ◌++◌, IfOk, OnOk, decimal};
+ghost use Rattle.fedi_report.specs.Reports.{check_text};
+
+use fedi_core::Core;
+use fedi_outside::Keeper;
+use fedi_visible::Shelf;
+use itoa::Buffer;
+use std::alloc::{AllocError, Global};
+
+/// The room for a line of counts, each of which has at most 20 digits.
+const LINE: usize = 96;
+
+// Appends a label and a count.
+fn push_count(line: &mut Vec<u8>, label: &[u8], count: u64) -> Result<(), AllocError>
+    ensures { OnOk result (line.new.items ≡ line.old.items ++ (label.now ++ decimal count)) }
+{
+    let mut digits = Buffer::new();
+    line.extend_from_slice(label)?;
+    line.extend_from_slice(digits.format(count).as_bytes())
+}
+
+/// The line that tells how much a store holds, as `entries 12 actors 3 activities 8`: how many entries
+/// its history has, and how many members and activities these have made. It ends with a line feed. The
+/// error is out of memory.
+pub fn check_line<S: Shelf + Drop, P: Keeper>(
+    alloc: Global,
+    core: &Core<S, P>,
+) -> Result<Vec<u8>, AllocError>
+    ensures { IfOk result (λ line. line.items ≡ check_text core.now.history) }
+{
+    let facts = core.facts();
+    let mut line = Vec::with_capacity(alloc, LINE)?;
+    push_count(&mut line, b"entries ", core.count())?;
+    push_count(&mut line, b" actors ", facts.actors().len() as u64)?;
+    push_count(&mut line, b" activities ", facts.acts().len() as u64)?;
+    line.push(b'\n')?;
+    Ok(line)
+}

@@ -1,0 +1,8 @@
+pub mod ClosingSteps
+pub mod MakingSteps
+pub mod Marks
+pub mod OneAnswer
+pub mod OpeningSteps
+pub mod Stored
+pub mod Surviving
+pub mod Told

@@ -1,0 +1,201 @@
+-- What becomes of a disk that is made a store.
+use Rattle.std.proofs.Common.{◌≡◌, ◌≢◌, ◌⊎◌, inl, inr, ℕ, ◌<◌, ◌≤◌, true, List, [], ◌∷◌, ◌++◌, length, drop, Option, Some, None, refl, sym, ap, subst, ◌∙◌, arith}
+use Rattle.std.specs.Cmp.Derive.{both_true}
+use Rattle.std.specs.Prelude.{IfSome, IsUtf8, codes, is_some, option_map}
+use Rattle.std.proofs.lemmas.Slice.Eq.{bytes_eq-Decides}
+use Rattle.std.proofs.lemmas.Str.{is_utf8-from_IsUtf8}
+use Rattle.fedi_address.specs.Hosts.{IsHost, address}
+use Rattle.fedi_address.specs.Iris.{normal}
+use Rattle.fedi_core.proofs.Crashing.{quiet_call}
+use Rattle.fedi_core.specs.Crashing.{MayLeaveWith, PassesTimeUnkept, PassesTimeWith}
+use Rattle.fedi_core.specs.Keeping.{HasFailedOnce, MayDoubt}
+use Rattle.fedi_core.specs.declared.keeping.KeepFault.{KeepFault}
+use Rattle.fedi_core.specs.declared.keeping.KeepFault.TheVariants as keeps
+use Rattle.fedi_entry.specs.Fields.{IsFormed, is_host, is_own}
+use Rattle.fedi_images.proofs.Finding.{images_left}
+use Rattle.fedi_images.proofs.ImageLemmas.{closed_intro, plain_ok}
+use Rattle.fedi_images.proofs.Steps.{of_some}
+use Rattle.fedi_images.specs.Images.{IsImage, front, kept_in, plain}
+use Rattle.fedi_images.specs.Known.{record_crashes, records_told}
+use Rattle.fedi_journal.specs.Making.{IsOther, blank, blank_shown}
+use Rattle.fedi_objects.specs.declared.entry.Entry.{Entry}
+use Rattle.fedi_objects.specs.declared.entry.Entry.TheVariants.{Hosted}
+use Rattle.fedi_outside.specs.Causes.{next_count}
+use Rattle.fedi_outside.specs.Disks.{DiskCrashes, DiskState, Elapses, LeavesOnly, MayTear, spliced}
+use Rattle.fedi_outside.specs.Keepers.{Adds, Crashes, HasAdded, KeeperState, MayLeave, OnlyRoomChanged}
+use Rattle.fedi_startup.specs.Making.{IsMade, IsNotMade, LeavesAtMost, MayBeBegun, MayBeEmpty, WasFree}
+use Rattle.fedi_startup.specs.declared.faults.MakeFault.TheVariants.{Failed, Memory}
+use Rattle.fedi_startup.specs.Stores.{HasRecords, IsSound, LeavesFiles, LeftFiles, records_of}
+use Rattle.fedi_startup.proofs.Told.{each_some, of_told, told_alike, told_bytes, untold_bytes}
+
+-- ---- the first entry
+
+pub first_sound : (host : List ℕ) (moment : ℕ) → IsUtf8 host → IsHost host → moment < 253402300800 → IsSound (Hosted host moment ∷ [])
+unfolding IsFormed is_host
+first_sound host moment utf8 is_one bound = record {
+  legal = record { admissible = both_true is_one.shape refl };
+  built = refl;
+  formed = ((record { utf8 = is_utf8-from_IsUtf8 host utf8; passes = both_true is_one.shape own }, bound), tt);
+}
+  where
+    text : List ℕ
+    text = address host (codes "/")
+
+    own : is_own (normal text) text ≡ true
+    own = ap (λ (o : Option (List ℕ)). is_own o text) is_one.own ∙ (bytes_eq-Decides text text).1 refl
+
+-- ---- a journal that may have the first record
+
+free_of : (reads : Option (List ℕ)) → ((bytes : List ℕ) → reads ≡ Some bytes → IsOther bytes → ⊥) → WasFree reads
+free_of reads fresh = each_some reads fresh
+
+module _ (start after : DiskState) (crashes : DiskCrashes) (k l : KeeperState) (code : List ℕ) (more : ℕ)
+    (fresh : (bytes : List ℕ) → start.reads ≡ Some bytes → IsOther bytes → ⊥)
+    (begun : k ≡ blank_shown start)
+    (told : l.records ≡ records_told plain more after)
+    (counts : l.faults ≡ after.faults)
+    (images : (kept : List (List ℕ)) → l.records ≡ Some kept → (image : List ℕ) → crashes.may_leave image → (rs : List (List ℕ)) × IsImage plain rs image × MayLeave kept l.doubt rs)
+    (stays : IfSome after.reads crashes.may_leave) where
+  none_before : k.records ≡ option_map (λ _. []) start.reads
+  none_before = ap (λ (s : KeeperState). s.records) begun
+
+  faults_before : k.faults ≡ start.faults
+  faults_before = ap (λ (s : KeeperState). s.faults) begun
+
+  calm_before : k.doubt ≡ None
+  calm_before = ap (λ (s : KeeperState). s.doubt) begun
+
+  -- the first record was kept
+  module _ (growth : ℕ → ℕ) (added : HasAdded growth code k l) where
+    grown : option_map (kept_in plain more) after.reads ≡ option_map (λ (rs : List (List ℕ)). rs ++ code ∷ []) (option_map (λ _. []) start.reads)
+    grown = sym told ∙ (added.records ∙ ap (option_map (λ (rs : List (List ℕ)). rs ++ code ∷ [])) none_before)
+
+    one_record : (bytes : List ℕ) → after.reads ≡ Some bytes → l.records ≡ Some (code ∷ [])
+    one_record bytes is = told ∙ (grown ∙ each start.reads after.reads bytes grown is)
+      where
+        each : (before now : Option (List ℕ)) (bytes : List ℕ) → option_map (kept_in plain more) now ≡ option_map (λ (rs : List (List ℕ)). rs ++ code ∷ []) (option_map (λ _. []) before)
+            → now ≡ Some bytes → option_map (λ (rs : List (List ℕ)). rs ++ code ∷ []) (option_map (λ _. []) before) ≡ Some (code ∷ [])
+        each None now bytes same is = absurd (cc (sym same ∙ ap (option_map (kept_in plain more)) is))
+        each (Some here) now bytes same is = refl
+
+    leaves : (bytes : List ℕ) → after.reads ≡ Some bytes → LeavesFiles crashes (code ∷ []) None
+    leaves bytes is image left =
+        let file = images (code ∷ []) (one_record bytes is) image left in
+        (file.0, file.1, subst (λ (d : Option (List ℕ)). MayLeave (code ∷ []) d file.0) added.doubt file.2)
+
+    pub is_made : (history : List Entry) → history ≢ [] → IsSound history → code ∷ [] ≡ records_of history → IsMade history start after crashes
+    is_made history some sound spelled = record {
+      free = free_of start.reads fresh;
+      told = told_alike (λ _. []) (kept_in plain more) (λ (rs : List (List ℕ)). rs ++ code ∷ []) start.reads after.reads grown;
+      stored = each_some after.reads (λ bytes is.
+          let file = leaves bytes is bytes (of_some after.reads crashes.may_leave stays bytes is) in
+          record {
+            some = some;
+            sound = sound;
+            file = subst (λ (rs : List (List ℕ)). IsImage plain rs bytes) (file.2 ∙ spelled) file.1;
+          });
+      leaves = each_some after.reads (λ bytes is. subst (λ (rs : List (List ℕ)). LeavesFiles crashes rs None) spelled (leaves bytes is));
+      faults = sym counts ∙ (added.faults ∙ faults_before);
+    }
+
+  -- it was not, and what may be in doubt is known
+  module _ (same : l.records ≡ k.records) where
+    told_empty : (bytes : List ℕ) → start.reads ≡ Some bytes → (other : List ℕ) × (after.reads ≡ Some other) × HasRecords [] l.doubt other
+    told_empty bytes is =
+        let none : l.records ≡ Some [] = same ∙ (none_before ∙ ap (option_map (λ _. [])) is) in
+        let other = told_bytes (kept_in plain more) after.reads [] (sym told ∙ none) in
+        (other.0, other.1, images [] none other.0 (of_some after.reads crashes.may_leave stays other.0 other.1))
+
+    untold_empty : start.reads ≡ None → after.reads ≡ None
+    untold_empty is = untold_bytes (kept_in plain more) after.reads (sym told ∙ (same ∙ (none_before ∙ ap (option_map (λ _. [])) is)))
+
+  pub no_memory : OnlyRoomChanged k l → IsNotMade code Memory start after
+  no_memory room = (reads start.reads refl, sym counts ∙ (room.faults ∙ faults_before))
+    where
+      reads : (o : Option (List ℕ)) → start.reads ≡ o → MayBeEmpty o after.reads
+      reads None is = untold_empty room.records is
+      reads (Some bytes) is =
+          let found = told_empty room.records bytes is in
+          let left : found.2.0 ≡ [] = subst (λ (d : Option (List ℕ)). MayLeave [] d found.2.0) (room.doubt ∙ calm_before) found.2.2 in
+          (found.0, found.1, inr (fresh bytes is, subst (λ (rs : List (List ℕ)). IsImage plain rs found.0) left found.2.1))
+
+  pub has_failed : HasFailedOnce code k l → IsNotMade code Failed start after
+  has_failed failed = (reads start.reads refl, sym counts ∙ (failed.faults ∙ ap next_count faults_before))
+    where
+      may : (left : List (List ℕ)) → MayDoubt code k.doubt l.doubt → MayLeave [] l.doubt left → MayLeave [] (Some code) left
+      may left (inl as_before) is = inl (subst (λ (d : Option (List ℕ)). MayLeave [] d left) (as_before ∙ calm_before) is)
+      may left (inr (inl calm)) is = inl (subst (λ (d : Option (List ℕ)). MayLeave [] d left) calm is)
+      may left (inr (inr this)) is = subst (λ (d : Option (List ℕ)). MayLeave [] d left) this is
+
+      reads : (o : Option (List ℕ)) → start.reads ≡ o → MayBeBegun code o after.reads
+      reads None is = untold_empty failed.records is
+      reads (Some bytes) is =
+          let found = told_empty failed.records bytes is in
+          (found.0, found.1, inr (fresh bytes is, (found.2.0, found.2.1, may found.2.0 failed.doubt found.2.2)))
+
+-- ---- crashes
+
+-- a journal without records
+blank_file : (bytes : List ℕ) → IsImage plain [] (spliced 0 blank bytes)
+unfolding front
+blank_file bytes = record { short = tt; spelled = closed_intro plain plain_ok [] (spliced 0 blank bytes) (drop 9 bytes) refl }
+
+-- from when it was one on
+pub leaves_one : (start found later : DiskState) (between after : DiskCrashes) (k : KeeperState) (code : List ℕ)
+    → ((image : List ℕ) → between.left_since between.clock image → between.may_leave image)
+    → found.reads ≡ option_map (spliced 0 blank) start.reads → IfSome found.reads (LeavesOnly between) → k ≡ blank_shown start
+    → PassesTimeWith k.records k.doubt code (record_crashes plain found between) (record_crashes plain later after)
+    → IfSome start.reads (λ _. LeftFiles between after [] (Some code))
+leaves_one start found later between after k code only written durable begun passes = each_some start.reads at
+  where
+    at : (bytes : List ℕ) → start.reads ≡ Some bytes → LeftFiles between after [] (Some code)
+    at bytes is image since =
+        let file = images_left plain plain_ok found later between after (λ left. left ≡ []) (MayLeaveWith [] None code) 1 between.clock (omega arith)
+        files adds (λ left none. omega (arith, ap length none)) few image since in
+        (file.0, file.1, either file.0 file.2)
+      where
+        here : found.reads ≡ Some (spliced 0 blank bytes)
+        here = written ∙ ap (option_map (spliced 0 blank)) is
+
+        files : (image : List ℕ) → between.left_since between.clock image → (rs : List (List ℕ)) × IsImage plain rs image × (rs ≡ [])
+        files image past =
+            let same : image ≡ spliced 0 blank bytes = of_some found.reads (LeavesOnly between) durable (spliced 0 blank bytes) here image (only image past) in
+            ([], subst (λ (b : List ℕ). IsImage plain [] b) (sym same) (blank_file bytes), refl)
+
+        adds : Adds between.clock (record_crashes plain found between).left_since (record_crashes plain later after).left_since (MayLeaveWith [] None code)
+        adds = subst (λ (d : Option (List ℕ)). Adds between.clock (record_crashes plain found between).left_since (record_crashes plain later after).left_since (MayLeaveWith [] d code))
+            (ap (λ (s : KeeperState). s.doubt) begun)
+            (of_told (is_some found.reads) k.records [] (λ kept. Adds between.clock (record_crashes plain found between).left_since (record_crashes plain later after).left_since (MayLeaveWith kept k.doubt code))
+            (ap is_some here) (ap (λ (s : KeeperState). s.records) begun ∙ ap (option_map (λ _. [])) is) passes.crash)
+
+        few : (left : List (List ℕ)) → MayLeaveWith [] None code left → length left ≤ 1
+        few left (inl none) = omega (arith, ap length none)
+        few left (inr one) = omega (arith, ap length one)
+
+        either : (left : List (List ℕ)) → (left ≡ []) ⊎ MayLeaveWith [] None code left → MayLeave [] (Some code) left
+        either left (inl none) = inl none
+        either left (inr (inl none)) = inl none
+        either left (inr (inr one)) = inr one
+
+-- where no record was kept
+pub unkept_time : (fault : KeepFault) (records : Option (List (List ℕ))) (doubt : Option (List ℕ)) (code : List ℕ) (before after : Crashes)
+    → PassesTimeUnkept fault records doubt code before after → PassesTimeWith records doubt code before after
+unkept_time keeps.Full records doubt code before after passes = quiet_call records doubt code before after passes
+unkept_time keeps.Failed records doubt code before after passes = passes
+unkept_time keeps.Memory records doubt code before after passes = quiet_call records doubt code before after passes
+
+-- a journal was made, and then its first record was to be kept
+pub at_most : {D : Type 0} (shown : D → DiskState) (crashes : D → DiskCrashes) (before begun later result : D) (k : KeeperState) (code other : List ℕ)
+    → result ≡ later → code ≡ other → ((image : List ℕ) → (crashes begun).left_since (crashes begun).clock image → (crashes begun).may_leave image)
+    → (shown begun).reads ≡ option_map (spliced 0 blank) (shown before).reads → IfSome (shown begun).reads (LeavesOnly (crashes begun)) → k ≡ blank_shown (shown before)
+    → Elapses (crashes before) (crashes begun) (MayTear 0 blank (crashes before))
+    → PassesTimeWith k.records k.doubt code (record_crashes plain (shown begun) (crashes begun)) (record_crashes plain (shown later) (crashes later))
+    → LeavesAtMost shown crashes other before result
+at_most shown crashes before begun later result k code other same spelled only written durable blanks elapses passes =
+    subst (λ d. LeavesAtMost shown crashes other before d) (sym same) (subst (λ (text : List ℕ). LeavesAtMost shown crashes text before later) spelled
+    (inr (
+      begun,
+      elapses,
+      passes.clock,
+      leaves_one (shown before) (shown begun) (shown later) (crashes begun) (crashes later) k code only written durable blanks passes,
+    )))

@@ -1,0 +1,64 @@
+-- What an opening may answer excludes all else.
+use Rattle.std.proofs.Common.{◌≡◌, inl, inr, ℕ, List, [], ◌∷◌, length, Some, refl, sym, ap, subst, arith}
+use Rattle.std.proofs.lemmas.List.{length-map, take_all}
+use Rattle.fedi_entry.specs.Codes.{code_of}
+use Rattle.fedi_images.proofs.ImageLemmas.{one_image, plain_ok}
+use Rattle.fedi_images.proofs.Openings.{damaged_is_store, image_is_store, not_damaged}
+use Rattle.fedi_images.specs.Images.{plain}
+use Rattle.fedi_images.specs.Opening.{IsDamagedAt}
+use Rattle.fedi_objects.specs.declared.entry.Entry.{Entry}
+use Rattle.fedi_opening.proofs.Answers.{damaged_once, read_once, read_or_damaged}
+use Rattle.fedi_opening.specs.Opening.{IsDamaged, IsRead}
+use Rattle.fedi_startup.specs.Stores.{HasBadRecord, HasNoRecord, IsStoreOf, records_of}
+
+-- a store's history is read from its records
+is_read : (history : List Entry) (bytes : List ℕ) → IsStoreOf history bytes → IsRead (Some (records_of history)) (length (records_of history)) history
+is_read history bytes store = record {
+  legal = store.sound.legal;
+  built = store.sound.built;
+  formed = store.sound.formed;
+  counted = sym (length-map history code_of);
+  spelled = sym (take_all (length (records_of history)) (records_of history) (omega arith));
+}
+
+pub one_history : (a b : List Entry) (bytes : List ℕ) → IsStoreOf a bytes → IsStoreOf b bytes → a ≡ b
+one_history a b bytes one two =
+    let same = one_image plain plain_ok (records_of b) (records_of a) bytes two.file one.file in
+    read_once (records_of a) a b (is_read a bytes one)
+    (subst (λ (rs : List (List ℕ)). IsRead (Some rs) (length rs) b) same (is_read b bytes two))
+
+pub one_record : (here there : ℕ) (bytes : List ℕ) → HasBadRecord here bytes → HasBadRecord there bytes → here ≡ there
+one_record here there bytes one two =
+    let same = one_image plain plain_ok two.0 one.0 bytes two.1 one.1 in
+    damaged_once one.0 here there one.2.0 two.2.0 one.2.1 (subst (λ (rs : List (List ℕ)). IsDamaged (Some rs) (length rs) there two.2.0) same two.2.1)
+
+pub store_none : (history : List Entry) (bytes : List ℕ) → IsStoreOf history bytes → HasNoRecord bytes → ⊥
+store_none history bytes store (inl none) = image_is_store plain plain_ok (records_of history) bytes store.file none
+store_none history bytes store (inr none) = store.some (empty history (one_image plain plain_ok (records_of history) [] bytes store.file none))
+  where
+    empty : (history : List Entry) → records_of history ≡ [] → history ≡ []
+    empty [] is = refl
+    empty (e ∷ history) is = absurd (cc is)
+
+pub store_byte : (history : List Entry) (place : ℕ) (bytes : List ℕ) → IsStoreOf history bytes → IsDamagedAt plain place bytes → ⊥
+store_byte history place bytes store damaged = not_damaged plain plain_ok (records_of history) place bytes store.file damaged
+
+pub store_record : (history : List Entry) (place : ℕ) (bytes : List ℕ) → IsStoreOf history bytes → HasBadRecord place bytes → ⊥
+store_record history place bytes store bad =
+    let same = one_image plain plain_ok bad.0 (records_of history) bytes bad.1 store.file in
+    read_or_damaged (records_of history) place history bad.2.0 (is_read history bytes store)
+    (subst (λ (rs : List (List ℕ)). IsDamaged (Some rs) (length rs) place bad.2.0) same bad.2.1)
+
+pub none_byte : (place : ℕ) (bytes : List ℕ) → HasNoRecord bytes → IsDamagedAt plain place bytes → ⊥
+none_byte place bytes (inl none) damaged = damaged_is_store plain plain_ok place bytes damaged none
+none_byte place bytes (inr none) damaged = not_damaged plain plain_ok [] place bytes none damaged
+
+pub none_record : (place : ℕ) (bytes : List ℕ) → HasNoRecord bytes → HasBadRecord place bytes → ⊥
+none_record place bytes (inl none) bad = image_is_store plain plain_ok bad.0 bytes bad.1 none
+none_record place bytes (inr none) bad =
+    let few : length bad.0 ≡ 0 = ap length (one_image plain plain_ok bad.0 [] bytes bad.1 none) in
+    let there = bad.2.1.there in
+    omega (arith, there, few)
+
+pub byte_record : (here there : ℕ) (bytes : List ℕ) → IsDamagedAt plain here bytes → HasBadRecord there bytes → ⊥
+byte_record here there bytes damaged bad = not_damaged plain plain_ok bad.0 here bytes bad.1 damaged

@@ -1,0 +1,196 @@
+-- From files of records to stores.
+use Rattle.std.proofs.Common.{◌≡◌, ◌≢◌, ◌⊎◌, ℕ, suc, true, List, [], ◌∷◌, ◌++◌, length, map, All, Option, None, Some, inl, inr, refl, sym, ap, subst, ◌∙◌, append_assoc, append-nil}
+use Rattle.std.specs.Cmp.Derive.{both_true}
+use Rattle.std.specs.Prelude.{IfSome, option_to_list, drop}
+use Rattle.std.specs.List.{AllByRecursion, list_all}
+use Rattle.std.proofs.lemmas.Bool.{and_parts}
+use Rattle.std.proofs.lemmas.List.{map-append}
+use Rattle.std.proofs.Math.Seq.{drop-append_seam}
+use Rattle.std.proofs.lemmas.List.Elements.{All-contains, All-nil}
+use Rattle.fedi_core.specs.Machines.{IsNextCode}
+use Rattle.fedi_entry.specs.Codes.{code_of}
+use Rattle.fedi_entry.specs.Fields.{IsFormed}
+use Rattle.fedi_images.specs.Images.{IsImage, plain}
+use Rattle.fedi_log.proofs.Growing.{given_history, history_append}
+use Rattle.fedi_log.specs.Keeping.{GoesAlone, HoldsSince, State, since}
+use Rattle.fedi_log.specs.Leaving.{IsLeft}
+use Rattle.fedi_log.specs.Log.{Log, doubts_of, entry_in, given, history_of}
+use Rattle.fedi_objects.specs.declared.entry.Entry.{Entry}
+use Rattle.fedi_opening.proofs.Records.{read_more}
+use Rattle.fedi_opening.specs.Opening.{IsNext, IsRead}
+use Rattle.fedi_images.proofs.Steps.{of_some}
+use Rattle.fedi_outside.specs.Disks.{DiskCrashes, DiskState}
+use Rattle.fedi_outside.specs.Keepers.{MayLeave}
+use Rattle.fedi_town.specs.Built.{is_built}
+use Rattle.fedi_town.specs.Histories.{step, town}
+use Rattle.fedi_town.specs.Legal.{is_admissible, is_legal_from}
+use Rattle.fedi_town.specs.Towns.{Town, empty_town}
+use Rattle.fedi_startup.specs.Marks.{MarksMayCome}
+use Rattle.fedi_startup.specs.Stores.{IsAround, IsClosed, IsSound, IsStoreOf, LeavesFiles, LeavesStores, records_of}
+use Rattle.fedi_startup.specs.Surviving.{IsFirstPart, LeavesStoresAlong, SurvivesOnDisk, opened_base}
+use Rattle.fedi_startup.proofs.Marks.{doubts_come}
+use Rattle.fedi_startup.proofs.Told.{each_some}
+
+-- ---- sound histories
+
+-- one entry more, which may come next
+pub sound_more : (history : List Entry) (e : Entry) → IsSound history → IsNext (town history) e → IsSound (history ++ e ∷ [])
+sound_more history e sound next =
+    let read : IsRead None (length history) history = record { legal = sound.legal; built = sound.built; formed = sound.formed; counted = refl; spelled = tt } in
+    let more = read_more None (length history) history e read next tt in
+    record { legal = more.legal; built = more.built; formed = more.formed }
+
+legal_front : (t : Town) (a b : List Entry) → is_legal_from t (a ++ b) ≡ true → is_legal_from t a ≡ true
+legal_front t [] b legal = refl
+legal_front t (e ∷ a) b legal =
+    let parts = and_parts (is_admissible t e) (is_legal_from (step t e) (a ++ b)) legal in
+    both_true parts.0 (legal_front (step t e) a b parts.1)
+
+built_front : (a b : List Entry) → list_all is_built (a ++ b) ≡ true → list_all is_built a ≡ true
+built_front [] b built = refl
+built_front (e ∷ a) b built =
+    let parts = and_parts (is_built e) (list_all is_built (a ++ b)) built in
+    both_true parts.0 (built_front a b parts.1)
+
+formed_front : (a b : List Entry) → AllByRecursion IsFormed (a ++ b) → AllByRecursion IsFormed a
+formed_front [] b formed = tt
+formed_front (e ∷ a) b formed = (formed.0, formed_front a b formed.1)
+
+-- the first entries of a sound history
+sound_front : (a b : List Entry) → IsSound (a ++ b) → IsSound a
+sound_front a b sound = record {
+  legal = record { admissible = legal_front empty_town a b sound.legal.admissible };
+  built = built_front a b sound.built;
+  formed = formed_front a b sound.formed;
+}
+
+front_some : (a b : List Entry) → a ≢ [] → (a ++ b) ≢ []
+front_some [] b some = absurd (some refl)
+front_some (e ∷ a) b some = λ is. absurd (cc is)
+
+-- ---- stores
+
+-- a file of the records of a sound history
+stored : (history : List Entry) (image : List ℕ) (rs : List (List ℕ)) → history ≢ [] → IsSound history → IsImage plain rs image → rs ≡ records_of history
+    → IsStoreOf history image
+stored history image rs some sound file is =
+    record { some = some; sound = sound; file = subst (λ (l : List (List ℕ)). IsImage plain l image) is file }
+
+-- the records with one code more, which is that of an entry that may come next
+stored_more : (history : List Entry) (image code : List ℕ) (rs : List (List ℕ)) → history ≢ [] → IsSound history → IsImage plain rs image
+    → rs ≡ records_of history ++ code ∷ [] → (next : IsNextCode history code) → IsStoreOf (history ++ next.0 ∷ []) image
+stored_more history image code rs some sound file is next =
+    stored (history ++ next.0 ∷ []) image rs (front_some history (next.0 ∷ []) some) (sound_more history next.0 sound next.1) file
+    (is ∙ (ap (λ (c : List ℕ). records_of history ++ c ∷ []) next.2 ∙ sym (map-append code_of history (next.0 ∷ []))))
+
+-- what a crash before the run may leave
+around : (crashes : DiskCrashes) (history : List Entry) (doubt : Option (List ℕ)) (image : List ℕ) (rs : List (List ℕ)) → LeavesStores crashes history doubt
+    → IsImage plain rs image → MayLeave (records_of history) doubt rs → (left : List Entry) × IsStoreOf left image × IsAround history doubt left
+around crashes history None image rs leaves file is = (history, stored history image rs leaves.some leaves.sound file is, inl refl)
+around crashes history (Some d) image rs leaves file (inl is) = (history, stored history image rs leaves.some leaves.sound file is, inl refl)
+around crashes history (Some d) image rs leaves file (inr is) =
+    let next = leaves.doubted in (
+      history ++ next.0 ∷ [],
+      stored_more history image d rs leaves.some leaves.sound file is next,
+      inr (next.0, ap (λ (c : List ℕ). Some c) next.2, refl),
+    )
+
+-- each image that a crash now may leave is a store
+pub leaves_one : (crashes : DiskCrashes) (history : List Entry) (doubt : Option (List ℕ)) (image : List ℕ) → LeavesStores crashes history doubt → crashes.may_leave image
+    → (left : List Entry) × IsStoreOf left image × IsAround history doubt left
+leaves_one crashes history doubt image leaves may =
+    let file = leaves.files image may in around crashes history doubt image file.0 leaves file.1 file.2
+
+-- what a crash during the run may leave of what it opened
+first_part : (opened now : State) (log : Log) (image : List ℕ) (rs : List (List ℕ)) → opened.history ≢ [] → opened.keeper.doubt ≡ None → IsSound now.history
+    → now.history ≡ opened.history ++ history_of (since (opened_base opened) log) → MarksMayCome opened.history (since (opened_base opened) log)
+    → IsImage plain rs image → IsLeft (opened_base opened) log (records_of opened.history) rs
+    → (left : List Entry) × IsStoreOf left image × IsFirstPart opened.history now.history left
+first_part opened now log image rs some settled sound grown marks file left =
+    let first : List Entry = history_of left.past in
+    let rest : List Entry = history_of left.rest in
+    let whole : now.history ≡ opened.history ++ (first ++ rest) =
+    grown ∙ ap (λ (es : List Entry). opened.history ++ es) (ap history_of left.is ∙ history_append left.past left.rest) in
+    let front : IsSound (opened.history ++ first) =
+    sound_front (opened.history ++ first) rest (subst IsSound (whole ∙ sym (append_assoc opened.history first rest)) sound) in
+    let filled : (opened.history ++ first) ≢ [] = front_some opened.history first some in
+    let spelled : records_of opened.history ++ map code_of first ≡ records_of (opened.history ++ first) = sym (map-append code_of opened.history first) in
+    elim left.leaves as (λ _. (l : List Entry) × IsStoreOf l image × IsFirstPart opened.history now.history l) [
+      | inl is ↦ (opened.history ++ first, stored (opened.history ++ first) image rs filled front file (is ∙ spelled), (first, rest, whole, inl refl))
+      | inr other ↦
+          let doubts : All (IsNextCode (opened.history ++ first)) (doubts_of (option_to_list opened.keeper.doubt) left.past) =
+          subst (λ (d : Option (List ℕ)). All (IsNextCode (opened.history ++ first)) (doubts_of (option_to_list d) left.past)) (sym settled)
+          (doubts_come opened.history [] left.past (marks_front opened.history left.past left.rest (subst (λ (l : Log). MarksMayCome opened.history l) left.is marks))
+          (All-nil (IsNextCode opened.history))) in
+          let next : IsNextCode (opened.history ++ first) other.0 = All-contains (IsNextCode (opened.history ++ first)) _ other.0 doubts other.1 in (
+            (opened.history ++ first) ++ next.0 ∷ [],
+            stored_more (opened.history ++ first) image other.0 rs filled front file (other.2 ∙ ap (λ (l : List (List ℕ)). l ++ other.0 ∷ []) spelled) next,
+            (first, rest, whole, inr (next.0, refl)),
+          )
+    ]
+  where
+    marks_front : (history : List Entry) (a b : Log) → MarksMayCome history (a ++ b) → MarksMayCome history a
+    marks_front history [] b marks = tt
+    marks_front history (i ∷ a) b marks = (marks.0, marks_front _ a b marks.1)
+
+-- ---- the log since the opening
+
+marks_back : (history : List Entry) (a b : Log) → MarksMayCome history (a ++ b) → MarksMayCome (history ++ history_of a) b
+marks_back history [] b marks = subst (λ (h : List Entry). MarksMayCome h b) (sym (append-nil history)) marks
+marks_back history (i ∷ a) b marks =
+    subst (λ (h : List Entry). MarksMayCome h b) (append_assoc history (entry_in i.what) (history_of a)) (marks_back (history ++ entry_in i.what) a b marks.1)
+
+given_length : (history : List Entry) → length (given history) ≡ length history
+given_length [] = refl
+given_length (e ∷ history) = ap suc (given_length history)
+
+-- the items behind those that were given
+since_given : (opened : State) (log past : Log) → log ≡ given opened.history ++ past → since (opened_base opened) log ≡ past
+since_given opened log past is =
+    ap (λ (n : ℕ). drop n log) (sym (given_length opened.history))
+    ∙ (ap (λ (l : Log). drop (length (given opened.history)) l) is ∙ drop-append_seam (given opened.history) past)
+
+-- the history is the one that was opened, with what came to it
+pub now_grown : (opened now : State) (log : Log) → HoldsSince (opened_base opened) None (given opened.history) now log
+    → now.history ≡ opened.history ++ history_of (since (opened_base opened) log)
+now_grown opened now log holds =
+    holds.holds.history ∙ (ap history_of holds.grown.is ∙ (history_append (given opened.history) holds.grown.past
+    ∙ (ap (λ (es : List Entry). es ++ history_of holds.grown.past) (given_history opened.history)
+    ∙ ap (λ (l : Log). opened.history ++ history_of l) (sym (since_given opened log holds.grown.past holds.grown.is)))))
+
+-- What a closed machine leaves of a disk that tells its bytes are stores.
+pub leaves_stores : (disk : DiskState) (crashes : DiskCrashes) (opened now : State) (log : Log) → opened.history ≢ []
+    → HoldsSince (opened_base opened) None (given opened.history) now log → IsClosed disk crashes now
+    → IfSome disk.reads (λ _. LeavesStores crashes now.history now.keeper.doubt)
+leaves_stores disk crashes opened now log some holds closed =
+    each_some disk.reads (λ bytes is. record {
+      some = subst (λ (h : List Entry). h ≢ []) (sym (now_grown opened now log holds)) (front_some opened.history _ some);
+      sound = closed.sound;
+      doubted = closed.doubted;
+      files = of_some disk.reads (λ _. LeavesFiles crashes (records_of now.history) now.keeper.doubt) closed.leaves bytes is;
+    })
+
+-- Files of lists of records are stores: of what was there before the run, or of the first part of what the run made.
+pub stores_along : (before after : DiskCrashes) (opened now : State) → opened.history ≢ [] → opened.keeper.doubt ≡ None → IsSound now.history
+    → SurvivesOnDisk before after opened now → LeavesStoresAlong before after opened.history now.history
+stores_along before after opened now some settled sound survives history doubt leaves image moment =
+    let file = survives.3 (records_of history) doubt leaves.files image moment in
+    elim file.2 as (λ _. (left : List Entry) × IsStoreOf left image × (IsAround history doubt left ⊎ IsFirstPart opened.history now.history left)) [
+      | inl old ↦ let store = around before history doubt image file.0 leaves file.1 old in (store.0, store.1, inl store.2)
+      | inr new ↦ let store = first_part opened now survives.0 image file.0 some settled sound grown marks file.1 new in (store.0, store.1, inr store.2)
+    ]
+  where
+    goes : GoesAlone None (given opened.history) survives.0
+    goes = survives.1.grown
+
+    past_is : since (opened_base opened) survives.0 ≡ goes.past
+    past_is = since_given opened survives.0 goes.past goes.is
+
+    grown : now.history ≡ opened.history ++ history_of (since (opened_base opened) survives.0)
+    grown = now_grown opened now survives.0 survives.1
+
+    marks : MarksMayCome opened.history (since (opened_base opened) survives.0)
+    marks =
+        subst (λ (l : Log). MarksMayCome opened.history l) (sym past_is)
+        (subst (λ (h : List Entry). MarksMayCome h goes.past) (given_history opened.history)
+        (marks_back [] (given opened.history) goes.past (subst (λ (l : Log). MarksMayCome [] l) goes.is survives.2)))

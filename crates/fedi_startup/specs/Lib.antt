@@ -1,0 +1,5 @@
+pub mod Faults
+pub mod Making
+pub mod Marks
+pub mod Stores
+pub mod Surviving

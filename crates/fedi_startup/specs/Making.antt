@@ -1,0 +1,50 @@
+-- What becomes of a disk that is made a store.
+use Rattle.std.specs.Prelude.{◌≡◌, ◌⊎◌, ◌≤◌, ℕ, List, [], IfSome, Option, Some, None, is_some}
+use Rattle.fedi_images.specs.Images.{IsImage, plain}
+use Rattle.fedi_journal.specs.Making.{IsOther, blank}
+use Rattle.fedi_objects.specs.declared.entry.Entry.{Entry}
+use Rattle.fedi_outside.specs.Causes.{next_count}
+use Rattle.fedi_outside.specs.Disks.{DiskCrashes, DiskState, Elapses, IsTorn, MayTear}
+use Rattle.fedi_startup.specs.Stores.{HasRecords, IsStoreOf, LeavesFiles, LeftFiles, records_of}
+use Rattle.fedi_startup.specs.declared.faults.MakeFault.{MakeFault}
+use Rattle.fedi_startup.specs.declared.faults.MakeFault.TheVariants.{Exists, Failed, Memory}
+
+-- it did not have more bytes that begin with others than those of a journal without records
+abbrev pub WasFree : Option (List ℕ) → Type 0
+WasFree reads = IfSome reads (λ bytes. IsOther bytes → ⊥)
+
+-- the disk was made the store of this history, and a crash now leaves its records
+pub record IsMade (history : List Entry) (before after : DiskState) (crashes : DiskCrashes) : Type 0 where
+  pub free : WasFree before.reads
+  pub told : is_some after.reads ≡ is_some before.reads
+  pub stored : IfSome after.reads (IsStoreOf history)
+  pub leaves : IfSome after.reads (λ _. LeavesFiles crashes (records_of history) None)
+  pub faults : after.faults ≡ before.faults
+
+-- reads give the same bytes, or the disk was free, and they give those of a file without records
+abbrev pub MayBeEmpty : Option (List ℕ) → Option (List ℕ) → Type 0
+MayBeEmpty None after = after ≡ None
+MayBeEmpty (Some bytes) after =
+    (other : List ℕ) × (after ≡ Some other) × ((other ≡ bytes) ⊎ ((IsOther bytes → ⊥) × IsImage plain [] other))
+
+-- The first nine bytes may be torn; or the disk was free, and reads give those of a file without records, or with this one.
+abbrev pub MayBeBegun : List ℕ → Option (List ℕ) → Option (List ℕ) → Type 0
+MayBeBegun code None after = after ≡ None
+MayBeBegun code (Some bytes) after =
+    (other : List ℕ) × (after ≡ Some other) × (IsTorn 0 blank bytes other ⊎ ((IsOther bytes → ⊥) × HasRecords [] (Some code) other))
+
+-- why the disk was not made a store whose first record is this one, and what became of it
+abbrev pub IsNotMade : List ℕ → MakeFault → DiskState → DiskState → Type 0
+IsNotMade code Exists before after = IfSome before.reads IsOther × (after.reads ≡ before.reads) × (after.faults ≡ before.faults)
+IsNotMade code Failed before after = MayBeBegun code before.reads after.reads × (after.faults ≡ next_count before.faults)
+IsNotMade code Memory before after = MayBeEmpty before.reads after.reads × (after.faults ≡ before.faults)
+
+-- What a crash may leave while a disk is made a store whose first record is this one: an image that one before might have left,
+-- of which the first nine bytes may be torn; and from some moment on, if it came to that and the disk tells its bytes, a file of
+-- no record, or of this one.
+abbrev pub LeavesAtMost : {D : Type 0} → (D → DiskState) → (D → DiskCrashes) → List ℕ → D → D → Type 0
+LeavesAtMost {D} shown crashes code before after =
+    Elapses (crashes before) (crashes after) (MayTear 0 blank (crashes before))
+    ⊎ ((begun : D) × Elapses (crashes before) (crashes begun) (MayTear 0 blank (crashes before))
+    × ((crashes begun).clock ≤ (crashes after).clock)
+    × IfSome (shown before).reads (λ _. LeftFiles (crashes begun) (crashes after) [] (Some code)))

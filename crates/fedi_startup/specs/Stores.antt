@@ -1,0 +1,143 @@
+-- Stores: disks with the file of the records of a history, and what becomes of a disk that is opened or closed as one.
+use Rattle.std.specs.Prelude.{◌≡◌, ◌∷◌, ◌++◌, ◌≢◌, ◌⊎◌, ℕ, List, [], length, map, IfSome, IsTrue, Option, Some, None, option_map, Result, Ok, Err}
+use Rattle.std.specs.List.{AllByRecursion}
+use Rattle.fedi_core.specs.Machines.{IsNextCode, Machine}
+use Rattle.fedi_entry.specs.Codes.{code_of}
+use Rattle.fedi_entry.specs.Fields.{IsFormed}
+use Rattle.fedi_images.specs.Images.{IsImage, front, plain}
+use Rattle.fedi_images.specs.Opening.{IsDamagedAt, IsNoStore}
+use Rattle.fedi_journal.specs.Opening.{disk_of}
+use Rattle.fedi_journal.specs.declared.journal.Journal.{Journal}
+use Rattle.fedi_log.specs.Keeping.{State}
+use Rattle.fedi_objects.specs.declared.entry.Entry.{Entry}
+use Rattle.fedi_opening.specs.Opening.{IsDamaged}
+use Rattle.fedi_outside.specs.Causes.{next_count}
+use Rattle.fedi_outside.specs.Disks.{DiskCrashes, DiskState}
+use Rattle.fedi_outside.specs.Keepers.{MayLeave}
+use Rattle.fedi_outside.specs.declared.disks.Disk.{Ghosts}
+use Rattle.fedi_startup.specs.declared.faults.StoreFault.{StoreFault}
+use Rattle.fedi_startup.specs.declared.faults.StoreFault.TheVariants.{NotAStore, DamagedByte, DamagedRecord, Failed, Memory}
+use Rattle.fedi_town.specs.Built.{are_built}
+use Rattle.fedi_town.specs.Legal.{IsLegal}
+
+-- ---- files
+
+-- the records of a history
+abbrev pub records_of : List Entry → List (List ℕ)
+records_of history = map code_of history
+
+-- where the records of a history end
+abbrev pub end_of : List Entry → ℕ
+end_of history = length (front plain (records_of history))
+
+-- a machine may go on from this history: it is legal, this server takes its entries so far, and their fields have their forms
+pub record IsSound (history : List Entry) : Type 0 where
+  pub legal : IsLegal history
+  pub built : IsTrue (are_built history)
+  pub formed : AllByRecursion IsFormed history
+
+-- the bytes are a file of the records of this history, which is not empty
+pub record IsStoreOf (history : List Entry) (bytes : List ℕ) : Type 0 where
+  pub some : history ≢ []
+  pub sound : IsSound history
+  pub file : IsImage plain (records_of history) bytes
+
+-- the bytes are a file of records, of which the one at this place is the first that is the code of no entry that may stand there
+abbrev pub HasBadRecord : ℕ → List ℕ → Type 0
+HasBadRecord place bytes =
+    (rs : List (List ℕ)) × IsImage plain rs bytes × ((history : List Entry) × IsDamaged (Some rs) (length rs) place history)
+
+-- the bytes are no file of records, or a file of none
+abbrev pub HasNoRecord : List ℕ → Type 0
+HasNoRecord bytes = IsNoStore plain bytes ⊎ IsImage plain [] bytes
+
+-- ---- what a crash leaves
+
+-- the bytes are a file of these records, or of these with the one in doubt
+abbrev pub HasRecords : List (List ℕ) → Option (List ℕ) → List ℕ → Type 0
+HasRecords records doubt bytes = (left : List (List ℕ)) × IsImage plain left bytes × MayLeave records doubt left
+
+-- each image that a crash now may leave is such a file
+abbrev pub LeavesFiles : DiskCrashes → List (List ℕ) → Option (List ℕ) → Type 0
+LeavesFiles crashes records doubt = (image : List ℕ) → crashes.may_leave image → HasRecords records doubt image
+
+-- each image that a crash at some moment from the first one on may have left is such a file
+abbrev pub LeftFiles : DiskCrashes → DiskCrashes → List (List ℕ) → Option (List ℕ) → Type 0
+LeftFiles before after records doubt = (image : List ℕ) → after.left_since before.clock image → HasRecords records doubt image
+
+-- if a crash before leaves files of certain records, or of these with one in doubt, then so did each crash since
+abbrev pub LeavesNothingNew : DiskCrashes → DiskCrashes → Type 0
+LeavesNothingNew before after =
+    (records : List (List ℕ)) (doubt : Option (List ℕ)) → LeavesFiles before records doubt → LeftFiles before after records doubt
+
+-- ---- which stores these files are
+
+-- this history, or it with the entry in doubt
+abbrev pub IsAround : List Entry → Option (List ℕ) → List Entry → Type 0
+IsAround history doubt left = (left ≡ history) ⊎ ((e : Entry) × (doubt ≡ Some (code_of e)) × (left ≡ history ++ e ∷ []))
+
+-- each image that a crash now may leave is a store of this history, or of it with the entry in doubt, which may come next
+pub record LeavesStores (crashes : DiskCrashes) (history : List Entry) (doubt : Option (List ℕ)) : Type 0 where
+  pub some : history ≢ []
+  pub sound : IsSound history
+  pub doubted : IfSome doubt (IsNextCode history)
+  pub files : LeavesFiles crashes (records_of history) doubt
+
+-- ---- opening
+
+-- The machine was opened over this disk: it has the history of the disk's file, and nothing is in doubt.
+pub record IsOpened (disk : DiskState) (s : State) : Type 0 where
+  pub some : s.history ≢ []
+  pub sound : IsSound s.history
+  pub stored : IfSome disk.reads (IsStoreOf s.history)
+  pub records : s.keeper.records ≡ option_map (λ _. records_of s.history) disk.reads
+  pub held : s.keeper.held ≡ length s.history
+  pub doubt : s.keeper.doubt ≡ None
+  pub end : IfSome disk.reads (λ _. s.keeper.end ≡ end_of s.history)
+  pub faults : s.keeper.faults ≡ disk.faults
+
+-- why no machine was opened over this disk
+abbrev pub IsNotOpened : StoreFault → DiskState → Type 0
+IsNotOpened NotAStore disk = IfSome disk.reads HasNoRecord
+IsNotOpened (DamagedByte place) disk = IfSome disk.reads (IsDamagedAt plain place)
+IsNotOpened (DamagedRecord place) disk = IfSome disk.reads (HasBadRecord place)
+IsNotOpened Failed disk = Unit {0}
+IsNotOpened Memory disk = Unit {0}
+
+-- how many faults were counted after this one
+abbrev pub count_after : StoreFault → ℕ → ℕ
+count_after NotAStore n = n
+count_after (DamagedByte place) n = n
+count_after (DamagedRecord place) n = n
+count_after Failed n = next_count n
+count_after Memory n = n
+
+-- reads give the same bytes, or those of a file of the same records
+abbrev pub HasSameRecords : Option (List ℕ) → Option (List ℕ) → Type 0
+HasSameRecords None after = after ≡ None
+HasSameRecords (Some bytes) after =
+    (other : List ℕ) × (after ≡ Some other) × ((other ≡ bytes) ⊎ ((rs : List (List ℕ)) × IsImage plain rs bytes × IsImage plain rs other))
+
+-- no machine was opened: the records are as before, and a fault of the disk is counted
+pub record ComesBack (fault : StoreFault) (before after : DiskState) : Type 0 where
+  pub why : IsNotOpened fault before
+  pub reads : HasSameRecords before.reads after.reads
+  pub faults : after.faults ≡ count_after fault before.faults
+
+-- the disk of the machine, or the one that came back
+abbrev pub disk_left : {D E : Type 0} {ghosts : Ghosts D} → Result (Machine (Journal D ghosts)) (E × D) → D
+disk_left (Ok core) = disk_of core.keeper
+disk_left (Err back) = back.1
+
+-- ---- closing
+
+-- The disk keeps what this machine has: its file has the records of the machine's history, and behind them at most the one in
+-- doubt, which may come next, and so has each image that a crash now may leave.
+pub record IsClosed (disk : DiskState) (crashes : DiskCrashes) (s : State) : Type 0 where
+  pub sound : IsSound s.history
+  pub doubted : IfSome s.keeper.doubt (IsNextCode s.history)
+  pub records : s.keeper.records ≡ option_map (λ _. records_of s.history) disk.reads
+  pub held : s.keeper.held ≡ length s.history
+  pub file : IfSome disk.reads (HasRecords (records_of s.history) s.keeper.doubt)
+  pub leaves : IfSome disk.reads (λ _. LeavesFiles crashes (records_of s.history) s.keeper.doubt)
+  pub faults : s.keeper.faults ≡ disk.faults

@@ -1,0 +1,14 @@
+//! Making, opening and closing stores: disks with the file of the records of a history.
+#![tactic(auto)]
+
+mod closing;
+mod faults;
+mod laws;
+mod making;
+mod opening;
+
+pub use closing::close_store;
+pub use faults::{MakeFault, StoreFault};
+pub use laws::stores_have_one_answer;
+pub use making::make_store;
+pub use opening::{StoreCore, open_store};

@@ -1,0 +1,67 @@
+//! Opening a store.
+ghost use Rattle.std.specs.Prelude.{◌≡◌, ◌≢◌, ◌≤◌, List, IfErr, IfOk, IfSome, None, OnOk};
+ghost use Rattle.fedi_core.specs.Opening.{keeper_after, outcome_of};
+ghost use Rattle.fedi_journal.specs.Opening.{disk_of};
+ghost use Rattle.fedi_log.specs.Keeping.{state_of};
+ghost use Rattle.fedi_objects.specs.declared.entry.Entry.{Entry};
+ghost use Rattle.fedi_opening.specs.Opening.{IsRead, IsStopped, after_open};
+ghost use Rattle.fedi_outside.specs.Keepers.{PassesTime};
+ghost use Rattle.fedi_startup.specs.Stores.{ComesBack, IsOpened, LeavesFiles, LeavesNothingNew, disk_left, records_of};
+
+use crate::faults::StoreFault;
+use fedi_core::Core;
+use fedi_journal::Journal;
+use fedi_opening::OpenFault;
+use fedi_outside::{Disk, Keeper};
+use fedi_store::PlainShelf;
+use std::alloc::{AllocError, Global};
+
+/// The machine over the store of a disk.
+pub type StoreCore<D> = Core<PlainShelf, Journal<D>>;
+
+// Opens the machine over the records of a keeper.
+fn open_core<P: Keeper>(alloc: Global, keeper: P) -> Result<Core<PlainShelf, P>, (OpenFault, P)>
+    requires settled { (P.shown keeper).doubt ≡ None }
+    ensures opened { IfOk result (λ core.
+        IsRead (P.shown keeper).records (P.shown keeper).held core.history) }
+    ensures some { OnOk result ((P.shown keeper).held ≢ 0) }
+    ensures stopped { IfErr result (λ back.
+        (history : List Entry) × IsStopped back.0 (P.shown keeper) history) }
+    ensures shown { P.shown (keeper_after result)
+        ≡ after_open (outcome_of result) (P.shown keeper) }
+    ensures time { PassesTime (P.shown keeper).records (P.shown keeper).doubt
+        (P.crashes keeper) (P.crashes (keeper_after result)) }
+{
+    match PlainShelf::empty(alloc) {
+        Ok(shelf) => Core::open(alloc, shelf, keeper),
+        Err(AllocError) => Err((OpenFault::Memory, keeper)),
+    }
+}
+
+/// Opens the machine over the store of a disk: finds the records of its file, and the history that they
+/// are the codes of. The disk is synced first, so that a crash leaves what is found.
+///
+/// Each error hands the disk back, with the records as before. It is `NotAStore`, if the disk has fewer
+/// than 9 bytes, or does not begin with the magic, or has no record; `DamagedByte`, with the place of the
+/// first gate that is not as it should be; `DamagedRecord`, with the place of the first record that is the
+/// code of no entry that may stand there; `Failed`, if the disk failed, which it counts once; and `Memory`,
+/// if out of memory.
+pub fn open_store<D: Disk>(alloc: Global, disk: D) -> Result<StoreCore<D>, (StoreFault, D)>
+    ensures opened { IfOk result (λ core. IsOpened (D.shown disk)
+        (state_of core.history (⟦<Journal<D> as Keeper>⟧.shown core.keeper))) }
+    ensures leaves { IfOk result (λ core. IfSome (D.shown disk).reads (λ _.
+        LeavesFiles (D.crashes (disk_of core.keeper)) (records_of core.history) None)) }
+    ensures refused { IfErr result (λ back. ComesBack back.0 (D.shown disk) (D.shown back.1)) }
+    ensures clock { (D.crashes disk).clock ≤ (D.crashes (disk_left result)).clock }
+    ensures time { IfSome (D.shown disk).reads (λ _.
+        LeavesNothingNew (D.crashes disk) (D.crashes (disk_left result))) }
+{
+    let journal = match Journal::open(alloc, disk) {
+        Ok(journal) => journal,
+        Err((fault, disk)) => return Err((fault.into(), disk)),
+    };
+    match open_core(alloc, journal) {
+        Ok(core) => Ok(core),
+        Err((fault, journal)) => Err((fault.into(), journal.into_disk())),
+    }
+}
