@@ -1,6 +1,6 @@
 //! Texts that have several owners.
 
-ghost use Rattle.std.specs.Prelude.{◌≡◌, IfOk};
+ghost use Rattle.std.specs.Prelude.{◌≡◌, IfOk, string_bytes};
 ghost use Rattle.fedi_address.specs.Blocks.{text_in};
 
 use arrayvec::ArrayString;
@@ -15,21 +15,26 @@ pub(crate) enum Block {
     Long(String),
 }
 
-fn block_of(alloc: Global, text: &str) -> Result<Block, AllocError>
-    ensures { IfOk result (λ block. text_in block ≡ text.now) }
-{
-    match ArrayString::from(text) {
-        Ok(short) => Ok(Block::Short(short)),
-        Err(_) => Ok(Block::Long(String::from_str(alloc, text)?)),
-    }
-}
-
 /// A block of this text, with one owner. The error is out of memory.
 pub(crate) fn new_block(alloc: Global, text: &str) -> Result<Arc<Block>, AllocError>
     ensures { IfOk result (λ block. text_in block.value ≡ text.now) }
 {
-    let block = Arc::new(alloc, block_of(alloc, text)?)?;
-    Ok(block)
+    let block = match ArrayString::from(text) {
+        Ok(short) => Block::Short(short),
+        Err(_) => Block::Long(String::from_str(alloc, text)?),
+    };
+    Ok(Arc::new(alloc, block)?)
+}
+
+/// A block that takes this text over, with one owner. The error is out of memory.
+pub(crate) fn block_of(alloc: Global, text: String) -> Result<Arc<Block>, AllocError>
+    ensures { IfOk result (λ block. text_in block.value ≡ string_bytes text) }
+{
+    let block = match ArrayString::from(text.as_str()) {
+        Ok(short) => Block::Short(short),
+        Err(_) => Block::Long(text),
+    };
+    Ok(Arc::new(alloc, block)?)
 }
 
 /// The text that lies in a block.

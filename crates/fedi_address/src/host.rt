@@ -111,7 +111,12 @@ fn is_host_text(text: &str) -> bool
 pub(crate) fn address_text(alloc: Global, host: &str, path: &str) -> Result<String, AllocError>
     ensures { IfOk result (λ text. string_bytes text ≡ address host.now path.now) }
 {
-    format!(in alloc; "https://{host}{path}")
+    let room = host.len().saturating_add(path.len()).saturating_add(8);
+    let mut text = String::with_capacity(alloc, room)?;
+    text.push_str("https://")?;
+    text.push_str(host)?;
+    text.push_str(path)?;
+    Ok(text)
 }
 
 impl Host {

@@ -10,7 +10,7 @@ ghost use Rattle.std.specs.Cmp.Lexicographic.{nat_list_eq_equiv};
 ghost use Rattle.fedi_address.specs.declared.iri.IriFault.TheVariants.{Memory};
 ghost use Rattle.url.specs.Parts.{Parts};
 
-use crate::block::{Block, new_block, text_of};
+use crate::block::{Block, block_of, new_block, text_of};
 use crate::host::{Host, address_text};
 use crate::pieces::{after, after_any, before, from};
 use std::alloc::{AllocError, Global};
@@ -161,7 +161,7 @@ impl Iri {
         ensures target { IfOk result (λ iri. target_of iri ≡ path.now) }
     {
         let address = address_text(alloc, host.text(), path)?;
-        let block = new_block(alloc, address.as_str())?;
+        let block = block_of(alloc, address)?;
         Ok(Iri { block })
     }
 

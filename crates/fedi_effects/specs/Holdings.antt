@@ -3,8 +3,6 @@ use Rattle.std.specs.Prelude.{◌≡◌, ℕ, ◌+◌, ◌≤◌, ⊤, IsTrue, L
 use Rattle.fedi_address.specs.Recipients.{is_among}
 use Rattle.fedi_objects.specs.declared.entry.Entry.{Entry}
 use Rattle.fedi_town.specs.declared.act.Act.{Act}
-use Rattle.fedi_town.specs.declared.addition.Addition.{Addition}
-use Rattle.fedi_town.specs.declared.addition.Addition.TheVariants as additions
 use Rattle.fedi_town.specs.Histories.{addition_of, town}
 use Rattle.fedi_town.specs.Towns.{Town}
 use Rattle.fedi_effects.specs.declared.facts.Facts.TheInside.{Inside}
@@ -17,21 +15,6 @@ pub record Holding : Type 0 where
   pub history : List Entry
   pub town : Town
   pub room : Option Entry
-
--- the id of the activity that is added
-abbrev pub added_id : Addition → Option (List ℕ)
-added_id additions.Nothing = None
-added_id (additions.Host host) = None
-added_id (additions.Member member) = None
-added_id (additions.Peer peer) = None
-added_id (additions.Activity a) = a.act.activity.id
-added_id (additions.Inbox id owner) = None
-added_id (additions.Attempt attempt) = None
-
--- the id of the activity that the entry will make, where room was made for one
-abbrev pub id_ahead : Town → Option Entry → Option (List ℕ)
-id_ahead t None = None
-id_ahead t (Some e) = added_id (addition_of t e)
 
 -- ---- what is held
 

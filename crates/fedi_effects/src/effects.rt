@@ -1,6 +1,7 @@
 //! What an accepted activity does to earlier ones, and the Accept that follows a Follow.
 
-ghost use Rattle.std.specs.Prelude.{◌≡◌, ◌&&◌, IfOk, Some, codes, option_copied};
+ghost use Rattle.std.specs.Prelude.{◌≡◌, ◌&&◌, IfOk, None, Some, codes, option_copied};
+ghost use Rattle.fedi_objects.specs.declared.kind.Kind.TheVariants as kinds;
 ghost use Rattle.fedi_objects.specs.declared.kind.State.TheVariants.{Rejected, Undone};
 ghost use Rattle.fedi_text.specs.Dates.{moment_text};
 ghost use Rattle.fedi_town.specs.declared.effect.Effect.TheVariants as effects;
@@ -12,14 +13,15 @@ ghost use Rattle.fedi_effects.specs.Subjects.{subject_of};
 
 use crate::addressing::recipients_with;
 use crate::facts::Facts;
+use crate::head::Head;
 use crate::states::count_after;
 use crate::subjects::ref_id;
 use fedi_address::{Host, Iri, Items, Recipients};
 use fedi_kept::Kept;
-use fedi_objects::{Activity, Boxed, Kind, ObjectRef, State};
+use fedi_objects::{Activity, Boxed, Kind, ObjectRef, State, Tag};
 use fedi_register::{is_accepted, is_done, is_follow, is_standing};
 use fedi_text::Text;
-use fedi_town::{Acceptance, Act, Actor, Deed, Effect, activity_iri};
+use fedi_town::{Acceptance, Act, Actor, Deed, Effect};
 use std::alloc::{AllocError, Global};
 
 // Whether the side effect happens: that of a Block where it stands, that of any other activity where
@@ -87,8 +89,8 @@ fn update_effect(alloc: Global, act: &Act, id: &Iri) -> Result<Effect, AllocErro
         ≡ effects.Update id.now act.now.activity.object (moment_text act.now.moment)) }
 {
     let object = id.clone()?;
-    let by = act.activity.get().object.clone()?;
     let stamp = act.moment.to_text(alloc)?;
+    let by = act.activity.get().object.clone()?;
     Ok(Effect::Update { object, by, stamp })
 }
 
@@ -174,10 +176,15 @@ fn effect_of(
 fn to_one(alloc: Global, id: &Iri) -> Result<Recipients, AllocError>
     ensures { IfOk result (λ r. r ≡ to_one id.now) }
 {
-    let id = id.clone()?;
-    let mut recipients = Recipients::empty(alloc);
-    recipients.to.push(id)?;
-    Ok(recipients)
+    let mut to = Items::empty(alloc);
+    to.push(id.clone()?)?;
+    Ok(Recipients {
+        to,
+        cc: Items::empty(alloc),
+        bto: Items::empty(alloc),
+        bcc: Items::empty(alloc),
+        audience: Items::empty(alloc),
+    })
 }
 
 fn ref_to(id: &Option<Iri>) -> Result<ObjectRef, AllocError>
@@ -189,26 +196,48 @@ fn ref_to(id: &Option<Iri>) -> Result<ObjectRef, AllocError>
     }
 }
 
-// The Accept of this id, by the member of this id, of the Follow.
-fn accept_activity(
-    alloc: Global,
-    id: Iri,
-    member: &Iri,
-    follow: &Act,
-) -> Result<Activity, AllocError>
-    ensures { IfOk result (λ a. a ≡ accept_activity id member.now follow.now) }
+// The Accept with this head, of this, to these.
+fn accept_from(head: Head, object: ObjectRef, recipients: Recipients, tags: Items<Tag>) -> Activity
+    ensures { result ≡ record {
+      id = Some head.id;
+      kind = kinds.Accept;
+      actor = Some head.actor;
+      object = object;
+      target = None;
+      recipients = recipients;
+      in_reply_to = None;
+      content = None;
+      summary = None;
+      name = None;
+      published = Some head.published;
+      tags = tags;
+    } }
 {
-    let actor = member.clone()?;
-    let object = ref_to(&follow.activity.get().id)?;
+    Activity {
+        id: Some(head.id),
+        kind: Kind::Accept,
+        actor: Some(head.actor),
+        object,
+        target: None,
+        recipients,
+        in_reply_to: None,
+        content: None,
+        summary: None,
+        name: None,
+        published: Some(head.published),
+        tags,
+    }
+}
+
+// The Accept with this head of the Follow.
+fn accept_activity(alloc: Global, head: Head, follow: &Act) -> Result<Boxed<Activity>, AllocError>
+    requires { head.published ≡ moment_text follow.now.moment }
+    ensures { IfOk result (λ a. a ≡ accept_activity head.id head.actor follow.now) }
+{
     let recipients = to_one(alloc, &follow.author)?;
-    let published = follow.moment.to_text(alloc)?;
-    let mut accept = Activity::new(alloc, Kind::Accept);
-    accept.id = Some(id);
-    accept.actor = Some(actor);
-    accept.object = object;
-    accept.recipients = recipients;
-    accept.published = Some(published);
-    Ok(accept)
+    let object = ref_to(&follow.activity.get().id)?;
+    let accept = accept_from(head, object, recipients, Items::empty(alloc));
+    Boxed::new(alloc, accept)
 }
 
 // The member's Accept of the Follow, with the member's next number after it.
@@ -223,12 +252,12 @@ fn accept_by(
     ensures { IfOk result (λ x. x ≡ accept_by facts.now.town host.now follow.now member.now) }
 {
     let number = count_after(facts, &follow.author, &member.id) + 1;
-    let id = activity_iri(alloc, host, &member.name, number)?;
-    let activity = accept_activity(alloc, id, &member.id, follow)?;
-    let recipients = recipients_with(alloc, facts, &member.id, &activity.recipients, &[])?;
-    let is_public = activity.recipients.is_public();
+    let head = Head::new(alloc, host, &member.name, number, &member.id, follow.moment)?;
+    let activity = accept_activity(alloc, head, follow)?;
+    let named = &activity.get().recipients;
+    let is_public = named.is_public();
+    let recipients = recipients_with(alloc, facts, &member.id, named, &[])?;
     let author = member.id.clone()?;
-    let activity = Boxed::new(alloc, activity)?;
     Ok(Act {
         author,
         activity,
@@ -274,6 +303,30 @@ fn answer_to(alloc: Global, facts: &Facts, act: &Act) -> Result<Option<Act>, All
     Ok(Some(accept))
 }
 
+// What the activity does to earlier ones, and its answer. To let go of an effect is dear to prove, so it
+// is done by a call.
+fn consequences(
+    alloc: Global,
+    facts: &Facts,
+    act: &Act,
+    subject: Option<&Kept>,
+) -> Result<(Effect, Option<Act>), AllocError>
+    requires { option_copied subject
+        ≡ subject_of facts.now.town (deed_of act.now.activity.kind)
+        (ref_id act.now.activity.object) }
+    ensures { IfOk result (λ both.
+        both ≡ (effect_of facts.now.town act.now, answer_to facts.now.town act.now)) }
+{
+    let effect = effect_of(alloc, facts, act, subject)?;
+    match answer_to(alloc, facts, act) {
+        Ok(answer) => Ok((effect, answer)),
+        Err(error) => {
+            drop(effect);
+            Err(error)
+        }
+    }
+}
+
 /// The activity with all that follows from it: what it does to earlier ones, and the Accept that
 /// follows a Follow. The error is out of memory.
 pub fn acceptance(
@@ -286,8 +339,7 @@ pub fn acceptance(
         ≡ subject_of facts.now.town (deed_of act.activity.kind) (ref_id act.activity.object) }
     ensures { IfOk result (λ a. a ≡ acceptance facts.now.town act) }
 {
-    let effect = effect_of(alloc, facts, &act, subject)?;
-    let answer = answer_to(alloc, facts, &act)?;
+    let (effect, answer) = consequences(alloc, facts, &act, subject)?;
     Ok(Acceptance {
         act,
         effect,

@@ -11,7 +11,6 @@ ghost use Rattle.fedi_town.specs.Towns.{count_of, empty_town, has_digest, has_id
 ghost use Rattle.fedi_address.specs.Recipients.{is_among};
 ghost use Rattle.fedi_effects.specs.Additions.{HasAnswerer, HasAuthors, addition_in};
 ghost use Rattle.fedi_register.specs.Changes.{AreMadeOnce};
-ghost use Rattle.fedi_effects.specs.Holdings.{added_id, id_ahead};
 
 use crate::making::prepare;
 use crate::ready::{Ready, know_authors, make_ready};
@@ -81,6 +80,37 @@ fn make_room(
     know(register, ready)
 }
 
+// The room for an entry is kept, where the members and the activities get theirs. To let go of a room is
+// dear to prove, so it is done by calls.
+fn keep_room(
+    kept: &mut Option<Room>,
+    actors: &mut Vec<Actor>,
+    register: &mut Register,
+    pool: &mut Pool,
+    room: Room,
+) -> Result<(), AllocError>
+    ensures actors { actors.new.items ≡ actors.old.items }
+    ensures acts { register.new.acts ≡ register.old.acts }
+    ensures actors_room { OnOk result (vec_len actors.new + 1 ≤ vec_capacity actors.new) }
+    ensures acts_room { OnOk result (register.new.room ≡ 2) }
+    ensures known { OnOk result (HasAuthors register.new.known room.ready) }
+    ensures ok { OnOk result (kept.new ≡ Some room) }
+    ensures err { OnErr result (kept.new ≡ kept.old) }
+{
+    let mut room = room;
+    room.ready.share(pool);
+    match make_room(actors, register, &room.ready) {
+        Ok(()) => {
+            drop(kept.replace(room));
+            Ok(())
+        }
+        Err(error) => {
+            drop(room);
+            Err(error)
+        }
+    }
+}
+
 // Adds an activity and its answer, after its effect.
 fn add_activity(register: &mut Register, act: Kept, effect: Effect, answer: Option<Kept>)
     requires once { AreMadeOnce register.old.acts }
@@ -129,16 +159,6 @@ fn add(host: &mut Option<Host>, actors: &mut Vec<Actor>, register: &mut Register
     }
 }
 
-// The id of the activity that was made ready.
-fn ready_id(ready: &Ready) -> Option<&Iri>
-    ensures { option_copied result ≡ added_id (addition_in ready.now) }
-{
-    match ready {
-        Ready::Nothing | Ready::Host(_) | Ready::Member(_) => None,
-        Ready::Activity { act, .. } => act.id(),
-    }
-}
-
 impl Facts {
     /// The facts of no entry. The error is out of memory.
     pub fn empty(alloc: Global) -> Result<Facts, AllocError>
@@ -172,6 +192,18 @@ impl Facts {
         make_ready(alloc, addition)
     }
 
+    // The room for the entry, with all that it adds.
+    fn room_for(&self, alloc: Global, entry: &Entry) -> Result<Room, AllocError>
+        requires { IsTrue (is_built entry.now) }
+        ensures entry { IfOk result (λ room. room.entry.value ≡ entry.now) }
+        ensures ready { IfOk result
+            (λ room. addition_in room.ready ≡ addition_of self.now.town entry.now) }
+    {
+        let ready = self.make(alloc, entry)?;
+        let entry = Snapshot::of(entry);
+        Ok(Room { entry, ready })
+    }
+
     /// Does for an entry all that takes memory, so that it can be added without. An earlier entry for
     /// which this was done has room no longer. The error is out of memory, and then no entry has room.
     pub fn reserve(&mut self, alloc: Global, entry: &Entry) -> Result<(), AllocError>
@@ -179,23 +211,16 @@ impl Facts {
         ensures ok { OnOk result (self.new ≡ record self.old { room = Some entry.now }) }
         ensures err { OnErr result (self.new ≡ record self.old { room = None }) }
     {
-        self.room = None;
-        let mut ready = self.make(alloc, entry)?;
-        ready.share(&mut self.pool);
-        make_room(&mut self.actors, &mut self.register, &ready)?;
-        let entry = Snapshot::of(entry);
-        self.room = Some(Room { entry, ready });
+        drop(self.room.take());
+        let room = self.room_for(alloc, entry)?;
+        keep_room(
+            &mut self.room,
+            &mut self.actors,
+            &mut self.register,
+            &mut self.pool,
+            room,
+        )?;
         Ok(())
-    }
-
-    /// The id of the activity that the entry will make for which there is room.
-    pub fn reserved_id(&self) -> Option<&Iri>
-        ensures { option_copied result ≡ id_ahead self.now.town self.now.room }
-    {
-        match &self.room {
-            Some(room) => ready_id(&room.ready),
-            None => None,
-        }
     }
 
     /// Adds the entry for which there is room. It takes no memory.

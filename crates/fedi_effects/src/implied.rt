@@ -1,6 +1,6 @@
 //! Whom an activity implies: who is told of it although it does not name them.
 
-ghost use Rattle.std.specs.Prelude.{◌≡◌, IfOk, Some, option_copied};
+ghost use Rattle.std.specs.Prelude.{◌≡◌, OnOk, Some, option_copied};
 ghost use Rattle.fedi_town.specs.Addressing.{author_of, complete_recipients, implied_recipient, is_silent, undo_recipient, with_implied};
 ghost use Rattle.fedi_town.specs.Relations.{ref_id};
 ghost use Rattle.fedi_effects.specs.Subjects.{subject_of};
@@ -89,21 +89,20 @@ fn is_silent(facts: &Facts, deed: Deed, object: &ObjectRef, subject: Option<&Kep
 }
 
 // One more in `to`, unless it is named already or is the author.
-fn with_implied(
+fn add_implied(
     author: &Iri,
     implied: Option<&Iri>,
-    recipients: Recipients,
-) -> Result<Recipients, AllocError>
-    ensures { IfOk result
-        (λ r. r ≡ with_implied author.now (option_copied implied.entry) recipients) }
+    recipients: &mut Recipients,
+) -> Result<(), AllocError>
+    ensures { OnOk result (recipients.new
+        ≡ with_implied author.now (option_copied implied.entry) recipients.old) }
 {
     match implied {
         Some(iri) if !recipients.names(iri) && iri != author => {
-            let mut more = recipients;
-            more.to.push(iri.clone()?)?;
-            Ok(more)
+            recipients.to.push(iri.clone()?)?;
+            Ok(())
         }
-        Some(_) | None => Ok(recipients),
+        Some(_) | None => Ok(()),
     }
 }
 
@@ -117,16 +116,17 @@ pub fn complete_recipients(
     deed: Deed,
     object: &ObjectRef,
     subject: Option<&Kept>,
-    recipients: Recipients,
-) -> Result<Recipients, AllocError>
+    recipients: &mut Recipients,
+) -> Result<(), AllocError>
     requires { option_copied subject
         ≡ subject_of facts.now.town deed (ref_id object.now) }
-    ensures { IfOk result (λ r. r ≡ complete_recipients facts.now.town author.now deed
-        (ref_id object.now) recipients) }
+    ensures { OnOk result (recipients.new ≡ complete_recipients facts.now.town author.now deed
+        (ref_id object.now) recipients.old) }
 {
     if is_silent(facts, deed, object, subject) {
-        return Ok(Recipients::empty(alloc));
+        *recipients = Recipients::empty(alloc);
+        return Ok(());
     }
     let implied = implied_recipient(facts, deed, object, subject);
-    with_implied(author, implied, recipients)
+    add_implied(author, implied, recipients)
 }

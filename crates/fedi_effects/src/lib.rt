@@ -5,6 +5,7 @@ mod addressing;
 mod commands;
 mod effects;
 mod facts;
+mod head;
 mod implied;
 mod making;
 mod ready;

@@ -2,7 +2,7 @@
 
 ghost use Rattle.std.specs.Prelude.{◌≡◌, IsTrue, IfOk, OnOk, Some, option_copied};
 ghost use Rattle.fedi_text.specs.Dates.{moment_text};
-ghost use Rattle.fedi_town.specs.Activities.{act_by, complete_ref, local_act};
+ghost use Rattle.fedi_town.specs.Activities.{act_by, complete_activity, complete_ref, local_act};
 ghost use Rattle.fedi_town.specs.Addressing.{complete_recipients, is_original_for_followers, is_original_public, original_recipients};
 ghost use Rattle.fedi_town.specs.Built.{is_built};
 ghost use Rattle.fedi_town.specs.Deeds.{deed_of};
@@ -16,17 +16,17 @@ ghost use Rattle.fedi_effects.specs.Subjects.{original_among, subject_of};
 use crate::addressing::{names_followers, recipients_with};
 use crate::effects::acceptance;
 use crate::facts::Facts;
+use crate::head::Head;
 use crate::implied::complete_recipients;
 use crate::states::state_of;
 use crate::subjects::subject_of;
-use fedi_address::{Host, Iri, Items, LocalName, Recipients};
+use fedi_address::{Host, Iri, Items, LocalName};
 use fedi_kept::Kept;
 use fedi_objects::{Activity, Boxed, Entry, Object, ObjectRef, RepeatKey};
 use fedi_register::is_done;
 use fedi_text::{Moment, Text};
-use fedi_town::{Acceptance, Act, Actor, Addition, Deed, activity_iri, actor_iri, object_iri};
+use fedi_town::{Acceptance, Act, Actor, Addition, Deed, actor_iri, object_iri};
 use std::alloc::{AllocError, Global};
-use std::mem;
 
 // The member that an entry makes, once the server was set up.
 fn member_addition(
@@ -63,6 +63,27 @@ fn complete_object(object: &mut Object, id: Iri, author: Iri, published: Text)
     object.id = Some(id);
     object.attributed_to = Some(author);
     object.published = Some(published);
+}
+
+// Whom the activity implies is named too.
+fn complete_addressing(
+    alloc: Global,
+    facts: &Facts,
+    author: &Iri,
+    activity: &mut Activity,
+    subject: Option<&Kept>,
+) -> Result<(), AllocError>
+    requires { option_copied subject
+        ≡ subject_of facts.now.town (deed_of activity.old.kind) (ref_id activity.old.object) }
+    ensures { OnOk result (activity.new ≡ record activity.old {
+      recipients = complete_recipients facts.now.town author.now (deed_of activity.old.kind)
+          (ref_id activity.old.object) activity.old.recipients;
+    }) }
+{
+    let deed = Deed::of(activity.kind);
+    let object = &activity.object;
+    let named = &mut activity.recipients;
+    complete_recipients(alloc, facts, author, deed, object, subject, named)
 }
 
 // From what follows all that the server sets in a new activity: its author, its number among the
@@ -102,52 +123,43 @@ impl<'a> Stamp<'a> {
     }
 
     // The activity gets its id, its actor and its moment, and its object likewise.
-    fn complete(
-        &self,
-        alloc: Global,
-        activity: &mut Activity,
-        author: &Iri,
-    ) -> Result<(), AllocError>
+    fn put_on(&self, alloc: Global, activity: &mut Activity, author: &Iri) -> Result<(), AllocError>
         requires { author.now ≡ actor_id self.now.host.now self.now.name.now }
         ensures { OnOk result (activity.new ≡ stamped self.now.host.now self.now.name.now
             self.now.number self.now.moment activity.old) }
     {
-        let published = self.moment.to_text(alloc)?;
-        self.complete_ref(alloc, &mut activity.object, author, &published)?;
-        activity.id = Some(activity_iri(alloc, self.host, self.name, self.number)?);
-        activity.actor = Some(author.clone()?);
-        activity.published = Some(published);
+        let head = Head::new(
+            alloc,
+            self.host,
+            self.name,
+            self.number,
+            author,
+            self.moment,
+        )?;
+        self.complete_ref(alloc, &mut activity.object, author, &head.published)?;
+        head.put_on(activity);
         Ok(())
     }
-}
 
-// Whom the activity implies is named too.
-fn complete_addressing(
-    alloc: Global,
-    facts: &Facts,
-    author: &Iri,
-    activity: &mut Activity,
-    subject: Option<&Kept>,
-) -> Result<(), AllocError>
-    requires { option_copied subject
-        ≡ subject_of facts.now.town (deed_of activity.old.kind) (ref_id activity.old.object) }
-    ensures { OnOk result (activity.new ≡ record activity.old {
-      recipients = complete_recipients facts.now.town author.now (deed_of activity.old.kind)
-          (ref_id activity.old.object) activity.old.recipients;
-    }) }
-{
-    let deed = Deed::of(activity.kind);
-    let named = mem::replace(&mut activity.recipients, Recipients::empty(alloc));
-    activity.recipients = complete_recipients(
-        alloc,
-        facts,
-        author,
-        deed,
-        &activity.object,
-        subject,
-        named,
-    )?;
-    Ok(())
+    // The activity gets all that the server sets, whom it implies too. What it acts on is returned.
+    fn complete<'f>(
+        &self,
+        alloc: Global,
+        facts: &'f Facts,
+        activity: &mut Activity,
+        author: &Iri,
+    ) -> Result<Option<&'f Kept>, AllocError>
+        requires { author.now ≡ actor_id self.now.host.now self.now.name.now }
+        ensures completed { OnOk result (activity.new ≡ complete_activity facts.now.town
+            self.now.host.now self.now.name.now self.now.number self.now.moment activity.old) }
+        ensures subject { IfOk result (λ subject. option_copied subject
+            ≡ subject_of facts.now.town (deed_of activity.new.kind) (ref_id activity.new.object)) }
+    {
+        self.put_on(alloc, activity, author)?;
+        let subject = subject_of(facts, Deed::of(activity.kind), &activity.object);
+        complete_addressing(alloc, facts, author, activity, subject)?;
+        Ok(subject)
+    }
 }
 
 // ---- the activity as it is accepted
@@ -220,7 +232,7 @@ fn act_by(
     author: Iri,
     repeat: &Option<(RepeatKey, [u8; 32])>,
     moment: Moment,
-    activity: Activity,
+    activity: Boxed<Activity>,
     subject: Option<&Kept>,
 ) -> Result<Act, AllocError>
     requires { option_copied subject
@@ -228,15 +240,16 @@ fn act_by(
     ensures { IfOk result
         (λ x. x ≡ act_by facts.now.town author repeat.now moment activity) }
 {
-    let deed = Deed::of(activity.kind);
+    let accepted = activity.get();
+    let named = &accepted.recipients;
+    let deed = Deed::of(accepted.kind);
     let create = original(deed, subject);
-    let state = state_of(facts, &author, deed, &activity.object, subject);
-    let others = original_recipients(create);
-    let recipients = recipients_with(alloc, facts, &author, &activity.recipients, others)?;
-    let is_public = activity.recipients.is_public() || is_original_public(create);
-    let for_followers = names_followers(&author, &activity.recipients)
+    let state = state_of(facts, &author, deed, &accepted.object, subject);
+    let is_public = named.is_public() || is_original_public(create);
+    let for_followers = names_followers(&author, named)
         || (is_done(state) && is_original_for_followers(create));
-    let activity = Boxed::new(alloc, activity)?;
+    let others = original_recipients(create);
+    let recipients = recipients_with(alloc, facts, &author, named, others)?;
     Ok(Act {
         author,
         activity,
@@ -257,7 +270,7 @@ fn accept_post(
     host: &Host,
     name: &LocalName,
     repeat: &Option<(RepeatKey, [u8; 32])>,
-    posted: &Activity,
+    posted: &Boxed<Activity>,
     moment: Moment,
 ) -> Result<Acceptance, AllocError>
     ensures { IfOk result (λ a. a ≡ acceptance facts.now.town
@@ -272,9 +285,7 @@ fn accept_post(
         moment,
     };
     let mut activity = posted.clone()?;
-    stamp.complete(alloc, &mut activity, &author)?;
-    let subject = subject_of(facts, Deed::of(activity.kind), &activity.object);
-    complete_addressing(alloc, facts, &author, &mut activity, subject)?;
+    let subject = stamp.complete(alloc, facts, activity.get_mut(), &author)?;
     let act = act_by(alloc, facts, author, repeat, moment, activity, subject)?;
     acceptance(alloc, facts, act, subject)
 }
@@ -285,7 +296,7 @@ fn post_addition(
     facts: &Facts,
     name: &LocalName,
     repeat: &Option<(RepeatKey, [u8; 32])>,
-    activity: &Activity,
+    activity: &Boxed<Activity>,
     moment: Moment,
 ) -> Result<Addition, AllocError>
     ensures { IfOk result (λ a. a ≡ post_addition facts.now.town.host facts.now.town
@@ -317,7 +328,7 @@ pub fn prepare(alloc: Global, facts: &Facts, entry: &Entry) -> Result<Addition, 
             repeat,
             activity,
             moment,
-        } => post_addition(alloc, facts, name, repeat, activity.get(), *moment),
+        } => post_addition(alloc, facts, name, repeat, activity, *moment),
         Entry::PeerSet { .. } => unreachable!(),
         Entry::Remote { .. } => unreachable!(),
         Entry::Tried { .. } => unreachable!(),

@@ -40,6 +40,30 @@ fn keep_answer(alloc: Global, answer: Option<Act>) -> Result<Option<Kept>, Alloc
     }
 }
 
+// To let go of an activity or of an effect is dear to prove, so here and below it is done by calls.
+fn keep_both(
+    alloc: Global,
+    act: Act,
+    answer: Option<Act>,
+) -> Result<(Kept, Option<Kept>), AllocError>
+    ensures { IfOk result (λ kept. kept ≡ (act, answer)) }
+{
+    let answer = match keep_answer(alloc, answer) {
+        Ok(answer) => answer,
+        Err(error) => {
+            drop(act);
+            return Err(error);
+        }
+    };
+    match Kept::new(alloc, act) {
+        Ok(act) => Ok((act, answer)),
+        Err(error) => {
+            drop(answer);
+            Err(error)
+        }
+    }
+}
+
 fn keep_all(alloc: Global, acceptance: Acceptance) -> Result<Ready, AllocError>
     ensures { IfOk result (λ ready. addition_in ready ≡ additions.Activity acceptance) }
 {
@@ -48,13 +72,17 @@ fn keep_all(alloc: Global, acceptance: Acceptance) -> Result<Ready, AllocError>
         effect,
         answer,
     } = acceptance;
-    let act = Kept::new(alloc, act)?;
-    let answer = keep_answer(alloc, answer)?;
-    Ok(Ready::Activity {
-        act,
-        effect,
-        answer,
-    })
+    match keep_both(alloc, act, answer) {
+        Ok((act, answer)) => Ok(Ready::Activity {
+            act,
+            effect,
+            answer,
+        }),
+        Err(error) => {
+            drop(effect);
+            Err(error)
+        }
+    }
 }
 
 fn share_answer(answer: &mut Option<Kept>, pool: &mut Pool)
@@ -69,7 +97,7 @@ fn share_answer(answer: &mut Option<Kept>, pool: &mut Pool)
 impl Ready {
     /// Lets what comes again and again share the texts of equal ones. It takes no memory.
     pub(crate) fn share(&mut self, pool: &mut Pool)
-        ensures { addition_in self.new ≡ addition_in self.old }
+        ensures { self.new ≡ self.old }
     {
         match self {
             Ready::Activity {

@@ -1,6 +1,5 @@
 pub mod CodeLemmas
 pub mod EntryLemmas
-pub mod Failing
 pub mod Formed
 pub mod Loop
 pub mod ReadEntries

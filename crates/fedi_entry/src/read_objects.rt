@@ -1,10 +1,10 @@
 //! Reading objects, changes and activities.
 //!
-//! What has many fields is read in parts of a few, since a value that is owned over many exits is
-//! slow to prove.
+//! What has many fields is read in parts of a few, and these are put into a value that is lent, since
+//! a value that is owned over many exits is slow to prove.
 
-ghost use Rattle.std.specs.Prelude.{◌≡◌};
-ghost use Rattle.fedi_entry.specs.Reading.{date_at, kind_at, kind_of, option_at, text_at, Takes};
+ghost use Rattle.std.specs.Prelude.{◌≡◌, OnOk};
+ghost use Rattle.fedi_entry.specs.Reading.{◌&◌, activity_front, activity_rest, activity_words_at, change_rest, changed_words_at, date_at, edit_at, iri_at, kind_at, kind_of, list_at, object_front, object_ref_at, object_rest, object_times_at, object_words_at, option_at, recipients_at, tag_at, text_at, with_activity_words, with_changed_words, with_times, with_words, Takes, TakesAs};
 ghost use Rattle.fedi_objects.specs.Limits.{is_type};
 
 use crate::fault::ReadFault;
@@ -13,6 +13,7 @@ use crate::reader::Reader;
 use fedi_address::{Iri, Items, Recipients};
 use fedi_objects::{Activity, Boxed, Change, Edit, Kind, Object, ObjectRef, Tag};
 use fedi_text::Text;
+use std::alloc::Global;
 
 impl Decode for Tag {
     ghost use Rattle.fedi_entry.specs.Reading.{tag_at};
@@ -163,6 +164,51 @@ impl Decode for ObjectTimes {
     }
 }
 
+/// An object with this first part.
+fn new_object(alloc: Global, head: ObjectHead) -> Object
+    ensures { object_front result ≡ head }
+{
+    let mut object = Object::new(alloc, head.kind);
+    object.id = head.id;
+    object.attributed_to = head.attributed_to;
+    object
+}
+
+/// Puts into an object what it says.
+fn set_words(object: &mut Object, says: ObjectWords)
+    ensures { object.new ≡ with_words object.old says }
+{
+    let words = says.words;
+    object.in_reply_to = says.in_reply_to;
+    object.content = words.content;
+    object.summary = words.summary;
+    object.name = words.name;
+    object.url = says.url;
+}
+
+/// Puts into an object what became of it.
+fn set_times(object: &mut Object, times: ObjectTimes)
+    ensures { object.new ≡ with_times object.old times }
+{
+    object.published = times.published;
+    object.updated = times.updated;
+    object.former_kind = times.former_kind;
+    object.deleted = times.deleted;
+}
+
+/// Reads all but the first part into an object.
+fn fill_object(object: &mut Object, reader: &mut Reader<'_>) -> Result<(), ReadFault>
+    ensures read { TakesAs (λ _. object_rest object.new) result reader.new
+        ((recipients_at & object_words_at & object_times_at & list_at tag_at) reader.old) }
+    ensures head { OnOk result (object_front object.new ≡ object_front object.old) }
+{
+    object.recipients = Recipients::decode(reader)?;
+    set_words(object, ObjectWords::decode(reader)?);
+    set_times(object, ObjectTimes::decode(reader)?);
+    object.tags = Items::decode(reader)?;
+    Ok(())
+}
+
 impl Decode for Object {
     ghost use Rattle.fedi_entry.specs.Reading.{object_at};
 
@@ -171,26 +217,8 @@ impl Decode for Object {
     #[tactic(auto, unfolding(crate::specs::Reading::object_at))]
     fn decode(reader: &mut Reader<'_>) -> Result<Object, ReadFault> {
         let head = ObjectHead::decode(reader)?;
-        let recipients = Recipients::decode(reader)?;
-        let says = ObjectWords::decode(reader)?;
-        let times = ObjectTimes::decode(reader)?;
-        let tags = Items::decode(reader)?;
-        Ok(Object {
-            id: head.id,
-            kind: head.kind,
-            attributed_to: head.attributed_to,
-            recipients,
-            in_reply_to: says.in_reply_to,
-            content: says.words.content,
-            summary: says.words.summary,
-            name: says.words.name,
-            url: says.url,
-            published: times.published,
-            updated: times.updated,
-            former_kind: times.former_kind,
-            deleted: times.deleted,
-            tags,
-        })
+        let mut object = new_object(reader.allocator(), head);
+        fill_object(&mut object, reader).and(Ok(object))
     }
 }
 
@@ -217,6 +245,29 @@ impl Decode for ChangedWords {
     }
 }
 
+/// Puts into a change what is done to three texts.
+fn set_changed_words(change: &mut Change, words: ChangedWords)
+    ensures { change.new ≡ with_changed_words change.old words }
+{
+    change.content = words.content;
+    change.summary = words.summary;
+    change.name = words.name;
+}
+
+/// Reads all but the id into a change.
+fn fill_change(change: &mut Change, reader: &mut Reader<'_>) -> Result<(), ReadFault>
+    ensures read { TakesAs (λ _. change_rest change.new) result reader.new
+        ((changed_words_at & edit_at iri_at & edit_at iri_at & edit_at (list_at tag_at))
+        reader.old) }
+    ensures id { OnOk result (change.new.id ≡ change.old.id) }
+{
+    set_changed_words(change, ChangedWords::decode(reader)?);
+    change.url = Edit::decode(reader)?;
+    change.in_reply_to = Edit::decode(reader)?;
+    change.tags = Edit::decode(reader)?;
+    Ok(())
+}
+
 impl Decode for Change {
     ghost use Rattle.fedi_entry.specs.Reading.{change_at};
 
@@ -224,17 +275,8 @@ impl Decode for Change {
 
     #[tactic(auto, unfolding(crate::specs::Reading::change_at))]
     fn decode(reader: &mut Reader<'_>) -> Result<Change, ReadFault> {
-        let id = Iri::decode(reader)?;
-        let words = ChangedWords::decode(reader)?;
-        Ok(Change {
-            id,
-            content: words.content,
-            summary: words.summary,
-            name: words.name,
-            url: Edit::decode(reader)?,
-            in_reply_to: Edit::decode(reader)?,
-            tags: Edit::decode(reader)?,
-        })
+        let mut change = Change::new(Iri::decode(reader)?);
+        fill_change(&mut change, reader).and(Ok(change))
     }
 }
 
@@ -333,6 +375,42 @@ impl Decode for ActivityWords {
     }
 }
 
+/// An activity with this first part.
+fn new_activity(alloc: Global, head: ActivityHead) -> Activity
+    ensures { activity_front result ≡ head }
+{
+    let mut activity = Activity::new(alloc, head.kind);
+    activity.id = head.id;
+    activity.actor = head.actor;
+    activity
+}
+
+/// Puts into an activity what it itself says.
+fn set_activity_words(activity: &mut Activity, says: ActivityWords)
+    ensures { activity.new ≡ with_activity_words activity.old says }
+{
+    let words = says.words;
+    activity.in_reply_to = says.in_reply_to;
+    activity.content = words.content;
+    activity.summary = words.summary;
+    activity.name = words.name;
+    activity.published = says.published;
+    activity.tags = says.tags;
+}
+
+/// Reads all but the first part into an activity.
+fn fill_activity(activity: &mut Activity, reader: &mut Reader<'_>) -> Result<(), ReadFault>
+    ensures read { TakesAs (λ _. activity_rest activity.new) result reader.new
+        ((object_ref_at & option_at iri_at & recipients_at & activity_words_at) reader.old) }
+    ensures head { OnOk result (activity_front activity.new ≡ activity_front activity.old) }
+{
+    activity.object = ObjectRef::decode(reader)?;
+    activity.target = Option::decode(reader)?;
+    activity.recipients = Recipients::decode(reader)?;
+    set_activity_words(activity, ActivityWords::decode(reader)?);
+    Ok(())
+}
+
 impl Decode for Activity {
     ghost use Rattle.fedi_entry.specs.Reading.{activity_at};
 
@@ -341,23 +419,7 @@ impl Decode for Activity {
     #[tactic(auto, unfolding(crate::specs::Reading::activity_at))]
     fn decode(reader: &mut Reader<'_>) -> Result<Activity, ReadFault> {
         let head = ActivityHead::decode(reader)?;
-        let object = ObjectRef::decode(reader)?;
-        let target = Option::decode(reader)?;
-        let recipients = Recipients::decode(reader)?;
-        let says = ActivityWords::decode(reader)?;
-        Ok(Activity {
-            id: head.id,
-            kind: head.kind,
-            actor: head.actor,
-            object,
-            target,
-            recipients,
-            in_reply_to: says.in_reply_to,
-            content: says.words.content,
-            summary: says.words.summary,
-            name: says.words.name,
-            published: says.published,
-            tags: says.tags,
-        })
+        let mut activity = new_activity(reader.allocator(), head);
+        fill_activity(&mut activity, reader).and(Ok(activity))
     }
 }

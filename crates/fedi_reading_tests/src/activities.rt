@@ -1,32 +1,8 @@
 //! Activities as clients write them.
-use crate::reading::repeated;
-use fedi_address::Iri;
-use fedi_objects::{
-    Activity, Change, Edit, ObjectRef, Shown, ShownObject, State, StrippedObject, new_document,
-    text_of, write_activity,
-};
-use fedi_reading::{read_activity, read_body};
-use fedi_text::Text;
-use serde_json::Value;
+use crate::bodies::Part::{self, People, Text, Times};
+use crate::looks::{Look, expect_all, expect_of};
 use std::alloc::Global;
 use std::test::Fail;
-
-const AUTHOR: &str = "https://club.example/users/ana";
-
-// The name of the fault of what the author posts, or the name of the activity's type.
-fn outcome_of(alloc: Global, value: &Value, author: &Iri) -> &'static str {
-    match read_activity(alloc, value, author) {
-        Ok(activity) => activity.kind.name(),
-        Err(fault) => fault.name(),
-    }
-}
-
-// The same of a body.
-fn outcome(alloc: Global, body: &str) -> Result<&'static str, Fail> {
-    let value = read_body(alloc, body.as_bytes())?;
-    let author = Iri::parse(alloc, AUTHOR)?;
-    Ok(outcome_of(alloc, &value, &author))
-}
 
 // The types of activities, and whether each needs an object.
 const KINDS: [(&str, bool); 28] = [
@@ -60,16 +36,25 @@ const KINDS: [(&str, bool); 28] = [
     ("View", false),
 ];
 
+// What stands in front of the name of a type, and behind it: with an object, and with none.
+const WITH_OBJECT: (&str, &str) = (
+    r#"{"type":[""#,
+    r#"","x"],"object":[{"id":"https://far.example/o","type":"Note"}]}"#,
+);
+
+const WITH_NONE: (&str, &str) = (r#"{"type":""#, r#"","object":[]}"#);
+
+fn expect_kind(alloc: Global, around: (&str, &str), name: &str, wanted: &str) -> Result<(), Fail> {
+    let parts = [Text(around.0), Text(name), Text(around.1)];
+    expect_of(alloc, Look::Kind, &parts, wanted)
+}
+
 #[test]
 fn each_type_is_read_with_its_object(rt: HostRuntime) -> Result<(), Fail> {
     for (name, needed) in &KINDS {
-        let about = format!(in rt.alloc();
-            r#"{{"type":["{name}","x"],"object":[{{"id":"https://far.example/o","type":"Note"}}]}}"#
-        )?;
-        assert_eq!(rt; outcome(rt.alloc(), about.as_str())?, *name);
-        let alone = format!(in rt.alloc(); r#"{{"type":"{name}","object":[]}}"#)?;
-        let wanted = if *needed { "NoObject" } else { *name };
-        assert_eq!(rt; outcome(rt.alloc(), alone.as_str())?, wanted);
+        let alone = if *needed { "NoObject" } else { *name };
+        expect_kind(rt.alloc(), WITH_OBJECT, name, name)?;
+        expect_kind(rt.alloc(), WITH_NONE, name, alone)?;
     }
     Ok(())
 }
@@ -166,135 +151,143 @@ const OUTCOMES: [(&str, &str); 33] = [
 
 #[test]
 fn faults_come_in_their_order(rt: HostRuntime) -> Result<(), Fail> {
-    for (body, name) in &OUTCOMES {
-        assert_eq!(rt; outcome(rt.alloc(), body)?, *name, "{body}");
-    }
-    Ok(())
+    expect_all(rt.alloc(), Look::Kind, &OUTCOMES)
 }
 
-// This many addresses of recipients, from this number on, as a JSON list.
-fn people(alloc: Global, from: usize, count: usize) -> Result<String, Fail> {
-    let mut list = String::new(alloc);
-    for number in 0..count {
-        let comma = if number == 0 { "" } else { "," };
-        let one = format!(in alloc;
-            r#"{comma}"https://far.example/{}""#,
-            from.saturating_add(number)
-        )?;
-        list.push_str(one.as_str())?;
-    }
-    Ok(list)
-}
+// What stands in a Create in front of its own recipients, of those of its object, and behind them.
+const OWN: Part = Text(r#"{"type":"Create","to":["#);
 
-// The outcome of a Create for some people, of a note for others.
-fn outcome_of_create(alloc: Global, own: &str, others: &str) -> Result<&'static str, Fail> {
-    let body = format!(in alloc;
-        r#"{{"type":"Create","to":[{own}],"object":{{"type":"Note","to":[{others}]}}}}"#
-    )?;
-    outcome(alloc, body.as_str())
-}
+const OTHERS: Part = Text(r#"],"object":{"type":"Note","to":["#);
+
+const CREATED: Part = Text("]}}");
+
+// What stands in an activity in front of its type, its content, its object's name, and behind them.
+const TYPE: Part = Text(r#"{"type":""#);
+
+const CONTENT: Part = Text(r#"","content":""#);
+
+const NAME: Part = Text(r#"","object":{"type":"Note","id":"https://far.example/o","name":""#);
+
+const NAMED: Part = Text(r#""}}"#);
+
+// Activities whose recipients, and whose words, are counted together with those of their objects.
+const COUNTED: [(&[Part], &str); 13] = [
+    (
+        &[OWN, People(0, 500), OTHERS, People(0, 500), CREATED],
+        "Create",
+    ),
+    (
+        &[OWN, People(0, 500), OTHERS, People(1, 500), CREATED],
+        "TooManyRecipients",
+    ),
+    (
+        &[OWN, People(0, 251), OTHERS, People(500, 249), CREATED],
+        "Create",
+    ),
+    (
+        &[OWN, People(0, 251), OTHERS, People(500, 250), CREATED],
+        "TooManyRecipients",
+    ),
+    (
+        &[OWN, People(0, 501), OTHERS, People(0, 0), CREATED],
+        "TooManyRecipients",
+    ),
+    (
+        &[OWN, People(0, 0), OTHERS, People(0, 501), CREATED],
+        "TooManyRecipients",
+    ),
+    (
+        &[
+            TYPE,
+            Text("Create"),
+            CONTENT,
+            Times("x", 65_536),
+            NAME,
+            Times("x", 65_536),
+            NAMED,
+        ],
+        "Create",
+    ),
+    (
+        &[
+            TYPE,
+            Text("Create"),
+            CONTENT,
+            Times("x", 65_537),
+            NAME,
+            Times("x", 0),
+            NAMED,
+        ],
+        "BadText",
+    ),
+    (
+        &[
+            TYPE,
+            Text("Create"),
+            CONTENT,
+            Times("x", 0),
+            NAME,
+            Times("x", 65_537),
+            NAMED,
+        ],
+        "BadText",
+    ),
+    (
+        &[
+            TYPE,
+            Text("Update"),
+            CONTENT,
+            Times("x", 65_536),
+            NAME,
+            Times("x", 65_536),
+            NAMED,
+        ],
+        "Update",
+    ),
+    (
+        &[
+            TYPE,
+            Text("Update"),
+            CONTENT,
+            Times("x", 0),
+            NAME,
+            Times("x", 65_537),
+            NAMED,
+        ],
+        "BadText",
+    ),
+    (
+        &[
+            TYPE,
+            Text("Like"),
+            CONTENT,
+            Times("x", 0),
+            NAME,
+            Times("x", 65_537),
+            NAMED,
+        ],
+        "Like",
+    ),
+    (
+        &[
+            TYPE,
+            Text("Like"),
+            CONTENT,
+            Times("x", 65_537),
+            NAME,
+            Times("x", 0),
+            NAMED,
+        ],
+        "BadText",
+    ),
+];
 
 #[test]
-fn recipients_of_both_are_counted_together(rt: HostRuntime) -> Result<(), Fail> {
-    for (from, own, others, name) in [
-        (0, 500, 500, "Create"),
-        (1, 500, 500, "TooManyRecipients"),
-        (500, 251, 249, "Create"),
-        (500, 251, 250, "TooManyRecipients"),
-        (0, 501, 0, "TooManyRecipients"),
-        (0, 0, 501, "TooManyRecipients"),
-    ] {
-        let first = people(rt.alloc(), 0, own)?;
-        let second = people(rt.alloc(), from, others)?;
-        assert_eq!(rt;
-            outcome_of_create(rt.alloc(), first.as_str(), second.as_str())?,
-            name
-        );
+fn recipients_and_words_of_both_are_counted(rt: HostRuntime) -> Result<(), Fail> {
+    for (parts, wanted) in &COUNTED {
+        expect_of(rt.alloc(), Look::Kind, parts, wanted)?;
     }
     Ok(())
-}
-
-// The outcome of an activity of this type and of the object in it, with a content and a name of so
-// many bytes.
-fn outcome_of_words(
-    alloc: Global,
-    kind: &str,
-    content: usize,
-    name: usize,
-) -> Result<&'static str, Fail> {
-    let content = repeated(alloc, "x", content)?;
-    let name = repeated(alloc, "x", name)?;
-    let body = format!(in alloc;
-        r#"{{"type":"{kind}","content":"{content}","object":{{"type":"Note","id":"https://far.example/o","name":"{name}"}}}}"#
-    )?;
-    outcome(alloc, body.as_str())
-}
-
-#[test]
-fn words_of_both_are_counted(rt: HostRuntime) -> Result<(), Fail> {
-    for (kind, content, name, wanted) in [
-        ("Create", 65_536, 65_536, "Create"),
-        ("Create", 65_537, 0, "BadText"),
-        ("Create", 0, 65_537, "BadText"),
-        ("Update", 65_536, 65_536, "Update"),
-        ("Update", 0, 65_537, "BadText"),
-        ("Like", 0, 65_537, "Like"),
-        ("Like", 65_537, 0, "BadText"),
-    ] {
-        assert_eq!(rt; outcome_of_words(rt.alloc(), kind, content, name)?, wanted);
-    }
-    Ok(())
-}
-
-// What an activity is about, as its reader sees it.
-fn shown_object(object: &ObjectRef) -> ShownObject<'_> {
-    match object {
-        ObjectRef::Id(id) => ShownObject::Id(id),
-        ObjectRef::Whole(object) => ShownObject::Present(StrippedObject::new(object)),
-        ObjectRef::Nothing => ShownObject::Nothing,
-        ObjectRef::Changed(_) => ShownObject::Nothing,
-    }
-}
-
-// The text of an activity, with the author's address for its own.
-fn shown_text(alloc: Global, activity: &Activity, author: &Iri) -> Result<Vec<u8>, Fail> {
-    let shown = Shown {
-        id: Some(author),
-        author,
-        kind: activity.kind,
-        target: activity.target.as_ref(),
-        to: &activity.recipients.to,
-        cc: &activity.recipients.cc,
-        audience: &activity.recipients.audience,
-        in_reply_to: activity.in_reply_to.as_ref(),
-        content: activity.content.as_ref(),
-        summary: activity.summary.as_ref(),
-        name: activity.name.as_ref(),
-        published: activity.published.as_ref(),
-        tags: &activity.tags,
-        state: State::Plain,
-        public: false,
-        local: false,
-        object: shown_object(&activity.object),
-    };
-    let mut out = new_document(alloc)?;
-    write_activity(&mut out, &shown, false)?;
-    Ok(text_of(out))
-}
-
-// The text of what is read of a value.
-fn text_in(alloc: Global, value: &Value, author: &Iri) -> Result<Vec<u8>, Fail> {
-    match read_activity(alloc, value, author) {
-        Ok(activity) => shown_text(alloc, &activity, author),
-        Err(_) => Err(Fail::from("refused")),
-    }
-}
-
-// The same of a body.
-fn activity_text(alloc: Global, body: &str) -> Result<Vec<u8>, Fail> {
-    let value = read_body(alloc, body.as_bytes())?;
-    let author = Iri::parse(alloc, AUTHOR)?;
-    text_in(alloc, &value, &author)
 }
 
 // What is posted, and the activity that is read of it.
@@ -327,115 +320,42 @@ const ACTIVITIES: [(&str, &str); 6] = [
 
 #[test]
 fn an_activity_is_read_by_its_properties(rt: HostRuntime) -> Result<(), Fail> {
-    for (body, text) in &ACTIVITIES {
-        assert!(rt;
-            activity_text(rt.alloc(), body)?.as_slice() == text.as_bytes(),
-            "{body}"
-        );
-    }
-    Ok(())
+    expect_all(rt.alloc(), Look::Whole, &ACTIVITIES)
 }
 
-// A mark for what is done to a property.
-fn mark<T: Drop>(edit: &Edit<T>) -> &'static str {
-    match edit {
-        Edit::Keep => "keep",
-        Edit::Remove => "remove",
-        Edit::Give(_) => "give",
-    }
-}
-
-// The text that a change gives.
-fn given_text(edit: &Edit<Text>) -> &str {
-    match edit {
-        Edit::Give(text) => text.text(),
-        Edit::Keep => "",
-        Edit::Remove => "",
-    }
-}
-
-// The marks of a change's properties, its `id` and the content that it gives.
-fn text_of_change(alloc: Global, change: &Change) -> Result<String, Fail> {
-    let (content, summary, name) = (
-        mark(&change.content),
-        mark(&change.summary),
-        mark(&change.name),
-    );
-    let (url, reply, tags) = (
-        mark(&change.url),
-        mark(&change.in_reply_to),
-        mark(&change.tags),
-    );
-    let (id, given) = (change.id.text(), given_text(&change.content));
-    let text = format!(in alloc; "{id} {content} {summary} {name} {url} {reply} {tags} {given}")?;
-    Ok(text)
-}
-
-// The text of the change that an activity carries.
-fn text_of_update(alloc: Global, activity: &Activity) -> Result<String, Fail> {
-    match &activity.object {
-        ObjectRef::Changed(change) => text_of_change(alloc, change),
-        _ => Err(Fail::from("no change")),
-    }
-}
-
-// The text of the change that is read of a value.
-fn change_in(alloc: Global, value: &Value, author: &Iri) -> Result<String, Fail> {
-    match read_activity(alloc, value, author) {
-        Ok(activity) => text_of_update(alloc, &activity),
-        Err(_) => Err(Fail::from("refused")),
-    }
-}
-
-// The same of an Update whose object has this `id` and more properties.
-fn change_text(alloc: Global, more: &str) -> Result<String, Fail> {
-    let body = format!(in alloc;
-        r#"{{"type":"Update","object":{{"id":"https://far.example/o"{more}}}}}"#
-    )?;
-    let value = read_body(alloc, body.as_bytes())?;
-    let author = Iri::parse(alloc, AUTHOR)?;
-    change_in(alloc, &value, &author)
-}
-
-// What stands in the object of an Update, and what is done to its content, summary, name, url,
-// inReplyTo and tags.
+// Updates, and what each does to the content, summary, name, url, inReplyTo and tags of its object.
 const CHANGES: [(&str, &str); 7] = [
-    ("", "keep keep keep keep keep keep "),
     (
-        r#","content":"New","summary":null"#,
-        "give remove keep keep keep keep New",
+        r#"{"type":"Update","object":{"id":"https://far.example/o"}}"#,
+        "https://far.example/o keep keep keep keep keep keep ",
     ),
     (
-        r#","content":null,"name":null,"url":null,"inReplyTo":null,"tag":null"#,
-        "remove keep remove remove remove remove ",
+        r#"{"type":"Update","object":{"id":"https://far.example/o","content":"New","summary":null}}"#,
+        "https://far.example/o give remove keep keep keep keep New",
     ),
     (
-        r#","content":5,"summary":["x"],"url":"tea","inReplyTo":[],"tag":"x""#,
-        "keep keep keep keep keep keep ",
+        r#"{"type":"Update","object":{"id":"https://far.example/o","content":null,"name":null,"url":null,"inReplyTo":null,"tag":null}}"#,
+        "https://far.example/o remove keep remove remove remove remove ",
     ),
     (
-        r#","name":"","url":"https://far.example/u","inReplyTo":["https://far.example/r"],"tag":[]"#,
-        "keep keep give give give give ",
+        r#"{"type":"Update","object":{"id":"https://far.example/o","content":5,"summary":["x"],"url":"tea","inReplyTo":[],"tag":"x"}}"#,
+        "https://far.example/o keep keep keep keep keep keep ",
     ),
     (
-        r#","tag":{"type":"Hashtag"},"type":"Tombstone","attributedTo":"x","to":["x"]"#,
-        "keep keep keep keep keep give ",
+        r#"{"type":"Update","object":{"id":"https://far.example/o","name":"","url":"https://far.example/u","inReplyTo":["https://far.example/r"],"tag":[]}}"#,
+        "https://far.example/o keep keep give give give give ",
     ),
     (
-        r#","content":"a","content":null"#,
-        "remove keep keep keep keep keep ",
+        r#"{"type":"Update","object":{"id":"https://far.example/o","tag":{"type":"Hashtag"},"type":"Tombstone","attributedTo":"x","to":["x"]}}"#,
+        "https://far.example/o keep keep keep keep keep give ",
+    ),
+    (
+        r#"{"type":"Update","object":{"id":"https://far.example/o","content":"a","content":null}}"#,
+        "https://far.example/o remove keep keep keep keep keep ",
     ),
 ];
 
 #[test]
 fn an_update_keeps_removes_and_gives(rt: HostRuntime) -> Result<(), Fail> {
-    for (more, text) in &CHANGES {
-        let wanted = format!(in rt.alloc(); "https://far.example/o {text}")?;
-        assert_eq!(rt;
-            change_text(rt.alloc(), more)?.as_str(),
-            wanted.as_str(),
-            "{more}"
-        );
-    }
-    Ok(())
+    expect_all(rt.alloc(), Look::Change, &CHANGES)
 }

@@ -1,23 +1,7 @@
 //! Bodies as clients write them.
-use fedi_objects::{Activity, ObjectRef, StrippedObject, new_document, text_of, write_object};
-use fedi_reading::{read_body, read_posted};
-use serde_json::Value;
-use std::alloc::Global;
+use crate::bodies::Part::{self, Text, Times};
+use crate::looks::{Look, expect_all, expect_of};
 use std::test::Fail;
-
-// The name of the fault of what is posted, or `none`.
-fn fault_in(alloc: Global, value: &Value) -> &'static str {
-    match read_posted(alloc, value) {
-        Ok(_) => "none",
-        Err(fault) => fault.name(),
-    }
-}
-
-// The same of a body.
-fn fault_of(alloc: Global, body: &str) -> Result<&'static str, Fail> {
-    let value = read_body(alloc, body.as_bytes())?;
-    Ok(fault_in(alloc, &value))
-}
 
 const FAULTS: [(&str, &str); 15] = [
     ("[]", "NotObject"),
@@ -45,43 +29,54 @@ const FAULTS: [(&str, &str); 15] = [
 
 #[test]
 fn faults_come_in_their_order(rt: HostRuntime) -> Result<(), Fail> {
-    for (body, name) in &FAULTS {
-        assert_eq!(rt; fault_of(rt.alloc(), body)?, *name, "{body}");
-    }
-    Ok(())
+    expect_all(rt.alloc(), Look::NoFault, &FAULTS)
 }
 
-/// The text this many times.
-pub(crate) fn repeated(alloc: Global, text: &str, count: usize) -> Result<String, Fail> {
-    let mut all = String::new(alloc);
-    for _ in 0..count {
-        all.push_str(text)?;
-    }
-    Ok(all)
-}
+// What stands in a note in front of its recipients, of its content, and behind it.
+const RECIPIENTS: Part = Text(r#"{"type":"Note","bto":[0"#);
 
-// The fault of a note with this many entries of recipients, in two fields, and a content of this many bytes.
-fn fault_of_note(alloc: Global, entries: usize, bytes: usize) -> Result<&'static str, Fail> {
-    let others = repeated(alloc, ",\"Public\"", entries.saturating_sub(2))?;
-    let content = repeated(alloc, "x", bytes)?;
-    let body = format!(in alloc;
-        r#"{{"type":"Note","bto":[0{others}],"cc":5,"content":"{content}"}}"#
-    )?;
-    fault_of(alloc, body.as_str())
-}
+const CONTENT: Part = Text(r#"],"cc":5,"content":""#);
+
+const END: Part = Text(r#""}"#);
+
+// Notes with 500 and 501 entries of recipients in two fields, and with contents of 65,536 and 65,537 bytes.
+const COUNTED: [(&[Part], &str); 3] = [
+    (
+        &[
+            RECIPIENTS,
+            Times(r#","Public""#, 498),
+            CONTENT,
+            Times("x", 65_536),
+            END,
+        ],
+        "none",
+    ),
+    (
+        &[
+            RECIPIENTS,
+            Times(r#","Public""#, 499),
+            CONTENT,
+            Times("x", 65_537),
+            END,
+        ],
+        "TooManyRecipients",
+    ),
+    (
+        &[
+            RECIPIENTS,
+            Times(r#","Public""#, 498),
+            CONTENT,
+            Times("x", 65_537),
+            END,
+        ],
+        "BadText",
+    ),
+];
 
 #[test]
 fn entries_and_bytes_are_counted(rt: HostRuntime) -> Result<(), Fail> {
-    for (entries, bytes, name) in [
-        (500, 65_536, "none"),
-        (501, 65_537, "TooManyRecipients"),
-        (500, 65_537, "BadText"),
-    ] {
-        assert_eq!(rt;
-            fault_of_note(rt.alloc(), entries, bytes)?,
-            name,
-            "{entries} {bytes}"
-        );
+    for (parts, wanted) in &COUNTED {
+        expect_of(rt.alloc(), Look::NoFault, parts, wanted)?;
     }
     Ok(())
 }
@@ -106,37 +101,7 @@ const OBJECTS: [(&str, &str); 4] = [
     ),
 ];
 
-// The text of the object of an activity, as its reader sees it.
-fn shown_text(alloc: Global, activity: &Activity) -> Result<Vec<u8>, Fail> {
-    let ObjectRef::Whole(note) = &activity.object else {
-        return Err(Fail::from("another object"));
-    };
-    let mut out = new_document(alloc)?;
-    write_object(&mut out, &StrippedObject::new(note), false, false)?;
-    Ok(text_of(out))
-}
-
-// The same of what is posted.
-fn text_in(alloc: Global, value: &Value) -> Result<Vec<u8>, Fail> {
-    match read_posted(alloc, value) {
-        Ok(activity) => shown_text(alloc, &activity),
-        Err(_) => Err(Fail::from("refused")),
-    }
-}
-
-// The same of a body.
-fn object_text(alloc: Global, body: &str) -> Result<Vec<u8>, Fail> {
-    let value = read_body(alloc, body.as_bytes())?;
-    text_in(alloc, &value)
-}
-
 #[test]
 fn an_object_is_read_by_its_properties(rt: HostRuntime) -> Result<(), Fail> {
-    for (body, text) in &OBJECTS {
-        assert!(rt;
-            object_text(rt.alloc(), body)?.as_slice() == text.as_bytes(),
-            "{body}"
-        );
-    }
-    Ok(())
+    expect_all(rt.alloc(), Look::Object, &OBJECTS)
 }

@@ -1,15 +1,14 @@
 -- How many activities each author has.
-use Rattle.std.proofs.Common.{◌≡◌, ℕ, zero, suc, ◌+◌, ◌<◌, ◌≤◌, ◌^◌, arith, Bool, true, false, List, [], ◌∷◌, ◌++◌, Option, Some, None, get_or, set, length, ltb, refl, sym, ap, subst, ◌∙◌}
-use Rattle.std.proofs.lemmas.Bool.{lt-ltb, ltb-true}
+use Rattle.std.proofs.Common.{◌≡◌, ℕ, zero, suc, ◌+◌, ◌<◌, ◌≤◌, ◌^◌, arith, Bool, true, false, List, [], ◌∷◌, ◌++◌, Some, None, get_or, set, length, ltb, refl, sym, ap, subst, ◌∙◌}
 use Rattle.std.proofs.lemmas.Slice.Eq.{bytes_eq-Decides}
-use Rattle.std.specs.Prelude.{◌||◌, filter, map, nat_lt, if◌then◌else◌}
+use Rattle.std.specs.Prelude.{◌||◌, filter, nat_lt, if◌then◌else◌}
 use Rattle.std.specs.List.{find, list_any, position_or_len}
 use Rattle.std.specs.Str.{bytes_eq}
 use Rattle.fedi_address.specs.Recipients.{is_among}
 use Rattle.fedi_town.specs.declared.act.Act.{Act}
 use Rattle.fedi_town.specs.Towns.{is_by}
 use Rattle.fedi_register.specs.declared.register.Author.{Author}
-use Rattle.fedi_register.specs.declared.register.Mark.{Mark}
+use Rattle.fedi_register.specs.Marks.{Mark}
 use Rattle.fedi_register.specs.Registers.{CountsOne, IsIndexed, SameCounts, count_by, count_found, count_in, ids_of, is_author}
 use Rattle.fedi_register.proofs.Once.{place_any}
 

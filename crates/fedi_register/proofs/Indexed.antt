@@ -1,8 +1,8 @@
 -- The look-ups stay right.
-use Rattle.std.proofs.Common.{◌≡◌, ℕ, zero, suc, ◌+◌, arith, Bool, true, false, List, [], ◌∷◌, ◌++◌, length, refl, sym, ap, ◌∙◌}
+use Rattle.std.proofs.Common.{◌≡◌, ℕ, suc, ◌+◌, arith, Bool, true, false, List, [], ◌∷◌, ◌++◌, length, refl, sym, ap, ◌∙◌}
 use Rattle.std.specs.Prelude.{filter, is_some, map, Option, option_map, if◌then◌else◌}
 use Rattle.std.specs.Str.{bytes_eq}
-use Rattle.std.proofs.lemmas.List.{append-nil, length-append}
+use Rattle.std.proofs.lemmas.List.{length-append}
 use Rattle.std.proofs.lemmas.List.Elements.{filter-append}
 use Rattle.fedi_town.specs.declared.act.Act.{Act}
 use Rattle.fedi_town.specs.declared.effect.Effect.{Effect}
@@ -19,8 +19,8 @@ use Rattle.fedi_objects.specs.declared.activity.ObjectRef.{ObjectRef}
 use Rattle.fedi_objects.specs.declared.activity.ObjectRef.TheVariants.{Nothing, Id, Whole, Changed}
 use Rattle.fedi_objects.specs.declared.object.Object.{Object}
 use Rattle.fedi_register.specs.declared.register.Author.{Author}
-use Rattle.fedi_register.specs.declared.register.Mark.{Mark}
-use Rattle.fedi_register.specs.Registers.{CountsOne, IsIndexed, SameCounts, asks_to_follow, count_by, count_in, is_keyed, is_making, keeps_away, key_mark, marks_from, object_mark, places_from, ref_mark}
+use Rattle.fedi_register.specs.Marks.{Mark}
+use Rattle.fedi_register.specs.Registers.{CountsOne, IsIndexed, SameCounts, asks_to_follow, count_by, is_keyed, is_making, keeps_away, key_mark, marks_from, object_mark, places_from, ref_mark}
 
 -- ---- one more activity
 

@@ -1,29 +1,22 @@
 -- What is found at the places of those that may pass is what is found among all.
-use Rattle.std.proofs.Common.{◌≡◌, ℕ, suc, ◌+◌, arith, Bool, true, false, List, [], ◌∷◌, ◌++◌, Option, Some, None, refl, sym, ap, subst, ◌∙◌, append_assoc, eq-eqb, length}
-use Rattle.std.specs.Prelude.{◌&&◌, ◌||◌, nat_eq, map, filter, is_some, option_map, slice_get, if◌then◌else◌}
+use Rattle.std.proofs.Common.{◌≡◌, ℕ, suc, Bool, true, false, List, [], ◌∷◌, ◌++◌, Option, Some, None, refl, sym, ap, subst, ◌∙◌, append_assoc, eq-eqb, length}
+use Rattle.std.specs.Prelude.{◌&&◌, nat_eq, is_some, option_map, slice_get, if◌then◌else◌}
 use Rattle.std.specs.List.{find, fold, list_any}
 use Rattle.std.specs.Str.{bytes_eq}
 use Rattle.std.proofs.lemmas.Bool.{and_parts}
 use Rattle.std.proofs.lemmas.Slice.Eq.{bytes_eq-Decides}
 use Rattle.fedi_town.specs.declared.act.Act.{Act}
-use Rattle.fedi_town.specs.Deeds.{is_block, is_create, is_done, is_follow}
+use Rattle.fedi_town.specs.Deeds.{is_create, is_done}
 use Rattle.fedi_town.specs.Objects.{makes}
 use Rattle.fedi_town.specs.Relations.{is_about, is_block_of, is_following, is_id, ref_id}
 use Rattle.fedi_town.specs.Towns.{deed, is_by}
 use Rattle.fedi_town.specs.Legal.{has_key}
 use Rattle.fedi_register.specs.declared.register.Author.{Author}
-use Rattle.fedi_register.specs.declared.register.Mark.{Mark}
+use Rattle.fedi_register.specs.Marks.{Mark, first_place}
 use Rattle.fedi_register.specs.Following.{with_follower}
 use Rattle.fedi_register.specs.Keys.{is_repeat}
-use Rattle.fedi_register.specs.Registers.{IsIndexed, act_marked, asks_to_follow, follower_in, is_block_at, is_keyed, is_making, is_marked, is_there, key_mark, keeps_away, mark_of, marks_from, object_mark, places_from, ref_mark, with_follower_at}
-
-got_at : (before : List Act) (x : Act) (xs : List Act) → slice_get (before ++ x ∷ xs) (length before) ≡ Some x
-got_at [] x xs = refl
-got_at (y ∷ before) x xs = got_at before x xs
-
-longer : (before : List Act) (x : Act) → length (before ++ x ∷ []) ≡ suc (length before)
-longer [] x = refl
-longer (y ∷ before) x = ap suc (longer before x)
+use Rattle.fedi_register.proofs.Chains.{got_at, longer}
+use Rattle.fedi_register.specs.Registers.{IsIndexed, act_found, asks_to_follow, follower_in, is_block_at, is_keyed, is_making, is_there, key_mark, keeps_away, mark_of, marks_from, object_mark, passes_at, places_from, ref_mark, with_follower_at}
 
 -- ---- whether one passes
 
@@ -56,28 +49,27 @@ blocks_found a b acts follows places keyed made authors h = rw h.blocks (any-aft
 abbrev IsMarkedBy : (Act → ℕ) → ℕ → (Act → Bool) → Type 0
 IsMarkedBy mark n q = (x : Act) → (nat_eq (mark x) n && q x) ≡ q x
 
-first-marked : (passes : Bool) (all : List Act) (x : Act) (m : Mark) (later : Option Mark) (others : Option Act) (at : Bool) → at ≡ passes
-    → slice_get all m.place ≡ Some x → act_marked all later ≡ others → act_marked all (if at then Some m else later) ≡ (if passes then Some x else others)
-first-marked passes all x m later others at same got rest =
-    subst (λ (b : Bool). act_marked all (if at then Some m else later) ≡ (if b then Some x else others)) same
-    (elim at as (λ b. act_marked all (if b then Some m else later) ≡ (if b then Some x else others)) [ true ↦ got | false ↦ rest ])
+first-marked : (passes : Bool) (all : List Act) (x : Act) (place : ℕ) (later : Option ℕ) (others : Option Act) (at : Bool) → at ≡ passes
+    → slice_get all place ≡ Some x → act_found all later ≡ others → act_found all (if at then Some place else later) ≡ (if passes then Some x else others)
+first-marked passes all x place later others at same got rest =
+    subst (λ (b : Bool). act_found all (if at then Some place else later) ≡ (if b then Some x else others)) same
+    (elim at as (λ b. act_found all (if b then Some place else later) ≡ (if b then Some x else others)) [ true ↦ got | false ↦ rest ])
 
 find-marked : (p q : Act → Bool) (mark : Act → ℕ) (n : ℕ) → ((x : Act) → p x ≡ false → q x ≡ false) → IsMarkedBy mark n q → (before xs : List Act)
-    → act_marked (before ++ xs) (find (is_marked q (before ++ xs) n) (marks_from p mark (length before) xs)) ≡ find q xs
-unfolding is_marked
+    → act_found (before ++ xs) (first_place (passes_at q (before ++ xs)) n (marks_from p mark (length before) xs)) ≡ find q xs
+unfolding passes_at
 find-marked p q mark n fails by before [] = refl
 find-marked p q mark n fails by before (x ∷ xs) =
-    let found : List Act → ℕ → Option Act = λ all k. act_marked all (find (is_marked q all n) (marks_from p mark k xs)) in
+    let first : List Act → ℕ → Option ℕ = λ all k. first_place (passes_at q all) n (marks_from p mark k xs) in
+    let found : List Act → ℕ → Option Act = λ all k. act_found all (first all k) in
     let rest : found (before ++ x ∷ xs) (suc (length before)) ≡ find q xs =
     subst (λ (all : List Act). found all (suc (length before)) ≡ find q xs) (append_assoc before (x ∷ []) xs)
     (subst (λ (k : ℕ). found ((before ++ x ∷ []) ++ xs) k ≡ find q xs) (longer before x) (find-marked p q mark n fails by (before ++ x ∷ []) xs)) in
-    let first : Mark = record { mark = mark x; place = length before } in
-    let here : is_marked q (before ++ x ∷ xs) n first ≡ q x =
-    ap (λ (o : Option Act). nat_eq (mark x) n && is_there q o) (got_at before x xs) ∙ by x in
-    elim (p x) as (λ b. p x ≡ b → act_marked (before ++ x ∷ xs) (find (is_marked q (before ++ x ∷ xs) n)
-    (if b then first ∷ marks_from p mark (suc (length before)) xs else marks_from p mark (suc (length before)) xs)) ≡ find q (x ∷ xs)) [
-      | true ↦ λ e. first-marked (q x) (before ++ x ∷ xs) x first (find (is_marked q (before ++ x ∷ xs) n) (marks_from p mark (suc (length before)) xs))
-          (find q xs) (is_marked q (before ++ x ∷ xs) n first) here (got_at before x xs) rest
+    let at : Bool = nat_eq (mark x) n && passes_at q (before ++ x ∷ xs) (length before) in
+    let here : at ≡ q x = ap (λ (o : Option Act). nat_eq (mark x) n && is_there q o) (got_at before x xs) ∙ by x in
+    elim (p x) as (λ b. p x ≡ b → act_found (before ++ x ∷ xs) (first_place (passes_at q (before ++ x ∷ xs)) n
+    (if b then record { mark = mark x; place = length before } ∷ marks_from p mark (suc (length before)) xs else marks_from p mark (suc (length before)) xs)) ≡ find q (x ∷ xs)) [
+      | true ↦ λ e. first-marked (q x) (before ++ x ∷ xs) x (length before) (first (before ++ x ∷ xs) (suc (length before))) (find q xs) at here (got_at before x xs) rest
       | false ↦ λ e. rest ∙ ap (λ (b : Bool). if b then Some x else find q xs) (sym (fails x e))
     ] refl
 
@@ -111,7 +103,7 @@ unfolding is_making makes
 makes_making id x none = rw none refl
 
 pub maker_found : (id : List ℕ) (n : ℕ) (acts : List Act) (follows blocks : List ℕ) (keyed made : List Mark) (authors : List Author)
-    → IsIndexed acts follows blocks keyed made authors → n ≡ mark_of id → act_marked acts (find (is_marked (makes id) acts n) made) ≡ find (makes id) acts
+    → IsIndexed acts follows blocks keyed made authors → n ≡ mark_of id → act_found acts (first_place (passes_at (makes id) acts) n made) ≡ find (makes id) acts
 maker_found id n acts follows blocks keyed made authors h is =
     rw (h.made, is) (find-marked is_making (makes id) object_mark (mark_of id) (makes_making id) (makes_marked id) [] acts)
 
@@ -137,7 +129,7 @@ repeats_keyed author key x none = without_key author key x x.repeat none
 
 pub repeat_found : (author key : List ℕ) (n : ℕ) (acts : List Act) (follows blocks : List ℕ) (keyed made : List Mark) (authors : List Author)
     → IsIndexed acts follows blocks keyed made authors → n ≡ mark_of key
-    → act_marked acts (find (is_marked (is_repeat author key) acts n) keyed) ≡ find (is_repeat author key) acts
+    → act_found acts (first_place (passes_at (is_repeat author key) acts) n keyed) ≡ find (is_repeat author key) acts
 repeat_found author key n acts follows blocks keyed made authors h is =
     rw (h.keyed, is) (find-marked is_keyed (is_repeat author key) key_mark (mark_of key) (repeats_keyed author key) (repeats_marked author key) [] acts)
 

@@ -1,4 +1,6 @@
+pub mod Chains
 pub mod Changes
 pub mod Following
 pub mod Keys
+pub mod Marks
 pub mod Registers

@@ -1,5 +1,5 @@
 -- The accepted activities, with what is looked up among them.
-use Rattle.std.specs.Prelude.{◌≡◌, ℕ, suc, ◌+◌, ◌*◌, ◌%◌, ◌≤◌, Bool, false, ◌&&◌, nat_eq, List, [], ◌∷◌, map, filter, length, Option, Some, None, is_some, option_map, slice_get, vec_len, vec_capacity, if◌then◌else◌}
+use Rattle.std.specs.Prelude.{◌≡◌, ℕ, suc, ◌+◌, ◌*◌, ◌%◌, ◌≤◌, Bool, false, List, [], ◌∷◌, map, filter, length, Option, Some, None, is_some, option_map, slice_get, vec_len, vec_capacity, if◌then◌else◌}
 use Rattle.std.specs.List.{find, fold}
 use Rattle.std.specs.Str.{bytes_eq}
 use Rattle.fedi_town.specs.declared.act.Act.{Act}
@@ -7,9 +7,9 @@ use Rattle.fedi_town.specs.Deeds.{is_block, is_create, is_follow}
 use Rattle.fedi_town.specs.Relations.{is_block_of, ref_id}
 use Rattle.fedi_town.specs.Towns.{deed, is_by}
 use Rattle.fedi_register.specs.declared.register.Author.{Author}
-use Rattle.fedi_register.specs.declared.register.Mark.{Mark}
 use Rattle.fedi_register.specs.declared.register.Register.TheInside.{Inside}
 use Rattle.fedi_register.specs.Following.{with_follower}
+use Rattle.fedi_register.specs.Marks.{Mark}
 
 -- the activities, the authors who are known, and how many more activities there is room for
 pub record Registered : Type 0 where
@@ -80,14 +80,14 @@ is_there q (Some x) = q x
 unfoldable pub is_block_at : List Act → List ℕ → List ℕ → ℕ → Bool
 is_block_at acts a b place = is_there (is_block_of a b) (slice_get acts place)
 
--- the mark is this, and what passes is there
-unfoldable pub is_marked : (Act → Bool) → List Act → ℕ → Mark → Bool
-is_marked q acts mark m = nat_eq m.mark mark && is_there q (slice_get acts m.place)
+-- what passes is at this place
+unfoldable pub passes_at : (Act → Bool) → List Act → ℕ → Bool
+passes_at q acts place = is_there q (slice_get acts place)
 
--- the activity at the place of the mark that was found
-abbrev pub act_marked : List Act → Option Mark → Option Act
-act_marked acts None = None
-act_marked acts (Some m) = slice_get acts m.place
+-- the activity at the place that was found
+abbrev pub act_found : List Act → Option ℕ → Option Act
+act_found acts None = None
+act_found acts (Some place) = slice_get acts place
 
 -- one more follower, where there is one
 abbrev pub follower_in : List ℕ → List (List ℕ) → Option Act → List (List ℕ)
@@ -146,9 +146,9 @@ pub record IsIndexed (acts : List Act) (f b : List ℕ) (k m : List Mark) (autho
 -- and there is room in each list
 abbrev pub IsRegister : Inside → Type 0
 IsRegister r =
-    IsIndexed r.acts.items r.follows.items r.blocks.items r.keyed.items r.made.items r.authors.items
+    IsIndexed r.acts.items r.follows.items r.blocks.items r.keyed.marks r.made.marks r.authors.items
     × (vec_len r.acts + r.room ≤ vec_capacity r.acts)
     × (vec_len r.follows + r.room ≤ vec_capacity r.follows)
     × (vec_len r.blocks + r.room ≤ vec_capacity r.blocks)
-    × (vec_len r.keyed + r.room ≤ vec_capacity r.keyed)
-    × (vec_len r.made + r.room ≤ vec_capacity r.made)
+    × (r.room ≤ r.keyed.room)
+    × (r.room ≤ r.made.room)

@@ -4,6 +4,7 @@
 mod acts;
 mod applying;
 mod followers;
+mod marks;
 mod register;
 mod repeats;
 

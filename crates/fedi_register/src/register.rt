@@ -9,11 +9,13 @@ ghost use Rattle.fedi_town.specs.Relations.{is_block_of};
 ghost use Rattle.fedi_register.specs.Changes.{AreMadeOnce};
 ghost use Rattle.fedi_register.specs.Following.{with_follower, with_one};
 ghost use Rattle.fedi_register.specs.Keys.{is_repeat};
-ghost use Rattle.fedi_register.specs.Registers.{CountsOne, SameCounts, asks_to_follow, count_by, count_in, ids_of, is_author, is_block_at, is_keyed, is_making, is_marked, is_there, keeps_away, key_mark, mark_of, mark_step, object_mark, ref_mark, with_follower_at};
+ghost use Rattle.fedi_register.specs.Marks.{first_place};
+ghost use Rattle.fedi_register.specs.Registers.{CountsOne, SameCounts, asks_to_follow, count_by, count_in, ids_of, is_author, is_block_at, is_keyed, is_making, keeps_away, key_mark, mark_of, mark_step, object_mark, passes_at, ref_mark, with_follower_at};
 
 use crate::acts::{is_block, is_block_of, is_create, is_follow, makes};
 use crate::applying::apply_effect;
 use crate::followers::add_follower;
+use crate::marks::Marks;
 use crate::repeats::is_repeat;
 use fedi_address::Iri;
 use fedi_kept::Kept;
@@ -29,13 +31,6 @@ struct Author {
     count: usize,
 }
 
-// A number for what is looked up of an activity, and the activity's place.
-#[derive(Drop)]
-struct Mark {
-    mark: u64,
-    place: usize,
-}
-
 /// The accepted activities in order. Beside them stand the places of the Follows and of the Blocks,
 /// marks of the keys under which posts were made and of the objects that were made, and how many
 /// activities each author has: what is looked up for each post is not sought among all of them.
@@ -44,8 +39,8 @@ pub struct Register {
     acts: Vec<Kept>,
     follows: Vec<usize>,
     blocks: Vec<usize>,
-    keyed: Vec<Mark>,
-    made: Vec<Mark>,
+    keyed: Marks,
+    made: Marks,
     authors: Vec<Author>,
     // How many more activities there is room for in each of the lists.
     room: usize,
@@ -79,16 +74,15 @@ fn push_if(list: &mut Vec<usize>, passes: bool, place: usize)
     }
 }
 
-// Appends a mark where the test was passed, to a list that has room for one more.
-fn mark_if(list: &mut Vec<Mark>, passes: bool, mark: u64, place: usize)
-    requires { vec_len list.old + 1 ≤ vec_capacity list.old }
-    ensures items { list.new.items ≡ list.old.items
+// Appends a mark where the test was passed, to marks that have room for one more.
+fn mark_if(list: &mut Marks, passes: bool, mark: u64, place: usize)
+    requires { 1 ≤ list.old.room }
+    ensures marks { list.new.marks ≡ list.old.marks
         ++ (if passes then record { mark = mark; place = place } ∷ [] else []) }
-    ensures len { vec_len list.new ≤ vec_len list.old + 1 }
-    ensures capacity { vec_capacity list.new ≡ vec_capacity list.old }
+    ensures room { list.old.room ≤ list.new.room + 1 }
 {
     if passes {
-        list.push_reserved(Mark { mark, place });
+        list.push(mark, place);
     }
 }
 
@@ -194,8 +188,9 @@ fn blocks_among(acts: &[Kept], places: &[usize], a: &Iri, b: &Iri) -> bool
     places.iter().any(|place| is_block_at(acts, a, b, *place))
 }
 
+#[tactic(auto, unfolding(crate::specs::Registers::passes_at))]
 fn is_made_at(acts: &[Kept], id: &Iri, place: usize) -> bool
-    ensures { result ≡ is_there (makes id.now) (slice_get acts.now place) }
+    ensures { result ≡ passes_at (makes id.now) acts.now place }
 {
     match acts.get(place) {
         Some(act) => makes(act, id),
@@ -203,22 +198,15 @@ fn is_made_at(acts: &[Kept], id: &Iri, place: usize) -> bool
     }
 }
 
-#[tactic(auto, unfolding(crate::specs::Registers::is_marked))]
-fn is_marked_maker(acts: &[Kept], id: &Iri, mark: u64, marked: &Mark) -> bool
-    ensures { result ≡ is_marked (makes id.now) acts.now mark marked.now }
+fn marked_maker(acts: &[Kept], made: &Marks, id: &Iri, mark: u64) -> Option<usize>
+    ensures { result ≡ first_place (passes_at (makes id.now) acts.now) mark made.now.marks }
 {
-    marked.mark == mark && is_made_at(acts, id, marked.place)
+    made.find(mark, |place| is_made_at(acts, id, place))
 }
 
-fn marked_maker<'a>(acts: &[Kept], made: &'a [Mark], id: &Iri, mark: u64) -> Option<&'a Mark>
-    ensures { option_copied result ≡ find (is_marked (makes id.now) acts.now mark) made.now }
-{
-    made.iter()
-        .find(|marked| is_marked_maker(acts, id, mark, marked))
-}
-
+#[tactic(auto, unfolding(crate::specs::Registers::passes_at))]
 fn is_repeat_at(acts: &[Kept], author: &Iri, key: &RepeatKey, place: usize) -> bool
-    ensures { result ≡ is_there (is_repeat author.now key.now) (slice_get acts.now place) }
+    ensures { result ≡ passes_at (is_repeat author.now key.now) acts.now place }
 {
     match acts.get(place) {
         Some(act) => is_repeat(act, author, key),
@@ -226,26 +214,17 @@ fn is_repeat_at(acts: &[Kept], author: &Iri, key: &RepeatKey, place: usize) -> b
     }
 }
 
-#[tactic(auto, unfolding(crate::specs::Registers::is_marked))]
-fn is_marked_repeat(acts: &[Kept], author: &Iri, key: &RepeatKey, mark: u64, marked: &Mark) -> bool
-    ensures { result ≡ is_marked (is_repeat author.now key.now) acts.now mark marked.now }
-{
-    marked.mark == mark && is_repeat_at(acts, author, key, marked.place)
-}
-
-fn marked_repeat<'a>(
+fn marked_repeat(
     acts: &[Kept],
-    keyed: &'a [Mark],
+    keyed: &Marks,
     author: &Iri,
     key: &RepeatKey,
     mark: u64,
-) -> Option<&'a Mark>
-    ensures { option_copied result
-        ≡ find (is_marked (is_repeat author.now key.now) acts.now mark) keyed.now }
+) -> Option<usize>
+    ensures { result
+        ≡ first_place (passes_at (is_repeat author.now key.now) acts.now) mark keyed.now.marks }
 {
-    keyed
-        .iter()
-        .find(|marked| is_marked_repeat(acts, author, key, mark, marked))
+    keyed.find(mark, |place| is_repeat_at(acts, author, key, place))
 }
 
 #[tactic(auto, unfolding(crate::specs::Registers::with_follower_at))]
@@ -384,8 +363,8 @@ impl Register {
             acts: Vec::new(alloc),
             follows: Vec::new(alloc),
             blocks: Vec::new(alloc),
-            keyed: Vec::new(alloc),
-            made: Vec::new(alloc),
+            keyed: Marks::empty(alloc),
+            made: Marks::empty(alloc),
             authors: Vec::new(alloc),
             room: 0,
         }
@@ -411,7 +390,7 @@ impl Register {
     {
         let mark = mark_of(id.text().as_bytes());
         match marked_maker(&self.acts, &self.made, id, mark) {
-            Some(marked) => act_at(&self.acts, marked.place),
+            Some(place) => act_at(&self.acts, place),
             None => None,
         }
     }
@@ -422,7 +401,7 @@ impl Register {
     {
         let mark = mark_of(key.bytes());
         match marked_repeat(&self.acts, &self.keyed, author, key, mark) {
-            Some(marked) => act_at(&self.acts, marked.place),
+            Some(place) => act_at(&self.acts, place),
             None => None,
         }
     }
@@ -454,8 +433,8 @@ impl Register {
         self.acts.reserve(2)?;
         self.follows.reserve(2)?;
         self.blocks.reserve(2)?;
-        self.keyed.reserve(2)?;
-        self.made.reserve(2)?;
+        self.keyed.reserve()?;
+        self.made.reserve()?;
         self.room = 2;
         Ok(())
     }

@@ -2,7 +2,8 @@
 //! and worked texts want of addresses, keys, moments, requests and what they ask. They stand apart from the libraries, since a crate
 //! with tests is proved with them and without.
 //!
-//! What a test owns over many exits is slow to prove. So values are made in helper functions, and lent.
+//! What a test owns over many exits is slow to prove. So values are made in helper functions, and lent, and a test fails with the text of
+//! the row that does not hold.
 #![tactic(auto)]
 
 #[cfg(test)]
@@ -17,3 +18,5 @@ mod outside;
 mod requests;
 #[cfg(test)]
 mod routes;
+#[cfg(test)]
+mod rows;

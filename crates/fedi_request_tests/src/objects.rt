@@ -1,6 +1,7 @@
 //! The texts of moments, as other software writes them.
+use crate::rows::expect;
 use fedi_text::Moment;
-use std::alloc::Global;
+use std::alloc::{AllocError, Global};
 use std::test::Fail;
 
 // Seconds since 1970, and the texts that other software writes for them.
@@ -38,9 +39,7 @@ const MOMENTS: [(u64, &str, &str); 7] = [
     ),
 ];
 
-// Whether these are the texts of the moment.
-fn has_texts(alloc: Global, row: &(u64, &str, &str)) -> Result<bool, Fail> {
-    let moment = Moment::new(row.0).ok_or("past the year 9999")?;
+fn has_texts(alloc: Global, moment: Moment, row: &(u64, &str, &str)) -> Result<bool, AllocError> {
     let text = moment.to_text(alloc)?;
     Ok(text.text() == row.1 && moment.http_date().as_slice() == row.2.as_bytes())
 }
@@ -48,7 +47,8 @@ fn has_texts(alloc: Global, row: &(u64, &str, &str)) -> Result<bool, Fail> {
 #[test]
 fn moments_have_the_texts_of_the_calendar(rt: HostRuntime) -> Result<(), Fail> {
     for row in &MOMENTS {
-        assert!(rt; has_texts(rt.alloc(), row)?, "{}", row.1);
+        let moment = Moment::new(row.0).ok_or("past the year 9999")?;
+        expect(has_texts(rt.alloc(), moment, row)?, row.1)?;
     }
     Ok(())
 }

@@ -1,5 +1,6 @@
 //! Sources, sinks and keepers in memory. What is made to fail is made in a function of its own and lent, since a test that owns
 //! it over many exits is slow to prove.
+use crate::rows::expect;
 use fedi_outside::{
     CalmKeeper, CalmSource, Failed, Keeper, MemoryKeeper, MemorySink, MemorySource, Sink, Source,
 };
@@ -35,22 +36,30 @@ fn calm_lengths(alloc: Global) -> Result<Vec<usize>, Fail> {
     lengths(alloc, &mut source)
 }
 
+// How the bytes come: in such pieces, with these reads failing, and how long each read is then.
+const READS: [(&str, &[usize], &[u64], &[usize]); 4] = [
+    ("at once", &[], &[], &[3, 2, 0]),
+    ("in two", &[0, 2], &[], &[1, 2, 2, 0]),
+    ("in pieces that fail", &[9, 1, 9], &[1, 2], &[3, 9, 9, 2, 0]),
+    ("at once, and two fail", &[], &[0, 3], &[9, 3, 2, 9, 0]),
+];
+
+fn has_lengths(alloc: Global, row: &(&str, &[usize], &[u64], &[usize])) -> Result<bool, Fail> {
+    let found = lengths_of(alloc, row.1, row.2)?;
+    Ok(found.as_slice() == row.3)
+}
+
+fn has_calm_lengths(alloc: Global) -> Result<bool, Fail> {
+    let found = calm_lengths(alloc)?;
+    Ok(found.as_slice() == [3, 2, 0].as_slice())
+}
+
 #[test]
 fn bytes_are_read_in_pieces_and_reads_fail(rt: HostRuntime) -> Result<(), Fail> {
-    let rows: [(&[usize], &[u64], &[usize]); 4] = [
-        (&[], &[], &[3, 2, 0]),
-        (&[0, 2], &[], &[1, 2, 2, 0]),
-        (&[9, 1, 9], &[1, 2], &[3, 9, 9, 2, 0]),
-        (&[], &[0, 3], &[9, 3, 2, 9, 0]),
-    ];
-    for (pieces, failing, wanted) in rows {
-        assert!(rt;
-            lengths_of(rt.alloc(), pieces, failing)?.as_slice() == wanted,
-            "{pieces:?}"
-        );
+    for row in &READS {
+        expect(has_lengths(rt.alloc(), row)?, row.0)?;
     }
-    assert!(rt; calm_lengths(rt.alloc())?.as_slice() == [3, 2, 0].as_slice());
-    Ok(())
+    expect(has_calm_lengths(rt.alloc())?, "calm")
 }
 
 // What is written of each text in turn: how many of its bytes, or 9 if the write failed.
@@ -63,9 +72,10 @@ fn a_sink_keeps_what_it_takes(rt: HostRuntime) -> Result<(), Fail> {
     let failing = [1].to_vec(rt.alloc())?;
     let mut sink = MemorySink::new(rt.alloc()).limited(2).failing(failing);
     let counts = counts(&mut sink, [b"abc", b"c", b"c", b""]);
-    assert_eq!(rt; counts, [2, 9, 1, 0]);
-    assert_eq!(rt; sink.bytes(), b"abc".as_slice());
-    Ok(())
+    expect(
+        counts == [2, 9, 1, 0] && sink.bytes() == b"abc".as_slice(),
+        "the writes of a sink",
+    )
 }
 
 // Adds each payload, however often the keeper fails, and says whether each is loaded again, and none behind the last.
@@ -102,7 +112,6 @@ fn calm_keeps(alloc: Global, payloads: &[&[u8]]) -> Result<bool, Fail> {
 #[test]
 fn records_are_kept_whatever_fails(rt: HostRuntime) -> Result<(), Fail> {
     let payloads: [&[u8]; 3] = [b"one", b"", b"three"];
-    assert!(rt; failing_keeps(rt.alloc(), &payloads)?);
-    assert!(rt; calm_keeps(rt.alloc(), &payloads)?);
-    Ok(())
+    expect(failing_keeps(rt.alloc(), &payloads)?, "a keeper that fails")?;
+    expect(calm_keeps(rt.alloc(), &payloads)?, "a calm keeper")
 }

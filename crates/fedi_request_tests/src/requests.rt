@@ -1,4 +1,5 @@
 //! Requests as clients write them, and a reply as they read it.
+use crate::rows::expect;
 use fedi_http::{Arrived, Buffer, read_request, read_request_head, reply_bytes};
 use fedi_model::{Coding, Refusal, Request, refusal_reply};
 use fedi_outside::MemorySource;
@@ -6,20 +7,18 @@ use fedi_text::Moment;
 use std::alloc::{AllocError, Global};
 use std::test::Fail;
 
+const REFUSAL: &str =
+    "HTTP/1.1 401 Unauthorized\r\nDate: Sun, 06 Nov 1994 08:49:37 GMT\r\nWWW-Authenticate: Bearer\r\nContent-Type: application/json\r\nContent-Length: 20\r\nConnection: close\r\n\r\n{\"error\":\"WrongKey\"}";
+
+fn refusal_text(alloc: Global) -> Result<Vec<u8>, AllocError> {
+    let reply = refusal_reply(Refusal::WrongKey);
+    reply_bytes(alloc, &reply, Moment::clamped(784_111_777), false, true)
+}
+
 #[test]
 fn a_refusal_is_written(rt: HostRuntime) -> Result<(), Fail> {
-    let reply = refusal_reply(Refusal::WrongKey);
-    let text = reply_bytes(
-        rt.alloc(),
-        &reply,
-        Moment::clamped(784_111_777),
-        false,
-        true,
-    )?;
-    let wanted =
-        b"HTTP/1.1 401 Unauthorized\r\nDate: Sun, 06 Nov 1994 08:49:37 GMT\r\nWWW-Authenticate: Bearer\r\nContent-Type: application/json\r\nContent-Length: 20\r\nConnection: close\r\n\r\n{\"error\":\"WrongKey\"}";
-    assert!(rt; text.as_slice() == wanted.as_slice());
-    Ok(())
+    let text = refusal_text(rt.alloc())?;
+    expect(text.as_slice() == REFUSAL.as_bytes(), REFUSAL)
 }
 
 /// What the request says behind its target: where its body ends, and ` head` and ` close` if it says so.
@@ -32,19 +31,33 @@ fn said(alloc: Global, request: &Request) -> Result<String, AllocError> {
     }
 }
 
-/// What the head is read as, or the name of the refusal.
-fn outcome(alloc: Global, head: &str) -> Result<String, AllocError> {
-    match read_request_head(alloc, head.as_bytes()) {
-        Ok(request) => said(alloc, &request),
+/// What is read, or the name of the refusal.
+fn outcome(alloc: Global, read: &Result<Request, Refusal>) -> Result<String, AllocError> {
+    match read {
+        Ok(request) => said(alloc, request),
         Err(refusal) => format!(in alloc; "{refusal:?}"),
     }
 }
 
-/// Whether the head with this first line and these fields is read as that.
-fn is_read_as(alloc: Global, row: &(&str, &str, &str)) -> Result<bool, AllocError> {
+fn is_outcome(
+    alloc: Global,
+    read: &Result<Request, Refusal>,
+    wanted: &str,
+) -> Result<bool, AllocError> {
+    let outcome = outcome(alloc, read)?;
+    Ok(outcome.as_str() == wanted)
+}
+
+/// Whether the head is read as that.
+fn is_read_as(alloc: Global, head: &str, wanted: &str) -> Result<bool, AllocError> {
+    let read = read_request_head(alloc, head.as_bytes());
+    is_outcome(alloc, &read, wanted)
+}
+
+fn expect_head(alloc: Global, row: &(&str, &str, &str)) -> Result<(), Fail> {
     let (line, fields, wanted) = *row;
     let head = format!(in alloc; "{line}\r\n{fields}\r\n\r\n")?;
-    Ok(outcome(alloc, head.as_str())?.as_str() == wanted)
+    expect(is_read_as(alloc, &head, wanted)?, &head)
 }
 
 const GET: &str = "GET / HTTP/1.1";
@@ -169,7 +182,7 @@ const HEADS: [(&str, &str, &str); 50] = [
 #[test]
 fn heads_are_read_or_refused(rt: HostRuntime) -> Result<(), Fail> {
     for row in &HEADS {
-        assert!(rt; is_read_as(rt.alloc(), row)?, "{} {}", row.0, row.1);
+        expect_head(rt.alloc(), row)?;
     }
     Ok(())
 }
@@ -182,26 +195,32 @@ fn push_request(text: &mut Vec<u8>, request: &Request, body: &[u8]) -> Result<()
     text.extend_from_slice(b"; ")
 }
 
-// Appends the next request, or why there is none, and says whether to go on.
-fn next(
-    alloc: Global,
-    source: &mut MemorySource,
-    buffer: &mut Buffer,
-    text: &mut Vec<u8>,
-) -> Result<bool, AllocError> {
-    let last: &[u8] = match read_request(alloc, source, buffer) {
+// Appends what arrived, and says whether to go on.
+fn push_arrived(text: &mut Vec<u8>, arrived: &Arrived, body: &[u8]) -> Result<bool, AllocError> {
+    let last: &[u8] = match arrived {
         Arrived::Request(request) => {
-            push_request(text, &request, buffer.body())?;
+            push_request(text, request, body)?;
             return Ok(true);
         }
         Arrived::End => b"End",
         Arrived::CutShort => b"CutShort",
-        Arrived::Refused(refusal) => name_of(refusal),
+        Arrived::Refused(refusal) => name_of(*refusal),
         Arrived::ReadFault => b"ReadFault",
         Arrived::Memory => b"Memory",
     };
     text.extend_from_slice(last)?;
     Ok(false)
+}
+
+// Appends the next request, or why there is none, and says whether to go on.
+fn push_next(
+    alloc: Global,
+    source: &mut MemorySource,
+    buffer: &mut Buffer,
+    text: &mut Vec<u8>,
+) -> Result<bool, AllocError> {
+    let arrived = read_request(alloc, source, buffer);
+    push_arrived(text, &arrived, buffer.body())
 }
 
 /// The names of the refusals of a request that is not read whole.
@@ -214,16 +233,19 @@ fn name_of(refusal: Refusal) -> &'static [u8] {
     }
 }
 
-// The targets and the bodies of the requests that arrive, and why no further one does.
-fn arrivals(alloc: Global, source: &mut MemorySource) -> Result<Vec<u8>, AllocError> {
-    let mut buffer = Buffer::new(alloc);
-    let mut text = Vec::new(alloc);
+// Appends the targets and the bodies of the requests that arrive, and why no further one does.
+fn push_arrivals(
+    alloc: Global,
+    source: &mut MemorySource,
+    buffer: &mut Buffer,
+    text: &mut Vec<u8>,
+) -> Result<(), AllocError> {
     for _ in 0..9 {
-        if !next(alloc, source, &mut buffer, &mut text)? {
+        if !push_next(alloc, source, buffer, text)? {
             break;
         }
     }
-    Ok(text)
+    Ok(())
 }
 
 /// How the bytes come: the first piece has so many, and the others have this size, or all of the rest. This read fails.
@@ -243,20 +265,40 @@ fn pieces_of(size: usize) -> Cutting {
     }
 }
 
-// The same of these bytes, if they come so.
-fn arrivals_of(alloc: Global, bytes: &[u8], cutting: Cutting) -> Result<Vec<u8>, AllocError> {
-    let mut pieces = Vec::new(alloc);
+fn push_pieces(pieces: &mut Vec<usize>, length: usize, cutting: Cutting) -> Result<(), AllocError> {
     pieces.push(cutting.first)?;
-    if let Some(size) = cutting.others {
-        for _ in 0..bytes.len() {
-            pieces.push(size)?;
-        }
+    match cutting.others {
+        Some(size) => pieces.resize(length.saturating_add(1), size),
+        None => Ok(()),
     }
+}
+
+// A source of these bytes, if they come so.
+fn source_of(alloc: Global, bytes: &[u8], cutting: Cutting) -> Result<MemorySource, AllocError> {
+    let mut pieces = Vec::new(alloc);
+    push_pieces(&mut pieces, bytes.len(), cutting)?;
     let failing = [cutting.fails].to_vec(alloc)?;
-    let mut source = MemorySource::new(alloc, bytes.to_vec(alloc)?)
-        .cut(pieces)
-        .failing(failing);
-    arrivals(alloc, &mut source)
+    let source = MemorySource::new(alloc, bytes.to_vec(alloc)?);
+    Ok(source.cut(pieces).failing(failing))
+}
+
+// What arrives of these bytes, if they come so.
+fn arrivals_of(alloc: Global, bytes: &[u8], cutting: Cutting) -> Result<Vec<u8>, AllocError> {
+    let mut source = source_of(alloc, bytes, cutting)?;
+    let mut buffer = Buffer::new(alloc);
+    let mut text = Vec::new(alloc);
+    push_arrivals(alloc, &mut source, &mut buffer, &mut text)?;
+    Ok(text)
+}
+
+fn expect_arrivals(
+    alloc: Global,
+    bytes: &str,
+    cutting: Cutting,
+    wanted: &[u8],
+) -> Result<(), Fail> {
+    let found = arrivals_of(alloc, bytes.as_bytes(), cutting)?;
+    expect(found.as_slice() == wanted, bytes)
 }
 
 /// Bytes, and what arrives of them.
@@ -382,21 +424,23 @@ const STREAMS: [(&str, &str); 31] = [
     ),
 ];
 
+// Whether that arrives in pieces of this size, and if the bytes are cut in two there.
+fn expect_in_pieces(alloc: Global, row: &(&str, &str), size: usize) -> Result<(), Fail> {
+    let wanted = row.1.as_bytes();
+    let pieces = pieces_of(size);
+    expect_arrivals(alloc, row.0, pieces, wanted)?;
+    let in_two = Cutting {
+        others: None,
+        ..pieces
+    };
+    expect_arrivals(alloc, row.0, in_two, wanted)
+}
+
 #[test]
 fn requests_arrive_in_any_pieces(rt: HostRuntime) -> Result<(), Fail> {
-    for (bytes, wanted) in &STREAMS {
-        for size in 1..bytes.len() + 2 {
-            let found = arrivals_of(rt.alloc(), bytes.as_bytes(), pieces_of(size))?;
-            assert!(rt; found.as_slice() == wanted.as_bytes(), "{bytes} by {size}");
-            let cut = Cutting {
-                others: None,
-                ..pieces_of(size)
-            };
-            let found = arrivals_of(rt.alloc(), bytes.as_bytes(), cut)?;
-            assert!(rt;
-                found.as_slice() == wanted.as_bytes(),
-                "{bytes} cut at {size}"
-            );
+    for row in &STREAMS {
+        for size in 1..row.0.len() + 2 {
+            expect_in_pieces(rt.alloc(), row, size)?;
         }
     }
     Ok(())
@@ -422,8 +466,7 @@ fn a_failed_read_is_told(rt: HostRuntime) -> Result<(), Fail> {
             fails: fails as u64,
             ..pieces_of(1)
         };
-        let found = arrivals_of(rt.alloc(), TWO.as_bytes(), cutting)?;
-        assert!(rt; found.as_slice() == wanted_up_to(fails), "read {fails}");
+        expect_arrivals(rt.alloc(), TWO, cutting, wanted_up_to(fails))?;
     }
     Ok(())
 }
@@ -521,32 +564,31 @@ fn long_text(
     Ok(text)
 }
 
-/// Whether that arrives, in pieces of this size.
+/// What is wanted of such a row, whose body is as long if it is read whole.
+fn wanted_of(alloc: Global, letters: usize, wanted: &str) -> Result<Vec<u8>, AllocError> {
+    if wanted == "whole" {
+        long_text(alloc, "/ ", letters, "; End")
+    } else {
+        wanted.as_bytes().to_vec(alloc)
+    }
+}
+
 fn is_told(
     alloc: Global,
     row: &(&str, usize, &str, &str),
     size: usize,
 ) -> Result<bool, AllocError> {
-    let (front, letters, back, wanted) = *row;
-    let bytes = long_text(alloc, front, letters, back)?;
+    let bytes = long_text(alloc, row.0, row.1, row.2)?;
+    let wanted = wanted_of(alloc, row.1, row.3)?;
     let found = arrivals_of(alloc, &bytes, pieces_of(size))?;
-    if wanted == "whole" {
-        let body = long_text(alloc, "/ ", letters, "; End")?;
-        return Ok(found == body);
-    }
-    Ok(found.as_slice() == wanted.as_bytes())
+    Ok(found == wanted)
 }
 
 #[test]
 fn long_requests_have_their_limits(rt: HostRuntime) -> Result<(), Fail> {
     for row in &LONG_STREAMS {
         for size in [1, 4_096, usize::MAX] {
-            assert!(rt;
-                is_told(rt.alloc(), row, size)?,
-                "{} {} by {size}",
-                row.0,
-                row.1
-            );
+            expect(is_told(rt.alloc(), row, size)?, row.0)?;
         }
     }
     Ok(())

@@ -1,4 +1,5 @@
 //! Heads as clients and peers write them, and what they show, ask and post; and the documents of members.
+use crate::rows::expect;
 use fedi_address::{Host, LocalName};
 use fedi_http::read_request_head;
 use fedi_model::{Allow, Ask, Credentials, KeyAsk, PageAsk, Read, Request};
@@ -9,10 +10,9 @@ use http::Method;
 use std::alloc::{AllocError, Global};
 use std::test::Fail;
 
-// The request of a head with this first line, a `Host` and these further lines, unless it is refused.
-fn request_of(alloc: Global, line: &str, more: &str) -> Result<Option<Request>, AllocError> {
-    let head = format!(in alloc; "{line} HTTP/1.1\r\nHost: a.example\r\n{more}\r\n")?;
-    Ok(read_request_head(alloc, head.as_bytes()).ok())
+// A head with this word, this target, a `Host` and these further lines.
+fn head_of(alloc: Global, word: &str, target: &str, more: &str) -> Result<String, AllocError> {
+    format!(in alloc; "{word} {target} HTTP/1.1\r\nHost: a.example\r\n{more}\r\n")
 }
 
 // What the credentials are.
@@ -26,11 +26,12 @@ fn name_of(shown: &Credentials) -> &'static str {
     }
 }
 
-// What the fields show.
-fn shown(alloc: Global, fields: &str) -> Result<&'static str, AllocError> {
-    match request_of(alloc, "GET /", fields)? {
-        Some(request) => Ok(name_of(&credentials(&request, b""))),
-        None => Ok("refused"),
+// What the fields of a request show.
+fn shown(alloc: Global, head: &str) -> &'static str {
+    let read = read_request_head(alloc, head.as_bytes());
+    match &read {
+        Ok(request) => name_of(&credentials(request, b"")),
+        Err(_) => "refused",
     }
 }
 
@@ -55,20 +56,67 @@ const SHOWN: [(&str, &str); 6] = [
     ("Peer-Host: b.example\r\n", "no code"),
 ];
 
+fn expect_shown(alloc: Global, row: &(&str, &str)) -> Result<(), Fail> {
+    let head = head_of(alloc, "GET", "/", row.0)?;
+    expect(shown(alloc, &head) == row.1, row.0)
+}
+
 #[test]
 fn fields_show_who_asks(rt: HostRuntime) -> Result<(), Fail> {
-    for (fields, wanted) in &SHOWN {
-        assert_eq!(rt; shown(rt.alloc(), fields)?, *wanted, "{fields}");
+    for row in &SHOWN {
+        expect_shown(rt.alloc(), row)?;
     }
     Ok(())
 }
 
-// The host at which it is asked.
-fn host(alloc: Global) -> Result<Host, AllocError> {
-    match Host::parse(alloc, "club.example") {
-        Ok(host) => Ok(host),
-        Err(_) => Err(AllocError),
+// The method that a request is then given.
+#[derive(Clone, Copy)]
+enum Verb {
+    Get,
+    Head,
+    Post,
+    Put,
+}
+
+fn method_of(verb: Verb) -> Method {
+    match verb {
+        Verb::Get => Method::GET,
+        Verb::Head => Method::HEAD,
+        Verb::Post => Method::POST,
+        Verb::Put => Method::PUT,
     }
+}
+
+// A request as it is sent, with the method that it then has.
+#[derive(Clone, Copy)]
+struct Sent<'a> {
+    word: &'a str,
+    verb: Verb,
+    target: &'a str,
+    fields: &'a str,
+    body: &'a str,
+}
+
+// A reading of this target.
+fn get(target: &str) -> Sent<'_> {
+    Sent {
+        word: "GET",
+        verb: Verb::Get,
+        target,
+        fields: "",
+        body: "",
+    }
+}
+
+// What is wanted of what is asked.
+#[derive(Clone, Copy)]
+enum Wanted<'a> {
+    // Its name, and the number of an activity, an object or a page.
+    Ask(&'a str, u32),
+    // Whom it asks for, and with how many relations.
+    Resource(&'a str, usize),
+    // Of a post whether it is typed and keyed, and what is read of it.
+    Post(bool, &'a str, &'a str),
 }
 
 // What is asked, and the number of an activity or an object.
@@ -89,32 +137,81 @@ fn name_and_number(ask: &Ask) -> (&'static str, u32) {
     }
 }
 
-// The same of a request.
-fn asked_by(
-    alloc: Global,
-    routes: &Routes,
-    request: &Request,
-) -> Result<(&'static str, u32), AllocError> {
-    let host = host(alloc)?;
-    let ask = route(alloc, request, b"", Some(&host), routes)?;
-    Ok(name_and_number(&ask))
+// Whom the query asks for, and how many relations.
+fn resource(ask: &Ask) -> (&str, usize) {
+    match ask {
+        Ask::Webfinger(None) => ("malformed", 0),
+        Ask::Webfinger(Some(resource)) => match &resource.name {
+            Some(name) => (name.text(), resource.rels.len()),
+            None => ("nobody", resource.rels.len()),
+        },
+        _ => ("no query", 0),
+    }
 }
 
-// The same of this method and target.
-fn asked(
-    alloc: Global,
-    routes: &Routes,
-    method: &Method,
-    target: &str,
-) -> Result<(&'static str, u32), AllocError> {
-    let line = format!(in alloc; "GET {target}")?;
-    match request_of(alloc, &line, "")? {
-        Some(mut request) => {
-            request.method = method.clone()?;
-            asked_by(alloc, routes, &request)
-        }
-        None => Ok(("refused", 0)),
+// Whether the post is typed, whether it has a key, and what is read of its body.
+fn of_post(ask: &Ask) -> (bool, &'static str, &'static str) {
+    let Ask::Outbox(_, post) = ask else {
+        return (false, "no post", "no post");
+    };
+    let key = match post.key {
+        KeyAsk::Absent => "no key",
+        KeyAsk::Malformed => "bad key",
+        KeyAsk::Given(_) => "key",
+    };
+    let read = match post.read {
+        Read::NotJson => "no JSON",
+        Read::Bad(_) => "bad",
+        Read::Ready(_) => "ready",
+    };
+    (post.is_typed, key, read)
+}
+
+fn is_wanted(ask: &Ask, wanted: Wanted) -> bool {
+    match wanted {
+        Wanted::Ask(name, number) => name_and_number(ask) == (name, number),
+        Wanted::Resource(name, rels) => resource(ask) == (name, rels),
+        Wanted::Post(is_typed, key, read) => of_post(ask) == (is_typed, key, read),
     }
+}
+
+// The host at which it is asked, and its routes.
+#[derive(Drop)]
+struct Club {
+    host: Host,
+    routes: Routes,
+}
+
+fn asks(alloc: Global, club: &Club, request: &Request, body: &str, wanted: Wanted) -> bool {
+    let ask = route(
+        alloc,
+        request,
+        body.as_bytes(),
+        Some(&club.host),
+        &club.routes,
+    );
+    match &ask {
+        Ok(ask) => is_wanted(ask, wanted),
+        Err(_) => false,
+    }
+}
+
+fn asks_by(alloc: Global, club: &Club, request: &mut Request, sent: Sent, wanted: Wanted) -> bool {
+    request.method = method_of(sent.verb);
+    asks(alloc, club, request, sent.body, wanted)
+}
+
+fn is_asked(alloc: Global, club: &Club, head: &str, sent: Sent, wanted: Wanted) -> bool {
+    let mut read = read_request_head(alloc, head.as_bytes());
+    match &mut read {
+        Ok(request) => asks_by(alloc, club, request, sent, wanted),
+        Err(_) => false,
+    }
+}
+
+fn expect_asked(alloc: Global, club: &Club, sent: Sent, wanted: Wanted) -> Result<(), Fail> {
+    let head = head_of(alloc, sent.word, sent.target, sent.fields)?;
+    expect(is_asked(alloc, club, &head, sent, wanted), sent.target)
 }
 
 // Targets, and what a GET, a HEAD, a POST and a PUT of each ask for.
@@ -331,181 +428,62 @@ const ASKED: [(&str, &str, &str, &str, &str, u32); 28] = [
     ("/users", "nowhere", "nowhere", "nowhere", "nowhere", 0),
 ];
 
-#[test]
-fn targets_are_those_of_the_routes(rt: HostRuntime) -> Result<(), Fail> {
-    let alloc = rt.alloc();
-    let routes = Routes::new(alloc)?;
-    for (target, get, head, post, put, number) in &ASKED {
-        assert_eq!(rt;
-            asked(alloc, &routes, &Method::GET, target)?,
-            (*get, *number),
-            "{target}"
-        );
-        assert_eq!(rt;
-            asked(alloc, &routes, &Method::HEAD, target)?,
-            (*head, *number),
-            "{target}"
-        );
-        assert_eq!(rt;
-            asked(alloc, &routes, &Method::POST, target)?,
-            (*post, 0),
-            "{target}"
-        );
-        assert_eq!(rt;
-            asked(alloc, &routes, &Method::PUT, target)?,
-            (*put, 0),
-            "{target}"
-        );
+fn expect_target(
+    alloc: Global,
+    club: &Club,
+    row: &(&str, &str, &str, &str, &str, u32),
+) -> Result<(), Fail> {
+    let (target, get, head, post, put, number) = *row;
+    for (verb, name, number) in [
+        (Verb::Get, get, number),
+        (Verb::Head, head, number),
+        (Verb::Post, post, 0),
+        (Verb::Put, put, 0),
+    ] {
+        let sent = Sent {
+            verb,
+            ..self::get(target)
+        };
+        expect_asked(alloc, club, sent, Wanted::Ask(name, number))?;
     }
     Ok(())
-}
-
-// Whom the query asks for, and how many relations.
-fn resource(ask: &Ask) -> (&str, usize) {
-    match ask {
-        Ask::Webfinger(None) => ("malformed", 0),
-        Ask::Webfinger(Some(resource)) => match &resource.name {
-            Some(name) => (name.text(), resource.rels.len()),
-            None => ("nobody", resource.rels.len()),
-        },
-        _ => ("no query", 0),
-    }
-}
-
-// Whether the query at `club.example` asks for this.
-fn is_found(
-    alloc: Global,
-    routes: &Routes,
-    query: &str,
-    wanted: (&str, usize),
-) -> Result<bool, Fail> {
-    let host = Host::parse(alloc, "club.example").map_err(|_| "no host")?;
-    let line = format!(in alloc; "GET /.well-known/webfinger?{query}")?;
-    let request = request_of(alloc, &line, "")?.ok_or("refused")?;
-    let ask = route(alloc, &request, b"", Some(&host), routes)?;
-    Ok(resource(&ask) == wanted)
 }
 
 // Queries, and whom each asks for with how many relations (RFC 7033, section 4).
-const FOUND: [(&str, (&str, usize)); 19] = [
-    ("resource=acct:ana@club.example", ("ana", 0)),
-    ("resource=acct%3Aana%40club.example&rel=x&rel=y", ("ana", 2)),
-    ("rel=self&resource=acct:zoe@club.example&page=1", ("zoe", 1)),
-    ("resource=https://club.example/users/ana", ("ana", 0)),
-    ("resource=HTTPS://CLUB.example:443/users/./ana", ("ana", 0)),
-    ("resource=http://club.example/users/ana", ("nobody", 0)),
+const FOUND: [(&str, &str, usize); 19] = [
+    ("resource=acct:ana@club.example", "ana", 0),
+    ("resource=acct%3Aana%40club.example&rel=x&rel=y", "ana", 2),
+    ("rel=self&resource=acct:zoe@club.example&page=1", "zoe", 1),
+    ("resource=https://club.example/users/ana", "ana", 0),
+    ("resource=HTTPS://CLUB.example:443/users/./ana", "ana", 0),
+    ("resource=http://club.example/users/ana", "nobody", 0),
     (
         "resource=https://club.example/users/ana/outbox",
-        ("nobody", 0),
+        "nobody",
+        0,
     ),
-    ("resource=https://club.example/", ("nobody", 0)),
-    ("resource=acct:ana@hill.example", ("nobody", 0)),
-    ("resource=acct:Ana@club.example", ("nobody", 0)),
-    ("resource=acct:a@b@club.example", ("nobody", 0)),
-    ("resource=ACCT:ana@club.example", ("malformed", 0)),
-    ("resource=acct:ana@", ("malformed", 0)),
-    ("resource=acct:@club.example", ("malformed", 0)),
-    ("resource=acct:ana", ("malformed", 0)),
-    ("resource=ana", ("malformed", 0)),
-    ("resource=", ("malformed", 0)),
-    ("rel=self", ("malformed", 0)),
+    ("resource=https://club.example/", "nobody", 0),
+    ("resource=acct:ana@hill.example", "nobody", 0),
+    ("resource=acct:Ana@club.example", "nobody", 0),
+    ("resource=acct:a@b@club.example", "nobody", 0),
+    ("resource=ACCT:ana@club.example", "malformed", 0),
+    ("resource=acct:ana@", "malformed", 0),
+    ("resource=acct:@club.example", "malformed", 0),
+    ("resource=acct:ana", "malformed", 0),
+    ("resource=ana", "malformed", 0),
+    ("resource=", "malformed", 0),
+    ("rel=self", "malformed", 0),
     (
         "resource=acct:ana@club.example&resource=acct:ana@club.example",
-        ("malformed", 0),
+        "malformed",
+        0,
     ),
 ];
 
-#[test]
-fn queries_ask_for_members(rt: HostRuntime) -> Result<(), Fail> {
-    let routes = Routes::new(rt.alloc())?;
-    for (query, wanted) in &FOUND {
-        assert!(rt; is_found(rt.alloc(), &routes, query, *wanted)?, "{query}");
-    }
-    Ok(())
-}
-
-// The JRD of ana at `club.example` with these relations.
-fn profile(alloc: Global, rels: &[&str]) -> Result<Vec<u8>, Fail> {
-    let host = Host::parse(alloc, "club.example").map_err(|_| "no host")?;
-    let name = LocalName::parse("ana").ok_or("no name")?;
-    let mut wanted = Vec::new(alloc);
-    for rel in rels {
-        wanted.push(Text::from_text(alloc, rel)?)?;
-    }
-    let mut out = new_document(alloc)?;
-    write_jrd(&mut out, alloc, &name, &host, &wanted)?;
-    Ok(text_of(out))
-}
-
-// The actor document of ana at `club.example`.
-fn actor(alloc: Global) -> Result<Vec<u8>, Fail> {
-    let host = Host::parse(alloc, "club.example").map_err(|_| "no host")?;
-    let name = LocalName::parse("ana").ok_or("no name")?;
-    let mut out = new_document(alloc)?;
-    write_actor(&mut out, alloc, &name, &host)?;
-    Ok(text_of(out))
-}
-
-const PROFILE: &str =
-    "{\"aliases\":[\"https://club.example/users/ana\"],\"links\":[{\"href\":\"https://club.example/users/ana\",\"rel\":\"self\",\"type\":\"application/activity+json\"}],\"subject\":\"acct:ana@club.example\"}";
-
-const UNLINKED: &str =
-    "{\"aliases\":[\"https://club.example/users/ana\"],\"links\":[],\"subject\":\"acct:ana@club.example\"}";
-
-const ACTOR: &str =
-    "{\"@context\":\"https://www.w3.org/ns/activitystreams\",\"followers\":\"https://club.example/users/ana/followers\",\"following\":\"https://club.example/users/ana/following\",\"id\":\"https://club.example/users/ana\",\"inbox\":\"https://club.example/users/ana/inbox\",\"liked\":\"https://club.example/users/ana/liked\",\"outbox\":\"https://club.example/users/ana/outbox\",\"preferredUsername\":\"ana\",\"type\":\"Person\"}";
-
-#[test]
-fn documents_say_who_a_member_is(rt: HostRuntime) -> Result<(), Fail> {
-    let alloc = rt.alloc();
-    assert!(rt; PROFILE.len() == 180);
-    assert!(rt; profile(alloc, &[])?.as_slice() == PROFILE.as_bytes());
-    assert!(rt; profile(alloc, &["x", "self"])?.as_slice() == PROFILE.as_bytes());
-    assert!(rt; profile(alloc, &["x", "y"])?.as_slice() == UNLINKED.as_bytes());
-    assert!(rt; actor(alloc)?.as_slice() == ACTOR.as_bytes());
-    Ok(())
-}
-
-// Whether the post is typed, whether it has a key, and what is read of its body.
-fn of_post(ask: &Ask) -> (bool, &'static str, &'static str) {
-    let Ask::Outbox(_, post) = ask else {
-        return (false, "no post", "no post");
-    };
-    let key = match post.key {
-        KeyAsk::Absent => "no key",
-        KeyAsk::Malformed => "bad key",
-        KeyAsk::Given(_) => "key",
-    };
-    let read = match post.read {
-        Read::NotJson => "no JSON",
-        Read::Bad(_) => "bad",
-        Read::Ready(_) => "ready",
-    };
-    (post.is_typed, key, read)
-}
-
-// The same of a request and a body.
-fn of_request(
-    alloc: Global,
-    request: &Request,
-    body: &str,
-) -> Result<(bool, &'static str, &'static str), AllocError> {
-    let routes = Routes::new(alloc)?;
-    let host = host(alloc)?;
-    let ask = route(alloc, request, body.as_bytes(), Some(&host), &routes)?;
-    Ok(of_post(&ask))
-}
-
-// The same of a post with these fields and this body.
-fn posted(
-    alloc: Global,
-    fields: &str,
-    body: &str,
-) -> Result<(bool, &'static str, &'static str), AllocError> {
-    match request_of(alloc, "POST /users/ana/outbox", fields)? {
-        Some(request) => of_request(alloc, &request, body),
-        None => Ok((false, "refused", "refused")),
-    }
+// The query at `club.example`.
+fn expect_found(alloc: Global, club: &Club, row: &(&str, &str, usize)) -> Result<(), Fail> {
+    let target = format!(in alloc; "/.well-known/webfinger?{}", row.0)?;
+    expect_asked(alloc, club, get(&target), Wanted::Resource(row.1, row.2))
 }
 
 // The fields of a post and its body, and whether it is typed and keyed, and what is read of it: nothing,
@@ -543,10 +521,158 @@ const POSTED: [(&str, &str, (bool, &str, &str)); 6] = [
     ),
 ];
 
-#[test]
-fn posts_have_a_type_and_a_body(rt: HostRuntime) -> Result<(), Fail> {
-    for (fields, body, wanted) in &POSTED {
-        assert!(rt; posted(rt.alloc(), fields, body)? == *wanted, "{fields}");
+fn expect_posted(
+    alloc: Global,
+    club: &Club,
+    row: &(&str, &str, (bool, &str, &str)),
+) -> Result<(), Fail> {
+    let (fields, body, (is_typed, key, read)) = *row;
+    let sent = Sent {
+        word: "POST",
+        verb: Verb::Post,
+        target: "/users/ana/outbox",
+        fields,
+        body,
+    };
+    expect_asked(alloc, club, sent, Wanted::Post(is_typed, key, read))
+}
+
+// The tables of what is asked.
+#[derive(Clone, Copy)]
+enum Asked {
+    Targets,
+    Queries,
+    Posts,
+}
+
+fn expect_targets(alloc: Global, club: &Club) -> Result<(), Fail> {
+    for row in &ASKED {
+        expect_target(alloc, club, row)?;
     }
     Ok(())
+}
+
+fn expect_queries(alloc: Global, club: &Club) -> Result<(), Fail> {
+    for row in &FOUND {
+        expect_found(alloc, club, row)?;
+    }
+    Ok(())
+}
+
+fn expect_posts(alloc: Global, club: &Club) -> Result<(), Fail> {
+    for row in &POSTED {
+        expect_posted(alloc, club, row)?;
+    }
+    Ok(())
+}
+
+fn expect_rows(alloc: Global, club: &Club, asked: Asked) -> Result<(), Fail> {
+    match asked {
+        Asked::Targets => expect_targets(alloc, club),
+        Asked::Queries => expect_queries(alloc, club),
+        Asked::Posts => expect_posts(alloc, club),
+    }
+}
+
+fn expect_all(alloc: Global, asked: Asked) -> Result<(), Fail> {
+    let club = Club {
+        host: Host::parse(alloc, "club.example")?,
+        routes: Routes::new(alloc)?,
+    };
+    expect_rows(alloc, &club, asked)
+}
+
+#[test]
+fn targets_are_those_of_the_routes(rt: HostRuntime) -> Result<(), Fail> {
+    expect_all(rt.alloc(), Asked::Targets)
+}
+
+#[test]
+fn queries_ask_for_members(rt: HostRuntime) -> Result<(), Fail> {
+    expect_all(rt.alloc(), Asked::Queries)
+}
+
+#[test]
+fn posts_have_a_type_and_a_body(rt: HostRuntime) -> Result<(), Fail> {
+    expect_all(rt.alloc(), Asked::Posts)
+}
+
+// The JRD of a member with these relations.
+fn profile(
+    alloc: Global,
+    name: &LocalName,
+    host: &Host,
+    rels: &[Text],
+) -> Result<Vec<u8>, AllocError> {
+    let mut out = new_document(alloc)?;
+    write_jrd(&mut out, alloc, name, host, rels)?;
+    Ok(text_of(out))
+}
+
+fn actor(alloc: Global, name: &LocalName, host: &Host) -> Result<Vec<u8>, AllocError> {
+    let mut out = new_document(alloc)?;
+    write_actor(&mut out, alloc, name, host)?;
+    Ok(text_of(out))
+}
+
+fn texts_of(alloc: Global, rels: &[&str]) -> Result<Vec<Text>, AllocError> {
+    let mut texts = Vec::new(alloc);
+    for rel in rels {
+        texts.push(Text::from_text(alloc, rel)?)?;
+    }
+    Ok(texts)
+}
+
+fn document(
+    alloc: Global,
+    name: &LocalName,
+    host: &Host,
+    rels: Option<&[&str]>,
+) -> Result<Vec<u8>, AllocError> {
+    match rels {
+        Some(rels) => profile(alloc, name, host, &texts_of(alloc, rels)?),
+        None => actor(alloc, name, host),
+    }
+}
+
+const PROFILE: &str =
+    "{\"aliases\":[\"https://club.example/users/ana\"],\"links\":[{\"href\":\"https://club.example/users/ana\",\"rel\":\"self\",\"type\":\"application/activity+json\"}],\"subject\":\"acct:ana@club.example\"}";
+
+const UNLINKED: &str =
+    "{\"aliases\":[\"https://club.example/users/ana\"],\"links\":[],\"subject\":\"acct:ana@club.example\"}";
+
+const ACTOR: &str =
+    "{\"@context\":\"https://www.w3.org/ns/activitystreams\",\"followers\":\"https://club.example/users/ana/followers\",\"following\":\"https://club.example/users/ana/following\",\"id\":\"https://club.example/users/ana\",\"inbox\":\"https://club.example/users/ana/inbox\",\"liked\":\"https://club.example/users/ana/liked\",\"outbox\":\"https://club.example/users/ana/outbox\",\"preferredUsername\":\"ana\",\"type\":\"Person\"}";
+
+// The relations that are asked for, if it is a JRD, and the document of ana at `club.example`.
+const DOCUMENTS: [(Option<&[&str]>, &str); 4] = [
+    (Some(&[]), PROFILE),
+    (Some(&["x", "self"]), PROFILE),
+    (Some(&["x", "y"]), UNLINKED),
+    (None, ACTOR),
+];
+
+fn expect_document(
+    alloc: Global,
+    name: &LocalName,
+    host: &Host,
+    row: &(Option<&[&str]>, &str),
+) -> Result<(), Fail> {
+    let found = document(alloc, name, host, row.0)?;
+    expect(found.as_slice() == row.1.as_bytes(), row.1)
+}
+
+fn expect_documents(alloc: Global, name: &LocalName, host: &Host) -> Result<(), Fail> {
+    for row in &DOCUMENTS {
+        expect_document(alloc, name, host, row)?;
+    }
+    Ok(())
+}
+
+#[test]
+fn documents_say_who_a_member_is(rt: HostRuntime) -> Result<(), Fail> {
+    expect(PROFILE.len() == 180, PROFILE)?;
+    let name = LocalName::parse("ana").ok_or("no name")?;
+    let host = Host::parse(rt.alloc(), "club.example")?;
+    expect_documents(rt.alloc(), &name, &host)
 }

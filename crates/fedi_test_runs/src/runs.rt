@@ -15,17 +15,6 @@ pub struct Left {
     pub calls: u64,
 }
 
-fn run_in(
-    alloc: Global,
-    arguments: &[String],
-    mut connection: Connection<MemorySource, MemorySink, FixedClock>,
-    disk: MemoryDisk,
-    mut entropy: MemoryEntropy,
-) -> (u8, MemorySink, MemoryDisk) {
-    let ended = run(alloc, arguments, &mut connection, disk, &mut entropy);
-    (ended.status, connection.out, ended.disk)
-}
-
 fn left_of(
     alloc: Global,
     status: u8,
@@ -40,14 +29,25 @@ fn left_of(
     })
 }
 
+// What lies outside is lent, since what a function owns over many exits is slow to prove.
+fn left_in(
+    alloc: Global,
+    arguments: &[String],
+    connection: &mut Connection<MemorySource, MemorySink, FixedClock>,
+    disk: MemoryDisk,
+    entropy: &mut MemoryEntropy,
+) -> Result<Left, AllocError> {
+    let ended = run(alloc, arguments, connection, disk, entropy);
+    left_of(alloc, ended.status, &connection.out, &ended.disk)
+}
+
 /// What the run leaves. The error is out of memory.
 pub fn left_by(alloc: Global, case: &Case) -> Result<Left, AllocError> {
     let arguments = arguments_of(alloc, case.line)?;
-    let connection = connection_of(alloc, case)?;
-    let entropy = entropy_of(alloc, case)?;
+    let mut entropy = entropy_of(alloc, case)?;
+    let mut connection = connection_of(alloc, case)?;
     let disk = disk_in(alloc, case)?;
-    let (status, out, disk) = run_in(alloc, &arguments, connection, disk, entropy);
-    left_of(alloc, status, &out, &disk)
+    left_in(alloc, &arguments, &mut connection, disk, &mut entropy)
 }
 
 /// Whether these bytes are those of the texts, one after another.

@@ -1,5 +1,6 @@
 //! What the program is asked to do by its arguments, and which of them is the store.
 
+use crate::rows::expect;
 use fedi_program::{Command, command_of, store_of};
 use fedi_test_runs::arguments_of;
 use std::alloc::{AllocError, Global};
@@ -72,7 +73,7 @@ fn asks(
 #[test]
 fn arguments_ask_for_a_command(rt: HostRuntime) -> Result<(), Fail> {
     for row in &ROWS {
-        assert!(rt; asks(rt.alloc(), row)?, "{}", row.0);
+        expect(asks(rt.alloc(), row)?, row.0)?;
     }
     Ok(())
 }

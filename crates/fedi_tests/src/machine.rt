@@ -1,10 +1,12 @@
 //! The machine over a keeper in memory: callers that no request has, and a keeper that is full.
 
 use crate::program::{FIRST, HELLO_LAST, NOT_FOUND_LAST, NOTE, PSST_LAST};
+use crate::rows::expect;
 use fedi_address::{Host, LocalName};
-use fedi_core::Core;
+use fedi_core::{Core, Decision};
 use fedi_model::{Ask, Caller};
 use fedi_objects::Entry;
+use fedi_opening::OpenFault;
 use fedi_outside::{FixedClock, Keeper, MemoryKeeper, MemorySink, MemorySource};
 use fedi_program::{Connection, session};
 use fedi_routes::Routes;
@@ -36,18 +38,57 @@ fn keep<K: Keeper>(keeper: &mut K, record: &[u8]) -> Result<(), Fail> {
     Ok(())
 }
 
-/// The machine over a keeper of these records, whose end was this before it kept them.
-fn machine_of(alloc: Global, end: u64, records: &[&[u8]]) -> Result<Machine, Fail> {
-    let mut keeper = MemoryKeeper::at(alloc, end);
+fn keep_all<K: Keeper>(keeper: &mut K, records: &[&[u8]]) -> Result<(), Fail> {
     for record in records {
-        keep(&mut keeper, record)?;
+        keep(keeper, record)?;
     }
+    Ok(())
+}
+
+/// What is wanted of a machine.
+#[derive(Clone, Copy)]
+enum Wanted<'a> {
+    /// That the callers see what they may.
+    Sights,
+    /// These replies to two posts.
+    Replies(&'a [&'a str]),
+    /// Why the making of eva is refused, if it is.
+    Eva(Option<CommandFault>),
+}
+
+fn expect_of(alloc: Global, core: &mut Machine, wanted: Wanted) -> Result<(), Fail> {
+    match wanted {
+        Wanted::Sights => expect_sights(alloc, core),
+        Wanted::Replies(texts) => expect(replies(alloc, core, texts)?, "replies to two posts"),
+        Wanted::Eva(fault) => expect(make_eva(alloc, core).err() == fault, "eva"),
+    }
+}
+
+fn expect_opened(
+    alloc: Global,
+    opened: &mut Result<Machine, (OpenFault, MemoryKeeper)>,
+    wanted: Wanted,
+) -> Result<(), Fail> {
+    match opened {
+        Ok(core) => expect_of(alloc, core, wanted),
+        Err(back) => Err(back.0.into()),
+    }
+}
+
+fn expect_over(alloc: Global, mut keeper: MemoryKeeper, wanted: Wanted) -> Result<(), Fail> {
     // Nothing may be in doubt when the machine is opened.
     keeper.settle()?;
-    match Core::open(alloc, PlainShelf::empty(alloc)?, keeper) {
-        Ok(core) => Ok(core),
-        Err((fault, _)) => Err(fault.into()),
-    }
+    let shelf = PlainShelf::empty(alloc)?;
+    let mut opened = Core::open(alloc, shelf, keeper);
+    expect_opened(alloc, &mut opened, wanted)
+}
+
+/// Fails unless that is so of the machine over a keeper of these records, whose end was this before it kept them. It is made here
+/// alone, and lent.
+fn expect_machine(alloc: Global, end: u64, records: &[&[u8]], wanted: Wanted) -> Result<(), Fail> {
+    let mut keeper = MemoryKeeper::at(alloc, end);
+    keep_all(&mut keeper, records)?;
+    expect_over(alloc, keeper, wanted)
 }
 
 /// A member of this name, or the server at this host.
@@ -63,23 +104,43 @@ fn is_body_of(body: &[u8], reply: &str) -> bool {
     body.starts_with(b"{") && reply.as_bytes().ends_with(body)
 }
 
-/// Whether the machine answers this caller so.
-fn is_answered(alloc: Global, core: &Machine, row: &(&str, u32, &str)) -> Result<bool, Fail> {
-    let (who, number, wanted) = *row;
-    let caller = caller_of(alloc, who)?;
+fn is_decided(decision: &Result<Decision, AllocError>, wanted: &str) -> bool {
+    match decision {
+        Ok(decision) => is_body_of(decision.reply.body.bytes(), wanted),
+        Err(_) => false,
+    }
+}
+
+/// Whether the machine answers this caller so, who asks for ana's object of this number.
+fn is_answered(
+    alloc: Global,
+    core: &Machine,
+    caller: &Caller,
+    number: u32,
+    wanted: &str,
+) -> Result<bool, Fail> {
     let ana = LocalName::parse("ana").ok_or("no name")?;
     let moment = Moment::clamped(SECONDS);
-    let decision = core.decide(alloc, &caller, Ask::Object(ana, number), moment)?;
-    Ok(is_body_of(decision.reply.body.bytes(), wanted))
+    let decision = core.decide(alloc, caller, Ask::Object(ana, number), moment);
+    Ok(is_decided(&decision, wanted))
+}
+
+fn expect_sight(alloc: Global, core: &Machine, row: &(&str, u32, &str)) -> Result<(), Fail> {
+    let (who, number, wanted) = *row;
+    let caller = caller_of(alloc, who)?;
+    expect(is_answered(alloc, core, &caller, number, wanted)?, who)
+}
+
+fn expect_sights(alloc: Global, core: &Machine) -> Result<(), Fail> {
+    for row in &CALLERS {
+        expect_sight(alloc, core, row)?;
+    }
+    Ok(())
 }
 
 #[test]
 fn servers_see_what_their_members_may(rt: HostRuntime) -> Result<(), Fail> {
-    let core = machine_of(rt.alloc(), 0, &TOWN)?;
-    for row in &CALLERS {
-        assert!(rt; is_answered(rt.alloc(), &core, row)?, "{} {}", row.0, row.1);
-    }
-    Ok(())
+    expect_machine(rt.alloc(), 0, &TOWN, Wanted::Sights)
 }
 
 /// The end of a keeper before it keeps the records of the example town without posts, which are 222 bytes, and each nine more: so
@@ -88,38 +149,38 @@ fn end_below(room: u64) -> u64 {
     (1 << 62) - 267 - room.min(1_000)
 }
 
-/// What a connection with these two posts replies to a machine.
-fn replies_to(alloc: Global, core: &mut Machine) -> Result<MemorySink, AllocError> {
-    let mut input = Vec::new(alloc);
+fn two_notes(alloc: Global) -> Result<Vec<u8>, AllocError> {
+    let mut input = NOTE.as_bytes().to_vec(alloc)?;
     input.extend_from_slice(NOTE.as_bytes())?;
-    input.extend_from_slice(NOTE.as_bytes())?;
+    Ok(input)
+}
+
+/// Whether a connection with two posts has these replies.
+fn replies(alloc: Global, core: &mut Machine, wanted: &[&str]) -> Result<bool, AllocError> {
+    let routes = Routes::new(alloc)?;
     let mut connection = Connection {
-        input: MemorySource::new(alloc, input),
+        input: MemorySource::new(alloc, two_notes(alloc)?),
         out: MemorySink::new(alloc),
         clock: FixedClock::new(SECONDS),
     };
-    session(alloc, core, &Routes::new(alloc)?, &mut connection);
-    Ok(connection.out)
+    session(alloc, core, &routes, &mut connection);
+    Ok(are_texts(connection.out.bytes(), wanted))
 }
 
 const FULL: &str =
     "HTTP/1.1 500 Internal Server Error\r\nDate: Sun, 06 Nov 1994 08:49:37 GMT\r\nContent-Type: application/json\r\nContent-Length: 23\r\n\r\n{\"error\":\"JournalFull\"}";
 
-/// How far below its limit the end of a keeper is, and the replies to two posts. The record of a post has 199 bytes, which need ten
-/// more.
-const ROOMS: [(u64, &[&str]); 3] = [
-    (10, &[FULL, FULL]),
-    (208, &[FULL, FULL]),
-    (209, &[FIRST, FULL]),
+/// How far below its limit the end of a keeper is, and what is then wanted. The record of a post has 199 bytes and that of eva's making
+/// 49, which need ten more.
+const ROOMS: [(u64, Wanted<'static>); 5] = [
+    (10, Wanted::Replies(&[FULL, FULL])),
+    (208, Wanted::Replies(&[FULL, FULL])),
+    (209, Wanted::Replies(&[FIRST, FULL])),
+    (58, Wanted::Eva(Some(CommandFault::Full))),
+    (59, Wanted::Eva(None)),
 ];
 
-fn has_room(alloc: Global, row: &(u64, &[&str])) -> Result<bool, Fail> {
-    let mut core = machine_of(alloc, end_below(row.0), &MEMBERS)?;
-    let out = replies_to(alloc, &mut core)?;
-    Ok(are_texts(out.bytes(), row.1))
-}
-
-/// Makes a member named eva, whose record has 49 bytes.
+/// Makes a member named eva.
 fn make_eva(alloc: Global, core: &mut Machine) -> Result<(), CommandFault> {
     let Some(name) = LocalName::parse("eva") else {
         return Err(CommandFault::NameTaken);
@@ -138,12 +199,8 @@ fn make_eva(alloc: Global, core: &mut Machine) -> Result<(), CommandFault> {
 
 #[test]
 fn a_keeper_may_be_full(rt: HostRuntime) -> Result<(), Fail> {
-    for row in &ROOMS {
-        assert!(rt; has_room(rt.alloc(), row)?, "{}", row.0);
+    for (room, wanted) in &ROOMS {
+        expect_machine(rt.alloc(), end_below(*room), &MEMBERS, *wanted)?;
     }
-    let mut core = machine_of(rt.alloc(), end_below(58), &MEMBERS)?;
-    assert_eq!(rt; make_eva(rt.alloc(), &mut core), Err(CommandFault::Full));
-    let mut core = machine_of(rt.alloc(), end_below(59), &MEMBERS)?;
-    assert_eq!(rt; make_eva(rt.alloc(), &mut core), Ok(()));
     Ok(())
 }

@@ -1,6 +1,7 @@
 //! Runs that make a member of the example town, byte for byte.
 
 use crate::program::USAGE;
+use crate::rows::{expect, expect_at};
 use fedi_test_runs::{Case, KEY, are_texts, calm, left_by};
 use fedi_test_stores::{MEMBERS, TOWN, has_records, records_of};
 use std::alloc::{AllocError, Global};
@@ -53,13 +54,14 @@ const ANAS_KEY: &[u8] = &[0; 32];
 
 const TOO_FEW: &[u8] = &[0; 31];
 
-/// The command line, how much of the example town there is, the bytes that keys are drawn from, and the status, what is printed, and the record
-/// that is kept.
-const DRAWS: [(&str, usize, &[u8], u8, &str, &[u8]); 7] = [
+/// The command line, how much of the example town there is, the bytes that keys are drawn from, which draws fail, and the status, what is
+/// printed, and the record that is kept.
+const DRAWS: [(&str, usize, &[u8], &[u64], u8, &str, &[u8]); 8] = [
     (
         "fedi add-actor s eva",
         5,
         ANAS_KEY,
+        &[],
         10,
         "refused: key taken\n",
         NOTHING,
@@ -68,25 +70,29 @@ const DRAWS: [(&str, usize, &[u8], u8, &str, &[u8]); 7] = [
         "fedi add-actor s ana",
         5,
         ANAS_KEY,
+        &[],
         10,
         "refused: name taken\n",
         NOTHING,
     ),
     // No key can be drawn, which comes before the name.
-    ("fedi add-actor s eva", 5, TOO_FEW, 6, "", NOTHING),
-    ("fedi add-actor s Ana", 5, TOO_FEW, 6, "", NOTHING),
+    ("fedi add-actor s eva", 5, TOO_FEW, &[], 6, "", NOTHING),
+    ("fedi add-actor s Ana", 5, TOO_FEW, &[], 6, "", NOTHING),
     // There is no host, which comes before the draw.
     (
         "fedi add-actor s eva",
         0,
         TOO_FEW,
+        &[],
         3,
         "not a store\n",
         NOTHING,
     ),
     // The host alone is enough, and members may have gone before.
-    ("fedi add-actor s eva", 1, KEY, 0, EVA, UNLOCKED),
-    ("fedi add-actor s eva", 7, KEY, 0, EVA, UNLOCKED),
+    ("fedi add-actor s eva", 1, KEY, &[], 0, EVA, UNLOCKED),
+    ("fedi add-actor s eva", 7, KEY, &[], 0, EVA, UNLOCKED),
+    // The draw fails.
+    ("fedi add-actor s eva", 5, KEY, &[0], 6, "", NOTHING),
 ];
 
 /// The command line, which calls of the disk fail and which writes, and the status, what is printed, and the record that is kept.
@@ -162,12 +168,17 @@ fn has_kept(
     Ok(has_records(alloc, disk, records, 1)? && is_last(alloc, disk, kept)?)
 }
 
+fn ends_with(found: Option<&Vec<Vec<u8>>>, record: &[u8]) -> bool {
+    match found {
+        Some(found) => found.last().is_some_and(|last| last.as_slice() == record),
+        None => false,
+    }
+}
+
 /// Whether this is the last record of the store on a disk.
 fn is_last(alloc: Global, disk: &[u8], record: &[u8]) -> Result<bool, AllocError> {
-    match records_of(alloc, disk)? {
-        Some(found) => Ok(found.last().is_some_and(|last| last.as_slice() == record)),
-        None => Ok(false),
-    }
+    let found = records_of(alloc, disk)?;
+    Ok(ends_with(found.as_ref(), record))
 }
 
 fn has_words(alloc: Global, row: &(&str, u8, &str, &[u8])) -> Result<bool, AllocError> {
@@ -178,17 +189,16 @@ fn has_words(alloc: Global, row: &(&str, u8, &str, &[u8])) -> Result<bool, Alloc
 #[test]
 fn words_make_a_member_or_are_refused(rt: HostRuntime) -> Result<(), Fail> {
     for row in &WORDS {
-        assert!(rt; has_words(rt.alloc(), row)?, "{}", row.0);
+        expect(has_words(rt.alloc(), row)?, row.0)?;
     }
     Ok(())
 }
 
 fn has_drawn(
     alloc: Global,
-    row: &(&str, usize, &[u8], u8, &str, &[u8]),
-    failing_draws: &[u64],
+    row: &(&str, usize, &[u8], &[u64], u8, &str, &[u8]),
 ) -> Result<bool, AllocError> {
-    let (line, entries, drawn, status, printed, kept) = *row;
+    let (line, entries, drawn, failing_draws, status, printed, kept) = *row;
     let case = Case {
         records: &TOWN[..entries.min(7)],
         drawn,
@@ -200,11 +210,9 @@ fn has_drawn(
 
 #[test]
 fn a_key_is_drawn_that_nobody_has(rt: HostRuntime) -> Result<(), Fail> {
-    for row in &DRAWS {
-        assert!(rt; has_drawn(rt.alloc(), row, &[])?, "{} {}", row.0, row.3);
+    for (number, row) in DRAWS.iter().enumerate() {
+        expect_at(has_drawn(rt.alloc(), row)?, row.0, number)?;
     }
-    let fails = ("fedi add-actor s eva", 5, KEY, 6, "", NOTHING);
-    assert!(rt; has_drawn(rt.alloc(), &fails, &[0])?);
     Ok(())
 }
 
@@ -223,8 +231,8 @@ fn has_outside(
 
 #[test]
 fn a_member_is_kept_and_then_told(rt: HostRuntime) -> Result<(), Fail> {
-    for row in &FAULTS {
-        assert!(rt; has_outside(rt.alloc(), row)?, "{} {:?}", row.0, row.1);
+    for (number, row) in FAULTS.iter().enumerate() {
+        expect_at(has_outside(rt.alloc(), row)?, row.0, number)?;
     }
     Ok(())
 }

@@ -1,5 +1,6 @@
 //! The real outside: readers, writers, the clock and what keys are drawn from.
 
+use crate::rows::expect;
 use fedi_outside::{Clock, Entropy, Failed, Sink, Source};
 use fedi_program::{Reading, SystemClock, SystemEntropy, Writing};
 use std::test::Fail;
@@ -32,20 +33,25 @@ fn draws<E: Entropy>(
     )
 }
 
+/// Whether writes to a writer that has room for two bytes, and then takes nothing, have failed.
+fn is_short() -> bool {
+    let mut room = [0; 2];
+    let short = writes(&mut Writing::new(room.as_mut_slice()));
+    short == [Ok(2), Ok(0), Err(Failed)] && room == *b"ab"
+}
+
+fn is_drawn<E: Entropy>(entropy: &mut E) -> bool {
+    let drawn = draws(entropy);
+    drawn.0 == Ok(()) && drawn.1 == Ok(()) && drawn.2 != drawn.3
+}
+
 #[test]
 fn the_outside_is_real(rt: HostRuntime) -> Result<(), Fail> {
     let read = reads(&mut Reading::new(b"abc".as_slice()));
-    assert_eq!(rt; read, [Ok(2), Ok(1), Ok(0)]);
+    expect(read == [Ok(2), Ok(1), Ok(0)], "reads")?;
     let written = writes(&mut Writing::new(Vec::new(rt.alloc())));
-    assert_eq!(rt; written, [Ok(3), Ok(0), Ok(1)]);
-    // A writer that takes nothing has failed.
-    let mut room = [0; 2];
-    let short = writes(&mut Writing::new(room.as_mut_slice()));
-    assert_eq!(rt; short, [Ok(2), Ok(0), Err(Failed)]);
-    assert_eq!(rt; room, *b"ab");
-    assert!(rt; SystemClock::new(&rt).now() > 784_111_777);
-    let drawn = draws(&mut SystemEntropy::new(&rt));
-    assert!(rt; drawn.0 == Ok(()) && drawn.1 == Ok(()));
-    assert!(rt; drawn.2 != drawn.3);
-    Ok(())
+    expect(written == [Ok(3), Ok(0), Ok(1)], "writes")?;
+    expect(is_short(), "writes that fail")?;
+    expect(SystemClock::new(&rt).now() > 784_111_777, "the clock")?;
+    expect(is_drawn(&mut SystemEntropy::new(&rt)), "draws")
 }

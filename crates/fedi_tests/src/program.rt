@@ -1,5 +1,6 @@
 //! Whole runs over the example town, in memory, byte for byte.
 
+use crate::rows::{expect, expect_at};
 use fedi_test_runs::{Case, ends, inetd, left_by};
 use fedi_test_stores::{MEMBERS, TOWN, has_records};
 use std::alloc::{AllocError, Global};
@@ -54,7 +55,7 @@ fn has_arguments(alloc: Global, row: &(&str, &[u64], u8, &str)) -> Result<bool, 
 #[test]
 fn arguments_have_a_status(rt: HostRuntime) -> Result<(), Fail> {
     for row in &ARGUMENTS {
-        assert!(rt; has_arguments(rt.alloc(), row)?, "{}", row.0);
+        expect(has_arguments(rt.alloc(), row)?, row.0)?;
     }
     Ok(())
 }
@@ -204,19 +205,13 @@ fn is_dated(alloc: Global, row: &(u64, &str)) -> Result<bool, AllocError> {
 #[test]
 fn what_is_no_request_is_refused_or_cut_short(rt: HostRuntime) -> Result<(), Fail> {
     for row in &NO_REQUESTS {
-        assert!(rt; has_no_request(rt.alloc(), row)?, "{}", row.0);
+        expect(has_no_request(rt.alloc(), row)?, row.0)?;
     }
-    for row in &LONG_HEADS {
-        assert!(rt;
-            is_measured(rt.alloc(), row)?,
-            "{} {} {}",
-            row.0,
-            row.1,
-            row.2
-        );
+    for (number, row) in LONG_HEADS.iter().enumerate() {
+        expect_at(is_measured(rt.alloc(), row)?, "a long head", number)?;
     }
     for row in &DATES {
-        assert!(rt; is_dated(rt.alloc(), row)?, "{}", row.0);
+        expect(is_dated(rt.alloc(), row)?, row.1)?;
     }
     Ok(())
 }
@@ -284,20 +279,24 @@ fn is_kept_in_two(alloc: Global, post: &str, first: usize) -> Result<bool, Alloc
 #[test]
 fn each_read_and_each_write_fails_once(rt: HostRuntime) -> Result<(), Fail> {
     for call in 0..2 * READ.len() {
-        assert!(rt; ends_at_read(rt.alloc(), call)?, "read {call}");
+        expect_at(ends_at_read(rt.alloc(), call)?, "read", call)?;
     }
     for call in 0..2 * NOT_FOUND.len() {
-        assert!(rt; ends_at_write(rt.alloc(), call)?, "write {call}");
+        expect_at(ends_at_write(rt.alloc(), call)?, "write", call)?;
     }
     Ok(())
+}
+
+fn expect_cut(alloc: Global, post: &str, at: usize) -> Result<(), Fail> {
+    expect_at(is_kept_in_two(alloc, post, at)?, "in two at", at)?;
+    expect_at(ends_inside(alloc, post, at)?, "cut at", at)
 }
 
 #[test]
 fn a_post_comes_whole_or_is_cut_short(rt: HostRuntime) -> Result<(), Fail> {
     for post in [NOTE, CHUNKED_NOTE] {
         for at in 1..post.len() {
-            assert!(rt; is_kept_in_two(rt.alloc(), post, at)?, "in two at {at}");
-            assert!(rt; ends_inside(rt.alloc(), post, at)?, "cut at {at}");
+            expect_cut(rt.alloc(), post, at)?;
         }
     }
     Ok(())
@@ -350,8 +349,8 @@ fn has_disk(alloc: Global, row: &(&[u64], &[&str], usize)) -> Result<bool, Alloc
 
 #[test]
 fn the_disk_fails_at_each_of_its_calls(rt: HostRuntime) -> Result<(), Fail> {
-    for row in &DISKS {
-        assert!(rt; has_disk(rt.alloc(), row)?, "{:?}", row.0);
+    for (number, row) in DISKS.iter().enumerate() {
+        expect_at(has_disk(rt.alloc(), row)?, "a disk", number)?;
     }
     Ok(())
 }
@@ -384,7 +383,7 @@ fn ends_at_the_thousandth(
 #[test]
 fn the_thousandth_request_is_the_last(rt: HostRuntime) -> Result<(), Fail> {
     for row in &THOUSANDS {
-        assert!(rt; ends_at_the_thousandth(rt.alloc(), row)?, "{}", row.0);
+        expect(ends_at_the_thousandth(rt.alloc(), row)?, row.0)?;
     }
     Ok(())
 }
@@ -503,11 +502,10 @@ fn keeps_the_note(alloc: Global) -> Result<bool, AllocError> {
 
 #[test]
 fn posts_are_kept_and_read_back(rt: HostRuntime) -> Result<(), Fail> {
-    for row in &CONVERSATIONS {
-        assert!(rt; is_held(rt.alloc(), row)?, "{:?}", row.0);
+    for (number, row) in CONVERSATIONS.iter().enumerate() {
+        expect_at(is_held(rt.alloc(), row)?, "a conversation", number)?;
     }
-    assert!(rt; keeps_the_note(rt.alloc())?);
-    Ok(())
+    expect(keeps_the_note(rt.alloc())?, "the record of a note")
 }
 
 const JSON: &str = "Content-Type: application/json\r\n";
@@ -660,8 +658,8 @@ fn is_refused(
 
 #[test]
 fn a_post_is_refused_for_the_first_reason(rt: HostRuntime) -> Result<(), Fail> {
-    for row in &REFUSED_POSTS {
-        assert!(rt; is_refused(rt.alloc(), row)?, "{} {}", row.3, row.4);
+    for (number, row) in REFUSED_POSTS.iter().enumerate() {
+        expect_at(is_refused(rt.alloc(), row)?, row.5, number)?;
     }
     Ok(())
 }
@@ -867,7 +865,7 @@ fn is_last(alloc: Global, row: &(&str, &str)) -> Result<bool, AllocError> {
 #[test]
 fn requests_are_answered_by_method_and_version(rt: HostRuntime) -> Result<(), Fail> {
     for row in &LAST_REQUESTS {
-        assert!(rt; is_last(rt.alloc(), row)?, "{}", row.0);
+        expect(is_last(rt.alloc(), row)?, row.0)?;
     }
     Ok(())
 }
@@ -928,20 +926,29 @@ fn has_reply(alloc: Global, method: &str, target: &str, wanted: &str) -> Result<
     replies(alloc, &TOWN, &request, 0, &[wanted], 0)
 }
 
+fn expect_reply(alloc: Global, method: &str, target: &str, wanted: &str) -> Result<(), Fail> {
+    expect(has_reply(alloc, method, target, wanted)?, target)
+}
+
+fn expect_path(alloc: Global, row: &(&str, &str, &str)) -> Result<(), Fail> {
+    let (target, refusal, reply) = *row;
+    for (method, wanted) in [
+        ("PUT", refusal),
+        ("DELETE", refusal),
+        ("PATCH", refusal),
+        ("OPTIONS", refusal),
+        ("GET", reply),
+        ("HEAD", head_of(reply)),
+    ] {
+        expect_reply(alloc, method, target, wanted)?;
+    }
+    Ok(())
+}
+
 #[test]
 fn each_path_has_its_methods(rt: HostRuntime) -> Result<(), Fail> {
-    for (target, refusal, reply) in &PATHS {
-        for method in &["PUT", "DELETE", "PATCH", "OPTIONS"] {
-            assert!(rt;
-                has_reply(rt.alloc(), method, target, refusal)?,
-                "{method} {target}"
-            );
-        }
-        assert!(rt; has_reply(rt.alloc(), "GET", target, reply)?, "{target}");
-        assert!(rt;
-            has_reply(rt.alloc(), "HEAD", target, head_of(reply))?,
-            "HEAD {target}"
-        );
+    for row in &PATHS {
+        expect_path(rt.alloc(), row)?;
     }
     Ok(())
 }
@@ -967,13 +974,19 @@ fn sees(alloc: Global, records: &[&[u8]], row: &(&str, &str, &str)) -> Result<bo
     replies(alloc, records, &input, 0, &[wanted], 0)
 }
 
-#[test]
-fn callers_see_what_they_may(rt: HostRuntime) -> Result<(), Fail> {
-    for row in &SIGHTS {
-        assert!(rt; sees(rt.alloc(), &TOWN, row)?, "{} {}", row.0, row.1);
-    }
-    for row in &EARLY_SIGHTS {
-        assert!(rt; sees(rt.alloc(), &TOWN[..6], row)?, "{} {}", row.0, row.1);
+fn expect_sights(
+    alloc: Global,
+    records: &[&[u8]],
+    rows: &[(&str, &str, &str)],
+) -> Result<(), Fail> {
+    for (number, row) in rows.iter().enumerate() {
+        expect_at(sees(alloc, records, row)?, row.0, number)?;
     }
     Ok(())
+}
+
+#[test]
+fn callers_see_what_they_may(rt: HostRuntime) -> Result<(), Fail> {
+    expect_sights(rt.alloc(), &TOWN, &SIGHTS)?;
+    expect_sights(rt.alloc(), &TOWN[..6], &EARLY_SIGHTS)
 }

@@ -2,6 +2,7 @@
 
 use crate::members::EVA;
 use crate::program::{FAULT, FIRST, HELLO, NOTE, USAGE};
+use crate::rows::{expect, expect_at};
 use fedi_test_runs::{Case, Left, are_texts, calm, ends, inetd, left_by};
 use fedi_test_stores::{HOSTED, MEMBERS, TOWN};
 use std::alloc::{AllocError, Global};
@@ -146,45 +147,57 @@ fn has_count(alloc: Global, row: &(&[&[u8]], u8, &str)) -> Result<bool, AllocErr
 
 #[test]
 fn stores_are_made_and_counted_or_refused(rt: HostRuntime) -> Result<(), Fail> {
-    for row in &STORES {
-        assert!(rt; has_store(rt.alloc(), row)?, "{} {}", row.0, row.3);
+    for (number, row) in STORES.iter().enumerate() {
+        expect_at(has_store(rt.alloc(), row)?, row.0, number)?;
     }
-    for row in &COUNTS {
-        assert!(rt; has_count(rt.alloc(), row)?, "{}", row.2);
+    for (number, row) in COUNTS.iter().enumerate() {
+        expect_at(has_count(rt.alloc(), row)?, row.2, number)?;
     }
     Ok(())
 }
 
-/// Whether the making of a store, whose disk fails at this call, tells so, and whether it then ends with this status.
+/// The making of a store on a disk with these bytes.
+fn making(bytes: &[u8]) -> Case<'_> {
+    Case {
+        bytes,
+        ..calm("fedi init s club.example", &[])
+    }
+}
+
+/// Whether a making that left this told of its disk, and whether the next one ends with this status.
+fn is_made_after(alloc: Global, left: &Left, status: u8) -> Result<bool, AllocError> {
+    let printed = if status == 0 { MADE } else { "exists\n" };
+    let is_told = left.status == 5 && are_texts(&left.out, &["disk fault\n"]);
+    Ok(is_told && is_left(alloc, &making(&left.disk), status, printed, CLUB)?)
+}
+
+/// The same of a making whose disk fails at this call, and from `stop` on.
 fn is_made_again(alloc: Global, call: u64, stop: u64, status: u8) -> Result<bool, AllocError> {
-    let making = calm("fedi init s club.example", &[]);
     let failing = Case {
         failing_calls: &[call],
         stop,
-        ..making
+        ..making(&[])
     };
     let left = left_by(alloc, &failing)?;
-    let again = Case {
-        bytes: &left.disk,
-        ..making
-    };
-    let printed = if status == 0 { MADE } else { "exists\n" };
-    Ok(
-        left.status == 5
-            && are_texts(&left.out, &["disk fault\n"])
-            && is_left(alloc, &again, status, printed, CLUB)?,
-    )
+    is_made_after(alloc, &left, status)
+}
+
+/// The call that fails in the making of a store, and the status of the next making: the size, the journal with its sync, and the four
+/// calls of an append. At the last one the store is there.
+const MAKINGS: [(usize, u8); 7] = [(0, 0), (1, 0), (2, 0), (3, 0), (4, 0), (5, 0), (6, 9)];
+
+fn expect_made_again(alloc: Global, call: usize, status: u8) -> Result<(), Fail> {
+    for stop in [u64::MAX, call as u64] {
+        let is_made = is_made_again(alloc, call as u64, stop, status)?;
+        expect_at(is_made, "a making whose disk fails at", call)?;
+    }
+    Ok(())
 }
 
 #[test]
 fn a_disk_that_failed_is_made_a_store_later(rt: HostRuntime) -> Result<(), Fail> {
-    // The size, the journal with its sync, and the four calls of an append. At the last one the store is there.
-    for (call, status) in [(0, 0), (1, 0), (2, 0), (3, 0), (4, 0), (5, 0), (6, 9)] {
-        assert!(rt;
-            is_made_again(rt.alloc(), call, u64::MAX, status)?,
-            "{call}"
-        );
-        assert!(rt; is_made_again(rt.alloc(), call, call, status)?, "{call}");
+    for (call, status) in &MAKINGS {
+        expect_made_again(rt.alloc(), *call, *status)?;
     }
     Ok(())
 }
@@ -203,24 +216,33 @@ fn is_not_opened(alloc: Global, line: &str, call: u64, printed: &str) -> Result<
     )
 }
 
+/// The command lines of an opening, and what is printed if the disk fails.
+const OPENINGS: [(&str, &str); 3] = [
+    ("fedi check s", "disk fault\n"),
+    ("fedi add-actor s eva", "disk fault\n"),
+    ("fedi inetd s", ""),
+];
+
+fn expect_not_opened(alloc: Global, call: usize) -> Result<(), Fail> {
+    for row in &OPENINGS {
+        let is_refused = is_not_opened(alloc, row.0, call as u64, row.1)?;
+        expect_at(is_refused, row.0, call)?;
+    }
+    Ok(())
+}
+
+fn calls_of_a_check(alloc: Global) -> Result<u64, AllocError> {
+    let left = left_by(alloc, &calm("fedi check s", &MEMBERS))?;
+    Ok(left.calls)
+}
+
 #[test]
 fn each_call_of_an_opening_may_fail(rt: HostRuntime) -> Result<(), Fail> {
     // A sync, the size, the magic, six gates and five records.
     for call in 0..14 {
-        for line in ["fedi check s", "fedi add-actor s eva"] {
-            assert!(rt;
-                is_not_opened(rt.alloc(), line, call, "disk fault\n")?,
-                "{line} {call}"
-            );
-        }
-        assert!(rt;
-            is_not_opened(rt.alloc(), "fedi inetd s", call, "")?,
-            "{call}"
-        );
+        expect_not_opened(rt.alloc(), call)?;
     }
-    let calls = left_by(rt.alloc(), &calm("fedi check s", &MEMBERS))?.calls;
-    assert_eq!(rt; calls, 14);
-    Ok(())
+    expect(calls_of_a_check(rt.alloc())? == 14, "the calls of a check")
 }
 
 /// Where the gate behind the example town without posts is.
@@ -252,24 +274,28 @@ fn counts(alloc: Global, bytes: &[u8], printed: &str) -> Result<bool, AllocError
     is_left(alloc, &case, 0, printed, bytes)
 }
 
+fn set_gate(left: &mut Left, gate: Option<u8>) {
+    if let (Some(gate), Some(here)) = (gate, left.disk.get_mut(GATE)) {
+        *here = gate;
+    }
+}
+
 fn survives(alloc: Global, row: &(u64, Option<u8>, &str)) -> Result<bool, AllocError> {
     let (stop, gate, printed) = *row;
     let case = Case {
         stop,
         ..inetd(&MEMBERS, &[NOTE])
     };
-    let Left { out, mut disk, .. } = left_by(alloc, &case)?;
-    if let (Some(gate), Some(here)) = (gate, disk.get_mut(GATE)) {
-        *here = gate;
-    }
+    let mut left = left_by(alloc, &case)?;
+    set_gate(&mut left, gate);
     let reply = if stop < 18 { FAULT } else { FIRST };
-    Ok(are_texts(&out, &[reply]) && counts(alloc, &disk, printed)?)
+    Ok(are_texts(&left.out, &[reply]) && counts(alloc, &left.disk, printed)?)
 }
 
 #[test]
 fn a_disk_that_stops_has_what_was_acknowledged(rt: HostRuntime) -> Result<(), Fail> {
-    for row in &STOPS {
-        assert!(rt; survives(rt.alloc(), row)?, "{} {}", row.0, row.2);
+    for (number, row) in STOPS.iter().enumerate() {
+        expect_at(survives(rt.alloc(), row)?, "a disk that stops", number)?;
     }
     Ok(())
 }

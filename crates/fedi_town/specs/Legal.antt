@@ -1,6 +1,6 @@
 -- Which entries may come next, and which histories are legal.
-use Rattle.std.specs.Prelude.{ℕ, Bool, true, false, not, ◌&&◌, ◌||◌, if◌then◌else◌, nat_lt, nat_le, IsTrue, List, [], ◌∷◌, length, filter, Option, Some, None, is_some, is_none}
-use Rattle.std.specs.List.{list_any, list_all, find}
+use Rattle.std.specs.Prelude.{ℕ, Bool, true, false, not, ◌&&◌, ◌||◌, if◌then◌else◌, nat_lt, IsTrue, List, [], ◌∷◌, filter, Option, Some, None, is_some, is_none}
+use Rattle.std.specs.List.{list_any, find}
 use Rattle.std.specs.Str.{bytes_eq}
 use Rattle.fedi_address.specs.Hosts.{is_host_text}
 use Rattle.fedi_address.specs.Names.{is_name}

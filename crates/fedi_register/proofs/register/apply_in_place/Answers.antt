@@ -1,4 +1,4 @@
-use Rattle.std.proofs.Common.{◌≡◌, subst, sym}
+use Rattle.std.proofs.Common.{subst, sym}
 use Rattle.fedi_register.specs.Changes.{AreMadeOnce}
 use Rattle.fedi_register.proofs.register.apply_in_place.Goals as goal
 

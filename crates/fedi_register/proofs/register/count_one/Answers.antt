@@ -1,4 +1,4 @@
-use Rattle.std.proofs.Common.{◌≡◌, ◌<◌, ◌^◌, rules, sym, subst, ℕ}
+use Rattle.std.proofs.Common.{◌<◌, sym, subst, ℕ}
 use Rattle.fedi_register.proofs.Counts.{first_count, ids_stay, not_known, one_counted, the_first}
 use Rattle.fedi_register.proofs.register.count_one.Goals as goal
 

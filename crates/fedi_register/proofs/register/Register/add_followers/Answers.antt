@@ -1,4 +1,4 @@
-use Rattle.std.proofs.Common.{◌≡◌, rules, sym, ap, ◌∙◌}
+use Rattle.std.proofs.Common.{sym}
 use Rattle.fedi_register.proofs.Places.{followers_found}
 use Rattle.fedi_register.proofs.register.Register.add_followers.Goals as goal
 

@@ -1,5 +1,4 @@
-use Rattle.std.proofs.Common.{◌≡◌, rules, subst, sym, ap, arith, List}
-use Rattle.fedi_town.specs.declared.act.Act.{Act}
+use Rattle.std.proofs.Common.{subst, sym, ap}
 use Rattle.fedi_register.specs.Changes.{AreMadeOnce}
 use Rattle.fedi_register.proofs.Indexed.{indexed_affected}
 use Rattle.fedi_register.proofs.register.Register.apply.Goals as goal

@@ -1,4 +1,4 @@
-use Rattle.std.proofs.Common.{◌≡◌, rules, sym, ap, ◌∙◌}
+use Rattle.std.proofs.Common.{◌∙◌}
 use Rattle.fedi_register.proofs.Places.{blocks_found}
 use Rattle.fedi_register.proofs.register.Register.blocks.Goals as goal
 

@@ -1,4 +1,4 @@
-use Rattle.std.proofs.Common.{◌≡◌, ℕ, rules, arith, ap, ◌∙◌, length}
+use Rattle.std.proofs.Common.{◌≡◌, arith, ap, ◌∙◌, length}
 use Rattle.fedi_town.specs.Towns.{is_by}
 use Rattle.fedi_register.specs.Registers.{asks_to_follow, is_keyed, is_making, keeps_away, key_mark, object_mark}
 use Rattle.fedi_register.proofs.Counts.{fewer}
@@ -20,12 +20,12 @@ invariant_of-self c =
       rw c.push_reserved.ensures.items (indexed_pushed acts c.args.act _ _ _ _ _ _ _ _ _ _ h
           (places_pushed asks_to_follow acts c.args.act _ _ place _ at c.asks_to_follow.ensures h.follows c.push_if.ensures.items)
           (places_pushed keeps_away acts c.args.act _ _ place _ at c.keeps_away.ensures h.blocks c.push_if-2.ensures.items)
-          (marks_pushed is_keyed key_mark acts c.args.act _ _ place _ _ at c.is_keyed.ensures c.key_mark.ensures h.keyed c.mark_if.ensures.items)
-          (marks_pushed is_making object_mark acts c.args.act _ _ place _ _ at c.is_making.ensures c.object_mark.ensures h.made c.mark_if-2.ensures.items)
+          (marks_pushed is_keyed key_mark acts c.args.act _ _ place _ _ at c.is_keyed.ensures c.key_mark.ensures h.keyed c.mark_if.ensures.marks)
+          (marks_pushed is_making object_mark acts c.args.act _ _ place _ _ at c.is_making.ensures c.object_mark.ensures h.made c.mark_if-2.ensures.marks)
           (rw c.author.ensures at c.count_in_place.ensures.counts)),
       omega (arith, room, c.requires.room, c.push_reserved.ensures.len, c.push_reserved.ensures.capacity, c.self.invariant.1),
       omega (arith, room, c.requires.room, c.push_if.ensures.len, c.push_if.ensures.capacity, c.self.invariant.2),
       omega (arith, room, c.requires.room, c.push_if-2.ensures.len, c.push_if-2.ensures.capacity, c.self.invariant.3),
-      omega (arith, room, c.requires.room, c.mark_if.ensures.len, c.mark_if.ensures.capacity, c.self.invariant.4),
-      omega (arith, room, c.requires.room, c.mark_if-2.ensures.len, c.mark_if-2.ensures.capacity, c.self.invariant.5),
+      omega (arith, room, c.requires.room, c.mark_if.ensures.room, c.self.invariant.4),
+      omega (arith, room, c.requires.room, c.mark_if-2.ensures.room, c.self.invariant.5),
     )

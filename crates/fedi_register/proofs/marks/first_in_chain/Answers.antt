@@ -1,0 +1,25 @@
+use Rattle.std.proofs.Common.{refl, eq-eqb}
+use Rattle.std.proofs.lemmas.Bool.{ne_eqb}
+use Rattle.fedi_register.proofs.Chains.{along_first, along_more, before_less}
+use Rattle.fedi_register.proofs.marks.first_in_chain.Goals as goal
+use Rattle.fedi_register.proofs.marks.first_in_chain.Goals.{then-step-mark+then-passes, else-step-mark, else-step-mark-via-then-step-mark+else-passes, else-step-mark-via-else-step-mark}
+
+pub loop-step-init : goal.loop-step-init
+loop-step-init g c = along_first _ c.args.steps.now c.args.mark c.args.head c.requires.head
+
+pub loop-step-smaller : goal.loop-step-smaller
+loop-step-smaller g c = before_less c.args.steps.now c.loop-step.next c.in-Some.step.now c.requires.chained c.in-Some.ensures
+
+pub loop-step-preserved : goal.loop-step-preserved
+loop-step-preserved g c =
+    let step = c.in-Some.step.now in
+    along_more _ c.args.steps.now c.args.mark c.loop-step.next c.loop-step.found _ step c.requires.chained c.loop-step.invariant c.in-Some.ensures (λ q decides.
+    elim c.if-step-mark.branch [
+      | then-step-mark+then-passes w ↦
+          rw (w.found-is, eq-eqb step.mark c.args.mark w.if-step-mark.true, ← decides step.place w.passes.result w.passes.ensures, w.if-passes.true) refl
+      | else-step-mark w ↦ elim w.else-step-mark.branch [
+        | else-step-mark-via-then-step-mark+else-passes w' ↦
+            rw (w.found-is, eq-eqb step.mark c.args.mark w'.if-step-mark.true, ← decides step.place w'.passes.result w'.passes.ensures, w'.if-passes.false) refl
+        | else-step-mark-via-else-step-mark w' ↦ rw (w.found-is, ne_eqb step.mark c.args.mark w'.if-step-mark.false) refl
+      ]
+    ])
