@@ -187,8 +187,7 @@ fn reach_followers(
 {
     let mut followers = facts.followers_of(alloc, author)?;
     keep_new(facts, author, found, &mut followers);
-    found.append(&mut followers)?;
-    Ok(())
+    found.append(&mut followers)
 }
 
 // The author's followers collection stands for the present followers (ActivityPub, section 7.1).

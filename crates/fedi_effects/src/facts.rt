@@ -59,8 +59,7 @@ fn know(register: &mut Register, ready: &Ready) -> Result<(), AllocError>
     ensures room { register.new.room ≡ register.old.room }
     ensures known { OnOk result (HasAuthors register.new.known ready.now) }
 {
-    know_authors(register, ready)?;
-    Ok(())
+    know_authors(register, ready)
 }
 
 // The members and the activities get room for one entry more, which was made ready.
@@ -219,8 +218,7 @@ impl Facts {
             &mut self.register,
             &mut self.pool,
             room,
-        )?;
-        Ok(())
+        )
     }
 
     /// Adds the entry for which there is room. It takes no memory.

@@ -5,7 +5,7 @@ ghost use Rattle.fedi_text.specs.Dates.{moment_text};
 ghost use Rattle.fedi_town.specs.Ids.{activity_id};
 
 use fedi_address::{Host, Iri, LocalName};
-use fedi_objects::Activity;
+use fedi_objects::{Activity, set};
 use fedi_text::{Moment, Text};
 use fedi_town::activity_iri;
 use std::alloc::{AllocError, Global};
@@ -60,8 +60,8 @@ impl Head {
             actor,
             published,
         } = self;
-        activity.id = Some(id);
-        activity.actor = Some(actor);
-        activity.published = Some(published);
+        set(&mut activity.id, Some(id));
+        set(&mut activity.actor, Some(actor));
+        set(&mut activity.published, Some(published));
     }
 }

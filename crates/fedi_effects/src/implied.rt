@@ -98,10 +98,7 @@ fn add_implied(
         ≡ with_implied author.now (option_copied implied.entry) recipients.old) }
 {
     match implied {
-        Some(iri) if !recipients.names(iri) && iri != author => {
-            recipients.to.push(iri.clone()?)?;
-            Ok(())
-        }
+        Some(iri) if !recipients.names(iri) && iri != author => { recipients.to.push(iri.clone()?) }
         Some(_) | None => Ok(()),
     }
 }

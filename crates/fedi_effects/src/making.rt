@@ -22,7 +22,7 @@ use crate::states::state_of;
 use crate::subjects::subject_of;
 use fedi_address::{Host, Iri, Items, LocalName};
 use fedi_kept::Kept;
-use fedi_objects::{Activity, Boxed, Entry, Object, ObjectRef, RepeatKey};
+use fedi_objects::{Activity, Boxed, Entry, Object, ObjectRef, RepeatKey, set};
 use fedi_register::is_done;
 use fedi_text::{Moment, Text};
 use fedi_town::{Acceptance, Act, Actor, Addition, Deed, actor_iri, object_iri};
@@ -60,9 +60,9 @@ fn complete_object(object: &mut Object, id: Iri, author: Iri, published: Text)
       published = Some published;
     } }
 {
-    object.id = Some(id);
-    object.attributed_to = Some(author);
-    object.published = Some(published);
+    set(&mut object.id, Some(id));
+    set(&mut object.attributed_to, Some(author));
+    set(&mut object.published, Some(published));
 }
 
 // Whom the activity implies is named too.

@@ -10,10 +10,10 @@ ghost use Rattle.fedi_kept.specs.Seen.{unboxed};
 use crate::about::About;
 use crate::iris::Iris;
 use crate::object::{Hidden, hidden_of};
-use crate::parts::{Named, Parts, Rare, own_of, rare_of_own, share_own};
+use crate::parts::{Named, Parts, Rare, content_of, rare_of_own, share_own};
 use crate::pool::Pool;
-use fedi_address::{Iri, Recipients};
-use fedi_objects::{Activity, Kind, ObjectRef, RepeatKey, State, StrippedObject, Tag};
+use fedi_address::Iri;
+use fedi_objects::{Kind, ObjectRef, RepeatKey, State, StrippedObject, Tag};
 use fedi_text::{Moment, Text};
 use fedi_town::{Act, Deed};
 use std::alloc::{AllocError, Global};
@@ -66,71 +66,40 @@ impl Kept {
     pub fn new(alloc: Global, act: Act) -> Result<Kept, AllocError>
         ensures { IfOk result (λ kept. kept ≡ act) }
     {
-        let Act {
-            author,
-            activity,
-            repeat,
-            moment,
-            recipients,
-            forwards,
-            is_public,
-            for_followers,
-            state,
-        } = act;
-        let Activity {
-            id,
-            kind,
-            actor,
-            object,
-            target,
-            recipients: names,
-            in_reply_to,
-            content,
-            summary,
-            name,
-            published,
-            tags,
-        } = activity.into_inner();
+        let recipients = Iris::new(alloc, act.recipients)?;
+        let repeat = boxed(alloc, act.repeat)?;
+        let activity = act.activity.into_inner();
+        let names = activity.recipients;
         let hidden = hidden_of(&names);
-        let actor = Snapshot::of(&actor);
-        let Recipients {
-            to,
-            cc,
-            bto: _,
-            bcc: _,
-            audience,
-        } = names;
+        let actor = Snapshot::of(&activity.actor);
         let named = Named {
-            to,
-            cc,
-            audience,
-            published,
+            to: names.to,
+            cc: names.cc,
+            audience: names.audience,
+            published: activity.published,
         };
         let rare = Rare {
-            target,
-            in_reply_to,
-            content,
-            summary,
-            name,
-            tags,
-            forwards,
+            target: activity.target,
+            in_reply_to: activity.in_reply_to,
+            content: activity.content,
+            summary: activity.summary,
+            name: activity.name,
+            tags: activity.tags,
+            forwards: act.forwards,
         };
-        let about = About::new(alloc, object)?;
-        let own = own_of(alloc, named, rare, &about)?;
-        let repeat = boxed(alloc, repeat)?;
-        let recipients = Iris::new(alloc, recipients)?;
+        let (about, own) = content_of(alloc, activity.object, named, rare)?;
         Ok(Kept {
-            author,
-            id,
+            author: act.author,
+            id: activity.id,
             about,
             own,
             repeat,
             recipients,
-            moment,
-            kind,
-            state,
-            is_public,
-            for_followers,
+            moment: act.moment,
+            kind: activity.kind,
+            state: act.state,
+            is_public: act.is_public,
+            for_followers: act.for_followers,
             actor,
             hidden,
         })

@@ -8,7 +8,7 @@ ghost use Rattle.fedi_kept.specs.Parts.{named_in, whole};
 use crate::iris::Iris;
 use crate::pool::Pool;
 use fedi_address::{Iri, Items, Recipients};
-use fedi_objects::{Change, Edit, Object, ObjectRef, ObjectView, StrippedObject, Tag};
+use fedi_objects::{Change, Edit, Object, ObjectRef, ObjectView, StrippedObject, Tag, set};
 use fedi_text::Text;
 use std::alloc::{AllocError, Global};
 use std::mem;
@@ -76,57 +76,66 @@ pub(crate) fn hidden_of(recipients: &Recipients) -> Hidden
     }
 }
 
+/// Whom an activity or an object names to all who see it.
+#[derive(Drop)]
+pub(crate) struct Lists {
+    pub(crate) to: Iris,
+    pub(crate) cc: Iris,
+    pub(crate) audience: Iris,
+}
+
+impl Lists {
+    /// The same lists, made ready to be kept. The error is out of memory.
+    pub(crate) fn new(
+        alloc: Global,
+        to: Items<Iri>,
+        cc: Items<Iri>,
+        audience: Items<Iri>,
+    ) -> Result<Lists, AllocError>
+        ensures to { IfOk result (λ lists. lists.to ≡ to) }
+        ensures cc { IfOk result (λ lists. lists.cc ≡ cc) }
+        ensures audience { IfOk result (λ lists. lists.audience ≡ audience) }
+    {
+        let to = Iris::new(alloc, to)?;
+        let cc = Iris::new(alloc, cc)?;
+        let audience = Iris::new(alloc, audience)?;
+        Ok(Lists { to, cc, audience })
+    }
+}
+
 impl KeptObject {
     /// The object, made ready to be kept. The error is out of memory.
     pub(crate) fn new(alloc: Global, object: Object) -> Result<KeptObject, AllocError>
         ensures { IfOk result (λ kept. whole kept ≡ object) }
     {
-        let Object {
-            id,
-            kind,
-            attributed_to,
-            recipients,
-            in_reply_to,
-            content,
-            summary,
-            name,
-            url,
-            published,
-            updated,
-            former_kind,
-            deleted,
-            tags,
-        } = object;
-        let hidden = hidden_of(&recipients);
-        let Recipients {
-            to,
-            cc,
-            bto: _,
-            bcc: _,
-            audience,
-        } = recipients;
-        let to = Iris::new(alloc, to)?;
-        let cc = Iris::new(alloc, cc)?;
-        let audience = Iris::new(alloc, audience)?;
-        Ok(KeptObject {
-            id,
-            kind,
-            attributed_to,
-            to,
-            cc,
-            audience,
-            in_reply_to,
-            content,
-            summary,
-            name,
-            url,
-            published,
-            updated,
-            former_kind,
-            deleted,
-            tags,
-            hidden,
-        })
+        let mut object = object;
+        let hidden = hidden_of(&object.recipients);
+        let names = mem::replace(&mut object.recipients, Recipients::empty(alloc));
+        match Lists::new(alloc, names.to, names.cc, names.audience) {
+            Ok(lists) => Ok(KeptObject {
+                id: object.id,
+                kind: object.kind,
+                attributed_to: object.attributed_to,
+                to: lists.to,
+                cc: lists.cc,
+                audience: lists.audience,
+                in_reply_to: object.in_reply_to,
+                content: object.content,
+                summary: object.summary,
+                name: object.name,
+                url: object.url,
+                published: object.published,
+                updated: object.updated,
+                former_kind: object.former_kind,
+                deleted: object.deleted,
+                tags: object.tags,
+                hidden,
+            }),
+            Err(error) => {
+                drop(object);
+                Err(error)
+            }
+        }
     }
 
     /// The object without its `bto` and `bcc`.
@@ -165,7 +174,7 @@ impl KeptObject {
         edit(&mut self.url, by.url);
         edit(&mut self.in_reply_to, by.in_reply_to);
         edit_list(&mut self.tags, by.tags);
-        self.updated = Some(stamp);
+        set(&mut self.updated, Some(stamp));
     }
 
     // The object after a peer's Update, which gives it whole.
@@ -174,13 +183,13 @@ impl KeptObject {
         ensures replaced { whole self.new ≡ objects.replace_object by (whole self.old) }
         ensures named { named_in self.new ≡ named_in self.old }
     {
-        self.content = by.content;
-        self.summary = by.summary;
-        self.name = by.name;
-        self.url = by.url;
-        self.in_reply_to = by.in_reply_to;
-        self.tags = by.tags;
-        self.updated = by.updated;
+        set(&mut self.content, by.content);
+        set(&mut self.summary, by.summary);
+        set(&mut self.name, by.name);
+        set(&mut self.url, by.url);
+        set(&mut self.in_reply_to, by.in_reply_to);
+        set(&mut self.tags, by.tags);
+        set(&mut self.updated, by.updated);
     }
 
     /// Changes the object by what an Update carries, of a client (ActivityPub, section 6.3) or of a
@@ -203,8 +212,8 @@ impl KeptObject {
         ensures named { named_in self.new ≡ named_in self.old }
     {
         let former = mem::replace(&mut self.kind, kind);
-        self.former_kind = Some(former);
-        self.deleted = Some(stamp);
+        set(&mut self.former_kind, Some(former));
+        set(&mut self.deleted, Some(stamp));
     }
 
     /// Lets the IRIs that come again and again share the texts of equal ones.

@@ -1,14 +1,14 @@
 //! What an activity has beside its object, as it is kept.
 
 ghost use Rattle.std.specs.Prelude.{◌≡◌, true, false, IfOk, [], option_copied};
-ghost use Rattle.fedi_kept.specs.Parts.{named_part, names_given, no_names, no_rare, object_names, rare_in, rare_lent, rare_part};
+ghost use Rattle.fedi_kept.specs.Parts.{named_part, names_given, no_names, no_rare, object_names, rare_in, rare_lent, rare_part, referred};
 
 use crate::about::About;
 use crate::iris::{Iris, are_same};
-use crate::object::KeptObject;
+use crate::object::{KeptObject, Lists};
 use crate::pool::Pool;
 use fedi_address::{Iri, Items};
-use fedi_objects::Tag;
+use fedi_objects::{ObjectRef, Tag};
 use fedi_text::Text;
 use std::alloc::{AllocError, Global};
 
@@ -121,26 +121,22 @@ fn parts_of(
     ensures named { IfOk result (λ kept. (about : _) → named_part kept about ≡ names_given named) }
     ensures rare { IfOk result (λ kept. rare_part kept ≡ rare_in rare) }
 {
-    let to = Iris::new(alloc, named.to)?;
-    let cc = Iris::new(alloc, named.cc)?;
-    let audience = Iris::new(alloc, named.audience)?;
-    let published = named.published;
+    let lists = Lists::new(alloc, named.to, named.cc, named.audience)?;
     let parts = Box::new(
         alloc,
         Parts {
-            to,
-            cc,
-            audience,
-            published,
+            to: lists.to,
+            cc: lists.cc,
+            audience: lists.audience,
+            published: named.published,
             rare,
         },
     )?;
     Ok(Some(parts))
 }
 
-/// What an activity has of its own, where that is not what its object has too. The error is out of
-/// memory.
-pub(crate) fn own_of(
+// What an activity has of its own, where that is not what its object has too.
+fn own_of(
     alloc: Global,
     named: Named,
     rare: Rare,
@@ -154,6 +150,27 @@ pub(crate) fn own_of(
         return Ok(None);
     }
     parts_of(alloc, named, rare)
+}
+
+/// What an activity is about, and what it has of its own beside that. The error is out of memory.
+pub(crate) fn content_of(
+    alloc: Global,
+    object: ObjectRef,
+    named: Named,
+    rare: Rare,
+) -> Result<(About, Option<Box<Parts>>), AllocError>
+    ensures about { IfOk result (λ both. referred both.0 ≡ object) }
+    ensures named { IfOk result (λ both. named_part both.1 both.0 ≡ names_given named) }
+    ensures rare { IfOk result (λ both. rare_part both.1 ≡ rare) }
+{
+    let about = About::new(alloc, object)?;
+    match own_of(alloc, named, rare, &about) {
+        Ok(own) => Ok((about, own)),
+        Err(error) => {
+            drop(about);
+            Err(error)
+        }
+    }
 }
 
 /// What few activities have, where this one has something of it.

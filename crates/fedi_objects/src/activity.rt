@@ -3,9 +3,9 @@
 ghost use Rattle.std.specs.Prelude.{◌≡◌, IfOk, OnOk};
 
 use crate::boxed::Boxed;
+use crate::fields::copy_option;
 use crate::kind::Kind;
 use crate::object::{Change, Object, Tag};
-use crate::options::clone_option;
 use fedi_address::{Iri, Items, Recipients};
 use fedi_text::Text;
 use std::alloc::{AllocError, Global};
@@ -102,18 +102,17 @@ impl Activity {
     fn fill_from(&mut self, other: &Activity) -> Result<(), AllocError>
         ensures { OnOk result (self.new ≡ record other.now { kind = self.old.kind }) }
     {
-        self.id = clone_option(&other.id)?;
-        self.actor = clone_option(&other.actor)?;
+        copy_option(&mut self.id, &other.id)?;
+        copy_option(&mut self.actor, &other.actor)?;
         self.object.clone_from(&other.object)?;
-        self.target = clone_option(&other.target)?;
+        copy_option(&mut self.target, &other.target)?;
         self.recipients.clone_from(&other.recipients)?;
-        self.in_reply_to = clone_option(&other.in_reply_to)?;
-        self.content = clone_option(&other.content)?;
-        self.summary = clone_option(&other.summary)?;
-        self.name = clone_option(&other.name)?;
-        self.published = clone_option(&other.published)?;
-        self.tags.clone_from(&other.tags)?;
-        Ok(())
+        copy_option(&mut self.in_reply_to, &other.in_reply_to)?;
+        copy_option(&mut self.content, &other.content)?;
+        copy_option(&mut self.summary, &other.summary)?;
+        copy_option(&mut self.name, &other.name)?;
+        copy_option(&mut self.published, &other.published)?;
+        self.tags.clone_from(&other.tags)
     }
 
     /// A copy. The error is out of memory.

@@ -5,10 +5,10 @@
 mod activity;
 mod boxed;
 mod entry;
+mod fields;
 mod kind;
 mod members;
 mod object;
-mod options;
 mod repeat_key;
 mod shown;
 mod writing;
@@ -16,6 +16,7 @@ mod writing;
 pub use activity::{Activity, ObjectRef};
 pub use boxed::Boxed;
 pub use entry::{Came, Entry, Sent, What};
+pub use fields::set;
 pub use kind::{Kind, State};
 pub use members::{
     new_document, text_of, write_iri, write_iris, write_joined, write_str, write_text,

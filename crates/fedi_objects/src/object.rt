@@ -2,7 +2,7 @@
 
 ghost use Rattle.std.specs.Prelude.{◌≡◌, IfOk, OnOk};
 
-use crate::options::clone_option;
+use crate::fields::copy_option;
 use fedi_address::{Iri, Items, Recipients};
 use fedi_text::Text;
 use std::alloc::{AllocError, Global};
@@ -79,20 +79,19 @@ impl Object {
     fn fill_from(&mut self, other: &Object) -> Result<(), AllocError>
         ensures { OnOk result (self.new ≡ record other.now { kind = self.old.kind }) }
     {
-        self.id = clone_option(&other.id)?;
-        self.attributed_to = clone_option(&other.attributed_to)?;
+        copy_option(&mut self.id, &other.id)?;
+        copy_option(&mut self.attributed_to, &other.attributed_to)?;
         self.recipients.clone_from(&other.recipients)?;
-        self.in_reply_to = clone_option(&other.in_reply_to)?;
-        self.content = clone_option(&other.content)?;
-        self.summary = clone_option(&other.summary)?;
-        self.name = clone_option(&other.name)?;
-        self.url = clone_option(&other.url)?;
-        self.published = clone_option(&other.published)?;
-        self.updated = clone_option(&other.updated)?;
-        self.former_kind = clone_option(&other.former_kind)?;
-        self.deleted = clone_option(&other.deleted)?;
-        self.tags.clone_from(&other.tags)?;
-        Ok(())
+        copy_option(&mut self.in_reply_to, &other.in_reply_to)?;
+        copy_option(&mut self.content, &other.content)?;
+        copy_option(&mut self.summary, &other.summary)?;
+        copy_option(&mut self.name, &other.name)?;
+        copy_option(&mut self.url, &other.url)?;
+        copy_option(&mut self.published, &other.published)?;
+        copy_option(&mut self.updated, &other.updated)?;
+        copy_option(&mut self.former_kind, &other.former_kind)?;
+        copy_option(&mut self.deleted, &other.deleted)?;
+        self.tags.clone_from(&other.tags)
     }
 }
 
@@ -165,8 +164,7 @@ impl Change {
         self.name.clone_from(&other.name)?;
         self.url.clone_from(&other.url)?;
         self.in_reply_to.clone_from(&other.in_reply_to)?;
-        self.tags.clone_from(&other.tags)?;
-        Ok(())
+        self.tags.clone_from(&other.tags)
     }
 }
 

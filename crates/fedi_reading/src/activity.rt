@@ -20,7 +20,7 @@ use crate::properties::{
 };
 use crate::shape_fault::ShapeFault;
 use fedi_address::{Iri, Items};
-use fedi_objects::{Activity, Boxed, Change, Edit, Kind, Object, ObjectRef, Tag};
+use fedi_objects::{Activity, Boxed, Change, Edit, Kind, Object, ObjectRef, Tag, set};
 use fedi_text::Text;
 use serde_json::Value;
 use std::alloc::{AllocError, Global};
@@ -130,14 +130,19 @@ fn fill_other(
         (activities.reads_other author.now activity.old.kind need (view value.now)) }
 {
     let id = read_id(alloc, need, object_id(value))?;
-    activity.target = read_target(alloc, value)?;
-    (activity.in_reply_to, activity.recipients) = read_people(alloc, value)?;
-    (activity.content, activity.summary, activity.name) = read_words(alloc, value)?;
+    set(&mut activity.target, read_target(alloc, value)?);
+    let (in_reply_to, recipients) = read_people(alloc, value)?;
+    set(&mut activity.in_reply_to, in_reply_to);
+    set(&mut activity.recipients, recipients);
+    let (content, summary, name) = read_words(alloc, value)?;
+    set(&mut activity.content, content);
+    set(&mut activity.summary, summary);
+    set(&mut activity.name, name);
     if is_oneself(author, need, &id) {
         return Err(ShapeFault::SelfTarget);
     }
-    activity.object = object_ref(id);
-    activity.tags = read_tags(alloc, value)?;
+    set(&mut activity.object, object_ref(id));
+    set(&mut activity.tags, read_tags(alloc, value)?);
     Ok(())
 }
 
@@ -172,16 +177,22 @@ fn fill_both(
         (activities.reads_creation (view value.now) (view object.now)) }
 {
     let _id = read_iri(alloc, reference_at(object, "id"))?;
-    create.target = read_target(alloc, value)?;
-    made.in_reply_to = read_reply(alloc, object)?;
-    create.in_reply_to = read_reply(alloc, value)?;
-    create.recipients = read_audience(alloc, value, object)?;
-    made.recipients = create.recipients.clone()?;
-    (create.content, create.summary, create.name) = read_words(alloc, value)?;
-    (made.content, made.summary, made.name) = read_words(alloc, object)?;
-    made.url = iri_at(alloc, object, "url")?;
-    made.tags = read_tags(alloc, object)?;
-    create.tags = read_tags(alloc, value)?;
+    set(&mut create.target, read_target(alloc, value)?);
+    set(&mut made.in_reply_to, read_reply(alloc, object)?);
+    set(&mut create.in_reply_to, read_reply(alloc, value)?);
+    set(&mut create.recipients, read_audience(alloc, value, object)?);
+    set(&mut made.recipients, create.recipients.clone()?);
+    let (content, summary, name) = read_words(alloc, value)?;
+    set(&mut create.content, content);
+    set(&mut create.summary, summary);
+    set(&mut create.name, name);
+    let (content, summary, name) = read_words(alloc, object)?;
+    set(&mut made.content, content);
+    set(&mut made.summary, summary);
+    set(&mut made.name, name);
+    set(&mut made.url, iri_at(alloc, object, "url")?);
+    set(&mut made.tags, read_tags(alloc, object)?);
+    set(&mut create.tags, read_tags(alloc, value)?);
     Ok(())
 }
 
@@ -198,10 +209,10 @@ fn fill_create(
     ensures { Fills result create.new
         (activities.reads_creation (view value.now) (view object.now)) }
 {
-    let mut made = Object::new(alloc, kind);
-    fill_both(alloc, value, object, create, &mut made)?;
-    create.object = ObjectRef::Whole(Boxed::new(alloc, made)?);
-    Ok(())
+    let mut made = Boxed::new(alloc, Object::new(alloc, kind))?;
+    let filled = fill_both(alloc, value, object, create, made.get_mut());
+    set(&mut create.object, ObjectRef::Whole(made));
+    filled
 }
 
 // A Create, with the object that stands in it.
@@ -245,8 +256,7 @@ fn given_tags(alloc: Global, object: &Value) -> Result<Option<Items<Tag>>, Alloc
     ensures { IfOk result (λ tags. tags ≡ activities.given_tags (view object.now)) }
 {
     match object.get("tag") {
-        Some(Value::Array(_)) => Ok(Some(read_tags(alloc, object)?)),
-        Some(Value::Object(_)) => Ok(Some(read_tags(alloc, object)?)),
+        Some(Value::Array(_) | Value::Object(_)) => read_tags(alloc, object).map(Some),
         _ => Ok(None),
     }
 }
@@ -267,17 +277,32 @@ fn fill_update(
     ensures { Fills result (record update.new { object = Changed change.new })
         (activities.reads_changes (view value.now) (view object.now)) }
 {
-    update.target = read_target(alloc, value)?;
-    change.in_reply_to = edit(object, "inReplyTo", read_reply(alloc, object)?);
-    (update.in_reply_to, update.recipients) = read_people(alloc, value)?;
-    (update.content, update.summary, update.name) = read_words(alloc, value)?;
+    set(&mut update.target, read_target(alloc, value)?);
+    let in_reply_to = read_reply(alloc, object)?;
+    set(
+        &mut change.in_reply_to,
+        edit(object, "inReplyTo", in_reply_to),
+    );
+    let (in_reply_to, recipients) = read_people(alloc, value)?;
+    set(&mut update.in_reply_to, in_reply_to);
+    set(&mut update.recipients, recipients);
+    let (content, summary, name) = read_words(alloc, value)?;
+    set(&mut update.content, content);
+    set(&mut update.summary, summary);
+    set(&mut update.name, name);
     let (content, summary, name) = read_words(alloc, object)?;
-    change.content = edit(object, "content", content);
-    change.summary = edit(object, "summary", summary);
-    change.name = edit(object, "name", name);
-    change.url = edit(object, "url", iri_at(alloc, object, "url")?);
-    change.tags = edit(object, "tag", given_tags(alloc, object)?);
-    update.tags = read_tags(alloc, value)?;
+    set(&mut change.content, edit(object, "content", content));
+    set(&mut change.summary, edit(object, "summary", summary));
+    set(&mut change.name, edit(object, "name", name));
+    set(
+        &mut change.url,
+        edit(object, "url", iri_at(alloc, object, "url")?),
+    );
+    set(
+        &mut change.tags,
+        edit(object, "tag", given_tags(alloc, object)?),
+    );
+    set(&mut update.tags, read_tags(alloc, value)?);
     Ok(())
 }
 
@@ -290,7 +315,7 @@ fn read_update(alloc: Global, value: &Value) -> Result<Activity, ShapeFault>
     let mut change = Change::new(read_own_id(alloc, object)?);
     let mut update = Activity::new(alloc, Kind::Update);
     let filled = fill_update(alloc, value, object, &mut update, &mut change);
-    update.object = ObjectRef::Changed(change);
+    set(&mut update.object, ObjectRef::Changed(change));
     filled.and(Ok(update))
 }
 

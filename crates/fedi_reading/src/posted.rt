@@ -1,12 +1,14 @@
 //! What a client posts.
 
-ghost use Rattle.std.specs.Prelude.{◌≡◌, ◌≢◌, map, Some, None, IfOk, IfErr, OnOk};
+ghost use Rattle.std.specs.Prelude.{◌≡◌, ◌≢◌, map, Some, None, Ok, IfOk, IfErr, OnOk};
 ghost use Rattle.std.specs.Option.{option_copied};
 ghost use Rattle.std.specs.List.{filter_map};
 ghost use Rattle.serde_json.specs.View.{view};
 ghost use Rattle.fedi_reading.specs.Faults.{first_fault};
+ghost use Rattle.fedi_reading.specs.Properties.{reads_type};
 ghost use Rattle.fedi_reading.specs.Reading as reading;
-ghost use Rattle.fedi_reading.specs.Shapes.{Gives};
+ghost use Rattle.fedi_objects.specs.Objects.{object_of_kind};
+ghost use Rattle.fedi_reading.specs.Shapes.{Gives, Fills};
 
 use crate::audience::{MOST_ENTRIES, check_recipients, entry_count, read_recipients};
 use crate::properties::{
@@ -15,7 +17,7 @@ use crate::properties::{
 };
 use crate::shape_fault::ShapeFault;
 use fedi_address::{Iri, Items, Recipients};
-use fedi_objects::{Activity, MENTION, Object, Tag};
+use fedi_objects::{Activity, MENTION, Object, Tag, set};
 use fedi_text::Text;
 use serde_json::Value;
 use std::alloc::{AllocError, Global};
@@ -125,35 +127,32 @@ pub(crate) fn read_words(
     Ok((content, summary, name))
 }
 
-// An object that a client posts. What the server gives itself is skipped. The words are read as one,
-// since each value that is owned over a `?` makes the proof dearer.
+// Reads an object that a client posts into one that is bare. What the server gives itself is skipped.
 #[tactic(auto, unfolding(crate::specs::Reading::reads_object, crate::specs::Reading::url_of))]
+fn fill_object(alloc: Global, value: &Value, object: &mut Object) -> Result<(), ShapeFault>
+    requires bare { object.old ≡ object_of_kind object.old.kind }
+    requires typed { reads_type (view value.now) ≡ Ok object.old.kind }
+    ensures { Fills result object.new (reading.reads_object (view value.now)) }
+{
+    let (in_reply_to, recipients) = read_people(alloc, value)?;
+    set(&mut object.in_reply_to, in_reply_to);
+    set(&mut object.recipients, recipients);
+    let (content, summary, name) = read_words(alloc, value)?;
+    set(&mut object.content, content);
+    set(&mut object.summary, summary);
+    set(&mut object.name, name);
+    set(&mut object.url, iri_at(alloc, value, "url")?);
+    set(&mut object.tags, read_tags(alloc, value)?);
+    Ok(())
+}
+
+// An object that a client posts.
+#[tactic(auto, unfolding(crate::specs::Reading::reads_object))]
 fn read_object(alloc: Global, value: &Value) -> Result<Object, ShapeFault>
     ensures { Gives result (reading.reads_object (view value.now)) }
 {
-    let kind = read_type(alloc, value)?;
-    let people = read_people(alloc, value)?;
-    let words = read_words(alloc, value)?;
-    let url = iri_at(alloc, value, "url")?;
-    let tags = read_tags(alloc, value)?;
-    let (in_reply_to, recipients) = people;
-    let (content, summary, name) = words;
-    Ok(Object {
-        id: None,
-        kind,
-        attributed_to: None,
-        recipients,
-        in_reply_to,
-        content,
-        summary,
-        name,
-        url,
-        published: None,
-        updated: None,
-        former_kind: None,
-        deleted: None,
-        tags,
-    })
+    let mut object = Object::new(alloc, read_type(alloc, value)?);
+    fill_object(alloc, value, &mut object).and(Ok(object))
 }
 
 /// Reads what a client posts: an object whose type is none of the activities', which is wrapped in

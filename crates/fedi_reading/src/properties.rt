@@ -71,7 +71,10 @@ pub(crate) fn entries_at<'a>(value: &'a Value, key: &str) -> &'a [Value]
 fn first_of(value: &Value) -> &Value
     ensures { view result.now ≡ properties.first_of (view value.now) }
 {
-    value.get(0).unwrap_or(value)
+    match value {
+        Value::Array(values) => values.first().unwrap_or(value),
+        _ => value,
+    }
 }
 
 // What a value names.
