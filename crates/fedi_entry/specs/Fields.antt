@@ -8,6 +8,8 @@ use Rattle.fedi_address.specs.Iris.{normal}
 use Rattle.fedi_address.specs.Names.{is_name}
 use Rattle.fedi_objects.specs.Keys.{is_repeat_key}
 use Rattle.fedi_objects.specs.Limits.{is_address, is_date, is_text, is_type}
+use Rattle.fedi_entry.specs.declared.limits.Limit.{Limit}
+use Rattle.fedi_entry.specs.declared.limits.Limit.TheVariants as limits
 use Rattle.fedi_objects.specs.declared.activity.Activity.{Activity}
 use Rattle.fedi_objects.specs.declared.activity.ObjectRef.{ObjectRef}
 use Rattle.fedi_objects.specs.declared.activity.ObjectRef.TheVariants.{Nothing, Id, Whole, Changed}
@@ -37,6 +39,13 @@ is_iri text = is_own (normal text) text && nat_le (length text) 2048
 -- a host: `https://HOST/` is its own normal text (URL Standard, 4.5)
 unfoldable pub is_host : List ℕ → Bool
 is_host text = is_host_text text && is_own (normal (address text (codes "/"))) (address text (codes "/"))
+
+-- which test a text passes that has these limits
+abbrev pub test_of : Limit → List ℕ → Bool
+test_of limits.Content = is_text
+test_of limits.Kind = is_type
+test_of limits.Date = is_date
+test_of limits.Address = is_address
 
 -- a text in UTF-8 that passes the test
 pub record IsText (test : List ℕ → Bool) (text : List ℕ) : Type 0 where

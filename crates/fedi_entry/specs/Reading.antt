@@ -216,30 +216,6 @@ object_of head recipients says times tags = record {
   tags = tags;
 }
 
--- the first part of this object
-abbrev pub object_front : Object → ObjectHead
-object_front o = record { id = o.id; kind = o.kind; attributed_to = o.attributed_to }
-
--- what this object says
-abbrev pub says_of : Object → ObjectWords
-says_of o = record { in_reply_to = o.in_reply_to; words = record { content = o.content; summary = o.summary; name = o.name }; url = o.url }
-
--- what became of this object, and when
-abbrev pub times_of : Object → ObjectTimes
-times_of o = record { published = o.published; updated = o.updated; former_kind = o.former_kind; deleted = o.deleted }
-
--- the parts of this object behind the first
-abbrev pub object_rest : Object → Recipients × (ObjectWords × (ObjectTimes × List Tag))
-object_rest o = (o.recipients, (says_of o, (times_of o, o.tags)))
-
--- the object, saying this
-abbrev pub with_words : Object → ObjectWords → Object
-with_words o says = object_of (object_front o) o.recipients says (times_of o) o.tags
-
--- the object, of which this became
-abbrev pub with_times : Object → ObjectTimes → Object
-with_times o times = object_of (object_front o) o.recipients (says_of o) times o.tags
-
 -- an object
 unfoldable pub object_at : Reader Object
 object_at =
@@ -263,18 +239,6 @@ change_of id words url in_reply_to tags = record {
   in_reply_to = in_reply_to;
   tags = tags;
 }
-
--- what this change does to content, summary, name
-abbrev pub changed_words : Change → ChangedWords
-changed_words c = record { content = c.content; summary = c.summary; name = c.name }
-
--- the parts of this change behind the id
-abbrev pub change_rest : Change → ChangedWords × (Edit (List ℕ) × (Edit (List ℕ) × Edit (List Tag)))
-change_rest c = (changed_words c, (c.url, (c.in_reply_to, c.tags)))
-
--- the change, doing this to content, summary, name
-abbrev pub with_changed_words : Change → ChangedWords → Change
-with_changed_words c words = change_of c.id words c.url c.in_reply_to c.tags
 
 -- what is changed in an object
 unfoldable pub change_at : Reader Change
@@ -334,27 +298,6 @@ activity_of head object target recipients says = record {
   published = says.published;
   tags = says.tags;
 }
-
--- the first part of this activity
-abbrev pub activity_front : Activity → ActivityHead
-activity_front a = record { id = a.id; kind = a.kind; actor = a.actor }
-
--- what this activity says
-abbrev pub activity_says : Activity → ActivityWords
-activity_says a = record {
-  in_reply_to = a.in_reply_to;
-  words = record { content = a.content; summary = a.summary; name = a.name };
-  published = a.published;
-  tags = a.tags;
-}
-
--- the parts of this activity behind the first
-abbrev pub activity_rest : Activity → ObjectRef × (Option (List ℕ) × (Recipients × ActivityWords))
-activity_rest a = (a.object, (a.target, (a.recipients, activity_says a)))
-
--- the activity, saying this
-abbrev pub with_activity_words : Activity → ActivityWords → Activity
-with_activity_words a says = activity_of (activity_front a) a.object a.target a.recipients says
 
 -- an activity
 unfoldable pub activity_at : Reader Activity

@@ -4,8 +4,9 @@ ghost use Rattle.std.specs.Prelude.{◌≡◌, ◌++◌, ◌<◌, ◌^◌, lengt
 ghost use Rattle.fedi_entry.specs.Codes.{came_code, code_of, entry_number, fields_code, option_code, repeat_code, what_code, Fits};
 ghost use Rattle.fedi_entry.specs.Fields.{IsFormed, IsRepeat, MayCome};
 
+use crate::limits::Limit;
 use crate::values::{
-    Encode, put_address, put_bool, put_byte, put_bytes, put_key, put_moment, put_status,
+    Encode, put_bool, put_byte, put_bytes, put_key, put_limited, put_moment, put_status,
 };
 use fedi_objects::{Came, Entry, ObjectRef, RepeatKey, Sent, What};
 use std::alloc::{AllocError, Global};
@@ -106,7 +107,7 @@ fn put_fields(bytes: &mut Vec<u8>, entry: &Entry) -> Result<(), AllocError>
         } => {
             host.put(bytes)?;
             put_key(bytes, key)?;
-            put_address(bytes, address)?;
+            put_limited(bytes, address, Limit::Address)?;
             put_bool(bytes, *relay)?;
             moment
         }
@@ -174,11 +175,11 @@ fn room_for(entry: &Entry) -> usize {
     let (Entry::Local { activity, .. } | Entry::Remote { activity, .. }) = entry else {
         return ROOM;
     };
-    match &activity.object {
-        ObjectRef::Whole(object) => {
-            let content = object.content.as_ref();
-            ROOM.saturating_add(content.map_or(0, |content| content.text().len()))
-        }
-        _ => ROOM,
+    let ObjectRef::Whole(object) = &activity.object else {
+        return ROOM;
+    };
+    match &object.content {
+        Some(content) => ROOM.saturating_add(content.text().len()),
+        None => ROOM,
     }
 }

@@ -22,7 +22,7 @@ pub enum EntryFault {
 }
 
 /// Why a field was not read.
-#[derive(Clone, Copy, Debug, PartialEq, Eq)]
+#[derive(Clone, Copy)]
 pub enum ReadFault {
     /// The field that cannot be read begins where this many bytes are left.
     BadField { left: usize },

@@ -4,7 +4,8 @@ ghost use Rattle.std.specs.Prelude.{◌≡◌, ◌++◌, OnOk};
 ghost use Rattle.fedi_entry.specs.Codes.{activity_words, object_times, object_words, words_code};
 ghost use Rattle.fedi_entry.specs.Fields.{AreActivityWords, AreObjectTimes, AreObjectWords, AreWords};
 
-use crate::values::{Encode, put_byte, put_date, put_former_kind, put_kind_name};
+use crate::limits::Limit;
+use crate::values::{Encode, put_byte, put_limited, put_limited_option};
 use fedi_address::Recipients;
 use fedi_objects::{Activity, Change, Object, ObjectRef, Tag};
 use fedi_text::Text;
@@ -77,10 +78,10 @@ fn put_times(bytes: &mut Vec<u8>, object: &Object) -> Result<(), AllocError>
     ensures code { OnOk result (bytes.new.items ≡ bytes.old.items ++ object_times object.now) }
     ensures formed { OnOk result (AreObjectTimes object.now) }
 {
-    put_date(bytes, &object.published)?;
-    put_date(bytes, &object.updated)?;
-    put_former_kind(bytes, &object.former_kind)?;
-    put_date(bytes, &object.deleted)
+    put_limited_option(bytes, &object.published, Limit::Date)?;
+    put_limited_option(bytes, &object.updated, Limit::Date)?;
+    put_limited_option(bytes, &object.former_kind, Limit::Kind)?;
+    put_limited_option(bytes, &object.deleted, Limit::Date)
 }
 
 impl Encode for Object {
@@ -94,7 +95,7 @@ impl Encode for Object {
     #[tactic(auto, unfolding(crate::specs::Codes::object_code, crate::specs::Codes::object_head))]
     fn put(&self, bytes: &mut Vec<u8>) -> Result<(), AllocError> {
         self.id.put(bytes)?;
-        put_kind_name(bytes, &self.kind)?;
+        put_limited(bytes, &self.kind, Limit::Kind)?;
         self.attributed_to.put(bytes)?;
         self.recipients.put(bytes)?;
         put_object_words(bytes, self)?;
@@ -159,7 +160,7 @@ fn put_activity_words(bytes: &mut Vec<u8>, activity: &Activity) -> Result<(), Al
 {
     activity.in_reply_to.put(bytes)?;
     put_words(bytes, &activity.content, &activity.summary, &activity.name)?;
-    put_date(bytes, &activity.published)?;
+    put_limited_option(bytes, &activity.published, Limit::Date)?;
     activity.tags.put(bytes)
 }
 

@@ -4,28 +4,15 @@ ghost use Rattle.std.specs.Prelude.{◌≡◌, ◌≢◌, ℕ, List, length, IfO
 ghost use Rattle.fedi_objects.specs.declared.entry.Entry.{Entry};
 ghost use Rattle.fedi_entry.specs.Codes.{code_of};
 ghost use Rattle.fedi_entry.specs.Fields.{IsFormed};
-ghost use Rattle.fedi_entry.specs.Reading.{activity_at, came_at, entry_at, hosted_at, last_at, local_at, made_at, option_at, peer_set_at, read_entry, remote_at, repeat_at, sent_at, tried_at, what_at, Ends, Gives, Takes};
+ghost use Rattle.fedi_entry.specs.Reading.{entry_at, hosted_at, last_at, local_at, made_at, peer_set_at, read_entry, remote_at, sent_at, tried_at, what_at, Ends, Gives, Takes};
 
 use crate::fault::{EntryFault, ReadFault};
 use crate::known_hosts::KnownHosts;
-use crate::read_values::Decode;
+use crate::read_values::{Address, Decode};
 use crate::reader::Reader;
-use fedi_address::Iri;
-use fedi_objects::{Activity, Boxed, Came, Entry, RepeatKey, Sent, What};
+use fedi_objects::{Came, Entry, Sent, What};
+use fedi_text::Moment;
 use std::alloc::Global;
-
-/// The key of a post that may come again, with the digest of its body, if there is one.
-#[tactic(auto, unfolding(crate::specs::Reading::option_at))]
-fn take_repeat(reader: &mut Reader<'_>) -> Result<Option<(RepeatKey, [u8; 32])>, ReadFault>
-    ensures { Takes result reader.new (option_at repeat_at reader.old) }
-{
-    if reader.flag()? {
-        let key = reader.repeat_key()?;
-        Ok(Some((key, reader.key()?)))
-    } else {
-        Ok(None)
-    }
-}
 
 /// At which request of a delivery something came.
 #[tactic(auto, unfolding(crate::specs::Reading::sent_at))]
@@ -55,22 +42,17 @@ fn take_what(reader: &mut Reader<'_>, step: Sent) -> Result<What, ReadFault>
     }
 }
 
-/// What came of an attempt to deliver.
-#[tactic(auto, unfolding(crate::specs::Reading::came_at))]
-fn take_came(reader: &mut Reader<'_>) -> Result<Came, ReadFault>
-    ensures { Takes result reader.new (came_at reader.old) }
-{
-    let step = take_sent(reader)?;
-    let what = take_what(reader, step)?;
-    Ok(Came { step, what })
-}
+impl Decode for Came {
+    ghost use Rattle.fedi_entry.specs.Reading.{came_at};
 
-/// An activity, on the heap.
-fn take_activity(reader: &mut Reader<'_>) -> Result<Boxed<Activity>, ReadFault>
-    ensures { Takes result reader.new (activity_at reader.old) }
-{
-    let activity = Activity::decode(reader)?;
-    Ok(Boxed::new(reader.allocator(), activity)?)
+    ghost at = { came_at };
+
+    #[tactic(auto, unfolding(crate::specs::Reading::came_at))]
+    fn decode(reader: &mut Reader<'_>) -> Result<Came, ReadFault> {
+        let step = take_sent(reader)?;
+        let what = take_what(reader, step)?;
+        Ok(Came { step, what })
+    }
 }
 
 /// That the server was set up, from which on its host is known.
@@ -78,11 +60,9 @@ fn take_activity(reader: &mut Reader<'_>) -> Result<Boxed<Activity>, ReadFault>
 fn take_hosted(reader: &mut Reader<'_>) -> Result<Entry, ReadFault>
     ensures { Takes result reader.new (hosted_at reader.old) }
 {
-    let host = reader.host()?;
-    reader.keep_own_host(&host)?;
     Ok(Entry::Hosted {
-        host,
-        moment: reader.moment()?,
+        host: reader.own_host()?,
+        moment: Moment::decode(reader)?,
     })
 }
 
@@ -91,11 +71,12 @@ fn take_hosted(reader: &mut Reader<'_>) -> Result<Entry, ReadFault>
 fn take_made(reader: &mut Reader<'_>) -> Result<Entry, ReadFault>
     ensures { Takes result reader.new (made_at reader.old) }
 {
+    let (name, (digest, (locked, moment))) = Decode::decode(reader)?;
     Ok(Entry::Made {
-        name: reader.name()?,
-        digest: reader.key()?,
-        locked: reader.flag()?,
-        moment: reader.moment()?,
+        name,
+        digest,
+        locked,
+        moment,
     })
 }
 
@@ -104,14 +85,16 @@ fn take_made(reader: &mut Reader<'_>) -> Result<Entry, ReadFault>
 fn take_peer_set(reader: &mut Reader<'_>) -> Result<Entry, ReadFault>
     ensures { Takes result reader.new (peer_set_at reader.old) }
 {
-    let host = reader.host()?;
-    reader.keep_other_host(&host)?;
+    let host = reader.other_host()?;
+    let (key, (address, (relay, moment))) = <([u8; 32], (Address, (bool, Moment)))>::decode(
+        reader,
+    )?;
     Ok(Entry::PeerSet {
         host,
-        key: reader.key()?,
-        address: reader.address()?,
-        relay: reader.flag()?,
-        moment: reader.moment()?,
+        key,
+        address: address.text,
+        relay,
+        moment,
     })
 }
 
@@ -120,11 +103,12 @@ fn take_peer_set(reader: &mut Reader<'_>) -> Result<Entry, ReadFault>
 fn take_local(reader: &mut Reader<'_>) -> Result<Entry, ReadFault>
     ensures { Takes result reader.new (local_at reader.old) }
 {
+    let (name, (repeat, (activity, moment))) = Decode::decode(reader)?;
     Ok(Entry::Local {
-        name: reader.name()?,
-        repeat: take_repeat(reader)?,
-        activity: take_activity(reader)?,
-        moment: reader.moment()?,
+        name,
+        repeat,
+        activity,
+        moment,
     })
 }
 
@@ -133,13 +117,13 @@ fn take_local(reader: &mut Reader<'_>) -> Result<Entry, ReadFault>
 fn take_remote(reader: &mut Reader<'_>) -> Result<Entry, ReadFault>
     ensures { Takes result reader.new (remote_at reader.old) }
 {
-    let peer = reader.host()?;
-    reader.keep_other_host(&peer)?;
+    let peer = reader.other_host()?;
+    let (inbox, (activity, moment)) = Decode::decode(reader)?;
     Ok(Entry::Remote {
         peer,
-        inbox: reader.name()?,
-        activity: take_activity(reader)?,
-        moment: reader.moment()?,
+        inbox,
+        activity,
+        moment,
     })
 }
 
@@ -148,11 +132,12 @@ fn take_remote(reader: &mut Reader<'_>) -> Result<Entry, ReadFault>
 fn take_tried(reader: &mut Reader<'_>) -> Result<Entry, ReadFault>
     ensures { Takes result reader.new (tried_at reader.old) }
 {
+    let (activity, (recipient, (came, moment))) = Decode::decode(reader)?;
     Ok(Entry::Tried {
-        activity: Iri::decode(reader)?,
-        recipient: Iri::decode(reader)?,
-        came: take_came(reader)?,
-        moment: reader.moment()?,
+        activity,
+        recipient,
+        came,
+        moment,
     })
 }
 

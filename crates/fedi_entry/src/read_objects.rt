@@ -1,19 +1,16 @@
 //! Reading objects, changes and activities.
 //!
-//! What has many fields is read in parts of a few, and these are put into a value that is lent, since
-//! a value that is owned over many exits is slow to prove.
+//! What has many fields is read in parts of a few, each of which is read as pairs.
 
-ghost use Rattle.std.specs.Prelude.{◌≡◌, OnOk};
-ghost use Rattle.fedi_entry.specs.Reading.{◌&◌, activity_front, activity_rest, activity_words_at, change_rest, changed_words_at, date_at, edit_at, iri_at, kind_at, kind_of, list_at, object_front, object_ref_at, object_rest, object_times_at, object_words_at, option_at, recipients_at, tag_at, text_at, with_activity_words, with_changed_words, with_times, with_words, Takes, TakesAs};
-ghost use Rattle.fedi_objects.specs.Limits.{is_type};
+ghost use Rattle.std.specs.Prelude.{◌≡◌};
+ghost use Rattle.fedi_entry.specs.Reading.{activity_of, kind_of, object_of};
 
 use crate::fault::ReadFault;
-use crate::read_values::Decode;
+use crate::read_values::{Date, Decode, KindName};
 use crate::reader::Reader;
 use fedi_address::{Iri, Items, Recipients};
 use fedi_objects::{Activity, Boxed, Change, Edit, Kind, Object, ObjectRef, Tag};
 use fedi_text::Text;
-use std::alloc::Global;
 
 impl Decode for Tag {
     ghost use Rattle.fedi_entry.specs.Reading.{tag_at};
@@ -22,10 +19,8 @@ impl Decode for Tag {
 
     #[tactic(auto, unfolding(crate::specs::Reading::tag_at))]
     fn decode(reader: &mut Reader<'_>) -> Result<Tag, ReadFault> {
-        Ok(Tag {
-            href: Iri::decode(reader)?,
-            name: Text::decode(reader)?,
-        })
+        let (href, name) = Decode::decode(reader)?;
+        Ok(Tag { href, name })
     }
 }
 
@@ -36,12 +31,13 @@ impl Decode for Recipients {
 
     #[tactic(auto, unfolding(crate::specs::Reading::recipients_at))]
     fn decode(reader: &mut Reader<'_>) -> Result<Recipients, ReadFault> {
+        let (to, (cc, (bto, (bcc, audience)))) = Decode::decode(reader)?;
         Ok(Recipients {
-            to: Items::decode(reader)?,
-            cc: Items::decode(reader)?,
-            bto: Items::decode(reader)?,
-            bcc: Items::decode(reader)?,
-            audience: Items::decode(reader)?,
+            to,
+            cc,
+            bto,
+            bcc,
+            audience,
         })
     }
 }
@@ -61,35 +57,32 @@ impl Decode for Words {
 
     #[tactic(auto, unfolding(crate::specs::Reading::words_at))]
     fn decode(reader: &mut Reader<'_>) -> Result<Words, ReadFault> {
+        let (content, (summary, name)) = Decode::decode(reader)?;
         Ok(Words {
-            content: Option::decode(reader)?,
-            summary: Option::decode(reader)?,
-            name: Option::decode(reader)?,
+            content,
+            summary,
+            name,
         })
     }
 }
 
-/// A date that may be absent.
-#[tactic(auto, unfolding(crate::specs::Reading::option_at))]
-fn take_date(reader: &mut Reader<'_>) -> Result<Option<Text>, ReadFault>
-    ensures { Takes result reader.new (option_at date_at reader.old) }
+/// The text of a date that may be absent.
+fn date_text(date: Option<Date>) -> Option<Text>
+    ensures { result ≡ date }
 {
-    if reader.flag()? {
-        Ok(Some(reader.date()?))
-    } else {
-        Ok(None)
+    match date {
+        Some(date) => Some(date.text),
+        None => None,
     }
 }
 
-/// A type that may be absent.
-#[tactic(auto, unfolding(crate::specs::Reading::option_at))]
-fn take_former_kind(reader: &mut Reader<'_>) -> Result<Option<Text>, ReadFault>
-    ensures { Takes result reader.new (option_at (text_at is_type) reader.old) }
+/// The text of a type that may be absent.
+fn kind_text(kind: Option<KindName>) -> Option<Text>
+    ensures { result ≡ kind }
 {
-    if reader.flag()? {
-        Ok(Some(reader.kind_name()?))
-    } else {
-        Ok(None)
+    match kind {
+        Some(kind) => Some(kind.text),
+        None => None,
     }
 }
 
@@ -97,7 +90,7 @@ fn take_former_kind(reader: &mut Reader<'_>) -> Result<Option<Text>, ReadFault>
 #[derive(Drop)]
 pub struct ObjectHead {
     pub id: Option<Iri>,
-    pub kind: Text,
+    pub kind: KindName,
     pub attributed_to: Option<Iri>,
 }
 
@@ -108,10 +101,11 @@ impl Decode for ObjectHead {
 
     #[tactic(auto, unfolding(crate::specs::Reading::object_head_at))]
     fn decode(reader: &mut Reader<'_>) -> Result<ObjectHead, ReadFault> {
+        let (id, (kind, attributed_to)) = Decode::decode(reader)?;
         Ok(ObjectHead {
-            id: Option::decode(reader)?,
-            kind: reader.kind_name()?,
-            attributed_to: Option::decode(reader)?,
+            id,
+            kind,
+            attributed_to,
         })
     }
 }
@@ -131,10 +125,11 @@ impl Decode for ObjectWords {
 
     #[tactic(auto, unfolding(crate::specs::Reading::object_words_at))]
     fn decode(reader: &mut Reader<'_>) -> Result<ObjectWords, ReadFault> {
+        let (in_reply_to, (words, url)) = Decode::decode(reader)?;
         Ok(ObjectWords {
-            in_reply_to: Option::decode(reader)?,
-            words: Words::decode(reader)?,
-            url: Option::decode(reader)?,
+            in_reply_to,
+            words,
+            url,
         })
     }
 }
@@ -142,10 +137,10 @@ impl Decode for ObjectWords {
 /// When an object was published, updated and deleted, and its former type.
 #[derive(Drop)]
 pub struct ObjectTimes {
-    pub published: Option<Text>,
-    pub updated: Option<Text>,
-    pub former_kind: Option<Text>,
-    pub deleted: Option<Text>,
+    pub published: Option<Date>,
+    pub updated: Option<Date>,
+    pub former_kind: Option<KindName>,
+    pub deleted: Option<Date>,
 }
 
 impl Decode for ObjectTimes {
@@ -155,58 +150,42 @@ impl Decode for ObjectTimes {
 
     #[tactic(auto, unfolding(crate::specs::Reading::object_times_at))]
     fn decode(reader: &mut Reader<'_>) -> Result<ObjectTimes, ReadFault> {
+        let (published, (updated, (former_kind, deleted))) = Decode::decode(reader)?;
         Ok(ObjectTimes {
-            published: take_date(reader)?,
-            updated: take_date(reader)?,
-            former_kind: take_former_kind(reader)?,
-            deleted: take_date(reader)?,
+            published,
+            updated,
+            former_kind,
+            deleted,
         })
     }
 }
 
-/// An object with this first part.
-fn new_object(alloc: Global, head: ObjectHead) -> Object
-    ensures { object_front result ≡ head }
+/// The object of these parts.
+fn object_of(
+    head: ObjectHead,
+    recipients: Recipients,
+    says: ObjectWords,
+    times: ObjectTimes,
+    tags: Items<Tag>,
+) -> Object
+    ensures { result ≡ object_of head recipients says times tags }
 {
-    let mut object = Object::new(alloc, head.kind);
-    object.id = head.id;
-    object.attributed_to = head.attributed_to;
-    object
-}
-
-/// Puts into an object what it says.
-fn set_words(object: &mut Object, says: ObjectWords)
-    ensures { object.new ≡ with_words object.old says }
-{
-    let words = says.words;
-    object.in_reply_to = says.in_reply_to;
-    object.content = words.content;
-    object.summary = words.summary;
-    object.name = words.name;
-    object.url = says.url;
-}
-
-/// Puts into an object what became of it.
-fn set_times(object: &mut Object, times: ObjectTimes)
-    ensures { object.new ≡ with_times object.old times }
-{
-    object.published = times.published;
-    object.updated = times.updated;
-    object.former_kind = times.former_kind;
-    object.deleted = times.deleted;
-}
-
-/// Reads all but the first part into an object.
-fn fill_object(object: &mut Object, reader: &mut Reader<'_>) -> Result<(), ReadFault>
-    ensures read { TakesAs (λ _. object_rest object.new) result reader.new
-        ((recipients_at & object_words_at & object_times_at & list_at tag_at) reader.old) }
-    ensures head { OnOk result (object_front object.new ≡ object_front object.old) }
-{
-    object.recipients = Recipients::decode(reader)?;
-    set_words(object, ObjectWords::decode(reader)?);
-    set_times(object, ObjectTimes::decode(reader)?);
-    object.tags = Items::decode(reader)?;
-    Ok(())
+    Object {
+        id: head.id,
+        kind: head.kind.text,
+        attributed_to: head.attributed_to,
+        recipients,
+        in_reply_to: says.in_reply_to,
+        content: says.words.content,
+        summary: says.words.summary,
+        name: says.words.name,
+        url: says.url,
+        published: date_text(times.published),
+        updated: date_text(times.updated),
+        former_kind: kind_text(times.former_kind),
+        deleted: date_text(times.deleted),
+        tags,
+    }
 }
 
 impl Decode for Object {
@@ -216,9 +195,8 @@ impl Decode for Object {
 
     #[tactic(auto, unfolding(crate::specs::Reading::object_at))]
     fn decode(reader: &mut Reader<'_>) -> Result<Object, ReadFault> {
-        let head = ObjectHead::decode(reader)?;
-        let mut object = new_object(reader.allocator(), head);
-        fill_object(&mut object, reader).and(Ok(object))
+        let (head, (recipients, (says, (times, tags)))) = Decode::decode(reader)?;
+        Ok(object_of(head, recipients, says, times, tags))
     }
 }
 
@@ -237,35 +215,13 @@ impl Decode for ChangedWords {
 
     #[tactic(auto, unfolding(crate::specs::Reading::changed_words_at))]
     fn decode(reader: &mut Reader<'_>) -> Result<ChangedWords, ReadFault> {
+        let (content, (summary, name)) = Decode::decode(reader)?;
         Ok(ChangedWords {
-            content: Edit::decode(reader)?,
-            summary: Edit::decode(reader)?,
-            name: Edit::decode(reader)?,
+            content,
+            summary,
+            name,
         })
     }
-}
-
-/// Puts into a change what is done to three texts.
-fn set_changed_words(change: &mut Change, words: ChangedWords)
-    ensures { change.new ≡ with_changed_words change.old words }
-{
-    change.content = words.content;
-    change.summary = words.summary;
-    change.name = words.name;
-}
-
-/// Reads all but the id into a change.
-fn fill_change(change: &mut Change, reader: &mut Reader<'_>) -> Result<(), ReadFault>
-    ensures read { TakesAs (λ _. change_rest change.new) result reader.new
-        ((changed_words_at & edit_at iri_at & edit_at iri_at & edit_at (list_at tag_at))
-        reader.old) }
-    ensures id { OnOk result (change.new.id ≡ change.old.id) }
-{
-    set_changed_words(change, ChangedWords::decode(reader)?);
-    change.url = Edit::decode(reader)?;
-    change.in_reply_to = Edit::decode(reader)?;
-    change.tags = Edit::decode(reader)?;
-    Ok(())
 }
 
 impl Decode for Change {
@@ -275,8 +231,16 @@ impl Decode for Change {
 
     #[tactic(auto, unfolding(crate::specs::Reading::change_at))]
     fn decode(reader: &mut Reader<'_>) -> Result<Change, ReadFault> {
-        let mut change = Change::new(Iri::decode(reader)?);
-        fill_change(&mut change, reader).and(Ok(change))
+        let (id, (words, (url, (in_reply_to, tags)))) = <(Iri, (ChangedWords, _))>::decode(reader)?;
+        Ok(Change {
+            id,
+            content: words.content,
+            summary: words.summary,
+            name: words.name,
+            url,
+            in_reply_to,
+            tags,
+        })
     }
 }
 
@@ -291,10 +255,7 @@ impl Decode for ObjectRef {
         match reader.byte()? {
             0 => Ok(ObjectRef::Nothing),
             1 => Ok(ObjectRef::Id(Iri::decode(reader)?)),
-            2 => {
-                let object = Object::decode(reader)?;
-                Ok(ObjectRef::Whole(Boxed::new(reader.allocator(), object)?))
-            }
+            2 => Ok(ObjectRef::Whole(Boxed::decode(reader)?)),
             3 => Ok(ObjectRef::Changed(Change::decode(reader)?)),
             _ => Err(fault),
         }
@@ -342,11 +303,8 @@ impl Decode for ActivityHead {
 
     #[tactic(auto, unfolding(crate::specs::Reading::activity_head_at))]
     fn decode(reader: &mut Reader<'_>) -> Result<ActivityHead, ReadFault> {
-        Ok(ActivityHead {
-            id: Option::decode(reader)?,
-            kind: Kind::decode(reader)?,
-            actor: Option::decode(reader)?,
-        })
+        let (id, (kind, actor)) = Decode::decode(reader)?;
+        Ok(ActivityHead { id, kind, actor })
     }
 }
 
@@ -355,7 +313,7 @@ impl Decode for ActivityHead {
 pub struct ActivityWords {
     pub in_reply_to: Option<Iri>,
     pub words: Words,
-    pub published: Option<Text>,
+    pub published: Option<Date>,
     pub tags: Items<Tag>,
 }
 
@@ -366,49 +324,40 @@ impl Decode for ActivityWords {
 
     #[tactic(auto, unfolding(crate::specs::Reading::activity_words_at))]
     fn decode(reader: &mut Reader<'_>) -> Result<ActivityWords, ReadFault> {
+        let (in_reply_to, (words, (published, tags))) = Decode::decode(reader)?;
         Ok(ActivityWords {
-            in_reply_to: Option::decode(reader)?,
-            words: Words::decode(reader)?,
-            published: take_date(reader)?,
-            tags: Items::decode(reader)?,
+            in_reply_to,
+            words,
+            published,
+            tags,
         })
     }
 }
 
-/// An activity with this first part.
-fn new_activity(alloc: Global, head: ActivityHead) -> Activity
-    ensures { activity_front result ≡ head }
+/// The activity of these parts.
+fn activity_of(
+    head: ActivityHead,
+    object: ObjectRef,
+    target: Option<Iri>,
+    recipients: Recipients,
+    says: ActivityWords,
+) -> Activity
+    ensures { result ≡ activity_of head object target recipients says }
 {
-    let mut activity = Activity::new(alloc, head.kind);
-    activity.id = head.id;
-    activity.actor = head.actor;
-    activity
-}
-
-/// Puts into an activity what it itself says.
-fn set_activity_words(activity: &mut Activity, says: ActivityWords)
-    ensures { activity.new ≡ with_activity_words activity.old says }
-{
-    let words = says.words;
-    activity.in_reply_to = says.in_reply_to;
-    activity.content = words.content;
-    activity.summary = words.summary;
-    activity.name = words.name;
-    activity.published = says.published;
-    activity.tags = says.tags;
-}
-
-/// Reads all but the first part into an activity.
-fn fill_activity(activity: &mut Activity, reader: &mut Reader<'_>) -> Result<(), ReadFault>
-    ensures read { TakesAs (λ _. activity_rest activity.new) result reader.new
-        ((object_ref_at & option_at iri_at & recipients_at & activity_words_at) reader.old) }
-    ensures head { OnOk result (activity_front activity.new ≡ activity_front activity.old) }
-{
-    activity.object = ObjectRef::decode(reader)?;
-    activity.target = Option::decode(reader)?;
-    activity.recipients = Recipients::decode(reader)?;
-    set_activity_words(activity, ActivityWords::decode(reader)?);
-    Ok(())
+    Activity {
+        id: head.id,
+        kind: head.kind,
+        actor: head.actor,
+        object,
+        target,
+        recipients,
+        in_reply_to: says.in_reply_to,
+        content: says.words.content,
+        summary: says.words.summary,
+        name: says.words.name,
+        published: date_text(says.published),
+        tags: says.tags,
+    }
 }
 
 impl Decode for Activity {
@@ -418,8 +367,7 @@ impl Decode for Activity {
 
     #[tactic(auto, unfolding(crate::specs::Reading::activity_at))]
     fn decode(reader: &mut Reader<'_>) -> Result<Activity, ReadFault> {
-        let head = ActivityHead::decode(reader)?;
-        let mut activity = new_activity(reader.allocator(), head);
-        fill_activity(&mut activity, reader).and(Ok(activity))
+        let (head, (object, (target, (recipients, says)))) = Decode::decode(reader)?;
+        Ok(activity_of(head, object, target, recipients, says))
     }
 }

@@ -1,19 +1,15 @@
 //! Reading numbers, keys and texts at the front of bytes.
 
-ghost use Rattle.std.specs.Prelude.{◌≡◌, ◌↔◌, length, IfOk, IfSome, IsSome, IsTrue, None, false, true};
+ghost use Rattle.std.specs.Prelude.{◌≡◌, length, IfOk, IfSome, None, false, true};
 ghost use Rattle.std.specs.Int.{w16, w32, w64};
-ghost use Rattle.fedi_objects.specs.Keys.{is_repeat_key};
-ghost use Rattle.fedi_objects.specs.Limits as limits;
-ghost use Rattle.fedi_address.specs.Names.{is_name};
 ghost use Rattle.fedi_entry.specs.Fields as fields;
-ghost use Rattle.fedi_entry.specs.Reading.{byte_at, bytes_at, date_at, flag_at, iri_at, moment_at, number_at, slice_at, status_at, text_at, utf8_at, Takes, TakesAs};
+ghost use Rattle.fedi_entry.specs.Reading.{byte_at, bytes_at, iri_at, number_at, slice_at, status_at, text_at, utf8_at, Takes, TakesAs};
 
 use crate::fault::ReadFault;
 use crate::known_hosts::KnownHosts;
-use crate::limits::{is_address, is_content, is_date, is_kind_name};
-use fedi_address::{Host, HostFault, Iri, IriFault, LocalName};
-use fedi_objects::RepeatKey;
-use fedi_text::{Moment, Text};
+use crate::limits::Limit;
+use fedi_address::{Host, HostFault, Iri, IriFault};
+use fedi_text::Text;
 use std::alloc::{AllocError, Global};
 use std::marker::Model;
 use std::str;
@@ -91,7 +87,7 @@ impl<'a> Reader<'a> {
     }
 
     /// A number of eight bytes.
-    fn long(&mut self) -> Result<u64, ReadFault>
+    pub fn long(&mut self) -> Result<u64, ReadFault>
         ensures { Takes result self.new (number_at w64 self.old) }
     {
         let Some((front, rest)) = self.rest.split_first_chunk::<8>() else {
@@ -126,32 +122,6 @@ impl<'a> Reader<'a> {
         }
     }
 
-    /// Yes or no.
-    #[tactic(auto, unfolding(crate::specs::Reading::flag_at))]
-    pub fn flag(&mut self) -> Result<bool, ReadFault>
-        ensures { Takes result self.new (flag_at self.old) }
-    {
-        let fault = self.fault();
-        match self.byte()? {
-            0 => Ok(false),
-            1 => Ok(true),
-            _ => Err(fault),
-        }
-    }
-
-    /// A moment.
-    #[tactic(auto, unfolding(crate::specs::Reading::moment_at))]
-    pub fn moment(&mut self) -> Result<Moment, ReadFault>
-        ensures { Takes result self.new (moment_at self.old) }
-    {
-        let fault = self.fault();
-        let seconds = self.long()?;
-        match Moment::new(seconds) {
-            Some(moment) => Ok(moment),
-            None => Err(fault),
-        }
-    }
-
     /// The status of a reply: 100 to 999.
     #[tactic(auto, unfolding(crate::specs::Reading::status_at))]
     pub fn status(&mut self) -> Result<u16, ReadFault>
@@ -180,9 +150,9 @@ impl<'a> Reader<'a> {
         Ok(text)
     }
 
-    // A text in UTF-8.
+    /// A text in UTF-8.
     #[tactic(auto, using(crate::proofs::Texts::is_utf8_text, crate::proofs::Texts::is_no_utf8), unfolding(crate::specs::Reading::utf8_at))]
-    fn text(&mut self) -> Result<&'a str, ReadFault>
+    pub fn text(&mut self) -> Result<&'a str, ReadFault>
         ensures { TakesAs (λ text. text.now) result self.new (utf8_at self.old) }
     {
         let fault = self.fault();
@@ -193,35 +163,9 @@ impl<'a> Reader<'a> {
         }
     }
 
-    /// The name of a member.
-    #[tactic(auto, unfolding(crate::specs::Reading::text_at))]
-    pub fn name(&mut self) -> Result<LocalName, ReadFault>
-        ensures { Takes result self.new (text_at is_name self.old) }
-    {
-        let fault = self.fault();
-        let text = self.text()?;
-        match LocalName::parse(text) {
-            Some(name) => Ok(name),
-            None => Err(fault),
-        }
-    }
-
-    /// A key for repeats.
-    #[tactic(auto, unfolding(crate::specs::Reading::text_at))]
-    pub fn repeat_key(&mut self) -> Result<RepeatKey, ReadFault>
-        ensures { Takes result self.new (text_at is_repeat_key self.old) }
-    {
-        let fault = self.fault();
-        let text = self.text()?;
-        match key_of(text) {
-            Some(key) => Ok(key),
-            None => Err(fault),
-        }
-    }
-
-    /// The host of a server.
+    // The host of a server.
     #[tactic(auto, unfolding(crate::specs::Reading::text_at, crate::specs::Fields::is_host))]
-    pub fn host(&mut self) -> Result<Host, ReadFault>
+    fn host(&mut self) -> Result<Host, ReadFault>
         ensures { Takes result self.new (text_at fields.is_host self.old) }
     {
         let fault = self.fault();
@@ -236,18 +180,22 @@ impl<'a> Reader<'a> {
         }
     }
 
-    /// Lets the host that was set up be known.
-    pub fn keep_own_host(&mut self, host: &Host) -> Result<(), AllocError>
-        ensures { self.new ≡ self.old }
+    /// The host that was set up, which is known from then on.
+    pub fn own_host(&mut self) -> Result<Host, ReadFault>
+        ensures { Takes result self.new (text_at fields.is_host self.old) }
     {
-        self.hosts.keep_own(host)
+        let host = self.host()?;
+        self.hosts.keep_own(&host)?;
+        Ok(host)
     }
 
-    /// Lets the host of another server be known.
-    pub fn keep_other_host(&mut self, host: &Host) -> Result<(), AllocError>
-        ensures { self.new ≡ self.old }
+    /// The host of another server, which is known from then on.
+    pub fn other_host(&mut self) -> Result<Host, ReadFault>
+        ensures { Takes result self.new (text_at fields.is_host self.old) }
     {
-        self.hosts.keep_other(host)
+        let host = self.host()?;
+        self.hosts.keep_other(&host)?;
+        Ok(host)
     }
 
     /// An IRI. A text that is another one's than its own normal text is none.
@@ -263,65 +211,18 @@ impl<'a> Reader<'a> {
         }
     }
 
-    /// A content, a summary or a name: at most 65,536 bytes.
+    /// A text that keeps to these limits.
     #[tactic(auto, unfolding(crate::specs::Reading::text_at))]
-    pub fn content(&mut self) -> Result<Text, ReadFault>
-        ensures { Takes result self.new (text_at limits.is_text self.old) }
+    pub fn limited(&mut self, limit: Limit) -> Result<Text, ReadFault>
+        ensures { Takes result self.new (text_at (fields.test_of limit) self.old) }
     {
         let fault = self.fault();
         let text = self.text()?;
-        if !is_content(text) {
+        if !limit.passes(text) {
             return Err(fault);
         }
         Ok(Text::from_text(self.alloc, text)?)
     }
-
-    /// A type: 1 to 64 bytes.
-    #[tactic(auto, unfolding(crate::specs::Reading::text_at))]
-    pub fn kind_name(&mut self) -> Result<Text, ReadFault>
-        ensures { Takes result self.new (text_at limits.is_type self.old) }
-    {
-        let fault = self.fault();
-        let text = self.text()?;
-        if !is_kind_name(text) {
-            return Err(fault);
-        }
-        Ok(Text::from_text(self.alloc, text)?)
-    }
-
-    /// A date as it was given: at most 64 bytes 32 to 126.
-    #[tactic(auto, unfolding(crate::specs::Reading::text_at))]
-    pub fn date(&mut self) -> Result<Text, ReadFault>
-        ensures { Takes result self.new (date_at self.old) }
-    {
-        let fault = self.fault();
-        let text = self.text()?;
-        if !is_date(text) {
-            return Err(fault);
-        }
-        Ok(Text::from_text(self.alloc, text)?)
-    }
-
-    /// Where a peer is reached: 1 to 255 bytes 33 to 126.
-    #[tactic(auto, unfolding(crate::specs::Reading::text_at))]
-    pub fn address(&mut self) -> Result<Text, ReadFault>
-        ensures { Takes result self.new (text_at limits.is_address self.old) }
-    {
-        let fault = self.fault();
-        let text = self.text()?;
-        if !is_address(text) {
-            return Err(fault);
-        }
-        Ok(Text::from_text(self.alloc, text)?)
-    }
-}
-
-// The key for repeats with this text.
-fn key_of(text: &str) -> Option<RepeatKey>
-    ensures key { IsSome result ↔ IsTrue (is_repeat_key text.now) }
-    ensures same { IfSome result (λ key. key ≡ text.now) }
-{
-    RepeatKey::parse(text.as_bytes())
 }
 
 // The IRI with this very text. `None` exactly if its normal text is another, or there is none.

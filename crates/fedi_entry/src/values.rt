@@ -3,14 +3,13 @@
 //! What no type says is tested: the limits of texts, counts and statuses. What is past its limit is
 //! refused as out of memory.
 
-ghost use Rattle.std.specs.Prelude.{◌≡◌, ◌<◌, ◌≤◌, ◌^◌, ◌∷◌, [], ◌++◌, length, IsTrue, OnOk};
+ghost use Rattle.std.specs.Prelude.{◌≡◌, ◌<◌, ◌≤◌, ◌^◌, ◌∷◌, [], ◌++◌, length, IfSome, IsTrue, OnOk};
 ghost use Rattle.std.specs.List.{flat_map, All};
 ghost use Rattle.std.specs.Str.{is_utf8};
-ghost use Rattle.fedi_objects.specs.Limits as limits;
 ghost use Rattle.fedi_entry.specs.Codes.{bool_code, option_code, text_code, u16_code, u32_code, u64_code};
-ghost use Rattle.fedi_entry.specs.Fields.{IfDate, IfKind, IsKey, IsMoment, IsText};
+ghost use Rattle.fedi_entry.specs.Fields.{test_of, IsKey, IsMoment, IsText};
 
-use crate::limits::{is_address, is_content, is_date, is_kind_name};
+use crate::limits::{Limit, is_content};
 use fedi_address::{Host, Iri, Items, LocalName};
 use fedi_objects::Edit;
 use fedi_text::{Moment, Text};
@@ -105,59 +104,35 @@ fn put_text(bytes: &mut Vec<u8>, text: &str) -> Result<(), AllocError>
     put_bytes(bytes, text.as_bytes())
 }
 
-/// Appends a type. One that is not 1 to 64 bytes is refused.
-pub fn put_kind_name(bytes: &mut Vec<u8>, kind: &Text) -> Result<(), AllocError>
-    ensures code { OnOk result (bytes.new.items ≡ bytes.old.items ++ text_code kind.now) }
-    ensures formed { OnOk result (IsText limits.is_type kind.now) }
+/// Appends a text. One that does not keep to these limits is refused.
+pub fn put_limited(bytes: &mut Vec<u8>, text: &Text, limit: Limit) -> Result<(), AllocError>
+    ensures code { OnOk result (bytes.new.items ≡ bytes.old.items ++ text_code text.now) }
+    ensures formed { OnOk result (IsText (test_of limit) text.now) }
 {
-    if !is_kind_name(kind.text()) {
+    if !limit.passes(text.text()) {
         return Err(AllocError);
     }
-    put_text(bytes, kind.text())
+    put_text(bytes, text.text())
 }
 
-/// Appends a type, if there is one.
+/// Appends a text, if there is one. One that does not keep to these limits is refused.
 #[tactic(auto, unfolding(crate::specs::Codes::option_code))]
-pub fn put_former_kind(bytes: &mut Vec<u8>, kind: &Option<Text>) -> Result<(), AllocError>
+pub fn put_limited_option(
+    bytes: &mut Vec<u8>,
+    text: &Option<Text>,
+    limit: Limit,
+) -> Result<(), AllocError>
     ensures code { OnOk result (bytes.new.items
-        ≡ bytes.old.items ++ option_code text_code kind.now) }
-    ensures formed { OnOk result (IfKind kind.now) }
+        ≡ bytes.old.items ++ option_code text_code text.now) }
+    ensures formed { OnOk result (IfSome text.now (IsText (test_of limit))) }
 {
-    match kind {
+    match text {
         None => put_byte(bytes, 0),
-        Some(kind) => {
+        Some(text) => {
             put_byte(bytes, 1)?;
-            put_kind_name(bytes, kind)
+            put_limited(bytes, text, limit)
         }
     }
-}
-
-/// Appends a date, if there is one. One that is not at most 64 bytes 32 to 126 is refused.
-#[tactic(auto, unfolding(crate::specs::Codes::option_code))]
-pub fn put_date(bytes: &mut Vec<u8>, date: &Option<Text>) -> Result<(), AllocError>
-    ensures code { OnOk result (bytes.new.items
-        ≡ bytes.old.items ++ option_code text_code date.now) }
-    ensures formed { OnOk result (IfDate date.now) }
-{
-    match date {
-        None => put_byte(bytes, 0),
-        Some(date) if is_date(date.text()) => {
-            put_byte(bytes, 1)?;
-            put_text(bytes, date.text())
-        }
-        Some(_) => Err(AllocError),
-    }
-}
-
-/// Appends where a peer is reached. What is not 1 to 255 bytes 33 to 126 is refused.
-pub fn put_address(bytes: &mut Vec<u8>, address: &Text) -> Result<(), AllocError>
-    ensures code { OnOk result (bytes.new.items ≡ bytes.old.items ++ text_code address.now) }
-    ensures formed { OnOk result (IsText limits.is_address address.now) }
-{
-    if !is_address(address.text()) {
-        return Err(AllocError);
-    }
-    put_text(bytes, address.text())
 }
 
 impl Encode for Iri {
