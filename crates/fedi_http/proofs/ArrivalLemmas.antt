@@ -1,8 +1,9 @@
 -- Lemmas on what arrives at the front of a stream.
-use Rattle.std.proofs.Common.{◌≡◌, ◌≢◌, ℕ, ◌<◌, Bool, false, List, [], ◌++◌, length, take, drop, Option, None, Some, IfSome, Result, Ok, Err, inl, inr, refl, sym, ap, subst, ◌∙◌, arith, append_assoc, append-nil, length-append}
+use Rattle.std.proofs.Common.{◌≡◌, ◌≢◌, ℕ, ◌<◌, Bool, false, List, [], ◌++◌, length, take, drop, Option, None, Some, IfErr, IfSome, Result, Ok, Err, inl, inr, refl, sym, ap, subst, ◌∙◌, arith, append_assoc, append-nil, length-append}
 use Rattle.std.proofs.lemmas.List.{take_all, take-append-le, drop-append-le}
 use Rattle.std.specs.Io.KnownBytes.{Consumes, IsAtEnd, prepend_known}
 use Rattle.std.specs.List.{slice_range}
+use Rattle.std.specs.Result.{result_and}
 use Rattle.fedi_town.specs.declared.refusal.Refusal.{Refusal}
 use Rattle.fedi_town.specs.declared.refusal.Refusal.TheVariants as refusals
 use Rattle.fedi_model.specs.declared.request.Request.{Request}
@@ -12,10 +13,10 @@ use Rattle.fedi_http.specs.declared.arrivals.Arrived.{Arrived}
 use Rattle.fedi_http.specs.declared.arrivals.Arrived.TheVariants as arrived
 use Rattle.fedi_http.specs.declared.read_error.ReadError.{ReadError}
 use Rattle.fedi_http.specs.declared.read_error.ReadError.TheVariants as errors
-use Rattle.fedi_http.specs.Arrivals.{BodyEnds, HasHead, HasRequest, IsArrival, IsHeadRefused, IsRefused, LacksRequest, OnInputEnd, OnRequest, TellsOfStream, arrived_by, is_read_fault}
-use Rattle.fedi_http.specs.Chunks.{Ending, HasBody, HasPartOfBody, Long, Part, Tells, Whole, Wrong}
+use Rattle.fedi_http.specs.Arrivals.{BodyEnds, HasHead, HasRequest, IsArrival, IsHeadRefused, IsRefused, LacksRequest, OnInputEnd, OnRequest, TellsOfStream, arrived_by, arrived_of, is_read_fault}
+use Rattle.fedi_http.specs.Chunks.{Ending, HasBody, HasPartOfBody, Long, Part, Tells, TellsEnding, Whole, Wrong}
 use Rattle.fedi_http.specs.Heads.{head_end, HasLongHead, HasNoHead, LacksHead}
-use Rattle.fedi_http.specs.Moves.{OnEnd, Reads, error_by, is_fault}
+use Rattle.fedi_http.specs.Moves.{OnEnd, Reads, error_by, has_fault, is_fault}
 use Rattle.fedi_http.proofs.HeadLemmas.{is_head-append, slice_range-append}
 use Rattle.fedi_http.proofs.OnceLemmas.{body-append, one_body}
 use Rattle.fedi_http.proofs.ReadLemmas.{reads_as, reads_on, told_as}
@@ -171,7 +172,7 @@ behind_head left_of faults_of beside_of a b limit most entry mid rest q end read
 }
 
 -- then its body was read, or not
-pub body_read : {T : Type 0} (left_of : T → Option (List ℕ)) (faults_of : T → ℕ) (beside_of : T → Option (List ℕ) × ℕ) (a b c : T) (failed : Bool) (limit most : ℕ)
+body_read : {T : Type 0} (left_of : T → Option (List ℕ)) (faults_of : T → ℕ) (beside_of : T → Option (List ℕ) × ℕ) (a b c : T) (failed : Bool) (limit most : ℕ)
     (entry rest : List ℕ) (q : Request) (body pending : List ℕ)
     → Reads left_of faults_of beside_of a b false (LacksHead limit entry) (λ m. IsBehind limit most (entry ++ m) q rest)
     → Reads left_of faults_of beside_of b c failed (HasPartOfBody BODY_LIMIT q.coding rest) (λ k. HasBody BODY_LIMIT q.coding (rest ++ k) Whole body pending)
@@ -182,7 +183,7 @@ body_read left_of faults_of beside_of a b c failed limit most entry rest q body 
     head content (λ lacks. inl lacks) (λ is part. lacks_body limit most entry q rest is part)
     (λ bytes k is has. behind_told limit most bytes k q Whole rest body pending is has)
 
-pub body_unread : {T : Type 0} (left_of : T → Option (List ℕ)) (faults_of : T → ℕ) (beside_of : T → Option (List ℕ) × ℕ) (a b c : T) (failed : Bool) (limit most : ℕ)
+body_unread : {T : Type 0} (left_of : T → Option (List ℕ)) (faults_of : T → ℕ) (beside_of : T → Option (List ℕ) × ℕ) (a b c : T) (failed : Bool) (limit most : ℕ)
     (entry rest : List ℕ) (q : Request) (e : ReadError) (body pending : List ℕ)
     → Reads left_of faults_of beside_of a b false (LacksHead limit entry) (λ m. IsBehind limit most (entry ++ m) q rest)
     → Reads left_of faults_of beside_of b c failed (HasPartOfBody BODY_LIMIT q.coding rest) (λ k. Tells e (λ o. HasBody BODY_LIMIT q.coding (rest ++ k) o body pending))
@@ -195,6 +196,22 @@ body_unread left_of faults_of beside_of a b c failed limit most entry rest q e b
     (λ bytes k is told. body_arrives limit most (bytes ++ k) q e body pending
     (told_as e (λ o. HasBody BODY_LIMIT q.coding (rest ++ k) o body pending) (λ o. HasRequest limit most (bytes ++ k) q o body pending)
     (λ o has. behind_told limit most bytes k q o rest body pending is has) told))
+
+-- the answer is the request if the body was read, and else the error
+pub body_told : {T V : Type 0} (left_of : T → Option (List ℕ)) (faults_of : T → ℕ) (beside_of : T → Option (List ℕ) × ℕ) (a b c : T) (limit most : ℕ)
+    (entry rest : List ℕ) (q : Request) (r : Result V ReadError) (body pending : List ℕ)
+    → Reads left_of faults_of beside_of a b false (LacksHead limit entry) (λ m. IsBehind limit most (entry ++ m) q rest)
+    → Reads left_of faults_of beside_of b c (has_fault r) (HasPartOfBody BODY_LIMIT q.coding rest) (λ k. TellsEnding r (λ o. HasBody BODY_LIMIT q.coding (rest ++ k) o body pending))
+    → Reads left_of faults_of beside_of a c (has_fault (result_and r (Ok q))) (LacksRequest limit most entry)
+    (λ m. IsArrival limit most (entry ++ m) (arrived_of (result_and r (Ok q))) body pending)
+body_told left_of faults_of beside_of a b c limit most entry rest q (Ok done) body pending head content =
+    body_read left_of faults_of beside_of a b c false limit most entry rest q body pending head content
+body_told left_of faults_of beside_of a b c limit most entry rest q (Err e) body pending head content =
+    body_unread left_of faults_of beside_of a b c (is_fault e) limit most entry rest q e body pending head content
+
+pub body_ended : {V : Type 0} (q : Request) (r : Result V ReadError) (P : Type 0) → IfErr r (λ e. OnEnd e P) → IfErr (result_and r (Ok q)) (λ e. OnEnd e P)
+body_ended q (Ok done) P ended = tt
+body_ended q (Err e) P ended = ended
 
 -- ---- the answer of an error
 

@@ -10,9 +10,12 @@ use Rattle.std.proofs.lemmas.Bool.{cases_eq, cases_lt, ne_eqb, or_cases}
 use Rattle.memchr.specs.Find.{Nowhere, Passes, is_byte}
 use Rattle.std.proofs.lemmas.List.Sums.{prefix_len-le-length}
 use Rattle.std.proofs.lemmas.List.Folds.{position_or_len_push}
-use Rattle.fedi_http.specs.Heads.{is_line_end, leading, after_leading, ends_in_empty_line, is_end, head_end, IsHeadAt, IsLookedAt, IsSettled, LacksHead}
+use Rattle.fedi_http.specs.Heads.{is_line_end, leading, after_leading, ends_in_empty_line, is_end, head_end, HasNoHead, IsHeadAt, IsLookedAt, IsSettled, LacksHead}
+use Rattle.fedi_http.specs.Moves.{OnEnd, StopsReading, error_after, is_fault}
+use Rattle.fedi_http.specs.declared.read_error.ReadError.{ReadError}
+use Rattle.fedi_http.specs.declared.read_error.ReadError.TheVariants.{End, CutShort, Refused, ReadFault, Memory}
 use Rattle.std.specs.Io.{StartsWith}
-use Rattle.std.proofs.Transfers.{starts_with_length}
+use Rattle.std.proofs.Transfers.{starts_with_length, starts_with_of_append}
 
 -- ---- the first number that passes a test
 
@@ -327,12 +330,15 @@ pub looked-nil : (xs : List ℕ) → IsLookedAt xs 0 0
 looked-nil xs = record { within = omega arith; front = sym leading-nil; none = head_end-nil }
 
 -- what was looked at stays so where more bytes come
-pub looked-more : (xs ys : List ℕ) (looked start : ℕ) → StartsWith ys xs → IsLookedAt xs looked start → IsLookedAt ys looked start
+looked-more : (xs ys : List ℕ) (looked start : ℕ) → StartsWith ys xs → IsLookedAt xs looked start → IsLookedAt ys looked start
 looked-more xs ys looked start more is =
     let low : looked ≤ length xs = is.within in
     let longer : length xs ≤ length ys = starts_with_length ys xs more in
     let same : take looked ys ≡ take looked xs = sym (take-take looked (length xs) ys low) ∙ ap (take looked) more in
     record { within = omega arith; front = is.front ∙ ap leading (sym same); none = ap head_end same ∙ is.none }
+
+pub looked-grown : (xs more ys : List ℕ) (looked start : ℕ) → ys ≡ xs ++ more → IsLookedAt xs looked start → IsLookedAt ys looked start
+looked-grown xs more ys looked start is = looked-more xs ys looked start (starts_with_of_append ys xs more is)
 
 -- all was looked at
 pub lacks_head : (limit : ℕ) (xs : List ℕ) (looked start : ℕ) → IsLookedAt xs looked start → looked ≡ min limit (length xs) → (looked ≡ limit → ⊥) → LacksHead limit xs
@@ -344,4 +350,31 @@ pub too_long : (limit : ℕ) (xs : List ℕ) (looked start : ℕ) → IsLookedAt
     → (limit ≤ length xs) × (head_end (take limit xs) ≡ None)
 too_long limit xs looked start is all full = (omega arith, ap (λ k. head_end (take k xs)) (sym full) ∙ is.none)
 
-pub ruleset reading = (looked-more, lacks_head, too_long)
+-- ---- no head
+
+-- the error behind the bytes that were looked at
+pub after_calm : (e : ReadError) (n : ℕ) → is_fault (error_after e n) ≡ is_fault e
+after_calm End n = refl
+after_calm CutShort zero = refl
+after_calm CutShort (suc n) = refl
+after_calm (Refused refusal) n = refl
+after_calm ReadFault n = refl
+after_calm Memory n = refl
+
+pub after_ended : (e : ReadError) (n : ℕ) (P : Type 0) → OnEnd e P → OnEnd (error_after e n) P
+after_ended End n P ended = ended
+after_ended CutShort zero P ended = ended
+after_ended CutShort (suc n) P ended = ended
+after_ended (Refused refusal) n P ended = tt
+after_ended ReadFault n P ended = tt
+after_ended Memory n P ended = tt
+
+-- all bytes were looked at, and no more came
+pub no_head_after : (limit n : ℕ) (xs : List ℕ) (e : ReadError) → StopsReading e → n ≡ min limit (length xs) → LacksHead limit xs → HasNoHead limit xs (error_after e n)
+no_head_after limit n xs End stops all lacks = absurd stops
+no_head_after limit zero [] CutShort stops all lacks = refl
+no_head_after limit zero (x ∷ xs) CutShort stops all lacks = absurd (omega (arith, all, lacks.0))
+no_head_after limit (suc n) xs CutShort stops all lacks = (omega (arith, all), lacks)
+no_head_after limit n xs (Refused refusal) stops all lacks = absurd stops
+no_head_after limit n xs ReadFault stops all lacks = lacks
+no_head_after limit n xs Memory stops all lacks = lacks

@@ -1,9 +1,8 @@
 -- Lemmas on a part of a list: the `count` items from `start` on.
-use Rattle.std.proofs.Common.{◌≡◌, ℕ, ◌+◌, ◌-◌, ◌≤◌, List, ◌++◌, length, take, drop, Option, IfOk, Result, Ok, Err, sym, ap, ◌∙◌, arith, length-take-le, length-drop}
+use Rattle.std.proofs.Common.{◌≡◌, ℕ, ◌+◌, ◌-◌, ◌≤◌, List, ◌++◌, length, take, drop, Option, sym, ap, ◌∙◌, arith, length-take-le, length-drop}
 use Rattle.std.proofs.Math.Seq.{take-append-add}
 use Rattle.std.proofs.lemmas.List.{drop-append-le, drop-drop, drop-take, take-append-le, take-take}
-use Rattle.std.specs.Io.{ReadsAtMost}
-use Rattle.std.specs.Io.KnownBytes.{ReadConsumes}
+use Rattle.std.specs.Io.KnownBytes.{Consumes}
 use Rattle.fedi_http.specs.Moves.{ReadsBehind}
 
 -- the items behind the first k of a part are a part
@@ -42,8 +41,14 @@ part-read xs into rest start count n h within =
     ∙ front-read (take count (drop start xs)) into rest count n (part-length xs start count h) within
 
 -- what was read behind a part
-pub reads_behind : {E : Type 0} (a b : Option (List ℕ)) (r : Result ℕ E) (xs into rest : List ℕ) (start count : ℕ) → start + count ≤ length xs
-    → ReadsAtMost r into → ReadConsumes a b r into
-    → IfOk r (λ n. ReadsBehind a b (take count (drop start xs)) (take (count + n) (drop start (take (start + count) xs ++ (into ++ rest)))))
-reads_behind a b (Ok n) xs into rest start count inside bound read = (take n into, read.0, part-read xs into rest start count n inside bound.0)
-reads_behind a b (Err e) xs into rest start count inside bound read = tt
+pub reads_behind : (a b : Option (List ℕ)) (xs into rest : List ℕ) (start count n : ℕ) → start + count ≤ length xs → n ≤ length into → Consumes a b (take n into)
+    → ReadsBehind a b (take count (drop start xs)) (take (count + n) (drop start (take (start + count) xs ++ (into ++ rest))))
+reads_behind a b xs into rest start count n inside bound read = (take n into, read, part-read xs into rest start count n inside bound)
+
+-- a part is the same as it was before it was moved and before what is behind it was written
+pub part_same : (part : List ℕ → List ℕ) (items now old moved was : List ℕ) → items ≡ now → part now ≡ part old → old ≡ moved → part moved ≡ was → part items ≡ was
+part_same part items now old moved was written kept lent same = ap part written ∙ kept ∙ ap part lent ∙ same
+
+-- and what was read stands behind it
+pub part_read : (whole part : List ℕ → List ℕ) (items now old more was : List ℕ) → items ≡ now → whole now ≡ part old ++ more → part old ≡ was → whole items ≡ was ++ more
+part_read whole part items now old more was written read same = ap whole written ∙ read ∙ ap (λ (l : List ℕ). l ++ more) same

@@ -1,5 +1,5 @@
 -- What reading does beside its answer.
-use Rattle.std.specs.Prelude.{ℕ, ◌≡◌, ◌⊎◌, List, [], ◌++◌, Bool, true, false, Option, Result, Ok, Err, if◌then◌else◌}
+use Rattle.std.specs.Prelude.{ℕ, zero, suc, ◌≡◌, ◌⊎◌, List, [], ◌++◌, Bool, true, false, Option, Result, Ok, Err, if◌then◌else◌}
 use Rattle.std.specs.Io.KnownBytes.{Consumes}
 use Rattle.fedi_outside.specs.Causes.{next_count}
 use Rattle.fedi_town.specs.declared.refusal.Refusal.{Refusal}
@@ -61,7 +61,11 @@ abbrev pub error_by : Refusal → ReadError
 error_by refusals.Memory = Memory
 error_by refusal = Refused refusal
 
--- the same error where no request has begun yet
-abbrev pub before_request : ReadError → ReadError
-before_request CutShort = End
-before_request error = error
+-- the same error behind so many bytes of a request
+abbrev pub error_after : ReadError → ℕ → ReadError
+error_after End count = End
+error_after CutShort zero = End
+error_after CutShort (suc n) = CutShort
+error_after (Refused refusal) count = Refused refusal
+error_after ReadFault count = ReadFault
+error_after Memory count = Memory

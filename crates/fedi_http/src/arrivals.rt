@@ -101,8 +101,7 @@ fn next_request<S: Source>(
     let head = read_head(source, buffer)?;
     let request = read_request_head(alloc, &buffer.pending()[head.start..head.end])?;
     buffer.skip(head.end);
-    read_body(source, buffer, request.coding)?;
-    Ok(request)
+    read_body(source, buffer, request.coding).and(Ok(request))
 }
 
 /// At most one answer is true of the front of a stream, if the answer tells of the stream at all;

@@ -1,7 +1,7 @@
 //! The bytes that were read.
-ghost use Rattle.std.specs.Prelude.{◌≡◌, ◌+◌, ◌<◌, ◌≤◌, ◌++◌, [], length, take, drop, IfOk, IfErr, OnOk, OnErr};
+ghost use Rattle.std.specs.Prelude.{◌≡◌, ◌+◌, ◌<◌, ◌≤◌, ◌++◌, [], length, take, drop, IfOk, IfErr, OnOk, OnErr, if◌then◌else◌};
 ghost use Rattle.std.specs.Io.KnownBytes.{Consumes, IsAtEnd};
-ghost use Rattle.fedi_outside.specs.Causes.{HasCause};
+ghost use Rattle.fedi_outside.specs.Causes.{next_count};
 ghost use Rattle.fedi_http.specs.Moves.{OnEnd, Reads, ReadsBehind, StopsReading, has_fault};
 
 use crate::heads::HEAD_LIMIT;
@@ -117,14 +117,9 @@ impl Buffer {
         ensures ended { IfErr result (λ e. OnEnd e (IsAtEnd (S.left source.new))) }
         ensures errors { IfErr result StopsReading }
     {
-        let room = (self.held + limit.max(HEAD_LIMIT)).min(BUFFER_LIMIT);
-        make_room(&mut self.bytes, self.held, self.start, self.count, room)?;
+        make_room(&mut self.bytes, self.held, self.start, self.count, limit)?;
         self.start = self.held;
-        let more = read_behind(source, &mut self.bytes, self.start, self.count)?;
-        if more == 0 {
-            return Err(ReadError::CutShort);
-        }
-        self.count += more;
+        self.count += read_behind(source, &mut self.bytes, self.start, self.count)?;
         Ok(())
     }
 }
@@ -144,7 +139,8 @@ fn move_down(bytes: &mut [u8], to: usize, from: usize, count: usize)
     }
 }
 
-// Moves the `count` bytes at `from` down to `to`, with room for `limit` bytes in all.
+// Moves the `count` bytes at `from` down to `to`. There is then room for `limit` bytes from there on,
+// and for a head as far as `BUFFER_LIMIT` allows.
 fn make_room(
     bytes: &mut Vec<u8>,
     to: usize,
@@ -154,40 +150,49 @@ fn make_room(
 ) -> Result<(), AllocError>
     requires down { to ≤ from }
     requires within { from + count ≤ length bytes.old.items }
-    requires bound { limit ≤ BUFFER_LIMIT }
+    requires bound { to + limit ≤ BUFFER_LIMIT }
     requires bounded { length bytes.old.items ≤ BUFFER_LIMIT }
     ensures front { OnOk result (take to bytes.new.items ≡ take to bytes.old.items) }
     ensures moved { OnOk result
         (take count (drop to bytes.new.items) ≡ take count (drop from bytes.old.items)) }
     ensures fits { OnOk result (to + count ≤ length bytes.new.items) }
-    ensures room { OnOk result (limit ≤ length bytes.new.items) }
+    ensures room { OnOk result (to + limit ≤ length bytes.new.items) }
     ensures bounded { OnOk result (length bytes.new.items ≤ BUFFER_LIMIT) }
     ensures failed { OnErr result (bytes.new.items ≡ bytes.old.items) }
 {
-    if bytes.len() < limit {
-        bytes.resize(limit, 0)?;
+    let room = (to + limit.max(HEAD_LIMIT)).min(BUFFER_LIMIT);
+    if bytes.len() < room {
+        bytes.resize(room, 0)?;
     }
     move_down(bytes, to, from, count);
     Ok(())
 }
 
-// Reads into the room behind the `count` bytes at `start`.
+// Reads into the room behind the `count` bytes at `start`, and answers how many bytes came. The
+// error is `CutShort` at the end of the input, or `ReadFault`.
 fn read_behind<S: Source>(
     source: &mut S,
     bytes: &mut [u8],
     start: usize,
     count: usize,
-) -> Result<usize, Failed>
+) -> Result<usize, ReadError>
     requires { start + count < length bytes.old }
     ensures front { take start bytes.new ≡ take start bytes.old }
     ensures kept { take count (drop start bytes.new) ≡ take count (drop start bytes.old) }
     ensures bound { IfOk result (λ n. start + count + n ≤ length bytes.new) }
     ensures read { IfOk result (λ n. ReadsBehind (S.left source.old) (S.left source.new)
         (take count (drop start bytes.old)) (take (count + n) (drop start bytes.new))) }
-    ensures ended { IfOk result (λ n. n ≡ 0 → IsAtEnd (S.left source.new)) }
+    ensures some { IfOk result (λ n. 0 < n) }
     ensures failed { OnErr result (Consumes (S.left source.old) (S.left source.new) []) }
     ensures beside { S.beside_source source.new ≡ S.beside_source source.old }
-    ensures cause { HasCause (S.read_faults source.old) (S.read_faults source.new) result }
+    ensures faults { S.read_faults source.new ≡ (if has_fault result
+        then next_count (S.read_faults source.old) else S.read_faults source.old) }
+    ensures ended { IfErr result (λ e. OnEnd e (IsAtEnd (S.left source.new))) }
+    ensures errors { IfErr result StopsReading }
 {
-    source.read(&mut bytes[start + count..])
+    match source.read(&mut bytes[start + count..]) {
+        Ok(0) => Err(ReadError::CutShort),
+        Ok(more) => Ok(more),
+        Err(Failed) => Err(ReadError::ReadFault),
+    }
 }

@@ -29,7 +29,6 @@ pub(crate) struct HeadPlace {
 /// Reading moves bytes from the source to the end of what is pending, and loses none on any answer.
 /// The head stays there, for `skip`. After `ReadFault` and `Memory` no head stands in what is
 /// pending.
-#[tactic(auto, using(crate::proofs::HeadLemmas::reading))]
 pub(crate) fn read_head<S: Source>(
     source: &mut S,
     buffer: &mut Buffer,
@@ -58,10 +57,8 @@ pub(crate) fn read_head<S: Source>(
         if search.looked == HEAD_LIMIT {
             return Err(ReadError::Refused(Refusal::HeadTooLong));
         }
-        match buffer.fill(source, HEAD_LIMIT) {
-            Ok(()) => {}
-            Err(error) if search.looked == 0 => return Err(error.before_request()),
-            Err(error) => return Err(error),
+        if let Err(error) = buffer.fill(source, HEAD_LIMIT) {
+            return Err(error.after(search.looked));
         }
     }
 }

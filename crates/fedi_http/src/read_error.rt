@@ -1,48 +1,36 @@
 //! Why no request was read.
 
 use fedi_model::Refusal;
-use fedi_outside::Failed;
 use std::alloc::AllocError;
-use thiserror::Error;
 
 /// Why no request was read.
-#[derive(Clone, Copy, Debug, Error)]
+#[derive(Clone, Copy)]
 pub(crate) enum ReadError {
-    #[error("the input ended before a request")]
+    /// The input ended before a request.
     End,
-    #[error("the input ended inside a request")]
+    /// The input ended inside a request.
     CutShort,
-    #[error("the request is refused")]
+    /// The request is refused.
     Refused(Refusal),
-    #[error("a read failed")]
+    /// A read failed.
     ReadFault,
-    #[error("out of memory")]
+    /// Out of memory.
     Memory,
 }
 
 impl ReadError {
     ghost use Rattle.std.specs.Prelude.{◌≡◌};
-    ghost use Rattle.fedi_http.specs.Moves.{before_request};
+    ghost use Rattle.fedi_http.specs.Moves.{error_after};
 
-    /// The same error if no request has begun yet: an input that ends there is not cut short.
-    pub(crate) fn before_request(self) -> Self
-        ensures { result ≡ before_request self }
+    /// The same error behind so many bytes of a request. An input that ends behind none is not cut
+    /// short.
+    pub(crate) fn after(self, count: usize) -> Self
+        ensures { result ≡ error_after self count }
     {
         match self {
-            ReadError::CutShort => ReadError::End,
+            ReadError::CutShort if count == 0 => ReadError::End,
             other => other,
         }
-    }
-}
-
-impl From<Failed> for ReadError {
-    ghost use Rattle.std.specs.Prelude.{◌≡◌};
-    ghost use Rattle.fedi_http.specs.declared.read_error.ReadError.TheVariants.{ReadFault};
-
-    ghost from_gives = { λ _ e. e ≡ ReadFault };
-
-    fn from(_: Failed) -> Self {
-        ReadError::ReadFault
     }
 }
 

@@ -44,11 +44,24 @@ pub fn reply_bytes(
         text.items ≡ model.reply_text moment head_only closing reply.now) }
 {
     let mut text = Vec::with_capacity(alloc, room_for(reply))?;
-    push_start(&mut text, reply, moment)?;
-    push_kind(&mut text, reply)?;
-    push_content(&mut text, reply, closing)?;
-    push_end(&mut text, reply.body.bytes(), head_only)?;
-    Ok(text)
+    push_reply(&mut text, reply, moment, head_only, closing).and(Ok(text))
+}
+
+/// Appends the text of the reply.
+fn push_reply(
+    text: &mut Vec<u8>,
+    reply: &Reply,
+    moment: Moment,
+    head_only: bool,
+    closing: bool,
+) -> Result<(), AllocError>
+    ensures { OnOk result (text.new.items
+        ≡ text.old.items ++ model.reply_text moment head_only closing reply.now) }
+{
+    push_start(text, reply, moment)?;
+    push_kind(text, reply)?;
+    push_content(text, reply, closing)?;
+    push_end(text, reply.body.bytes(), head_only)
 }
 
 /// Room for the text of the reply.

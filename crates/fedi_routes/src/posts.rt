@@ -26,13 +26,14 @@ pub(crate) fn post_of(
 ) -> Result<Post, AllocError>
     ensures { IfOk result (λ post. model.IsPost request.now author.now body.now post) }
 {
+    let read = read_of(alloc, request, body, author)?;
     let key = key_of(&request.fields);
     let digest = digest_under(&key, body);
     Ok(Post {
         is_typed: is_typed(&request.fields),
         key,
         digest,
-        read: read_of(alloc, request, body, author)?,
+        read,
     })
 }
 

@@ -83,7 +83,7 @@ fn ask_at(
     } else if request.method == Method::POST {
         post_to(alloc, request, body, host, place)
     } else {
-        Ok(refused_at(&place))
+        Ok(refused_at(place))
     }
 }
 
@@ -130,7 +130,7 @@ fn post_to(
     match place {
         Place::Collection(Which::Outbox(name)) => outbox_of(alloc, request, body, host, name),
         Place::Collection(Which::Inbox(_)) => Ok(Ask::Nowhere),
-        place => Ok(refused_at(&place)),
+        place => Ok(refused_at(place)),
     }
 }
 
@@ -153,10 +153,10 @@ fn outbox_of(
 }
 
 /// What is asked for by a method that the place does not have.
-fn refused_at(place: &Place) -> Ask
-    ensures { result ≡ model.refused_at place.now }
+fn refused_at(place: Place) -> Ask
+    ensures { result ≡ model.refused_at place }
 {
-    Ask::WrongMethod(allow_of(place))
+    Ask::WrongMethod(allow_of(&place))
 }
 
 /// The methods that the place has.

@@ -47,8 +47,7 @@ fn bearer_key(value: &[u8]) -> Option<[u8; 32]>
 fn is_lower_hex(text: &[u8]) -> bool
     ensures { result ≡ model.is_lower_hex text.now }
 {
-    text.iter()
-        .all(|byte| matches!(byte, b'0'..=b'9' | b'a'..=b'f'))
+    text.iter().all(|byte| byte.is_ascii_digit() || (b'a' <= *byte && *byte <= b'f'))
 }
 
 /// The 32 bytes of an authentication code.

@@ -105,7 +105,6 @@ fn id_name(host: Option<&Host>, iri: &str) -> Option<LocalName>
 }
 
 /// What follows the front of a member's id.
-#[tactic(auto, using(crate::proofs::WebfingerLemmas::after_users))]
 fn after_users<'a>(host: &str, iri: &'a str) -> Option<&'a str>
     ensures { option_copied result ≡ webfinger.after_front (actor_id host.now []) iri.now }
 {
@@ -122,7 +121,6 @@ fn name_in(text: &str) -> Option<LocalName>
 }
 
 /// What follows this front of the text, if it begins so.
-#[tactic(auto, using(crate::proofs::WebfingerLemmas::after_front_stripped))]
 fn after_front<'a>(text: &'a str, front: &str) -> Option<&'a str>
     ensures { option_copied result ≡ webfinger.after_front front.now text.now }
 {

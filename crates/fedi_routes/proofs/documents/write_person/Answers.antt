@@ -1,4 +1,4 @@
-use Rattle.std.proofs.Common.{true, refl}
+use Rattle.std.proofs.Common.{true, refl, arith}
 use Rattle.serde_json.specs.Data.{object}
 use Rattle.fedi_asks.specs.Documents.{actor_members}
 use Rattle.fedi_objects.specs.Forms.{with_context}
@@ -21,3 +21,18 @@ returns c =
     (then c.in_ok-write_str-3.ensures
     (then c.in_ok-write_str-4.ensures last)))))))))))
     c.end_object.ensures
+
+pub write_joined-requires : goal.write_joined-requires
+write_joined-requires c = omega (arith, c.requires)
+
+pub write_joined-requires-2 : goal.write_joined-requires-2
+write_joined-requires-2 c = omega (arith, c.requires)
+
+pub write_joined-requires-3 : goal.write_joined-requires-3
+write_joined-requires-3 c = omega (arith, c.requires)
+
+pub write_joined-requires-4 : goal.write_joined-requires-4
+write_joined-requires-4 c = omega (arith, c.requires)
+
+pub write_joined-requires-5 : goal.write_joined-requires-5
+write_joined-requires-5 c = omega (arith, c.requires)
