@@ -1,8 +1,8 @@
 //! What the program is asked to do by its arguments, and which of them is the store.
 
+use crate::cases::arguments_of;
 use crate::rows::expect;
 use fedi_program::{Command, command_of, store_of};
-use fedi_test_runs::arguments_of;
 use std::alloc::{AllocError, Global};
 use std::test::Fail;
 

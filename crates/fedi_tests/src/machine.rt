@@ -1,7 +1,10 @@
 //! The machine over a keeper in memory: callers that no request has, and a keeper that is full.
 
+use crate::cases::SECONDS;
+use crate::example::{MEMBERS, TOWN};
 use crate::program::{FIRST, HELLO_LAST, NOT_FOUND_LAST, NOTE, PSST_LAST};
 use crate::rows::expect;
+use crate::runs::are_texts;
 use fedi_address::{Host, LocalName};
 use fedi_core::{Core, Decision};
 use fedi_model::{Ask, Caller};
@@ -11,8 +14,6 @@ use fedi_outside::{FixedClock, Keeper, MemoryKeeper, MemorySink, MemorySource};
 use fedi_program::{Connection, session};
 use fedi_routes::Routes;
 use fedi_store::PlainShelf;
-use fedi_test_runs::{SECONDS, are_texts};
-use fedi_test_stores::{MEMBERS, TOWN};
 use fedi_text::Moment;
 use fedi_town::CommandFault;
 use std::alloc::{AllocError, Global};

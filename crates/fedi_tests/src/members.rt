@@ -1,9 +1,11 @@
 //! Runs that make a member of the example town, byte for byte.
 
+use crate::cases::{Case, KEY, calm};
+use crate::example::{MEMBERS, TOWN};
+use crate::files::{has_records, records_of};
 use crate::program::USAGE;
 use crate::rows::{expect, expect_at};
-use fedi_test_runs::{Case, KEY, are_texts, calm, left_by};
-use fedi_test_stores::{MEMBERS, TOWN, has_records, records_of};
+use crate::runs::{are_texts, left_by};
 use std::alloc::{AllocError, Global};
 use std::test::Fail;
 

@@ -1,8 +1,10 @@
 //! Whole runs over the example town, in memory, byte for byte.
 
+use crate::cases::{Case, inetd};
+use crate::example::{MEMBERS, TOWN};
+use crate::files::has_records;
 use crate::rows::{expect, expect_at};
-use fedi_test_runs::{Case, ends, inetd, left_by};
-use fedi_test_stores::{MEMBERS, TOWN, has_records};
+use crate::runs::{ends, left_by};
 use std::alloc::{AllocError, Global};
 use std::test::Fail;
 

@@ -1,10 +1,11 @@
 //! Stores that are made, opened and counted, byte for byte, and disks that fail or stop on the way.
 
+use crate::cases::{Case, calm, inetd};
+use crate::example::{HOSTED, MEMBERS, TOWN};
 use crate::members::EVA;
 use crate::program::{FAULT, FIRST, HELLO, NOTE, USAGE};
 use crate::rows::{expect, expect_at};
-use fedi_test_runs::{Case, Left, are_texts, calm, ends, inetd, left_by};
-use fedi_test_stores::{HOSTED, MEMBERS, TOWN};
+use crate::runs::{Left, are_texts, ends, left_by};
 use std::alloc::{AllocError, Global};
 use std::test::Fail;
 

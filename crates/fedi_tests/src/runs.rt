@@ -1,0 +1,80 @@
+//! Runs, and what they leave.
+
+use crate::cases::{Case, arguments_of, connection_of, disk_in, entropy_of};
+use crate::files::has_records;
+use fedi_outside::{FixedClock, MemoryDisk, MemoryEntropy, MemorySink, MemorySource};
+use fedi_program::{Connection, run};
+use std::alloc::{AllocError, Global};
+
+/// What a run left: its status, what it wrote, the bytes of the disk, and how many calls that was asked.
+#[derive(Drop)]
+pub struct Left {
+    pub status: u8,
+    pub out: Vec<u8>,
+    pub disk: Vec<u8>,
+    pub calls: u64,
+}
+
+fn left_of(
+    alloc: Global,
+    status: u8,
+    out: &MemorySink,
+    disk: &MemoryDisk,
+) -> Result<Left, AllocError> {
+    Ok(Left {
+        status,
+        out: out.bytes().to_vec(alloc)?,
+        disk: disk.bytes().to_vec(alloc)?,
+        calls: disk.calls().len() as u64,
+    })
+}
+
+// What the run leaves, over what lies outside, which is lent.
+fn left_in(
+    alloc: Global,
+    arguments: &[String],
+    connection: &mut Connection<MemorySource, MemorySink, FixedClock>,
+    disk: MemoryDisk,
+    entropy: &mut MemoryEntropy,
+) -> Result<Left, AllocError> {
+    let ended = run(alloc, arguments, connection, disk, entropy);
+    left_of(alloc, ended.status, &connection.out, &ended.disk)
+}
+
+/// What the run leaves. The error is out of memory.
+pub fn left_by(alloc: Global, case: &Case) -> Result<Left, AllocError> {
+    let arguments = arguments_of(alloc, case.line)?;
+    let mut entropy = entropy_of(alloc, case)?;
+    let mut connection = connection_of(alloc, case)?;
+    let disk = disk_in(alloc, case)?;
+    left_in(alloc, &arguments, &mut connection, disk, &mut entropy)
+}
+
+/// Whether these bytes are those of the texts, one after another.
+pub fn are_texts(bytes: &[u8], texts: &[&str]) -> bool {
+    let mut rest = bytes;
+    for text in texts {
+        match rest.strip_prefix(text.as_bytes()) {
+            Some(behind) => rest = behind,
+            None => return false,
+        }
+    }
+    rest.is_empty()
+}
+
+/// Whether the run ends with this status, writes these texts, and leaves a store of the records that it began with and so
+/// many more. The error is out of memory.
+pub fn ends(
+    alloc: Global,
+    case: &Case,
+    status: u8,
+    wanted: &[&str],
+    more: usize,
+) -> Result<bool, AllocError> {
+    let left = left_by(alloc, case)?;
+    Ok(
+        left.status == status
+            && are_texts(&left.out, wanted)
+            && has_records(alloc, &left.disk, case.records, more)?,
+    )
+}
