@@ -16,6 +16,7 @@ use fedi_text::Bytes;
 use http::Method;
 use httparse::Status;
 use httparse::spans::{EMPTY_HEADER_SPAN, HeaderSpan, RequestSpans, parse_request};
+use memchr::memchr_iter;
 use std::alloc::{AllocError, Global};
 
 /// The most fields that a head may have.
@@ -48,14 +49,10 @@ pub fn read_request_head(alloc: Global, text: &[u8]) -> Result<Request, Refusal>
 }
 
 /// How many lines stand between the first line of the head and the empty line that ends it.
-#[tactic(auto, unfolding(fedi_model::specs::Requests::line_count))]
 fn line_count(text: &[u8]) -> usize
     ensures { result ≡ model.line_count text.now }
 {
-    text.iter()
-        .filter(|byte| **byte == b'\n')
-        .count()
-        .saturating_sub(2)
+    memchr_iter(b'\n', text).count().saturating_sub(2)
 }
 
 /// The places of the parts of the head, if the text is one whole head whose fields have room.
