@@ -4,6 +4,7 @@ use Rattle.fedi_outside.specs.Keepers.{Adds, Crashes, IfTold, KeeperState, Leave
 use Rattle.fedi_town.specs.declared.command_fault.CommandFault.{CommandFault}
 use Rattle.fedi_town.specs.declared.command_fault.CommandFault.TheVariants.{NameTaken, KeyTaken, HostTaken, BadAddress, Full, KeeperFault, Memory}
 use Rattle.fedi_core.specs.Crashing.{MayLeaveWith, PassesTimeRefused, PassesTimeUnkept, PassesTimeWith}
+use Rattle.fedi_core.specs.Keeping.{HasFailedOnce, MayDoubt}
 use Rattle.fedi_core.specs.declared.keeping.KeepFault.{KeepFault}
 use Rattle.fedi_core.specs.declared.keeping.KeepFault.TheVariants as keeps
 
@@ -123,6 +124,35 @@ stored k l m code a b c d room settled first second third =
     then_with k.records k.doubt code a b d first
     (then_with k.records k.doubt code b c d (renamed k.records l.records k.doubt l.doubt b c room.records room.doubt second)
     (keeping_call k.records k.doubt code c d (renamed k.records m.records (Some code) (Some code) c d (ap (λ (s : KeeperState). s.records) settled ∙ room.records) refl third)))
+
+-- the record may not have been kept, and then the doubt was settled, or that failed
+pub settled_after : (k l : KeeperState) (code : List ℕ) (a b c : Crashes) → HasFailedOnce code k l → PassesTimeWith k.records k.doubt code a b
+    → PassesTime l.records l.doubt b c → PassesTimeWith k.records k.doubt code a c
+settled_after k l code a b c failed first second = record {
+  clock = let x = first.clock in let y = second.clock in omega (arith, x, y);
+  told = second.told ∙ first.told;
+  crash = both a.told k.records first.crash
+      (subst (λ (t : Bool). IfTold t k.records (λ kept. Adds b.clock b.left_since c.left_since (MayLeave kept l.doubt))) first.told
+      (renamed k.records l.records l.doubt l.doubt b c failed.records refl second).crash);
+}
+  where
+    among : (kept left : List (List ℕ)) (other : Option (List ℕ)) → MayDoubt code k.doubt other → MayLeave kept other left → MayLeaveWith kept k.doubt code left
+    among kept left other (inl same) may = inl (subst (λ (d : Option (List ℕ)). MayLeave kept d left) same may)
+    among kept left other (inr (inl none)) may = inl (alone kept k.doubt left (subst (λ (d : Option (List ℕ)). MayLeave kept d left) none may))
+    among kept left other (inr (inr new)) may = added (subst (λ (d : Option (List ℕ)). MayLeave kept d left) new may)
+      where
+        added : (left ≡ kept) ⊎ (left ≡ kept ++ code ∷ []) → MayLeaveWith kept k.doubt code left
+        added (inl is) = inl (alone kept k.doubt left is)
+        added (inr is) = inr is
+
+    both : (told : Bool) (rs : Option (List (List ℕ))) → IfTold told rs (λ kept. Adds a.clock a.left_since b.left_since (MayLeaveWith kept k.doubt code))
+        → IfTold told rs (λ kept. Adds b.clock b.left_since c.left_since (MayLeave kept l.doubt))
+        → IfTold told rs (λ kept. Adds a.clock a.left_since c.left_since (MayLeaveWith kept k.doubt code))
+    both false rs x y = tt
+    both true None x y = absurd x
+    both true (Some kept) x y =
+        adds_both a.clock b.clock (MayLeaveWith kept k.doubt code) (MayLeave kept l.doubt) (MayLeaveWith kept k.doubt code) first.clock
+        (λ left h. h) (λ left h. among kept left l.doubt failed.doubt h) x y
 
 -- ---- no call
 

@@ -22,7 +22,7 @@ ghost use Rattle.fedi_core.specs.Opening.{keeper_after, outcome_of};
 ghost use Rattle.fedi_objects.specs.declared.entry.Entry.{Entry};
 ghost use Rattle.fedi_core.specs.Machines.{IsNextCode};
 ghost use Rattle.fedi_opening.specs.Opening.{IsNext, IsRead, IsStopped, after_open};
-ghost use Rattle.fedi_outside.specs.Keepers.{PassesTime};
+ghost use Rattle.fedi_outside.specs.Keepers.{PassesTime, after_fault};
 ghost use Rattle.fedi_visible.specs.Shelves.{empty_holding};
 
 use crate::deciding::{Decision, decide};
@@ -33,7 +33,7 @@ use fedi_mac::digest;
 use fedi_model::{Ask, Credentials};
 use fedi_objects::Entry;
 use fedi_opening::{OpenFault, open_history};
-use fedi_outside::Keeper;
+use fedi_outside::{Failed, Keeper};
 use fedi_text::Moment;
 use fedi_town::{Caller, CommandFault, Refusal};
 use fedi_visible::Shelf;
@@ -230,6 +230,20 @@ impl<S: Shelf + Drop, P: Keeper> Core<S, P> {
                 KeepFault::Memory => Err(CommandFault::Memory),
             },
         }
+    }
+
+    /// Removes what a failed `keep` may have left, so that nothing is in doubt. It takes no memory. After an
+    /// error, which the keeper counts, all is as before.
+    pub fn settle(&mut self) -> Result<(), Failed>
+        ensures history { self.new.history ≡ self.old.history }
+        ensures settled { OnOk result (P.shown self.new.keeper
+            ≡ record (P.shown self.old.keeper) { doubt = None }) }
+        ensures refused { OnErr result
+            (P.shown self.new.keeper ≡ after_fault (P.shown self.old.keeper)) }
+        ensures time { PassesTime (P.shown self.old.keeper).records (P.shown self.old.keeper).doubt
+            (P.crashes self.old.keeper) (P.crashes self.new.keeper) }
+    {
+        self.keeper.settle()
     }
 
     /// The keeper, which holds the records of the history.

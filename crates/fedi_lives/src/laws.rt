@@ -1,6 +1,6 @@
 //! Laws of lives, each the contract of a function that does nothing.
 
-ghost use Rattle.std.specs.Prelude.{◌≡◌, ℕ, List, [], ◌∷◌, ◌++◌, map, Some, slice_get};
+ghost use Rattle.std.specs.Prelude.{◌≡◌, ◌≤◌, ℕ, List, [], ◌∷◌, ◌++◌, length, map, Some, slice_get};
 ghost use Rattle.std.specs.List.{AllByRecursion};
 ghost use Rattle.fedi_entry.specs.Codes.{code_of};
 ghost use Rattle.fedi_entry.specs.Fields.{IsFormed};
@@ -9,7 +9,7 @@ ghost use Rattle.fedi_images.specs.Known.{record_crashes};
 ghost use Rattle.fedi_objects.specs.declared.entry.Entry.{Entry};
 ghost use Rattle.fedi_outside.specs.Keepers.{Adds, MayLeave};
 ghost use Rattle.fedi_log.specs.Keeping.{Base, since};
-ghost use Rattle.fedi_log.specs.Leaving.{IsLeft};
+ghost use Rattle.fedi_log.specs.Leaving.{IsLeft, IsLeftAfter};
 ghost use Rattle.fedi_log.specs.Log.{Log, history_of};
 ghost use Rattle.fedi_lives.specs.Lives.{AreLives, IsFollowed, IsFoundAfter, IsLife, Life, history_at_end};
 
@@ -37,6 +37,19 @@ pub fn crashes_end_lives()
         → AllByRecursion IsFormed (opened ++ history_of (since base log))
         → (crash : IsLeft base log (map code_of opened) left)
         → IsLife (record { base = base; opened = opened; log = crash.past; left = left }) }
+{}
+
+/// A crash at any moment since an exchange was over ends a life, whose log is that up to the crash, and begins
+/// with all that the exchange found and added: so what was acknowledged is in it.
+pub fn later_crashes_end_lives()
+    ensures life { (base : Base) (opened : List Entry) (seen log : Log) (left : List (List ℕ))
+        → AllByRecursion IsFormed (opened ++ history_of (since base log))
+        → base.kept ≤ length seen
+        → (crash : IsLeftAfter base seen log (map code_of opened) left)
+        → IsLife (record { base = base; opened = opened;
+        log = since base (seen ++ crash.past); left = left }) }
+    ensures begins { (base : Base) (seen past : Log) → base.kept ≤ length seen
+        → since base (seen ++ past) ≡ since base seen ++ past }
 {}
 
 /// A life that opens the file that another one left opens the records that this one left.

@@ -1,5 +1,5 @@
 -- A machine stands for a log, turn by turn.
-use Rattle.std.proofs.Common.{◌≡◌, ◌⊎◌, ℕ, suc, ◌+◌, ◌-◌, ◌^◌, ◌≤◌, min, List, [], ◌∷◌, ◌++◌, length, map, drop, All, Option, Some, None, option_map, IfSome, inl, inr, refl, sym, ap, subst, ◌∙◌, append_assoc, append-nil, length-append, arith}
+use Rattle.std.proofs.Common.{◌≡◌, ◌⊎◌, ℕ, suc, ◌+◌, ◌-◌, ◌^◌, ◌≤◌, min, max, List, [], ◌∷◌, ◌++◌, length, map, drop, All, Option, Some, None, option_map, IfSome, inl, inr, refl, sym, ap, subst, ◌∙◌, append_assoc, append-nil, length-append, arith}
 use Rattle.std.specs.Prelude.{Contains, option_to_list}
 use Rattle.std.specs.List.{sum_by}
 use Rattle.std.proofs.lemmas.List.{drop-append-le, map-append}
@@ -12,7 +12,7 @@ use Rattle.fedi_outside.specs.Keepers.{KeeperState}
 use Rattle.fedi_log.specs.declared.items.Item.{Item}
 use Rattle.fedi_log.specs.declared.items.What.TheVariants.{Entered, Marked}
 use Rattle.fedi_log.specs.Log.{Failed, Full, Kept, Log, NoEntry, Outcome, doubts_of, failed_in, given, history_of, items_of, kept_in, made_by, marks_of}
-use Rattle.fedi_log.specs.Keeping.{Base, DoubtAfter, FaultsAfter, Follows, GoesAlone, Holds, HoldsSince, IsDoubted, Keeps, State, end_of, growth_of, since, with_records}
+use Rattle.fedi_log.specs.Keeping.{Base, DoubtAfter, FaultsAfter, Follows, GoesAlone, Holds, HoldsSince, IsDoubted, Keeps, State, counted, end_of, growth_of, since, with_records}
 use Rattle.fedi_log.proofs.Growing.{doubts_failed, doubts_kept, given_history, history_append, marks_more}
 
 -- ---- no turn
@@ -29,7 +29,7 @@ unchanged growth before after history records end doubt faults = record {
   records = records ∙ same_records before.keeper.records;
   end = omega (arith, end);
   doubt = doubt;
-  faults = omega (arith, faults);
+  faults = faults;
 }
 
 -- ---- the keeper along a log
@@ -68,25 +68,15 @@ doubt_after by first log before after (Failed e) h (inr (inr now)) =
     subst (λ (ds : List (List ℕ)). IsDoubted ds after) (sym (doubts_failed by e first log))
     (subst (IsDoubted (doubts_of first log ++ code_of e ∷ [])) (sym now) (Contains-append_right (doubts_of first log) (code_of e ∷ []) (code_of e) (itself (code_of e))))
 
-faults_later : (before after : ℕ) (o : Outcome) → FaultsAfter before after o → before ≤ after
-faults_later before after NoEntry h = h
-faults_later before after (Kept e) h = h
-faults_later before after (Full e) h = h
-faults_later before after (Failed e) h = omega (arith, h)
+-- one fault more
+counted_more : (f k most : ℕ) → max (max f (min (f + k) most)) (min (max f (min (f + k) most) + 1) most) ≡ max f (min (f + (k + 1)) most)
+counted_more f k most = omega arith
 
--- a count with a last value
-counted_more : (f k before after most : ℕ) → min (f + k) most ≤ before → min (before + 1) most ≤ after → min (f + (k + 1)) most ≤ after
-counted_more f k before after most low rose = omega (arith, low, rose)
-
-rose_by : (before after : ℕ) → next_count before ≤ after → min (before + 1) (2 ^ 64 - 1) ≤ after
-rose_by before after h = omega (arith, h)
-
-faults_after : (f k before after most : ℕ) (o : Outcome) → most ≡ 2 ^ 64 - 1 → min (f + k) most ≤ before → FaultsAfter before after o
-    → min (f + (k + length (failed_in o))) most ≤ after
-faults_after f k before after most NoEntry is low h = omega (arith, low, h)
-faults_after f k before after most (Kept e) is low h = omega (arith, low, h)
-faults_after f k before after most (Full e) is low h = omega (arith, low, h)
-faults_after f k before after most (Failed e) is low h = let rose : min (before + 1) most ≤ after = rw is (rose_by before after h) in counted_more f k before after most low rose
+faults_after : (f k before after : ℕ) (o : Outcome) → before ≡ counted f k → FaultsAfter before after o → after ≡ counted f (k + length (failed_in o))
+faults_after f k before after NoEntry low h = h ∙ low ∙ ap (counted f) (omega arith)
+faults_after f k before after (Kept e) low h = h ∙ low ∙ ap (counted f) (omega arith)
+faults_after f k before after (Full e) low h = h ∙ low ∙ ap (counted f) (omega arith)
+faults_after f k before after (Failed e) low h = h ∙ ap next_count low ∙ counted_more f k (2 ^ 64 - 1)
 
 pub keeps_more : (b : Base) (by : Option ℕ) (before after : State) (log : Log) (o : Outcome) → Keeps b before.keeper log → Follows b.growth before after o
     → Keeps b after.keeper (log ++ items_of by o)
@@ -99,8 +89,7 @@ keeps_more b by before after log o k f =
     ap (λ (l : Log). length (marks_of l)) past ∙ ap length (marks_more by o (since b log)) ∙ length-append (marks_of (since b log)) (failed_in o) in
     let grown : growth_of b.growth (history_of (since b log) ++ kept_in o) ≡ growth_of b.growth (history_of (since b log)) + growth_of b.growth (kept_in o) =
     sum_by-append (λ (e : Entry). b.growth (length (code_of e))) (history_of (since b log)) (kept_in o) in
-    let later : before.keeper.faults ≤ after.keeper.faults = faults_later before.keeper.faults after.keeper.faults o f.faults in
-    let marked = faults_after b.shown.faults (length (marks_of (since b log))) before.keeper.faults after.keeper.faults (2 ^ 64 - 1) o refl k.faults f.faults in
+    let marked = faults_after b.shown.faults (length (marks_of (since b log))) before.keeper.faults after.keeper.faults o k.faults f.faults in
     record {
       opened = let longer : length (log ++ items_of by o) ≡ length log + length (items_of by o) = length-append log (items_of by o) in omega (arith, opened, longer);
       records = f.records ∙ ap (λ (rs : Option (List (List ℕ))). with_records rs (kept_in o)) k.records
@@ -110,8 +99,7 @@ keeps_more b by before after log o k f =
           ∙ ap (λ (es : List Entry). b.shown.end + growth_of b.growth es) (sym history);
       doubt = subst (λ (l : Log). IsDoubted (doubts_of (option_to_list b.shown.doubt) l) after.keeper.doubt) (sym past)
           (doubt_after by (option_to_list b.shown.doubt) (since b log) before.keeper.doubt after.keeper.doubt o k.doubt f.doubt);
-      later = let low = k.later in omega (arith, low, later);
-      faults = rw marks marked;
+      faults = marked ∙ ap (counted b.shown.faults) (sym marks);
     }
 
 pub holds_more : (b : Base) (by : Option ℕ) (before after : State) (log : Log) (o : Outcome) → Holds b before log → Follows b.growth before after o
@@ -169,6 +157,9 @@ first_doubt : (doubt : Option (List ℕ)) → IsDoubted (option_to_list doubt) d
 first_doubt None = tt
 first_doubt (Some d) = itself d
 
+none_counted : (n : ℕ) → n ≡ counted n 0
+none_counted n = omega arith
+
 keeps_given : (b : Base) (history : List Entry) → b.kept ≡ length history → Keeps b b.shown (given history)
 keeps_given b history is =
     let past : since b (given history) ≡ [] = ap (λ (n : ℕ). drop n (given history)) is ∙ given_since history in
@@ -178,8 +169,7 @@ keeps_given b history is =
       records = rw past (same_records b.shown.records);
       end = let none : growth_of b.growth (history_of (since b (given history))) ≡ 0 = rw past refl in omega (arith, none);
       doubt = subst (λ (l : Log). IsDoubted (doubts_of (option_to_list b.shown.doubt) l) b.shown.doubt) (sym past) (first_doubt b.shown.doubt);
-      later = omega arith;
-      faults = let none : length (marks_of (since b (given history))) ≡ 0 = rw past refl in omega (arith, none);
+      faults = let none : length (marks_of (since b (given history))) ≡ 0 = rw past refl in none_counted b.shown.faults ∙ ap (counted b.shown.faults) (sym none);
     }
 
 pub holds_given : (b : Base) (by : Option ℕ) (opened : State) → b.kept ≡ length opened.history → b.shown ≡ opened.keeper

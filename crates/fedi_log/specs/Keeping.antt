@@ -1,5 +1,5 @@
 -- A machine and its keeper stand for a log.
-use Rattle.std.specs.Prelude.{◌≡◌, ◌⊎◌, ℕ, ◌+◌, ◌-◌, ◌^◌, ◌≤◌, min, List, [], ◌∷◌, ◌++◌, length, map, drop, All, Option, Some, None, option_map, option_to_list, IfSome, Contains}
+use Rattle.std.specs.Prelude.{◌≡◌, ◌⊎◌, ℕ, ◌+◌, ◌-◌, ◌^◌, ◌≤◌, min, max, List, [], ◌∷◌, ◌++◌, length, map, drop, All, Option, Some, None, option_map, option_to_list, IfSome, Contains}
 use Rattle.std.specs.List.{sum_by}
 use Rattle.fedi_entry.specs.Codes.{code_of}
 use Rattle.fedi_objects.specs.declared.entry.Entry.{Entry}
@@ -38,16 +38,19 @@ with_records records entries = option_map (λ (rs : List (List ℕ)). rs ++ map 
 abbrev pub IsDoubted : List (List ℕ) → Option (List ℕ) → Type 0
 IsDoubted doubts doubt = IfSome doubt (λ (d : List ℕ). Contains doubts d)
 
+-- a count of faults after so many more, which saturates at the last value of a u64
+abbrev pub counted : ℕ → ℕ → ℕ
+counted n more = max n (min (n + more) (2 ^ 64 - 1))
+
 -- A keeper that shows this keeps the log: it has the records of the log's entries since the opening, each once and in
--- order; what may be in doubt is one of the log's doubts, which begin with that of the opening; and its count of faults,
--- which saturates at the last value of a u64, has not fallen and rose for each mark.
+-- order; what may be in doubt is one of the log's doubts, which begin with that of the opening; and it counted a fault for
+-- each mark, and no other.
 pub record Keeps (b : Base) (now : KeeperState) (log : Log) : Type 0 where
   pub opened : b.kept ≤ length log
   pub records : now.records ≡ with_records b.shown.records (history_of (since b log))
   pub end : now.end ≡ end_of b log
   pub doubt : IsDoubted (doubts_of (option_to_list b.shown.doubt) (since b log)) now.doubt
-  pub later : b.shown.faults ≤ now.faults
-  pub faults : min (b.shown.faults + length (marks_of (since b log))) (2 ^ 64 - 1) ≤ now.faults
+  pub faults : now.faults ≡ counted b.shown.faults (length (marks_of (since b log)))
 
 -- ---- a machine
 
@@ -78,12 +81,12 @@ DoubtAfter before after (Kept e) = after ≡ None
 DoubtAfter before after (Full e) = after ≡ before
 DoubtAfter before after (Failed e) = (after ≡ before) ⊎ ((after ≡ None) ⊎ (after ≡ Some (code_of e)))
 
--- the count of faults does not fall, and rises with a failure
+-- a failure is a fault that is counted, and nothing else is
 abbrev pub FaultsAfter : ℕ → ℕ → Outcome → Type 0
-FaultsAfter before after NoEntry = before ≤ after
-FaultsAfter before after (Kept e) = before ≤ after
-FaultsAfter before after (Full e) = before ≤ after
-FaultsAfter before after (Failed e) = next_count before ≤ after
+FaultsAfter before after NoEntry = after ≡ before
+FaultsAfter before after (Kept e) = after ≡ before
+FaultsAfter before after (Full e) = after ≡ before
+FaultsAfter before after (Failed e) = after ≡ next_count before
 
 -- the machine after this outcome
 pub record Follows (growth : ℕ → ℕ) (before after : State) (outcome : Outcome) : Type 0 where

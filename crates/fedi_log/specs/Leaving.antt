@@ -1,7 +1,7 @@
 -- What a crash may leave of a keeper's records, at any moment of a log.
 use Rattle.std.specs.Prelude.{ℕ, ◌≡◌, ◌⊎◌, ◌≤◌, List, [], ◌∷◌, ◌++◌, map, Option, option_to_list, Contains}
 use Rattle.fedi_entry.specs.Codes.{code_of}
-use Rattle.fedi_log.specs.Keeping.{Base, HoldsSince, State, since}
+use Rattle.fedi_log.specs.Keeping.{Base, since}
 use Rattle.fedi_log.specs.Log.{Log, doubts_of, history_of}
 use Rattle.fedi_outside.specs.Keepers.{Adds, Crashes, IfTold}
 
@@ -26,6 +26,15 @@ pub record CrashesAlong (b : Base) (log : Log) (before after : Crashes) : Type 0
   pub told : after.told ≡ before.told
   pub crash : IfTold before.told b.shown.records (λ kept. Adds before.clock before.left_since after.left_since (IsLeft b log kept))
 
--- the machine stands for a log that goes on from what was seen, by one's own items alone, and crashes were so along it
-abbrev pub SurvivesSince : Base → Option ℕ → Log → State → Crashes → Crashes → Type 0
-SurvivesSince b by seen state before after = (log : Log) × HoldsSince b by seen state log × CrashesAlong b log before after
+-- A crash after the log was seen so may have left these records: after all of its items, and the first of those that came since,
+-- none or more.
+pub record IsLeftAfter (b : Base) (seen log : Log) (kept left : List (List ℕ)) : Type 0 where
+  pub past : Log
+  pub rest : Log
+  pub is : log ≡ seen ++ (past ++ rest)
+  pub leaves : LeavesAfter b kept (since b (seen ++ past)) left
+
+-- a crash since this moment, at which the log was seen so, leaves such records: if crashes are told, those of the opening are too
+abbrev pub CrashesAfter : Base → Log → Log → ℕ → Crashes → Type 0
+CrashesAfter b seen log moment after =
+    IfTold after.told b.shown.records (λ kept. (left : List (List ℕ)) → after.left_since moment left → IsLeftAfter b seen log kept left)

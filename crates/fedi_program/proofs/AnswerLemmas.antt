@@ -1,14 +1,11 @@
 -- From what the machine decides for a caller, and what its keeper does, to the answer to a request.
-use Rattle.std.proofs.Common.{◌≡◌, ℕ, List, Bool, Option, Some, None, Result, Ok, Err, Vec, IfOk, OnErr, inl, inr, refl, sym, subst, ◌∙◌, arith}
-use Rattle.fedi_core.specs.Keeping.{IsKept, Refuses}
+use Rattle.std.proofs.Common.{◌≡◌, ℕ, List, length, Bool, Option, Some, None, Result, Ok, Err, Vec, IfOk, OnErr, inl, inr, refl, sym, subst, ◌∙◌}
 use Rattle.fedi_core.specs.declared.keeping.KeepFault.{KeepFault}
-use Rattle.fedi_core.specs.declared.keeping.KeepFault.TheVariants as faults
 use Rattle.fedi_entry.specs.Codes.{code_of}
-use Rattle.fedi_log.specs.Keeping.{Follows, State}
+use Rattle.fedi_log.specs.Keeping.{State}
 use Rattle.fedi_log.specs.Log.{Failed, Full, Kept, NoEntry, Outcome}
-use Rattle.fedi_log.proofs.Keeping.{unchanged}
 use Rattle.fedi_objects.specs.declared.entry.Entry.{Entry}
-use Rattle.fedi_outside.specs.Keepers.{KeeperState, OnlyRoomChanged}
+use Rattle.fedi_outside.specs.Keepers.{HasRoom, IsFull, LeavesRecords}
 use Rattle.fedi_model.proofs.Clean.{refused_is_clean, reply_is_clean}
 use Rattle.fedi_asks.specs.declared.ask.Ask.{Ask}
 use Rattle.fedi_town.specs.declared.caller.Caller.{Caller}
@@ -27,7 +24,9 @@ use Rattle.fedi_model.specs.Replies.{IsPrivate, reply}
 use Rattle.fedi_model.specs.Routes.{Asks}
 use Rattle.fedi_town.specs.Towns.{Town}
 use Rattle.fedi_program.specs.Conversations.{IsPrivateReply, IsReply, Settles}
-use Rattle.fedi_program.specs.Endings.{IsAnswerText, IsTurn, IsUnanswered}
+use Rattle.fedi_program.specs.Crashing.{Standing, Turns}
+use Rattle.fedi_program.specs.Endings.{IsAnswerText, IsTurn}
+use Rattle.fedi_program.proofs.Turning.{IsUnkept, idle_turn}
 
 -- ---- who may not be taken for a caller
 
@@ -35,17 +34,17 @@ use Rattle.fedi_program.specs.Endings.{IsAnswerText, IsTurn, IsUnanswered}
 refused_answer : (t : Town) (moment : ℕ) (q : Request) (body : List ℕ) (e : Refusal) → caller_of t q body ≡ Err e → Answers t moment q body (refused e) None
 refused_answer t moment q body e caller = subst (λ (c : Result Caller Refusal). AnswersTo t moment c q body (refused e) None) (sym caller) (refl, refl)
 
-pub refused_turn : (growth room : ℕ → ℕ) (state : State) (moment : ℕ) (q : Request) (body : List ℕ) (e : Refusal) (r : Reply)
-    → caller_of (town state.history) q body ≡ Err e → r ≡ refused e → IsTurn growth room state state moment q body r
-refused_turn growth room state moment q body e r caller is =
-    subst (λ (x : Reply). IsTurn growth room state state moment q body x) (sym is) (record {
+pub refused_answers : (growth room : ℕ → ℕ) (s : Standing) (moment : ℕ) (q : Request) (body : List ℕ) (e : Refusal) (r : Reply)
+    → LeavesRecords s.state.keeper s.crashes → caller_of (town s.state.history) q body ≡ Err e → r ≡ refused e → IsTurn growth room s s moment q body r
+refused_answers growth room s moment q body e r now caller is =
+    subst (λ (x : Reply). IsTurn growth room s s moment q body x) (sym is) (record {
       outcome = NoEntry;
       reply = record {
-        answer = (refused e, None, refused_answer (town state.history) moment q body e caller, refl);
+        answer = (refused e, None, refused_answer (town s.state.history) moment q body e caller, refl);
         private = inl (λ g legal agree. (None, refused_answer (town g) moment q body e (agree.caller ∙ caller)));
         clean = refused_is_clean e;
       };
-      follows = unchanged growth state state refl refl refl refl refl;
+      turns = idle_turn growth s now;
     })
 
 -- ---- what is decided for a caller
@@ -89,109 +88,70 @@ decided_clean : (state : State) (moment : ℕ) (q : Request) (body : List ℕ) (
     → IsDecided state moment q body c ask r made → IsCleanBody r.body
 decided_clean state moment q body c ask r made d = subst (λ (x : Reply). IsCleanBody x.body) (sym d.reply_is) (reply_is_clean (town state.history) c ask)
 
--- ---- nothing is to be kept
+-- ---- the answer, by what became of the entry
 
-pub read_turn : (growth room : ℕ → ℕ) (state : State) (moment : ℕ) (q : Request) (body : List ℕ) (c : Caller) (ask : Ask) (r : Reply)
-    → IsDecided state moment q body c ask r None → IsTurn growth room state state moment q body r
-read_turn growth room state moment q body c ask r d = record {
+pub read_answers : (growth room : ℕ → ℕ) (s : Standing) (moment : ℕ) (q : Request) (body : List ℕ) (c : Caller) (ask : Ask) (r : Reply)
+    → LeavesRecords s.state.keeper s.crashes → IsDecided s.state moment q body c ask r None → IsTurn growth room s s moment q body r
+read_answers growth room s moment q body c ask r now d = record {
   outcome = NoEntry;
-  reply = settled_reply room state moment q body c ask r None NoEntry r d refl (decided_private state moment q body c ask r None d) (decided_clean state moment q body c ask r None d);
-  follows = unchanged growth state state refl refl refl refl refl;
+  reply = settled_reply room s.state moment q body c ask r None NoEntry r d refl
+      (decided_private s.state moment q body c ask r None d) (decided_clean s.state moment q body c ask r None d);
+  turns = idle_turn growth s now;
 }
 
--- ---- an entry is to be kept
-
-pub kept_turn : (growth room : ℕ → ℕ) (before after : State) (moment : ℕ) (q : Request) (body : List ℕ) (c : Caller) (ask : Ask) (r : Reply) (e : Entry)
-    → IsDecided before moment q body c ask r (Some e) → IsKept growth room before.history e before.keeper after.keeper after.history
+pub kept_answers : (growth room : ℕ → ℕ) (before after : Standing) (moment : ℕ) (q : Request) (body : List ℕ) (c : Caller) (ask : Ask) (r : Reply) (e : Entry)
+    → IsDecided before.state moment q body c ask r (Some e) → HasRoom room before.state.keeper.end (length (code_of e)) → Turns growth before after (Kept e)
     → IsTurn growth room before after moment q body r
-kept_turn growth room before after moment q body c ask r e d k = record {
+kept_answers growth room before after moment q body c ask r e d fits turn = record {
   outcome = Kept e;
-  reply = settled_reply room before moment q body c ask r (Some e) (Kept e) r d (refl, k.fits, refl)
-      (decided_private before moment q body c ask r (Some e) d) (decided_clean before moment q body c ask r (Some e) d);
-  follows = record {
-    history = k.history;
-    records = k.keeper.records;
-    end = let moved = k.keeper.end in omega (arith, moved);
-    doubt = k.keeper.doubt;
-    faults = let same = k.keeper.faults in omega (arith, same);
-  };
+  reply = settled_reply room before.state moment q body c ask r (Some e) (Kept e) r d (refl, fits, refl)
+      (decided_private before.state moment q body c ask r (Some e) d) (decided_clean before.state moment q body c ask r (Some e) d);
+  turns = turn;
 }
 
-pub still : (growth : ℕ → ℕ) (before after : State) → after.history ≡ before.history → OnlyRoomChanged before.keeper after.keeper → Follows growth before after NoEntry
-still growth before after same k = unchanged growth before after same k.records k.end k.doubt k.faults
-
-pub still_full : (growth : ℕ → ℕ) (before after : State) (e : Entry) → Follows growth before after NoEntry → Follows growth before after (Full e)
-still_full growth before after e f = record { history = f.history; records = f.records; end = f.end; doubt = f.doubt; faults = f.faults }
-
-pub full_turn : (growth room : ℕ → ℕ) (before after : State) (moment : ℕ) (q : Request) (body : List ℕ) (c : Caller) (ask : Ask) (r : Reply) (e : Entry)
-    → IsDecided before moment q body c ask r (Some e) → after.history ≡ before.history → Refuses room (code_of e) faults.Full before.keeper after.keeper
+pub full_answers : (growth room : ℕ → ℕ) (before after : Standing) (moment : ℕ) (q : Request) (body : List ℕ) (c : Caller) (ask : Ask) (r : Reply) (e : Entry)
+    → IsDecided before.state moment q body c ask r (Some e) → IsFull room before.state.keeper.end (length (code_of e)) → Turns growth before after (Full e)
     → IsTurn growth room before after moment q body (refused JournalFull)
-full_turn growth room before after moment q body c ask r e d same k = record {
+full_answers growth room before after moment q body c ask r e d full turn = record {
   outcome = Full e;
-  reply = settled_reply room before moment q body c ask r (Some e) (Full e) (refused JournalFull) d (refl, k.0, refl) (inr (inl refl)) (refused_is_clean JournalFull);
-  follows = still_full growth before after e (still growth before after same k.1);
+  reply = settled_reply room before.state moment q body c ask r (Some e) (Full e) (refused JournalFull) d (refl, full, refl)
+      (inr (inl refl)) (refused_is_clean JournalFull);
+  turns = turn;
 }
 
-pub failed_follows : (growth room : ℕ → ℕ) (before after : State) (e : Entry) → after.history ≡ before.history → Refuses room (code_of e) faults.Failed before.keeper after.keeper
-    → Follows growth before after (Failed e)
-failed_follows growth room before after e same k =
-    let quiet : Follows growth before (record after { keeper = before.keeper }) NoEntry = unchanged growth before (record after { keeper = before.keeper }) same refl refl refl refl in
-    record {
-      history = quiet.history;
-      records = k.1.records ∙ quiet.records;
-      end = let moved = k.1.end in omega (arith, moved);
-      doubt = k.1.doubt;
-      faults = let rose = k.1.faults in omega (arith, rose);
-    }
-
-failed_reply : (room : ℕ → ℕ) (before : State) (moment : ℕ) (q : Request) (body : List ℕ) (c : Caller) (ask : Ask) (r : Reply) (e : Entry) (after : State)
-    → IsDecided before moment q body c ask r (Some e) → Refuses room (code_of e) faults.Failed before.keeper after.keeper
-    → IsReply room before.history before.keeper.end moment q body (Failed e) (refused KeeperFault)
-failed_reply room before moment q body c ask r e after d k =
-    settled_reply room before moment q body c ask r (Some e) (Failed e) (refused KeeperFault) d (refl, k.0, refl) (inr (inr refl)) (refused_is_clean KeeperFault)
-
-pub failed_turn : (growth room : ℕ → ℕ) (before after : State) (moment : ℕ) (q : Request) (body : List ℕ) (c : Caller) (ask : Ask) (r : Reply) (e : Entry)
-    → IsDecided before moment q body c ask r (Some e) → after.history ≡ before.history → Refuses room (code_of e) faults.Failed before.keeper after.keeper
+pub failed_answers : (growth room : ℕ → ℕ) (before after : Standing) (moment : ℕ) (q : Request) (body : List ℕ) (c : Caller) (ask : Ask) (r : Reply) (e : Entry)
+    → IsDecided before.state moment q body c ask r (Some e) → HasRoom room before.state.keeper.end (length (code_of e)) → Turns growth before after (Failed e)
     → IsTurn growth room before after moment q body (refused KeeperFault)
-failed_turn growth room before after moment q body c ask r e d same k = record {
+failed_answers growth room before after moment q body c ask r e d fits turn = record {
   outcome = Failed e;
-  reply = failed_reply room before moment q body c ask r e after d k;
-  follows = failed_follows growth room before after e same k;
+  reply = settled_reply room before.state moment q body c ask r (Some e) (Failed e) (refused KeeperFault) d (refl, fits, refl)
+      (inr (inr refl)) (refused_is_clean KeeperFault);
+  turns = turn;
 }
 
--- ---- out of memory
-
-pub nothing_done : (growth room : ℕ → ℕ) (state : State) (moment : ℕ) (q : Request) (body : List ℕ) → IsUnanswered growth room state state moment q body
-nothing_done growth room state moment q body = inl (unchanged growth state state refl refl refl refl refl)
-
-pub nothing_kept : (growth room : ℕ → ℕ) (before after : State) (moment : ℕ) (q : Request) (body : List ℕ) → after.history ≡ before.history
-    → OnlyRoomChanged before.keeper after.keeper → IsUnanswered growth room before after moment q body
-nothing_kept growth room before after moment q body same k = inl (still growth before after same k)
-
-pub full_untold : (growth room : ℕ → ℕ) (before after : State) (moment : ℕ) (q : Request) (body : List ℕ) (e : Entry)
-    → after.history ≡ before.history → Refuses room (code_of e) faults.Full before.keeper after.keeper → IsUnanswered growth room before after moment q body
-full_untold growth room before after moment q body e same k = inl (still growth before after same k.1)
-
-pub failed_untold : (growth room : ℕ → ℕ) (before after : State) (moment : ℕ) (q : Request) (body : List ℕ) (c : Caller) (ask : Ask) (r : Reply) (e : Entry)
-    → IsDecided before moment q body c ask r (Some e) → after.history ≡ before.history → Refuses room (code_of e) faults.Failed before.keeper after.keeper
-    → IsUnanswered growth room before after moment q body
-failed_untold growth room before after moment q body c ask r e d same k =
-    inr (e, failed_reply room before moment q body c ask r e after d k, failed_follows growth room before after e same k)
+-- a full keeper was not asked to keep anything
+pub full_untold : (growth : ℕ → ℕ) (before after : Standing) (e : Entry) → Turns growth before after (Full e) → Turns growth before after NoEntry
+full_untold growth before after e turn =
+    let f = turn.follows in
+    record {
+      follows = record { history = f.history; records = f.records; end = f.end; doubt = f.doubt; faults = f.faults };
+      passes = turn.passes;
+      may_fail = tt;
+    }
 
 -- ---- texts
 
 -- the text, if there was memory for it, is that of a turn's reply
-pub texted : {A E : Type 0} (growth room : ℕ → ℕ) (before after : State) (moment : ℕ) (q : Request) (body : List ℕ) (closing : Bool) (given : Reply) (r : Result (Vec ℕ A) E)
+pub texted : {A E : Type 0} (growth room : ℕ → ℕ) (before after : Standing) (moment : ℕ) (q : Request) (body : List ℕ) (closing : Bool) (given : Reply) (r : Result (Vec ℕ A) E)
     → IsTurn growth room before after moment q body given → IfOk r (λ t. t.items ≡ reply_text moment q.head_only closing given)
     → IfOk r (λ t. IsAnswerText growth room before after moment q body closing t.items)
 texted growth room before after moment q body closing given (Ok t) turn is = (given, turn, is)
 texted growth room before after moment q body closing given (Err e) turn is = tt
 
 -- or, if there was none, nothing was kept
-pub untexted : {T E : Type 0} (growth room : ℕ → ℕ) (before after : State) (moment : ℕ) (q : Request) (body : List ℕ) (r : Result T E)
-    → IsUnanswered growth room before after moment q body → OnErr r (IsUnanswered growth room before after moment q body)
-untexted growth room before after moment q body (Ok t) u = tt
-untexted growth room before after moment q body (Err e) u = u
+pub untexted : {T E : Type 0} (growth : ℕ → ℕ) (before after : Standing) (r : Result T E) → Turns growth before after NoEntry → OnErr r (Turns growth before after NoEntry)
+untexted growth before after (Ok t) turn = tt
+untexted growth before after (Err e) turn = turn
 
 -- what was decided, by the parts of the decision
 pub decided : (state : State) (moment : ℕ) (q : Request) (body : List ℕ) (c : Caller) (ask : Ask) (r : Reply) (made other : Option Entry) (host : Option (List ℕ))
@@ -207,11 +167,6 @@ decided state moment q body c ask r made other host is at asks reply_is made_is 
 
 -- ---- why an entry was not kept
 
-pub full_by : (room : ℕ → ℕ) (code : List ℕ) (f : KeepFault) (before after : KeeperState) → f ≡ faults.Full → Refuses room code f before after → Refuses room code faults.Full before after
-full_by room code f before after is k = subst (λ (x : KeepFault). Refuses room code x before after) is k
-
-pub failed_by : (room : ℕ → ℕ) (code : List ℕ) (f : KeepFault) (before after : KeeperState) → f ≡ faults.Failed → Refuses room code f before after → Refuses room code faults.Failed before after
-failed_by room code f before after is k = subst (λ (x : KeepFault). Refuses room code x before after) is k
-
-pub memory_by : (room : ℕ → ℕ) (code : List ℕ) (f : KeepFault) (before after : KeeperState) → f ≡ faults.Memory → Refuses room code f before after → OnlyRoomChanged before after
-memory_by room code f before after is k = subst (λ (x : KeepFault). Refuses room code x before after) is k
+-- by a reason that is another's name
+pub unkept_by : (room : ℕ → ℕ) (before after : Standing) (e : Entry) (f fault : KeepFault) → f ≡ fault → IsUnkept room before after e f → IsUnkept room before after e fault
+unkept_by room before after e f fault is k = subst (IsUnkept room before after e) is k

@@ -3,15 +3,18 @@ use Rattle.std.proofs.Common.{◌≡◌, ℕ, ◌+◌, ◌<◌, ◌≤◌, Bool,
 use Rattle.std.specs.Prelude.{nat_le, ◌||◌}
 use Rattle.std.proofs.KnownBytes.{Appends-nil, prepend_known-nil}
 use Rattle.std.proofs.lemmas.Bool.{leb-false}
-use Rattle.fedi_log.specs.Keeping.{Holds, HoldsSince, State}
-use Rattle.fedi_log.specs.Log.{Log, given}
+use Rattle.fedi_log.specs.Keeping.{Holds, State}
+use Rattle.fedi_log.specs.Log.{Log, given, items_of}
+use Rattle.fedi_outside.specs.Keepers.{LeavesRecords}
+use Rattle.fedi_startup.specs.Marks.{Survives}
 use Rattle.fedi_model.specs.declared.request.Request.{Request}
 use Rattle.fedi_town.specs.declared.refusal.Refusal.{Refusal}
 use Rattle.fedi_program.specs.declared.sessions.SessionEnd.{SessionEnd}
 use Rattle.fedi_program.specs.declared.sessions.SessionEnd.TheVariants.{End, CutShort, Closed, ReadFault, WriteFault, Memory}
 use Rattle.fedi_program.specs.Conversations.{Setting, Exchange, Progress, Converses, after, beginning, closes, ends_by, progress}
 use Rattle.fedi_program.specs.Endings.{EndsSession, Exchanges, Faults, Finishes, IsAt, IsCaused, Output, Scene, Serves, StepsOn, setting_of}
-use Rattle.fedi_log.proofs.Keeping.{holds_given, since_on}
+use Rattle.fedi_program.specs.Crashing.{Standing}
+use Rattle.fedi_program.proofs.CrashLemmas.{survives_first, survives_more}
 use Rattle.fedi_program.proofs.Talks.{converses-more, progress-more}
 
 -- a session stands after some exchanges, and the connection is open for another
@@ -23,10 +26,10 @@ pub record Stands (w : Setting) (seen : Log) (first : Output) (now : Scene) (log
   pub at : IsAt first now pending (progress w (beginning input seen) exchanges)
   pub below : count < 1000
 
--- it does, if the input is told, over a log that the machine stands for
-abbrev pub StandsFor : Setting → Log → Scene → Scene → List ℕ → State → ℕ → Type 0
-StandsFor w seen first now pending state count =
-    (log : Log) × HoldsSince w.base w.by seen state log × IfSome first.input (Stands w seen first.output now log pending count)
+-- it does, if the input is told, over a log that the machine stands for, and along which crashes were so
+abbrev pub StandsFor : Setting → Log → Scene → Scene → List ℕ → Standing → Standing → ℕ → Type 0
+StandsFor w seen first now pending was is count =
+    (log : Log) × Survives w.base w.by seen log is.state was.crashes is.crashes × IfSome first.input (Stands w seen first.output now log pending count)
 
 -- a session begins
 begins : (w : Setting) (seen : Log) (first : Scene) (known : Option (List ℕ)) → first.input ≡ known → IfSome known (Stands w seen first.output first seen [] 0)
@@ -44,10 +47,11 @@ begins w seen first (Some input) is = record {
   below = lit< tt;
 }
 
-pub stands_first : (w : Setting) (opened : State) (first : Scene) → w.base.kept ≡ length opened.history → w.base.shown ≡ opened.keeper
-    → StandsFor w (given opened.history) first first [] opened 0
-stands_first w opened first kept shown =
-    (given opened.history, holds_given w.base w.by opened kept shown, begins w (given opened.history) first first.input refl)
+pub stands_first : (w : Setting) (opened : Standing) (first : Scene) → w.base.kept ≡ length opened.state.history → w.base.shown ≡ opened.state.keeper
+    → LeavesRecords opened.state.keeper opened.crashes → StandsFor w (given opened.state.history) first first [] opened opened 0
+stands_first w opened first kept shown now =
+    let seen : Log = given opened.state.history in
+    (seen, survives_first w.base w.by opened.state opened.crashes kept shown now, begins w seen first first.input refl)
 
 -- ---- one exchange more
 
@@ -82,14 +86,15 @@ on_told : (w : Setting) (seen : Log) (first : Output) (before now : Scene) (log 
 on_told w seen first before now log next old pending count None held steps = tt
 on_told w seen first before now log next old pending count (Some input) held steps = stands_on w seen first before now log next old pending count input held steps
 
-pub stands_next : (w : Setting) (seen : Log) (first before now : Scene) (old pending : List ℕ) (state after_it : State) (count : ℕ)
-    → StandsFor w seen first before old state count → ((log : Log) → Holds w.base state log → Exchanges w log count before old now pending after_it None)
-    → StandsFor w seen first now pending after_it (count + 1)
-stands_next w seen first before now old pending state after_it count held steps =
-    let x = steps held.0 held.1.holds in (
-      x.0,
-      since_on w.base w.by seen held.0 x.0 state after_it held.1 x.1,
-      on_told w seen first.output before now held.0 x.0 old pending count first.input held.2 x.2,
+pub stands_next : (w : Setting) (seen : Log) (first before now : Scene) (old pending : List ℕ) (was is next : Standing) (count : ℕ)
+    → StandsFor w seen first before old was is count → ((log : Log) → Holds w.base is.state log → Exchanges w log count before old now pending is next None)
+    → StandsFor w seen first now pending was next (count + 1)
+stands_next w seen first before now old pending was is next count held steps =
+    let x = steps held.0 held.1.holds.holds in
+    let log : Log = held.0 ++ items_of w.by x.0 in (
+      log,
+      survives_more w.base w.by seen held.0 was.crashes is next x.0 held.1 x.1,
+      on_told w seen first.output before now held.0 log old pending count first.input held.2 x.2,
     )
 
 -- ---- the end
@@ -138,14 +143,15 @@ ends_told : (w : Setting) (seen : Log) (first : Output) (before now : Scene) (lo
 ends_told w seen first before now log next old pending count e None held steps = tt
 ends_told w seen first before now log next old pending count e (Some input) held steps = ends_so w seen first before now log next old pending count e input held steps
 
-pub stands_over : (w : Setting) (seen : Log) (first before now : Scene) (old pending : List ℕ) (state after_it : State) (count : ℕ) (e : SessionEnd)
-    → StandsFor w seen first before old state count → ((log : Log) → Holds w.base state log → Exchanges w log count before old now pending after_it (Some e))
-    → EndsSession w seen first now after_it e
-stands_over w seen first before now old pending state after_it count e held steps =
-    let x = steps held.0 held.1.holds in (
-      x.0,
-      since_on w.base w.by seen held.0 x.0 state after_it held.1 x.1,
-      ends_told w seen first.output before now held.0 x.0 old pending count e first.input held.2 x.2,
+pub stands_over : (w : Setting) (seen : Log) (first before now : Scene) (old pending : List ℕ) (was is next : Standing) (count : ℕ) (e : SessionEnd)
+    → StandsFor w seen first before old was is count → ((log : Log) → Holds w.base is.state log → Exchanges w log count before old now pending is next (Some e))
+    → EndsSession w seen first now was next e
+stands_over w seen first before now old pending was is next count e held steps =
+    let x = steps held.0 held.1.holds.holds in
+    let log : Log = held.0 ++ items_of w.by x.0 in (
+      log,
+      survives_more w.base w.by seen held.0 was.crashes is next x.0 held.1 x.1,
+      ends_told w seen first.output before now held.0 log old pending count e first.input held.2 x.2,
     )
 
 -- the last request closes the connection, so that none stands open after it
@@ -154,17 +160,17 @@ none_open : (w : Setting) (seen : Log) (first : Output) (now : Scene) (log : Log
 none_open w seen first now log pending count None many held = tt
 none_open w seen first now log pending count (Some input) many held = let below = held.below in absurd (omega (arith, many, below))
 
-pub stands_not : (w : Setting) (seen : Log) (first now : Scene) (pending : List ℕ) (state : State) (count : ℕ) → 1000 ≤ count
-    → StandsFor w seen first now pending state count → EndsSession w seen first now state Closed
-stands_not w seen first now pending state count many held =
+pub stands_not : (w : Setting) (seen : Log) (first now : Scene) (pending : List ℕ) (was is : Standing) (count : ℕ) → 1000 ≤ count
+    → StandsFor w seen first now pending was is count → EndsSession w seen first now was is Closed
+stands_not w seen first now pending was is count many held =
     (held.0, held.1, none_open w seen first.output now held.0 pending count first.input many held.2)
 
 -- the clock stays as it was
-pub told_on : (growth room : ℕ → ℕ) (told now : Option ℕ) (opened : State) (log : Log) (count : ℕ) (before : Scene) (old : List ℕ) (after_it : Scene) (pending : List ℕ) (state : State) (e : Option SessionEnd)
-    → now ≡ told → Exchanges (setting_of growth room now opened) log count before old after_it pending state e
-    → Exchanges (setting_of growth room told opened) log count before old after_it pending state e
-told_on growth room told now opened log count before old after_it pending state e same x =
-    subst (λ (t : Option ℕ). Exchanges (setting_of growth room t opened) log count before old after_it pending state e) same x
+pub told_on : (growth room : ℕ → ℕ) (told now : Option ℕ) (opened : State) (log : Log) (count : ℕ) (before : Scene) (old : List ℕ) (after_it : Scene) (pending : List ℕ) (was is : Standing) (e : Option SessionEnd)
+    → now ≡ told → Exchanges (setting_of growth room now opened) log count before old after_it pending was is e
+    → Exchanges (setting_of growth room told opened) log count before old after_it pending was is e
+told_on growth room told now opened log count before old after_it pending was is e same x =
+    subst (λ (t : Option ℕ). Exchanges (setting_of growth room t opened) log count before old after_it pending was is e) same x
 
 -- and so do the counts of faults, up to the last step
 pub caused_on : (first before now : Faults) (e : SessionEnd) → before ≡ first → IsCaused before now e → IsCaused first now e

@@ -1,21 +1,21 @@
 -- What a crash may leave, turn by turn.
-use Rattle.std.proofs.Common.{◌≡◌, ℕ, ◌≤◌, Bool, true, false, List, [], ◌∷◌, ◌++◌, length, map, Option, Some, None, inl, inr, refl, sym, ap, subst, ◌∙◌, append_assoc, append-nil, arith}
+use Rattle.std.proofs.Common.{◌≡◌, ◌⊎◌, ℕ, ◌≤◌, Bool, true, false, List, [], ◌∷◌, ◌++◌, length, map, Option, Some, None, inl, inr, refl, sym, ap, subst, ◌∙◌, append_assoc, append-nil, arith}
 use Rattle.std.specs.Prelude.{Contains, option_to_list}
 use Rattle.std.proofs.lemmas.List.{drop-append-le, map-append}
 use Rattle.std.proofs.lemmas.List.Elements.{Contains-append_right}
 use Rattle.fedi_entry.specs.Codes.{code_of}
 use Rattle.fedi_objects.specs.declared.entry.Entry.{Entry}
 use Rattle.fedi_core.specs.Crashing.{MayLeaveWith}
-use Rattle.fedi_core.proofs.Crashing.{adds_both, if_told, stands_still}
-use Rattle.fedi_log.specs.Keeping.{Base, IsDoubted, Keeps, State, since, with_records}
+use Rattle.fedi_core.proofs.Crashing.{adds_both, if_told}
+use Rattle.fedi_log.specs.Keeping.{Base, Holds, IsDoubted, Keeps, State, since, with_records}
 use Rattle.fedi_log.specs.Log.{Failed, Full, Kept, Log, NoEntry, Outcome, doubts_of, given, history_of, items_of}
-use Rattle.fedi_log.proofs.Growing.{doubts_failed}
-use Rattle.fedi_log.proofs.Keeping.{history_more, holds_given, since_more, since_on, unchanged}
+use Rattle.fedi_log.proofs.Growing.{doubts_failed, history_append}
+use Rattle.fedi_log.proofs.Keeping.{history_more, holds_given, since_more, since_on}
 use Rattle.fedi_outside.specs.Keepers.{Adds, Crashes, IfTold, KeeperState, LeavesRecords, MayLeave}
-use Rattle.fedi_log.specs.Leaving.{CrashesAlong, IsLeft, LeavesAfter}
-use Rattle.fedi_startup.specs.Marks.{MarksMayCome, SurvivesMarked}
+use Rattle.fedi_log.specs.Leaving.{CrashesAfter, CrashesAlong, IsLeft, IsLeftAfter, LeavesAfter}
+use Rattle.fedi_startup.specs.Marks.{MarksMayCome, Survives, SurvivesMarked}
 use Rattle.fedi_startup.proofs.Marks.{given_marks, marks_append}
-use Rattle.fedi_program.specs.Crashing.{MayFail, SurvivesTurn, TurnPasses}
+use Rattle.fedi_program.specs.Crashing.{MayFail, Standing, SurvivesTurn, TurnPasses, Turns}
 
 -- ---- what one turn may leave
 
@@ -87,34 +87,45 @@ left_after b log items kept left opened h = record {
 itself : (x : List ℕ) → Contains (x ∷ []) x
 itself x = (0, omega arith, refl)
 
-left_kept : (b : Base) (by : Option ℕ) (e : Entry) (log : Log) (kept left : List (List ℕ)) → b.kept ≤ length log
-    → left ≡ with_codes kept (since b log) ++ code_of e ∷ [] → IsLeft b (log ++ items_of by (Kept e)) kept left
-left_kept b by e log kept left opened is = left_after b log (items_of by (Kept e)) kept left opened (inl (is ∙ codes_more kept by e (since b log)))
+leaves_kept : (b : Base) (by : Option ℕ) (e : Entry) (log : Log) (kept left : List (List ℕ))
+    → left ≡ with_codes kept (since b log) ++ code_of e ∷ [] → LeavesAfter b kept (since b log ++ items_of by (Kept e)) left
+leaves_kept b by e log kept left is = inl (is ∙ codes_more kept by e (since b log))
 
-left_failed : (b : Base) (by : Option ℕ) (e : Entry) (log : Log) (kept left : List (List ℕ)) → b.kept ≤ length log
-    → left ≡ with_codes kept (since b log) ++ code_of e ∷ [] → IsLeft b (log ++ items_of by (Failed e)) kept left
-left_failed b by e log kept left opened is =
+leaves_failed : (b : Base) (by : Option ℕ) (e : Entry) (log : Log) (kept left : List (List ℕ))
+    → left ≡ with_codes kept (since b log) ++ code_of e ∷ [] → LeavesAfter b kept (since b log ++ items_of by (Failed e)) left
+leaves_failed b by e log kept left is =
     let doubts = doubts_of (option_to_list b.shown.doubt) (since b log) in
-    left_after b log (items_of by (Failed e)) kept left opened (inr (
+    inr (
       code_of e,
       subst (λ (ds : List (List ℕ)). Contains ds (code_of e)) (sym (doubts_failed by e (option_to_list b.shown.doubt) (since b log)))
           (Contains-append_right doubts (code_of e ∷ []) (code_of e) (itself (code_of e))),
       is ∙ ap (λ (xs : List (List ℕ)). xs ++ code_of e ∷ []) (codes_same kept by e (since b log)),
-    ))
+    )
+
+-- before the turn, or after it
+LeavesBeforeOrAfter : Base → Log → Log → List (List ℕ) → List (List ℕ) → Type 0
+LeavesBeforeOrAfter b log items kept left = LeavesAfter b kept (since b log) left ⊎ LeavesAfter b kept (since b log ++ items) left
+
+turn_leaves : (b : Base) (by : Option ℕ) (o : Outcome) (log : Log) (kept : List (List ℕ)) (doubt : Option (List ℕ)) (left : List (List ℕ))
+    → IsDoubted (doubts_of (option_to_list b.shown.doubt) (since b log)) doubt → MayLeaveIn o (with_codes kept (since b log)) doubt left
+    → LeavesBeforeOrAfter b log (items_of by o) kept left
+unfolding LeavesBeforeOrAfter
+turn_leaves b by NoEntry log kept doubt left doubted may = inl (leaves_now b kept (since b log) doubt left doubted may)
+turn_leaves b by (Full e) log kept doubt left doubted may = inl (leaves_now b kept (since b log) doubt left doubted may)
+turn_leaves b by (Kept e) log kept doubt left doubted (inl may) = inl (leaves_now b kept (since b log) doubt left doubted may)
+turn_leaves b by (Kept e) log kept doubt left doubted (inr is) = inr (leaves_kept b by e log kept left is)
+turn_leaves b by (Failed e) log kept doubt left doubted (inl may) = inl (leaves_now b kept (since b log) doubt left doubted may)
+turn_leaves b by (Failed e) log kept doubt left doubted (inr is) = inr (leaves_failed b by e log kept left is)
 
 turn_left : (b : Base) (by : Option ℕ) (o : Outcome) (log : Log) (kept : List (List ℕ)) (doubt : Option (List ℕ)) (left : List (List ℕ)) → b.kept ≤ length log
     → IsDoubted (doubts_of (option_to_list b.shown.doubt) (since b log)) doubt → MayLeaveIn o (with_codes kept (since b log)) doubt left
     → IsLeft b (log ++ items_of by o) kept left
-turn_left b by NoEntry log kept doubt left opened doubted may =
-    left_before b log (items_of by NoEntry) kept left opened (leaves_now b kept (since b log) doubt left doubted may)
-turn_left b by (Full e) log kept doubt left opened doubted may =
-    left_before b log (items_of by (Full e)) kept left opened (leaves_now b kept (since b log) doubt left doubted may)
-turn_left b by (Kept e) log kept doubt left opened doubted (inl may) =
-    left_before b log (items_of by (Kept e)) kept left opened (leaves_now b kept (since b log) doubt left doubted may)
-turn_left b by (Kept e) log kept doubt left opened doubted (inr is) = left_kept b by e log kept left opened is
-turn_left b by (Failed e) log kept doubt left opened doubted (inl may) =
-    left_before b log (items_of by (Failed e)) kept left opened (leaves_now b kept (since b log) doubt left doubted may)
-turn_left b by (Failed e) log kept doubt left opened doubted (inr is) = left_failed b by e log kept left opened is
+turn_left b by o log kept doubt left opened doubted may = of (turn_leaves b by o log kept doubt left doubted may)
+  where
+    of : LeavesBeforeOrAfter b log (items_of by o) kept left → IsLeft b (log ++ items_of by o) kept left
+    unfolding LeavesBeforeOrAfter
+    of (inl h) = left_before b log (items_of by o) kept left opened h
+    of (inr h) = left_after b log (items_of by o) kept left opened h
 
 -- and what was left before stays so
 left_later : (b : Base) (log items : Log) (kept left : List (List ℕ)) → b.kept ≤ length log → IsLeft b log kept left → IsLeft b (log ++ items) kept left
@@ -164,15 +175,14 @@ crashes_more b by k log o x y z keeps along turn = record {
 
 -- at the opening
 pub survives_first : (b : Base) (by : Option ℕ) (opened : State) (c : Crashes) → b.kept ≡ length opened.history → b.shown ≡ opened.keeper
-    → LeavesRecords opened.keeper c → SurvivesMarked b by (given opened.history) opened c c
-survives_first b by opened c kept shown now = (
-  given opened.history,
-  holds_given b by opened kept shown,
-  crashes_first b (given opened.history) c (subst (λ (k : KeeperState). LeavesRecords k c) (sym shown) now),
-  given_marks [] opened.history,
-)
+    → LeavesRecords opened.keeper c → Survives b by (given opened.history) (given opened.history) opened c c
+survives_first b by opened c kept shown now = record {
+  holds = holds_given b by opened kept shown;
+  crashes = crashes_first b (given opened.history) c (subst (λ (k : KeeperState). LeavesRecords k c) (sym shown) now);
+  marks = given_marks [] opened.history;
+}
 
--- what a turn marks may come where its mark stands
+-- what a turn marks may come where its mark is
 turn_marks : (by : Option ℕ) (history : List Entry) (o : Outcome) → MayFail history o → MarksMayCome history (items_of by o)
 turn_marks by history NoEntry may = tt
 turn_marks by history (Kept e) may = (tt, tt)
@@ -180,18 +190,115 @@ turn_marks by history (Full e) may = tt
 turn_marks by history (Failed e) may = (may, tt)
 
 -- one turn more
-pub survives_more : (b : Base) (by : Option ℕ) (seen : Log) (state next : State) (x y z : Crashes) → SurvivesMarked b by seen state x y
-    → SurvivesTurn b.growth state next y z → SurvivesMarked b by seen next x z
-survives_more b by seen state next x y z was turn =
-    let log : Log = was.0 in
-    let o : Outcome = turn.0 in (
-      log ++ items_of by o,
-      since_on b by seen log (log ++ items_of by o) state next was.1 (since_more b by state next log o was.1.holds turn.1),
-      crashes_more b by state.keeper log o x y z was.1.holds.keeper was.2 turn.2,
-      marks_append [] log (items_of by o) was.3
-          (turn_marks by (history_of log) o (subst (λ (h : List Entry). MayFail h o) was.1.holds.history turn.3)),
-    )
+pub survives_more : (b : Base) (by : Option ℕ) (seen log : Log) (x : Crashes) (before after : Standing) (o : Outcome)
+    → Survives b by seen log before.state x before.crashes → Turns b.growth before after o → Survives b by seen (log ++ items_of by o) after.state x after.crashes
+survives_more b by seen log x before after o was turn = record {
+  holds = since_on b by seen log (log ++ items_of by o) before.state after.state was.holds (since_more b by before.state after.state log o was.holds.holds turn.follows);
+  crashes = crashes_more b by before.state.keeper log o x before.crashes after.crashes was.holds.holds.keeper was.crashes turn.passes;
+  marks = marks_append [] log (items_of by o) was.marks
+      (turn_marks by (history_of log) o (subst (λ (h : List Entry). MayFail h o) was.holds.holds.history turn.may_fail));
+}
 
--- nothing was to be kept, and the machine is as it was
-pub survives_still : (growth : ℕ → ℕ) (state : State) (c : Crashes) → LeavesRecords state.keeper c → SurvivesTurn growth state state c c
-survives_still growth state c now = (NoEntry, unchanged growth state state refl refl refl refl refl, stands_still state.keeper c now, tt)
+-- one turn after the opening
+pub survives_turn : (b : Base) (by : Option ℕ) (before after : Standing) → b.kept ≡ length before.state.history → b.shown ≡ before.state.keeper
+    → LeavesRecords before.state.keeper before.crashes → SurvivesTurn b.growth before after
+    → SurvivesMarked b by (given before.state.history) after.state before.crashes after.crashes
+survives_turn b by before after kept shown now turn = (
+  given before.state.history ++ items_of by turn.0,
+  survives_more b by (given before.state.history) (given before.state.history) before.crashes before after turn.0
+      (survives_first b by before.state before.crashes kept shown now) turn.1,
+)
+
+-- ---- since an exchange was over
+
+-- a crash now leaves what is after all of the log
+pub after_now : (b : Base) (log : Log) (s : Standing) → Holds b s.state log → LeavesRecords s.state.keeper s.crashes → CrashesAfter b log log s.crashes.clock s.crashes
+after_now b log s holds now = at s.crashes.told b.shown.records s.state.keeper.records holds.keeper.records now
+  where
+    at : (told : Bool) (first records : Option (List (List ℕ))) → records ≡ with_records first (history_of (since b log))
+        → IfTold told records (λ kept. (left : List (List ℕ)) → s.crashes.left_since s.crashes.clock left → MayLeave kept s.state.keeper.doubt left)
+        → IfTold told first (λ kept. (left : List (List ℕ)) → s.crashes.left_since s.crashes.clock left → IsLeftAfter b log log kept left)
+    at false first records is leaves = tt
+    at true None records is leaves = absurd (subst (λ (r : Option (List (List ℕ))). IfTold true r (λ kept. (left : List (List ℕ)) → s.crashes.left_since s.crashes.clock left → MayLeave kept s.state.keeper.doubt left)) is leaves)
+    at true (Some kept) records is leaves = λ left since_now.
+        let may = subst (λ (r : Option (List (List ℕ))). IfTold true r (λ known. (l : List (List ℕ)) → s.crashes.left_since s.crashes.clock l → MayLeave known s.state.keeper.doubt l)) is leaves in
+        record {
+          past = [];
+          rest = [];
+          is = sym (append-nil log);
+          leaves = subst (λ (l : Log). LeavesAfter b kept (since b l) left) (sym (append-nil log))
+              (leaves_now b kept (since b log) s.state.keeper.doubt left holds.keeper.doubt (may left since_now));
+        }
+
+-- one turn more
+pub after_more : (b : Base) (by : Option ℕ) (seen more log : Log) (moment : ℕ) (o : Outcome) (before after : Standing) → Holds b before.state log
+    → log ≡ seen ++ more → moment ≤ before.crashes.clock → CrashesAfter b seen log moment before.crashes → Turns b.growth before after o
+    → CrashesAfter b seen (log ++ items_of by o) moment after.crashes
+after_more b by seen more log moment o before after holds goes early was turn =
+    at before.crashes.told after.crashes.told (turn_told o k before.crashes after.crashes turn.passes) b.shown.records k.records holds.keeper.records was
+    (turn_crash o k before.crashes after.crashes turn.passes)
+  where
+    k : KeeperState
+    k = before.state.keeper
+
+    at : (told now : Bool) → now ≡ told → (first records : Option (List (List ℕ))) → records ≡ with_records first (history_of (since b log))
+        → IfTold told first (λ kept. (left : List (List ℕ)) → before.crashes.left_since moment left → IsLeftAfter b seen log kept left)
+        → IfTold told records (λ known. Adds before.crashes.clock before.crashes.left_since after.crashes.left_since (MayLeaveIn o known k.doubt))
+        → IfTold now first (λ kept. (left : List (List ℕ)) → after.crashes.left_since moment left → IsLeftAfter b seen (log ++ items_of by o) kept left)
+    at false now is first records same old adds = rw is tt
+    at true now is None records same old adds = absurd old
+    at true now is (Some kept) records same old adds =
+        subst (λ (t : Bool). IfTold t (Some kept) (λ known. (left : List (List ℕ)) → after.crashes.left_since moment left → IsLeftAfter b seen (log ++ items_of by o) known left)) (sym is)
+        (λ left since_then. one left (added.nothing_else moment left early since_then))
+      where
+        added : Adds before.crashes.clock before.crashes.left_since after.crashes.left_since (MayLeaveIn o (with_codes kept (since b log)) k.doubt)
+        added = subst (λ (r : Option (List (List ℕ))). IfTold true r (λ known. Adds before.crashes.clock before.crashes.left_since after.crashes.left_since (MayLeaveIn o known k.doubt))) same adds
+
+        one : (left : List (List ℕ)) → before.crashes.left_since moment left ⊎ MayLeaveIn o (with_codes kept (since b log)) k.doubt left
+            → IsLeftAfter b seen (log ++ items_of by o) kept left
+        one left (inl past) =
+            let l = old left past in
+            record {
+              past = l.past;
+              rest = l.rest ++ items_of by o;
+              is = ap (λ (x : Log). x ++ items_of by o) l.is ∙ append_assoc seen (l.past ++ l.rest) (items_of by o)
+                  ∙ ap (λ (x : Log). seen ++ x) (append_assoc l.past l.rest (items_of by o));
+              leaves = l.leaves;
+            }
+        one left (inr may) = of (turn_leaves b by o log kept k.doubt left holds.keeper.doubt may)
+          where
+            of : LeavesBeforeOrAfter b log (items_of by o) kept left → IsLeftAfter b seen (log ++ items_of by o) kept left
+            unfolding LeavesBeforeOrAfter
+            of (inl h) = record {
+              past = more;
+              rest = items_of by o;
+              is = ap (λ (x : Log). x ++ items_of by o) goes ∙ append_assoc seen more (items_of by o);
+              leaves = subst (λ (x : Log). LeavesAfter b kept (since b x) left) goes h;
+            }
+            of (inr h) = record {
+              past = more ++ items_of by o;
+              rest = [];
+              is = ap (λ (x : Log). x ++ items_of by o) goes ∙ append_assoc seen more (items_of by o)
+                  ∙ ap (λ (x : Log). seen ++ x) (sym (append-nil (more ++ items_of by o)));
+              leaves = subst (λ (x : Log). LeavesAfter b kept x left) (sym (since_items b log (items_of by o) holds.keeper.opened)
+                  ∙ ap (λ (x : Log). since b x) (ap (λ (x : Log). x ++ items_of by o) goes ∙ append_assoc seen more (items_of by o))) h;
+            }
+
+-- what is left begins with the records of all that the log had then
+pub after_begins : (b : Base) (seen log : Log) (kept left : List (List ℕ)) → b.kept ≤ length seen → IsLeftAfter b seen log kept left
+    → (more : List (List ℕ)) × (left ≡ with_codes kept (since b seen) ++ more)
+after_begins b seen log kept left within h = of h.leaves
+  where
+    spelled : with_codes kept (since b (seen ++ h.past)) ≡ with_codes kept (since b seen) ++ map code_of (history_of h.past)
+    spelled =
+        ap (λ (l : Log). with_codes kept l) (since_items b seen h.past within)
+        ∙ ap (λ (es : List Entry). kept ++ map code_of es) (history_append (since b seen) h.past)
+        ∙ ap (λ (xs : List (List ℕ)). kept ++ xs) (map-append code_of (history_of (since b seen)) (history_of h.past))
+        ∙ sym (append_assoc kept (map code_of (history_of (since b seen))) (map code_of (history_of h.past)))
+
+    of : LeavesAfter b kept (since b (seen ++ h.past)) left → (more : List (List ℕ)) × (left ≡ with_codes kept (since b seen) ++ more)
+    of (inl is) = (map code_of (history_of h.past), is ∙ spelled)
+    of (inr (d, doubted, is)) = (
+      map code_of (history_of h.past) ++ d ∷ [],
+      is ∙ ap (λ (xs : List (List ℕ)). xs ++ d ∷ []) spelled ∙ append_assoc (with_codes kept (since b seen)) (map code_of (history_of h.past)) (d ∷ []),
+    )

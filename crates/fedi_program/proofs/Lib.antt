@@ -7,6 +7,6 @@ pub mod MemberLemmas
 pub mod RunLemmas
 pub mod SessionLemmas
 pub mod StoreLemmas
-pub mod Surviving
+pub mod Turning
 pub mod Talks
 pub mod WordLemmas

@@ -1,27 +1,31 @@
 -- What the making of a member leaves: a status that it may end with, and a machine that stands for a log.
-use Rattle.std.proofs.Common.{◌≡◌, ℕ, Bool, true, List, Option, Some, inl, inr, refl, sym, subst, ◌∙◌, arith}
+use Rattle.std.proofs.Common.{◌≡◌, ℕ, Bool, true, List, length, ◌++◌, Option, None, Some, Result, Ok, Err, OnOk, OnErr, inl, inr, refl, sym, ap, subst, ◌∙◌}
 use Rattle.fedi_core.specs.Commands.{RefusesCommand}
 use Rattle.fedi_core.specs.Crashing.{PassesTimeRefused}
-use Rattle.fedi_core.specs.Keeping.{IsKept}
+use Rattle.fedi_core.specs.declared.keeping.KeepFault.TheVariants as keeps
+use Rattle.fedi_core.proofs.Crashing.{quiet_call, settled_after}
 use Rattle.fedi_entry.specs.Codes.{code_of}
-use Rattle.fedi_log.specs.Keeping.{Follows, State}
-use Rattle.fedi_log.specs.Log.{Failed, Full, Kept, NoEntry, Outcome}
+use Rattle.fedi_log.specs.Keeping.{Base, Follows, State}
+use Rattle.fedi_log.specs.Log.{Failed, Full, NoEntry, given, items_of}
 use Rattle.fedi_log.proofs.Keeping.{unchanged}
 use Rattle.fedi_objects.specs.declared.entry.Entry.{Entry}
 use Rattle.fedi_opening.specs.Opening.{IsNext}
-use Rattle.fedi_outside.specs.Keepers.{Crashes, KeeperState, OnlyRoomChanged}
+use Rattle.fedi_outside.specs.Keepers.{KeeperState, LeavesRecords, PassesTime, after_fault}
 use Rattle.fedi_town.specs.declared.command_fault.CommandFault.{CommandFault}
 use Rattle.fedi_town.specs.declared.command_fault.CommandFault.TheVariants as faults
 use Rattle.fedi_town.specs.Histories.{town}
 use Rattle.fedi_town.specs.Towns.{Town}
+use Rattle.fedi_startup.specs.Marks.{SurvivesMarked}
 use Rattle.fedi_startup.specs.Surviving.{growth, room}
 use Rattle.fedi_program.specs.Commands.{AddActor, Init, Task}
-use Rattle.fedi_program.specs.Crashing.{SurvivesTurn}
+use Rattle.fedi_program.specs.Crashing.{Standing, SurvivesTurn, Turns}
 use Rattle.fedi_program.specs.Endings.{Output, Prints}
-use Rattle.fedi_program.specs.Members.{Chance, EndsWith, MakesMember, TellsFault, key_line, member_entry}
+use Rattle.fedi_program.specs.Members.{Chance, EndsWith, IsSettled, IsUnmade, MakesMember, TellsFault, key_line, member_entry}
 use Rattle.fedi_program.specs.Runs.{is_status_of}
 use Rattle.fedi_program.specs.Stores.{AddsMember, Medium}
+use Rattle.fedi_program.proofs.CrashLemmas.{survives_more, survives_turn}
 use Rattle.fedi_program.proofs.RunLemmas.{known_status, told_status}
+use Rattle.fedi_program.proofs.Turning.{IsUnkept, failed_turn, full_turn, memory_turn}
 
 -- ---- the status
 
@@ -43,14 +47,13 @@ print_status first now line name locked status (inr failed) = known_status (Some
 end_status : (growth room : ℕ → ℕ) (before after : State) (first now : Output) (name : List ℕ) (locked : Bool) (e : Entry) (line : List ℕ) (status : ℕ)
     → EndsWith growth room before after first now name e line status → is_status_of (Some (AddActor name locked)) status ≡ true
 end_status growth room before after first now name locked e line status (inl bad) = known_status (Some (AddActor name locked)) status 10 refl bad.2.0
-end_status growth room before after first now name locked e line status (inr (_, inl refused)) = fault_status refused.0 first now name locked status refused.3
+end_status growth room before after first now name locked e line status (inr (_, inl unmade)) = fault_status unmade.0 first now name locked status unmade.2
 end_status growth room before after first now name locked e line status (inr (_, inr made)) = print_status first now line name locked status made.2
 
 pub member_status : (growth room : ℕ → ℕ) (told : Option ℕ) (chance left : Chance) (before after : State) (first now : Output) (name : List ℕ) (locked : Bool) (status : ℕ)
     → MakesMember growth room told chance left before after first now name locked status → is_status_of (Some (AddActor name locked)) status ≡ true
-member_status growth room told chance left before after first now name locked status (inl none) = known_status (Some (AddActor name locked)) status 12 refl none.0
-member_status growth room told chance left before after first now name locked status (inr (inl failed)) = known_status (Some (AddActor name locked)) status 6 refl failed.0
-member_status growth room told chance left before after first now name locked status (inr (inr (key, moment, _, _, ends))) =
+member_status growth room told chance left before after first now name locked status (inl failed) = known_status (Some (AddActor name locked)) status 6 refl failed.0
+member_status growth room told chance left before after first now name locked status (inr (key, moment, _, _, ends)) =
     end_status growth room before after first now name locked (member_entry name key locked moment) (key_line name key) status ends
 
 -- how the run ends
@@ -63,63 +66,103 @@ adds_status told before after chance left first now name locked status (inr (ope
 
 -- ---- one turn of the machine
 
-still : (growth : ℕ → ℕ) (before after : State) → after.history ≡ before.history → OnlyRoomChanged before.keeper after.keeper → Follows growth before after NoEntry
-still growth before after same k = unchanged growth before after same k.records k.end k.doubt k.faults
-
-same_room : (k : KeeperState) → OnlyRoomChanged k k
-same_room k = record { records = refl; held = refl; doubt = refl; end = refl; faults = refl }
-
-unasked : (growth : ℕ → ℕ) (before after : State) → after.history ≡ before.history → after.keeper ≡ before.keeper → Follows growth before after NoEntry
-unasked growth before after same k =
-    still growth before after same (subst (λ (x : KeeperState). OnlyRoomChanged before.keeper x) (sym k) (same_room before.keeper))
-
-full : (growth : ℕ → ℕ) (before after : State) (e : Entry) → Follows growth before after NoEntry → Follows growth before after (Full e)
-full growth before after e f = record { history = f.history; records = f.records; end = f.end; doubt = f.doubt; faults = f.faults }
-
-refused_follows : (growth room : ℕ → ℕ) (t : Town) (before after : State) (e : Entry) (fault : CommandFault) → after.history ≡ before.history
-    → RefusesCommand room t e fault before.keeper after.keeper → (o : Outcome) × Follows growth before after o
-refused_follows growth room t before after e faults.NameTaken same refused = (NoEntry, unasked growth before after same refused.1)
-refused_follows growth room t before after e faults.KeyTaken same refused = (NoEntry, unasked growth before after same refused.1)
-refused_follows growth room t before after e faults.HostTaken same refused = (NoEntry, unasked growth before after same refused.1)
-refused_follows growth room t before after e faults.BadAddress same refused = (NoEntry, unasked growth before after same refused.1)
-refused_follows growth room t before after e faults.Full same refused = (Full e, full growth before after e (still growth before after same refused.1.1))
-refused_follows growth room t before after e faults.Memory same refused = (NoEntry, still growth before after same refused.1)
-refused_follows growth room t before after e faults.KeeperFault same refused =
-    let k = refused.1.1 in
-    let quiet = unasked growth before (record after { keeper = before.keeper }) same refl in (
-      Failed e,
-      record {
-        history = quiet.history;
-        records = k.records ∙ quiet.records;
-        end = let moved = k.end in omega (arith, moved);
-        doubt = k.doubt;
-        faults = let rose = k.faults in omega (arith, rose);
-      },
-    )
-
-pub kept_follows : (growth room : ℕ → ℕ) (before after : State) (e : Entry) → IsKept growth room before.history e before.keeper after.keeper after.history → Follows growth before after (Kept e)
-kept_follows growth room before after e k = record {
-  history = k.history;
-  records = k.keeper.records;
-  end = let moved = k.keeper.end in omega (arith, moved);
-  doubt = k.keeper.doubt;
-  faults = let same = k.keeper.faults in omega (arith, same);
-}
-
--- ---- a crash
+-- the keeper was not asked, since a rule is broken
+broken_turn : (growth : ℕ → ℕ) (before after : Standing) → after.state.history ≡ before.state.history → after.state.keeper ≡ before.state.keeper
+    → PassesTime before.state.keeper.records before.state.keeper.doubt before.crashes after.crashes → SurvivesTurn growth before after
+broken_turn growth before after same k time = (
+  NoEntry,
+  record {
+    follows = subst (λ (x : KeeperState). Follows growth before.state (record after.state { keeper = x }) NoEntry) (sym k)
+        (unchanged growth before.state (record after.state { keeper = before.state.keeper }) same refl refl refl refl);
+    passes = time;
+    may_fail = tt;
+  },
+)
 
 -- a command was refused
-pub command_survives : (growth room : ℕ → ℕ) (t : Town) (state next : State) (e : Entry) (fault : CommandFault) (y z : Crashes) → next.history ≡ state.history
-    → (fault ≡ faults.KeeperFault → IsNext (town state.history) e) → RefusesCommand room t e fault state.keeper next.keeper → PassesTimeRefused fault state.keeper.records state.keeper.doubt (code_of e) y z
-    → SurvivesTurn growth state next y z
-unfolding refused_follows
-command_survives growth room t state next e faults.NameTaken y z same may k time = (NoEntry, (refused_follows growth room t state next e faults.NameTaken same k).1, time, tt)
-command_survives growth room t state next e faults.KeyTaken y z same may k time = (NoEntry, (refused_follows growth room t state next e faults.KeyTaken same k).1, time, tt)
-command_survives growth room t state next e faults.HostTaken y z same may k time = (NoEntry, (refused_follows growth room t state next e faults.HostTaken same k).1, time, tt)
-command_survives growth room t state next e faults.BadAddress y z same may k time = (NoEntry, (refused_follows growth room t state next e faults.BadAddress same k).1, time, tt)
-command_survives growth room t state next e faults.Full y z same may k time = (Full e, (refused_follows growth room t state next e faults.Full same k).1, time, tt)
-command_survives growth room t state next e faults.KeeperFault y z same may k time = (Failed e, (refused_follows growth room t state next e faults.KeeperFault same k).1, time, may refl)
-command_survives growth room t state next e faults.Memory y z same may k time = (NoEntry, (refused_follows growth room t state next e faults.Memory same k).1, time, tt)
+pub command_turn : (growth room : ℕ → ℕ) (t : Town) (before after : Standing) (e : Entry) (fault : CommandFault) → after.state.history ≡ before.state.history
+    → (fault ≡ faults.KeeperFault → IsNext (town before.state.history) e) → RefusesCommand room t e fault before.state.keeper after.state.keeper
+    → PassesTimeRefused fault before.state.keeper.records before.state.keeper.doubt (code_of e) before.crashes after.crashes → SurvivesTurn growth before after
+command_turn growth room t before after e faults.NameTaken same may k time = broken_turn growth before after same k.1 time
+command_turn growth room t before after e faults.KeyTaken same may k time = broken_turn growth before after same k.1 time
+command_turn growth room t before after e faults.HostTaken same may k time = broken_turn growth before after same k.1 time
+command_turn growth room t before after e faults.BadAddress same may k time = broken_turn growth before after same k.1 time
+command_turn growth room t before after e faults.Full same may k time = (Full e, full_turn growth room before after e same (k.1, time))
+command_turn growth room t before after e faults.KeeperFault same may k time = (Failed e, failed_turn growth room before after e same (may refl) (k.1, time))
+command_turn growth room t before after e faults.Memory same may k time = (NoEntry, memory_turn growth room before after e same (k.1, time))
+
+-- ---- a keeper that failed was asked to settle
+
+-- and did: then nothing is in doubt
+settled_turn : (growth room : ℕ → ℕ) (before refused after : Standing) (e : Entry) → refused.state.history ≡ before.state.history → IsNext (town before.state.history) e
+    → IsUnkept room before refused e keeps.Failed → after.state.history ≡ refused.state.history
+    → after.state.keeper ≡ record refused.state.keeper { doubt = None }
+    → PassesTime refused.state.keeper.records refused.state.keeper.doubt refused.crashes after.crashes → Turns growth before after (Failed e)
+settled_turn growth room before refused after e same next k still settled time =
+    let f = (failed_turn growth room before refused e same next k).follows in
+    record {
+      follows = record {
+        history = still ∙ f.history;
+        records = ap (λ (s : KeeperState). s.records) settled ∙ f.records;
+        end = ap (λ (s : KeeperState). s.end) settled ∙ f.end;
+        doubt = inr (inl (ap (λ (s : KeeperState). s.doubt) settled));
+        faults = ap (λ (s : KeeperState). s.faults) settled ∙ f.faults;
+      };
+      passes = settled_after before.state.keeper refused.state.keeper (code_of e) before.crashes refused.crashes after.crashes k.0.1 k.1 time;
+      may_fail = next;
+    }
+
+-- and failed again, which is one fault more
+failed_again : (growth : ℕ → ℕ) (refused after : Standing) (e : Entry) → IsNext (town refused.state.history) e → after.state.history ≡ refused.state.history
+    → after.state.keeper ≡ after_fault refused.state.keeper
+    → PassesTime refused.state.keeper.records refused.state.keeper.doubt refused.crashes after.crashes → Turns growth refused after (Failed e)
+failed_again growth refused after e next still failed time =
+    let quiet = unchanged growth refused.state (record after.state { keeper = refused.state.keeper }) still refl refl refl refl in
+    record {
+      follows = record {
+        history = quiet.history;
+        records = ap (λ (s : KeeperState). s.records) failed ∙ quiet.records;
+        end = ap (λ (s : KeeperState). s.end) failed ∙ quiet.end;
+        doubt = inl (ap (λ (s : KeeperState). s.doubt) failed);
+        faults = ap (λ (s : KeeperState). s.faults) failed;
+      };
+      passes = quiet_call refused.state.keeper.records refused.state.keeper.doubt (code_of e) refused.crashes after.crashes time;
+      may_fail = next;
+    }
+
+-- whatever becomes of it, the machine stands for a log that marks the failures
+pub settling_survives : {T E : Type 0} (b : Base) (room : ℕ → ℕ) (before refused after : Standing) (e : Entry) (settled : Result T E)
+    → b.kept ≡ length before.state.history → b.shown ≡ before.state.keeper → LeavesRecords before.state.keeper before.crashes
+    → refused.state.history ≡ before.state.history → IsNext (town before.state.history) e → IsUnkept room before refused e keeps.Failed
+    → after.state.history ≡ refused.state.history
+    → OnOk settled (after.state.keeper ≡ record refused.state.keeper { doubt = None }) → OnErr settled (after.state.keeper ≡ after_fault refused.state.keeper)
+    → PassesTime refused.state.keeper.records refused.state.keeper.doubt refused.crashes after.crashes
+    → SurvivesMarked b None (given before.state.history) after.state before.crashes after.crashes
+settling_survives b room before refused after e (Ok x) kept shown now same next k still done failed time =
+    survives_turn b None before after kept shown now (Failed e, settled_turn b.growth room before refused after e same next k still done time)
+settling_survives b room before refused after e (Err x) kept shown now same next k still done failed time =
+    let first = survives_turn b None before refused kept shown now (Failed e, failed_turn b.growth room before refused e same next k) in (
+      first.0 ++ items_of None (Failed e),
+      survives_more b None (given before.state.history) first.0 before.crashes refused after (Failed e) first.1
+          (failed_again b.growth refused after e (subst (λ (h : List Entry). IsNext (town h) e) (sym same) next) still failed time),
+    )
+
+-- and what was in doubt is settled, or as it was
+pub settles : {T E : Type 0} (refused after : State) (settled : Result T E) → after.history ≡ refused.history
+    → OnOk settled (after.keeper ≡ record refused.keeper { doubt = None }) → OnErr settled (after.keeper ≡ after_fault refused.keeper) → IsSettled refused after
+settles refused after (Ok x) still done failed = (still, inl done)
+settles refused after (Err x) still done failed = (still, inr failed)
+
+-- a reason other than that the keeper failed: nothing was done after it
+pub refused_only : (room : ℕ → ℕ) (before after : State) (e : Entry) (fault : CommandFault) → (fault ≡ faults.KeeperFault → ⊥) → after.history ≡ before.history
+    → RefusesCommand room (town before.history) e fault before.keeper after.keeper → IsUnmade room before after e fault
+refused_only room before after e faults.NameTaken other same k = (after, same, k, refl)
+refused_only room before after e faults.KeyTaken other same k = (after, same, k, refl)
+refused_only room before after e faults.HostTaken other same k = (after, same, k, refl)
+refused_only room before after e faults.BadAddress other same k = (after, same, k, refl)
+refused_only room before after e faults.Full other same k = (after, same, k, refl)
+refused_only room before after e faults.KeeperFault other same k = absurd (other refl)
+refused_only room before after e faults.Memory other same k = (after, same, k, refl)
 
 -- ---- the task
 

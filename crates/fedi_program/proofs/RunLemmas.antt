@@ -9,7 +9,7 @@ use Rattle.fedi_program.specs.declared.sessions.SessionEnd.{SessionEnd}
 use Rattle.fedi_program.specs.declared.sessions.SessionEnd.TheVariants.{End, CutShort, Closed, ReadFault, WriteFault, Memory}
 use Rattle.fedi_program.specs.Commands.{Inetd, Task}
 use Rattle.fedi_program.specs.Conversations.{Setting}
-use Rattle.fedi_program.specs.Endings.{EndsSession, Faults, HasCauses, Output, Scene, Serves, Talks, TalksIfTold, setting_of, status_of}
+use Rattle.fedi_program.specs.Endings.{Faults, HasCauses, Output, RunsTo, Scene, Serves, Talks, TalksIfTold, setting_of}
 use Rattle.fedi_program.specs.Members.{Chance}
 use Rattle.fedi_program.specs.Runs.{is_status_of}
 use Rattle.fedi_program.specs.Stores.{AddsMember, ChecksStore, IsKeptSafe, Medium, ServesStore, TalksOverStore, TellsOfStore, status_by}
@@ -24,13 +24,13 @@ closed_talks : (w : Setting) (seen : Log) (first : Output) (now : Scene) (log : 
 closed_talks w seen first now log None s = tt
 closed_talks w seen first now log (Some input) s = record { exchanges = s.exchanges; each = s.each; over = inl s.ends.0; done = s.ends.1 }
 
-session_talks : (w : Setting) (seen : Log) (first now : Scene) (state : State) (e : SessionEnd) → 0 ≡ status_of e → EndsSession w seen first now state e → TalksIfTold w seen first now state
-session_talks w seen first now state End is ran = (ran.0, ran.1, ended_talks w seen first.output now ran.0 first.input ran.2)
-session_talks w seen first now state Closed is ran = (ran.0, ran.1, closed_talks w seen first.output now ran.0 first.input ran.2)
-session_talks w seen first now state CutShort is ran = absurd cc
-session_talks w seen first now state ReadFault is ran = absurd cc
-session_talks w seen first now state WriteFault is ran = absurd cc
-session_talks w seen first now state Memory is ran = absurd cc
+session_talks : (w : Setting) (opened : State) (log : Log) (first now : Scene) (status : ℕ) → status ≡ 0 → RunsTo w opened log first now status → TalksIfTold w opened log first now
+session_talks w opened log first now status done (End, is, ran) = ended_talks w (given opened.history) first.output now log first.input ran
+session_talks w opened log first now status done (Closed, is, ran) = closed_talks w (given opened.history) first.output now log first.input ran
+session_talks w opened log first now status done (CutShort, is, ran) = let clash : 8 ≡ 0 = sym is ∙ done in absurd cc
+session_talks w opened log first now status done (ReadFault, is, ran) = let clash : 6 ≡ 0 = sym is ∙ done in absurd cc
+session_talks w opened log first now status done (WriteFault, is, ran) = let clash : 7 ≡ 0 = sym is ∙ done in absurd cc
+session_talks w opened log first now status done (Memory, is, ran) = let clash : 12 ≡ 0 = sym is ∙ done in absurd cc
 
 not_done : (fault : StoreFault) → 0 ≡ status_by fault → ⊥
 not_done faults.NotAStore is = absurd cc
@@ -43,14 +43,14 @@ not_done faults.Memory is = absurd cc
 pub store_talks : (told : Option ℕ) (before after : Medium) (first now : Scene) (status : ℕ) → status ≡ 0
     → ServesStore told before after first now status → TalksOverStore told before after first now
 store_talks told before after first now status done (inl (fault, _, _, is)) = absurd (not_done fault (sym done ∙ is))
-store_talks told before after first now status done (inr (opened, closed, served, ran)) =
-    (opened, closed, served, session_talks (setting_of growth room told opened) (given opened.history) first now closed ran.0 (sym done ∙ ran.1) ran.2)
+store_talks told before after first now status done (inr (opened, closed, log, served, ran)) =
+    (opened, closed, log, served, session_talks (setting_of growth room told opened) opened log first now status done ran)
 
 -- ---- what becomes of the store
 
 pub served_safe : (told : Option ℕ) (before after : Medium) (first now : Scene) (status : ℕ) → ServesStore told before after first now status → IsKeptSafe before after
 served_safe told before after first now status (inl (fault, refused, _, _)) = inl (fault, refused)
-served_safe told before after first now status (inr (opened, closed, served, _)) = inr (opened, closed, served)
+served_safe told before after first now status (inr (opened, closed, log, served, _)) = inr (opened, closed, log, served)
 
 pub added_safe : (told : Option ℕ) (before after : Medium) (chance left : Chance) (first now : Output) (name : List ℕ) (locked : Bool) (status : ℕ)
     → AddsMember told before after chance left first now name locked status → IsKeptSafe before after
@@ -59,7 +59,7 @@ added_safe told before after chance left first now name locked status (inr (open
 
 pub checked_safe : (before after : Medium) (first now : Output) (status : ℕ) → ChecksStore before after first now status → IsKeptSafe before after
 checked_safe before after first now status (inl (fault, refused, _)) = inl (fault, refused)
-checked_safe before after first now status (inr (opened, served, _)) = inr (opened, opened, served)
+checked_safe before after first now status (inr (opened, served, _)) = inr (opened, opened, given opened.history, served)
 
 -- ---- the status
 

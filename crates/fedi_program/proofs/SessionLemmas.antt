@@ -1,19 +1,19 @@
 -- From the answer to one request to a step of a session.
-use Rattle.std.proofs.Common.{◌≡◌, ℕ, min, Bool, true, false, List, [], ◌++◌, take, Option, Some, None, IfSome, IfOk, OnErr, MatchResult, Result, Ok, Err, Vec, inl, inr, refl, sym, ap, subst, ◌∙◌, append_assoc, arith}
+use Rattle.std.proofs.Common.{◌≡◌, ℕ, min, Bool, true, false, List, [], ◌++◌, take, Option, Some, None, IfSome, IfOk, OnErr, MatchResult, Result, Ok, Err, Vec, inl, inr, refl, sym, ap, subst, ◌∙◌, append_assoc, append-nil, arith}
 use Rattle.std.specs.Io.KnownBytes.{Consumes, prepend_known}
 use Rattle.std.proofs.KnownBytes.{Appends-trans}
 use Rattle.fedi_outside.specs.Causes.{next_count}
+use Rattle.fedi_outside.specs.Keepers.{LeavesRecords}
 use Rattle.fedi_town.specs.declared.refusal.Refusal.{Refusal}
 use Rattle.fedi_http.specs.Arrivals.{IsArrival, LacksRequest, OnRequest, TellsOfStream}
 use Rattle.fedi_http.specs.declared.arrivals.Arrived.{Arrived}
 use Rattle.fedi_http.specs.declared.arrivals.Arrived.TheVariants as arrivals
 use Rattle.fedi_http.specs.declared.heads.TheConstants.{HEAD_LIMIT}
 use Rattle.fedi_http.specs.declared.requests.TheConstants.{MOST_FIELDS}
-use Rattle.fedi_log.specs.Keeping.{Follows, Holds, State}
-use Rattle.fedi_log.specs.Log.{Failed, Goes, Log, NoEntry, Outcome, history_of, items_of}
+use Rattle.fedi_log.specs.Keeping.{Holds}
+use Rattle.fedi_log.specs.Log.{Goes, Log, NoEntry, Outcome, history_of, items_of}
 use Rattle.fedi_log.proofs.Growing.{goes_here}
 use Rattle.fedi_objects.specs.declared.entry.Entry.{Entry}
-use Rattle.fedi_town.specs.declared.refusal.Refusal.TheVariants.{KeeperFault}
 use Rattle.fedi_model.specs.declared.reply.Reply.{Reply}
 use Rattle.fedi_model.specs.declared.request.Request.{Request}
 use Rattle.fedi_model.specs.Refusing.{refused}
@@ -21,8 +21,9 @@ use Rattle.fedi_model.specs.ReplyText.{memory_text, reply_text}
 use Rattle.fedi_program.specs.declared.sessions.SessionEnd.{SessionEnd}
 use Rattle.fedi_program.specs.declared.sessions.SessionEnd.TheVariants as ends
 use Rattle.fedi_program.specs.Conversations.{Setting, Exchange, Progress, IsNow, IsReply, IsExchange, after, closes, is_head_only, text_of}
-use Rattle.fedi_program.specs.Endings.{BreaksOff, Exchanges, GivesUp, IsAnswerText, IsAt, IsCounted, IsTurn, IsUnanswered, Output, Replies, Scene, Steps, Writes, WritesUnlessFailed, faults_of}
-use Rattle.fedi_log.proofs.Keeping.{since_here, since_more, since_still, unchanged}
+use Rattle.fedi_program.specs.Crashing.{Standing, Turns}
+use Rattle.fedi_program.specs.Endings.{BreaksOff, Exchanges, GivesUp, IsAnswerText, IsAt, IsCounted, IsTurn, Output, Replies, Scene, Steps, Writes, WritesUnlessFailed, faults_of}
+use Rattle.fedi_program.proofs.Turning.{idle_turn}
 
 -- ---- the bytes of the input
 
@@ -120,12 +121,12 @@ abbrev asked : Request → List ℕ → List ℕ → Log → ℕ → Outcome →
 asked q body rest log moment outcome r = record { arrived = Ok q; body = body; rest = rest; log = log; moment = moment; outcome = outcome; reply = r }
 
 -- the exchange of a request that was answered in one turn
-exchange_of : (w : Setting) (first : Output) (before : Scene) (state after_it : State) (log : Log) (old : List ℕ) (p : Progress) (q : Request) (body rest : List ℕ) (moment : ℕ) (r : Reply)
-    (turn : IsTurn w.base.growth w.base.room state after_it moment q body r)
-    → Holds w.base state log → p.log ≡ log → IsAt first before old p → IsArrival HEAD_LIMIT MOST_FIELDS p.left (arrivals.Request q) body rest → IsNow w.told moment
+exchange_of : (w : Setting) (first : Output) (before : Scene) (was is : Standing) (log : Log) (old : List ℕ) (p : Progress) (q : Request) (body rest : List ℕ) (moment : ℕ) (r : Reply)
+    (turn : IsTurn w.base.growth w.base.room was is moment q body r)
+    → Holds w.base was.state log → p.log ≡ log → IsAt first before old p → IsArrival HEAD_LIMIT MOST_FIELDS p.left (arrivals.Request q) body rest → IsNow w.told moment
     → IsExchange w p (asked q body rest log moment turn.outcome r)
-exchange_of w first before state after_it log old p q body rest moment r turn holds same at arrives is_now =
-    let here = subst (λ (h : List Entry). IsReply w.base.room h state.keeper.end moment q body turn.outcome r) holds.history turn.reply in
+exchange_of w first before was is log old p q body rest moment r turn holds same at arrives is_now =
+    let here = subst (λ (h : List Entry). IsReply w.base.room h was.state.keeper.end moment q body turn.outcome r) holds.history turn.reply in
     record {
       open_yet = at.open_yet;
       arrival = arrives;
@@ -134,24 +135,24 @@ exchange_of w first before state after_it log old p q body rest moment r turn ho
       reply = subst (λ (n : ℕ). IsReply w.base.room (history_of log) n moment q body turn.outcome r) holds.keeper.end here;
     }
 
-answered_steps : (w : Setting) (before now : Scene) (state after_it : State) (log : Log) (count : ℕ) (old pending : List ℕ) (q : Request) (body : List ℕ) (moment : ℕ) (closing : Bool) (text : List ℕ) (ending : Option SessionEnd)
-    → Holds w.base state log → IfSome (prepend_known old before.input) (Tells (arrivals.Request q) body pending now.input)
+answered_steps : (w : Setting) (before now : Scene) (was is : Standing) (log : Log) (count : ℕ) (old pending : List ℕ) (q : Request) (body : List ℕ) (moment : ℕ) (closing : Bool) (text : List ℕ) (ending : Option SessionEnd)
+    → Holds w.base was.state log → IfSome (prepend_known old before.input) (Tells (arrivals.Request q) body pending now.input)
     → closing ≡ closes count (Ok q) → IsNow w.told moment
-    → IsAnswerText w.base.growth w.base.room state after_it moment q body closing text
+    → IsAnswerText w.base.growth w.base.room was is moment q body closing text
     → Replies before.output now.output text closing ending
-    → Exchanges w log count before old now pending after_it ending
-answered_steps w before now state after_it log count old pending q body moment closing text ending holds told is is_now a sent =
+    → Exchanges w log count before old now pending was is ending
+answered_steps w before now was is log count old pending q body moment closing text ending holds told last is_now a sent =
     let r : Reply = a.0 in
     let turn = a.1 in
     let o : Outcome = turn.outcome in
     let reply = subst (λ (t : List ℕ). Replies before.output now.output t closing ending) a.2 sent in (
-      log ++ items_of w.by o,
-      since_more w.base w.by state after_it log o holds turn.follows,
+      o,
+      turn.turns,
       λ first p same counted at.
           let came = told_of (Tells (arrivals.Request q) body pending now.input) (prepend_known old before.input) p.left at.input told tt in
           replied w first before now (log ++ items_of w.by o) old pending p (asked q body came.0 log moment o r) closing ending
-          (is ∙ ap (λ (n : ℕ). closes n (Ok q)) (sym counted))
-          (exchange_of w first before state after_it log old p q body came.0 moment r turn holds same at came.1 is_now)
+          (last ∙ ap (λ (n : ℕ). closes n (Ok q)) (sym counted))
+          (exchange_of w first before was is log old p q body came.0 moment r turn holds same at came.1 is_now)
           refl at (λ _. came.2) reply,
     )
 
@@ -164,56 +165,35 @@ given_up w first before now log old pending p ending at gives f =
     subst (λ (e : Option SessionEnd). Steps w first now log pending p e) (sym gives.0)
     (f (unless_failed_on first before.output now.output p.written memory_text at.written gives.1))
 
-pub memory_steps : (w : Setting) (before now : Scene) (state after_it : State) (log : Log) (count : ℕ) (old pending : List ℕ) (ending : Option SessionEnd)
-    → Holds w.base state log → Follows w.base.growth state after_it NoEntry → GivesUp before.output now.output ending → Exchanges w log count before old now pending after_it ending
-memory_steps w before now state after_it log count old pending ending holds still gives = (
-  log,
-  since_still w.base w.by state after_it log holds still,
-  λ first p same counted at. given_up w first before now log old pending p ending at gives (λ told. record {
-    more = None;
+-- a turn that adds nothing to the log leaves it as it was seen
+goes_still : (by : Option ℕ) (seen log : Log) → seen ≡ log → Goes by seen (log ++ items_of by NoEntry)
+goes_still by seen log same = goes_to by seen (log ++ items_of by NoEntry) (same ∙ sym (append-nil log))
+
+pub memory_steps : (w : Setting) (before now : Scene) (was is : Standing) (log : Log) (count : ℕ) (old pending : List ℕ) (ending : Option SessionEnd)
+    → Turns w.base.growth was is NoEntry → GivesUp before.output now.output ending → Exchanges w log count before old now pending was is ending
+memory_steps w before now was is log count old pending ending turn gives = (
+  NoEntry,
+  turn,
+  λ first p same counted at. given_up w first before now (log ++ items_of w.by NoEntry) old pending p ending at gives (λ told. record {
     open_yet = at.open_yet;
-    next = tt;
-    later = goes_to w.by p.log log same;
+    later = goes_still w.by p.log log same;
     told = told;
   }),
 )
-
-unanswered_steps : (w : Setting) (before now : Scene) (state after_it : State) (log : Log) (count : ℕ) (old pending : List ℕ) (q : Request) (body : List ℕ) (moment : ℕ) (ending : Option SessionEnd)
-    → Holds w.base state log → IfSome (prepend_known old before.input) (Tells (arrivals.Request q) body pending now.input) → IsNow w.told moment
-    → IsUnanswered w.base.growth w.base.room state after_it moment q body → GivesUp before.output now.output ending
-    → Exchanges w log count before old now pending after_it ending
-unanswered_steps w before now state after_it log count old pending q body moment ending holds told is_now (inl still) gives =
-    memory_steps w before now state after_it log count old pending ending holds still gives
-unanswered_steps w before now state after_it log count old pending q body moment ending holds told is_now (inr a) gives =
-    let o : Outcome = Failed a.0 in
-    let r : Reply = refused KeeperFault in
-    let turn : IsTurn w.base.growth w.base.room state after_it moment q body r = record { outcome = o; reply = a.1; follows = a.2 } in (
-      log ++ items_of w.by o,
-      since_more w.base w.by state after_it log o holds a.2,
-      λ first p same counted at.
-          let came = told_of (Tells (arrivals.Request q) body pending now.input) (prepend_known old before.input) p.left at.input told tt in
-          given_up w first before now (log ++ items_of w.by o) old pending p ending at gives (λ text. record {
-            more = Some (asked q body came.0 log moment o r);
-            open_yet = at.open_yet;
-            next = (exchange_of w first before state after_it log old p q body came.0 moment r turn holds same at came.1 is_now, refl);
-            later = goes_here w.by (log ++ items_of w.by o);
-            told = text;
-          }),
-    )
 
 -- ---- what is refused
 
 abbrev turned_away : Refusal → List ℕ → Log → ℕ → Exchange
 turned_away e rest log moment = record { arrived = Err e; body = []; rest = rest; log = log; moment = moment; outcome = NoEntry; reply = refused e }
 
-refusal_steps : (w : Setting) (before now : Scene) (state : State) (log : Log) (count : ℕ) (old body pending : List ℕ) (e : Refusal) (moment : ℕ) (text : List ℕ) (ending : Option SessionEnd)
-    → Holds w.base state log → IfSome (prepend_known old before.input) (Tells (arrivals.Refused e) body pending now.input) → IsNow w.told moment
+refusal_steps : (w : Setting) (before now : Scene) (s : Standing) (log : Log) (count : ℕ) (old body pending : List ℕ) (e : Refusal) (moment : ℕ) (text : List ℕ) (ending : Option SessionEnd)
+    → LeavesRecords s.state.keeper s.crashes → IfSome (prepend_known old before.input) (Tells (arrivals.Refused e) body pending now.input) → IsNow w.told moment
     → text ≡ reply_text moment false true (refused e) → Replies before.output now.output text true ending
-    → Exchanges w log count before old now pending state ending
-refusal_steps w before now state log count old body pending e moment text ending holds told is_now is sent =
+    → Exchanges w log count before old now pending s s ending
+refusal_steps w before now s log count old body pending e moment text ending safe told is_now is sent =
     let reply = subst (λ (t : List ℕ). Replies before.output now.output t true ending) is sent in (
-      log ++ items_of w.by NoEntry,
-      since_more w.base w.by state state log NoEntry holds (unchanged w.base.growth state state refl refl refl refl refl),
+      NoEntry,
+      idle_turn w.base.growth s safe,
       λ first p same counted at.
           replied w first before now (log ++ items_of w.by NoEntry) old pending p (turned_away e p.left log moment) true ending refl
           (record {
@@ -228,37 +208,37 @@ refusal_steps w before now state log count old body pending e moment text ending
 
 -- ---- nothing more is to be answered, and nothing was sent
 
-pub end_steps : (w : Setting) (before now : Scene) (state : State) (log : Log) (count : ℕ) (old body pending : List ℕ) → Holds w.base state log
+pub end_steps : (w : Setting) (before now : Scene) (s : Standing) (log : Log) (count : ℕ) (old body pending : List ℕ) → LeavesRecords s.state.keeper s.crashes
     → IfSome (prepend_known old before.input) (Tells arrivals.End body pending now.input) → now.output ≡ before.output
-    → Exchanges w log count before old now pending state (Some ends.End)
-end_steps w before now state log count old body pending holds told quiet = (
-  log,
-  since_here w.base w.by state log holds,
+    → Exchanges w log count before old now pending s s (Some ends.End)
+end_steps w before now s log count old body pending safe told quiet = (
+  NoEntry,
+  idle_turn w.base.growth s safe,
   λ first p same counted at. (
     at.open_yet,
     (told_of (Tells arrivals.End body pending now.input) (prepend_known old before.input) p.left at.input told tt).1,
-    record { written = writes_still first before.output now.output p.written at.written quiet; later = goes_to w.by p.log log same },
+    record { written = writes_still first before.output now.output p.written at.written quiet; later = goes_still w.by p.log log same },
   ),
 )
 
-pub cut_steps : (w : Setting) (before now : Scene) (state : State) (log : Log) (count : ℕ) (old body pending : List ℕ) → Holds w.base state log
+pub cut_steps : (w : Setting) (before now : Scene) (s : Standing) (log : Log) (count : ℕ) (old body pending : List ℕ) → LeavesRecords s.state.keeper s.crashes
     → IfSome (prepend_known old before.input) (Tells arrivals.CutShort body pending now.input) → now.output ≡ before.output
-    → Exchanges w log count before old now pending state (Some ends.CutShort)
-cut_steps w before now state log count old body pending holds told quiet = (
-  log,
-  since_here w.base w.by state log holds,
+    → Exchanges w log count before old now pending s s (Some ends.CutShort)
+cut_steps w before now s log count old body pending safe told quiet = (
+  NoEntry,
+  idle_turn w.base.growth s safe,
   λ first p same counted at. (
     (at.open_yet, (told_of (Tells arrivals.CutShort body pending now.input) (prepend_known old before.input) p.left at.input told tt).1),
-    record { written = writes_still first before.output now.output p.written at.written quiet; later = goes_to w.by p.log log same },
+    record { written = writes_still first before.output now.output p.written at.written quiet; later = goes_still w.by p.log log same },
   ),
 )
 
-pub fault_steps : (w : Setting) (before now : Scene) (state : State) (log : Log) (count : ℕ) (old more pending : List ℕ) → Holds w.base state log
+pub fault_steps : (w : Setting) (before now : Scene) (s : Standing) (log : Log) (count : ℕ) (old more pending : List ℕ) → LeavesRecords s.state.keeper s.crashes
     → Consumes before.input now.input more → LacksRequest HEAD_LIMIT MOST_FIELDS (old ++ more) → now.output ≡ before.output
-    → Exchanges w log count before old now pending state (Some ends.ReadFault)
-fault_steps w before now state log count old more pending holds taken lacks quiet = (
-  log,
-  since_here w.base w.by state log holds,
+    → Exchanges w log count before old now pending s s (Some ends.ReadFault)
+fault_steps w before now s log count old more pending safe taken lacks quiet = (
+  NoEntry,
+  idle_turn w.base.growth s safe,
   λ first p same counted at. record {
     taken = old ++ more;
     at = record {
@@ -267,39 +247,39 @@ fault_steps w before now state log count old more pending holds taken lacks quie
       written = writes_still first before.output now.output p.written at.written quiet;
     };
     lacks = lacks;
-    later = goes_to w.by p.log log same;
+    later = goes_still w.by p.log log same;
   },
 )
 
 -- ---- with a text, or without memory for one
 
-pub request_steps : {A E : Type 0} (w : Setting) (before now : Scene) (state after_it : State) (log : Log) (count : ℕ) (old pending : List ℕ) (q : Request) (body : List ℕ) (moment : ℕ) (closing : Bool)
-    (text : Result (Vec ℕ A) E) (ending : Option SessionEnd) → Holds w.base state log
+pub request_steps : {A E : Type 0} (w : Setting) (before now : Scene) (was is : Standing) (log : Log) (count : ℕ) (old pending : List ℕ) (q : Request) (body : List ℕ) (moment : ℕ) (closing : Bool)
+    (text : Result (Vec ℕ A) E) (ending : Option SessionEnd) → Holds w.base was.state log
     → IfSome (prepend_known old before.input) (Tells (arrivals.Request q) body pending now.input) → closing ≡ closes count (Ok q) → IsNow w.told moment
-    → IfOk text (λ t. IsAnswerText w.base.growth w.base.room state after_it moment q body closing t.items)
-    → OnErr text (IsUnanswered w.base.growth w.base.room state after_it moment q body)
+    → IfOk text (λ t. IsAnswerText w.base.growth w.base.room was is moment q body closing t.items)
+    → OnErr text (Turns w.base.growth was is NoEntry)
     → MatchResult text (λ t. Replies before.output now.output t.items closing ending) (λ _. GivesUp before.output now.output ending)
-    → Exchanges w log count before old now pending after_it ending
-request_steps w before now state after_it log count old pending q body moment closing (Ok t) ending holds told is is_now a u sent =
-    answered_steps w before now state after_it log count old pending q body moment closing t.items ending holds told is is_now a sent
-request_steps w before now state after_it log count old pending q body moment closing (Err e) ending holds told is is_now a u gives =
-    unanswered_steps w before now state after_it log count old pending q body moment ending holds told is_now u gives
+    → Exchanges w log count before old now pending was is ending
+request_steps w before now was is log count old pending q body moment closing (Ok t) ending holds told last is_now a u sent =
+    answered_steps w before now was is log count old pending q body moment closing t.items ending holds told last is_now a sent
+request_steps w before now was is log count old pending q body moment closing (Err e) ending holds told last is_now a u gives =
+    memory_steps w before now was is log count old pending ending u gives
 
-pub refused_steps : {A E : Type 0} (w : Setting) (before now : Scene) (state : State) (log : Log) (count : ℕ) (old body pending : List ℕ) (e : Refusal) (moment : ℕ)
-    (text : Result (Vec ℕ A) E) (ending : Option SessionEnd) → Holds w.base state log
+pub refused_steps : {A E : Type 0} (w : Setting) (before now : Scene) (s : Standing) (log : Log) (count : ℕ) (old body pending : List ℕ) (e : Refusal) (moment : ℕ)
+    (text : Result (Vec ℕ A) E) (ending : Option SessionEnd) → LeavesRecords s.state.keeper s.crashes
     → IfSome (prepend_known old before.input) (Tells (arrivals.Refused e) body pending now.input) → IsNow w.told moment
     → IfOk text (λ t. t.items ≡ reply_text moment false true (refused e))
     → MatchResult text (λ t. Replies before.output now.output t.items true ending) (λ _. GivesUp before.output now.output ending)
-    → Exchanges w log count before old now pending state ending
-refused_steps w before now state log count old body pending e moment (Ok t) ending holds told is_now is sent =
-    refusal_steps w before now state log count old body pending e moment t.items ending holds told is_now is sent
-refused_steps w before now state log count old body pending e moment (Err x) ending holds told is_now is gives =
-    memory_steps w before now state state log count old pending ending holds (unchanged w.base.growth state state refl refl refl refl refl) gives
+    → Exchanges w log count before old now pending s s ending
+refused_steps w before now s log count old body pending e moment (Ok t) ending safe told is_now is sent =
+    refusal_steps w before now s log count old body pending e moment t.items ending safe told is_now is sent
+refused_steps w before now s log count old body pending e moment (Err x) ending safe told is_now is gives =
+    memory_steps w before now s s log count old pending ending (idle_turn w.base.growth s safe) gives
 
-pub no_memory_steps : (w : Setting) (before now : Scene) (state : State) (log : Log) (count : ℕ) (old pending : List ℕ) (ending : Option SessionEnd)
-    → Holds w.base state log → GivesUp before.output now.output ending → Exchanges w log count before old now pending state ending
-no_memory_steps w before now state log count old pending ending holds gives =
-    memory_steps w before now state state log count old pending ending holds (unchanged w.base.growth state state refl refl refl refl refl) gives
+pub no_memory_steps : (w : Setting) (before now : Scene) (s : Standing) (log : Log) (count : ℕ) (old pending : List ℕ) (ending : Option SessionEnd)
+    → LeavesRecords s.state.keeper s.crashes → GivesUp before.output now.output ending → Exchanges w log count before old now pending s s ending
+no_memory_steps w before now s log count old pending ending safe gives =
+    memory_steps w before now s s log count old pending ending (idle_turn w.base.growth s safe) gives
 
 -- the moment that a clock gives
 pub now_of : (told : Option ℕ) (now moment : ℕ) → IfSome told (λ (m : ℕ). now ≡ m) → moment ≡ min now 253402300799 → IsNow told moment

@@ -5,8 +5,8 @@ use Rattle.fedi_address.specs.Hosts.{IsHost}
 use Rattle.fedi_entry.specs.Codes.{code_of}
 use Rattle.fedi_images.specs.Images.{plain}
 use Rattle.fedi_images.specs.Known.{record_crashes, records_told}
-use Rattle.fedi_log.specs.Keeping.{State}
-use Rattle.fedi_log.specs.Log.{given}
+use Rattle.fedi_log.specs.Keeping.{State, since}
+use Rattle.fedi_log.specs.Log.{Log, given}
 use Rattle.fedi_objects.specs.declared.entry.Entry.TheVariants.{Hosted}
 use Rattle.fedi_outside.specs.Disks.{DiskCrashes, DiskState}
 use Rattle.fedi_startup.proofs.OpeningSteps.{no_time}
@@ -14,35 +14,37 @@ use Rattle.fedi_startup.proofs.Stored.{leaves_stores, stores_along}
 use Rattle.fedi_startup.proofs.Surviving.{survives_on_disk}
 use Rattle.fedi_startup.proofs.Told.{each_some}
 use Rattle.fedi_startup.specs.Making.{LeavesAtMost}
-use Rattle.fedi_startup.specs.Marks.{SurvivesMarked}
+use Rattle.fedi_startup.specs.Marks.{Survives}
 use Rattle.fedi_startup.specs.Stores.{HasSameRecords, IsClosed, IsOpened, LeavesNothingNew}
-use Rattle.fedi_startup.specs.Surviving.{LeavesStoresAlong, SurvivesOnDisk, opened_base}
+use Rattle.fedi_startup.specs.Surviving.{LeavesAlong, LeavesStoresAlong, opened_base}
 use Rattle.fedi_startup.specs.declared.faults.StoreFault.TheVariants as faults
 use Rattle.fedi_program.specs.Conversations.{IsNow}
 use Rattle.fedi_program.specs.Endings.{Output}
 use Rattle.fedi_program.specs.Stores.{ChecksStore, Counts, EndsMaking, IsRefused, IsServed, MakesStore}
 
-pub served : (start found later : DiskState) (before middle after : DiskCrashes) (opened closed : State) (count : ℕ)
+pub served : (start found later : DiskState) (before middle after : DiskCrashes) (opened closed : State) (log : Log) (count : ℕ)
     → IsOpened start opened → opened.keeper.records ≡ records_told plain count found → before.clock ≤ middle.clock
     → IfSome start.reads (λ _. LeavesNothingNew before middle)
-    → SurvivesMarked (opened_base opened) None (given opened.history) closed (record_crashes plain found middle) (record_crashes plain later after)
+    → Survives (opened_base opened) None (given opened.history) log closed (record_crashes plain found middle) (record_crashes plain later after)
     → IsClosed later after closed
-    → IsServed (record { shown = start; crashes = before }) (record { shown = later; crashes = after }) opened closed
-served start found later before middle after opened closed count opens told clock nothing survives closes = record {
+    → IsServed (record { shown = start; crashes = before }) (record { shown = later; crashes = after }) opened closed log
+served start found later before middle after opened closed log count opens told clock nothing survives closes = record {
   opens = opens;
   closes = closes;
-  leaves = leaves_stores later after opened closed survives.0 opens.some survives.1 closes;
+  holds = survives.holds;
+  marks = survives.marks;
+  leaves = leaves_stores later after opened closed log opens.some survives.holds closes;
   files = files;
   stores = with_all start.reads files;
 }
   where
-    files : IfSome start.reads (λ _. SurvivesOnDisk before after opened closed)
-    files = survives_on_disk start found later before middle after opened closed count opens told clock nothing survives
+    files : IfSome start.reads (λ _. LeavesAlong before after opened log)
+    files = survives_on_disk start found later before middle after opened closed log count opens told clock nothing survives
 
-    with_all : (reads : Option (List ℕ)) → IfSome reads (λ _. SurvivesOnDisk before after opened closed)
-        → IfSome reads (λ _. LeavesStoresAlong before after opened.history closed.history)
+    with_all : (reads : Option (List ℕ)) → IfSome reads (λ _. LeavesAlong before after opened log)
+        → IfSome reads (λ _. LeavesStoresAlong before after opened.history (since (opened_base opened) log))
     with_all None all = tt
-    with_all (Some bytes) all = stores_along before after opened closed opens.some opens.doubt closes.sound all
+    with_all (Some bytes) all = stores_along before after opened closed log opens.some opens.doubt closes.sound survives.holds survives.marks all
 
 -- nothing was asked of the disk, for want of memory
 pub unasked : (shown : DiskState) (crashes : DiskCrashes) → ((image : List ℕ) → crashes.left_since crashes.clock image → crashes.may_leave image)
@@ -75,8 +77,8 @@ making_ends shown crashes told before after first now host other moment status s
 pub checks : (start found : DiskState) (before middle : DiskCrashes) (opened : State) (count : ℕ) (first now : Output) (status : ℕ)
     → IsOpened start opened → opened.keeper.records ≡ records_told plain count found → before.clock ≤ middle.clock
     → IfSome start.reads (λ _. LeavesNothingNew before middle)
-    → SurvivesMarked (opened_base opened) None (given opened.history) opened (record_crashes plain found middle) (record_crashes plain found middle)
+    → Survives (opened_base opened) None (given opened.history) (given opened.history) opened (record_crashes plain found middle) (record_crashes plain found middle)
     → IsClosed found middle opened → Counts first now opened.history status
     → ChecksStore (record { shown = start; crashes = before }) (record { shown = found; crashes = middle }) first now status
 checks start found before middle opened count first now status opens told clock nothing survives closes counts =
-    inr (opened, served start found found before middle middle opened opened count opens told clock nothing survives closes, counts)
+    inr (opened, served start found found before middle middle opened opened (given opened.history) count opens told clock nothing survives closes, counts)

@@ -5,16 +5,15 @@ use Rattle.fedi_http.specs.Arrivals.{LacksRequest}
 use Rattle.fedi_http.specs.declared.arrivals.Arrived.TheVariants as arrivals
 use Rattle.fedi_http.specs.declared.heads.TheConstants.{HEAD_LIMIT}
 use Rattle.fedi_http.specs.declared.requests.TheConstants.{MOST_FIELDS}
-use Rattle.fedi_log.specs.Keeping.{Follows, HoldsSince, State, base_of}
-use Rattle.fedi_log.specs.Log.{Failed, Goes, Log, NoEntry, Outcome, given, kept_in}
-use Rattle.fedi_town.specs.declared.refusal.Refusal.TheVariants.{KeeperFault}
+use Rattle.fedi_log.specs.Keeping.{State, base_of}
+use Rattle.fedi_log.specs.Log.{Goes, Log, Outcome, given, items_of}
 use Rattle.fedi_model.specs.declared.reply.Reply.{Reply}
 use Rattle.fedi_model.specs.declared.request.Request.{Request}
-use Rattle.fedi_model.specs.Refusing.{refused}
 use Rattle.fedi_model.specs.ReplyText.{memory_text, reply_text}
-use Rattle.fedi_objects.specs.declared.entry.Entry.{Entry}
 use Rattle.fedi_outside.specs.Causes.{next_count}
+use Rattle.fedi_startup.specs.Marks.{Survives}
 use Rattle.fedi_program.specs.Conversations.{Setting, Exchange, Progress, IsExchange, IsReply, Converses, StandsAtFront, IsCutShort, IsOver, after, beginning, progress, text_of}
+use Rattle.fedi_program.specs.Crashing.{Standing, Turns}
 use Rattle.fedi_program.specs.declared.sessions.SessionEnd.{SessionEnd}
 use Rattle.fedi_program.specs.declared.sessions.SessionEnd.TheVariants.{End, CutShort, Closed, ReadFault, WriteFault, Memory}
 
@@ -23,10 +22,6 @@ use Rattle.fedi_program.specs.declared.sessions.SessionEnd.TheVariants.{End, Cut
 -- the setting of one who alone adds to the log, over the machine that was opened so
 abbrev pub setting_of : (ℕ → ℕ) → (ℕ → ℕ) → Option ℕ → State → Setting
 setting_of growth room told opened = record { by = None; told = told; base = base_of growth room opened }
-
--- it stands for some log that goes on so
-abbrev pub HoldsALog : Setting → Log → State → Type 0
-HoldsALog w seen now = (log : Log) × HoldsSince w.base w.by seen now log
 
 -- ---- what stands at a moment
 
@@ -86,22 +81,15 @@ GivesUp before now ending = (ending ≡ Some Memory) × WritesUnlessFailed befor
 -- ---- one answer
 
 -- the request with this body was answered so in one turn of the machine
-pub record IsTurn (growth room : ℕ → ℕ) (before after : State) (moment : ℕ) (q : Request) (body : List ℕ) (given : Reply) : Type 0 where
+pub record IsTurn (growth room : ℕ → ℕ) (before after : Standing) (moment : ℕ) (q : Request) (body : List ℕ) (given : Reply) : Type 0 where
   pub outcome : Outcome
-  pub reply : IsReply room before.history before.keeper.end moment q body outcome given
-  pub follows : Follows growth before after outcome
+  pub reply : IsReply room before.state.history before.state.keeper.end moment q body outcome given
+  pub turns : Turns growth before after outcome
 
 -- the text is that of the reply of one turn
-abbrev pub IsAnswerText : (ℕ → ℕ) → (ℕ → ℕ) → State → State → ℕ → Request → List ℕ → Bool → List ℕ → Type 0
+abbrev pub IsAnswerText : (ℕ → ℕ) → (ℕ → ℕ) → Standing → Standing → ℕ → Request → List ℕ → Bool → List ℕ → Type 0
 IsAnswerText growth room before after moment q body closing text =
     (r : Reply) × IsTurn growth room before after moment q body r × (text ≡ reply_text moment q.head_only closing r)
-
--- out of memory: nothing was kept, since there was no turn, or since the keeper failed and the reply that tells so found no
--- memory for its text
-abbrev pub IsUnanswered : (ℕ → ℕ) → (ℕ → ℕ) → State → State → ℕ → Request → List ℕ → Type 0
-IsUnanswered growth room before after moment q body =
-    Follows growth before after NoEntry
-    ⊎ ((e : Entry) × IsReply room before.history before.keeper.end moment q body (Failed e) (refused KeeperFault) × Follows growth before after (Failed e))
 
 -- ---- how a session ends
 
@@ -115,16 +103,6 @@ pub record IsAt (first : Output) (now : Scene) (pending : List ℕ) (p : Progres
 pub record IsDone (w : Setting) (first now : Output) (log : Log) (p : Progress) : Type 0 where
   pub written : Writes first now p.written
   pub later : Goes w.by p.log log
-
--- one more exchange, at which nothing was kept, or none
-abbrev pub IsUnkept : Setting → Progress → Option Exchange → Type 0
-IsUnkept w p None = Unit {0}
-IsUnkept w p (Some x) = IsExchange w p x × (kept_in x.outcome ≡ [])
-
--- the progress after one more exchange, or the same
-abbrev pub after_maybe : Setting → Progress → Option Exchange → Progress
-after_maybe w p None = p
-after_maybe w p (Some x) = after w p x
 
 -- a read failed, and no request and no refusal stands in the bytes that were read since the last one
 pub record IsUnread (w : Setting) (first : Output) (now : Scene) (log : Log) (p : Progress) : Type 0 where
@@ -140,12 +118,10 @@ pub record IsBrokenOff (w : Setting) (first now : Output) (log : Log) (p : Progr
   pub later : Goes w.by (after w p exchange).log log
   pub broken : BreaksOff first now p.written (text_of p.count exchange)
 
--- out of memory: nothing was kept, and instead of a reply the other side was told so, unless a write failed
+-- out of memory: nothing was kept and the keeper did not fail, and instead of a reply the other side was told so, unless a write failed
 pub record IsGivenUp (w : Setting) (first now : Output) (log : Log) (p : Progress) : Type 0 where
-  pub more : Option Exchange
   pub open_yet : p.closed ≡ false
-  pub next : IsUnkept w p more
-  pub later : Goes w.by (after_maybe w p more).log log
+  pub later : Goes w.by p.log log
   pub told : WritesUnlessFailed first now p.written memory_text
 
 -- a session ends so after this progress
@@ -163,11 +139,11 @@ pub record Serves (w : Setting) (seen : Log) (first : Output) (now : Scene) (log
   pub each : Converses w (beginning input seen) exchanges
   pub ends : Finishes w first now log (progress w (beginning input seen) exchanges) ending
 
--- A session ended so: the machine stands for a log that goes on from what was seen, and if the input is told, what was
--- read and written is one conversation over it.
-abbrev pub EndsSession : Setting → Log → Scene → Scene → State → SessionEnd → Type 0
-EndsSession w seen first now state ending =
-    (log : Log) × HoldsSince w.base w.by seen state log × IfSome first.input (Serves w seen first.output now log ending)
+-- A session ended so: the machine stands for a log that goes on from what was seen, along which crashes were so; and if the
+-- input is told, what was read and written is one conversation over this log.
+abbrev pub EndsSession : Setting → Log → Scene → Scene → Standing → Standing → SessionEnd → Type 0
+EndsSession w seen first now before after ending =
+    (log : Log) × Survives w.base w.by seen log after.state before.crashes after.crashes × IfSome first.input (Serves w seen first.output now log ending)
 
 -- one exchange went well and the connection goes on, or a session ended so
 abbrev pub Steps : Setting → Output → Scene → Log → List ℕ → Progress → Option SessionEnd → Type 0
@@ -185,10 +161,10 @@ abbrev pub StepsOn : Setting → Log → ℕ → Scene → List ℕ → Scene �
 StepsOn w seen count before old now pending log ending =
     (first : Output) (p : Progress) → p.log ≡ seen → p.count ≡ count → IsAt first before old p → Steps w first now log pending p ending
 
--- what one exchange does, after so many: the log goes on, and the machine stands for it
-abbrev pub Exchanges : Setting → Log → ℕ → Scene → List ℕ → Scene → List ℕ → State → Option SessionEnd → Type 0
-Exchanges w seen count before old now pending state ending =
-    (log : Log) × HoldsSince w.base w.by seen state log × StepsOn w seen count before old now pending log ending
+-- what one exchange does, after so many: one turn of the machine, and the log goes on by what that adds
+abbrev pub Exchanges : Setting → Log → ℕ → Scene → List ℕ → Scene → List ℕ → Standing → Standing → Option SessionEnd → Type 0
+Exchanges w seen count before old now pending was is ending =
+    (o : Outcome) × Turns w.base.growth was is o × StepsOn w seen count before old now pending (seen ++ items_of w.by o) ending
 
 -- how many reads failed, and how many writes
 pub record Faults : Type 0 where
@@ -228,10 +204,10 @@ status_of ReadFault = 6
 status_of WriteFault = 7
 status_of Memory = 12
 
--- a session ended with this status
-abbrev pub RunsTo : Setting → State → Scene → Scene → State → ℕ → Type 0
-RunsTo w opened first now state status =
-    (ending : SessionEnd) × (status ≡ status_of ending) × EndsSession w (given opened.history) first now state ending
+-- a session over this log ended with this status
+abbrev pub RunsTo : Setting → State → Log → Scene → Scene → ℕ → Type 0
+RunsTo w opened log first now status =
+    (ending : SessionEnd) × (status ≡ status_of ending) × IfSome first.input (Serves w (given opened.history) first.output now log ending)
 
 -- the whole conversation over this input was held: each request has its reply, and nothing else was written
 pub record Talks (w : Setting) (seen : Log) (first : Output) (now : Scene) (log : Log) (input : List ℕ) : Type 0 where
@@ -240,9 +216,9 @@ pub record Talks (w : Setting) (seen : Log) (first : Output) (now : Scene) (log 
   pub over : IsOver (progress w (beginning input seen) exchanges)
   pub done : IsDone w first now.output log (progress w (beginning input seen) exchanges)
 
--- it was, if the input is told, over a log that the machine stands for
-abbrev pub TalksIfTold : Setting → Log → Scene → Scene → State → Type 0
-TalksIfTold w seen first now state = (log : Log) × HoldsSince w.base w.by seen state log × IfSome first.input (Talks w seen first.output now log)
+-- it was over this log, if the input is told
+abbrev pub TalksIfTold : Setting → State → Log → Scene → Scene → Type 0
+TalksIfTold w opened log first now = IfSome first.input (Talks w (given opened.history) first.output now log)
 
 -- A run with this status has its cause: the count of failed reads rose exactly at 6, that of failed writes at 7 and not at
 -- 0, 6 and 8.

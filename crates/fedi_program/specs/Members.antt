@@ -11,7 +11,7 @@ use Rattle.fedi_town.specs.declared.command_fault.CommandFault.TheVariants.{Name
 use Rattle.fedi_town.specs.Histories.{town}
 use Rattle.fedi_town.specs.Legal.{broken_command}
 use Rattle.fedi_outside.specs.Causes.{next_count}
-use Rattle.fedi_outside.specs.Keepers.{OnlyRoomChanged}
+use Rattle.fedi_outside.specs.Keepers.{after_fault}
 use Rattle.fedi_log.specs.Keeping.{State}
 use Rattle.fedi_core.specs.Commands.{RefusesCommand}
 use Rattle.fedi_core.specs.Keeping.{IsKept}
@@ -39,10 +39,6 @@ pub record Draws (before now : Chance) (key : List ℕ) : Type 0 where
 pub record FailsToDraw (before now : Chance) : Type 0 where
   pub bytes : Keeps before.next now.next
   pub cause : now.faults ≡ next_count before.faults
-
--- one key was drawn at most, and no draw failed
-abbrev pub DrawsAtMostOne : Chance → Chance → Type 0
-DrawsAtMostOne before now = (now ≡ before) ⊎ ((key : List ℕ) × Draws before now key)
 
 -- ---- what is printed
 
@@ -75,35 +71,41 @@ TellsFault Memory before now status = (status ≡ 12) × Writes before now []
 abbrev pub member_entry : List ℕ → List ℕ → Bool → ℕ → Entry
 member_entry name key locked moment = Made name (sha256 key) locked moment
 
--- nothing was kept
-pub record IsUnchanged (before after : State) : Type 0 where
-  pub history : after.history ≡ before.history
-  pub keeper : OnlyRoomChanged before.keeper after.keeper
-
 -- the entry was kept, and the line printed, unless that write failed (7)
 abbrev pub IsMade : (ℕ → ℕ) → (ℕ → ℕ) → State → State → Output → Output → Entry → List ℕ → ℕ → Type 0
 IsMade growth room before after first now e line status =
     (broken_command (town before.history) e ≡ None) × IsKept growth room before.history e before.keeper after.keeper after.history
     × Prints first now line status
 
--- a rule was broken, or the keeper refused the entry
-abbrev pub IsRefused : (ℕ → ℕ) → State → State → Output → Output → Entry → ℕ → Type 0
-IsRefused room before after first now e status =
-    (fault : CommandFault) × RefusesCommand room (town before.history) e fault before.keeper after.keeper
-    × (after.history ≡ before.history) × TellsFault fault first now status
+-- a keeper that failed was asked once to settle what may be in doubt: then nothing is, or that failed too
+abbrev pub IsSettled : State → State → Type 0
+IsSettled failed after =
+    (after.history ≡ failed.history)
+    × ((after.keeper ≡ record failed.keeper { doubt = None }) ⊎ (after.keeper ≡ after_fault failed.keeper))
+
+-- what was done after a command was refused for this reason
+abbrev pub SettlesAfter : CommandFault → State → State → Type 0
+SettlesAfter KeeperFault refused after = IsSettled refused after
+SettlesAfter fault refused after = after ≡ refused
+
+-- the entry was refused for this reason: a rule was broken, or the keeper did not keep it
+abbrev pub IsUnmade : (ℕ → ℕ) → State → State → Entry → CommandFault → Type 0
+IsUnmade room before after e fault =
+    (refused : State) × (refused.history ≡ before.history)
+    × RefusesCommand room (town before.history) e fault before.keeper refused.keeper × SettlesAfter fault refused after
 
 -- How the command ends that is to make a member of this name with this entry and this line: the text is no name, or else the
 -- entry is refused or kept.
 abbrev pub EndsWith : (ℕ → ℕ) → (ℕ → ℕ) → State → State → Output → Output → List ℕ → Entry → List ℕ → ℕ → Type 0
 EndsWith growth room before after first now name e line status =
     ((is_name name ≡ false) × (after ≡ before) × Tells first now 10 (refusal_line (codes "bad name")) status)
-    ⊎ ((is_name name ≡ true) × (IsRefused room before after first now e status ⊎ IsMade growth room before after first now e line status))
+    ⊎ ((is_name name ≡ true)
+    × (((fault : CommandFault) × IsUnmade room before after e fault × TellsFault fault first now status)
+    ⊎ IsMade growth room before after first now e line status))
 
--- How the making of a member of this name ends: out of memory (12), when no draw failed, nothing is kept and nothing printed; no
--- key could be drawn (6); or a key was drawn, and it ended as above.
+-- How the making of a member of this name ends: no key could be drawn (6), or one was drawn, and it ended as above.
 abbrev pub MakesMember : (ℕ → ℕ) → (ℕ → ℕ) → Option ℕ → Chance → Chance → State → State → Output → Output → List ℕ → Bool → ℕ → Type 0
 MakesMember growth room told chance left before after first now name locked status =
-    ((status ≡ 12) × DrawsAtMostOne chance left × IsUnchanged before after × Writes first now [])
-    ⊎ (((status ≡ 6) × FailsToDraw chance left × (after ≡ before) × Writes first now [])
+    ((status ≡ 6) × FailsToDraw chance left × (after ≡ before) × Writes first now [])
     ⊎ ((key : List ℕ) × (moment : ℕ) × Draws chance left key × IsNow told moment
-    × EndsWith growth room before after first now name (member_entry name key locked moment) (key_line name key) status))
+    × EndsWith growth room before after first now name (member_entry name key locked moment) (key_line name key) status)

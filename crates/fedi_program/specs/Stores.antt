@@ -1,8 +1,8 @@
 -- What a run does with the store of a disk, and what it prints of it.
-use Rattle.std.specs.Prelude.{◌≡◌, ◌⊎◌, ℕ, Bool, List, [], ◌∷◌, ◌++◌, codes, decimal, Option, IfSome}
+use Rattle.std.specs.Prelude.{◌≡◌, ◌⊎◌, ℕ, Bool, List, [], ◌∷◌, ◌++◌, codes, decimal, Option, None, IfSome}
 use Rattle.fedi_address.specs.Hosts.{IsHost}
-use Rattle.fedi_log.specs.Keeping.{State}
-use Rattle.fedi_log.specs.Log.{given}
+use Rattle.fedi_log.specs.Keeping.{HoldsSince, State, since}
+use Rattle.fedi_log.specs.Log.{Log, given}
 use Rattle.fedi_entry.specs.Codes.{code_of}
 use Rattle.fedi_objects.specs.declared.entry.Entry.{Entry}
 use Rattle.fedi_objects.specs.declared.entry.Entry.TheVariants.{Hosted}
@@ -11,9 +11,10 @@ use Rattle.fedi_program.specs.Conversations.{IsNow}
 use Rattle.fedi_program.specs.Endings.{Output, Prints, RunsTo, Scene, TalksIfTold, Writes, setting_of}
 use Rattle.fedi_program.specs.Members.{Chance, MakesMember, Tells, refusal_line}
 use Rattle.fedi_report.specs.Reports.{check_text}
+use Rattle.fedi_startup.specs.Marks.{MarksMayCome}
 use Rattle.fedi_startup.specs.Making.{IsMade, IsNotMade, LeavesAtMost}
 use Rattle.fedi_startup.specs.Stores.{ComesBack, IsClosed, IsOpened, LeavesNothingNew, LeavesStores}
-use Rattle.fedi_startup.specs.Surviving.{LeavesStoresAlong, SurvivesOnDisk, growth, room}
+use Rattle.fedi_startup.specs.Surviving.{LeavesAlong, LeavesStoresAlong, growth, opened_base, room}
 use Rattle.fedi_startup.specs.declared.faults.MakeFault.{MakeFault}
 use Rattle.fedi_startup.specs.declared.faults.MakeFault.TheVariants as makes
 use Rattle.fedi_startup.specs.declared.faults.StoreFault.{StoreFault}
@@ -36,20 +37,26 @@ pub record IsRefused (before after : Medium) (fault : StoreFault) : Type 0 where
   pub back : ComesBack fault before.shown after.shown
   pub still : IfSome before.shown.reads (λ _. LeavesNothingNew before.crashes after.crashes)
 
--- A machine was opened over the disk, in the first of these states, and closed in the second. The disk's file has the records of
--- its history. If its bytes are told, a crash after the run leaves a store of that history, or of it with the entry in doubt; and
--- a crash on the way left files of the records, and these are stores.
-pub record IsServed (before after : Medium) (opened closed : State) : Type 0 where
+-- A machine was opened over the disk, in the first of these states, and closed in the second, and stands for this log. The disk's
+-- file has the records of its history. If its bytes are told, a crash after the run leaves a store of that history, or of it with
+-- the entry in doubt; and a crash on the way left files of the records along the log, and these are stores.
+pub record IsServed (before after : Medium) (opened closed : State) (log : Log) : Type 0 where
   pub opens : IsOpened before.shown opened
   pub closes : IsClosed after.shown after.crashes closed
+  pub holds : HoldsSince (opened_base opened) None (given opened.history) closed log
+  pub marks : MarksMayCome [] log
   pub leaves : IfSome after.shown.reads (λ _. LeavesStores after.crashes closed.history closed.keeper.doubt)
-  pub files : IfSome before.shown.reads (λ _. SurvivesOnDisk before.crashes after.crashes opened closed)
-  pub stores : IfSome before.shown.reads (λ _. LeavesStoresAlong before.crashes after.crashes opened.history closed.history)
+  pub files : IfSome before.shown.reads (λ _. LeavesAlong before.crashes after.crashes opened log)
+  pub stores : IfSome before.shown.reads (λ _. LeavesStoresAlong before.crashes after.crashes opened.history (since (opened_base opened) log))
+
+-- a machine was opened over the disk and closed, with some log
+abbrev pub IsRun : Medium → Medium → State → State → Type 0
+IsRun before after opened closed = (log : Log) × IsServed before after opened closed log
 
 -- one of the two
 abbrev pub IsKeptSafe : Medium → Medium → Type 0
 IsKeptSafe before after =
-    ((fault : StoreFault) × IsRefused before after fault) ⊎ ((opened : State) × (closed : State) × IsServed before after opened closed)
+    ((fault : StoreFault) × IsRefused before after fault) ⊎ ((opened : State) × (closed : State) × IsRun before after opened closed)
 
 -- ---- what is printed of a store that is not opened
 
@@ -80,19 +87,20 @@ TellsOfStore Memory before now status = (status ≡ 12) × Writes before now []
 abbrev pub ServesStore : Option ℕ → Medium → Medium → Scene → Scene → ℕ → Type 0
 ServesStore told before after first now status =
     ((fault : StoreFault) × IsRefused before after fault × (now ≡ first) × (status ≡ status_by fault))
-    ⊎ ((opened : State) × (closed : State) × IsServed before after opened closed × RunsTo (setting_of growth room told opened) opened first now closed status)
+    ⊎ ((opened : State) × (closed : State) × (log : Log) × IsServed before after opened closed log
+    × RunsTo (setting_of growth room told opened) opened log first now status)
 
 -- the whole conversation over the input was held, over the store of a disk
 abbrev pub TalksOverStore : Option ℕ → Medium → Medium → Scene → Scene → Type 0
 TalksOverStore told before after first now =
-    (opened : State) × (closed : State) × IsServed before after opened closed
-    × TalksIfTold (setting_of growth room told opened) (given opened.history) first now closed
+    (opened : State) × (closed : State) × (log : Log) × IsServed before after opened closed log
+    × TalksIfTold (setting_of growth room told opened) opened log first now
 
 -- how a run makes a member of the store of a disk
 abbrev pub AddsMember : Option ℕ → Medium → Medium → Chance → Chance → Output → Output → List ℕ → Bool → ℕ → Type 0
 AddsMember told before after chance left first now name locked status =
     ((fault : StoreFault) × IsRefused before after fault × (left ≡ chance) × TellsOfStore fault first now status)
-    ⊎ ((opened : State) × (closed : State) × IsServed before after opened closed
+    ⊎ ((opened : State) × (closed : State) × IsRun before after opened closed
     × MakesMember growth room told chance left opened closed first now name locked status)
 
 -- it is printed how much this history has, unless there is no memory for the line (12) or a write failed (7)
@@ -103,7 +111,7 @@ Counts first now history status = Prints first now (check_text history) status �
 abbrev pub ChecksStore : Medium → Medium → Output → Output → ℕ → Type 0
 ChecksStore before after first now status =
     ((fault : StoreFault) × IsRefused before after fault × TellsOfStore fault first now status)
-    ⊎ ((opened : State) × IsServed before after opened opened × Counts first now opened.history status)
+    ⊎ ((opened : State) × IsServed before after opened opened (given opened.history) × Counts first now opened.history status)
 
 -- ---- making a store
 

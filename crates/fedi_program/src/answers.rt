@@ -1,11 +1,11 @@
 //! The answer to a request.
 
 ghost use Rattle.std.specs.Prelude.{◌≡◌, IfOk, OnErr};
-ghost use Rattle.fedi_log.specs.Keeping.{state_of};
+ghost use Rattle.fedi_log.specs.Log.{NoEntry};
 ghost use Rattle.fedi_model.specs.Refusing.{refused};
 ghost use Rattle.fedi_model.specs.ReplyText.{reply_text};
-ghost use Rattle.fedi_program.specs.Crashing.{SurvivesTurn};
-ghost use Rattle.fedi_program.specs.Endings.{IsAnswerText, IsUnanswered};
+ghost use Rattle.fedi_program.specs.Crashing.{Turns, standing_by};
+ghost use Rattle.fedi_program.specs.Endings.{IsAnswerText};
 
 use fedi_core::{Core, Decision, KeepError, KeepFault};
 use fedi_http::reply_bytes;
@@ -33,7 +33,8 @@ pub fn refusal_text(
 
 /// Answers a request that has this body in one turn of the machine, and hands back the text of the
 /// reply, which has no body if the method is HEAD; the connection is told to close if `closing`. The
-/// reply to a post is made before the post is kept. The error is out of memory, and then nothing was kept.
+/// reply to a post is made before the post is kept, and so is the one that reports a keeper that failed.
+/// The error is out of memory, and then nothing was kept, and the keeper did not fail.
 pub fn answer<P: Keeper>(
     alloc: Global,
     core: &mut Core<PlainShelf, P>,
@@ -43,19 +44,12 @@ pub fn answer<P: Keeper>(
     moment: Moment,
     closing: bool,
 ) -> Result<Vec<u8>, AllocError>
-    ensures text { IfOk result (λ text. IsAnswerText P.growth P.room
-        (state_of core.old.history (P.shown core.old.keeper))
-        (state_of core.new.history (P.shown core.new.keeper))
-        moment request.now body.now closing text.items) }
-    ensures unanswered { OnErr result (IsUnanswered P.growth P.room
-        (state_of core.old.history (P.shown core.old.keeper))
-        (state_of core.new.history (P.shown core.new.keeper))
-        moment request.now body.now) }
     // A crash on the way leaves the records, with at most one more: the one in doubt, or the post's.
-    ensures crash { SurvivesTurn P.growth
-        (state_of core.old.history (P.shown core.old.keeper))
-        (state_of core.new.history (P.shown core.new.keeper))
-        (P.crashes core.old.keeper) (P.crashes core.new.keeper) }
+    ensures text { IfOk result (λ text. IsAnswerText P.growth P.room
+        (standing_by P.shown P.crashes core.old) (standing_by P.shown P.crashes core.new)
+        moment request.now body.now closing text.items) }
+    ensures unanswered { OnErr result (Turns P.growth
+        (standing_by P.shown P.crashes core.old) (standing_by P.shown P.crashes core.new) NoEntry) }
 {
     let head_only = request.head_only;
     let caller = match core.caller_of(&credentials(request, body)) {
@@ -68,6 +62,7 @@ pub fn answer<P: Keeper>(
     let Some(entry) = entry else {
         return Ok(text);
     };
+    let fault_text = refusal_text(alloc, Refusal::KeeperFault, moment, head_only, closing)?;
     match core.keep(alloc, entry) {
         Ok(()) => Ok(text),
         Err(KeepError { fault, .. }) => match fault {
@@ -78,13 +73,7 @@ pub fn answer<P: Keeper>(
                 head_only,
                 closing,
             ),
-            KeepFault::Failed => refusal_text(
-                alloc,
-                Refusal::KeeperFault,
-                moment,
-                head_only,
-                closing,
-            ),
+            KeepFault::Failed => Ok(fault_text),
             KeepFault::Memory => Err(AllocError),
         },
     }

@@ -7,7 +7,7 @@ ghost use Rattle.fedi_program.specs.Members.{chance_by};
 ghost use Rattle.fedi_program.specs.Runs.{is_status_of, may_draw, opens_store};
 ghost use Rattle.fedi_log.specs.Keeping.{base_of, state_of};
 ghost use Rattle.fedi_log.specs.Log.{given};
-ghost use Rattle.fedi_startup.specs.Marks.{SurvivesMarked};
+ghost use Rattle.fedi_startup.specs.Marks.{Survives};
 ghost use Rattle.fedi_program.specs.Stores.{AddsMember, ChecksStore, Counts, IsKeptSafe, MakesStore, ServesStore, TalksOverStore, medium_by};
 ghost use Rattle.fedi_program.specs.Usage.{usage_text};
 
@@ -149,8 +149,8 @@ fn count<O: Sink, P: Keeper>(alloc: Global, out: &mut O, core: &Core<PlainShelf,
         (output_by O.sent O.write_faults out.new) core.now.history result }
     // The machine is only looked at.
     ensures crashes { let opened = state_of core.now.history (P.shown core.now.keeper) in
-        SurvivesMarked (base_of P.growth P.room opened) None (given core.now.history) opened
-        (P.crashes core.now.keeper) (P.crashes core.now.keeper) }
+        Survives (base_of P.growth P.room opened) None (given core.now.history)
+        (given core.now.history) opened (P.crashes core.now.keeper) (P.crashes core.now.keeper) }
 {
     match check_line(alloc, core) {
         Ok(line) => print(out, &line),

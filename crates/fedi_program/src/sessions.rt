@@ -4,8 +4,8 @@ ghost use Rattle.std.specs.Prelude.{◌≡◌, ◌||◌, ◌-◌, ℕ, None, nat
 ghost use Rattle.fedi_log.specs.Keeping.{Holds, State, base_of, state_of};
 ghost use Rattle.fedi_log.specs.Log.{Log, given};
 ghost use Rattle.fedi_program.specs.Conversations.{most_requests};
-ghost use Rattle.fedi_startup.specs.Marks.{SurvivesMarked};
-ghost use Rattle.fedi_program.specs.Crashing.{SurvivesTurn};
+ghost use Rattle.fedi_outside.specs.Keepers.{LeavesRecords};
+ghost use Rattle.fedi_program.specs.Crashing.{standing_by};
 ghost use Rattle.fedi_program.specs.Endings.{EndsSession, Exchanges, GivesUp, IsCaused, IsCounted, Replies, faults_by, faults_of, output_by, scene_by, setting_of};
 
 use crate::answers::{answer, refusal_text};
@@ -77,7 +77,7 @@ fn is_last(request: &Request, served: u64) -> bool
 
 /// Reads the next request and answers it, after so many were served. What is behind it stays pending.
 /// The answer is how the session ends, if it does.
-fn exchange<S: Source, O: Sink, P: Keeper, C: Clock>(
+pub fn exchange<S: Source, O: Sink, P: Keeper, C: Clock>(
     alloc: Global,
     core: &mut Core<PlainShelf, P>,
     routes: &Routes,
@@ -85,7 +85,7 @@ fn exchange<S: Source, O: Sink, P: Keeper, C: Clock>(
     buffer: &mut Buffer,
     served: u64,
 ) -> Option<SessionEnd>
-    // From each log for which the machine stands, it goes on.
+    // From each log for which the machine stands, it goes on by one turn.
     ensures steps { (opened : State) (log : Log)
         → Holds (base_of P.growth P.room opened)
         (state_of core.old.history (P.shown core.old.keeper)) log
@@ -94,11 +94,11 @@ fn exchange<S: Source, O: Sink, P: Keeper, C: Clock>(
         buffer.old.pending
         (scene_by S.left O.sent O.write_faults connection.new.input connection.new.out)
         buffer.new.pending
-        (state_of core.new.history (P.shown core.new.keeper)) result }
-    ensures crash { SurvivesTurn P.growth
-        (state_of core.old.history (P.shown core.old.keeper))
-        (state_of core.new.history (P.shown core.new.keeper))
-        (P.crashes core.old.keeper) (P.crashes core.new.keeper) }
+        (standing_by P.shown P.crashes core.old) (standing_by P.shown P.crashes core.new)
+        result }
+    // Once the reply is sent, a crash leaves the records of all of the log, with at most the one in
+    // doubt; and so does each later one, as `acknowledged_entries_survive` says.
+    ensures safe { LeavesRecords (P.shown core.new.keeper) (P.crashes core.new.keeper) }
     ensures counted { IsCounted
         (faults_by S.read_faults O.write_faults connection.old.input connection.old.out)
         (faults_by S.read_faults O.write_faults connection.new.input connection.new.out)
@@ -141,19 +141,15 @@ pub fn session<S: Source, O: Sink, P: Keeper, C: Clock>(
     connection: &mut Connection<S, O, C>,
 ) -> SessionEnd
     // From the history that the machine has, the log goes on by what is kept and what the keeper
-    // fails to keep. If the input is told, what was read and written is one conversation over it.
-    ensures ends { let opened = state_of core.old.history (P.shown core.old.keeper) in
-        EndsSession (setting_of P.growth P.room (C.told connection.old.clock) opened)
-        (given core.old.history)
+    // fails to keep. If the input is told, what was read and written is one conversation over this
+    // log. A crash at any moment leaves the records, then the first of those that were kept since,
+    // and then at most one that was in doubt at that moment of the log.
+    ensures ends { EndsSession (setting_of P.growth P.room (C.told connection.old.clock)
+        (state_of core.old.history (P.shown core.old.keeper))) (given core.old.history)
         (scene_by S.left O.sent O.write_faults connection.old.input connection.old.out)
         (scene_by S.left O.sent O.write_faults connection.new.input connection.new.out)
-        (state_of core.new.history (P.shown core.new.keeper)) result }
-    // A crash at any moment of it leaves the records, then the first of those that were kept since,
-    // and then at most one that was in doubt.
-    ensures crashes { let opened = state_of core.old.history (P.shown core.old.keeper) in
-        SurvivesMarked (base_of P.growth P.room opened) None (given core.old.history)
-        (state_of core.new.history (P.shown core.new.keeper))
-        (P.crashes core.old.keeper) (P.crashes core.new.keeper) }
+        (standing_by P.shown P.crashes core.old) (standing_by P.shown P.crashes core.new)
+        result }
     ensures causes { IsCaused
         (faults_by S.read_faults O.write_faults connection.old.input connection.old.out)
         (faults_by S.read_faults O.write_faults connection.new.input connection.new.out)

@@ -1,7 +1,7 @@
 -- From files of records to stores.
 use Rattle.std.proofs.Common.{◌≡◌, ◌≢◌, ◌⊎◌, ℕ, suc, true, List, [], ◌∷◌, ◌++◌, length, map, All, Option, None, Some, inl, inr, refl, sym, ap, subst, ◌∙◌, append_assoc, append-nil}
 use Rattle.std.specs.Cmp.Derive.{both_true}
-use Rattle.std.specs.Prelude.{IfSome, option_to_list, drop}
+use Rattle.std.specs.Prelude.{Contains, IfSome, option_to_list, drop}
 use Rattle.std.specs.List.{AllByRecursion, list_all}
 use Rattle.std.proofs.lemmas.Bool.{and_parts}
 use Rattle.std.proofs.lemmas.List.{map-append}
@@ -27,7 +27,7 @@ use Rattle.fedi_town.specs.Legal.{is_admissible, is_legal_from}
 use Rattle.fedi_town.specs.Towns.{Town, empty_town}
 use Rattle.fedi_startup.specs.Marks.{MarksMayCome}
 use Rattle.fedi_startup.specs.Stores.{IsAround, IsClosed, IsSound, IsStoreOf, LeavesFiles, LeavesStores, records_of}
-use Rattle.fedi_startup.specs.Surviving.{IsFirstPart, LeavesStoresAlong, SurvivesOnDisk, opened_base}
+use Rattle.fedi_startup.specs.Surviving.{IsFirstPart, LeavesAlong, LeavesStoresAlong, opened_base}
 use Rattle.fedi_startup.proofs.Marks.{doubts_come}
 use Rattle.fedi_startup.proofs.Told.{each_some}
 
@@ -105,8 +105,9 @@ leaves_one crashes history doubt image leaves may =
 first_part : (opened now : State) (log : Log) (image : List ℕ) (rs : List (List ℕ)) → opened.history ≢ [] → opened.keeper.doubt ≡ None → IsSound now.history
     → now.history ≡ opened.history ++ history_of (since (opened_base opened) log) → MarksMayCome opened.history (since (opened_base opened) log)
     → IsImage plain rs image → IsLeft (opened_base opened) log (records_of opened.history) rs
-    → (left : List Entry) × IsStoreOf left image × IsFirstPart opened.history now.history left
+    → (left : List Entry) × IsStoreOf left image × IsFirstPart opened.history (since (opened_base opened) log) left
 first_part opened now log image rs some settled sound grown marks file left =
+    let added : Log = since (opened_base opened) log in
     let first : List Entry = history_of left.past in
     let rest : List Entry = history_of left.rest in
     let whole : now.history ≡ opened.history ++ (first ++ rest) =
@@ -115,17 +116,18 @@ first_part opened now log image rs some settled sound grown marks file left =
     sound_front (opened.history ++ first) rest (subst IsSound (whole ∙ sym (append_assoc opened.history first rest)) sound) in
     let filled : (opened.history ++ first) ≢ [] = front_some opened.history first some in
     let spelled : records_of opened.history ++ map code_of first ≡ records_of (opened.history ++ first) = sym (map-append code_of opened.history first) in
-    elim left.leaves as (λ _. (l : List Entry) × IsStoreOf l image × IsFirstPart opened.history now.history l) [
-      | inl is ↦ (opened.history ++ first, stored (opened.history ++ first) image rs filled front file (is ∙ spelled), (first, rest, whole, inl refl))
+    elim left.leaves as (λ _. (l : List Entry) × IsStoreOf l image × IsFirstPart opened.history added l) [
+      | inl is ↦ (opened.history ++ first, stored (opened.history ++ first) image rs filled front file (is ∙ spelled), (left.past, left.rest, left.is, inl refl))
       | inr other ↦
-          let doubts : All (IsNextCode (opened.history ++ first)) (doubts_of (option_to_list opened.keeper.doubt) left.past) =
-          subst (λ (d : Option (List ℕ)). All (IsNextCode (opened.history ++ first)) (doubts_of (option_to_list d) left.past)) (sym settled)
-          (doubts_come opened.history [] left.past (marks_front opened.history left.past left.rest (subst (λ (l : Log). MarksMayCome opened.history l) left.is marks))
-          (All-nil (IsNextCode opened.history))) in
-          let next : IsNextCode (opened.history ++ first) other.0 = All-contains (IsNextCode (opened.history ++ first)) _ other.0 doubts other.1 in (
+          let doubted : Contains (doubts_of [] left.past) other.0 =
+          subst (λ (d : Option (List ℕ)). Contains (doubts_of (option_to_list d) left.past) other.0) settled other.1 in
+          let doubts : All (IsNextCode (opened.history ++ first)) (doubts_of [] left.past) =
+          doubts_come opened.history [] left.past (marks_front opened.history left.past left.rest (subst (λ (l : Log). MarksMayCome opened.history l) left.is marks))
+          (All-nil (IsNextCode opened.history)) in
+          let next : IsNextCode (opened.history ++ first) other.0 = All-contains (IsNextCode (opened.history ++ first)) _ other.0 doubts doubted in (
             (opened.history ++ first) ++ next.0 ∷ [],
             stored_more (opened.history ++ first) image other.0 rs filled front file (other.2 ∙ ap (λ (l : List (List ℕ)). l ++ other.0 ∷ []) spelled) next,
-            (first, rest, whole, inr (next.0, refl)),
+            (left.past, left.rest, left.is, inr (next.0, subst (λ (c : List ℕ). Contains (doubts_of [] left.past) c) next.2 doubted, refl)),
           )
     ]
   where
@@ -171,26 +173,24 @@ leaves_stores disk crashes opened now log some holds closed =
     })
 
 -- Files of lists of records are stores: of what was there before the run, or of the first part of what the run made.
-pub stores_along : (before after : DiskCrashes) (opened now : State) → opened.history ≢ [] → opened.keeper.doubt ≡ None → IsSound now.history
-    → SurvivesOnDisk before after opened now → LeavesStoresAlong before after opened.history now.history
-stores_along before after opened now some settled sound survives history doubt leaves image moment =
-    let file = survives.3 (records_of history) doubt leaves.files image moment in
-    elim file.2 as (λ _. (left : List Entry) × IsStoreOf left image × (IsAround history doubt left ⊎ IsFirstPart opened.history now.history left)) [
+pub stores_along : (before after : DiskCrashes) (opened now : State) (log : Log) → opened.history ≢ [] → opened.keeper.doubt ≡ None → IsSound now.history
+    → HoldsSince (opened_base opened) None (given opened.history) now log → MarksMayCome [] log → LeavesAlong before after opened log
+    → LeavesStoresAlong before after opened.history (since (opened_base opened) log)
+stores_along before after opened now log some settled sound holds marks along history doubt leaves image moment =
+    let added : Log = since (opened_base opened) log in
+    let file = along (records_of history) doubt leaves.files image moment in
+    elim file.2 as (λ _. (left : List Entry) × IsStoreOf left image × (IsAround history doubt left ⊎ IsFirstPart opened.history added left)) [
       | inl old ↦ let store = around before history doubt image file.0 leaves file.1 old in (store.0, store.1, inl store.2)
-      | inr new ↦ let store = first_part opened now survives.0 image file.0 some settled sound grown marks file.1 new in (store.0, store.1, inr store.2)
+      | inr new ↦
+          let store = first_part opened now log image file.0 some settled sound (now_grown opened now log holds) since_marks file.1 new in
+          (store.0, store.1, inr store.2)
     ]
   where
-    goes : GoesAlone None (given opened.history) survives.0
-    goes = survives.1.grown
+    goes : GoesAlone None (given opened.history) log
+    goes = holds.grown
 
-    past_is : since (opened_base opened) survives.0 ≡ goes.past
-    past_is = since_given opened survives.0 goes.past goes.is
-
-    grown : now.history ≡ opened.history ++ history_of (since (opened_base opened) survives.0)
-    grown = now_grown opened now survives.0 survives.1
-
-    marks : MarksMayCome opened.history (since (opened_base opened) survives.0)
-    marks =
-        subst (λ (l : Log). MarksMayCome opened.history l) (sym past_is)
+    since_marks : MarksMayCome opened.history (since (opened_base opened) log)
+    since_marks =
+        subst (λ (l : Log). MarksMayCome opened.history l) (sym (since_given opened log goes.past goes.is))
         (subst (λ (h : List Entry). MarksMayCome h goes.past) (given_history opened.history)
-        (marks_back [] (given opened.history) goes.past (subst (λ (l : Log). MarksMayCome [] l) goes.is survives.2)))
+        (marks_back [] (given opened.history) goes.past (subst (λ (l : Log). MarksMayCome [] l) goes.is marks)))

@@ -23,8 +23,13 @@ abbrev pub MarksMayCome : List Entry → Log → Type 0
 MarksMayCome history [] = Unit {0}
 MarksMayCome history (i ∷ log) = MayCome history i.what × MarksMayCome (history ++ entry_in i.what) log
 
--- The machine stands for a log that goes on from what was seen, crashes were so along it, and each entry that is marked in it may
--- come where its mark stands.
+-- The machine stands for this log, which goes on from what was seen; crashes were so along it, and each entry that is marked in
+-- it may come where its mark is.
+pub record Survives (b : Base) (by : Option ℕ) (seen log : Log) (state : State) (before after : Crashes) : Type 0 where
+  pub holds : HoldsSince b by seen state log
+  pub crashes : CrashesAlong b log before after
+  pub marks : MarksMayCome [] log
+
+-- some log is so
 abbrev pub SurvivesMarked : Base → Option ℕ → Log → State → Crashes → Crashes → Type 0
-SurvivesMarked b by seen state before after =
-    (log : Log) × HoldsSince b by seen state log × CrashesAlong b log before after × MarksMayCome [] log
+SurvivesMarked b by seen state before after = (log : Log) × Survives b by seen log state before after

@@ -1,13 +1,13 @@
 -- What a crash at any moment of a run may leave of a disk.
-use Rattle.std.specs.Prelude.{◌≡◌, [], ◌∷◌, ◌++◌, ◌⊎◌, ℕ, ◌+◌, List, Option, None}
+use Rattle.std.specs.Prelude.{◌≡◌, [], ◌∷◌, ◌++◌, ◌⊎◌, ℕ, ◌+◌, List, Contains, Option}
 use Rattle.fedi_images.specs.Images.{IsImage, plain}
-use Rattle.fedi_log.specs.Keeping.{Base, HoldsSince, State, base_of}
+use Rattle.fedi_entry.specs.Codes.{code_of}
+use Rattle.fedi_log.specs.Keeping.{Base, State, base_of}
 use Rattle.fedi_log.specs.Leaving.{IsLeft}
-use Rattle.fedi_log.specs.Log.{Log, given}
+use Rattle.fedi_log.specs.Log.{Log, doubts_of, history_of}
 use Rattle.fedi_outside.specs.Disks.{DiskCrashes}
 use Rattle.fedi_outside.specs.Keepers.{MayLeave}
 use Rattle.fedi_objects.specs.declared.entry.Entry.{Entry}
-use Rattle.fedi_startup.specs.Marks.{MarksMayCome}
 use Rattle.fedi_startup.specs.Stores.{IsAround, IsStoreOf, LeavesFiles, LeavesStores, records_of}
 
 -- a record of this length moves the end so far
@@ -32,25 +32,21 @@ LeavesAlong before after opened log =
     → (left : List (List ℕ)) × IsImage plain left image
     × (MayLeave records doubt left ⊎ IsLeft (opened_base opened) log (records_of opened.history) left)
 
--- the machine stands for a log that goes on from what it was opened with, each entry that is marked in it may come where its mark
--- stands, and crashes were so along it
-abbrev pub SurvivesOnDisk : DiskCrashes → DiskCrashes → State → State → Type 0
-SurvivesOnDisk before after opened now =
-    (log : Log) × HoldsSince (opened_base opened) None (given opened.history) now log × MarksMayCome [] log × LeavesAlong before after opened log
-
 -- ---- as stores
 
--- the history that was opened, with the first of the entries that came to it, none or more, and at most one entry more
-abbrev pub IsFirstPart : List Entry → List Entry → List Entry → Type 0
-IsFirstPart opened now left =
-    (first : List Entry) × (rest : List Entry) × (now ≡ opened ++ (first ++ rest))
-    × ((left ≡ opened ++ first) ⊎ ((e : Entry) × (left ≡ (opened ++ first) ++ e ∷ [])))
+-- the history that was opened, with the first of the entries that these items added, none or more, and at most one entry more,
+-- whose record was in doubt then
+abbrev pub IsFirstPart : List Entry → Log → List Entry → Type 0
+IsFirstPart opened added left =
+    (past : Log) × (rest : Log) × (added ≡ past ++ rest)
+    × ((left ≡ opened ++ history_of past)
+    ⊎ ((e : Entry) × Contains (doubts_of [] past) (code_of e) × (left ≡ (opened ++ history_of past) ++ e ∷ [])))
 
 -- If each image that a crash before the run may leave is a store of some history, or of it with the entry in doubt, then an image
 -- that a crash during the run may leave is such a store too, or that of the history that was opened with the first entries that
--- the run kept, none or more, and at most one entry more. So whatever it is, it can be opened.
-abbrev pub LeavesStoresAlong : DiskCrashes → DiskCrashes → List Entry → List Entry → Type 0
-LeavesStoresAlong before after opened now =
+-- the run kept, none or more, and at most the one entry that was in doubt then. So whatever it is, it can be opened.
+abbrev pub LeavesStoresAlong : DiskCrashes → DiskCrashes → List Entry → Log → Type 0
+LeavesStoresAlong before after opened added =
     (history : List Entry) (doubt : Option (List ℕ)) → LeavesStores before history doubt
     → (image : List ℕ) → after.left_since before.clock image
-    → (left : List Entry) × IsStoreOf left image × (IsAround history doubt left ⊎ IsFirstPart opened now left)
+    → (left : List Entry) × IsStoreOf left image × (IsAround history doubt left ⊎ IsFirstPart opened added left)

@@ -14,11 +14,12 @@ returns-in-Ok-clause-added g c =
     let now = c.make_member-status.new.core in
     let last = now.keeper.disk in
     let closed = rw c.close_store.ensures.disk at c.close_store.ensures.closed in
+    let survives = c.make_member-status.ensures.crashes in
     inr (
       _,
       _,
-      rw c.close_store.ensures.disk (served (g.D.Disk.shown c.args.disk) (g.D.Disk.shown core.keeper.disk) (g.D.Disk.shown last) (g.D.Disk.crashes c.args.disk)
-          (g.D.Disk.crashes core.keeper.disk) (g.D.Disk.crashes last) _ _ (length core.keeper.gates.items)
-          c.in-Ok.ensures.opened refl c.in-Ok.ensures.clock c.in-Ok.ensures.time c.make_member-status.ensures.crashes closed),
+      (survives.0, rw c.close_store.ensures.disk (served (g.D.Disk.shown c.args.disk) (g.D.Disk.shown core.keeper.disk) (g.D.Disk.shown last) (g.D.Disk.crashes c.args.disk)
+          (g.D.Disk.crashes core.keeper.disk) (g.D.Disk.crashes last) _ _ survives.0 (length core.keeper.gates.items)
+          c.in-Ok.ensures.opened refl c.in-Ok.ensures.clock c.in-Ok.ensures.time survives.1 closed)),
       c.make_member-status.ensures.made,
     )
