@@ -1,4 +1,9 @@
 //! A file that one process alone has open.
+ghost use Rattle.std.specs.Prelude.{◌≡◌, ◌+◌, ◌^◌, ◌<◌, length, is_ok, OnOk};
+ghost use Rattle.fedi_outside.specs.Causes.{HasCause};
+
+use crate::raw_file::RawFile;
+use fedi_outside::Failed;
 use std::fs::{File, Files, OpenOptions};
 use std::io::{self, ErrorKind};
 use std::os::unix::fs::{FileExt, OpenOptionsExt};
@@ -14,30 +19,59 @@ enum Found {
     Open(File),
 }
 
-/// A file that is opened by the first call, and locked until this is dropped. One that is missing then counts as empty, and is
-/// created by the first write.
+// Whether the entry of the file in its folder is synced.
+#[derive(Clone, Copy, PartialEq, Eq)]
+enum Entry {
+    // This process has created the file, and not yet synced its entry.
+    Created,
+    // Another process has created it, and may not have come to the sync.
+    Found,
+    Synced,
+}
+
+/// A file of the machine that is opened by the first call, and locked until this is dropped. If another has the lock, each call fails
+/// until it is free. If there is no file, it counts as an empty one, and the first write creates it, for its owner alone. What is
+/// there and is no regular file, as a folder, a pipe or a device, makes each call fail, and is left as it is.
 #[derive(Drop)]
 pub struct LockedFile<'a, R: Files<File = File>> {
     rt: &'a R,
     path: &'a str,
     found: Found,
-    // Whether its entry in its folder is known to be synced.
-    is_listed: bool,
+    entry: Entry,
+    faults: u64,
 }
 
 impl<'a, R: Files<File = File>> LockedFile<'a, R> {
-    /// The file of this path. Nothing is opened.
-    pub fn new(rt: &'a R, path: &'a str) -> Self {
+    /// The file of this path, with no fault so far. Nothing is opened or created yet.
+    pub fn new(rt: &'a R, path: &'a str) -> Self
+        ensures { result.faults ≡ 0 }
+    {
         LockedFile {
             rt,
             path,
             found: Found::Unknown,
-            is_listed: false,
+            entry: Entry::Found,
+            faults: 0,
+        }
+    }
+
+    /// This file, which was opened at this path, with no fault so far. It may be of any kind, and is not locked.
+    pub fn over(rt: &'a R, path: &'a str, file: File) -> Self
+        ensures { result.faults ≡ 0 }
+    {
+        LockedFile {
+            rt,
+            path,
+            found: Found::Open(file),
+            entry: Entry::Found,
+            faults: 0,
         }
     }
 
     // Looks for the file, unless that was done.
-    fn find(&mut self) -> io::Result<()> {
+    fn find(&mut self) -> io::Result<()>
+        ensures { self.new.faults ≡ self.old.faults }
+    {
         if let Found::Unknown = &self.found {
             self.found = match open_locked(self.rt, self.path, false) {
                 Ok(file) => Found::Open(file),
@@ -48,8 +82,9 @@ impl<'a, R: Files<File = File>> LockedFile<'a, R> {
         Ok(())
     }
 
-    /// How many bytes it has.
-    pub fn size(&mut self) -> io::Result<u64> {
+    fn find_size(&mut self) -> io::Result<u64>
+        ensures { self.new.faults ≡ self.old.faults }
+    {
         self.find()?;
         match &self.found {
             Found::Open(file) => Ok(file.metadata()?.len()),
@@ -57,8 +92,9 @@ impl<'a, R: Files<File = File>> LockedFile<'a, R> {
         }
     }
 
-    /// Reads the bytes at this offset, as many as there is room for. It is an error if there are fewer.
-    pub fn read_at(&mut self, at: u64, into: &mut [u8]) -> io::Result<()> {
+    fn read(&mut self, at: u64, into: &mut [u8]) -> io::Result<()>
+        ensures { self.new.faults ≡ self.old.faults }
+    {
         self.find()?;
         match &self.found {
             Found::Open(file) => file.read_exact_at(into, at),
@@ -67,8 +103,14 @@ impl<'a, R: Files<File = File>> LockedFile<'a, R> {
         }
     }
 
-    /// Writes these bytes at this offset. A file that was missing is created; it is an error if another process did so first.
-    pub fn write_at(&mut self, at: u64, from: &[u8]) -> io::Result<()> {
+    // A file that was missing is created; it is an error if another process did so first.
+    fn write(&mut self, at: u64, from: &[u8]) -> io::Result<()>
+        ensures end { OnOk result (at + length from.now < 2 ^ 64) }
+        ensures faults { self.new.faults ≡ self.old.faults }
+    {
+        if at.checked_add(from.len() as u64).is_none() {
+            return Err(ErrorKind::FileTooLarge.into());
+        }
         self.find()?;
         if let Found::Open(file) = &self.found {
             return file.write_all_at(from, at);
@@ -76,26 +118,82 @@ impl<'a, R: Files<File = File>> LockedFile<'a, R> {
         let file = open_locked(self.rt, self.path, true)?;
         let written = file.write_all_at(from, at);
         self.found = Found::Open(file);
+        self.entry = Entry::Created;
         written
     }
 
-    /// Makes all that was written last. The first sync after the opening makes the entry in the folder last too, since whoever
-    /// created the file, in this process or an earlier one, may not have come to that. A file that is missing has nothing to sync.
-    pub fn sync(&mut self) -> io::Result<()> {
+    // A file that is missing has nothing to sync.
+    fn sync_all(&mut self) -> io::Result<()>
+        ensures { self.new.faults ≡ self.old.faults }
+    {
         self.find()?;
         if let Found::Open(file) = &self.found {
             file.sync_data()?;
-            if !self.is_listed {
-                File::open(self.rt, folder_of(self.path))?.sync_all()?;
-                self.is_listed = true;
-            }
+            self.sync_entry()?;
         }
         Ok(())
     }
+
+    // Makes the entry in the folder durable, unless that was done. One who may not read the folder cannot do that: the error counts
+    // only if this process has created the file, since who did so before was to sync the entry.
+    fn sync_entry(&mut self) -> io::Result<()>
+        ensures { self.new.faults ≡ self.old.faults }
+    {
+        if self.entry == Entry::Synced {
+            return Ok(());
+        }
+        match File::open(self.rt, folder_of(self.path)) {
+            Ok(folder) => folder.sync_all()?,
+            Err(error)
+                if self.entry == Entry::Found && error.kind() == ErrorKind::PermissionDenied => {}
+            Err(error) => return Err(error),
+        }
+        self.entry = Entry::Synced;
+        Ok(())
+    }
+
+    // Counts the fault of a call that failed.
+    fn counted<T: Drop>(&mut self, done: io::Result<T>) -> Result<T, Failed>
+        ensures answer { is_ok result ≡ is_ok done }
+        ensures cause { HasCause self.old.faults self.new.faults result }
+    {
+        match done {
+            Ok(value) => Ok(value),
+            Err(_) => {
+                self.faults = self.faults.saturating_add(1);
+                Err(Failed)
+            }
+        }
+    }
 }
 
-// Opens the file of this path, or creates it for its owner alone, and locks it. It is an error if another has the lock, and if a
-// file that is to be created is there.
+impl<R: Files<File = File>> RawFile for LockedFile<'_, R> {
+    ghost faults = { λ f. f.faults };
+
+    fn size(&mut self) -> Result<u64, Failed> {
+        let size = self.find_size();
+        self.counted(size)
+    }
+
+    fn read_at(&mut self, at: u64, into: &mut [u8]) -> Result<(), Failed> {
+        let read = self.read(at, into);
+        self.counted(read)
+    }
+
+    fn write_at(&mut self, at: u64, from: &[u8]) -> Result<(), Failed> {
+        let written = self.write(at, from);
+        self.counted(written)
+    }
+
+    /// Makes durable all that was written, and by the first call that is done the entry in the folder too.
+    fn sync(&mut self) -> Result<(), Failed> {
+        let synced = self.sync_all();
+        self.counted(synced)
+    }
+}
+
+// Opens the file of this path, or creates it for its owner alone, and locks it. It is an error if another has the lock, if a file that
+// is to be created is there, and if what is there is no regular file.
 fn open_locked<R: Files<File = File>>(rt: &R, path: &str, create: bool) -> io::Result<File> {
     let mut options = OpenOptions::new();
     options
@@ -103,7 +201,12 @@ fn open_locked<R: Files<File = File>>(rt: &R, path: &str, create: bool) -> io::R
         .write(true)
         .create_new(create)
         .mode(0o600);
-    let file = options.open(rt, path)?;
+    // If the program was started with a standard stream closed, the file gets that stream's descriptor, and what goes to the stream
+    // would go into the file. The clone's descriptor is above those of the streams, and the first one is closed at once.
+    let file = options.open(rt, path)?.try_clone()?;
+    if !file.metadata()?.is_file() {
+        return Err(ErrorKind::InvalidInput.into());
+    }
     file.try_lock()?;
     Ok(file)
 }

@@ -1,5 +1,5 @@
 -- A disk in memory: the calls that it was asked, what they make of its bytes, and what a crash leaves.
-use Rattle.std.specs.Prelude.{ℕ, ◌≡◌, ◌⊎◌, ◌≤◌, Bool, false, nat_eq, nat_le, ◌||◌, List, [], ◌∷◌, length, take, fold, Option, None, Some, if◌then◌else◌}
+use Rattle.std.specs.Prelude.{ℕ, ◌≡◌, ◌⊎◌, ◌+◌, ◌≤◌, Bool, true, false, nat_eq, nat_le, ◌||◌, List, [], ◌∷◌, length, take, fold, Option, None, Some, Result, Ok, Err, if◌then◌else◌}
 use Rattle.std.specs.List.{list_any}
 use Rattle.fedi_outside.specs.Disks.{DiskCrashes, DiskState, IsTorn, spliced}
 use Rattle.fedi_outside.specs.declared.memory_disks.Call.{Call}
@@ -24,6 +24,11 @@ is_failing d number = list_any (λ n. nat_eq n number) d.failing || reaches d.st
     reaches : Option ℕ → Bool
     reaches None = false
     reaches (Some stop) = nat_le stop number
+
+-- A call fails exactly if it is to fail, and is recorded. One that found no memory for its record fails too, and is not recorded.
+abbrev pub FailsByPlan : {T E : Type 0} → MemoryDiskState → MemoryDiskState → Result T E → Type 0
+FailsByPlan before after (Ok x) = (is_failing before (length before.calls) ≡ false) × (length after.calls ≡ length before.calls + 1)
+FailsByPlan before after (Err e) = (is_failing before (length before.calls) ≡ true) ⊎ (after.calls ≡ before.calls)
 
 -- ---- what calls make of the bytes
 

@@ -1,5 +1,5 @@
 //! A keeper in memory that never fails.
-ghost use Rattle.std.specs.Prelude.{ℕ, ◌≡◌, ◌↔◌, ◌+◌, ◌^◌, ◌<◌, ◌≤◌, max, List, [], ◌∷◌, ◌++◌, length, Some, None, IsOk, IfOk, IfErr, OnOk, OnErr, IsErrOf, vec_capacity};
+ghost use Rattle.std.specs.Prelude.{ℕ, ◌≡◌, ◌↔◌, ◌+◌, ◌^◌, ◌<◌, ◌≤◌, max, List, [], ◌∷◌, ◌++◌, length, Some, None, IsOk, IfOk, IfErr, OnOk, OnErr, IsErr, IsErrOf, vec_capacity};
 ghost use Rattle.fedi_outside.specs.Keepers.{Finds};
 ghost use Rattle.fedi_outside.specs.MemoryKeepers.{no_crashes, no_records, shown_with};
 ghost use Rattle.std.proofs.Common.{refl};
@@ -132,6 +132,7 @@ impl Keeper for CalmKeeper {
     fn load(&mut self, alloc: Global, place: u64) -> Result<Option<Vec<u8>>, LoadFault>
         ensures found { IfOk result (Finds self.old.records place) }
         ensures memory { IfErr result (λ fault. fault ≡ LoadFault.Memory) }
+        ensures held { IsErr result → place < length self.old.records }
         ensures same { self.new ≡ self.old }
     {
         let Some(record) = self.records.get(place as usize) else {
@@ -142,6 +143,7 @@ impl Keeper for CalmKeeper {
 
     fn reserve(&mut self, length: usize) -> Result<(), ReserveFault>
         ensures full { IsErrOf result ReserveFault.Full ↔ (2 ^ 62 < self.old.end + (10 + length)) }
+        ensures spared { IsErrOf result ReserveFault.Memory → self.old.spare ≤ length }
         ensures ok { OnOk result (self.new
             ≡ record self.old { spare = max self.old.spare (length + 1) }) }
         ensures err { OnErr result (self.new ≡ self.old) }
@@ -149,6 +151,9 @@ impl Keeper for CalmKeeper {
         let needed = (length as u64).saturating_add(ROOM);
         if self.end.saturating_add(needed) > LIMIT {
             return Err(ReserveFault::Full);
+        }
+        if length < self.spare {
+            return Ok(());
         }
         self.blank.reserve(length)?;
         self.records.reserve(1)?;

@@ -1,5 +1,5 @@
 //! Where records are kept.
-ghost use Rattle.std.specs.Prelude.{ℕ, ◌≡◌, ◌↔◌, ◌<◌, length, is_some, nat_lt, Some, None, IfSome, IfOk, OnOk, OnErr, IsErrOf};
+ghost use Rattle.std.specs.Prelude.{ℕ, ◌≡◌, ◌↔◌, ◌<◌, ◌≤◌, length, is_some, nat_lt, Some, None, IfSome, IfOk, OnOk, OnErr, IsErrOf};
 ghost use Rattle.fedi_outside.specs.Keepers.{Crashes, KeeperState, LeavesRecords, PassesTime};
 ghost use Rattle.fedi_outside.specs.Keepers.{Finds, HasAdded, HasFailed, HasRoom, IsFull, OnlyRoomChanged, after_fault, after_load};
 
@@ -69,20 +69,22 @@ pub trait Keeper {
         ensures { result ≡ (shown self.now).held };
 
     /// The record at this place, counted from 0, or none exactly if the place is at least the count. All is as before, also after
-    /// an error: `Failed` if the keeper failed, `Memory` if out of memory.
+    /// an error: `Failed` if the keeper failed, `Memory` if there is such a record and no memory for it.
     fn load(&mut self, alloc: Global, place: u64) -> Result<Option<Vec<u8>>, LoadFault>
         ensures found { IfSome (shown self.old).records
             (λ records. IfOk result (Finds records place)) }
         ensures some { IfOk result (λ found. is_some found ≡ nat_lt place (shown self.old).held) }
+        ensures held { IsErrOf result LoadFault.Memory → place < (shown self.old).held }
         ensures shown { shown self.new ≡ after_load result (shown self.old) }
         ensures time { PassesTime (shown self.old).records (shown self.old).doubt
             (crashes self.old) (crashes self.new) };
 
     /// Makes room for a record of this length. `Full` exactly if the end and the room for it come to more than 2^62; `Memory` if
-    /// out of memory. All else is as before, and after an error the room too.
+    /// there was no such room yet and there is no memory for it. All else is as before, and after an error the room too.
     fn reserve(&mut self, length: usize) -> Result<(), ReserveFault>
         ensures full { IsErrOf result ReserveFault.Full ↔ IsFull room (shown self.old).end length }
         ensures spare { OnOk result (length < (shown self.new).spare) }
+        ensures spared { IsErrOf result ReserveFault.Memory → (shown self.old).spare ≤ length }
         ensures shown { OnlyRoomChanged (shown self.old) (shown self.new) }
         ensures refused { OnErr result ((shown self.new).spare ≡ (shown self.old).spare) }
         ensures time { PassesTime (shown self.old).records (shown self.old).doubt

@@ -1,9 +1,9 @@
 //! A disk in memory that may be made to fail.
-ghost use Rattle.std.specs.Prelude.{◌≡◌, ◌∷◌, [], ◌++◌, ◌≤◌, length, Some, IfOk, OnOk, OnErr};
+ghost use Rattle.std.specs.Prelude.{◌≡◌, ◌∷◌, [], ◌++◌, ◌+◌, ◌≤◌, length, take, drop, Some, IfOk, OnOk, OnErr};
 ghost use Rattle.std.proofs.Common.{inl, refl};
 ghost use Rattle.fedi_outside.specs.Causes.{next_count};
-ghost use Rattle.fedi_outside.specs.Disks.{spliced};
-ghost use Rattle.fedi_outside.specs.MemoryDisks.{contents_of, disk_crashes, disk_shown, fresh_disk, is_failing};
+ghost use Rattle.fedi_outside.specs.Disks.{Elapses, HasTorn, LeavesOnly, MayTear, after_len, after_reading, after_write, spliced};
+ghost use Rattle.fedi_outside.specs.MemoryDisks.{FailsByPlan, contents_of, disk_crashes, disk_shown, fresh_disk, is_failing};
 ghost use Rattle.fedi_outside.specs.MemoryDiskLaws.{now_is_since, only_since};
 
 use crate::Failed;
@@ -25,8 +25,8 @@ pub enum Call {
 }
 
 /// A disk in memory that may be made to fail. It tells its bytes and what a crash may leave, keeps a record of its calls, and counts
-/// its faults. A write that fails leaves the bytes as they were. A call that finds no memory for its record fails too, has no other
-/// effect, and is not recorded.
+/// its faults. A call fails by its plan alone, but for one that finds no memory for its record, which has no other effect and is not
+/// recorded. A write that fails leaves the bytes as they were.
 #[derive(Drop)]
 pub struct MemoryDisk {
     alloc: Global,
@@ -155,7 +155,12 @@ impl Disk for MemoryDisk {
 
     ghost only_now = { λ d. only_since d.base d.calls };
 
-    fn len(&mut self) -> Result<u64, Failed> {
+    fn len(&mut self) -> Result<u64, Failed>
+        ensures planned { FailsByPlan self.old self.new result }
+        ensures shown { disk_shown self.new ≡ after_len result (disk_shown self.old) }
+        ensures time { Elapses (disk_crashes self.old) (disk_crashes self.new)
+            (disk_crashes self.old).may_leave }
+    {
         let fails = self.next_fails();
         let Ok(()) = note(&mut self.calls, Call::Len) else {
             return Err(self.fault());
@@ -166,7 +171,15 @@ impl Disk for MemoryDisk {
         Ok(self.bytes.len() as u64)
     }
 
-    fn read_at(&mut self, at: u64, into: &mut [u8]) -> Result<(), Failed> {
+    fn read_at(&mut self, at: u64, into: &mut [u8]) -> Result<(), Failed>
+        requires inside { at + length into.old ≤ (disk_shown self.old).size }
+        ensures planned { FailsByPlan self.old self.new result }
+        ensures bytes { OnOk result (into.new ≡ take (length into.old)
+            (drop at (contents_of self.old.base self.old.calls).reads)) }
+        ensures shown { disk_shown self.new ≡ after_reading result (disk_shown self.old) }
+        ensures time { Elapses (disk_crashes self.old) (disk_crashes self.new)
+            (disk_crashes self.old).may_leave }
+    {
         let fails = self.next_fails();
         let count = into.len();
         let Ok(()) = note(&mut self.calls, Call::Read { at, count }) else {
@@ -180,7 +193,16 @@ impl Disk for MemoryDisk {
         Ok(())
     }
 
-    fn write_at(&mut self, at: u64, from: &[u8]) -> Result<(), Failed> {
+    fn write_at(&mut self, at: u64, from: &[u8]) -> Result<(), Failed>
+        requires inside { at ≤ (disk_shown self.old).size }
+        ensures planned { FailsByPlan self.old self.new result }
+        ensures written { OnOk result
+            (disk_shown self.new ≡ after_write at from.now (disk_shown self.old)) }
+        ensures refused { OnErr result
+            (HasTorn at from.now (disk_shown self.old) (disk_shown self.new)) }
+        ensures time { Elapses (disk_crashes self.old) (disk_crashes self.new)
+            (MayTear at from.now (disk_crashes self.old)) }
+    {
         let done = !self.next_fails();
         let (Ok(after), Ok(bytes)) = (
             splice(self.alloc, &self.bytes, at as usize, from),
@@ -198,7 +220,14 @@ impl Disk for MemoryDisk {
         Ok(())
     }
 
-    fn sync(&mut self) -> Result<(), Failed> {
+    fn sync(&mut self) -> Result<(), Failed>
+        ensures planned { FailsByPlan self.old self.new result }
+        ensures durable { OnOk result (LeavesOnly (disk_crashes self.new)
+            (contents_of self.old.base self.old.calls).reads) }
+        ensures shown { disk_shown self.new ≡ after_reading result (disk_shown self.old) }
+        ensures time { Elapses (disk_crashes self.old) (disk_crashes self.new)
+            (disk_crashes self.old).may_leave }
+    {
         let done = !self.next_fails();
         let Ok(()) = note(&mut self.calls, Call::Sync { done }) else {
             return Err(self.fault());

@@ -86,6 +86,7 @@ impl Keeper for MemoryKeeper {
 
     fn load(&mut self, alloc: Global, place: u64) -> Result<Option<Vec<u8>>, LoadFault>
         ensures failed { IsErrOf result LoadFault.Failed ↔ IsTrue (is_to_fail self.old.plan) }
+        ensures held { IsErrOf result LoadFault.Memory → place < length self.old.keeper.records }
         ensures found { IfOk result (Finds self.old.keeper.records place) }
         ensures after { self.new ≡ record self.old { plan = after_call self.old.plan } }
     {
@@ -98,6 +99,7 @@ impl Keeper for MemoryKeeper {
     fn reserve(&mut self, length: usize) -> Result<(), ReserveFault>
         ensures full { IsErrOf result ReserveFault.Full
             ↔ (2 ^ 62 < self.old.keeper.end + (10 + length)) }
+        ensures spared { IsErrOf result ReserveFault.Memory → self.old.keeper.spare ≤ length }
         ensures plan { self.new.plan ≡ self.old.plan }
         ensures ok { OnOk result (self.new.keeper
             ≡ record self.old.keeper { spare = max self.old.keeper.spare (length + 1) }) }

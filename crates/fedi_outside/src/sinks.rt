@@ -1,13 +1,14 @@
 //! Where bytes go.
-ghost use Rattle.std.specs.Prelude.{ℕ, ◌≡◌, ◌<◌, List, Option, Some, None, [], true, length, is_some, IsErr, IfOk};
+ghost use Rattle.std.specs.Prelude.{ℕ, ◌≡◌, ◌<◌, ◌≤◌, List, Option, Some, None, [], length, is_some, IfOk};
 ghost use Rattle.std.specs.Io.{WritesAtMost};
 ghost use Rattle.std.specs.Io.KnownBytes.{WriteAppends};
 ghost use Rattle.fedi_outside.specs.Causes.{HasCause, next_count};
-ghost use Rattle.fedi_outside.specs.Plans.{is_to_fail, moved, no_faults};
+ghost use Rattle.fedi_outside.specs.Plans.{moved, no_faults};
+ghost use Rattle.fedi_outside.specs.Sinks.{FailsByPlan};
 
 use crate::Failed;
 use crate::plans::{FaultPlan, allowed};
-use std::alloc::Global;
+use std::alloc::{AllocError, Global};
 use std::marker::Model;
 
 /// Something that bytes are written to.
@@ -32,7 +33,7 @@ pub trait Sink {
 }
 
 /// A sink that keeps what is written in memory, and may be made to take little at once and to fail. It tells its bytes and counts its
-/// faults. A write that finds no memory for its bytes fails.
+/// faults. A write for which there is room fails by its plan alone; one that needs more room, and finds no memory for it, fails too.
 #[derive(Drop)]
 pub struct MemorySink {
     bytes: Vec<u8>,
@@ -41,11 +42,17 @@ pub struct MemorySink {
 }
 
 impl Model for MemorySink {
+    ghost use Rattle.std.specs.Prelude.{vec_capacity};
     ghost use Rattle.fedi_outside.specs.Sinks.{MemorySinkState};
 
     ghost Value = { MemorySinkState };
 
-    ghost view = { λ s. record { sent = s.bytes.items; limit = s.limit; plan = s.plan } };
+    ghost view = { λ s. record {
+      sent = s.bytes.items;
+      capacity = vec_capacity s.bytes;
+      limit = s.limit;
+      plan = s.plan;
+    } };
 }
 
 impl MemorySink {
@@ -80,6 +87,17 @@ impl MemorySink {
         sink
     }
 
+    /// The same sink, with room for so many bytes in all, those that were written among them. The error is out of memory.
+    pub fn with_room(self, bytes: usize) -> Result<Self, AllocError>
+        ensures room { IfOk result (λ sink. bytes ≤ sink.capacity) }
+        ensures same { IfOk result (λ sink. sink ≡ record self { capacity = sink.capacity }) }
+    {
+        let mut sink = self;
+        let more = bytes.saturating_sub(sink.bytes.len());
+        sink.bytes.reserve(more)?;
+        Ok(sink)
+    }
+
     /// The bytes that were written.
     pub fn bytes(&self) -> &[u8]
         ensures { result.now ≡ self.now.sent }
@@ -99,7 +117,8 @@ impl Sink for MemorySink {
         ensures bytes { WriteAppends (Some self.old.sent) (Some self.new.sent) result from.now }
         ensures count { IfOk result (λ n. n ≡ moved self.old.limit (length from.now)) }
         ensures limit { self.new.limit ≡ self.old.limit }
-        ensures failing { is_to_fail self.old.plan ≡ true → IsErr result }
+        ensures capacity { self.old.capacity ≤ self.new.capacity }
+        ensures planned { FailsByPlan self.old (length from.now) result }
         ensures plan { self.new.plan ≡ record self.old.plan {
           calls = next_count self.old.plan.calls;
           faults = self.new.plan.faults;
