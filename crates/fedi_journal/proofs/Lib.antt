@@ -1,3 +1,4 @@
 pub mod FindingSteps
 pub mod KeeperSteps
 pub mod MakingSteps
+pub mod Rewriting

@@ -2,3 +2,4 @@ pub mod Blocks
 pub mod Finding
 pub mod Making
 pub mod Opening
+pub mod Untouched

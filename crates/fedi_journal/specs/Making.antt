@@ -1,11 +1,12 @@
 -- What becomes of a disk that is made a journal.
 use Rattle.std.specs.Prelude.{ℕ, ◌≡◌, ◌<◌, List, [], ◌∷◌, ◌++◌, length, take, Some, None, option_map}
 use Rattle.fedi_outside.specs.Causes.{next_count}
-use Rattle.fedi_outside.specs.Disks.{DiskState, TearsTold}
+use Rattle.fedi_outside.specs.Disks.{DiskCrashes, DiskState, TearsTold}
 use Rattle.fedi_outside.specs.Keepers.{KeeperState}
 use Rattle.fedi_images.specs.Images.{plain}
 use Rattle.fedi_journal.specs.declared.faults.InitFault.{InitFault}
 use Rattle.fedi_journal.specs.declared.faults.InitFault.TheVariants.{Exists, Failed}
+use Rattle.fedi_journal.specs.Untouched.{IsUntouched}
 
 -- the bytes of a journal without records: the magic and a closed gate
 abbrev pub blank : List ℕ
@@ -18,6 +19,10 @@ blank_shown before = record { records = option_map (λ _. []) before.reads; held
 -- these are more bytes, and begin with others
 abbrev pub IsOther : List ℕ → Type 0
 IsOther bytes = (9 < length bytes) × (take 9 bytes ≡ blank → ⊥)
+
+-- if these are its bytes, the disk is untouched
+abbrev pub KeepsOther : DiskState → DiskState → DiskCrashes → DiskCrashes → Type 0
+KeepsOther before after was now = (bytes : List ℕ) → before.reads ≡ Some bytes → IsOther bytes → IsUntouched before after was now
 
 -- a disk was not made a journal: if it has other bytes, all is as before; if it failed, its first nine bytes may be torn
 abbrev pub IsUnmade : InitFault → DiskState → DiskState → Type 0

@@ -1,11 +1,12 @@
 //! Finding the records of a disk.
-ghost use Rattle.std.specs.Prelude.{ℕ, ◌≡◌, ◌<◌, ◌≤◌, ◌+◌, ◌^◌, true, false, List, length, take, drop, get_or, Some, IfOk, OnOk, OnErr, IsErrOf};
+ghost use Rattle.std.specs.Prelude.{ℕ, ◌≡◌, ◌<◌, ◌≤◌, ◌+◌, ◌^◌, true, false, List, length, take, drop, get_or, Some, IfOk, IfSome, OnOk, OnErr, IsErrOf};
 ghost use Rattle.fedi_outside.specs.Causes.{HasCause};
 ghost use Rattle.fedi_outside.specs.Disks.{Elapses, LeavesOnly, after_reading};
 ghost use Rattle.fedi_images.specs.Images.{plain, size_code};
 ghost use Rattle.fedi_images.specs.Known.{are_apart};
 ghost use Rattle.fedi_images.specs.Opening.{IsDamagedAt, IsFound, IsNoStore};
 ghost use Rattle.fedi_journal.specs.Finding.{IsGate, IsInside, faults_found};
+ghost use Rattle.fedi_journal.specs.Untouched.{IsUntouched};
 
 use crate::blocks::number_of;
 use crate::faults::JournalFault;
@@ -152,28 +153,86 @@ fn synced_size<D: Disk>(disk: &mut D) -> Result<u64, Failed>
     disk.len()
 }
 
-/// The gates of the records of a disk, and where the closed gate stands. It syncs before it reads, so that a crash leaves what it
-/// finds.
-pub fn find<D: Disk>(alloc: Global, disk: &mut D) -> Result<(Vec<u64>, u64), JournalFault>
+// The gates of the records of a disk, and where the closed gate stands. It syncs before it reads, so that a crash leaves what it
+// finds.
+fn find_gates<D: Disk>(alloc: Global, disk: &mut D) -> Result<(Vec<u64>, u64), JournalFault>
     ensures found { IfOk result (λ found. (bytes : List ℕ) → (D.shown disk.old).reads ≡ Some bytes
         → IsFound plain found.0.items found.1 bytes) }
     ensures apart { IfOk result (λ found. are_apart 9 found.0.items found.1 ≡ true) }
     ensures inside { IfOk result (λ found. found.1 < (D.shown disk.new).size) }
     ensures fits { IfOk result (λ found. found.1 < 2 ^ 64) }
-    ensures only { OnOk result ((bytes : List ℕ) → (D.shown disk.old).reads ≡ Some bytes
-        → LeavesOnly (D.crashes disk.new) bytes) }
+    ensures only { OnOk result (IfSome (D.shown disk.new).reads (LeavesOnly (D.crashes disk.new))) }
     ensures damaged { (place : ℕ) → IsErrOf result (JournalFault.Damaged place)
         → (bytes : List ℕ) → (D.shown disk.old).reads ≡ Some bytes → IsDamagedAt plain place bytes }
     ensures store { IsErrOf result JournalFault.NotAStore
         → (bytes : List ℕ) → (D.shown disk.old).reads ≡ Some bytes → IsNoStore plain bytes }
-    ensures reads { (D.shown disk.new).reads ≡ (D.shown disk.old).reads }
+    ensures memory { IsErrOf result JournalFault.Memory
+        → (bytes : List ℕ) → (D.shown disk.old).reads ≡ Some bytes → take 8 bytes ≡ plain.magic }
     ensures faults { (D.shown disk.new).faults ≡ faults_found result (D.shown disk.old).faults }
-    ensures time { Elapses (D.crashes disk.old) (D.crashes disk.new)
-        (D.crashes disk.old).may_leave }
+    ensures same { IsUntouched (D.shown disk.old) (D.shown disk.new)
+        (D.crashes disk.old) (D.crashes disk.new) }
 {
     let size = synced_size(disk)?;
     if !is_store(disk, size)? {
         return Err(JournalFault::NotAStore);
     }
     scan(alloc, disk, size)
+}
+
+// Reads the byte there and writes it again. Since the disk is synced, a crash leaves it as it was.
+fn rewrite<D: Disk>(disk: &mut D, at: u64) -> Result<(), Failed>
+    requires inside { at < (D.shown disk.old).size }
+    requires synced { IfSome (D.shown disk.old).reads (LeavesOnly (D.crashes disk.old)) }
+    ensures synced { IfSome (D.shown disk.new).reads (LeavesOnly (D.crashes disk.new)) }
+    ensures size { OnOk result ((D.shown disk.new).size ≡ (D.shown disk.old).size) }
+    ensures cause { HasCause (D.shown disk.old).faults (D.shown disk.new).faults result }
+    ensures same { IsUntouched (D.shown disk.old) (D.shown disk.new)
+        (D.crashes disk.old) (D.crashes disk.new) }
+{
+    let mut byte = [0];
+    disk.read_at(at, &mut byte)?;
+    disk.write_at(at, &byte)
+}
+
+// Writes the last open gate and the closed one again, and syncs. An earlier process may have failed to sync one of them: then reads
+// give it, and the disk may not have it, though the next sync succeeds.
+fn rewrite_gates<D: Disk>(disk: &mut D, gates: &[u64], end: u64) -> Result<(), Failed>
+    requires apart { are_apart 9 gates.now end ≡ true }
+    requires inside { end < (D.shown disk.old).size }
+    requires synced { IfSome (D.shown disk.old).reads (LeavesOnly (D.crashes disk.old)) }
+    ensures synced { IfSome (D.shown disk.new).reads (LeavesOnly (D.crashes disk.new)) }
+    ensures size { OnOk result ((D.shown disk.new).size ≡ (D.shown disk.old).size) }
+    ensures cause { HasCause (D.shown disk.old).faults (D.shown disk.new).faults result }
+    ensures same { IsUntouched (D.shown disk.old) (D.shown disk.new)
+        (D.crashes disk.old) (D.crashes disk.new) }
+{
+    if let Some(&gate) = gates.last() {
+        rewrite(disk, gate)?;
+    }
+    rewrite(disk, end)?;
+    disk.sync()
+}
+
+/// The gates of the records of a disk, and where the closed gate stands. It syncs before it reads, and again what it found, so that a
+/// crash leaves that. Whatever the answer, reads give the same bytes, and a crash leaves nothing new.
+pub fn find<D: Disk>(alloc: Global, disk: &mut D) -> Result<(Vec<u64>, u64), JournalFault>
+    ensures found { IfOk result (λ found. (bytes : List ℕ) → (D.shown disk.old).reads ≡ Some bytes
+        → IsFound plain found.0.items found.1 bytes) }
+    ensures apart { IfOk result (λ found. are_apart 9 found.0.items found.1 ≡ true) }
+    ensures inside { IfOk result (λ found. found.1 < (D.shown disk.new).size) }
+    ensures fits { IfOk result (λ found. found.1 < 2 ^ 64) }
+    ensures only { OnOk result (IfSome (D.shown disk.new).reads (LeavesOnly (D.crashes disk.new))) }
+    ensures damaged { (place : ℕ) → IsErrOf result (JournalFault.Damaged place)
+        → (bytes : List ℕ) → (D.shown disk.old).reads ≡ Some bytes → IsDamagedAt plain place bytes }
+    ensures store { IsErrOf result JournalFault.NotAStore
+        → (bytes : List ℕ) → (D.shown disk.old).reads ≡ Some bytes → IsNoStore plain bytes }
+    ensures memory { IsErrOf result JournalFault.Memory
+        → (bytes : List ℕ) → (D.shown disk.old).reads ≡ Some bytes → take 8 bytes ≡ plain.magic }
+    ensures faults { (D.shown disk.new).faults ≡ faults_found result (D.shown disk.old).faults }
+    ensures same { IsUntouched (D.shown disk.old) (D.shown disk.new)
+        (D.crashes disk.old) (D.crashes disk.new) }
+{
+    let (gates, end) = find_gates(alloc, disk)?;
+    rewrite_gates(disk, &gates, end)?;
+    Ok((gates, end))
 }

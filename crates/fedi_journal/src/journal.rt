@@ -47,18 +47,23 @@ pub struct Journal<D: Disk> {
 }
 
 impl<D: Disk> Journal<D> {
-    ghost use Rattle.std.specs.Prelude.{List, Some, None, option_map, IfOk, IfErr};
+    ghost use Rattle.std.specs.Prelude.{List, Some, None, option_map, take, IfOk, IfErr};
     ghost use Rattle.fedi_outside.specs.Disks.{Elapses, LeavesOnly, MayTear, spliced};
     ghost use Rattle.fedi_outside.specs.Keepers.{MayLeave};
     ghost use Rattle.fedi_images.specs.Images.{IsImage, front};
     ghost use Rattle.fedi_images.specs.Opening.{IsDamagedAt, IsNoStore};
     ghost use Rattle.fedi_journal.specs.Finding.{faults_after};
-    ghost use Rattle.fedi_journal.specs.Making.{IsOther, IsUnmade, blank, blank_shown};
+    ghost use Rattle.fedi_journal.specs.Making.{IsOther, IsUnmade, KeepsOther, blank, blank_shown};
     ghost use Rattle.fedi_journal.specs.Opening.{disk_after, disk_of};
+    ghost use Rattle.fedi_journal.specs.Untouched.{IsUntouched};
 
-    /// Opens the records of a disk. It syncs before it reads, so that a crash leaves what it finds. Each error hands the disk back,
-    /// whose bytes are as before: `NotAStore` if it has fewer than 9 bytes or does not begin with the magic, `Damaged` with the place
-    /// of the first gate that is not as it should be, `Failed` if the disk failed, and `Memory` if out of memory.
+    /// Opens the records of a disk. It syncs before it reads, so that a crash leaves what it finds. Then it writes the last open gate
+    /// and the closed one again, which an earlier process may have failed to sync, and syncs once more. Whatever the answer, reads
+    /// give the same bytes, and a crash leaves nothing new.
+    ///
+    /// Each error hands the disk back: `NotAStore` if it has fewer than 9 bytes or does not begin with the magic, `Damaged` with the
+    /// place of the first gate that is not as it should be, `Failed` if the disk failed, and `Memory`, only if it begins with the
+    /// magic, if out of memory.
     pub fn open(alloc: Global, disk: D) -> Result<Journal<D>, (JournalFault, D)>
         ensures found { IfOk result (λ journal. (bytes : List ℕ) → (D.shown disk).reads ≡ Some bytes
             → (rs : List (List ℕ)) × IsImage plain rs bytes
@@ -72,11 +77,12 @@ impl<D: Disk> Journal<D> {
             → (bytes : List ℕ) → (D.shown disk).reads ≡ Some bytes → IsDamagedAt plain place bytes) }
         ensures store { IfErr result (λ back. back.0 ≡ JournalFault.NotAStore
             → (bytes : List ℕ) → (D.shown disk).reads ≡ Some bytes → IsNoStore plain bytes) }
-        ensures reads { (D.shown (disk_after result)).reads ≡ (D.shown disk).reads }
+        ensures memory { IfErr result (λ back. back.0 ≡ JournalFault.Memory
+            → (bytes : List ℕ) → (D.shown disk).reads ≡ Some bytes → take 8 bytes ≡ plain.magic) }
         ensures faults { (D.shown (disk_after result)).faults
             ≡ faults_after result (D.shown disk).faults }
-        ensures time { Elapses (D.crashes disk) (D.crashes (disk_after result))
-            (D.crashes disk).may_leave }
+        ensures same { IsUntouched (D.shown disk) (D.shown (disk_after result))
+            (D.crashes disk) (D.crashes (disk_after result)) }
     {
         let mut disk = disk;
         match find(alloc, &mut disk) {
@@ -94,7 +100,8 @@ impl<D: Disk> Journal<D> {
 
     /// Makes a disk a journal without records, and syncs it. Each error hands the disk back: `Exists` if it has more than 9 bytes and
     /// does not begin with the magic and a closed gate, and its bytes are as before; `Failed` if the disk failed, and then its first
-    /// nine bytes may be torn, so that it can be made a journal again. It takes no memory.
+    /// nine bytes may be torn, so that it can be made a journal again. But other bytes stay, whatever the answer: reads give the same,
+    /// and a crash leaves nothing new. It takes no memory.
     pub fn init(alloc: Global, disk: D) -> Result<Journal<D>, (InitFault, D)>
         ensures shown { IfOk result (λ journal. ⟦<Journal<D> as Keeper>⟧.shown journal
             ≡ blank_shown (D.shown disk)) }
@@ -105,6 +112,8 @@ impl<D: Disk> Journal<D> {
         ensures durable { IfOk result (λ journal. IfSome (D.shown (disk_of journal)).reads
             (LeavesOnly (D.crashes (disk_of journal)))) }
         ensures unmade { IfErr result (λ back. IsUnmade back.0 (D.shown disk) (D.shown back.1)) }
+        ensures stays { KeepsOther (D.shown disk) (D.shown (disk_after result))
+            (D.crashes disk) (D.crashes (disk_after result)) }
         ensures time { Elapses (D.crashes disk) (D.crashes (disk_after result))
             (MayTear 0 blank (D.crashes disk)) }
     {

@@ -1,7 +1,7 @@
 //! Making a disk a journal.
 ghost use Rattle.std.specs.Prelude.{ℕ, ◌≡◌, ◌<◌, true, List, take, Some, option_map, IfSome, IfOk, IfErr, OnOk};
 ghost use Rattle.fedi_outside.specs.Disks.{Elapses, LeavesOnly, MayTear, after_reading, spliced};
-ghost use Rattle.fedi_journal.specs.Making.{IsOther, IsUnmade, blank};
+ghost use Rattle.fedi_journal.specs.Making.{IsOther, IsUnmade, KeepsOther, blank};
 
 use crate::faults::InitFault;
 use fedi_outside::{Disk, Failed, write_synced};
@@ -30,7 +30,8 @@ fn is_blank<D: Disk>(disk: &mut D, size: u64) -> Result<bool, Failed>
 }
 
 /// Makes a disk a journal without records: writes the magic and a closed gate and syncs, or only syncs if they are there. `Exists` if
-/// it has more than 9 bytes that begin with others; `Failed` if the disk failed, and then its first nine bytes may be torn.
+/// it has more than 9 bytes that begin with others; `Failed` if the disk failed, and then its first nine bytes may be torn. But other
+/// bytes stay, whatever the answer: reads give the same, and a crash leaves nothing new.
 pub fn make<D: Disk>(disk: &mut D) -> Result<(), InitFault>
     ensures written { OnOk result
         ((D.shown disk.new).reads ≡ option_map (spliced 0 blank) (D.shown disk.old).reads) }
@@ -41,6 +42,8 @@ pub fn make<D: Disk>(disk: &mut D) -> Result<(), InitFault>
     ensures durable { OnOk result
         (IfSome (D.shown disk.new).reads (LeavesOnly (D.crashes disk.new))) }
     ensures unmade { IfErr result (λ fault. IsUnmade fault (D.shown disk.old) (D.shown disk.new)) }
+    ensures stays { KeepsOther (D.shown disk.old) (D.shown disk.new)
+        (D.crashes disk.old) (D.crashes disk.new) }
     ensures time { Elapses (D.crashes disk.old) (D.crashes disk.new)
         (MayTear 0 blank (D.crashes disk.old)) }
 {

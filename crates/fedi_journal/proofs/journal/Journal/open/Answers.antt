@@ -1,15 +1,25 @@
 use Rattle.std.proofs.Common.{◌∙◌, arith, sym}
+use Rattle.fedi_images.proofs.Steps.{of_some}
+use Rattle.fedi_outside.specs.Disks.{LeavesOnly}
 use Rattle.fedi_journal.proofs.FindingSteps.{found_known, opened_records}
 use Rattle.fedi_journal.proofs.journal.Journal.open.Goals as goal
 
 pub invariant_of-result : goal.invariant_of-result
-invariant_of-result g c = record {
-  room = λ some. absurd (omega arith);
-  known = found_known (g.D.Disk.shown c.find.new.disk) (g.D.Disk.crashes c.find.new.disk) c.in-Ok.end c.in-Ok.gates.items
-      (λ bytes is. c.in-Ok.ensures.found bytes (sym c.find.ensures.reads ∙ is)) (λ bytes is. c.in-Ok.ensures.only bytes (sym c.find.ensures.reads ∙ is)) c.in-Ok.ensures.apart c.in-Ok.ensures.inside c.in-Ok.ensures.fits;
-}
+invariant_of-result g c =
+    let disk = c.find.new.disk in
+    record {
+      room = λ some. absurd (omega arith);
+      known = found_known (g.D.Disk.shown disk) (g.D.Disk.crashes disk) c.in-Ok.end c.in-Ok.gates.items
+          (λ bytes is. c.in-Ok.ensures.found bytes (sym c.find.ensures.same.reads ∙ is)) (of_some (g.D.Disk.shown disk).reads (LeavesOnly (g.D.Disk.crashes disk)) c.in-Ok.ensures.only)
+          c.in-Ok.ensures.apart c.in-Ok.ensures.inside c.in-Ok.ensures.fits;
+    }
 
 pub returns-in-Ok-clause-found : goal.returns-in-Ok-clause-found
 returns-in-Ok-clause-found g c = λ bytes is.
     let found = c.in-Ok.ensures.found bytes is in
-    (found.0, found.1, opened_records (g.D.Disk.shown c.find.new.disk) c.in-Ok.gates.items bytes c.in-Ok.end (c.find.ensures.reads ∙ is) found, found.2)
+    (found.0, found.1, opened_records (g.D.Disk.shown c.find.new.disk) c.in-Ok.gates.items bytes c.in-Ok.end (c.find.ensures.same.reads ∙ is) found, found.2)
+
+pub returns-in-Ok-clause-only : goal.returns-in-Ok-clause-only
+returns-in-Ok-clause-only g c = λ bytes is.
+    let disk = c.find.new.disk in
+    of_some (g.D.Disk.shown disk).reads (LeavesOnly (g.D.Disk.crashes disk)) c.in-Ok.ensures.only bytes (c.find.ensures.same.reads ∙ is)
