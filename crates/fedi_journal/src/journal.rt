@@ -200,6 +200,9 @@ impl<D: Disk> Keeper for Journal<D> {
         if self.end.saturating_add(needed) > LIMIT {
             return Err(ReserveFault::Full);
         }
+        if length < self.spare {
+            return Ok(());
+        }
         self.block.reserve(length + 9)?;
         self.gates.reserve(1)?;
         self.spare = self.spare.max(length + 1);
