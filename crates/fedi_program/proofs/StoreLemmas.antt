@@ -1,22 +1,24 @@
 -- A machine that was opened over a disk, and closed.
-use Rattle.std.proofs.Common.{◌≡◌, ℕ, ◌≤◌, Option, Some, None, List, inl, inr, refl, subst}
-use Rattle.std.specs.Prelude.{IfSome}
+use Rattle.std.proofs.Common.{◌≡◌, ℕ, ◌≤◌, Option, Some, None, List, inl, inr, refl, sym, subst, ◌∙◌}
+use Rattle.std.specs.Prelude.{IfSome, option_map}
 use Rattle.fedi_address.specs.Hosts.{IsHost}
 use Rattle.fedi_entry.specs.Codes.{code_of}
-use Rattle.fedi_images.specs.Images.{plain}
+use Rattle.fedi_images.specs.Images.{IsImage, plain}
+use Rattle.fedi_images.proofs.Steps.{of_some}
 use Rattle.fedi_images.specs.Known.{record_crashes, records_told}
 use Rattle.fedi_log.specs.Keeping.{State, since}
 use Rattle.fedi_log.specs.Log.{Log, given}
 use Rattle.fedi_objects.specs.declared.entry.Entry.TheVariants.{Hosted}
 use Rattle.fedi_outside.specs.Disks.{DiskCrashes, DiskState}
-use Rattle.fedi_startup.proofs.OpeningSteps.{no_time}
-use Rattle.fedi_startup.proofs.Stored.{leaves_stores, stores_along}
+use Rattle.fedi_outside.specs.Keepers.{MayLeave}
+use Rattle.fedi_startup.proofs.OpeningSteps.{begins_so}
+use Rattle.fedi_startup.proofs.Stored.{leaves_stores, stores_along, stores_found}
 use Rattle.fedi_startup.proofs.Surviving.{survives_on_disk}
 use Rattle.fedi_startup.proofs.Told.{each_some}
 use Rattle.fedi_startup.specs.Making.{LeavesAtMost}
 use Rattle.fedi_startup.specs.Marks.{Survives}
-use Rattle.fedi_startup.specs.Stores.{HasSameRecords, IsClosed, IsOpened, LeavesNothingNew}
-use Rattle.fedi_startup.specs.Surviving.{LeavesAlong, LeavesStoresAlong, opened_base}
+use Rattle.fedi_startup.specs.Stores.{HasRecords, HasSameRecords, IsClosed, IsOpened, IsStoreOf, KeepsForeign, LeavesFiles, LeavesNothingNew, records_of}
+use Rattle.fedi_startup.specs.Surviving.{LeavesStoresAlong, LeavesStoresFound, SurvivesOnDisk, opened_base}
 use Rattle.fedi_startup.specs.declared.faults.StoreFault.TheVariants as faults
 use Rattle.fedi_program.specs.Conversations.{IsNow}
 use Rattle.fedi_program.specs.Endings.{Output}
@@ -25,10 +27,11 @@ use Rattle.fedi_program.specs.Stores.{ChecksStore, Counts, EndsMaking, IsRefused
 pub served : (start found later : DiskState) (before middle after : DiskCrashes) (opened closed : State) (log : Log) (count : ℕ)
     → IsOpened start opened → opened.keeper.records ≡ records_told plain count found → before.clock ≤ middle.clock
     → IfSome start.reads (λ _. LeavesNothingNew before middle)
+    → IfSome start.reads (λ _. LeavesFiles middle (records_of opened.history) None) → ((image : List ℕ) → middle.left_since middle.clock image → middle.may_leave image)
     → Survives (opened_base opened) None (given opened.history) log closed (record_crashes plain found middle) (record_crashes plain later after)
     → IsClosed later after closed
     → IsServed (record { shown = start; crashes = before }) (record { shown = later; crashes = after }) opened closed log
-served start found later before middle after opened closed log count opens told clock nothing survives closes = record {
+served start found later before middle after opened closed log count opens told clock nothing left only survives closes = record {
   opens = opens;
   closes = closes;
   holds = survives.holds;
@@ -36,27 +39,61 @@ served start found later before middle after opened closed log count opens told 
   leaves = leaves_stores later after opened closed log opens.some survives.holds closes;
   files = files;
   stores = with_all start.reads files;
+  found = with_found start.reads files;
 }
   where
-    files : IfSome start.reads (λ _. LeavesAlong before after opened log)
-    files = survives_on_disk start found later before middle after opened closed log count opens told clock nothing survives
+    files : IfSome start.reads (λ _. SurvivesOnDisk before after opened log)
+    files = survives_on_disk start found later before middle after opened closed log count opens told clock nothing left only survives
 
-    with_all : (reads : Option (List ℕ)) → IfSome reads (λ _. LeavesAlong before after opened log)
+    with_all : (reads : Option (List ℕ)) → IfSome reads (λ _. SurvivesOnDisk before after opened log)
         → IfSome reads (λ _. LeavesStoresAlong before after opened.history (since (opened_base opened) log))
     with_all None all = tt
     with_all (Some bytes) all = stores_along before after opened closed log opens.some opens.doubt closes.sound survives.holds survives.marks all
 
--- nothing was asked of the disk, for want of memory
-pub unasked : (shown : DiskState) (crashes : DiskCrashes) → ((image : List ℕ) → crashes.left_since crashes.clock image → crashes.may_leave image)
-    → IsRefused (record { shown = shown; crashes = crashes }) (record { shown = shown; crashes = crashes }) faults.Memory
-unasked shown crashes now = record {
-  back = record { why = tt; reads = same shown.reads; faults = refl };
-  still = each_some shown.reads (λ bytes is. no_time crashes now);
+    with_found : (reads : Option (List ℕ)) → IfSome reads (λ _. SurvivesOnDisk before after opened log)
+        → IfSome reads (λ _. LeavesStoresFound before after opened.history (since (opened_base opened) log))
+    with_found None all = tt
+    with_found (Some bytes) all = stores_found before after opened closed log opens.some opens.doubt closes.sound survives.holds survives.marks all
+
+-- a machine that was opened, and closed before it did anything, for want of memory
+pub given_up : (start found : DiskState) (before middle : DiskCrashes) (opened : State) → IsOpened start opened → IsClosed found middle opened
+    → IfSome start.reads (λ _. LeavesNothingNew before middle) → KeepsForeign start found before middle
+    → IsRefused (record { shown = start; crashes = before }) (record { shown = found; crashes = middle }) faults.Memory
+given_up start found before middle opened opens closes nothing foreign = record {
+  back = record {
+    why = each_some start.reads (λ bytes is. begins_so (records_of opened.history) bytes (file bytes is));
+    reads = reads start.reads (λ bytes is. is) (sym opens.records ∙ closes.records);
+    faults = sym closes.faults ∙ opens.faults;
+  };
+  still = nothing;
+  foreign = foreign;
 }
   where
-    same : (reads : Option (List ℕ)) → HasSameRecords reads reads
-    same None = refl
-    same (Some bytes) = (bytes, refl, inl refl)
+    rs : List (List ℕ)
+    rs = records_of opened.history
+
+    file : (bytes : List ℕ) → start.reads ≡ Some bytes → IsImage plain rs bytes
+    file bytes is = (of_some start.reads (IsStoreOf opened.history) opens.stored bytes is).file
+
+    left : (other : List ℕ) → found.reads ≡ Some other → IsImage plain rs other
+    left other is =
+        let here = of_some found.reads (HasRecords rs opened.keeper.doubt) closes.file other is in
+        let same : here.0 ≡ rs = subst (λ (d : Option (List ℕ)). MayLeave rs d here.0) opens.doubt here.2 in
+        subst (λ (l : List (List ℕ)). IsImage plain l other) same here.1
+
+    none_told : (o : Option (List ℕ)) → None ≡ option_map (λ _. rs) o → o ≡ None
+    none_told None is = refl
+    none_told (Some other) is = absurd (cc is)
+
+    some_told : (o : Option (List ℕ)) → Some rs ≡ option_map (λ _. rs) o → (other : List ℕ) × (o ≡ Some other)
+    some_told None is = absurd (cc is)
+    some_told (Some other) is = (other, refl)
+
+    reads : (o : Option (List ℕ)) → ((bytes : List ℕ) → o ≡ Some bytes → start.reads ≡ Some bytes) → option_map (λ _. rs) o ≡ option_map (λ _. rs) found.reads → HasSameRecords o found.reads
+    reads None told same = none_told found.reads same
+    reads (Some bytes) told same =
+        let other = some_told found.reads same in
+        (other.0, other.1, inr (rs, file bytes (told bytes refl), left other.0 other.1))
 
 -- The host whose text was read is the text that was given.
 pub making_ends : {D : Type 0} (shown : D → DiskState) (crashes : D → DiskCrashes) (told : Option ℕ) (before after : D) (first now : Output)
@@ -77,8 +114,9 @@ making_ends shown crashes told before after first now host other moment status s
 pub checks : (start found : DiskState) (before middle : DiskCrashes) (opened : State) (count : ℕ) (first now : Output) (status : ℕ)
     → IsOpened start opened → opened.keeper.records ≡ records_told plain count found → before.clock ≤ middle.clock
     → IfSome start.reads (λ _. LeavesNothingNew before middle)
+    → IfSome start.reads (λ _. LeavesFiles middle (records_of opened.history) None) → ((image : List ℕ) → middle.left_since middle.clock image → middle.may_leave image)
     → Survives (opened_base opened) None (given opened.history) (given opened.history) opened (record_crashes plain found middle) (record_crashes plain found middle)
     → IsClosed found middle opened → Counts first now opened.history status
     → ChecksStore (record { shown = start; crashes = before }) (record { shown = found; crashes = middle }) first now status
-checks start found before middle opened count first now status opens told clock nothing survives closes counts =
-    inr (opened, served start found found before middle middle opened opened (given opened.history) count opens told clock nothing survives closes, counts)
+checks start found before middle opened count first now status opens told clock nothing left only survives closes counts =
+    inr (opened, served start found found before middle middle opened opened (given opened.history) count opens told clock nothing left only survives closes, counts)

@@ -13,8 +13,8 @@ use Rattle.fedi_program.specs.Members.{Chance, MakesMember, Tells, refusal_line}
 use Rattle.fedi_report.specs.Reports.{check_text}
 use Rattle.fedi_startup.specs.Marks.{MarksMayCome}
 use Rattle.fedi_startup.specs.Making.{IsMade, IsNotMade, LeavesAtMost}
-use Rattle.fedi_startup.specs.Stores.{ComesBack, IsClosed, IsOpened, LeavesNothingNew, LeavesStores}
-use Rattle.fedi_startup.specs.Surviving.{LeavesAlong, LeavesStoresAlong, growth, opened_base, room}
+use Rattle.fedi_startup.specs.Stores.{ComesBack, IsClosed, IsOpened, KeepsForeign, LeavesNothingNew, LeavesStores}
+use Rattle.fedi_startup.specs.Surviving.{LeavesStoresAlong, LeavesStoresFound, SurvivesOnDisk, growth, opened_base, room}
 use Rattle.fedi_startup.specs.declared.faults.MakeFault.{MakeFault}
 use Rattle.fedi_startup.specs.declared.faults.MakeFault.TheVariants as makes
 use Rattle.fedi_startup.specs.declared.faults.StoreFault.{StoreFault}
@@ -32,22 +32,25 @@ abbrev pub medium_by : {D : Type 0} → (D → DiskState) → (D → DiskCrashes
 medium_by shown crashes disk = record { shown = shown disk; crashes = crashes disk }
 
 -- No machine was opened over the disk, for this reason: it has the records that it had, and a crash on the way leaves what a
--- crash before might have left.
+-- crash before might have left. If its bytes are no file of records, it is untouched, image by image.
 pub record IsRefused (before after : Medium) (fault : StoreFault) : Type 0 where
   pub back : ComesBack fault before.shown after.shown
   pub still : IfSome before.shown.reads (λ _. LeavesNothingNew before.crashes after.crashes)
+  pub foreign : KeepsForeign before.shown after.shown before.crashes after.crashes
 
 -- A machine was opened over the disk, in the first of these states, and closed in the second, and stands for this log. The disk's
 -- file has the records of its history. If its bytes are told, a crash after the run leaves a store of that history, or of it with
--- the entry in doubt; and a crash on the way left files of the records along the log, and these are stores.
+-- the entry in doubt; a crash on the way left files of the records along the log, if one before did, and these are stores; and
+-- from the end of the opening on it left such stores whatever one before did.
 pub record IsServed (before after : Medium) (opened closed : State) (log : Log) : Type 0 where
   pub opens : IsOpened before.shown opened
   pub closes : IsClosed after.shown after.crashes closed
   pub holds : HoldsSince (opened_base opened) None (given opened.history) closed log
   pub marks : MarksMayCome [] log
   pub leaves : IfSome after.shown.reads (λ _. LeavesStores after.crashes closed.history closed.keeper.doubt)
-  pub files : IfSome before.shown.reads (λ _. LeavesAlong before.crashes after.crashes opened log)
+  pub files : IfSome before.shown.reads (λ _. SurvivesOnDisk before.crashes after.crashes opened log)
   pub stores : IfSome before.shown.reads (λ _. LeavesStoresAlong before.crashes after.crashes opened.history (since (opened_base opened) log))
+  pub found : IfSome before.shown.reads (λ _. LeavesStoresFound before.crashes after.crashes opened.history (since (opened_base opened) log))
 
 -- a machine was opened over the disk and closed, with some log
 abbrev pub IsRun : Medium → Medium → State → State → Type 0
@@ -82,8 +85,8 @@ TellsOfStore Memory before now status = (status ≡ 12) × Writes before now []
 
 -- ---- what a run does
 
--- How a run serves one connection over the store of a disk: it is not opened, and nothing is read or written; or it is, and a
--- session is held.
+-- How a run serves one connection over the store of a disk: it is not opened, or there is no memory to serve it, and nothing is
+-- read or written; or it is, and a session is held.
 abbrev pub ServesStore : Option ℕ → Medium → Medium → Scene → Scene → ℕ → Type 0
 ServesStore told before after first now status =
     ((fault : StoreFault) × IsRefused before after fault × (now ≡ first) × (status ≡ status_by fault))

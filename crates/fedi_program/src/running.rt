@@ -5,6 +5,7 @@ ghost use Rattle.fedi_program.specs.Commands.{AddActor, Check, Inetd, Init, Usag
 ghost use Rattle.fedi_program.specs.Endings.{HasCauses, Prints, WritesUnlessFailed, faults_by, output_by, scene_by, status_of};
 ghost use Rattle.fedi_program.specs.Members.{chance_by};
 ghost use Rattle.fedi_program.specs.Runs.{is_status_of, may_draw, opens_store};
+ghost use Rattle.fedi_journal.specs.Making.{KeepsOther};
 ghost use Rattle.fedi_log.specs.Keeping.{base_of, state_of};
 ghost use Rattle.fedi_log.specs.Log.{given};
 ghost use Rattle.fedi_startup.specs.Marks.{Survives};
@@ -49,41 +50,8 @@ fn status_of(end: SessionEnd) -> u8
     }
 }
 
-/// Serves the connection over the store of the disk.
-fn serve<S: Source, O: Sink, D: Disk, C: Clock>(
-    alloc: Global,
-    routes: &Routes,
-    connection: &mut Connection<S, O, C>,
-    disk: D,
-) -> Ended<D>
-    ensures session { ServesStore (C.told connection.old.clock)
-        (medium_by D.shown D.crashes disk) (medium_by D.shown D.crashes result.disk)
-        (scene_by S.left O.sent O.write_faults connection.old.input connection.old.out)
-        (scene_by S.left O.sent O.write_faults connection.new.input connection.new.out)
-        result.status }
-    ensures causes { HasCauses
-        (faults_by S.read_faults O.write_faults connection.old.input connection.old.out)
-        (faults_by S.read_faults O.write_faults connection.new.input connection.new.out)
-        result.status }
-    ensures statuses { IsTrue (is_status_of (Some Inetd) result.status) }
-    ensures clock { connection.new.clock ≡ connection.old.clock }
-{
-    match open_store(alloc, disk) {
-        Ok(mut core) => {
-            let end = session(alloc, &mut core, routes, connection);
-            Ended {
-                status: status_of(end),
-                disk: close_store(core),
-            }
-        }
-        Err((fault, disk)) => Ended {
-            status: status_by(fault),
-            disk,
-        },
-    }
-}
-
-/// Makes the routes, and serves the connection.
+/// Serves the connection over the store of the disk. The store is opened first, so that what is no store is
+/// told even where memory is short.
 fn inetd<S: Source, O: Sink, D: Disk, C: Clock>(
     alloc: Global,
     connection: &mut Connection<S, O, C>,
@@ -101,10 +69,22 @@ fn inetd<S: Source, O: Sink, D: Disk, C: Clock>(
     ensures statuses { IsTrue (is_status_of (Some Inetd) result.status) }
     ensures clock { connection.new.clock ≡ connection.old.clock }
 {
-    match Routes::new(alloc) {
-        Ok(routes) => serve(alloc, &routes, connection, disk),
-        Err(AllocError) => Ended {
-            status: OUT_OF_MEMORY,
+    match open_store(alloc, disk) {
+        Ok(mut core) => match Routes::new(alloc) {
+            Ok(routes) => {
+                let end = session(alloc, &mut core, &routes, connection);
+                Ended {
+                    status: status_of(end),
+                    disk: close_store(core),
+                }
+            }
+            Err(AllocError) => Ended {
+                status: OUT_OF_MEMORY,
+                disk: close_store(core),
+            },
+        },
+        Err((fault, disk)) => Ended {
+            status: status_by(fault),
             disk,
         },
     }
@@ -255,6 +235,13 @@ pub fn run<S: Source, O: Sink, D: Disk, C: Clock, E: Entropy>(
         (output_by O.sent O.write_faults connection.old.out)
         (output_by O.sent O.write_faults connection.new.out) host result.status }
 
+    // Whatever comes of it, the bytes of a store that is there stay: reads give the same, and a crash at
+    // any moment of the run leaves nothing new.
+    ensures stays { (host : List ℕ)
+        → task_in (map string_bytes arguments.now) ≡ Some (Init host)
+        → KeepsOther (D.shown disk) (D.shown result.disk)
+        (D.crashes disk) (D.crashes result.disk) }
+
     // What a store has is counted, and stays.
     ensures checked { task_in (map string_bytes arguments.now) ≡ Some Check
         → ChecksStore
@@ -266,7 +253,8 @@ pub fn run<S: Source, O: Sink, D: Disk, C: Clock, E: Entropy>(
     // history: those that the opening found, and those of the entries that the run made. A crash at
     // any moment of the run leaves the records of before the run, or those that the opening found with
     // the first of these, none or more, and behind them at most one that was in doubt then. After the
-    // run it leaves the records of all of them, with at most the one in doubt.
+    // run it leaves the records of all of them, with at most the one in doubt. One that is not opened
+    // has the records that it had, and what is no file of records is untouched.
     ensures crashes { opens_store (task_in (map string_bytes arguments.now)) ≡ true
         → IsKeptSafe (medium_by D.shown D.crashes disk) (medium_by D.shown D.crashes result.disk) }
 

@@ -1,6 +1,7 @@
 //! What a run tells of a store that is made, or not opened.
 
 ghost use Rattle.std.specs.Prelude.{◌≡◌, ◌≤◌, IfOk, length};
+ghost use Rattle.fedi_journal.specs.Making.{KeepsOther};
 ghost use Rattle.fedi_program.specs.Endings.{output_by};
 ghost use Rattle.fedi_program.specs.Members.{Tells};
 ghost use Rattle.fedi_program.specs.Stores.{MakesStore, TellsOfMaking, TellsOfStore, damage_line, made_line, status_by};
@@ -92,7 +93,8 @@ fn made_line(alloc: Global, host: &str) -> Result<Vec<u8>, AllocError>
 
 /// Makes the disk a store for this host, as an operator asks, and prints that it was made. The line is
 /// made before the store, so that a store is not made of which this cannot be told, being out of memory.
-/// The answer is the exit status: a store was made at 0 and 7. The disk comes back.
+/// The answer is the exit status: a store was made at 0 and 7. The disk comes back. Whatever the answer,
+/// the bytes of a store that is there stay: reads give the same, and a crash leaves nothing new.
 pub fn begin_store<O: Sink, D: Disk, C: Clock>(
     alloc: Global,
     out: &mut O,
@@ -100,9 +102,11 @@ pub fn begin_store<O: Sink, D: Disk, C: Clock>(
     disk: D,
     host: &str,
 ) -> (u8, D)
-    ensures { MakesStore D.shown D.crashes (C.told clock.now) disk result.1
+    ensures made { MakesStore D.shown D.crashes (C.told clock.now) disk result.1
         (output_by O.sent O.write_faults out.old) (output_by O.sent O.write_faults out.new)
         host.now result.0 }
+    ensures stays { KeepsOther (D.shown disk) (D.shown result.1)
+        (D.crashes disk) (D.crashes result.1) }
 {
     let moment = Moment::clamped(clock.now());
     let Ok(line) = made_line(alloc, host) else {

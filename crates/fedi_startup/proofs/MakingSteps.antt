@@ -1,7 +1,9 @@
 -- What becomes of a disk that is made a store.
-use Rattle.std.proofs.Common.{◌≡◌, ◌≢◌, ◌⊎◌, inl, inr, ℕ, ◌<◌, ◌≤◌, true, List, [], ◌∷◌, ◌++◌, length, drop, Option, Some, None, refl, sym, ap, subst, ◌∙◌, arith}
+use Rattle.std.proofs.Common.{◌≡◌, ◌≢◌, ◌⊎◌, inl, inr, ⊎_elim, ℕ, ◌<◌, ◌≤◌, Bool, true, false, nat_lt, List, [], ◌∷◌, ◌++◌, length, take, drop, Option, Some, None, refl, sym, ap, subst, ◌∙◌, arith}
 use Rattle.std.specs.Cmp.Derive.{both_true}
 use Rattle.std.specs.Prelude.{IfSome, IsUtf8, codes, is_some, option_map}
+use Rattle.std.specs.Str.{bytes_eq}
+use Rattle.std.proofs.lemmas.Bool.Decides.{Decides-ltb}
 use Rattle.std.proofs.lemmas.Slice.Eq.{bytes_eq-Decides}
 use Rattle.std.proofs.lemmas.Str.{is_utf8-from_IsUtf8}
 use Rattle.fedi_address.specs.Hosts.{IsHost, address}
@@ -17,13 +19,16 @@ use Rattle.fedi_images.proofs.ImageLemmas.{closed_intro, plain_ok}
 use Rattle.fedi_images.proofs.Steps.{of_some}
 use Rattle.fedi_images.specs.Images.{IsImage, front, kept_in, plain}
 use Rattle.fedi_images.specs.Known.{record_crashes, records_told}
-use Rattle.fedi_journal.specs.Making.{IsOther, blank, blank_shown}
+use Rattle.fedi_journal.specs.Making.{IsOther, IsUnmade, KeepsOther, blank, blank_shown}
+use Rattle.fedi_journal.specs.declared.faults.InitFault.{InitFault}
+use Rattle.fedi_journal.specs.declared.faults.InitFault.TheVariants as inits
 use Rattle.fedi_objects.specs.declared.entry.Entry.{Entry}
 use Rattle.fedi_objects.specs.declared.entry.Entry.TheVariants.{Hosted}
 use Rattle.fedi_outside.specs.Causes.{next_count}
-use Rattle.fedi_outside.specs.Disks.{DiskCrashes, DiskState, Elapses, LeavesOnly, MayTear, spliced}
+use Rattle.fedi_outside.specs.Disks.{DiskCrashes, DiskState, Elapses, LeavesOnly, MayTear, TearsTold, spliced}
 use Rattle.fedi_outside.specs.Keepers.{Adds, Crashes, HasAdded, KeeperState, MayLeave, OnlyRoomChanged}
 use Rattle.fedi_startup.specs.Making.{IsMade, IsNotMade, LeavesAtMost, MayBeBegun, MayBeEmpty, WasFree}
+use Rattle.fedi_startup.specs.Faults.{of_init}
 use Rattle.fedi_startup.specs.declared.faults.MakeFault.TheVariants.{Failed, Memory}
 use Rattle.fedi_startup.specs.Stores.{HasRecords, IsSound, LeavesFiles, LeftFiles, records_of}
 use Rattle.fedi_startup.proofs.Told.{each_some, of_told, told_alike, told_bytes, untold_bytes}
@@ -43,6 +48,35 @@ first_sound host moment utf8 is_one bound = record {
 
     own : is_own (normal text) text ≡ true
     own = ap (λ (o : Option (List ℕ)). is_own o text) is_one.own ∙ (bytes_eq-Decides text text).1 refl
+
+-- ---- no journal
+
+which : (b : Bool) → (b ≡ true) ⊎ (b ≡ false)
+which true = inl refl
+which false = inr refl
+
+-- these are other bytes, or not
+other_or_free : (bytes : List ℕ) → IsOther bytes ⊎ (IsOther bytes → ⊥)
+other_or_free bytes =
+    let long = Decides-ltb 9 (length bytes) in
+    let same = bytes_eq-Decides (take 9 bytes) blank in
+    ⊎_elim
+    (λ is_long. ⊎_elim (λ is_same. inr (λ other. other.1 (same.0 is_same))) (λ differs. inl (long.0 is_long, λ is. apart (sym (same.1 is) ∙ differs))) (which (bytes_eq (take 9 bytes) blank)))
+    (λ is_short. inr (λ other. apart (sym (long.1 other.0) ∙ is_short))) (which (nat_lt 9 (length bytes)))
+  where
+    apart : true ≡ false → ⊥
+    apart e = cc
+
+-- the disk was not made a journal
+pub not_begun : (fault : InitFault) (code : List ℕ) (before after : DiskState) (was now : DiskCrashes) → IsUnmade fault before after → KeepsOther before after was now
+    → IsNotMade code (of_init fault) before after
+not_begun inits.Exists code before after was now unmade stays = (each_some before.reads unmade.2, unmade.0, unmade.1)
+not_begun inits.Failed code before after was now unmade stays = (begun before.reads refl unmade.0, unmade.1)
+  where
+    begun : (o : Option (List ℕ)) → before.reads ≡ o → TearsTold 0 blank o after.reads → MayBeBegun code o after.reads
+    begun None is torn = torn
+    begun (Some bytes) is torn =
+        ⊎_elim (λ other. (bytes, (stays bytes is other).reads ∙ is, inl refl)) (λ free. (torn.0, torn.1, inr (free, inl torn.2))) (other_or_free bytes)
 
 -- ---- a journal that may have the first record
 
@@ -131,7 +165,7 @@ module _ (start after : DiskState) (crashes : DiskCrashes) (k l : KeeperState) (
       reads None is = untold_empty failed.records is
       reads (Some bytes) is =
           let found = told_empty failed.records bytes is in
-          (found.0, found.1, inr (fresh bytes is, (found.2.0, found.2.1, may found.2.0 failed.doubt found.2.2)))
+          (found.0, found.1, inr (fresh bytes is, inr (found.2.0, found.2.1, may found.2.0 failed.doubt found.2.2)))
 
 -- ---- crashes
 

@@ -1,11 +1,12 @@
 -- What an opening may answer excludes all else.
-use Rattle.std.proofs.Common.{◌≡◌, inl, inr, ℕ, List, [], ◌∷◌, length, Some, refl, sym, ap, subst, arith}
+use Rattle.std.proofs.Common.{◌≡◌, inl, inr, ℕ, ◌+◌, ◌<◌, List, [], ◌∷◌, ◌++◌, length, take, drop, Some, refl, sym, ap, subst, ◌∙◌, arith, length-append}
 use Rattle.std.proofs.lemmas.List.{length-map, take_all}
 use Rattle.fedi_entry.specs.Codes.{code_of}
 use Rattle.fedi_images.proofs.ImageLemmas.{one_image, plain_ok}
 use Rattle.fedi_images.proofs.Openings.{damaged_is_store, image_is_store, not_damaged}
-use Rattle.fedi_images.specs.Images.{plain}
+use Rattle.fedi_images.specs.Images.{blocks, front, plain, record_code}
 use Rattle.fedi_images.specs.Opening.{IsDamagedAt}
+use Rattle.fedi_journal.specs.Making.{IsOther, blank}
 use Rattle.fedi_objects.specs.declared.entry.Entry.{Entry}
 use Rattle.fedi_opening.proofs.Answers.{damaged_once, read_once, read_or_damaged}
 use Rattle.fedi_opening.specs.Opening.{IsDamaged, IsRead}
@@ -62,3 +63,21 @@ none_record place bytes (inr none) bad =
 
 pub byte_record : (here there : ℕ) (bytes : List ℕ) → IsDamagedAt plain here bytes → HasBadRecord there bytes → ⊥
 byte_record here there bytes damaged bad = not_damaged plain plain_ok bad.0 here bytes bad.1 damaged
+
+-- a store begins with an open gate behind the magic
+pub store_other : (history : List Entry) (bytes : List ℕ) → IsStoreOf history bytes → IsOther bytes
+unfolding front
+store_other [] bytes store = absurd (store.some refl)
+store_other (e ∷ es) bytes store = (long, λ blank_here. apart (sym (ap (take 9) store.file.spelled) ∙ blank_here))
+  where
+    behind : List ℕ
+    behind = record_code plain [] (code_of e) ++ blocks plain (code_of e ∷ []) (records_of es)
+
+    rest : List ℕ
+    rest = drop (length (front plain (records_of (e ∷ es))) + 1) bytes
+
+    long : 9 < length bytes
+    long = omega (arith, ap length store.file.spelled, length-append behind (0 ∷ rest))
+
+    apart : take 9 (front plain (records_of (e ∷ es)) ++ 0 ∷ rest) ≡ blank → ⊥
+    apart is = cc

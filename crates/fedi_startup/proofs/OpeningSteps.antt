@@ -1,14 +1,16 @@
 -- What is known of a disk once a machine was opened over it, or was not.
-use Rattle.std.proofs.Common.{◌≡◌, ◌⊎◌, inl, inr, ℕ, ◌+◌, List, [], ◌∷◌, length, map, Option, Some, None, refl, sym, ap, subst, ◌∙◌, arith}
+use Rattle.std.proofs.Common.{◌≡◌, ◌⊎◌, inl, inr, ℕ, ◌+◌, List, [], ◌∷◌, ◌++◌, length, map, take, drop, Option, Some, None, refl, sym, ap, subst, ◌∙◌, append_assoc, arith}
 use Rattle.std.specs.Prelude.{◌≢◌, Err, IfSome, is_some, option_map}
+use Rattle.std.proofs.lemmas.List.{take_at}
 use Rattle.fedi_entry.specs.Codes.{code_of}
 use Rattle.fedi_images.proofs.Finding.{images_left}
 use Rattle.fedi_images.proofs.ImageLemmas.{one_image, plain_ok}
 use Rattle.fedi_images.proofs.Steps.{of_some, images_left as files_left}
-use Rattle.fedi_images.specs.Images.{IsImage, front, kept_in, plain}
+use Rattle.fedi_images.specs.Images.{IsImage, blocks, front, kept_in, plain}
 use Rattle.fedi_images.specs.Known.{IsKnown, record_crashes, records_told}
 use Rattle.fedi_images.specs.Opening.{IsDamagedAt, IsNoStore}
 use Rattle.fedi_journal.specs.Finding as journals
+use Rattle.fedi_journal.specs.Untouched.{IsUntouched}
 use Rattle.fedi_journal.specs.declared.faults.JournalFault.{JournalFault}
 use Rattle.fedi_journal.specs.declared.faults.JournalFault.TheVariants as journal_faults
 use Rattle.fedi_log.proofs.Leaving.{few_kept}
@@ -21,7 +23,7 @@ use Rattle.fedi_opening.specs.declared.fault.OpenFault.TheVariants.{Failed, Dama
 use Rattle.fedi_outside.specs.Disks.{DiskCrashes, DiskState, Elapses}
 use Rattle.fedi_outside.specs.Keepers.{Adds, KeeperState, MayLeave, PassesTime}
 use Rattle.fedi_startup.specs.Faults.{of_journal, of_opening}
-use Rattle.fedi_startup.specs.Stores.{ComesBack, HasRecords, HasSameRecords, IsNotOpened, IsOpened, IsSound, LeavesFiles, LeavesNothingNew, count_after, records_of}
+use Rattle.fedi_startup.specs.Stores.{ComesBack, HasRecords, HasSameRecords, IsNotOpened, IsOpened, IsSound, KeepsForeign, LeavesFiles, LeavesNothingNew, count_after, records_of}
 use Rattle.fedi_startup.proofs.Told.{each_some, of_told, told_bytes, untold_bytes}
 
 -- ---- crashes
@@ -47,8 +49,7 @@ nothing_here crashes told before a b same h = subst (λ d. IfSome told (λ _. Le
 module _ (start found later : DiskState) (before middle after : DiskCrashes) (told : Option (List (List ℕ))) (doubted : Option (List ℕ)) (end : ℕ)
     (stays : IfSome start.reads before.may_leave)
     (only : (image : List ℕ) → before.left_since before.clock image → before.may_leave image)
-    (elapses : Elapses before middle before.may_leave)
-    (same : found.reads ≡ start.reads)
+    (untouched : IsUntouched start found before middle)
     (finds : (bytes : List ℕ) → start.reads ≡ Some bytes → (rs : List (List ℕ)) × IsImage plain rs bytes × (told ≡ Some rs) × (end ≡ length (front plain rs)))
     (settled : doubted ≡ None)
     (passes : PassesTime told doubted (record_crashes plain found middle) (record_crashes plain later after)) where
@@ -57,7 +58,7 @@ module _ (start found later : DiskState) (before middle after : DiskCrashes) (to
   adds bytes is =
       let rs = (finds bytes is).0 in
       subst (λ (o : Option (List ℕ)). Adds middle.clock (record_crashes plain found middle).left_since (record_crashes plain later after).left_since (MayLeave rs o)) settled
-      (of_told (is_some found.reads) told rs (λ kept. Adds middle.clock (record_crashes plain found middle).left_since (record_crashes plain later after).left_since (MayLeave kept doubted)) (ap is_some (same ∙ is)) (finds bytes is).2 passes.crash)
+      (of_told (is_some found.reads) told rs (λ kept. Adds middle.clock (record_crashes plain found middle).left_since (record_crashes plain later after).left_since (MayLeave kept doubted)) (ap is_some (untouched.reads ∙ is)) (finds bytes is).2 passes.crash)
 
   pub read_old : IfSome start.reads (λ _. LeavesNothingNew before after)
   read_old = each_some start.reads at
@@ -66,8 +67,8 @@ module _ (start found later : DiskState) (before middle after : DiskCrashes) (to
       at bytes is records doubt files image since =
           let rs = (finds bytes is).0 in
           let here = files bytes (of_some start.reads before.may_leave stays bytes is) in
-          let file = images_left plain plain_ok found later middle after (MayLeave records doubt) (λ left. left ≡ rs) (length records + length rs + 1) before.clock elapses.clock
-          (elapsed_old before middle only elapses records doubt files) (adds bytes is)
+          let file = images_left plain plain_ok found later middle after (MayLeave records doubt) (λ left. left ≡ rs) (length records + length rs + 1) before.clock untouched.clock
+          (elapsed_old before middle only (untouched.crashes bytes is) records doubt files) (adds bytes is)
           (λ left old. omega (arith, few_kept records doubt left old)) (λ left new. omega (arith, ap length new)) image since in
           (file.0, file.1, either file.0 rs here.0 (one_image plain plain_ok here.0 rs bytes here.1 (finds bytes is).1) here.2 file.2)
         where
@@ -130,23 +131,40 @@ leaves_found start later crashes end gates k history opened told known = each_so
 
 -- ---- no machine
 
+-- a file of records begins with the magic
+pub begins_so : (rs : List (List ℕ)) (bytes : List ℕ) → IsImage plain rs bytes → take 8 bytes ≡ plain.magic
+unfolding front
+begins_so rs bytes image =
+    ap (take 8) (image.spelled ∙ append_assoc plain.magic (blocks plain [] rs) (0 ∷ drop (length (front plain rs) + 1) bytes))
+    ∙ take_at plain.magic (blocks plain [] rs ++ 0 ∷ drop (length (front plain rs) + 1) bytes) 8 refl
+
+-- what is untouched is so if it is no file of records, and what is a file of records is not
+pub foreign_untouched : (start after : DiskState) (before now : DiskCrashes) → IsUntouched start after before now → KeepsForeign start after before now
+foreign_untouched start after before now same = λ bytes is none. same
+
+pub not_foreign : (start after : DiskState) (before now : DiskCrashes) (P : List ℕ → List (List ℕ) → Type 0)
+    → ((bytes : List ℕ) → start.reads ≡ Some bytes → (rs : List (List ℕ)) × IsImage plain rs bytes × P bytes rs) → KeepsForeign start after before now
+not_foreign start after before now P finds = λ bytes is none. let f = finds bytes is in absurd (none f.0 f.1)
+
 -- the journal was not opened
 pub not_found : (fault : JournalFault) (start after : DiskState)
     → ((place : ℕ) → fault ≡ journal_faults.Damaged place → (bytes : List ℕ) → start.reads ≡ Some bytes → IsDamagedAt plain place bytes)
     → (fault ≡ journal_faults.NotAStore → (bytes : List ℕ) → start.reads ≡ Some bytes → IsNoStore plain bytes)
+    → (fault ≡ journal_faults.Memory → (bytes : List ℕ) → start.reads ≡ Some bytes → take 8 bytes ≡ plain.magic)
     → after.reads ≡ start.reads → after.faults ≡ journals.count_after fault start.faults → ComesBack (of_journal fault) start after
-not_found fault start after damaged store same faults = record {
-  why = why fault damaged store;
+not_found fault start after damaged store memory same faults = record {
+  why = why fault damaged store memory;
   reads = alike start.reads same;
   faults = faults ∙ counts fault;
 }
   where
     why : (fault : JournalFault) → ((place : ℕ) → fault ≡ journal_faults.Damaged place → (bytes : List ℕ) → start.reads ≡ Some bytes → IsDamagedAt plain place bytes)
-        → (fault ≡ journal_faults.NotAStore → (bytes : List ℕ) → start.reads ≡ Some bytes → IsNoStore plain bytes) → IsNotOpened (of_journal fault) start
-    why journal_faults.NotAStore damaged store = each_some start.reads (λ bytes is. inl (store refl bytes is))
-    why (journal_faults.Damaged place) damaged store = each_some start.reads (λ bytes is. damaged place refl bytes is)
-    why journal_faults.Failed damaged store = tt
-    why journal_faults.Memory damaged store = tt
+        → (fault ≡ journal_faults.NotAStore → (bytes : List ℕ) → start.reads ≡ Some bytes → IsNoStore plain bytes)
+        → (fault ≡ journal_faults.Memory → (bytes : List ℕ) → start.reads ≡ Some bytes → take 8 bytes ≡ plain.magic) → IsNotOpened (of_journal fault) start
+    why journal_faults.NotAStore damaged store memory = each_some start.reads (λ bytes is. inl (store refl bytes is))
+    why (journal_faults.Damaged place) damaged store memory = each_some start.reads (λ bytes is. damaged place refl bytes is)
+    why journal_faults.Failed damaged store memory = tt
+    why journal_faults.Memory damaged store memory = each_some start.reads (λ bytes is. memory refl bytes is)
 
     alike : (reads : Option (List ℕ)) → after.reads ≡ reads → HasSameRecords reads after.reads
     alike None is = is
@@ -200,7 +218,7 @@ not_read fault start found after crashes k l history count more finds settled sa
     why Failed stops = tt
     why (Damaged place) stops = each_some start.reads (λ bytes is. let f = finds bytes is in (f.0, f.1, (history, damaged f.0 place f.2 stops)))
     why Empty stops = each_some start.reads (λ bytes is. let f = finds bytes is in inr (empty f.0 bytes stops f.2 f.1))
-    why Memory stops = tt
+    why Memory stops = each_some start.reads (λ bytes is. let f = finds bytes is in begins_so f.0 bytes f.1)
 
     records : l.records ≡ k.records
     records = ap (λ (s : KeeperState). s.records) shown ∙ (same_keeper fault k).0

@@ -12,7 +12,7 @@ use Rattle.fedi_entry.specs.Codes.{code_of}
 use Rattle.fedi_entry.specs.Fields.{IsFormed}
 use Rattle.fedi_images.specs.Images.{IsImage, plain}
 use Rattle.fedi_log.proofs.Growing.{given_history, history_append}
-use Rattle.fedi_log.specs.Keeping.{GoesAlone, HoldsSince, State, since}
+use Rattle.fedi_log.specs.Keeping.{HoldsSince, State, since}
 use Rattle.fedi_log.specs.Leaving.{IsLeft}
 use Rattle.fedi_log.specs.Log.{Log, doubts_of, entry_in, given, history_of}
 use Rattle.fedi_objects.specs.declared.entry.Entry.{Entry}
@@ -27,7 +27,7 @@ use Rattle.fedi_town.specs.Legal.{is_admissible, is_legal_from}
 use Rattle.fedi_town.specs.Towns.{Town, empty_town}
 use Rattle.fedi_startup.specs.Marks.{MarksMayCome}
 use Rattle.fedi_startup.specs.Stores.{IsAround, IsClosed, IsSound, IsStoreOf, LeavesFiles, LeavesStores, records_of}
-use Rattle.fedi_startup.specs.Surviving.{IsFirstPart, LeavesAlong, LeavesStoresAlong, opened_base}
+use Rattle.fedi_startup.specs.Surviving.{IsFirstPart, LeavesStoresAlong, LeavesStoresFound, SurvivesOnDisk, opened_base}
 use Rattle.fedi_startup.proofs.Marks.{doubts_come}
 use Rattle.fedi_startup.proofs.Told.{each_some}
 
@@ -172,25 +172,37 @@ leaves_stores disk crashes opened now log some holds closed =
       files = of_some disk.reads (λ _. LeavesFiles crashes (records_of now.history) now.keeper.doubt) closed.leaves bytes is;
     })
 
+-- each mark since the opening may come where it is
+marks_since : (opened now : State) (log : Log) → HoldsSince (opened_base opened) None (given opened.history) now log → MarksMayCome [] log
+    → MarksMayCome opened.history (since (opened_base opened) log)
+marks_since opened now log holds marks =
+    let goes = holds.grown in
+    subst (λ (l : Log). MarksMayCome opened.history l) (sym (since_given opened log goes.past goes.is))
+    (subst (λ (h : List Entry). MarksMayCome h goes.past) (given_history opened.history)
+    (marks_back [] (given opened.history) goes.past (subst (λ (l : Log). MarksMayCome [] l) goes.is marks)))
+
 -- Files of lists of records are stores: of what was there before the run, or of the first part of what the run made.
 pub stores_along : (before after : DiskCrashes) (opened now : State) (log : Log) → opened.history ≢ [] → opened.keeper.doubt ≡ None → IsSound now.history
-    → HoldsSince (opened_base opened) None (given opened.history) now log → MarksMayCome [] log → LeavesAlong before after opened log
+    → HoldsSince (opened_base opened) None (given opened.history) now log → MarksMayCome [] log → SurvivesOnDisk before after opened log
     → LeavesStoresAlong before after opened.history (since (opened_base opened) log)
-stores_along before after opened now log some settled sound holds marks along history doubt leaves image moment =
+stores_along before after opened now log some settled sound holds marks survives history doubt leaves image moment =
     let added : Log = since (opened_base opened) log in
-    let file = along (records_of history) doubt leaves.files image moment in
+    let file = survives.along (records_of history) doubt leaves.files image moment in
     elim file.2 as (λ _. (left : List Entry) × IsStoreOf left image × (IsAround history doubt left ⊎ IsFirstPart opened.history added left)) [
       | inl old ↦ let store = around before history doubt image file.0 leaves file.1 old in (store.0, store.1, inl store.2)
       | inr new ↦
-          let store = first_part opened now log image file.0 some settled sound (now_grown opened now log holds) since_marks file.1 new in
+          let store = first_part opened now log image file.0 some settled sound (now_grown opened now log holds) (marks_since opened now log holds marks) file.1 new in
           (store.0, store.1, inr store.2)
     ]
-  where
-    goes : GoesAlone None (given opened.history) log
-    goes = holds.grown
 
-    since_marks : MarksMayCome opened.history (since (opened_base opened) log)
-    since_marks =
-        subst (λ (l : Log). MarksMayCome opened.history l) (sym (since_given opened log goes.past goes.is))
-        (subst (λ (h : List Entry). MarksMayCome h goes.past) (given_history opened.history)
-        (marks_back [] (given opened.history) goes.past (subst (λ (l : Log). MarksMayCome [] l) goes.is marks)))
+-- and from the end of the opening on, of the first part alone
+pub stores_found : (before after : DiskCrashes) (opened now : State) (log : Log) → opened.history ≢ [] → opened.keeper.doubt ≡ None → IsSound now.history
+    → HoldsSince (opened_base opened) None (given opened.history) now log → MarksMayCome [] log → SurvivesOnDisk before after opened log
+    → LeavesStoresFound before after opened.history (since (opened_base opened) log)
+stores_found before after opened now log some settled sound holds marks survives = (
+  survives.moment,
+  survives.during,
+  λ image since_then.
+      let file = survives.found image since_then in
+      first_part opened now log image file.0 some settled sound (now_grown opened now log holds) (marks_since opened now log holds marks) file.1 file.2,
+)

@@ -1,36 +1,39 @@
 -- From what a crash leaves as lists of records to what it leaves of a disk.
-use Rattle.std.proofs.Common.{◌≡◌, ℕ, ◌+◌, ◌≤◌, List, length, Option, Some, None, sym, ap, ◌∙◌, arith}
+use Rattle.std.proofs.Common.{◌≡◌, ◌⊎◌, inl, inr, ℕ, ◌+◌, ◌≤◌, List, [], length, map, Option, Some, None, refl, sym, ap, subst, ◌∙◌, append-nil, arith}
 use Rattle.std.specs.Prelude.{IfSome, is_some, option_map}
 use Rattle.fedi_images.proofs.Finding.{images_left}
 use Rattle.fedi_images.proofs.ImageLemmas.{plain_ok}
-use Rattle.fedi_images.specs.Images.{kept_in, plain}
+use Rattle.fedi_entry.specs.Codes.{code_of}
+use Rattle.fedi_images.proofs.Steps.{of_some}
+use Rattle.fedi_images.specs.Images.{IsImage, kept_in, plain}
 use Rattle.fedi_images.specs.Known.{record_crashes, records_told}
 use Rattle.fedi_log.proofs.Leaving.{few_kept, few_left}
-use Rattle.fedi_log.specs.Keeping.{State}
+use Rattle.fedi_log.specs.Keeping.{Base, State, since}
 use Rattle.fedi_log.specs.Leaving.{IsLeft}
 use Rattle.fedi_startup.specs.Marks.{Survives}
 use Rattle.fedi_log.specs.Log.{Log, given}
 use Rattle.fedi_outside.specs.Disks.{DiskCrashes, DiskState}
 use Rattle.fedi_outside.specs.Keepers.{Adds, MayLeave}
-use Rattle.fedi_startup.specs.Stores.{IsOpened, LeavesNothingNew, records_of}
-use Rattle.fedi_startup.specs.Surviving.{LeavesAlong, opened_base}
+use Rattle.fedi_startup.specs.Stores.{IsOpened, LeavesFiles, LeavesNothingNew, records_of}
+use Rattle.fedi_startup.specs.Surviving.{LeavesAlong, LeavesFoundFrom, SurvivesOnDisk, opened_base}
 use Rattle.fedi_startup.proofs.Told.{each_some, is_told, of_told}
+
+-- nothing came to it yet
+none_left : (b : Base) (log : Log) (kept left : List (List ℕ)) → left ≡ kept → IsLeft b log kept left
+none_left b log kept left is = record { past = []; rest = since b log; is = refl; leaves = inl (is ∙ sym (append-nil kept)) }
 
 -- What is known of the records that a machine's keeper has on its disk holds of the disk, if it tells its bytes. The disk was so
 -- before the opening, the keeper found it so, and left it so.
 pub survives_on_disk : (start found later : DiskState) (before middle after : DiskCrashes) (opened now : State) (log : Log) (count : ℕ)
     → IsOpened start opened → opened.keeper.records ≡ records_told plain count found → before.clock ≤ middle.clock
     → IfSome start.reads (λ _. LeavesNothingNew before middle)
+    → IfSome start.reads (λ _. LeavesFiles middle (records_of opened.history) None) → ((image : List ℕ) → middle.left_since middle.clock image → middle.may_leave image)
     → Survives (opened_base opened) None (given opened.history) log now (record_crashes plain found middle) (record_crashes plain later after)
-    → IfSome start.reads (λ _. LeavesAlong before after opened log)
-survives_on_disk start found later before middle after opened now log count opening told clock nothing survives = each_some start.reads at
+    → IfSome start.reads (λ _. SurvivesOnDisk before after opened log)
+survives_on_disk start found later before middle after opened now log count opening told clock nothing leaves only survives = each_some start.reads at
   where
-    at : (bytes : List ℕ) → start.reads ≡ Some bytes → LeavesAlong before after opened log
-    at bytes is records doubt files image since =
-        images_left plain plain_ok found later middle after (MayLeave records doubt) (IsLeft (opened_base opened) log (records_of opened.history))
-        (length records + length (records_of opened.history) + length log + 1) before.clock clock (old records doubt files) adds
-        (λ left kept. omega (arith, few_kept records doubt left kept))
-        (λ left kept. omega (arith, few_left (opened_base opened) log (records_of opened.history) left kept)) image since
+    at : (bytes : List ℕ) → start.reads ≡ Some bytes → SurvivesOnDisk before after opened log
+    at bytes is = record { along = along; moment = middle.clock; during = (clock, survives.crashes.clock); found = found_from }
       where
         held : opened.keeper.records ≡ Some (records_of opened.history)
         held = opening.records ∙ ap (option_map (λ _. records_of opened.history)) is
@@ -42,8 +45,25 @@ survives_on_disk start found later before middle after opened now log count open
             (is_told (kept_in plain count) found.reads (records_of opened.history) (sym told ∙ held)) held survives.crashes.crash
 
         old : LeavesNothingNew before middle
-        old = at_some start.reads is nothing
+        old = of_some start.reads (λ _. LeavesNothingNew before middle) nothing bytes is
+
+        along : LeavesAlong before after opened log
+        along records doubt files image since =
+            images_left plain plain_ok found later middle after (MayLeave records doubt) (IsLeft (opened_base opened) log (records_of opened.history))
+            (length records + length (records_of opened.history) + length log + 1) before.clock clock (old records doubt files) adds
+            (λ left kept. omega (arith, few_kept records doubt left kept))
+            (λ left kept. omega (arith, few_left (opened_base opened) log (records_of opened.history) left kept)) image since
+
+        found_from : LeavesFoundFrom middle.clock after opened log
+        found_from image since =
+            let records : List (List ℕ) = records_of opened.history in
+            let found_files : LeavesFiles middle records None = of_some start.reads (λ _. LeavesFiles middle records None) leaves bytes is in
+            let file = images_left plain plain_ok found later middle after (λ left. left ≡ records) (IsLeft (opened_base opened) log records)
+            (length records + length log + 1) middle.clock (omega arith) (λ image past. found_files image (only image past)) adds
+            (λ left same. omega (arith, ap length same)) (λ left kept. omega (arith, few_left (opened_base opened) log records left kept)) image since in
+            (file.0, file.1, either file.0 file.2)
           where
-            at_some : (o : Option (List ℕ)) → o ≡ Some bytes → IfSome o (λ _. LeavesNothingNew before middle) → LeavesNothingNew before middle
-            at_some None is all = absurd (cc is)
-            at_some (Some b) is all = all
+            either : (left : List (List ℕ)) → (left ≡ records_of opened.history) ⊎ IsLeft (opened_base opened) log (records_of opened.history) left
+                → IsLeft (opened_base opened) log (records_of opened.history) left
+            either left (inl same) = none_left (opened_base opened) log (records_of opened.history) left same
+            either left (inr kept) = kept

@@ -27,11 +27,13 @@ MayBeEmpty None after = after ≡ None
 MayBeEmpty (Some bytes) after =
     (other : List ℕ) × (after ≡ Some other) × ((other ≡ bytes) ⊎ ((IsOther bytes → ⊥) × IsImage plain [] other))
 
--- The first nine bytes may be torn; or the disk was free, and reads give those of a file without records, or with this one.
+-- Reads give the same bytes. Or the disk was free, and the first nine are torn, or reads give those of a file without records, or
+-- with this one.
 abbrev pub MayBeBegun : List ℕ → Option (List ℕ) → Option (List ℕ) → Type 0
 MayBeBegun code None after = after ≡ None
 MayBeBegun code (Some bytes) after =
-    (other : List ℕ) × (after ≡ Some other) × (IsTorn 0 blank bytes other ⊎ ((IsOther bytes → ⊥) × HasRecords [] (Some code) other))
+    (other : List ℕ) × (after ≡ Some other)
+    × ((other ≡ bytes) ⊎ ((IsOther bytes → ⊥) × (IsTorn 0 blank bytes other ⊎ HasRecords [] (Some code) other)))
 
 -- why the disk was not made a store whose first record is this one, and what became of it
 abbrev pub IsNotMade : List ℕ → MakeFault → DiskState → DiskState → Type 0

@@ -1,5 +1,5 @@
 -- Stores: disks with the file of the records of a history, and what becomes of a disk that is opened or closed as one.
-use Rattle.std.specs.Prelude.{◌≡◌, ◌∷◌, ◌++◌, ◌≢◌, ◌⊎◌, ℕ, List, [], length, map, IfSome, IsTrue, Option, Some, None, option_map, Result, Ok, Err}
+use Rattle.std.specs.Prelude.{◌≡◌, ◌∷◌, ◌++◌, ◌≢◌, ◌⊎◌, ℕ, List, [], length, map, take, IfSome, IsTrue, Option, Some, None, option_map, Result, Ok, Err}
 use Rattle.std.specs.List.{AllByRecursion}
 use Rattle.fedi_core.specs.Machines.{IsNextCode, Machine}
 use Rattle.fedi_entry.specs.Codes.{code_of}
@@ -7,6 +7,7 @@ use Rattle.fedi_entry.specs.Fields.{IsFormed}
 use Rattle.fedi_images.specs.Images.{IsImage, front, plain}
 use Rattle.fedi_images.specs.Opening.{IsDamagedAt, IsNoStore}
 use Rattle.fedi_journal.specs.Opening.{disk_of}
+use Rattle.fedi_journal.specs.Untouched.{IsUntouched}
 use Rattle.fedi_journal.specs.declared.journal.Journal.{Journal}
 use Rattle.fedi_log.specs.Keeping.{State}
 use Rattle.fedi_objects.specs.declared.entry.Entry.{Entry}
@@ -102,7 +103,7 @@ IsNotOpened NotAStore disk = IfSome disk.reads HasNoRecord
 IsNotOpened (DamagedByte place) disk = IfSome disk.reads (IsDamagedAt plain place)
 IsNotOpened (DamagedRecord place) disk = IfSome disk.reads (HasBadRecord place)
 IsNotOpened Failed disk = Unit {0}
-IsNotOpened Memory disk = Unit {0}
+IsNotOpened Memory disk = IfSome disk.reads (λ bytes. take 8 bytes ≡ plain.magic)
 
 -- how many faults were counted after this one
 abbrev pub count_after : StoreFault → ℕ → ℕ
@@ -117,6 +118,11 @@ abbrev pub HasSameRecords : Option (List ℕ) → Option (List ℕ) → Type 0
 HasSameRecords None after = after ≡ None
 HasSameRecords (Some bytes) after =
     (other : List ℕ) × (after ≡ Some other) × ((other ≡ bytes) ⊎ ((rs : List (List ℕ)) × IsImage plain rs bytes × IsImage plain rs other))
+
+-- if the bytes are no file of records, the disk is untouched
+abbrev pub KeepsForeign : DiskState → DiskState → DiskCrashes → DiskCrashes → Type 0
+KeepsForeign before after was now =
+    (bytes : List ℕ) → before.reads ≡ Some bytes → ((rs : List (List ℕ)) → IsImage plain rs bytes → ⊥) → IsUntouched before after was now
 
 -- no machine was opened: the records are as before, and a fault of the disk is counted
 pub record ComesBack (fault : StoreFault) (before after : DiskState) : Type 0 where

@@ -1,5 +1,5 @@
 -- What a crash at any moment of a run may leave of a disk.
-use Rattle.std.specs.Prelude.{◌≡◌, [], ◌∷◌, ◌++◌, ◌⊎◌, ℕ, ◌+◌, List, Contains, Option}
+use Rattle.std.specs.Prelude.{◌≡◌, [], ◌∷◌, ◌++◌, ◌⊎◌, ℕ, ◌+◌, ◌≤◌, List, Contains, Option}
 use Rattle.fedi_images.specs.Images.{IsImage, plain}
 use Rattle.fedi_entry.specs.Codes.{code_of}
 use Rattle.fedi_log.specs.Keeping.{Base, State, base_of}
@@ -32,6 +32,24 @@ LeavesAlong before after opened log =
     → (left : List (List ℕ)) × IsImage plain left image
     × (MayLeave records doubt left ⊎ IsLeft (opened_base opened) log (records_of opened.history) left)
 
+-- a moment of the run
+abbrev pub IsDuring : DiskCrashes → DiskCrashes → ℕ → Type 0
+IsDuring before after moment = (before.clock ≤ moment) × (moment ≤ after.clock)
+
+-- From this moment on, whatever a crash before may have left, a crash left a file of the records that the opening found, with
+-- those of the first entries that the run kept, none or more, and behind them at most one that was in doubt then.
+abbrev pub LeavesFoundFrom : ℕ → DiskCrashes → State → Log → Type 0
+LeavesFoundFrom moment after opened log =
+    (image : List ℕ) → after.left_since moment image
+    → (left : List (List ℕ)) × IsImage plain left image × IsLeft (opened_base opened) log (records_of opened.history) left
+
+-- crashes during the run left such files along the log, and from the end of the opening on without a premise
+pub record SurvivesOnDisk (before after : DiskCrashes) (opened : State) (log : Log) : Type 0 where
+  pub along : LeavesAlong before after opened log
+  pub moment : ℕ
+  pub during : IsDuring before after moment
+  pub found : LeavesFoundFrom moment after opened log
+
 -- ---- as stores
 
 -- the history that was opened, with the first of the entries that these items added, none or more, and at most one entry more,
@@ -50,3 +68,10 @@ LeavesStoresAlong before after opened added =
     (history : List Entry) (doubt : Option (List ℕ)) → LeavesStores before history doubt
     → (image : List ℕ) → after.left_since before.clock image
     → (left : List Entry) × IsStoreOf left image × (IsAround history doubt left ⊎ IsFirstPart opened added left)
+
+-- From some moment of the run on, when the opening had ended, whatever a crash before may have left, a crash left a store of the
+-- history that was opened with the first entries that the run kept, none or more, and at most the one entry that was in doubt then.
+abbrev pub LeavesStoresFound : DiskCrashes → DiskCrashes → List Entry → Log → Type 0
+LeavesStoresFound before after opened added =
+    (moment : ℕ) × IsDuring before after moment
+    × ((image : List ℕ) → after.left_since moment image → (left : List Entry) × IsStoreOf left image × IsFirstPart opened added left)

@@ -2,6 +2,7 @@
 ghost use Rattle.std.specs.Prelude.{◌≡◌, ℕ, List};
 ghost use Rattle.fedi_images.specs.Images.{plain};
 ghost use Rattle.fedi_images.specs.Opening.{IsDamagedAt};
+ghost use Rattle.fedi_journal.specs.Making.{IsOther};
 ghost use Rattle.fedi_objects.specs.declared.entry.Entry.{Entry};
 ghost use Rattle.fedi_startup.specs.Stores.{HasBadRecord, HasNoRecord, IsStoreOf};
 
@@ -26,4 +27,9 @@ pub fn stores_have_one_answer()
         → HasNoRecord bytes → HasBadRecord place bytes → ⊥ }
     ensures byte_record { (here there : ℕ) (bytes : List ℕ)
         → IsDamagedAt plain here bytes → HasBadRecord there bytes → ⊥ }
+{}
+
+/// A store has other bytes than a journal without records, so that the making of a store leaves it as it is.
+pub fn stores_are_not_made_anew()
+    ensures { (history : List Entry) (bytes : List ℕ) → IsStoreOf history bytes → IsOther bytes }
 {}

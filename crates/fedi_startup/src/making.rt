@@ -1,6 +1,7 @@
 //! Making a store.
 ghost use Rattle.std.specs.Prelude.{◌≡◌, [], ◌∷◌, IfErr, OnOk};
 ghost use Rattle.fedi_entry.specs.Codes.{code_of};
+ghost use Rattle.fedi_journal.specs.Making.{KeepsOther};
 ghost use Rattle.fedi_objects.specs.declared.entry.Entry.TheVariants.{Hosted};
 ghost use Rattle.fedi_startup.specs.Making.{IsMade, IsNotMade, LeavesAtMost};
 ghost use Rattle.fedi_startup.specs.Stores.{IsSound};
@@ -32,7 +33,8 @@ fn first_entry(host: Host, moment: Moment) -> Entry
 /// gate, and then all is as before; `Failed`, if the disk failed, which it counts once; and `Memory`, if out
 /// of memory. After `Failed` the first nine bytes may be torn, or the disk may be a journal without records
 /// or with the first one. After `Memory` all is as before, or the disk is a journal without records. A
-/// journal without records can be made a store again.
+/// journal without records can be made a store again. But the bytes of a store that is there stay, whatever
+/// the answer: reads give the same, and a crash leaves nothing new.
 pub fn make_store<D: Disk>(
     alloc: Global,
     disk: D,
@@ -43,6 +45,8 @@ pub fn make_store<D: Disk>(
         (D.shown disk) (D.shown result.1) (D.crashes result.1)) }
     ensures refused { IfErr result.0 (λ fault. IsNotMade (code_of (Hosted host moment)) fault
         (D.shown disk) (D.shown result.1)) }
+    ensures stays { KeepsOther (D.shown disk) (D.shown result.1)
+        (D.crashes disk) (D.crashes result.1) }
     ensures time { LeavesAtMost D.shown D.crashes (code_of (Hosted host moment)) disk result.1 }
 {
     let entry = first_entry(host, moment);

@@ -6,7 +6,7 @@ ghost use Rattle.fedi_log.specs.Keeping.{state_of};
 ghost use Rattle.fedi_objects.specs.declared.entry.Entry.{Entry};
 ghost use Rattle.fedi_opening.specs.Opening.{IsRead, IsStopped, after_open};
 ghost use Rattle.fedi_outside.specs.Keepers.{PassesTime};
-ghost use Rattle.fedi_startup.specs.Stores.{ComesBack, IsOpened, LeavesFiles, LeavesNothingNew, disk_left, records_of};
+ghost use Rattle.fedi_startup.specs.Stores.{ComesBack, IsOpened, KeepsForeign, LeavesFiles, LeavesNothingNew, disk_left, records_of};
 
 use crate::faults::StoreFault;
 use fedi_core::Core;
@@ -39,19 +39,22 @@ fn open_core<P: Keeper>(alloc: Global, keeper: P) -> Result<Core<PlainShelf, P>,
 }
 
 /// Opens the machine over the store of a disk: finds the records of its file, and the history that they
-/// are the codes of. The disk is synced first, so that a crash leaves what is found.
+/// are the codes of. The disk is synced, and the gates that are found are written again, so that a crash
+/// leaves what is found.
 ///
 /// Each error hands the disk back, with the records as before. It is `NotAStore`, if the disk has fewer
 /// than 9 bytes, or does not begin with the magic, or has no record; `DamagedByte`, with the place of the
 /// first gate that is not as it should be; `DamagedRecord`, with the place of the first record that is the
 /// code of no entry that may stand there; `Failed`, if the disk failed, which it counts once; and `Memory`,
-/// if out of memory.
+/// if out of memory, and only if the disk begins with the magic. What is no file of records is untouched.
 pub fn open_store<D: Disk>(alloc: Global, disk: D) -> Result<StoreCore<D>, (StoreFault, D)>
     ensures opened { IfOk result (λ core. IsOpened (D.shown disk)
         (state_of core.history (⟦<Journal<D> as Keeper>⟧.shown core.keeper))) }
     ensures leaves { IfOk result (λ core. IfSome (D.shown disk).reads (λ _.
         LeavesFiles (D.crashes (disk_of core.keeper)) (records_of core.history) None)) }
     ensures refused { IfErr result (λ back. ComesBack back.0 (D.shown disk) (D.shown back.1)) }
+    ensures foreign { KeepsForeign (D.shown disk) (D.shown (disk_left result))
+        (D.crashes disk) (D.crashes (disk_left result)) }
     ensures clock { (D.crashes disk).clock ≤ (D.crashes (disk_left result)).clock }
     ensures time { IfSome (D.shown disk).reads (λ _.
         LeavesNothingNew (D.crashes disk) (D.crashes (disk_left result))) }

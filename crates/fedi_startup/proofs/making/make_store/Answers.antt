@@ -3,7 +3,7 @@ use Rattle.fedi_entry.specs.Codes.{code_of}
 use Rattle.fedi_objects.specs.declared.entry.Entry.TheVariants.{Hosted}
 use Rattle.fedi_startup.specs.Making.{IsNotMade}
 use Rattle.fedi_startup.specs.declared.faults.MakeFault.TheVariants.{Failed, Memory}
-use Rattle.fedi_startup.proofs.MakingSteps.{at_most, has_failed, is_made, no_memory, unkept_time}
+use Rattle.fedi_startup.proofs.MakingSteps.{at_most, has_failed, is_made, no_memory, not_begun, unkept_time}
 use Rattle.fedi_startup.proofs.Told.{faults_here, records_here}
 use Rattle.fedi_startup.proofs.making.make_store.Goals as goal
 use Rattle.fedi_startup.proofs.making.make_store.Goals.{in-Ok-store, in-Err-Failed, in-Err-Memory}
@@ -54,3 +54,8 @@ returns-clause-time g c =
           (g.met.D.Disk.only_now journal.disk) first.written first.durable first.shown first.time
           (unkept_time w.in-Err-Memory.field-0 _ _ c.deref.result.now _ _ w.in-Err-Memory.ensures.time_refused)
     ]
+
+pub returns-in-Err-init-clause-refused : goal.returns-in-Err-init-clause-refused
+returns-in-Err-init-clause-refused g c =
+    let e = c.in-Err-init.ensures in
+    rw c.into.ensures (not_begun c.in-Err-init.fault _ _ _ _ _ e.unmade e.stays)

@@ -15,12 +15,12 @@ returns-in-Err-clause-refused g c =
     let start = g.D.Disk.shown c.args.disk in
     let after = g.D.Disk.shown c.in-Err.disk in
     subst (λ (fault : StoreFault). ComesBack fault start after) (sym c.into.ensures)
-    (not_found c.in-Err.fault start after c.in-Err.ensures.damaged c.in-Err.ensures.store c.in-Err.ensures.reads c.in-Err.ensures.faults)
+    (not_found c.in-Err.fault start after c.in-Err.ensures.damaged c.in-Err.ensures.store c.in-Err.ensures.memory c.in-Err.ensures.same.reads c.in-Err.ensures.faults)
 
 pub returns-in-Err-clause-time : goal.returns-in-Err-clause-time
 returns-in-Err-clause-time g c =
     each_some (g.D.Disk.shown c.args.disk).reads (λ bytes is.
-    elapsed_old (g.D.Disk.crashes c.args.disk) (g.D.Disk.crashes c.in-Err.disk) (g.met.D.Disk.only_now c.args.disk) c.in-Err.ensures.time)
+    elapsed_old (g.D.Disk.crashes c.args.disk) (g.D.Disk.crashes c.in-Err.disk) (g.met.D.Disk.only_now c.args.disk) (c.in-Err.ensures.same.crashes bytes is))
 
 pub returns-in-Ok-open_core-clause-opened : goal.returns-in-Ok-open_core-clause-opened
 returns-in-Ok-open_core-clause-opened g c =
@@ -29,7 +29,7 @@ returns-in-Ok-open_core-clause-opened g c =
     let start = g.D.Disk.shown c.args.disk in
     let found = g.D.Disk.shown journal.disk in
     subst (λ (k : KeeperState). IsOpened start (state_of core.history k)) (sym c.in-Ok-open_core.ensures.shown)
-    (is_opened start found _ core.history (length journal.gates.items) c.in-Ok.ensures.found c.in-Ok.ensures.reads refl
+    (is_opened start found _ core.history (length journal.gates.items) c.in-Ok.ensures.found c.in-Ok.ensures.same.reads refl
     (told_count plain plain_ok (length journal.gates.items) found) c.in-Ok-open_core.ensures.opened
     c.in-Ok.ensures.settled c.in-Ok.ensures.faults refl c.in-Ok-open_core.ensures.some)
 
@@ -46,7 +46,7 @@ returns-in-Ok-open_core-clause-time g c =
     let later = c.in-Ok-open_core.core.keeper.disk in
     read_old (g.D.Disk.shown c.args.disk) (g.D.Disk.shown journal.disk) (g.D.Disk.shown later)
     (g.D.Disk.crashes c.args.disk) (g.D.Disk.crashes journal.disk) (g.D.Disk.crashes later) _ _ _
-    (g.met.D.Disk.reads_stay c.args.disk) (g.met.D.Disk.only_now c.args.disk) c.in-Ok.ensures.time c.in-Ok.ensures.reads
+    (g.met.D.Disk.reads_stay c.args.disk) (g.met.D.Disk.only_now c.args.disk) c.in-Ok.ensures.same
     c.in-Ok.ensures.found c.in-Ok.ensures.settled c.in-Ok-open_core.ensures.time
 
 pub returns-in-Err-open_core-clause-refused : goal.returns-in-Err-open_core-clause-refused
@@ -58,7 +58,7 @@ returns-in-Err-open_core-clause-refused g c =
     let stop = c.in-Err-open_core.ensures.stopped in
     subst (λ (fault : StoreFault). ComesBack fault start after) (sym c.into-in-Err-open_core.ensures)
     (not_read c.in-Err-open_core.fault start found after (g.D.Disk.crashes c.into_disk.result) _ _ stop.0 (length journal.gates.items) _
-    c.in-Ok.ensures.found c.in-Ok.ensures.settled c.in-Ok.ensures.reads c.in-Ok.ensures.faults refl refl
+    c.in-Ok.ensures.found c.in-Ok.ensures.settled c.in-Ok.ensures.same.reads c.in-Ok.ensures.faults refl refl
     (told_count plain plain_ok (length journal.gates.items) found) stop.1 c.in-Err-open_core.ensures.shown
     (records_here g.D.Disk.shown _ _ _ c.into_disk.ensures.disk) (faults_here g.D.Disk.shown _ _ c.into_disk.ensures.disk)
     c.into_disk.ensures.images (g.met.D.Disk.reads_stay c.into_disk.result))
@@ -71,5 +71,5 @@ returns-in-Err-open_core-clause-time g c =
     nothing_here g.D.Disk.crashes start.reads (g.D.Disk.crashes c.args.disk) c.into_disk.result later c.into_disk.ensures.disk
     (read_old start (g.D.Disk.shown journal.disk) (g.D.Disk.shown later)
     (g.D.Disk.crashes c.args.disk) (g.D.Disk.crashes journal.disk) (g.D.Disk.crashes later) _ _ _
-    (g.met.D.Disk.reads_stay c.args.disk) (g.met.D.Disk.only_now c.args.disk) c.in-Ok.ensures.time c.in-Ok.ensures.reads
+    (g.met.D.Disk.reads_stay c.args.disk) (g.met.D.Disk.only_now c.args.disk) c.in-Ok.ensures.same
     c.in-Ok.ensures.found c.in-Ok.ensures.settled c.in-Err-open_core.ensures.time)
