@@ -34,4 +34,4 @@ returns-in-Some-Init-clause-made g c =
     λ host. of_host
     (λ (h : List ℕ). MakesStore g.D.Disk.shown g.D.Disk.crashes (g.C.Clock.told c.args.connection.now.clock) c.args.disk c.begin_store-status.result.1
     (output_by g.O.Sink.sent g.O.Sink.write_faults c.args.connection.now.out) (output_by g.O.Sink.sent g.O.Sink.write_faults c.begin_store-status.new.out)
-    h c.begin_store-status.result.0) _ _ _ asked c.begin_store-status.ensures
+    h c.begin_store-status.result.0) _ _ _ asked c.begin_store-status.ensures.made
