@@ -3,19 +3,24 @@
 
 use fedi_file::FileDisk;
 use fedi_program::{
-    Connection, OUT_OF_MEMORY, Reading, SystemClock, SystemEntropy, Writing, run, store_of,
+    Connection, OUT_OF_MEMORY, Reading, SystemClock, Writing, run, store_of, system_entropy,
 };
 use std::alloc::AllocError;
+use std::io::ErrorKind;
 use std::process::ExitCode;
 use std::{env, io};
 
-/// The arguments after the program's name, or none if they are no texts.
+/// The arguments after the program's name, or none if one of them is no text. The error is out of memory.
 fn arguments(rt: &HostRuntime) -> Result<Vec<String>, AllocError> {
     let mut arguments = Vec::new(rt.alloc());
-    if let Ok(args) = env::args(rt) {
-        for argument in args.skip(1) {
-            arguments.push(argument)?;
+    match env::args(rt) {
+        Ok(args) => {
+            for argument in args.skip(1) {
+                arguments.push(argument)?;
+            }
         }
+        Err(error) if error.kind() == ErrorKind::OutOfMemory => return Err(AllocError),
+        Err(_) => {}
     }
     Ok(arguments)
 }
@@ -31,7 +36,7 @@ fn main(rt: HostRuntime) -> ExitCode {
     };
     // Arguments that name no store never ask the disk, and so open nothing.
     let disk = FileDisk::new(&rt, store_of(&arguments).unwrap_or_default());
-    let mut entropy = SystemEntropy::new(&rt);
+    let mut entropy = system_entropy(&rt);
     let ended = run(rt.alloc(), &arguments, &mut connection, disk, &mut entropy);
     ExitCode::from(ended.status)
 }

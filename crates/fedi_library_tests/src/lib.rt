@@ -21,6 +21,8 @@ mod stops;
 #[cfg(test)]
 mod calls;
 #[cfg(test)]
+mod devices;
+#[cfg(test)]
 mod journals;
 
 // What clients post.

@@ -1,11 +1,10 @@
 //! The real input, output, clock and source of random bytes. What they hold is told as far as std tells
 //! it.
-
-ghost use Rattle.std.specs.Prelude.{◌≡◌, ◌<◌, ℕ, None, IfOk, is_some, length};
+ghost use Rattle.std.specs.Prelude.{◌≡◌, ◌<◌, ◌/◌, ℕ, None, IfOk, OnOk, is_some, length, option_and_then};
 ghost use Rattle.std.specs.Io.{ReadsAtMost, WritesAtMost};
-ghost use Rattle.std.specs.Io.KnownBytes.{ReadConsumes, WriteAppends};
+ghost use Rattle.std.specs.Io.KnownBytes.{Consumes, ReadConsumes, WriteAppends};
+ghost use Rattle.std.specs.Time.{system_time_nanos};
 ghost use Rattle.fedi_outside.specs.Causes.{HasCause};
-ghost use Rattle.fedi_outside.specs.Entropies.{FillConsumes};
 
 use fedi_outside::{Clock, Entropy, Failed, Sink, Source};
 use std::fs::File;
@@ -110,65 +109,58 @@ impl<'a, R: std::rt::Clock> SystemClock<'a, R> {
     }
 }
 
+// std does not say what the machine's clock tells: what is made of that is `seconds_of`.
 impl<R: std::rt::Clock> Clock for SystemClock<'_, R> {
     ghost told = { λ _. None };
 
     fn now(&self) -> u64 {
-        let Ok(now) = SystemTime::now(self.rt) else {
-            return 0;
-        };
-        match now.duration_since(UNIX_EPOCH) {
-            Ok(since) => since.as_secs(),
+        match SystemTime::now(self.rt) {
+            Ok(now) => seconds_of(now),
             Err(_) => 0,
         }
     }
 }
 
-/// The system's source of random bytes, `/dev/urandom`, which is opened at the first draw. A draw that
-/// does not give all its bytes is a counted fault.
+// The whole seconds from the beginning of 1970 to this time.
+fn seconds_of(time: SystemTime) -> u64
+    ensures { result ≡ system_time_nanos time / 1_000_000_000 }
+{
+    match time.duration_since(UNIX_EPOCH) {
+        Ok(since) => since.as_secs(),
+        Err(_) => 0,
+    }
+}
+
+/// A reader of std as a source of random bytes: each draw that does not read all its bytes is a counted
+/// fault.
 #[derive(Drop)]
-pub struct SystemEntropy<'a, R: Files> {
-    rt: &'a R,
-    file: Option<R::File>,
+pub struct ReadEntropy<F> {
+    reader: F,
     faults: u64,
 }
 
-impl<'a, R: Files> SystemEntropy<'a, R> {
-    /// The source of this runtime, with no fault so far.
-    pub fn new(rt: &'a R) -> Self
-        ensures { result.faults ≡ 0 }
+impl<F: Read> ReadEntropy<F> {
+    /// The reader, with no fault so far.
+    pub fn new(reader: F) -> Self
+        ensures reader { result.reader ≡ reader }
+        ensures faults { result.faults ≡ 0 }
     {
-        SystemEntropy {
-            rt,
-            file: None,
-            faults: 0,
-        }
-    }
-
-    // Reads until all the bytes are there.
-    fn read(&mut self, into: &mut [u8; 32]) -> io::Result<()>
-        ensures { self.new.faults ≡ self.old.faults }
-    {
-        let mut file = match self.file.take() {
-            Some(file) => file,
-            None => File::open(self.rt, "/dev/urandom")?,
-        };
-        let read = file.read_exact(into);
-        self.file = Some(file);
-        read
+        ReadEntropy { reader, faults: 0 }
     }
 }
 
-impl<R: Files> Entropy for SystemEntropy<'_, R> {
+// As of a source, the bytes are told by `passes`.
+impl<F: Read> Entropy for ReadEntropy<F> {
     ghost next = { λ _. None };
 
     ghost faults = { λ s. s.faults };
 
     fn fill(&mut self, into: &mut [u8; 32]) -> Result<(), Failed>
-        ensures bytes { FillConsumes None None result into.new }
+        ensures passes { OnOk result (Consumes (F.remaining self.old.reader)
+            (F.remaining self.new.reader) into.new) }
         ensures cause { HasCause self.old.faults self.new.faults result }
     {
-        match self.read(into) {
+        match self.reader.read_exact(into) {
             Ok(()) => Ok(()),
             Err(_) => {
                 self.faults = self.faults.saturating_add(1);
@@ -176,4 +168,42 @@ impl<R: Files> Entropy for SystemEntropy<'_, R> {
             }
         }
     }
+}
+
+/// The file of a path as a reader, which opens it at its first read.
+#[derive(Drop)]
+pub struct LateFile<'a, R: Files> {
+    rt: &'a R,
+    path: &'a str,
+    file: Option<R::File>,
+}
+
+impl<'a, R: Files> LateFile<'a, R> {
+    /// The file of this path. Nothing is opened yet.
+    pub fn new(rt: &'a R, path: &'a str) -> Self {
+        LateFile {
+            rt,
+            path,
+            file: None,
+        }
+    }
+}
+
+impl<R: Files> Read for LateFile<'_, R> {
+    ghost remaining = { λ f. option_and_then R.File.remaining f.file };
+
+    fn read(&mut self, into: &mut [u8]) -> io::Result<usize> {
+        let mut file = match self.file.take() {
+            Some(file) => file,
+            None => File::open(self.rt, self.path)?,
+        };
+        let read = file.read(into);
+        self.file = Some(file);
+        read
+    }
+}
+
+/// The system's source of random bytes, which is opened at the first draw.
+pub fn system_entropy<R: Files>(rt: &R) -> ReadEntropy<LateFile<'_, R>> {
+    ReadEntropy::new(LateFile::new(rt, "/dev/urandom"))
 }
