@@ -4,7 +4,7 @@ use Rattle.std.proofs.lemmas.List.Folds.{list_any-append}
 use Rattle.std.specs.Prelude.{bytes_eq}
 use Rattle.fedi_address.specs.Recipients.{is_among}
 
-is_among-append : (text : List ℕ) (xs ys : List (List ℕ)) → is_among text (xs ++ ys) ≡ (is_among text xs || is_among text ys)
+pub is_among-append : (text : List ℕ) (xs ys : List (List ℕ)) → is_among text (xs ++ ys) ≡ (is_among text xs || is_among text ys)
 unfolding is_among
 is_among-append text xs ys = list_any-append (λ u. bytes_eq u text) xs ys
 

@@ -1,5 +1,5 @@
 -- To whom an activity or an object is addressed (Activity Vocabulary, 4; W3C ActivityPub, 6 and 7).
-use Rattle.std.specs.Prelude.{ℕ, Bool, List, [], ◌++◌, bytes_eq}
+use Rattle.std.specs.Prelude.{ℕ, Bool, List, [], ◌∷◌, ◌++◌, fold, bytes_eq, if◌then◌else◌}
 use Rattle.std.specs.List.{list_any}
 use Rattle.fedi_address.specs.declared.recipients.Recipients.{Recipients}
 use Rattle.fedi_address.specs.Iris.{public_iri}
@@ -7,6 +7,14 @@ use Rattle.fedi_address.specs.Iris.{public_iri}
 -- the text is one of these
 unfoldable pub is_among : List ℕ → List (List ℕ) → Bool
 is_among text texts = list_any (λ u. bytes_eq u text) texts
+
+-- one more text, unless it is there
+abbrev pub add_new : List (List ℕ) → List ℕ → List (List ℕ)
+add_new kept text = if is_among text kept then kept else kept ++ text ∷ []
+
+-- the texts, each once, in the order of their first places
+unfoldable pub distinct : List (List ℕ) → List (List ℕ)
+distinct texts = fold add_new [] texts
 
 -- no recipient
 abbrev pub nobody : Recipients
@@ -27,3 +35,13 @@ is_public r = names r public_iri
 -- without the recipients that are kept to the sender (W3C ActivityPub, 6 and 7)
 abbrev pub stripped : Recipients → Recipients
 stripped r = record r { bto = []; bcc = [] }
+
+-- field by field whom either names, each once (W3C ActivityPub, 6.2)
+abbrev pub union : Recipients → Recipients → Recipients
+union a b = record {
+  to = distinct (a.to ++ b.to);
+  cc = distinct (a.cc ++ b.cc);
+  bto = distinct (a.bto ++ b.bto);
+  bcc = distinct (a.bcc ++ b.bcc);
+  audience = distinct (a.audience ++ b.audience);
+}

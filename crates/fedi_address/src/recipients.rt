@@ -1,6 +1,6 @@
 //! To whom an activity or an object is addressed.
 
-ghost use Rattle.std.specs.Prelude.{◌≡◌, ◌||◌, ◌++◌, List, length, IfOk};
+ghost use Rattle.std.specs.Prelude.{◌≡◌, ◌||◌, ◌++◌, List, fold, length, IfOk, OnErr, OnOk};
 ghost use Rattle.fedi_address.specs.Recipients as recipients;
 
 use crate::iri::Iri;
@@ -29,6 +29,29 @@ pub fn is_among(text: &str, iris: &[Iri]) -> bool
     ensures { result ≡ recipients.is_among text.now iris.now }
 {
     iris.iter().any(|iri| iri.text() == text)
+}
+
+// Adds the IRIs that are not there yet, each once.
+fn add_each(kept: &mut Items<Iri>, iris: &[Iri]) -> Result<(), AllocError>
+    ensures { OnOk result (kept.new ≡ fold recipients.add_new kept.old iris.now) }
+{
+    for iri in iris {
+        if !is_among(iri.text(), kept) {
+            kept.push(iri.copy()?)?;
+        }
+    }
+    Ok(())
+}
+
+// The IRIs of both lists, each once, in the order of their first places.
+#[tactic(auto, using(crate::proofs::Unions::distinct_joined))]
+fn joined(first: &Items<Iri>, second: &Items<Iri>) -> Result<Items<Iri>, AllocError>
+    ensures { IfOk result (λ iris. iris ≡ recipients.distinct (first.now ++ second.now)) }
+{
+    let mut kept = Items::empty(first.allocator());
+    add_each(&mut kept, first)?;
+    add_each(&mut kept, second)?;
+    Ok(kept)
 }
 
 impl Recipients {
@@ -89,6 +112,23 @@ impl Recipients {
         left.bto.clear();
         left.bcc.clear();
         left
+    }
+
+    /// Adds the other recipients to these, field by field: each field then has the IRIs of both, each
+    /// once, in the order of their first places (W3C ActivityPub, 6.2). Its time grows with the product
+    /// of their numbers. Out of memory nothing is changed.
+    pub fn merge(&mut self, other: &Recipients) -> Result<(), AllocError>
+        ensures ok { OnOk result (self.new ≡ recipients.union self.old other.now) }
+        ensures err { OnErr result (self.new ≡ self.old) }
+    {
+        *self = Recipients {
+            to: joined(&self.to, &other.to)?,
+            cc: joined(&self.cc, &other.cc)?,
+            bto: joined(&self.bto, &other.bto)?,
+            bcc: joined(&self.bcc, &other.bcc)?,
+            audience: joined(&self.audience, &other.audience)?,
+        };
+        Ok(())
     }
 }
 

@@ -1,10 +1,11 @@
 //! The documents of collections and of their pages. Out of memory is the only error.
 
-ghost use Rattle.std.specs.Prelude.{◌≡◌, ◌*◌, IfOk, List, OnOk, Some, drop, length, map, option_map, reverse, slice_get, take};
+ghost use Rattle.std.specs.Prelude.{◌≡◌, ◌*◌, ◌≤◌, IfOk, List, OnErr, OnOk, Some, drop, length, map, option_map, reverse, slice_get, take};
 ghost use Rattle.serde_json.specs.Written.{compact_text};
 ghost use Rattle.fedi_asks.specs.Documents.{collection_id, item_form, page_form, summary_form};
-ghost use Rattle.fedi_collections.specs.Pages.{page_text, summary_of};
+ghost use Rattle.fedi_collections.specs.Pages.{page_text, summary_of, total_of};
 ghost use Rattle.fedi_objects.specs.Writing.{IsWritten};
+ghost use Rattle.fedi_town.specs.Collections.{highest};
 ghost use Rattle.fedi_town.specs.declared.act.Act.{Act};
 
 use crate::address::Address;
@@ -61,7 +62,9 @@ pub fn summary<S: Shelf>(
 }
 
 // The room for a page with so many items.
-fn page_room(which: &Which, items: usize) -> usize {
+fn page_room(which: &Which, items: usize) -> usize
+    ensures { result ≤ 13568 }
+{
     let each = match which {
         Which::Inbox(_) | Which::Outbox(_) => EMBEDDED,
         _ => ADDRESS,
@@ -111,7 +114,7 @@ fn page_text(
 
 /// The JSON of the page of this number (ActivityStreams 2.0 Core, section 5.2): up to 20 items of those that
 /// the reader sees, the newest first, and the pages before and after it. None exactly if the page is above
-/// the highest, which has the newest item, and is 0 for an empty collection.
+/// the highest, which has the newest item, and is 0 for an empty collection; it takes no memory then.
 pub fn page<S: Shelf>(
     alloc: Global,
     shelf: &S,
@@ -120,8 +123,10 @@ pub fn page<S: Shelf>(
     owner: &Iri,
     number: u64,
 ) -> Result<Option<Vec<u8>>, AllocError>
-    ensures { IfOk result (λ page. option_map (λ text. text.items) page
+    ensures text { IfOk result (λ page. option_map (λ text. text.items) page
         ≡ page_text (S.holding shelf.now).town caller.now which.now owner.now number) }
+    ensures memory { OnErr result (number
+        ≤ highest (total_of (S.holding shelf.now).town caller.now which.now owner.now)) }
 {
     let page = shelf.visible_page(caller, which, owner, number);
     if number > highest_page(page.total) {

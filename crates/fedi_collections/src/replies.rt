@@ -1,10 +1,10 @@
 //! The replies to who reads a collection. Out of memory is the only error.
 
-ghost use Rattle.std.specs.Prelude.{◌≡◌, IfOk, Some, option_copied};
+ghost use Rattle.std.specs.Prelude.{◌≡◌, ◌||◌, IfOk, IsTrue, OnErr, Some, false, not, option_copied};
 ghost use Rattle.fedi_asks.specs.Reading.{collection_answer, is_malformed, items_answer, marks_rule, name_of, object_rule, owner_answer, reading_rule};
 ghost use Rattle.fedi_town.specs.Collections.{owner_of};
-ghost use Rattle.fedi_town.specs.Towns.{id_of};
 ghost use Rattle.fedi_town.specs.declared.caller.Which.TheVariants.{Inbox, Likes};
+ghost use Rattle.fedi_model.specs.Memory.{finds_marked, is_refused};
 ghost use Rattle.fedi_model.specs.Replies.{reply_of};
 ghost use Rattle.fedi_model.specs.declared.reply.Form.TheVariants.{Activity};
 
@@ -118,31 +118,6 @@ fn object_owner(
     }
 }
 
-// The id of the member or the object whose collection it is. The member's id is known.
-fn owner_of(
-    alloc: Global,
-    facts: &Facts,
-    which: &Which,
-    member: &Iri,
-) -> Result<Option<Iri>, AllocError>
-    ensures { IfOk result (λ owner. id_of facts.now.town (name_of which.now) ≡ Some member.now
-        → owner ≡ owner_of facts.now.town which.now) }
-{
-    match which {
-        Which::Likes(name, number) | Which::Shares(name, number) => {
-            object_owner(alloc, facts, name, *number)
-        }
-        Which::Inbox(_)
-        | Which::Outbox(_)
-        | Which::Followers(_)
-        | Which::Following(_)
-        | Which::Liked(_) => {
-            let id = member.clone()?;
-            Ok(Some(id))
-        }
-    }
-}
-
 // ---- replies
 
 #[tactic(auto, unfolding(fedi_asks::specs::Reading::items_answer))]
@@ -154,8 +129,11 @@ fn items_reply<S: Shelf>(
     owner: &Iri,
     part: &PageAsk,
 ) -> Result<Reply, AllocError>
-    ensures { IfOk result (λ r. r ≡ reply_of
+    ensures reply { IfOk result (λ r. r ≡ reply_of
         (items_answer (S.holding shelf.now).town caller.now which.now owner.now part.now)) }
+    ensures memory { OnErr result (is_refused
+        (items_answer (S.holding shelf.now).town caller.now which.now owner.now part.now)
+        ≡ false) }
 {
     match part {
         PageAsk::Summary => {
@@ -179,8 +157,10 @@ fn owner_reply<S: Shelf>(
     owner: &Iri,
     part: &PageAsk,
 ) -> Result<Reply, AllocError>
-    ensures { IfOk result (λ r. r ≡ reply_of (owner_answer
+    ensures reply { IfOk result (λ r. r ≡ reply_of (owner_answer
         (S.holding shelf.now).town caller.now which.now part.now (Some owner.now))) }
+    ensures memory { OnErr result (is_refused (owner_answer
+        (S.holding shelf.now).town caller.now which.now part.now (Some owner.now)) ≡ false) }
 {
     if let Some(refusal) = reading_rule(caller, which) {
         return Ok(refusal_reply(refusal));
@@ -211,8 +191,11 @@ pub fn collection_reply<S: Shelf>(
     which: &Which,
     part: &PageAsk,
 ) -> Result<Reply, AllocError>
-    ensures { IfOk result (λ r. r ≡ reply_of
+    ensures reply { IfOk result (λ r. r ≡ reply_of
         (collection_answer (S.holding shelf.now).town caller.now which.now part.now)) }
+    // What is refused is never out of memory, but where the id of an object is made to find it.
+    ensures memory { OnErr result (IsTrue (finds_marked which.now part.now || not (is_refused
+        (collection_answer (S.holding shelf.now).town caller.now which.now part.now)))) }
 {
     let facts = shelf.facts();
     let Some(member) = facts.id_of(name_of(which)) else {
@@ -221,8 +204,17 @@ pub fn collection_reply<S: Shelf>(
     if is_malformed(part) {
         return Ok(refusal_reply(Refusal::BadQuery));
     }
-    match owner_of(alloc, facts, which, member)? {
-        Some(owner) => owner_reply(alloc, shelf, caller, which, &owner, part),
-        None => Ok(refusal_reply(Refusal::NotFound)),
+    match which {
+        Which::Likes(name, number) | Which::Shares(name, number) => {
+            match object_owner(alloc, facts, name, *number)? {
+                Some(owner) => owner_reply(alloc, shelf, caller, which, &owner, part),
+                None => Ok(refusal_reply(Refusal::NotFound)),
+            }
+        }
+        Which::Inbox(_)
+        | Which::Outbox(_)
+        | Which::Followers(_)
+        | Which::Following(_)
+        | Which::Liked(_) => owner_reply(alloc, shelf, caller, which, member, part),
     }
 }

@@ -9,7 +9,7 @@ use Rattle.std.proofs.lemmas.List.{append-nil, length-append, length-take}
 use Rattle.fedi_address.specs.Hosts.{address, is_host_text, is_domain, is_port, is_colon, is_domain_and_port}
 use Rattle.fedi_address.specs.Iris.{normal}
 use Rattle.fedi_address.specs.Names.{is_name, is_name_byte}
-use Rattle.fedi_objects.specs.Keys.{is_key_byte, is_repeat_key}
+use Rattle.fedi_objects.specs.Keys.{is_visible, is_repeat_key}
 use Rattle.fedi_objects.specs.declared.activity.Activity.{Activity}
 use Rattle.fedi_objects.specs.declared.entry.Came.{Came}
 use Rattle.fedi_objects.specs.declared.entry.Entry.{Entry}
@@ -21,7 +21,7 @@ use Rattle.fedi_objects.specs.declared.entry.What.TheVariants.{Failed, NoHead, B
 use Rattle.fedi_entry.specs.declared.fault.ReadFault.{ReadFault}
 use Rattle.fedi_entry.specs.declared.fault.ReadFault.TheVariants.{BadField}
 use Rattle.fedi_entry.specs.Codes.{u64_code, bool_code, text_code, option_code, repeat_code, sent_number, what_code, came_code, activity_code, fields_code, code_of}
-use Rattle.fedi_objects.specs.Limits.{is_address, is_address_byte}
+use Rattle.fedi_objects.specs.Limits.{is_address}
 use Rattle.fedi_entry.specs.Fields.{is_host, is_iri, is_own, IsFormed, IsActivity, IsKey, IsMoment, IsRepeat, IsText, MayCome}
 use Rattle.fedi_entry.specs.Reading.{◌>>=◌, ◌&◌, made_of, Read, byte_at, bytes_at, text_at, flag_at, iri_at, moment_at, status_at, option_at, activity_at, repeat_at, sent_at, is_lookup, what_at, came_at, hosted_at, made_at, peer_set_at, local_at, remote_at, tried_at, entry_at, ended, last_at, placed, read_entry, Fails}
 use Rattle.fedi_entry.proofs.ReadingLemmas.{Reads, IsBytes, bytes_behind, bind_ok, passed_ok, pair_reads, made_takes, text_reads, byte_is, choice_ok, said, option_reads, moment_reads, status_reads, key_reads, flag_reads}
@@ -38,11 +38,11 @@ name_reads = text_reads is_name name_short
 
 repeat_key_short : (t : List ℕ) → IsTrue (is_repeat_key t) → length t < 2 ^ 32
 repeat_key_short t passes =
-    grind (arith, nat_tests, (and_parts (nat_le 1 (length t)) (nat_le (length t) 64) (and_parts (nat_le 1 (length t) && nat_le (length t) 64) (list_all is_key_byte t) passes).0).1)
+    grind (arith, nat_tests, (and_parts (nat_le 1 (length t)) (nat_le (length t) 64) (and_parts (nat_le 1 (length t) && nat_le (length t) 64) (list_all is_visible t) passes).0).1)
 
 address_short : (t : List ℕ) → IsTrue (is_address t) → length t < 2 ^ 32
 address_short t passes =
-    grind (arith, nat_tests, (and_parts (nat_le 1 (length t)) (nat_le (length t) 255) (and_parts (nat_le 1 (length t) && nat_le (length t) 255) (list_all is_address_byte t) passes).0).1)
+    grind (arith, nat_tests, (and_parts (nat_le 1 (length t)) (nat_le (length t) 255) (and_parts (nat_le 1 (length t) && nat_le (length t) 255) (list_all is_visible t) passes).0).1)
 
 address_reads : Reads text_code (IsText is_address) (text_at is_address)
 address_reads = text_reads is_address address_short

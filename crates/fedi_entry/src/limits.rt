@@ -2,6 +2,7 @@
 
 ghost use Rattle.std.specs.Prelude.{◌≡◌};
 ghost use Rattle.std.specs.List.{list_all};
+ghost use Rattle.fedi_objects.specs.Keys as keys;
 ghost use Rattle.fedi_objects.specs.Limits as limits;
 ghost use Rattle.fedi_entry.specs.Fields.{test_of};
 
@@ -50,16 +51,16 @@ fn is_date(text: &str) -> bool
     text.len() <= LONGEST_WORD && has_date_bytes(text.as_bytes())
 }
 
-fn is_address_byte(byte: u8) -> bool
-    ensures { result ≡ limits.is_address_byte byte }
+fn is_visible(byte: u8) -> bool
+    ensures { result ≡ keys.is_visible byte }
 {
     33 <= byte && byte <= 126
 }
 
 fn has_address_bytes(text: &[u8]) -> bool
-    ensures { result ≡ list_all limits.is_address_byte text.now }
+    ensures { result ≡ list_all keys.is_visible text.now }
 {
-    text.iter().all(|byte| is_address_byte(*byte))
+    text.iter().all(|byte| is_visible(*byte))
 }
 
 /// Whether the text may be where a peer is reached: 1 to 255 bytes 33 to 126.

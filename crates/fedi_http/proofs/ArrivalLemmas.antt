@@ -13,7 +13,7 @@ use Rattle.fedi_http.specs.declared.arrivals.Arrived.{Arrived}
 use Rattle.fedi_http.specs.declared.arrivals.Arrived.TheVariants as arrived
 use Rattle.fedi_http.specs.declared.read_error.ReadError.{ReadError}
 use Rattle.fedi_http.specs.declared.read_error.ReadError.TheVariants as errors
-use Rattle.fedi_http.specs.Arrivals.{BodyEnds, HasHead, HasRequest, IsArrival, IsHeadRefused, IsRefused, LacksRequest, OnInputEnd, OnRequest, TellsOfStream, arrived_by, arrived_of, is_read_fault}
+use Rattle.fedi_http.specs.Arrivals.{BodyEnds, HasHead, HasRequest, HasServedHead, IsArrival, IsHeadRefused, IsRefused, LacksRequest, OnInputEnd, OnRequest, TellsOfStream, arrived_by, arrived_of, is_read_fault}
 use Rattle.fedi_http.specs.Chunks.{Ending, HasBody, HasPartOfBody, Long, Part, Tells, TellsEnding, Whole, Wrong}
 use Rattle.fedi_http.specs.Heads.{head_end, HasLongHead, HasNoHead, LacksHead}
 use Rattle.fedi_http.specs.Moves.{OnEnd, Reads, error_by, has_fault, is_fault}
@@ -107,13 +107,14 @@ no_head_arrives limit most bytes errors.End body rest h = h
 no_head_arrives limit most bytes errors.CutShort body rest h = (h.0, inl h.1)
 no_head_arrives limit most bytes (errors.Refused refusal) body rest h = inl (inr h)
 no_head_arrives limit most bytes errors.ReadFault body rest h = inl h
-no_head_arrives limit most bytes errors.Memory body rest h = tt
+no_head_arrives limit most bytes errors.Memory body rest h = inl h
 
 -- where the head was refused
 pub refused_arrives : (limit most : ℕ) (bytes : List ℕ) (e : Refusal) (end : ℕ) (body rest : List ℕ) → (e ≢ refusals.Memory → HasHead limit most bytes (Err e) end)
+    → (e ≡ refusals.Memory → HasServedHead limit most bytes)
     → IsArrival limit most bytes (arrived_by (error_by e)) body rest
-refused_arrives limit most bytes refusals.Memory end body rest h = tt
-refused_arrives limit most bytes e end body rest h = inl (inl (end, h (λ same. cc)))
+refused_arrives limit most bytes refusals.Memory end body rest h k = inr (k refl)
+refused_arrives limit most bytes e end body rest h k = inl (inl (end, h (λ same. cc)))
 
 -- a refusal is no failed read
 pub refusal_calm : (e : Refusal) → is_fault (error_by e) ≡ false
@@ -139,7 +140,7 @@ body_arrives limit most bytes q errors.CutShort body rest told = (some_byte limi
 body_arrives limit most bytes q (errors.Refused refusal) body rest (inl wrong) = inr (inl (wrong.0, (q, body, rest, wrong.1)))
 body_arrives limit most bytes q (errors.Refused refusal) body rest (inr long) = inr (inr (long.0, (q, body, rest, long.1)))
 body_arrives limit most bytes q errors.ReadFault body rest told = inr (q, body, rest, told)
-body_arrives limit most bytes q errors.Memory body rest told = tt
+body_arrives limit most bytes q errors.Memory body rest told = inr (q, told.end, told.head)
 
 -- a head and the bytes behind it
 abbrev IsBehind : ℕ → ℕ → List ℕ → Request → List ℕ → Type 0

@@ -1,5 +1,4 @@
 pub mod FieldLemmas
-pub mod FramingLemmas
 pub mod RequestLemmas
 pub mod HeadLemmas
 pub mod PartLemmas

@@ -68,7 +68,7 @@ part_told End P stops part = absurd stops
 part_told CutShort P stops part = part
 part_told (Refused refusal) P stops part = absurd stops
 part_told ReadFault P stops part = part
-part_told Memory P stops part = tt
+part_told Memory P stops part = part
 
 -- what is told of one ending is told of another
 pub told_as : (e : ReadError) (P Q : Ending → Type 0) → ((o : Ending) → P o → Q o) → Tells e P → Tells e Q
@@ -77,7 +77,7 @@ told_as CutShort P Q f told = f Part told
 told_as (Refused refusal) P Q f (inl wrong) = inl (wrong.0, f _ wrong.1)
 told_as (Refused refusal) P Q f (inr long) = inr (long.0, f _ long.1)
 told_as ReadFault P Q f told = f Part told
-told_as Memory P Q f told = tt
+told_as Memory P Q f told = f Part told
 
 -- what was pending lacked something, and no more came
 pub stopped : {T : Type 0} (left_of : T → Option (List ℕ)) (faults_of : T → ℕ) (beside_of : T → Option (List ℕ) × ℕ) (a b c : T) (failed : Bool)

@@ -1,13 +1,14 @@
 -- What a head's text is read as.
-use Rattle.std.proofs.Common.{◌≡◌, ℕ, ◌+◌, ◌<◌, Result, arith, List, ◌∷◌, [], ◌++◌, length, get_or, take, sym, Ok, Err, inl, inr, ap, ◌∙◌}
+use Rattle.std.proofs.Common.{◌≡◌, ℕ, ◌+◌, ◌<◌, ◌≤◌, Option, None, Result, arith, List, ◌∷◌, [], ◌++◌, length, get_or, take, refl, sym, Ok, Err, IfErr, inl, inr, ap, ◌∙◌}
 use Rattle.std.proofs.lemmas.List.{take_more, map-append}
 use Rattle.httparse.specs.Grammar.{RequestHead}
 use Rattle.httparse.specs.Spans.{header_bytes}
 use Rattle.httparse.specs.declared.spans.HeaderSpan.{HeaderSpan}
 use Rattle.httparse.proofs.GrammarLemmas.{request_unique}
 use Rattle.fedi_town.specs.declared.refusal.Refusal.{Refusal}
+use Rattle.fedi_town.specs.declared.refusal.Refusal.TheVariants.{Memory}
 use Rattle.fedi_model.specs.declared.request.Request.{Request}
-use Rattle.fedi_model.specs.Requests.{field_of, fields_at, request_of, head_refusal, IsHead, ReadsHead, IsReadOnce}
+use Rattle.fedi_model.specs.Requests.{field_of, fields_at, request_of, head_refusal, line_count, IsHead, ReadsAs, ReadsHead, IsReadOnce}
 
 -- the fields at one more place
 pub fields_more : (text : List ℕ) (spans : List HeaderSpan) (i : ℕ) (d : HeaderSpan) → i < length spans
@@ -51,3 +52,9 @@ reads_once most text a b (inl x) (inl y) = head_read_once most text a b x.1 y.1
 reads_once most text a b (inl x) (inr y) = absurd (omega (arith, x.0, y.0))
 reads_once most text a b (inr x) (inl y) = absurd (omega (arith, x.0, y.0))
 reads_once most text a b (inr x) (inr y) = x.1 ∙ sym y.1
+
+-- where memory was wanted for a head that is not refused, some request is read
+pub memory_wanted : {T : Type 0} (most : ℕ) (text : List ℕ) (h : RequestHead) (x : Option Refusal) (r : Result T Refusal) → IfErr r (λ e. e ≡ Memory → x ≡ None) → x ≡ head_refusal h
+    → line_count text ≤ most → IsHead most text h → IfErr r (λ e. e ≡ Memory → (q : Request) × ReadsAs most text (Ok q))
+memory_wanted most text h x (Ok t) wanted same few head = tt
+memory_wanted most text h x (Err e) wanted same few head = λ is. (request_of h, inl (few, (h, head, sym same ∙ wanted is, refl)))

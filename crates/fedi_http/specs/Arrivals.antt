@@ -30,6 +30,10 @@ abbrev pub BodyEnds : ℕ → ℕ → List ℕ → Ending → Type 0
 BodyEnds limit most bytes o =
     (request : Request) × (body : List ℕ) × (rest : List ℕ) × HasRequest limit most bytes request o body rest
 
+-- a head is read as some request: it is not refused
+abbrev pub HasServedHead : ℕ → ℕ → List ℕ → Type 0
+HasServedHead limit most bytes = (request : Request) × (end : ℕ) × HasHead limit most bytes (Ok request) end
+
 -- the bytes hold no whole request and none that is refused, but more of them may: they end in the head or in the body
 abbrev pub LacksRequest : ℕ → ℕ → List ℕ → Type 0
 LacksRequest limit most bytes = LacksHead limit bytes ⊎ BodyEnds limit most bytes Part
@@ -46,14 +50,14 @@ IsRefused limit most bytes refusal =
     ⊎ (((refusal ≡ BadHead) × BodyEnds limit most bytes Wrong) ⊎ ((refusal ≡ TooLong) × BodyEnds limit most bytes Long))
 
 -- what arrives at the front of the bytes, of which a head takes at most `limit` and has at most `most` lines; if it is a request,
--- its body, and the rest
+-- its body, and the rest; memory is wanted for no head that is refused
 abbrev pub IsArrival : ℕ → ℕ → List ℕ → Arrived → List ℕ → List ℕ → Type 0
 IsArrival limit most bytes (arrived.Request request) body rest = HasRequest limit most bytes request Whole body rest
 IsArrival limit most bytes arrived.End body rest = bytes ≡ []
 IsArrival limit most bytes arrived.CutShort body rest = (0 < length bytes) × LacksRequest limit most bytes
 IsArrival limit most bytes (arrived.Refused refusal) body rest = IsRefused limit most bytes refusal
 IsArrival limit most bytes arrived.ReadFault body rest = LacksRequest limit most bytes
-IsArrival limit most bytes arrived.Memory body rest = Unit {0}
+IsArrival limit most bytes arrived.Memory body rest = LacksHead limit bytes ⊎ HasServedHead limit most bytes
 
 -- a fact for the answers that come where the input ended
 abbrev pub OnInputEnd : Arrived → Type 0 → Type 0

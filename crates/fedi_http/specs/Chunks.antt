@@ -17,13 +17,13 @@ pub data Ending : Type 0 where
   Long : Ending
   Part : Ending
 
--- what an error says of how it ends; want of memory says nothing
+-- what an error says of how it ends: memory is wanted for more bytes, as long as none are at fault
 abbrev pub Tells : ReadError → (Ending → Type 0) → Type 0
 Tells errors.End P = ⊥
 Tells errors.CutShort P = P Part
 Tells (errors.Refused refusal) P = ((refusal ≡ BadHead) × P Wrong) ⊎ ((refusal ≡ TooLong) × P Long)
 Tells errors.ReadFault P = P Part
-Tells errors.Memory P = Unit {0}
+Tells errors.Memory P = P Part
 
 -- what an answer says of it
 abbrev pub TellsEnding : {T : Type 0} → Result T ReadError → (Ending → Type 0) → Type 0

@@ -8,7 +8,8 @@ use Rattle.fedi_model.specs.declared.request.Coding.TheVariants.{Length}
 use Rattle.fedi_model.specs.declared.request.TheConstants.{BODY_LIMIT}
 use Rattle.fedi_http.specs.declared.fields.KnownFields.{KnownFields}
 use Rattle.fedi_http.specs.declared.fields.Slot.{Slot}
-use Rattle.fedi_model.specs.Requests.{Field, field_value, is_latest, is_length, is_single, closes as closes_by}
+use Rattle.fedi_text.specs.Decimals.{is_decimal}
+use Rattle.fedi_model.specs.Requests.{Field, field_value, is_latest, is_single, closes as closes_by}
 
 -- what the fields of this name say: the value of the first, and whether there is another
 pub record IsSlot (name : List ℕ) (fields : List Field) (slot : Slot) : Type 0 where
@@ -45,10 +46,10 @@ has_host minor known = not (is_latest minor) || (is_some known.host.value && not
 -- the value of a `Content-Length` is a number that is not too large
 abbrev pub IsLength : List ℕ → Coding → Type 0
 IsLength value coding =
-    (is_length value ≡ true) × (digits_value 10 value ≤ BODY_LIMIT) × (coding ≡ Length (digits_value 10 value))
+    (is_decimal value ≡ true) × (digits_value 10 value ≤ BODY_LIMIT) × (coding ≡ Length (digits_value 10 value))
 
 -- the value of a `Content-Length` is refused: it is no number, or one that is too large
 abbrev pub IsNoLength : List ℕ → Refusal → Type 0
 IsNoLength value refusal =
-    ((is_length value ≡ false) × (refusal ≡ BadHead))
-    ⊎ ((is_length value ≡ true) × (BODY_LIMIT < digits_value 10 value) × (refusal ≡ TooLong))
+    ((is_decimal value ≡ false) × (refusal ≡ BadHead))
+    ⊎ ((is_decimal value ≡ true) × (BODY_LIMIT < digits_value 10 value) × (refusal ≡ TooLong))

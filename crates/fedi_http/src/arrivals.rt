@@ -5,7 +5,7 @@ ghost use Rattle.std.specs.Io.KnownBytes.{prepend_known, IsAtEnd};
 ghost use Rattle.fedi_http.specs.Arrivals.{IsArrival, LacksRequest, OnInputEnd, OnRequest, TellsOfStream, arrived_by, arrived_of, is_read_fault};
 ghost use Rattle.fedi_http.specs.Moves.{OnEnd, Reads, has_fault};
 
-use crate::buffer::Buffer;
+use crate::buffer::{BUFFER_LIMIT, Buffer};
 use crate::chunks::{LINE_LIMIT, TRAILER_LIMIT, read_body};
 use crate::heads::{HEAD_LIMIT, read_head};
 use crate::read_error::ReadError;
@@ -27,7 +27,7 @@ pub enum Arrived {
     Refused(Refusal),
     /// A read failed.
     ReadFault,
-    /// There was no memory for the request or for its bytes.
+    /// There was no memory for the request or for its bytes. The head is not refused.
     Memory,
 }
 
@@ -120,4 +120,5 @@ pub fn limits_are_fixed()
     ensures body { BODY_LIMIT ≡ 262144 }
     ensures line { LINE_LIMIT ≡ 256 }
     ensures trailer { TRAILER_LIMIT ≡ 16384 }
+    ensures buffer { BUFFER_LIMIT ≡ 278528 }
 {}

@@ -1,6 +1,6 @@
 //! Writing replies (RFC 9112, section 4).
 
-ghost use Rattle.std.specs.Prelude.{◌≡◌, ◌++◌, ◌≤◌, ◌<◌, List, OnOk, IfOk, codes, Some, None, option_map};
+ghost use Rattle.std.specs.Prelude.{◌≡◌, ◌+◌, ◌++◌, ◌≤◌, ◌<◌, List, OnOk, IfOk, length, codes, Some, None, option_map};
 ghost use Rattle.std.specs.List.{flat_map};
 ghost use Rattle.fedi_model.specs.ReplyText as model;
 
@@ -65,7 +65,9 @@ fn push_reply(
 }
 
 /// Room for the text of the reply.
-fn room_for(reply: &Reply) -> usize {
+fn room_for(reply: &Reply) -> usize
+    ensures small { result ≤ 2368 + length reply.now.body }
+{
     let location = match &reply.location {
         Some(iri) => iri.text().len(),
         None => 0,

@@ -35,6 +35,9 @@ pub fn read_request_head(alloc: Global, text: &[u8]) -> Result<Request, Refusal>
     ensures ok { IfOk result (λ request. model.ReadsAs MOST_FIELDS text.now (Ok request)) }
     ensures refused { IfErr result (λ e.
         e ≢ Refusal.Memory → model.ReadsAs MOST_FIELDS text.now (Err e)) }
+    // Memory is wanted for a head alone that is not refused.
+    ensures memory { IfErr result (λ e. e ≡ Refusal.Memory
+        → (request : Request) × model.ReadsAs MOST_FIELDS text.now (Ok request)) }
     ensures short { IfOk result (λ request. model.length_in request.coding ≤ BODY_LIMIT) }
     ensures once { model.IsReadOnce MOST_FIELDS text.now }
 {
@@ -100,6 +103,8 @@ fn request_at(
         × (request ≡ request_by text.now head spans.now)) }
     ensures refused { IfErr result (λ e.
         e ≢ Refusal.Memory → refusal_by text.now head spans.now ≡ Some e) }
+    ensures memory { IfErr result (λ e.
+        e ≡ Refusal.Memory → refusal_by text.now head spans.now ≡ None) }
     ensures short { IfOk result (λ request. model.length_in request.coding ≤ BODY_LIMIT) }
 {
     let target = head.path.of(text);
@@ -107,8 +112,8 @@ fn request_at(
         return Err(Refusal::BadHead);
     }
     let known = KnownFields::read(text, spans);
+    let coding = coding_of(head.method.of(text), head.version, &known)?;
     let method = method_of(alloc, head.method.of(text))?;
-    let coding = coding_of(&method, head.version, &known)?;
     let head_only = method == Method::HEAD;
     Ok(Request {
         method,

@@ -8,5 +8,5 @@ abbrev pub key_size : ℕ
 key_size = 32
 
 -- the key that 64 hexadecimal digits, of either case, write (RFC 4648, section 8)
-abbrev pub key_of : List ℕ → Option (List ℕ)
+unfoldable pub key_of : List ℕ → Option (List ℕ)
 key_of text = result_ok (decode_sized text key_size)

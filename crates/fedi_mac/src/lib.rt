@@ -33,6 +33,7 @@ pub fn matches(a: &[u8; 32], b: &[u8; 32]) -> bool
 
 /// The key that the text writes in hexadecimal digits of either case (RFC 4648, section 8), or none
 /// exactly if the text is not 64 such digits.
+#[tactic(auto, unfolding(crate::specs::Keys::key_of))]
 pub fn read_key(text: &[u8]) -> Option<[u8; 32]>
     ensures key { result ≡ key_of text.now }
     ensures found { IsSome result ↔ ((length text.now ≡ 64) × AllPass is_hex_digit text.now) }

@@ -8,13 +8,13 @@ use Rattle.std.proofs.lemmas.Bool.{and_parts, or_parts, not-true, ltb-false, le-
 use Rattle.std.proofs.lemmas.Cmp.{nat_list_eq_equiv, lists_equiv}
 use Rattle.std.proofs.lemmas.List.Folds.{list_any-append}
 use Rattle.serde_json.specs.Data.{Data}
-use Rattle.fedi_address.specs.Recipients.{all_of, is_among}
+use Rattle.fedi_address.specs.Recipients.{add_new, all_of, distinct, is_among}
 use Rattle.fedi_address.specs.declared.recipients.Recipients.{Recipients}
 use Rattle.fedi_objects.specs.declared.activity.Activity.{Activity}
 use Rattle.fedi_objects.specs.declared.object.Object.{Object}
 use Rattle.fedi_reading.specs.Faults.{is_long}
 use Rattle.fedi_reading.specs.Properties.{entries_at, reads_type}
-use Rattle.fedi_reading.specs.Reading.{recipient_of, add_new, distinct, tags_of, wrapped, reads_posted}
+use Rattle.fedi_reading.specs.Reading.{recipient_of, tags_of, wrapped, reads_posted}
 use Rattle.fedi_reading.proofs.KeptLemmas.{named_by, AreNamed, IsMadeOf, type_kept, words_kept, people_kept, tags_kept, object_parts, posted_object}
 use Rattle.fedi_objects.specs.Limits.{is_text, is_type}
 use Rattle.fedi_town.specs.Shapes.{is_none_or, is_each_once, are_addressed, are_same, are_tags, is_posted}

@@ -1,12 +1,12 @@
 -- What is read of a client's activity has the shape of a post.
-use Rattle.std.proofs.Common.{◌≡◌, ℕ, ◌≤◌, List, [], length, Bool, true, false, cond, not, ◌&&◌, ◌||◌, Option, Some, None, codes, refl, sym, subst, ◌∙◌}
+use Rattle.std.proofs.Common.{◌≡◌, ℕ, ◌≤◌, List, [], ◌++◌, length, Bool, true, false, cond, not, ◌&&◌, ◌||◌, Option, Some, None, codes, refl, sym, subst, ◌∙◌}
 use Rattle.std.specs.Prelude.{Ok, Err, IsTrue, is_none, is_some}
 use Rattle.std.specs.Option.{option_map_or}
 use Rattle.std.specs.List.{filter_map}
 use Rattle.std.proofs.lemmas.Bool.{le-leb}
 use Rattle.serde_json.specs.Data.{Data}
 use Rattle.serde_json.specs.Find.{get}
-use Rattle.fedi_address.specs.Recipients.{all_of}
+use Rattle.fedi_address.specs.Recipients.{all_of, distinct}
 use Rattle.fedi_address.specs.declared.recipients.Recipients.{Recipients}
 use Rattle.fedi_objects.specs.declared.activity.Activity.{Activity}
 use Rattle.fedi_objects.specs.declared.kind.Kind.{Kind}
@@ -14,9 +14,9 @@ use Rattle.fedi_objects.specs.declared.kind.Kind.TheVariants as kinds
 use Rattle.fedi_objects.specs.declared.object.Edit.TheVariants.{Keep, Remove}
 use Rattle.fedi_objects.specs.declared.object.Tag.{Tag}
 use Rattle.fedi_reading.specs.ActivityFaults.{named_by_both, union}
-use Rattle.fedi_reading.specs.Activities.{kind_of, need_of, embedded, object_id, or_no_object, entries_of_both, reads_creation, is_null, edit, holds_tags, given_tags, reads_changes, needs_id, reads_id, is_oneself, object_ref, reads_kind, reads_by_need, reads_activity}
-use Rattle.fedi_reading.specs.Properties.{has_context, iri}
-use Rattle.fedi_reading.specs.Reading.{recipient_of, distinct, reads_iri, tags_of, reads_posted}
+use Rattle.fedi_reading.specs.Activities.{kind_of, need_of, embedded, object_id, or_no_object, reads_creation, is_null, edit, holds_tags, given_tags, reads_changes, needs_id, reads_id, is_oneself, object_ref, reads_kind, reads_by_need, reads_activity}
+use Rattle.fedi_reading.specs.Properties.{entries_at, has_context, iri}
+use Rattle.fedi_reading.specs.Reading.{recipient_of, reads_iri, tags_of, reads_posted}
 use Rattle.fedi_reading.specs.declared.shape_fault.ShapeFault.TheVariants.{BadContext, NoObject, BadIri}
 use Rattle.fedi_reading.proofs.ActivityKept.{new_type_kept, audience_kept, IsCreation, creation_parts, IsUpdate, update_parts, IsOther, other_parts}
 use Rattle.fedi_reading.proofs.KeptLemmas.{then_ok, words_kept, people_kept}
@@ -32,7 +32,7 @@ use Rattle.fedi_model.proofs.Posted.{once_folded, same_people, addressed, not_lo
 
 once_named : (key : List ℕ) (d o : Data) → is_each_once (named_by_both key d o) ≡ true
 unfolding named_by_both distinct
-once_named key d o = once_folded [] (filter_map recipient_of (entries_of_both key d o)) refl
+once_named key d o = once_folded [] (filter_map recipient_of (entries_at key d ++ entries_at key o)) refl
 
 -- whom both name are at most 500, and none is there twice in a field
 all_addressed : (d o : Data) (r : Recipients) → r ≡ union d o → length (all_of r) ≤ 500 → are_addressed 500 r ≡ true

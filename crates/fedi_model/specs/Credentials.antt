@@ -3,16 +3,11 @@ use Rattle.std.specs.Prelude.{ℕ, Bool, ◌&&◌, ◌||◌, nat_le, List, take,
 use Rattle.std.specs.List.{list_all}
 use Rattle.std.specs.Str.{is_utf8}
 use Rattle.std.specs.Char.{to_ascii_lowercase}
-use Rattle.std.specs.Result.{result_ok}
-use Rattle.hex.specs.Hex.{decode_sized}
+use Rattle.fedi_mac.specs.Keys.{key_of}
 use Rattle.fedi_model.specs.declared.credentials.Credentials.{Credentials}
 use Rattle.fedi_model.specs.declared.credentials.Credentials.TheVariants.{Nothing as NoneShown, Bearer as BearerShown, Mac as MacShown}
 use Rattle.fedi_model.specs.declared.credentials.Signed.{Signed}
 use Rattle.fedi_model.specs.declared.request.Request.{Request}
-
--- the 32 bytes that 64 hexadecimal digits, of either case, write (RFC 4648, section 8)
-unfoldable pub key_of : List ℕ → Option (List ℕ)
-key_of text = result_ok (decode_sized text 32)
 
 -- the key after `Bearer`, in any case, and one space (RFC 6750, section 2.1; RFC 9110, section 11.1)
 abbrev pub bearer_key : List ℕ → Option (List ℕ)

@@ -12,3 +12,4 @@ pub mod Replies
 pub mod ReplyText
 pub mod Cleanness
 pub mod Answers
+pub mod Memory

@@ -1,11 +1,12 @@
 -- What the head of a request asks, and which requests are served (RFC 9112, sections 2 to 6 and 9; RFC 9110, sections 5 and 7 to 9).
 use Rattle.std.specs.Prelude.{◌≡◌, ℕ, ◌≤◌, ◌<◌, ◌-◌, Bool, true, not, ◌&&◌, ◌||◌, ◌==◌, nat_eq, nat_le, List, [], length, take, drop, map, find, count_by, codes, bytes_eq, Option, Some, None, option_map, ◌⊎◌, if◌then◌else◌, Result, Ok, Err}
-use Rattle.std.specs.List.{starts_with, list_any, list_all, slice_split, position_or_len, suffix_len}
-use Rattle.std.specs.Char.{to_ascii_lowercase, is_ascii_digit}
+use Rattle.std.specs.List.{starts_with, list_any, slice_split, position_or_len, suffix_len}
+use Rattle.std.specs.Char.{to_ascii_lowercase}
 use Rattle.std.specs.Str.Parse.{digits_value}
 use Rattle.httparse.specs.Grammar.{RequestHead, ReadsRequest}
 use Rattle.httparse.specs.Spans.{name_and_value, header_bytes}
 use Rattle.httparse.specs.declared.spans.HeaderSpan.{HeaderSpan}
+use Rattle.fedi_text.specs.Decimals.{is_decimal}
 use Rattle.fedi_town.specs.declared.refusal.Refusal.{Refusal}
 use Rattle.fedi_town.specs.declared.refusal.Refusal.TheVariants.{BadHead, HeadTooLong, NoCoding, NoLength, TooLong}
 use Rattle.fedi_model.specs.declared.request.Coding.{Coding}
@@ -63,14 +64,10 @@ is_single name fields = nat_le (count_named name fields) 1
 
 -- ---- the length of the body
 
--- one digit or more, of which there are so few that the number has 64 bits (RFC 9110, section 8.6)
-unfoldable pub is_length : List ℕ → Bool
-is_length value = nat_le 1 (length value) && (nat_le (length value) 19 && list_all is_ascii_digit value)
-
--- a value that is there is such a number
+-- a value that is there is one digit or more, of which there are so few that the number has 64 bits (RFC 9110, section 8.6)
 abbrev pub is_length_if_any : Option (List ℕ) → Bool
 is_length_if_any None = true
-is_length_if_any (Some value) = is_length value
+is_length_if_any (Some value) = is_decimal value
 
 -- the number that the digits write
 abbrev pub length_by : Option (List ℕ) → ℕ

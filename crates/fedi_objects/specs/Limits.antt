@@ -1,6 +1,7 @@
 -- The limits of what an entry says, each of one field by itself.
 use Rattle.std.specs.Prelude.{ℕ, Bool, ◌&&◌, nat_le, List, length}
 use Rattle.std.specs.List.{list_all}
+use Rattle.fedi_objects.specs.Keys.{is_visible}
 
 -- the text has at most 65,536 bytes
 unfoldable pub is_text : List ℕ → Bool
@@ -18,10 +19,6 @@ is_date_byte b = nat_le 32 b && nat_le b 126
 unfoldable pub is_date : List ℕ → Bool
 is_date text = nat_le (length text) 64 && list_all is_date_byte text
 
--- a byte of ASCII that shows, and no space
-abbrev pub is_address_byte : ℕ → Bool
-is_address_byte b = nat_le 33 b && nat_le b 126
-
--- where a peer is reached: 1 to 255 such bytes
+-- where a peer is reached: 1 to 255 bytes of ASCII that show, and no space
 abbrev pub is_address : List ℕ → Bool
-is_address text = (nat_le 1 (length text) && nat_le (length text) 255) && list_all is_address_byte text
+is_address text = (nat_le 1 (length text) && nat_le (length text) 255) && list_all is_visible text

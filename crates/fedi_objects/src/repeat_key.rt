@@ -4,7 +4,7 @@ ghost use Rattle.std.specs.Prelude.{◌≡◌, IsTrue, IsSome, IfSome, ◌↔◌
 ghost use Rattle.std.specs.Cmp.{partial_equiv_from_equiv};
 ghost use Rattle.std.specs.Cmp.Lexicographic.{nat_list_eq_equiv};
 ghost use Rattle.std.specs.List.{list_all};
-ghost use Rattle.fedi_objects.specs.Keys.{is_repeat_key, is_key_byte};
+ghost use Rattle.fedi_objects.specs.Keys.{is_repeat_key, is_visible};
 
 use arrayvec::ArrayString;
 use std::alloc::AllocError;
@@ -32,16 +32,16 @@ impl Model for RepeatKey {
     ghost invariant = { λ a. IsTrue (is_repeat_key a.text.bytes) };
 }
 
-fn is_key_byte(byte: u8) -> bool
-    ensures { result ≡ is_key_byte byte }
+fn is_visible(byte: u8) -> bool
+    ensures { result ≡ is_visible byte }
 {
     33 <= byte && byte <= 126
 }
 
 fn are_key_bytes(text: &[u8]) -> bool
-    ensures { result ≡ list_all is_key_byte text.now }
+    ensures { result ≡ list_all is_visible text.now }
 {
-    text.iter().all(|byte| is_key_byte(*byte))
+    text.iter().all(|byte| is_visible(*byte))
 }
 
 fn is_repeat_key(text: &[u8]) -> bool

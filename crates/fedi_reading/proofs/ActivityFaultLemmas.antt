@@ -1,38 +1,32 @@
 -- Reading an activity stops at the fault with the least number.
-use Rattle.std.proofs.Common.{◌≡◌, ℕ, List, [], ◌∷◌, find, length, Bool, true, false, not, cond, ◌||◌, ◌&&◌, nat_lt, Option, Some, None, codes, bytes_eq, refl, ap, sym, ◌∙◌}
+use Rattle.std.proofs.Common.{◌≡◌, ℕ, List, [], ◌∷◌, ◌++◌, find, length, Bool, true, false, not, cond, ◌||◌, ◌&&◌, nat_lt, Option, Some, None, codes, bytes_eq, refl, ap, sym, ◌∙◌}
 use Rattle.std.specs.Prelude.{◌≢◌, Result, Ok, Err, IfErr, OnOk, is_some, is_none, option_and_then}
 use Rattle.std.specs.Option.{option_or, option_map_or}
 use Rattle.std.specs.Result.{result_err}
-use Rattle.std.specs.List.{list_any}
-use Rattle.std.proofs.lemmas.List.Folds.{list_any-append}
+use Rattle.std.specs.List.{filter_map}
+use Rattle.std.proofs.lemmas.List.Elements.{filter_map-append}
 use Rattle.serde_json.specs.Data.{Data, null, boolean, number, string, array, object}
 use Rattle.serde_json.specs.Find.{as_object}
-use Rattle.fedi_address.specs.Recipients.{all_of}
+use Rattle.fedi_address.specs.Recipients.{all_of, distinct, union as joined}
 use Rattle.fedi_address.specs.declared.recipients.Recipients.{Recipients}
 use Rattle.fedi_objects.specs.declared.activity.Activity.{Activity}
 use Rattle.fedi_objects.specs.declared.kind.Kind.{Kind}
 use Rattle.fedi_reading.specs.Properties.{entries_at, property, reference_at, has_context, type_of, iri}
-use Rattle.fedi_reading.specs.Reading.{is_bad, reads_entries, all_entries, reads_iri, reads_reply, reads_people, reads_words, reads_posted}
+use Rattle.fedi_reading.specs.Reading.{recipient_of, reads_recipients, reads_iri, reads_reply, reads_people, reads_words, reads_posted}
 use Rattle.fedi_reading.specs.Shapes.{◌>>=◌, Gives}
 use Rattle.fedi_reading.specs.Faults.{is_bad_reference, is_bad_reply, has_fault, faults, first_fault}
-use Rattle.fedi_reading.specs.Activities.{kind_of, need_of, object_at, itself, embedded, id_of, object_id, or_no_object, reads_address, reads_target, new_type, reads_new_type, entries_of_both, reads_all_recipients, is_crowd, reads_audience, reads_creation, reads_own_id, reads_changes, needs_id, reads_id, is_oneself, reads_other, reads_by_need, reads_kind, reads_activity}
+use Rattle.fedi_address.proofs.Unions.{distinct_twice}
+use Rattle.fedi_reading.specs.Activities.{kind_of, need_of, object_at, itself, embedded, id_of, object_id, or_no_object, reads_address, reads_target, new_type, reads_new_type, reads_all_recipients, is_crowd, reads_audience, reads_creation, reads_own_id, reads_changes, needs_id, reads_id, is_oneself, reads_other, reads_by_need, reads_kind, reads_activity}
 use Rattle.fedi_reading.specs.ActivityFaults.{has_wrong_type, has_bad_entry, named_by_both, union, has_crowd, is_self, has_activity_fault, first_post_fault}
 use Rattle.fedi_reading.specs.declared.need.Need.{Need}
 use Rattle.fedi_reading.specs.declared.need.Need.TheVariants.{Whole, Change, Another, Anything}
 use Rattle.fedi_reading.specs.declared.need.Need.TheVariants as needs
 use Rattle.fedi_reading.specs.declared.shape_fault.ShapeFault.{ShapeFault}
 use Rattle.fedi_reading.specs.declared.shape_fault.ShapeFault.TheVariants.{NotObject, BadContext, NoType, NoId, NoActor, NoObject, BadIri, TooManyRecipients, BadText, SelfTarget, Memory}
-use Rattle.fedi_reading.proofs.FaultLemmas.{only, then_fault, or_none, or_cond, or_both, ended_fault, named_fault, entries_fault, reply_fault, people_fault, words_fault, posted_fault, fault_of}
-use Rattle.fedi_reading.proofs.KeptLemmas.{then_ok, entries_named}
+use Rattle.fedi_reading.proofs.FaultLemmas.{only, then_fault, or_none, or_cond, or_both, ended_fault, named_fault, recipients_fault, reply_fault, people_fault, words_fault, posted_fault, fault_of}
+use Rattle.fedi_reading.proofs.KeptLemmas.{AreNamed, named_by, recipients_named, then_ok}
 
 -- ---- tests
-
-or_swap : (a b c d : Bool) → ((a || b) || (c || d)) ≡ ((a || c) || (b || d))
-or_swap true b c d = refl
-or_swap false true true d = refl
-or_swap false true false d = refl
-or_swap false false true d = refl
-or_swap false false false d = refl
 
 -- ---- the parts
 
@@ -50,75 +44,48 @@ address_fault : (text : List ℕ) → result_err (reads_address text) ≡ only (
 unfolding reads_address
 address_fault text = elim (iri text) as (λ o. result_err (option_map_or Ok o (Err BadIri)) ≡ only (is_none o) BadIri) [ None ↦ refl | Some i ↦ refl ]
 
--- a field has a bad entry
-abbrev bad_at : List ℕ → Data → Bool
-bad_at key d = list_any is_bad (entries_at key d)
-
--- five steps, each of which can be bad
-five_faults : {A B C D E F : Type 0} (a : Result A ShapeFault) (b : Result B ShapeFault) (c : Result C ShapeFault) (d : Result D ShapeFault) (e : Result E ShapeFault) (f : A → B → C → D → E → F) (p q r s t : Bool)
-    → result_err a ≡ only p BadIri → result_err b ≡ only q BadIri → result_err c ≡ only r BadIri → result_err d ≡ only s BadIri → result_err e ≡ only t BadIri
-    → result_err (a >>= λ v. b >>= λ w. c >>= λ x. d >>= λ y. e >>= λ z. Ok (f v w x y z)) ≡ only (p || (q || (r || (s || t)))) BadIri
-five_faults a b c d e f p q r s t h i j k l =
-    then_fault a _ _ (only (q || (r || (s || t))) BadIri) h
-    (λ v. then_fault b _ _ (only (r || (s || t)) BadIri) i
-    (λ w. then_fault c _ _ (only (s || t) BadIri) j
-    (λ x. then_fault d _ _ (only t BadIri) k
-    (λ y. then_fault e (λ z. Ok (f v w x y z)) _ None l (λ z. refl) ∙ or_none t BadIri)
-    ∙ or_both s t BadIri)
-    ∙ or_both r (s || t) BadIri)
-    ∙ or_both q (r || (s || t)) BadIri)
-    ∙ or_both p (q || (r || (s || t))) BadIri
-
--- a bad entry is in one of the five fields
-any_of_five : (d : Data) → has_bad_entry d ≡ (bad_at (codes "to") d || (bad_at (codes "cc") d || (bad_at (codes "bto") d || (bad_at (codes "bcc") d || bad_at (codes "audience") d))))
-unfolding all_entries
-any_of_five d = simp list_any-append
-
--- two lists of five tests, pair by pair
-five_pairs : (a b c d e v w x y z : Bool) → ((a || v) || ((b || w) || ((c || x) || ((d || y) || (e || z))))) ≡ ((a || (b || (c || (d || e)))) || (v || (w || (x || (y || z)))))
-five_pairs a b c d e v w x y z =
-    ap (λ t. (a || v) || ((b || w) || ((c || x) || t))) (or_swap d y e z)
-    ∙ ap (λ t. (a || v) || ((b || w) || t)) (or_swap c x (d || e) (y || z))
-    ∙ ap (λ t. (a || v) || t) (or_swap b w (c || (d || e)) (x || (y || z)))
-    ∙ or_swap a v (b || (c || (d || e))) (w || (x || (y || z)))
-
--- a field of either has a bad entry
-abbrev bad_in_both : List ℕ → Data → Data → Bool
-bad_in_both key d o = bad_at key d || bad_at key o
-
-both_fault : (key : List ℕ) (d o : Data) → result_err (reads_entries (entries_of_both key d o)) ≡ only (bad_in_both key d o) BadIri
-unfolding entries_of_both
-both_fault key d o = entries_fault (entries_of_both key d o) ∙ ap (λ b. only b BadIri) (list_any-append is_bad (entries_at key d) (entries_at key o))
-
-any_of_ten : (d o : Data) → (bad_in_both (codes "to") d o || (bad_in_both (codes "cc") d o || (bad_in_both (codes "bto") d o || (bad_in_both (codes "bcc") d o || bad_in_both (codes "audience") d o)))) ≡ (has_bad_entry d || has_bad_entry o)
-any_of_ten d o =
-    five_pairs (bad_at (codes "to") d) (bad_at (codes "cc") d) (bad_at (codes "bto") d) (bad_at (codes "bcc") d) (bad_at (codes "audience") d)
-    (bad_at (codes "to") o) (bad_at (codes "cc") o) (bad_at (codes "bto") o) (bad_at (codes "bcc") o) (bad_at (codes "audience") o)
-    ∙ rw (any_of_five d, any_of_five o) refl
-
 all_recipients_fault : (d o : Data) → result_err (reads_all_recipients d o) ≡ only (has_bad_entry d || has_bad_entry o) BadIri
 unfolding reads_all_recipients
 all_recipients_fault d o =
-    five_faults _ _ _ _ _ (λ to copied bto bcc audience. record { to = to; cc = copied; bto = bto; bcc = bcc; audience = audience }) _ _ _ _ _
-    (both_fault (codes "to") d o) (both_fault (codes "cc") d o) (both_fault (codes "bto") d o) (both_fault (codes "bcc") d o) (both_fault (codes "audience") d o)
-    ∙ ap (λ b. only b BadIri) (any_of_ten d o)
+    then_fault (reads_recipients d) _ _ _ (recipients_fault d)
+    (λ a. then_fault (reads_recipients o) (λ b. Ok (joined a b)) _ None (recipients_fault o) (λ b. refl) ∙ or_none (has_bad_entry o) BadIri)
+    ∙ or_both (has_bad_entry d) (has_bad_entry o) BadIri
+
+-- the texts of a field of the one and of the other, each once
+named_twice : (key : List ℕ) (d o : Data) → distinct (named_by key d ++ named_by key o) ≡ named_by_both key d o
+unfolding named_by_both
+named_twice key d o =
+    distinct_twice (filter_map recipient_of (entries_at key d)) (filter_map recipient_of (entries_at key o))
+    ∙ ap distinct (sym (filter_map-append recipient_of (entries_at key d) (entries_at key o)))
+
+joined_named : (d o : Data) (a b : Recipients) → AreNamed d a → AreNamed o b → joined a b ≡ union d o
+joined_named d o a b h k =
+    rw (
+      h.to,
+      h.cc,
+      h.bto,
+      h.bcc,
+      h.audience,
+      k.to,
+      k.cc,
+      k.bto,
+      k.bcc,
+      k.audience,
+      named_twice (codes "to") d o,
+      named_twice (codes "cc") d o,
+      named_twice (codes "bto") d o,
+      named_twice (codes "bcc") d o,
+      named_twice (codes "audience") d o,
+    ) refl
 
 -- the recipients that are read are those that either names
 pub all_recipients : (d o : Data) (r : Recipients) → reads_all_recipients d o ≡ Ok r → r ≡ union d o
-unfolding reads_all_recipients named_by_both
+unfolding reads_all_recipients
 all_recipients d o r h =
-    let to = then_ok (reads_entries (entries_of_both (codes "to") d o)) _ r h in
-    let copied = then_ok (reads_entries (entries_of_both (codes "cc") d o)) _ r to.2 in
-    let bto = then_ok (reads_entries (entries_of_both (codes "bto") d o)) _ r copied.2 in
-    let bcc = then_ok (reads_entries (entries_of_both (codes "bcc") d o)) _ r bto.2 in
-    let audience = then_ok (reads_entries (entries_of_both (codes "audience") d o)) _ r bcc.2 in
-    let first : to.0 ≡ named_by_both (codes "to") d o = entries_named _ to.0 to.1 in
-    let second : copied.0 ≡ named_by_both (codes "cc") d o = entries_named _ copied.0 copied.1 in
-    let third : bto.0 ≡ named_by_both (codes "bto") d o = entries_named _ bto.0 bto.1 in
-    let fourth : bcc.0 ≡ named_by_both (codes "bcc") d o = entries_named _ bcc.0 bcc.1 in
-    let fifth : audience.0 ≡ named_by_both (codes "audience") d o = entries_named _ audience.0 audience.1 in
-    let whole : record { to = to.0; cc = copied.0; bto = bto.0; bcc = bcc.0; audience = audience.0 } ≡ r = cc in
-    sym whole ∙ cc
+    let first = then_ok (reads_recipients d) _ r h in
+    let second = then_ok (reads_recipients o) _ r first.2 in
+    let whole : joined first.0 second.0 ≡ r = cc in
+    sym whole ∙ joined_named d o first.0 second.0 (recipients_named d first.0 first.1) (recipients_named o second.0 second.1)
 
 -- what comes next counts where the first has no fault, and knows what the first gave
 then_known : {A B : Type 0} (r : Result A ShapeFault) (f : A → Result B ShapeFault) (first rest : Option ShapeFault) → result_err r ≡ first → ((x : A) → r ≡ Ok x → result_err (f x) ≡ rest) → result_err (r >>= f) ≡ option_or first rest

@@ -8,7 +8,8 @@ use Rattle.std.proofs.lemmas.List.Folds.{list_any-append}
 use Rattle.serde_json.specs.Data.{Data, Members}
 use Rattle.serde_json.specs.Find.{as_object}
 use Rattle.fedi_reading.specs.Properties.{text_at, entries_at, reference_at, has_context, type_of, makes_nothing, iri, reads_type, made_type, reads_text, kept_text}
-use Rattle.fedi_reading.specs.Reading.{is_bad, recipient_of, distinct, reads_entries, reads_fields, reads_recipients, all_entries, reads_iri, reads_reply, reads_people, reads_words, reads_object, wrapped, reads_posted}
+use Rattle.fedi_address.specs.Recipients.{distinct}
+use Rattle.fedi_reading.specs.Reading.{is_bad, recipient_of, reads_entries, reads_fields, reads_recipients, all_entries, reads_iri, reads_reply, reads_people, reads_words, reads_object, wrapped, reads_posted}
 use Rattle.fedi_reading.specs.Shapes.{◌>>=◌, Gives}
 use Rattle.fedi_reading.specs.Faults.{is_bad_reply, is_long, has_fault, first_fault}
 use Rattle.fedi_reading.specs.declared.shape_fault.ShapeFault.{ShapeFault}
@@ -93,7 +94,7 @@ unfolding reads_fields
 fields_fault first second d =
     both_bad _ _ _ _ (entries_fault (entries_at first d)) (λ a. last_bad _ (λ b. (a, b)) _ (entries_fault (entries_at second d)))
 
-recipients_fault : (d : Data) → result_err (reads_recipients d) ≡ only (list_any is_bad (all_entries d)) BadIri
+pub recipients_fault : (d : Data) → result_err (reads_recipients d) ≡ only (list_any is_bad (all_entries d)) BadIri
 unfolding reads_recipients all_entries
 recipients_fault d =
     both_bad (reads_fields (codes "to") (codes "cc") d) _ (entries_at (codes "to") d ++ entries_at (codes "cc") d) ((entries_at (codes "bto") d ++ entries_at (codes "bcc") d) ++ entries_at (codes "audience") d)

@@ -5,14 +5,14 @@ use Rattle.std.specs.List.{fold, filter_map, list_all, list_any, cons_option}
 use Rattle.std.proofs.lemmas.Bool.{or_parts, ltb-false}
 use Rattle.serde_json.specs.Data.{Data, Members}
 use Rattle.serde_json.specs.Find.{as_object}
-use Rattle.fedi_address.specs.Recipients.{all_of, is_among}
+use Rattle.fedi_address.specs.Recipients.{all_of, add_new, distinct, is_among}
 use Rattle.fedi_address.specs.declared.recipients.Recipients.{Recipients}
 use Rattle.fedi_objects.specs.declared.activity.Activity.{Activity}
 use Rattle.fedi_objects.specs.declared.object.Object.{Object}
 use Rattle.fedi_objects.specs.declared.object.Tag.{Tag}
 use Rattle.fedi_reading.specs.Faults.{is_long}
 use Rattle.fedi_reading.specs.Properties.{text_at, entries_at, has_context, type_text, type_of, makes_nothing, is_activity_type, made_type, reads_type, kept_text, reads_text}
-use Rattle.fedi_reading.specs.Reading.{is_bad, recipient_of, add_new, distinct, reads_entries, reads_fields, reads_recipients, all_entries, reads_reply, reads_people, reads_words, url_of, iri_at, short_text, mention, is_mention, tag_of, tags_of, made, reads_object, wrapped, reads_posted}
+use Rattle.fedi_reading.specs.Reading.{is_bad, recipient_of, reads_entries, reads_fields, reads_recipients, all_entries, reads_reply, reads_people, reads_words, url_of, iri_at, short_text, mention, is_mention, tag_of, tags_of, made, reads_object, wrapped, reads_posted}
 use Rattle.fedi_reading.specs.Shapes.{◌>>=◌}
 use Rattle.fedi_reading.specs.declared.shape_fault.ShapeFault.{ShapeFault}
 use Rattle.fedi_reading.specs.declared.shape_fault.ShapeFault.TheVariants.{NotObject, BadContext, NoType, BadIri, TooManyRecipients, BadText}
@@ -110,7 +110,7 @@ fields_named first second d both h =
     subst (λ (b : List (List ℕ) × List (List ℕ)). (b.0 ≡ named_by first d) × (b.1 ≡ named_by second d)) whole
     (entries_named (entries_at first d) one.0 one.1, entries_named (entries_at second d) other.0 other.1)
 
-recipients_named : (d : Data) (r : Recipients) → reads_recipients d ≡ Ok r → AreNamed d r
+pub recipients_named : (d : Data) (r : Recipients) → reads_recipients d ≡ Ok r → AreNamed d r
 unfolding reads_recipients
 recipients_named d r h =
     let told = then_ok (reads_fields (codes "to") (codes "cc") d) _ r h in

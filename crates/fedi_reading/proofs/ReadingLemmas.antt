@@ -8,9 +8,10 @@ use Rattle.std.proofs.lemmas.List.Elements.{filter_map-append}
 use Rattle.std.specs.List.{list_any, filter_map, cons_option}
 use Rattle.serde_json.specs.Data.{Data}
 use Rattle.serde_json.specs.View.{items_of}
-use Rattle.fedi_reading.specs.Activities.{one_entry, entries_of_both}
-use Rattle.fedi_reading.specs.Properties.{list_of, entries_at}
-use Rattle.fedi_reading.specs.Reading.{is_bad, recipient_of, reads_entry, reads_entries, add_new, add_all, distinct}
+use Rattle.fedi_address.specs.Recipients.{add_new}
+use Rattle.fedi_reading.specs.Activities.{one_entry}
+use Rattle.fedi_reading.specs.Properties.{list_of}
+use Rattle.fedi_reading.specs.Reading.{is_bad, recipient_of, reads_entry, add_all}
 use Rattle.fedi_reading.specs.declared.shape_fault.ShapeFault.{ShapeFault}
 use Rattle.fedi_reading.specs.declared.shape_fault.ShapeFault.TheVariants.{BadIri}
 
@@ -89,19 +90,6 @@ pub finds_bad : {X : Type 0} (f : X → Data) (xs : List X) (i : ℕ) (x : X) (e
 finds_bad f xs i x e h k =
     let bad = entry_err (f (get_or xs i x)) e k in
     (bad.1, list_any_map f is_bad xs ∙ list_any_at (λ y. is_bad (f y)) xs i x h bad.0)
-
--- entries that are good are read
-pub reads_good : (ds : List Data) → list_any is_bad ds ≡ false → reads_entries ds ≡ Ok (add_all [] ds)
-unfolding reads_entries distinct
-reads_good ds h = rw h refl
-
--- the entries of a field of both, of which none is bad
-pub both_good : (key : List ℕ) (d o : Data) (kept more : List (List ℕ)) → list_any is_bad (entries_at key d) ≡ false → list_any is_bad (entries_at key o) ≡ false
-    → kept ≡ add_all [] (entries_at key d) → more ≡ add_all kept (entries_at key o) → reads_entries (entries_of_both key d o) ≡ Ok more
-unfolding entries_of_both
-both_good key d o kept more h k first second =
-    reads_good (entries_at key d ++ entries_at key o) (rw (list_any-append is_bad (entries_at key d) (entries_at key o), h) k)
-    ∙ rw (second, first, filter_map-append recipient_of (entries_at key d) (entries_at key o), fold-append add_new [] (filter_map recipient_of (entries_at key d)) (filter_map recipient_of (entries_at key o))) refl
 
 -- one more element is tried
 pub filter_map_more : {X Y : Type 0} (h : X → Option Y) (xs : List X) (x : X) (o : Option Y) → h x ≡ o → filter_map h (xs ++ x ∷ []) ≡ filter_map h xs ++ cons_option o []

@@ -1,9 +1,9 @@
 -- What is read of an activity that a client posts (ActivityStreams 2.0 Vocabulary, sections 3 and 4; ActivityPub, section 6).
-use Rattle.std.specs.Prelude.{ℕ, List, ◌++◌, length, find, Bool, true, false, ◌&&◌, ◌||◌, nat_lt, Option, Some, None, is_none, is_some, option_and_then, if◌then◌else◌, codes, bytes_eq, Result, Ok, Err}
+use Rattle.std.specs.Prelude.{ℕ, List, length, find, Bool, true, false, ◌&&◌, ◌||◌, nat_lt, Option, Some, None, is_none, is_some, option_and_then, if◌then◌else◌, codes, bytes_eq, Result, Ok, Err}
 use Rattle.std.specs.Option.{option_map_or}
 use Rattle.serde_json.specs.Data.{Data, null, boolean, number, string, array, object, Items, no_items, item}
 use Rattle.serde_json.specs.Find.{get, as_object}
-use Rattle.fedi_address.specs.Recipients.{all_of}
+use Rattle.fedi_address.specs.Recipients.{all_of, union as joined}
 use Rattle.fedi_address.specs.declared.recipients.Recipients.{Recipients}
 use Rattle.fedi_objects.specs.Kinds.{kind_name, kinds as all_kinds}
 use Rattle.fedi_objects.specs.declared.activity.Activity.{Activity}
@@ -15,8 +15,8 @@ use Rattle.fedi_objects.specs.declared.object.Change.{Change}
 use Rattle.fedi_objects.specs.declared.object.Edit.{Edit}
 use Rattle.fedi_objects.specs.declared.object.Edit.TheVariants.{Keep, Remove, Give}
 use Rattle.fedi_objects.specs.declared.object.Tag.{Tag}
-use Rattle.fedi_reading.specs.Properties.{property, entries_at, reference_at, has_context, type_of, iri}
-use Rattle.fedi_reading.specs.Reading.{reads_iri, reads_entries, reads_reply, reads_people, reads_words, all_entries, url_of, tags_of, made, reads_posted}
+use Rattle.fedi_reading.specs.Properties.{property, reference_at, has_context, type_of, iri}
+use Rattle.fedi_reading.specs.Reading.{reads_iri, reads_recipients, reads_reply, reads_people, reads_words, all_entries, url_of, tags_of, made, reads_posted}
 use Rattle.fedi_reading.specs.Shapes.{◌>>=◌}
 use Rattle.fedi_reading.specs.declared.need.Need.{Need}
 use Rattle.fedi_reading.specs.declared.need.Need.TheVariants as needs
@@ -129,19 +129,12 @@ new_type (Some text) = if bytes_eq text (codes "Tombstone") then Err NoType else
 unfoldable pub reads_new_type : Data → Result (List ℕ) ShapeFault
 reads_new_type o = new_type (type_of o)
 
--- a field of recipients of a Create and its object: the entries of the Create, and then those of the object
-unfoldable pub entries_of_both : List ℕ → Data → Data → List Data
-entries_of_both key d o = entries_at key d ++ entries_at key o
-
 -- The recipients of a Create and its object: each of the two names all that either names (ActivityPub, section 6.2).
 unfoldable pub reads_all_recipients : Data → Data → Result Recipients ShapeFault
 reads_all_recipients d o = do
-  to ← reads_entries (entries_of_both (codes "to") d o)
-  copied ← reads_entries (entries_of_both (codes "cc") d o)
-  bto ← reads_entries (entries_of_both (codes "bto") d o)
-  bcc ← reads_entries (entries_of_both (codes "bcc") d o)
-  audience ← reads_entries (entries_of_both (codes "audience") d o)
-  Ok (record { to = to; cc = copied; bto = bto; bcc = bcc; audience = audience })
+  recipients ← reads_recipients d
+  others ← reads_recipients o
+  Ok (joined recipients others)
 
 -- one of the two has too many entries, or both together have too many recipients
 abbrev pub is_crowd : Data → Data → Recipients → Bool

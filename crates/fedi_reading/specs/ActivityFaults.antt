@@ -1,13 +1,13 @@
 -- What is wrong with what a client posts, fault by fault: with an activity, or with an object alone.
-use Rattle.std.specs.Prelude.{ℕ, List, length, find, Bool, true, false, ◌&&◌, ◌||◌, nat_lt, Option, is_none, option_and_then, codes, bytes_eq}
+use Rattle.std.specs.Prelude.{ℕ, List, ◌++◌, length, find, Bool, true, false, ◌&&◌, ◌||◌, nat_lt, Option, is_none, option_and_then, codes, bytes_eq}
 use Rattle.std.specs.Option.{option_map_or}
 use Rattle.std.specs.List.{list_any, filter_map}
 use Rattle.serde_json.specs.Data.{Data}
-use Rattle.fedi_address.specs.Recipients.{all_of}
+use Rattle.fedi_address.specs.Recipients.{all_of, distinct}
 use Rattle.fedi_address.specs.declared.recipients.Recipients.{Recipients}
-use Rattle.fedi_reading.specs.Properties.{reference_at, type_of, iri}
-use Rattle.fedi_reading.specs.Reading.{is_bad, all_entries, recipient_of, distinct}
-use Rattle.fedi_reading.specs.Activities.{kind_of, need_of, embedded, object_id, needs_id, entries_of_both}
+use Rattle.fedi_reading.specs.Properties.{entries_at, reference_at, type_of, iri}
+use Rattle.fedi_reading.specs.Reading.{is_bad, all_entries, recipient_of}
+use Rattle.fedi_reading.specs.Activities.{kind_of, need_of, embedded, object_id, needs_id}
 use Rattle.fedi_reading.specs.Faults.{is_bad_reference, is_bad_reply, has_fault, faults}
 use Rattle.fedi_reading.specs.declared.need.Need.{Need}
 use Rattle.fedi_reading.specs.declared.need.Need.TheVariants.{Whole, Change, Another}
@@ -39,9 +39,9 @@ lacks_object need d = needs_id need && is_none (object_id d)
 abbrev pub has_bad_entry : Data → Bool
 has_bad_entry d = list_any is_bad (all_entries d)
 
--- whom a field of either names, each once
+-- whom a field names of the Create, and then whom it names of the object, each once
 unfoldable pub named_by_both : List ℕ → Data → Data → List (List ℕ)
-named_by_both key d o = distinct (filter_map recipient_of (entries_of_both key d o))
+named_by_both key d o = distinct (filter_map recipient_of (entries_at key d ++ entries_at key o))
 
 -- whom a Create and its object name together
 abbrev pub union : Data → Data → Recipients

@@ -6,8 +6,6 @@ use Rattle.serde_json.specs.Data.{Data, null, string, Items, no_items, item}
 use Rattle.serde_json.specs.Find.{get, at, as_str, as_array}
 use Rattle.fedi_address.specs.Iris.{normal}
 use Rattle.fedi_objects.specs.Kinds.{kind_name, kinds}
-use Rattle.fedi_objects.specs.declared.kind.Kind.{Kind}
-use Rattle.fedi_objects.specs.declared.kind.Kind.TheVariants.{Accept, Add, Announce, Arrive, Block, Create, Delete, Dislike, Flag, Follow, Ignore, Invite, Join, Leave, Like, Listen, Move, Offer, Question, Read, Reject, Remove, TentativeAccept, TentativeReject, Travel, Undo, Update, View}
 use Rattle.fedi_reading.specs.declared.shape_fault.ShapeFault.{ShapeFault}
 use Rattle.fedi_reading.specs.declared.shape_fault.ShapeFault.TheVariants.{NoType, BadText}
 

@@ -1,11 +1,11 @@
 -- What is read of an object that a client posts (ActivityStreams 2.0 Vocabulary, section 4; ActivityPub, sections 5.6 and 6.2).
-use Rattle.std.specs.Prelude.{◌≡◌, ◌≢◌, ℕ, List, [], ◌∷◌, ◌++◌, length, fold, Bool, true, false, not, ◌&&◌, ◌||◌, nat_le, nat_lt, Option, Some, None, is_some, is_none, option_and_then, option_map, if◌then◌else◌, codes, bytes_eq, Result, Ok, Err}
+use Rattle.std.specs.Prelude.{◌≡◌, ◌≢◌, ℕ, List, [], ◌++◌, length, fold, Bool, true, false, not, ◌&&◌, ◌||◌, nat_le, nat_lt, Option, Some, None, is_some, is_none, option_and_then, option_map, if◌then◌else◌, codes, bytes_eq, Result, Ok, Err}
 use Rattle.std.specs.Option.{option_map_or}
 use Rattle.std.specs.List.{list_any, filter_map}
 use Rattle.serde_json.specs.Data.{Data}
 use Rattle.serde_json.specs.Find.{as_object}
 use Rattle.fedi_address.specs.Iris.{public_iri}
-use Rattle.fedi_address.specs.Recipients.{is_among}
+use Rattle.fedi_address.specs.Recipients.{add_new, distinct}
 use Rattle.fedi_address.specs.declared.recipients.Recipients.{Recipients}
 use Rattle.fedi_reading.specs.Properties.{text_at, entries_at, named, reference_at, has_context, reads_type, reads_text, iri}
 use Rattle.fedi_reading.specs.Shapes.{◌>>=◌}
@@ -35,14 +35,6 @@ is_bad d = is_some (named d) && is_none (recipient_of d)
 -- an entry: it is bad, or names somebody, or is skipped
 unfoldable pub reads_entry : Data → Result (Option (List ℕ)) ShapeFault
 reads_entry d = if is_bad d then Err BadIri else Ok (recipient_of d)
-
--- one more text, unless it is there
-abbrev pub add_new : List (List ℕ) → List ℕ → List (List ℕ)
-add_new kept text = if is_among text kept then kept else kept ++ text ∷ []
-
--- the texts, each once, in the order of their first places
-unfoldable pub distinct : List (List ℕ) → List (List ℕ)
-distinct texts = fold add_new [] texts
 
 -- the texts, and whom the entries name, each that is not there yet
 abbrev pub add_all : List (List ℕ) → List Data → List (List ℕ)

@@ -2,6 +2,7 @@
 
 ghost use Rattle.std.specs.Prelude.{◌≡◌, length, map, IfOk, OnOk};
 ghost use Rattle.serde_json.specs.View.{view};
+ghost use Rattle.fedi_address.specs.Recipients as recipients;
 ghost use Rattle.fedi_reading.specs.Activities as activities;
 ghost use Rattle.fedi_reading.specs.Reading as reading;
 ghost use Rattle.fedi_reading.specs.Reading.{Checks};
@@ -44,7 +45,7 @@ fn read_entry(alloc: Global, entry: &Value) -> Result<Option<Iri>, ShapeFault>
 
 // Adds an address that is not there yet.
 fn add_new(kept: &mut Items<Iri>, iri: Iri) -> Result<(), AllocError>
-    ensures { OnOk result (kept.new ≡ reading.add_new kept.old iri) }
+    ensures { OnOk result (kept.new ≡ recipients.add_new kept.old iri) }
 {
     if is_among(&iri, kept) {
         return Ok(());
@@ -89,7 +90,7 @@ fn add_entries(alloc: Global, kept: &mut Items<Iri>, entries: &[Value]) -> Resul
 }
 
 // The addresses of a field, each once.
-#[tactic(auto, unfolding(crate::specs::Reading::reads_entries, crate::specs::Reading::distinct))]
+#[tactic(auto, unfolding(crate::specs::Reading::reads_entries, fedi_address::specs::Recipients::distinct))]
 fn read_entries(alloc: Global, entries: &[Value]) -> Result<Items<Iri>, ShapeFault>
     ensures { Gives result (reading.reads_entries (map view entries.now)) }
 {
@@ -124,25 +125,8 @@ pub(crate) fn entry_count(value: &Value) -> usize
         + entries_at(value, "audience").len()
 }
 
-// The addresses of a field of a Create and its object, each once.
-#[tactic(auto, unfolding(crate::specs::Reading::reads_entries, crate::specs::Reading::distinct, crate::specs::Activities::entries_of_both))]
-fn read_both(
-    alloc: Global,
-    value: &Value,
-    object: &Value,
-    key: &str,
-) -> Result<Items<Iri>, ShapeFault>
-    ensures { Gives result
-        (reading.reads_entries
-        (activities.entries_of_both key.now (view value.now) (view object.now))) }
-{
-    let mut kept = Items::empty(alloc);
-    add_entries(alloc, &mut kept, entries_at(value, key))?;
-    add_entries(alloc, &mut kept, entries_at(object, key))?;
-    Ok(kept)
-}
-
-// The five fields of recipients of a Create and its object.
+// Whom a Create and its object name: each field has what the Create says and then the rest of what
+// its object says.
 #[tactic(auto, unfolding(crate::specs::Activities::reads_all_recipients))]
 fn read_all_recipients(
     alloc: Global,
@@ -152,13 +136,9 @@ fn read_all_recipients(
     ensures { Gives result
         (activities.reads_all_recipients (view value.now) (view object.now)) }
 {
-    Ok(Recipients {
-        to: read_both(alloc, value, object, "to")?,
-        cc: read_both(alloc, value, object, "cc")?,
-        bto: read_both(alloc, value, object, "bto")?,
-        bcc: read_both(alloc, value, object, "bcc")?,
-        audience: read_both(alloc, value, object, "audience")?,
-    })
+    let mut recipients = read_recipients(alloc, value)?;
+    recipients.merge(&read_recipients(alloc, object)?)?;
+    Ok(recipients)
 }
 
 // Whom a Create and its object are for.

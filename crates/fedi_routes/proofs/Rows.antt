@@ -1,13 +1,16 @@
 -- The rows of the router: each kind has one, and the rows are clear of each other.
-use Rattle.std.proofs.Common.{◌≡◌, ℕ, ◌<◌, ◌≤◌, ◌+◌, List, [], ◌∷◌, Some, Ok, Bool, true, false, cond, refl, drop, drop-cons, add-one, get_or, length}
-use Rattle.std.specs.Prelude.{codes, leb}
+use Rattle.std.proofs.Common.{◌≡◌, ℕ, ◌<◌, ◌≤◌, ◌+◌, ◌&&◌, List, [], ◌∷◌, Option, None, Some, Ok, Err, Bool, true, false, cond, refl, drop, drop-cons, add-one, get_or, length}
+use Rattle.std.specs.Prelude.{codes, is_none, leb}
 use Rattle.std.specs.Cmp.Lexicographic.{bytes_decides}
 use Rattle.std.proofs.Math.ListN.{drop_of_length-le}
+use Rattle.std.proofs.lemmas.Bool.{and_parts}
 use Rattle.matchit.specs.Rows.{RowsOf, comes_before}
 use Rattle.matchit.specs.Route.{Scan, parse_route, scan}
-use Rattle.matchit.specs.Router.{RouteOf, InsertsRead}
+use Rattle.matchit.specs.Router.{RouteOf, InsertsRead, Refused, nearest}
 use Rattle.matchit.specs.Order.{placed, lookup}
 use Rattle.matchit.specs.Seek.{same_text}
+use Rattle.matchit.specs.declared.error.InsertError.{InsertError}
+use Rattle.matchit.specs.declared.error.InsertError.TheVariants.{Conflict, InvalidParamSegment, InvalidParam, InvalidCatchAll, OutOfMemory}
 use Rattle.matchit.specs.Params.{named}
 use Rattle.fedi_paths.specs.Patterns.{is_plain, are_clear_of}
 use Rattle.fedi_paths.proofs.Taken.{pairs, wilds}
@@ -75,6 +78,38 @@ all_plain = refl
 pub inserted : (kind : Kind) (old new : RowsOf (RouteOf Kind)) → InsertsRead (parse_route (route_text kind)) kind old new (Ok tt)
     → new ≡ placed (pattern_of kind, route_of kind) old
 inserted kind old new h = (rw (good kind).parsed at h).1
+
+-- of a route that conflicts with none the router tells alone that there was no memory
+pub memory_alone : (kind : Kind) (old new : RowsOf (RouteOf Kind)) (e : InsertError) → nearest (pattern_of kind) old ≡ None
+    → InsertsRead (parse_route (route_text kind)) kind old new (Err e) → e ≡ OutOfMemory
+memory_alone kind old new e free h = none_other e free (rw (good kind).parsed at h).1
+  where
+    none_other : (e : InsertError) → nearest (pattern_of kind) old ≡ None → Refused (pattern_of kind) old e → e ≡ OutOfMemory
+    none_other (Conflict with) free found = let n = found.1 in cc
+    none_other OutOfMemory free found = refl
+    none_other InvalidParamSegment free found = absurd found
+    none_other InvalidParam free found = absurd found
+    none_other InvalidCatchAll free found = absurd found
+
+-- each of these conflicts with none that is there before it
+abbrev pub are_free : List Kind → RowsOf (RouteOf Kind) → Bool
+are_free [] rs = true
+are_free (kind ∷ rest) rs = is_none (nearest (pattern_of kind) rs) && are_free rest (added (kind ∷ []) rs)
+
+pub all_free : are_free kinds [] ≡ true
+all_free = refl
+
+none_is : {A : Type 0} (o : Option A) → is_none o ≡ true → o ≡ None
+none_is None h = refl
+none_is (Some x) h = absurd cc
+
+pub free_one : (i : ℕ) (rs : RowsOf (RouteOf Kind)) → i < length kinds → are_free (drop i kinds) rs ≡ true
+    → (nearest (pattern_of (get_or kinds i Webfinger)) rs ≡ None) × (are_free (drop (i + 1) kinds) (added (get_or kinds i Webfinger ∷ []) rs) ≡ true)
+free_one i rs h free =
+    let split = drop-cons kinds i Webfinger h in
+    let both = and_parts (is_none (nearest (pattern_of (get_or kinds i Webfinger)) rs)) (are_free (drop (i + 1) kinds) (added (get_or kinds i Webfinger ∷ []) rs))
+    (rw add-one (rw split at free)) in
+    (none_is _ both.0, both.1)
 
 pub added_one : (i : ℕ) (old new : RowsOf (RouteOf Kind)) → i < length kinds → added (drop i kinds) old ≡ rows
     → new ≡ added (get_or kinds i Webfinger ∷ []) old → added (drop (i + 1) kinds) new ≡ rows

@@ -1,13 +1,14 @@
 //! The router of the server.
 
-ghost use Rattle.std.specs.Prelude.{◌≡◌, ◌∷◌, [], ℕ, List, OnOk, MatchOption};
+ghost use Rattle.std.specs.Prelude.{◌≡◌, ◌∷◌, [], ℕ, List, None, OnOk, MatchOption};
 ghost use Rattle.matchit.specs.Params.{AllText, named, walk};
+ghost use Rattle.matchit.specs.Router.{nearest};
 ghost use Rattle.fedi_routes.specs.Table as table;
 ghost use Rattle.fedi_routes.specs.Table.{IsRouted, or_empty};
 ghost use Rattle.fedi_routes.specs.declared.kinds.Kind.{Kind};
 
 use crate::kinds::Kind;
-use matchit::{Params, Router};
+use matchit::{InsertError, Params, Router};
 use std::alloc::{AllocError, Global};
 
 /// The routes of the server. They are made once, and lent to whoever routes a request.
@@ -53,15 +54,23 @@ impl Routes {
     }
 }
 
-/// Adds the route of a kind of places. The error is out of memory.
+/// Adds the route of a kind of places, which conflicts with none that is there. The error is out of
+/// memory: the router has no other for a route that is well formed and conflicts with none.
 fn add(router: &mut Router<Kind>, kind: Kind) -> Result<(), AllocError>
+    requires { nearest (table.pattern_of kind) router.old ≡ None }
     ensures { OnOk result (router.new ≡ table.added (kind ∷ []) router.old) }
 {
-    // No other error comes: the routes are well formed, and no two are the same.
-    let Ok(()) = router.insert(kind.route(), kind) else {
-        return Err(AllocError);
-    };
-    Ok(())
+    match router.insert(kind.route(), kind) {
+        Ok(()) => Ok(()),
+        Err(error) => Err(out_of_memory(error)),
+    }
+}
+
+/// The error of a router that had no memory for a route.
+fn out_of_memory(_error: InsertError) -> AllocError
+    requires { _error ≡ InsertError.OutOfMemory }
+{
+    AllocError
 }
 
 /// What the parameter of this name took, or nothing if there is none.

@@ -32,7 +32,7 @@ pub fn credentials<'a>(request: &'a Request, body: &'a [u8]) -> Credentials<'a>
 }
 
 /// The key after `Bearer`, in any case, and one space.
-#[tactic(auto, unfolding(fedi_model::specs::Credentials::key_of))]
+#[tactic(auto, unfolding(fedi_mac::specs::Keys::key_of))]
 fn bearer_key(value: &[u8]) -> Option<[u8; 32]>
     ensures { result ≡ model.bearer_key value.now }
 {
@@ -51,7 +51,7 @@ fn is_lower_hex(text: &[u8]) -> bool
 }
 
 /// The 32 bytes of an authentication code.
-#[tactic(auto, unfolding(fedi_model::specs::Credentials::key_of))]
+#[tactic(auto, unfolding(fedi_mac::specs::Keys::key_of))]
 fn code_of(text: &[u8]) -> Option<[u8; 32]>
     ensures { result ≡ model.code_of text.now }
 {

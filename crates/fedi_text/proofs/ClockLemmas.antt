@@ -14,7 +14,7 @@ use Rattle.jiff_core.proofs.CalendarLemmas.{days_from_civil-day_count}
 use Rattle.jiff_core.proofs.DateLemmas.{epoch_day_injective}
 use Rattle.jiff_core.proofs.DateTimeLemmas.{civil_nanos-parts, time_nanos_bound}
 use Rattle.jiff.specs.Words.{datetime_text}
-use Rattle.fedi_text.specs.Clocks.{IsDateOf, IsShownAs}
+use Rattle.fedi_text.specs.Clocks.{IsShownAs}
 use Rattle.fedi_text.specs.Dates.{date_of, parts_of, moment_text}
 use Rattle.fedi_text.proofs.DateLemmas.{date_civil}
 
@@ -45,6 +45,10 @@ counts_agree y m d late first =
 calendars_agree : (y m d : ℕ) → 1970 ≤ y → 1 ≤ d → jiff_civil (pos y) m d ≡ pos (http_civil y m d)
 calendars_agree y m d late first =
     omega (arith, signed_arith, days_from_civil-day_count (pos y) m d, counts_agree y m d late first)
+
+-- the date is the one so many days after 1 January 1970
+abbrev IsDateOf : ℕ → Date → Type 0
+IsDateOf days date = let parts = date_of days 0 in IsYmd (pos parts.year) (pos parts.mon) (pos parts.day) date
 
 -- so a date of `jiff` with the number of a day is that day
 date_is : (days : ℕ) (date : Date) → days < 2932897 → epoch_day date ≡ pos days → IsDateOf days date

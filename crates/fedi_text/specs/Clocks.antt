@@ -1,13 +1,8 @@
 -- What a clock in UTC shows of a moment, as a date and a time of day of `jiff`.
 use Rattle.std.specs.Prelude.{◌≡◌, ℕ, pos}
 use Rattle.httpdate.specs.declared.parts.Parts.{Parts}
-use Rattle.jiff.specs.Types.{Date, DateTime}
+use Rattle.jiff.specs.Types.{DateTime}
 use Rattle.jiff.specs.Words.{IsYmd}
-use Rattle.fedi_text.specs.Dates.{date_of}
-
--- the date is the one so many days after 1 January 1970
-abbrev pub IsDateOf : ℕ → Date → Type 0
-IsDateOf days date = let parts = date_of days 0 in IsYmd (pos parts.year) (pos parts.mon) (pos parts.day) date
 
 -- the clock shows this date and time of day, and no fraction of a second
 abbrev pub IsShownAs : Parts → DateTime → Type 0

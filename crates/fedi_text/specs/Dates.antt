@@ -51,7 +51,3 @@ moment_text seconds = iso_text (parts_of seconds)
 -- a moment as HTTP writes it: `Sun, 06 Nov 1994 08:49:37 GMT` (RFC 9110, section 5.6.7, IMF-fixdate)
 unfoldable pub http_date_text : ℕ → List ℕ
 http_date_text seconds = imf_fixdate (parts_of seconds)
-
--- the last second of the year 9999
-abbrev pub last_second : ℕ
-last_second = 253402300799

@@ -3,7 +3,7 @@ use Rattle.std.proofs.lemmas.Result.{on_ok_weaker}
 use Rattle.fedi_asks.specs.Documents.{item_form}
 use Rattle.fedi_collections.proofs.Adding.{added_as}
 use Rattle.fedi_collections.proofs.DocumentParts.{page_parts}
-use Rattle.fedi_collections.specs.Members.{page_end, page_start}
+use Rattle.fedi_collections.specs.Members.{page_end}
 use Rattle.fedi_objects.proofs.Additions.{then}
 use Rattle.fedi_objects.specs.Writing.{Adds}
 use Rattle.fedi_collections.proofs.pages.write_page.Goals as goal

@@ -43,4 +43,14 @@ returns-in_err-request-clause-reads g c =
       start = c.in_ok-head.head.start;
       head = c.in_ok-head.ensures.head;
       reads = rw c.pending.ensures.pending at (c.in_err-request.ensures.refused other);
-    })))
+    })
+    (λ wanting.
+    let served = rw c.pending.ensures.pending at (c.in_err-request.ensures.memory wanting) in (
+      served.0,
+      c.in_ok-head.head.end,
+      record {
+        start = c.in_ok-head.head.start;
+        head = c.in_ok-head.ensures.head;
+        reads = served.1;
+      },
+    ))))

@@ -34,19 +34,19 @@ pub returns-in-None-None-clause-coding : goal.returns-in-None-None-clause-coding
 returns-in-None-None-clause-coding c fields known =
     no-length c.args.method.now c.args.minor fields c.args.known.now
     (is_measured c.args.minor fields c.args.known.now _ _ (c.if-not-has_host.ensures) (c.if-not-has_no_repeats.ensures) c.in-None-None.is-0 c.in-None-None.is-1 known)
-    (sym c.eq.ensures ∙ c.if-eq.true)
+    (sym c.is_post.ensures ∙ c.if-is_post.true)
 
 pub returns-in-None-None-2-clause-coding : goal.returns-in-None-None-2-clause-coding
 returns-in-None-None-2-clause-coding c fields known =
     no-body c.args.method.now c.args.minor fields c.args.known.now
     (is_measured c.args.minor fields c.args.known.now _ _ (c.if-not-has_host.ensures) (c.if-not-has_no_repeats.ensures) c.in-None-None-2.is-0 c.in-None-None-2.is-1 known)
-    (sym c.eq.ensures ∙ c.if-eq.false)
+    (sym c.is_post.ensures ∙ c.if-is_post.false)
 
 pub returns-in-None-Some-clause-coding : goal.returns-in-None-Some-clause-coding
 returns-in-None-Some-clause-coding c fields known =
     length_told c.args.method.now c.args.minor fields c.args.known.now c.in-None-Some.length c.length_of.result
     (is_measured c.args.minor fields c.args.known.now _ _ (c.if-not-has_host.ensures) (c.if-not-has_no_repeats.ensures) c.in-None-Some.is-0 c.in-None-Some.is-1 known)
-    c.length_of.ensures
+    c.length_of.ensures.length
 
 pub returns-in-None-Some-clause-short : goal.returns-in-None-Some-clause-short
-returns-in-None-Some-clause-short c = short_length c.in-None-Some.length.now c.length_of.result c.length_of.ensures
+returns-in-None-Some-clause-short c = short_length c.in-None-Some.length.now c.length_of.result c.length_of.ensures.length
