@@ -1,9 +1,9 @@
 -- What becomes of a post to an outbox (ActivityPub, section 6) and of a delivery to an inbox (section 7).
-use Rattle.std.specs.Prelude.{ℕ, ◌+◌, Bool, true, false, not, nat_lt, List, Option, Some, None, option_map, if◌then◌else◌}
+use Rattle.std.specs.Prelude.{ℕ, ◌+◌, Bool, true, false, not, List, Option, Some, None, option_map, if◌then◌else◌}
 use Rattle.std.specs.List.{find}
 use Rattle.std.specs.Str.{bytes_eq}
 use Rattle.fedi_town.specs.declared.refusal.Refusal.{Refusal}
-use Rattle.fedi_town.specs.declared.refusal.Refusal.TheVariants.{NotFound, BadQuery, NoKey, NotOwner, WrongType, BadBody, KeyReused, ActorFull, NotOrigin}
+use Rattle.fedi_town.specs.declared.refusal.Refusal.TheVariants.{NotFound, BadQuery, NoKey, NotOwner, WrongType, BadBody, KeyReused, NotOrigin}
 use Rattle.fedi_objects.specs.declared.activity.Activity.{Activity}
 use Rattle.fedi_objects.specs.declared.entry.Entry.{Entry}
 use Rattle.fedi_objects.specs.declared.entry.Entry.TheVariants.{Local, Remote}
@@ -11,11 +11,9 @@ use Rattle.fedi_town.specs.declared.act.Peer.{Peer}
 use Rattle.fedi_town.specs.declared.caller.Caller.{Caller}
 use Rattle.fedi_town.specs.declared.caller.Caller.TheVariants as callers
 use Rattle.fedi_town.specs.Agreement.{repeats_of, peer_of}
-use Rattle.fedi_town.specs.Deeds.{deed_of}
 use Rattle.fedi_town.specs.Origins.{is_foreign, has_inbox}
 use Rattle.fedi_town.specs.Ids.{activity_id}
-use Rattle.fedi_town.specs.Relations.{ref_id}
-use Rattle.fedi_town.specs.Rules.{broken}
+use Rattle.fedi_town.specs.Rules.{broken_post}
 use Rattle.fedi_town.specs.Towns.{Town, count_of}
 use Rattle.fedi_asks.specs.declared.post.KeyAsk.{KeyAsk}
 use Rattle.fedi_asks.specs.declared.post.KeyAsk.TheVariants.{Absent, Malformed, Given}
@@ -49,13 +47,9 @@ by_steps bad_key nobody allowed typed j =
 
 -- ---- a member's post
 
--- where the author has fewer than 4,294,967,295 activities
-abbrev pub with_room : ℕ → Judgement → Judgement
-with_room count j = if nat_lt count 4294967295 then j else Stop (Refuse ActorFull)
-
--- the author's activity: it is kept where it breaks no rule and there is room
+-- the author's activity: it is kept where it breaks no rule
 abbrev pub judge_activity : Town → Caller → List ℕ → Activity → Judgement
-judge_activity t c author a = unless_broken (broken t c author (deed_of a.kind) (ref_id a.object)) (with_room (count_of t author) (Keep a))
+judge_activity t c author a = unless_broken (broken_post t c author a) (Keep a)
 
 -- the key is none
 abbrev pub is_bad_key : KeyAsk → Bool

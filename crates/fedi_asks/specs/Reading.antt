@@ -11,6 +11,7 @@ use Rattle.fedi_town.specs.declared.caller.Caller.{Caller}
 use Rattle.fedi_town.specs.declared.caller.Caller.TheVariants as callers
 use Rattle.fedi_town.specs.declared.caller.Which.{Which}
 use Rattle.fedi_town.specs.declared.caller.Which.TheVariants.{Inbox, Outbox, Followers, Following, Liked, Likes, Shares}
+use Rattle.fedi_town.specs.Addressing.{is_of_town}
 use Rattle.fedi_town.specs.Collections.{items, owner_of, highest, page_of}
 use Rattle.fedi_town.specs.Objects.{is_deleted, whole_of}
 use Rattle.fedi_town.specs.Rules.{seen_maker, seen_act}
@@ -70,7 +71,7 @@ webfinger_answer t (Some r) = resource_answer t r.name r.rels
 
 -- the document of an activity (ActivityPub, section 3.2)
 unfoldable pub activity_document : Town → Act → Answer
-activity_document t x = Document (activity_form true true x.author (shown_activity t x))
+activity_document t x = Document (activity_form (is_of_town t.host x.author) true x.author (shown_activity t x))
 
 -- the document of the activity that was found, or that there is none
 abbrev pub activity_or_missing : Town → Option Act → Answer

@@ -13,7 +13,7 @@ use Rattle.fedi_objects.specs.declared.activity.Activity.{Activity}
 use Rattle.fedi_objects.specs.declared.entry.Entry.{Entry}
 use Rattle.fedi_objects.specs.declared.entry.Entry.TheVariants.{Local}
 use Rattle.fedi_laws.proofs.Isolation.{unseen_posts}
-use Rattle.fedi_laws.proofs.Lists.{find-none}
+use Rattle.fedi_town.proofs.Lists.{find-none}
 use Rattle.fedi_town.specs.Agreement.{Agree}
 use Rattle.fedi_town.specs.Built.{are_built, is_built}
 use Rattle.fedi_town.specs.Histories.{step, town}

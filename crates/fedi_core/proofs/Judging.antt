@@ -18,7 +18,7 @@ use Rattle.fedi_asks.specs.declared.post.Read.TheVariants.{NotJson, Bad, Ready}
 use Rattle.fedi_asks.specs.Posting.{Stop, Repeat, Keep, entry_at, judge_activity, judge_post, judge_read, post_answer, repeat_by, repeat_under, unless_repeat}
 use Rattle.fedi_asks.specs.Answers.{Answer, Refuse, Misshape}
 use Rattle.fedi_asks.specs.Reading.{is_self}
-use Rattle.fedi_laws.proofs.Texts.{bytes_eq-is}
+use Rattle.fedi_town.proofs.Texts.{bytes_eq-is}
 use Rattle.fedi_model.specs.declared.reply.Reply.{Reply}
 use Rattle.fedi_model.specs.Replies.{reply_of, without_body}
 

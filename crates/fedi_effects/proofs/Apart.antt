@@ -8,7 +8,7 @@ use Rattle.std.proofs.lemmas.List.{append-nil}
 use Rattle.std.proofs.lemmas.List.Folds.{list_any-append}
 use Rattle.std.proofs.lemmas.Slice.Eq.{bytes_eq-Decides}
 use Rattle.fedi_address.specs.Recipients.{is_among}
-use Rattle.fedi_laws.proofs.Lists.{first_none, other_none, or_none}
+use Rattle.fedi_town.proofs.Lists.{first_none, other_none, or_none}
 use Rattle.fedi_town.specs.Lists.{differs, each_once}
 use Rattle.fedi_town.specs.Relations.{followers, is_following}
 use Rattle.fedi_town.specs.Shapes.{is_each_once}

@@ -13,7 +13,7 @@ use Rattle.fedi_town.specs.declared.addition.Addition.{Addition}
 use Rattle.fedi_town.specs.Built.{is_built}
 use Rattle.fedi_town.specs.Histories.{addition_of, member_addition, post_addition, step, town, with_addition}
 use Rattle.fedi_town.specs.Towns.{Town, empty_town}
-use Rattle.fedi_laws.proofs.MadeOnce.{made_once}
+use Rattle.fedi_town.proofs.MadeOnce.{made_once}
 use Rattle.fedi_effects.specs.declared.ready.Ready.{Ready}
 use Rattle.fedi_effects.specs.declared.ready.Ready.TheVariants as ready
 use Rattle.fedi_effects.specs.Additions.{HasAuthors, IsBuiltAddition, addition_in, with_answerer, with_authors}

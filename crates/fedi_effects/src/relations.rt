@@ -1,7 +1,7 @@
 //! Who blocks whom, and who follows whom.
 
 ghost use Rattle.std.specs.Prelude.{◌≡◌, IfOk};
-ghost use Rattle.fedi_town.specs.Relations.{blocks, followers, has_block_between};
+ghost use Rattle.fedi_town.specs.Relations.{blocks, followers, follows, has_block_between};
 
 use crate::facts::Facts;
 use fedi_address::Iri;
@@ -21,6 +21,14 @@ impl Facts {
         ensures { result ≡ has_block_between self.now.town a.now b.now }
     {
         self.blocks(a, b) || self.blocks(b, a)
+    }
+
+    /// Whether a follows b: a Follow of b by a was accepted, and neither ended nor was undone since
+    /// (ActivityPub, sections 6.5 and 7.5).
+    pub fn follows(&self, a: &Iri, b: &Iri) -> bool
+        ensures { result ≡ follows self.now.town a.now b.now }
+    {
+        self.register().follows(a, b)
     }
 
     /// Those who follow b, in the order of their Follows (ActivityPub, section 5.3). The error is out of

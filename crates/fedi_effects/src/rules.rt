@@ -9,13 +9,14 @@ ghost use Rattle.fedi_town.specs.Addressing.{is_nobody_here};
 ghost use Rattle.fedi_town.specs.Deeds.{deed_of, is_follow, is_open, is_pending};
 ghost use Rattle.fedi_town.specs.Objects.{makes};
 ghost use Rattle.fedi_town.specs.Relations.{has_activity_id, has_block_between, ref_id};
-ghost use Rattle.fedi_town.specs.Rules.{announce_rule, answer_rule, broken, broken_about, change_rule, like_rule, refuse_if, seen_act, seen_maker, undo_rule};
+ghost use Rattle.fedi_town.specs.Rules.{announce_rule, answer_rule, broken, broken_about, broken_post, change_rule, like_rule, number_rule, refuse_if, seen_act, seen_maker, undo_rule};
 ghost use Rattle.fedi_town.specs.Seeing.{sees_as};
 ghost use Rattle.fedi_town.specs.Towns.{id_of};
 
 use crate::addressing::is_nobody_here;
 use crate::facts::Facts;
 use crate::seeing::sees_as;
+use crate::states::has_next;
 use crate::subjects::ref_id;
 use fedi_address::Iri;
 use fedi_kept::Kept;
@@ -181,12 +182,8 @@ fn judge_about(facts: &Facts, author: &Iri, deed: Deed, id: &Iri) -> Result<(), 
     }
 }
 
-/// Whether a member, who is the author with this id, may post the activity (ActivityPub, section 6).
-/// What the author does not see is missing to the author. The error is the first rule that the
-/// activity breaks: it is about nothing that is there, about what somebody else made or did, about an
-/// object that was deleted or that may not be shared, about an actor behind a Block, or it answers or
-/// takes back what does not stand. It takes no memory.
-pub fn judge_local(facts: &Facts, author: &Iri, activity: &Activity) -> Result<(), Refusal>
+// What the author does: an activity that is about nothing breaks no rule.
+fn judge_deed(facts: &Facts, author: &Iri, activity: &Activity) -> Result<(), Refusal>
     ensures { (name : List ℕ) → id_of facts.now.town name ≡ Some author.now
         → result_err result
         ≡ broken facts.now.town (Actor name) author.now (deed_of activity.now.kind)
@@ -196,4 +193,29 @@ pub fn judge_local(facts: &Facts, author: &Iri, activity: &Activity) -> Result<(
         Some(id) => judge_about(facts, author, Deed::of(activity.kind), id),
         None => Ok(()),
     }
+}
+
+// The author has a number left for one more activity.
+fn judge_number(facts: &Facts, author: &Iri) -> Result<(), Refusal>
+    ensures { result_err result ≡ number_rule facts.now.town author.now }
+{
+    if has_next(facts.count_of(author) as u64) {
+        Ok(())
+    } else {
+        Err(Refusal::ActorFull)
+    }
+}
+
+/// Whether a member, who is the author with this id, may post the activity (ActivityPub, section 6).
+/// What the author does not see is missing to the author. The error is the first rule that the
+/// activity breaks: it is about nothing that is there, about what somebody else made or did, about an
+/// object that was deleted or that may not be shared, about an actor behind a Block, it answers or
+/// undoes what is in another state, or the author has 4,294,967,295 activities. It takes no memory.
+pub fn judge_local(facts: &Facts, author: &Iri, activity: &Activity) -> Result<(), Refusal>
+    ensures { (name : List ℕ) → id_of facts.now.town name ≡ Some author.now
+        → result_err result
+        ≡ broken_post facts.now.town (Actor name) author.now activity.now }
+{
+    judge_deed(facts, author, activity)?;
+    judge_number(facts, author)
 }

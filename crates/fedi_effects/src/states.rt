@@ -6,7 +6,7 @@ ghost use Rattle.fedi_town.specs.Deeds.{is_open, is_pending};
 ghost use Rattle.fedi_town.specs.Objects.{makes};
 ghost use Rattle.fedi_town.specs.Relations.{ref_id};
 ghost use Rattle.fedi_town.specs.States.{can_be_undone, follow_state, has_room, is_announce_of, is_follow_for, is_like_of, is_live_to, is_locked, is_own_live, is_own_undoable, is_public_act, only_where, state_about, state_of};
-ghost use Rattle.fedi_town.specs.Towns.{count_after, has_id};
+ghost use Rattle.fedi_town.specs.Towns.{count_after, has_id, has_next};
 ghost use Rattle.fedi_effects.specs.Subjects.{subject_of};
 
 use crate::facts::{Facts, has_id};
@@ -18,7 +18,7 @@ use fedi_objects::{ObjectRef, State};
 use fedi_register::{
     can_be_undone, is_about, is_announce_of, is_by, is_follow, is_like_of, is_open, is_pending,
 };
-use fedi_town::{Actor, Deed};
+use fedi_town::{Actor, Deed, MOST_ACTIVITIES};
 
 // The state where the condition holds, and else Plain.
 fn only_where(holds: bool, state: State) -> State
@@ -92,12 +92,19 @@ pub fn count_after(facts: &Facts, author: &Iri, id: &Iri) -> u64
     if author == id { count + 1 } else { count }
 }
 
+// Whether there is a number for one more activity after so many.
+pub(crate) fn has_next(count: u64) -> bool
+    ensures { result ≡ has_next count }
+{
+    count < u64::from(MOST_ACTIVITIES)
+}
+
 // Whether this one has room for one more activity after this one of the author.
 #[tactic(auto, unfolding(fedi_town::specs::States::has_room))]
 fn has_room(facts: &Facts, author: &Iri, id: &Iri) -> bool
     ensures { result ≡ has_room facts.now.town author.now id.now }
 {
-    count_after(facts, author, id) < 4_294_967_295
+    has_next(count_after(facts, author, id))
 }
 
 fn is_locked_one(member: &Actor, id: &Iri) -> bool

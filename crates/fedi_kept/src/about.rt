@@ -1,15 +1,15 @@
 //! What an activity is about, as it is kept.
 
 ghost use Rattle.std.specs.Prelude.{◌≡◌, IfOk, option_copied, option_map};
-ghost use Rattle.fedi_objects.specs.Objects.{stripped_object};
 ghost use Rattle.fedi_town.specs.Objects.{is_tombstone_in, rewrite_ref, tombstone_of, update_object, whole_of};
 ghost use Rattle.fedi_town.specs.Relations.{ref_id};
+ghost use Rattle.fedi_town.specs.Showing.{shown_object};
 ghost use Rattle.fedi_kept.specs.Parts.{object_names, referred};
 
 use crate::object::KeptObject;
 use crate::pool::Pool;
 use fedi_address::Iri;
-use fedi_objects::{Change, ObjectRef, StrippedObject, TOMBSTONE};
+use fedi_objects::{Change, ObjectRef, StrippedObject};
 use fedi_text::Text;
 use std::alloc::{AllocError, Global};
 use std::snapshot::Snapshot;
@@ -61,12 +61,12 @@ impl About {
         }
     }
 
-    /// The object, where it is carried, without `bto` and `bcc`.
+    /// The object, where it is carried, as it is shown.
     pub(crate) fn object(&self) -> Option<StrippedObject<'_>>
-        ensures { result ≡ option_map stripped_object (whole_of (referred self.now)) }
+        ensures { result ≡ option_map shown_object (whole_of (referred self.now)) }
     {
         match self {
-            About::Whole(object) => Some(object.strip()),
+            About::Whole(object) => Some(object.show()),
             About::Nothing | About::Id(_) | About::Changed(_) => None,
         }
     }
@@ -76,7 +76,7 @@ impl About {
         ensures { result ≡ is_tombstone_in (whole_of (referred self.now)) }
     {
         match self {
-            About::Whole(object) => object.kind.text() == TOMBSTONE,
+            About::Whole(object) => object.is_tombstone(),
             About::Nothing | About::Id(_) | About::Changed(_) => false,
         }
     }

@@ -1,7 +1,7 @@
 //! One accepted activity, as it is kept.
 
 ghost use Rattle.std.specs.Prelude.{◌≡◌, IfOk, option_copied, option_map};
-ghost use Rattle.fedi_objects.specs.Objects.{stripped_object};
+ghost use Rattle.fedi_town.specs.Showing.{shown_object};
 ghost use Rattle.fedi_town.specs.Deeds.{deed_of};
 ghost use Rattle.fedi_town.specs.Objects.{is_deleted, rewrite_act, tombstone_of, update_object, whole_of};
 ghost use Rattle.fedi_town.specs.Relations.{ref_id};
@@ -195,9 +195,10 @@ impl Kept {
         self.about.id()
     }
 
-    /// The object that it carries, without `bto` and `bcc`.
+    /// The object that it carries, as it is shown: without `bto` and `bcc`, and a Tombstone by its `id`,
+    /// `type`, `formerType` and `deleted` alone (ActivityPub, sections 6 and 6.4).
     pub fn object(&self) -> Option<StrippedObject<'_>>
-        ensures { result ≡ option_map stripped_object (whole_of self.now.activity.object) }
+        ensures { result ≡ option_map shown_object (whole_of self.now.activity.object) }
     {
         self.about.object()
     }

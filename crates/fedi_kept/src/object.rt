@@ -1,14 +1,18 @@
 //! The object that an activity carries, as it is kept.
 
 ghost use Rattle.std.specs.Prelude.{◌≡◌, IfOk};
+ghost use Rattle.fedi_objects.specs.Forms.{is_tombstone};
 ghost use Rattle.fedi_objects.specs.Objects.{stripped_object};
 ghost use Rattle.fedi_town.specs.Objects as objects;
+ghost use Rattle.fedi_town.specs.Showing.{bare_tombstone, shown_object};
 ghost use Rattle.fedi_kept.specs.Parts.{named_in, whole};
 
 use crate::iris::Iris;
 use crate::pool::Pool;
 use fedi_address::{Iri, Items, Recipients};
-use fedi_objects::{Change, Edit, Object, ObjectRef, ObjectView, StrippedObject, Tag, set};
+use fedi_objects::{
+    Change, Edit, Object, ObjectRef, ObjectView, StrippedObject, TOMBSTONE, Tag, set,
+};
 use fedi_text::Text;
 use std::alloc::{AllocError, Global};
 use std::mem;
@@ -138,8 +142,39 @@ impl KeptObject {
         }
     }
 
-    /// The object without its `bto` and `bcc`.
-    pub(crate) fn strip(&self) -> StrippedObject<'_>
+    /// Whether it is what is left of a deleted object.
+    pub(crate) fn is_tombstone(&self) -> bool
+        ensures { result ≡ is_tombstone (whole self.now) }
+    {
+        self.kind.text() == TOMBSTONE
+    }
+
+    // The four members of a Tombstone (ActivityStreams 2.0 Vocabulary, section 3.3).
+    fn show_tombstone(&self) -> StrippedObject<'_>
+        ensures { result ≡ bare_tombstone (whole self.now) }
+    {
+        StrippedObject::of(ObjectView {
+            id: self.id.as_ref(),
+            kind: &self.kind,
+            attributed_to: None,
+            to: &[],
+            cc: &[],
+            audience: &[],
+            in_reply_to: None,
+            content: None,
+            summary: None,
+            name: None,
+            url: None,
+            published: None,
+            updated: None,
+            former_kind: self.former_kind.as_ref(),
+            deleted: self.deleted.as_ref(),
+            tags: &[],
+        })
+    }
+
+    // The object without its `bto` and `bcc`.
+    fn strip(&self) -> StrippedObject<'_>
         ensures { result ≡ stripped_object (whole self.now) }
     {
         StrippedObject::of(ObjectView {
@@ -160,6 +195,18 @@ impl KeptObject {
             deleted: self.deleted.as_ref(),
             tags: self.tags.as_slice(),
         })
+    }
+
+    /// The object as it is shown: a Tombstone by its four members alone, any other without its `bto` and
+    /// `bcc` (ActivityPub, section 6).
+    pub(crate) fn show(&self) -> StrippedObject<'_>
+        ensures { result ≡ shown_object (whole self.now) }
+    {
+        if self.is_tombstone() {
+            self.show_tombstone()
+        } else {
+            self.strip()
+        }
     }
 
     // The object after a client's Update.
@@ -205,12 +252,28 @@ impl KeptObject {
         }
     }
 
-    /// Leaves a Tombstone of the object (ActivityPub, section 6.4). It takes no memory.
+    // Lets go of all that an Update may set.
+    fn empty(&mut self)
+        ensures emptied { whole self.new ≡ objects.emptied (whole self.old) }
+        ensures named { named_in self.new ≡ named_in self.old }
+    {
+        set(&mut self.content, None);
+        set(&mut self.summary, None);
+        set(&mut self.name, None);
+        set(&mut self.url, None);
+        set(&mut self.in_reply_to, None);
+        let none = Items::empty(self.tags.allocator());
+        set(&mut self.tags, none);
+    }
+
+    /// Leaves a Tombstone of the object (ActivityPub, section 6.4), and nothing of what it said. It takes
+    /// no memory.
     #[tactic(auto, unfolding(fedi_town::specs::Objects::tombstone_of))]
     pub(crate) fn bury(&mut self, kind: Text, stamp: Text)
         ensures buried { whole self.new ≡ objects.tombstone_of kind stamp (whole self.old) }
         ensures named { named_in self.new ≡ named_in self.old }
     {
+        self.empty();
         let former = mem::replace(&mut self.kind, kind);
         set(&mut self.former_kind, Some(former));
         set(&mut self.deleted, Some(stamp));

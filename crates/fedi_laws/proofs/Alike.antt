@@ -1,18 +1,21 @@
 -- What is shown of an activity is like the activity in all that a test may look at.
-use Rattle.std.proofs.Common.{◌≡◌, ℕ, Bool, true, false, List, [], ◌∷◌, Option, Some, None, refl, ap, subst}
-use Rattle.std.specs.Prelude.{◌&&◌, if◌then◌else◌}
+use Rattle.std.proofs.Common.{◌≡◌, ℕ, Bool, true, false, List, [], ◌∷◌, Option, Some, None, refl, ap, subst, ◌∙◌}
+use Rattle.std.specs.Prelude.{◌&&◌, codes, if◌then◌else◌}
 use Rattle.std.specs.List.{find}
+use Rattle.std.specs.Str.{bytes_eq}
 use Rattle.fedi_objects.specs.declared.activity.ObjectRef.{ObjectRef}
 use Rattle.fedi_objects.specs.declared.activity.ObjectRef.TheVariants.{Nothing, Id, Whole, Changed}
 use Rattle.fedi_objects.specs.declared.object.Object.{Object}
+use Rattle.fedi_objects.specs.Forms.{is_tombstone}
+use Rattle.fedi_objects.specs.Objects.{stripped_object}
 use Rattle.fedi_town.specs.Deeds.{is_create, is_update, is_done}
 use Rattle.fedi_town.specs.Objects.{makes, maker_of, whole_of, is_deleted, is_tombstone_in, object_of}
 use Rattle.fedi_town.specs.Relations.{ref_id, is_id, is_about}
-use Rattle.fedi_town.specs.Showing.{sight_of, shown_ref, shown_activity, present_object, object_or_id, ref_to}
+use Rattle.fedi_town.specs.Showing.{sight_of, shown_ref, shown_activity, present_object, bare_tombstone, shown_object, object_or_id, ref_to}
 use Rattle.fedi_town.specs.Towns.{Town, deed}
 use Rattle.fedi_town.specs.declared.act.Act.{Act}
 use Rattle.fedi_town.specs.declared.caller.Caller.{Caller}
-use Rattle.fedi_laws.proofs.Texts.{bytes_eq-is}
+use Rattle.fedi_town.proofs.Texts.{bytes_eq-is}
 use Rattle.std.proofs.lemmas.Bool.{and_parts}
 
 pub record IsAlike (x y : Act) : Type 0 where
@@ -35,9 +38,16 @@ abbrev HasId : Option Object → Option (List ℕ) → Type 0
 HasId None id = Unit {0}
 HasId (Some o) id = o.id ≡ id
 
+shown_id : (o : Object) → (shown_object o).id ≡ o.id
+shown_id o =
+    elim (is_tombstone o) as (λ b. (if b then bare_tombstone o else stripped_object o).id ≡ o.id) [
+      | true ↦ refl
+      | false ↦ refl
+    ]
+
 named_present : (o : Option Object) (id : Option (List ℕ)) → HasId o id → ref_id (object_or_id o id) ≡ id
 named_present None id h = named_ref id
-named_present (Some o) id h = h
+named_present (Some o) id h = shown_id o ∙ h
 
 whole_named : (r : ObjectRef) → HasId (whole_of r) (ref_id r)
 whole_named Nothing = tt
@@ -97,9 +107,16 @@ not_whole : (id : Option (List ℕ)) → is_tombstone_in (whole_of (ref_to id)) 
 not_whole None = refl
 not_whole (Some id) = refl
 
+shown_kind : (o : Object) → (shown_object o).kind ≡ o.kind
+shown_kind o =
+    elim (is_tombstone o) as (λ b. (if b then bare_tombstone o else stripped_object o).kind ≡ o.kind) [
+      | true ↦ refl
+      | false ↦ refl
+    ]
+
 buried_present : (o : Option Object) (id : Option (List ℕ)) → is_tombstone_in (whole_of (object_or_id o id)) ≡ is_tombstone_in o
 buried_present None id = not_whole id
-buried_present (Some o) id = refl
+buried_present (Some o) id = ap (λ (k : List ℕ). bytes_eq k (codes "Tombstone")) (shown_kind o)
 
 same_buried : (a b : Bool) (r : ObjectRef) (y : Option Object) (id : Option (List ℕ))
     → (a && is_tombstone_in (whole_of (object_or_id (if a then whole_of r else (if b then y else None)) id))) ≡ (a && is_tombstone_in (whole_of r))

@@ -4,7 +4,7 @@ use Rattle.std.specs.Prelude.{◌&&◌, ◌||◌, not, cond}
 use Rattle.std.specs.List.{list_any}
 use Rattle.std.specs.Str.{bytes_eq}
 use Rattle.fedi_address.specs.Recipients.{is_among}
-use Rattle.fedi_laws.proofs.Lists.{first_none, other_none}
+use Rattle.fedi_town.proofs.Lists.{first_none, other_none}
 use Rattle.fedi_laws.proofs.Reached.{Reaches}
 use Rattle.fedi_town.specs.Addressing.{is_recipient, addressees, recipients_with}
 use Rattle.fedi_town.specs.Lists.{each_once}
@@ -16,7 +16,7 @@ use Rattle.fedi_town.specs.Towns.{Town, id_of, is_by}
 use Rattle.fedi_town.specs.declared.act.Act.{Act}
 use Rattle.fedi_town.specs.declared.caller.Caller.{Caller}
 use Rattle.fedi_town.specs.declared.caller.Caller.TheVariants.{Nobody, Actor, Peer}
-use Rattle.fedi_laws.proofs.Texts.{is_false, not_both, bytes_eq-is, bytes_eq-same, or_true, or_no}
+use Rattle.fedi_town.proofs.Texts.{is_false, not_both, bytes_eq-is, bytes_eq-same, or_true, or_no}
 
 -- it goes to the follower, or to nobody
 pub to_follower : (u : Town) (b follower : List ℕ) → bytes_eq follower (followers_id b) ≡ false

@@ -11,6 +11,7 @@ use Rattle.fedi_objects.specs.declared.entry.Entry.TheVariants.{Hosted, Made, Pe
 use Rattle.fedi_objects.specs.declared.kind.State.TheVariants.{Done}
 use Rattle.fedi_objects.specs.declared.object.Object.{Object}
 use Rattle.fedi_objects.specs.Forms.{is_tombstone}
+use Rattle.fedi_town.proofs.Kept.{ref_id-received}
 use Rattle.fedi_town.specs.declared.act.Act.{Act}
 use Rattle.fedi_town.specs.declared.addition.Addition.TheVariants as additions
 use Rattle.fedi_town.specs.declared.deed.Deed.{Deed}
@@ -26,10 +27,9 @@ use Rattle.fedi_town.specs.Replays.{acts_in, updates, deletes, next_form, replay
 use Rattle.fedi_town.specs.States.{state_of, state_with, only_where, is_own_live}
 use Rattle.fedi_town.specs.Towns.{Town, deed, empty_town, id_of, is_by}
 use Rattle.fedi_laws.proofs.Alike.{found_passes}
-use Rattle.fedi_laws.proofs.Grounded.{ref_id-received}
 use Rattle.fedi_laws.proofs.Replaying.{answers_forms, step_replays}
-use Rattle.fedi_laws.proofs.Steps.{answers}
-use Rattle.fedi_laws.proofs.Texts.{bytes_eq-is, and_none}
+use Rattle.fedi_town.proofs.Steps.{answers}
+use Rattle.fedi_town.proofs.Texts.{bytes_eq-is, and_none}
 
 -- the object of this id was deleted
 pub record IsBuried (t : Town) (id : List ℕ) (o : Object) : Type 0 where

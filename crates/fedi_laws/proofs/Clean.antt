@@ -9,7 +9,7 @@ use Rattle.std.specs.Str.{bytes_eq}
 use Rattle.serde_json.specs.Data.{Data, Num, unsigned, number, string, array, Members, no_members, member, put}
 use Rattle.serde_json.specs.View.{items_of}
 use Rattle.fedi_town.specs.declared.refusal.Refusal.{Refusal}
-use Rattle.fedi_town.specs.declared.refusal.Refusal.TheVariants.{NotFound, BadQuery, ActorFull, KeyReused, NotOrigin}
+use Rattle.fedi_town.specs.declared.refusal.Refusal.TheVariants.{NotFound, BadQuery, KeyReused, NotOrigin}
 use Rattle.fedi_address.specs.Recipients.{is_among}
 use Rattle.fedi_objects.specs.Forms.{is_open, is_clean, items_are_clean, members_are_clean, with_context, object_form, is_tombstone}
 use Rattle.fedi_objects.specs.declared.object.Object as objects
@@ -26,7 +26,7 @@ use Rattle.fedi_town.specs.Origins.{is_foreign}
 use Rattle.fedi_town.specs.Ids.{actor_id, activity_id, object_id}
 use Rattle.fedi_town.specs.Objects.{whole_of}
 use Rattle.fedi_town.specs.Relations.{ref_id}
-use Rattle.fedi_town.specs.Rules.{broken, seen_act, seen_maker}
+use Rattle.fedi_town.specs.Rules.{broken_post, seen_act, seen_maker}
 use Rattle.fedi_town.specs.Showing.{shown_activity}
 use Rattle.fedi_town.specs.Towns.{Town, count_of, id_of}
 use Rattle.fedi_asks.specs.declared.ask.Ask.{Ask}
@@ -41,7 +41,7 @@ use Rattle.fedi_asks.specs.Answers.{Answer, Refuse, Document, Tombstone, unless_
 use Rattle.fedi_asks.specs.Asks.{id_at, answer_of}
 use Rattle.fedi_asks.specs.Cleanness.{is_clean_answer}
 use Rattle.fedi_asks.specs.Documents.{actor_form, self_link, links_of, jrd_form, embedded_form, item_form, page_id, with_ends, summary_form, with_next, with_prev, page_form}
-use Rattle.fedi_asks.specs.Posting.{Judgement, Stop, Repeat, Keep, unless_broken, by_steps, with_room, judge_activity, is_bad_key, repeat_under, unless_repeat, judge_read, answer_post, post_answer, judge_delivery, is_there, answer_delivery, delivery_answer}
+use Rattle.fedi_asks.specs.Posting.{Judgement, Stop, Repeat, Keep, unless_broken, by_steps, judge_activity, is_bad_key, repeat_under, unless_repeat, judge_read, answer_post, post_answer, judge_delivery, is_there, answer_delivery, delivery_answer}
 use Rattle.fedi_asks.specs.Reading.{is_nobody, is_self, is_peer, actor_or_missing, profile_or_missing, resource_answer, webfinger_answer, activity_document, activity_or_missing, activity_answer, object_document, maker_document, object_or_missing, object_answer, name_of, reading_rule, object_rule, part_answer, items_answer, owner_answer, is_malformed, member_answer}
 
 abbrev IsClean : Answer → Type 0
@@ -184,7 +184,7 @@ webfinger_clean t (Some r) = resource_clean t r.name r.rels
 found_clean : (t : Town) (m : Option Act) → IsClean (activity_or_missing t m)
 unfolding activity_document
 found_clean t None = refl
-found_clean t (Some x) = is_clean-activity_form true true x.author (shown_activity t x)
+found_clean t (Some x) = is_clean-activity_form _ true x.author (shown_activity t x)
 
 act_clean : (t : Town) (c : Caller) (id : Option (List ℕ)) → IsClean (activity_answer t c id)
 act_clean t c None = refl
@@ -258,8 +258,7 @@ read_clean t c author post NotJson = refl
 read_clean t c author post (Bad fault) = refl
 read_clean t c author post (Ready a) =
     kept_clean post.digest (repeat_under (repeats_of t author) post.key) (judge_activity t c author a)
-    (broken_clean (broken t c author (deed_of a.kind) (ref_id a.object)) (with_room (count_of t author) (Keep a))
-    (choice_judgement (nat_lt (count_of t author) 4294967295) (Keep a) (Stop (Refuse ActorFull)) tt refl))
+    (broken_clean (broken_post t c author a) (Keep a) tt)
 
 told_clean : (t : Town) (name author : List ℕ) (j : Judgement) → IsCleanJudgement j → IsClean (answer_post t name author j)
 told_clean t name author (Stop a) h = h

@@ -1,5 +1,5 @@
 -- Follows and Blocks in the club, computed.
-use Rattle.std.proofs.Common.{◌≡◌, ℕ, ◌+◌, ◌<◌, false, List, refl, arith}
+use Rattle.std.proofs.Common.{◌≡◌, ℕ, ◌+◌, ◌<◌, false, List, true, refl, arith}
 use Rattle.std.specs.Prelude.{nat_lt, if◌then◌else◌}
 use Rattle.std.specs.Str.{bytes_eq}
 use Rattle.std.proofs.lemmas.Bool.{ltb-true}
@@ -23,12 +23,12 @@ use Rattle.fedi_objects.specs.Limits.{is_text, is_type, is_date}
 use Rattle.fedi_town.specs.Showing.{present_object, shown_ref, shown_activity, sight_of}
 use Rattle.fedi_town.specs.States.{is_like_of, is_announce_of, has_room, is_locked, follow_state, can_be_undone, state_of}
 use Rattle.fedi_town.specs.Towns.{Town, count_of, count_after, has_name, has_id, has_digest, has_host, is_by}
-use Rattle.fedi_laws.proofs.Texts.{bytes_eq-same, is_false}
+use Rattle.fedi_town.proofs.Texts.{is_false}
 use Rattle.fedi_laws.specs.ClubFollows.{LockedFollow, BlockAndUndo, PostToFollowers, LastNumber}
 
 pub locked_follow : LockedFollow
 unfolding digits after_any host_of is_among actor_id activity_id object_id is_of_host differs has_name has_id has_digest has_host is_by is_about has_activity_id is_actor is_block_of has_block_between is_follow_of is_open_follow is_following followers makes is_deleted change_object replace_object tombstone_of rewrite_act is_nobody_here is_recipient addressees implied_recipient complete_recipients sees_as is_of_peer reaches sees present_object shown_ref shown_activity sight_of is_like_of is_announce_of has_room is_locked follow_state can_be_undone state_of is_pending_follow is_standing_activity end_follow effect_of accept_by receive_object is_ours is_far has_followers_at forwards_at forwards_of broken_about is_item is_same_item is_of_pair progress_of sends is_at_peer deliveries_of is_due_in is_text is_type is_date
-locked_follow = record { legal = refl; waits = refl; accepted = refl; accepted_once = refl; following = refl; hidden = refl; ended = refl; following_none = refl; ended_once = refl; sent = refl; answered = refl; answer = refl; in_outbox = refl }
+locked_follow = record { legal = refl; waits = refl; accepted = refl; follows_not_yet = refl; follows_now = refl; follows_no_more = refl; accepted_once = refl; following = refl; hidden = refl; ended = refl; following_none = refl; ended_once = refl; sent = refl; answered = refl; answer = refl; in_outbox = refl }
 
 pub block_and_undo : BlockAndUndo
 unfolding digits after_any host_of is_among actor_id activity_id object_id is_of_host differs has_name has_id has_digest has_host is_by is_about has_activity_id is_actor is_block_of has_block_between is_follow_of is_open_follow is_following followers makes is_deleted change_object replace_object tombstone_of rewrite_act is_nobody_here is_recipient addressees implied_recipient complete_recipients sees_as is_of_peer reaches sees present_object shown_ref shown_activity sight_of is_like_of is_announce_of has_room is_locked follow_state can_be_undone state_of is_pending_follow is_standing_activity end_follow effect_of accept_by receive_object is_ours is_far has_followers_at forwards_at forwards_of broken_about is_item is_same_item is_of_pair progress_of sends is_at_peer deliveries_of is_due_in is_text is_type is_date
@@ -38,15 +38,9 @@ pub post_to_followers : PostToFollowers
 unfolding digits after_any host_of is_among actor_id activity_id object_id is_of_host differs has_name has_id has_digest has_host is_by is_about has_activity_id is_actor is_block_of has_block_between is_follow_of is_open_follow is_following followers makes is_deleted change_object replace_object tombstone_of rewrite_act is_nobody_here is_recipient addressees implied_recipient complete_recipients sees_as is_of_peer reaches sees present_object shown_ref shown_activity sight_of is_like_of is_announce_of has_room is_locked follow_state can_be_undone state_of is_pending_follow is_standing_activity end_follow effect_of accept_by receive_object is_ours is_far has_followers_at forwards_at forwards_of broken_about is_item is_same_item is_of_pair progress_of sends is_at_peer deliveries_of is_due_in is_text is_type is_date
 post_to_followers = record { legal = refl; sent = refl; follower = refl; stranger = refl; both = refl; later = refl }
 
-one_more : (t : Town) (a : List ℕ) → count_after t a a ≡ count_of t a + 1
-one_more t a = rw (bytes_eq-same a) refl
-
-last_one : (n m : ℕ) → m ≡ n + 1 → n ≡ 4294967294 → nat_lt m 4294967295 ≡ false
-last_one n m next full = is_false (nat_lt m 4294967295) (λ e. let less : m < 4294967295 = ltb-true m 4294967295 e in omega (arith, next, full, less))
-
-own_full : (t : Town) (a : List ℕ) → count_of t a ≡ 4294967294 → has_room t a a ≡ false
+last_room : (t : Town) (a b : List ℕ) → count_of t b ≡ 4294967294 → bytes_eq a b ≡ false → has_room t a b ≡ true
 unfolding has_room
-own_full t a full = last_one (count_of t a) (count_after t a a) (one_more t a) full
+last_room t a b most other = rw (most, other) refl
 
 no_room : (n k : ℕ) → n ≡ 4294967295 → nat_lt (n + k) 4294967295 ≡ false
 no_room n k full = is_false (nat_lt (n + k) 4294967295) (λ e. let less : n + k < 4294967295 = ltb-true (n + k) 4294967295 e in omega (arith, full, less))
@@ -56,4 +50,4 @@ unfolding has_room
 other_full t a b full = no_room (count_of t b) (if bytes_eq a b then 1 else 0) full
 
 pub last_number : LastNumber
-last_number = record { own = own_full; full = other_full }
+last_number = record { last = last_room; full = other_full }

@@ -14,10 +14,10 @@ use Rattle.fedi_objects.specs.declared.entry.Entry.TheVariants.{Hosted, Made, Pe
 use Rattle.fedi_objects.specs.declared.kind.State.{State}
 use Rattle.fedi_objects.specs.declared.kind.State.TheVariants.{Accepted, Undone}
 use Rattle.fedi_laws.proofs.Reached.{is_among-push}
-use Rattle.fedi_laws.proofs.Steps.{answers, after_post, after_delivery, after_inbox}
+use Rattle.fedi_town.proofs.Steps.{accept, answers, after_post, after_delivery, after_inbox}
 use Rattle.fedi_town.specs.Activities.{local_act, remote_act}
 use Rattle.fedi_town.specs.Addressing.{is_of_town}
-use Rattle.fedi_town.specs.Effects.{acceptance, where_passes, in_state, end_follow, is_pending_follow, is_standing_activity, affect, effect_of, accept}
+use Rattle.fedi_town.specs.Effects.{acceptance, where_passes, in_state, end_follow, is_pending_follow, is_standing_activity, affect, effect_of}
 use Rattle.fedi_town.specs.declared.addition.Addition.TheVariants as additions
 use Rattle.fedi_town.specs.Histories.{with_addition, member_addition, step, is_known, with_recipient}
 use Rattle.fedi_town.specs.Objects.{makes, rewrite_act, update_object, tombstone_of}

@@ -14,12 +14,12 @@ use Rattle.fedi_objects.specs.declared.object.Object.{Object}
 use Rattle.fedi_objects.specs.Forms.{is_tombstone}
 use Rattle.fedi_town.specs.declared.addition.Addition.TheVariants as additions
 use Rattle.fedi_town.specs.Activities.{receive_object, complete_tombstone}
-use Rattle.fedi_laws.proofs.Kept.{IsKept, changed-kept, made-kept}
-use Rattle.fedi_laws.proofs.Lists.{list_any-through, find-none}
-use Rattle.fedi_laws.proofs.Steps.{accept_in_steps, with_act, accepts_for, after_delivery, after_inbox, after_post}
+use Rattle.fedi_town.proofs.Kept.{IsKept, changed-kept, made-kept, ref_id-received}
+use Rattle.fedi_town.proofs.Lists.{list_any-through, find-none}
+use Rattle.fedi_town.proofs.Steps.{accept, accept_in_steps, with_act, accepts_for, after_delivery, after_inbox, after_post}
 use Rattle.fedi_town.specs.Activities.{local_act, remote_act, receive_ref}
 use Rattle.fedi_town.specs.Deeds.{is_update, is_done, is_accepted, is_follow, deed_of}
-use Rattle.fedi_town.specs.Effects.{acceptance, accept_for, affect, effect_of, accept_by, accept, followee}
+use Rattle.fedi_town.specs.Effects.{acceptance, accept_for, affect, effect_of, accept_by, followee}
 use Rattle.fedi_town.specs.Histories.{with_addition, member_addition, with_recipient, is_known, step, town}
 use Rattle.fedi_town.specs.Objects.{makes, maker, is_whole}
 use Rattle.fedi_town.specs.Relations.{ref_id, has_activity_id}
@@ -139,20 +139,6 @@ unfolding state_of
 new_grounded t local author d r =
     grounded_by t.acts d (is_done (state_with t local author d (is_whole r) (ref_id r))) (ref_id r)
     (λ same done. new_state t local author (is_whole r) (ref_id r) (rw same at done))
-
-choice-id : (b : Bool) (x y : Object) → x.id ≡ y.id → (if b then x else y).id ≡ y.id
-choice-id true x y e = e
-choice-id false x y e = refl
-
-received-id : (moment : ℕ) (o : Object) → (receive_object moment o).id ≡ o.id
-unfolding receive_object
-received-id moment o = choice-id (is_tombstone o) (complete_tombstone moment o) o refl
-
-pub ref_id-received : (author : List ℕ) (moment : ℕ) (r : ObjectRef) → ref_id (receive_ref author moment r) ≡ ref_id r
-ref_id-received author moment Nothing = refl
-ref_id-received author moment (Id iri) = refl
-ref_id-received author moment (Whole o) = received-id moment o
-ref_id-received author moment (Changed c) = refl
 
 pub local-grounded : (t : Town) (host name : List ℕ) (repeat : Option (List ℕ × List ℕ)) (a : Activity) (moment : ℕ)
     → is_grounded t.acts (local_act t host name repeat a moment) ≡ true

@@ -12,16 +12,16 @@ use Rattle.fedi_address.specs.Hosts.{is_host_text}
 use Rattle.fedi_address.specs.Iris.{host_of}
 use Rattle.fedi_address.specs.Names.{is_name, is_name_byte}
 use Rattle.fedi_address.proofs.Parts.{host_of-address}
-use Rattle.fedi_laws.proofs.Finding.{PassesOnce-push, PassesOnce-map}
+use Rattle.fedi_town.proofs.Finding.{PassesOnce-push, PassesOnce-map}
 use Rattle.fedi_town.specs.Lists.{PassesOnce}
-use Rattle.fedi_laws.proofs.Lists.{list_any-through, filter-through}
+use Rattle.fedi_town.proofs.Lists.{list_any-through, filter-through}
 use Rattle.fedi_laws.proofs.Members.{name_bytes}
 use Rattle.fedi_town.proofs.Paths.{activity_path_is_plain}
 use Rattle.fedi_town.specs.Ids.{actor_id, activity_id, activity_path}
 use Rattle.fedi_town.specs.Relations.{has_activity_id}
 use Rattle.fedi_town.specs.Towns.{is_by}
 use Rattle.fedi_town.specs.declared.act.Act.{Act}
-use Rattle.fedi_laws.proofs.Texts.{is_false, not_both, bytes_eq-is, bytes_eq-same}
+use Rattle.fedi_town.proofs.Texts.{is_false, not_both, bytes_eq-is, bytes_eq-same}
 
 -- ---- ids of different authors and numbers
 

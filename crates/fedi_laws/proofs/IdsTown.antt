@@ -14,33 +14,37 @@ use Rattle.fedi_objects.specs.declared.entry.Entry.{Entry}
 use Rattle.fedi_objects.specs.declared.entry.Entry.TheVariants.{Hosted, Made, PeerSet, Local, Remote, Tried}
 use Rattle.fedi_objects.specs.declared.kind.State.TheVariants.{Accepted, Pending, Rejected}
 use Rattle.fedi_laws.proofs.Due.{affected_on, also_on}
+use Rattle.fedi_town.proofs.Kept.{ref_id-received}
 use Rattle.fedi_town.specs.Lists.{PassesOnce}
-use Rattle.fedi_laws.proofs.Grounded.{ref_id-received}
 use Rattle.fedi_laws.proofs.IdsOnce.{AreOnce, next_once, foreign_once, mapped_once, count-push, count-map}
-use Rattle.fedi_laws.proofs.Lists.{list_any-through}
+use Rattle.fedi_town.proofs.Lists.{list_any-through}
 use Rattle.fedi_laws.proofs.Members.{is_member, IsFound, found}
 use Rattle.fedi_laws.proofs.Sound.{IsHosted, is_set, not_hosted, step_sound}
-use Rattle.fedi_laws.proofs.Steps.{accept_in_steps, with_act, accepts_for, after_delivery, after_inbox, after_post}
+use Rattle.fedi_town.proofs.Steps.{accept, accept_in_steps, with_act, accepts_for, after_delivery, after_inbox, after_post}
 use Rattle.fedi_laws.proofs.People.{id_of-is, named_is}
 use Rattle.fedi_town.specs.Activities.{local_act, remote_act}
 use Rattle.fedi_town.specs.Deeds.{is_follow, is_accepted, deed_of}
 use Rattle.fedi_town.specs.Origins.{is_foreign, is_of_another}
-use Rattle.fedi_town.specs.Effects.{acceptance, accept_for, affect, effect_of, accept_by, accept, followee}
+use Rattle.fedi_town.specs.Effects.{acceptance, accept_for, affect, effect_of, accept_by, followee}
 use Rattle.fedi_town.specs.declared.addition.Addition.TheVariants as additions
 use Rattle.fedi_town.specs.Histories.{with_addition, member_addition, with_recipient, is_known, step, town}
 use Rattle.fedi_town.specs.Ids.{actor_id}
-use Rattle.fedi_town.specs.Legal.{broken_command, is_admissible, is_legal_from, IsLegal, may_post, may_deliver}
+use Rattle.fedi_town.specs.Legal.{broken_command, is_admissible, is_legal_from, IsLegal, is_new_key, may_post, may_deliver}
 use Rattle.fedi_town.specs.Objects.{is_whole}
 use Rattle.fedi_town.specs.Relations.{ref_id, has_activity_id, is_actor, has_block_between}
+use Rattle.fedi_town.specs.Rules.{broken, first_broken, refuse_if}
 use Rattle.fedi_town.specs.Shapes.{is_delivered, is_posted}
 use Rattle.fedi_town.specs.States.{state_of, state_about, follow_state, has_room, is_locked, only_where}
-use Rattle.fedi_town.specs.Towns.{Town, deed, empty_town, has_id, has_name, is_by, has_host, id_of, count_of, count_after}
+use Rattle.fedi_town.specs.Towns.{Town, deed, empty_town, has_id, has_name, is_by, has_host, id_of, has_next, count_of, count_after}
 use Rattle.fedi_town.specs.declared.act.Act.{Act}
 use Rattle.fedi_town.specs.declared.act.Actor.{Actor}
 use Rattle.fedi_town.specs.declared.act.Peer.{Peer}
+use Rattle.fedi_town.specs.declared.caller.Caller.TheVariants as callers
+use Rattle.fedi_town.specs.declared.refusal.Refusal.{Refusal}
+use Rattle.fedi_town.specs.declared.refusal.Refusal.TheVariants.{ActorFull}
 use Rattle.fedi_town.specs.declared.deed.Deed.{Deed}
 use Rattle.fedi_town.specs.declared.deed.Deed.TheVariants.{Follow}
-use Rattle.fedi_laws.proofs.Texts.{bytes_eq-is}
+use Rattle.fedi_town.proofs.Texts.{bytes_eq-is}
 use Rattle.fedi_laws.proofs.Posted.{follows_is}
 
 -- nothing before the server was set up, and then each id once
@@ -223,12 +227,19 @@ delivered_once t host p (Some owner) (Some author) None a moment s by own ok h =
 delivered_once t host p (Some owner) (Some author) (Some id) a moment s by own ok h =
     taken_once t host owner author id a moment s (allowed_is host p t a author id s.hosted by own ok) own h
 
+numbered : (r : Option Refusal) (n : Bool) → is_none (first_broken r (refuse_if (not n) ActorFull None)) ≡ true → n ≡ true
+numbered None true e = refl
+numbered None false e = absurd cc
+numbered (Some x) n e = absurd cc
+
 -- the author that may post
 poster : (t : Town) (host name : List ℕ) (repeat : Option (List ℕ × List ℕ)) (a : Activity) (id : Option (List ℕ)) → list_all (is_member (Some host)) t.actors ≡ true
     → id_of t name ≡ id → may_post t name repeat a id ≡ true → nat_lt (count_of t (actor_id host name)) 4294967295 ≡ true
 poster t host name repeat a None all is ok = absurd cc
 poster t host name repeat a (Some author) all is ok =
-    subst (λ (i : List ℕ). nat_lt (count_of t i) 4294967295 ≡ true) (id_of-is t host name author all is) (and_parts (nat_lt (count_of t author) 4294967295) _ (and_parts (is_posted author a) _ ok).1).0
+    subst (λ (i : List ℕ). nat_lt (count_of t i) 4294967295 ≡ true) (id_of-is t host name author all is)
+    (numbered (broken t (callers.Actor name) author (deed_of a.kind) (ref_id a.object)) (has_next (count_of t author))
+    (and_parts (is_new_key (filter (is_by author) t.acts) repeat) _ (and_parts (is_posted author a) _ ok).1).1)
 
 pub found_any : (p : Actor → Bool) (xs : List Actor) (id : List ℕ) → option_map (λ a. a.id) (find p xs) ≡ Some id → list_any p xs ≡ true
 found_any p [] id e = absurd cc

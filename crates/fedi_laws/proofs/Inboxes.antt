@@ -6,7 +6,8 @@ use Rattle.std.specs.Str.{bytes_eq}
 use Rattle.std.proofs.lemmas.List.{length-map}
 use Rattle.std.proofs.lemmas.List.Folds.{list_any-append}
 use Rattle.fedi_address.specs.Recipients.{is_among}
-use Rattle.fedi_laws.proofs.Lists.{list_any-through, filter-through, find-through, map-through, list_any-agree}
+use Rattle.fedi_town.proofs.Kept.{also-same, made-inbox}
+use Rattle.fedi_town.proofs.Lists.{list_any-through, filter-through, find-through, map-through, list_any-agree}
 use Rattle.fedi_town.specs.Agreement.{Agree, SameOwn, IsSameOwn, peer_of}
 use Rattle.fedi_town.specs.Histories.{with_recipient}
 use Rattle.fedi_town.specs.Objects.{makes, maker_of, object_of}
@@ -17,18 +18,10 @@ use Rattle.fedi_town.specs.Towns.{Town, id_of, is_by}
 use Rattle.fedi_town.specs.declared.act.Act.{Act}
 use Rattle.fedi_town.specs.declared.caller.Caller.{Caller}
 use Rattle.fedi_town.specs.declared.caller.Caller.TheVariants.{Nobody, Actor, Peer}
-use Rattle.fedi_laws.proofs.Texts.{is_false, not_both, or_no, bytes_eq-is, bytes_eq-same}
+use Rattle.fedi_town.proofs.Texts.{is_false, not_both, or_no, bytes_eq-is, bytes_eq-same}
 
 abbrev pub with_owner : Town → List ℕ → List ℕ → Town
 with_owner t id owner = record t { acts = map (with_recipient id owner) t.acts }
-
--- what makes no difference to the rest of an activity
-choice-same : {A : Type 0} (g : Act → A) (b : Bool) (y z : Act) → g z ≡ g y → g (if b then z else y) ≡ g y
-choice-same g true y z e = e
-choice-same g false y z e = refl
-
-also-same : {A : Type 0} (g : Act → A) (id owner : List ℕ) (y : Act) → g (record y { recipients = y.recipients ++ owner ∷ [] }) ≡ g y → g (with_recipient id owner y) ≡ g y
-also-same g id owner y e = choice-same g (has_activity_id id y) y (record y { recipients = y.recipients ++ owner ∷ [] }) e
 
 same-block : (id owner a b : List ℕ) (y : Act) → is_block_of a b (with_recipient id owner y) ≡ is_block_of a b y
 unfolding is_block_of is_by is_about
@@ -100,10 +93,6 @@ sees-inbox t id owner (Actor name) other y = sees_with-inbox t id owner (id_of t
 sees-inbox t id owner (Peer host) other y = sees_from-inbox t id owner host y other
 
 -- ---- what is shown
-
-pub made-inbox : (i id owner : List ℕ) (y : Act) → makes i (with_recipient id owner y) ≡ makes i y
-unfolding makes is_about
-made-inbox i id owner y = also-same (makes i) id owner y refl
 
 carried-inbox : (id owner : List ℕ) (m : Option Act) → object_of (option_map (with_recipient id owner) m) ≡ object_of m
 carried-inbox id owner None = refl

@@ -22,12 +22,11 @@ use Rattle.fedi_laws.proofs.Posted.{post_agrees}
 use Rattle.fedi_laws.specs.Statements.{is_of_profiles}
 use Rattle.fedi_laws.proofs.Knowledge.{Knows, answers_agree, members, profiles_agree}
 use Rattle.fedi_laws.proofs.Sound.{IsSound, IsHosted, is_apart, is_set, town_sound}
-use Rattle.fedi_laws.proofs.Steps.{after_post, after_delivery, after_inbox}
+use Rattle.fedi_town.proofs.Steps.{accept, after_post, after_delivery, after_inbox}
 use Rattle.fedi_laws.proofs.Told.{plain_agrees}
 use Rattle.fedi_town.specs.Activities.{local_act, remote_act}
 use Rattle.fedi_town.specs.Agreement.{Agree, member_names}
 use Rattle.fedi_town.specs.Deeds.{changes_nothing, is_follow, deed_of}
-use Rattle.fedi_town.specs.Effects.{accept}
 use Rattle.fedi_town.specs.Histories.{step, town, is_known, with_recipient}
 use Rattle.fedi_town.specs.Ids.{actor_id}
 use Rattle.fedi_town.specs.Legal.{IsLegal, is_caller}
@@ -39,7 +38,7 @@ use Rattle.fedi_town.specs.declared.act.Peer.{Peer}
 use Rattle.fedi_town.specs.declared.caller.Caller.{Caller}
 use Rattle.fedi_town.specs.declared.caller.Caller.TheVariants.{Nobody}
 use Rattle.fedi_town.specs.declared.caller.Caller.TheVariants as callers
-use Rattle.fedi_laws.proofs.Texts.{is_false, not_both, bytes_eq-same, bytes_eq-is}
+use Rattle.fedi_town.proofs.Texts.{is_false, not_both, bytes_eq-same, bytes_eq-is}
 
 -- ---- the first clause
 

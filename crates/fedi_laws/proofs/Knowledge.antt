@@ -25,7 +25,7 @@ use Rattle.fedi_asks.specs.declared.post.Read.{Read}
 use Rattle.fedi_asks.specs.declared.post.Read.TheVariants.{NotJson, Bad, Ready}
 use Rattle.fedi_laws.specs.Statements.{is_of_profiles}
 use Rattle.fedi_laws.proofs.Alike.{IsAlike, shown_alike}
-use Rattle.fedi_laws.proofs.Lists.{list_any-through, filter-through, find-through, map-through}
+use Rattle.fedi_town.proofs.Lists.{list_any-through, filter-through, find-through, map-through}
 use Rattle.fedi_laws.proofs.Pages.{page_of-map, firsts-map}
 use Rattle.fedi_town.specs.Addressing.{is_nobody_here, is_of_town}
 use Rattle.fedi_town.specs.Agreement.{SameOwn, IsSameOwn, peer_of}
@@ -52,7 +52,7 @@ use Rattle.fedi_town.specs.declared.deed.Deed.{Deed}
 use Rattle.fedi_town.specs.declared.deed.Deed.TheVariants.{Create, Update, Delete, Follow, Like, Announce, Block, Accept, Reject, Undo, Other}
 use Rattle.fedi_address.specs.Recipients.{is_among}
 use Rattle.std.proofs.lemmas.Bool.{and_parts}
-use Rattle.fedi_laws.proofs.Texts.{not_both, bytes_eq-same, bytes_eq-is}
+use Rattle.fedi_town.proofs.Texts.{not_both, bytes_eq-same, bytes_eq-is}
 
 -- the members' names and ids
 abbrev pub members : Town → List (List ℕ × List ℕ)
@@ -137,12 +137,12 @@ found_agrees p alike q f k g h c of_g of_h same =
     ∙ ap (λ (xs : List Act). q (find p xs)) same
     ∙ ap q (view_find p alike h c) ∙ of_h (find p (seen h c))
 
--- the documents of what is shown
-abbrev shown_document : Option Act → Answer
-shown_document None = Refuse NotFound
-shown_document (Some y) = Document (activity_form true true y.author y.activity)
+-- the document of what is shown, at this host
+abbrev shown_document : Option (List ℕ) → Option Act → Answer
+shown_document host None = Refuse NotFound
+shown_document host (Some y) = Document (activity_form (is_of_town host y.author) true y.author y.activity)
 
-act_document-shown : (t : Town) (c : Caller) (m : Option Act) → shown_document (option_map (sight_of t c) m) ≡ activity_or_missing t m
+act_document-shown : (t : Town) (c : Caller) (m : Option Act) → shown_document t.host (option_map (sight_of t c) m) ≡ activity_or_missing t m
 unfolding activity_document sight_of
 act_document-shown t c None = refl
 act_document-shown t c (Some x) = refl
@@ -156,10 +156,11 @@ unfolding maker_document sight_of
 object_document-shown t c None = refl
 object_document-shown t c (Some x) = refl
 
-act_agrees : (g h : Town) (c : Caller) (id : Option (List ℕ)) → view g c ≡ view h c → activity_answer g c id ≡ activity_answer h c id
-act_agrees g h c None same = refl
-act_agrees g h c (Some id) same =
-    found_agrees (has_activity_id id) (own_alike id) shown_document (activity_or_missing g) (activity_or_missing h) g h c (act_document-shown g c) (act_document-shown h c) same
+act_agrees : (g h : Town) (c : Caller) (id : Option (List ℕ)) → g.host ≡ h.host → view g c ≡ view h c → activity_answer g c id ≡ activity_answer h c id
+act_agrees g h c None host same = refl
+act_agrees g h c (Some id) host same =
+    found_agrees (has_activity_id id) (own_alike id) (shown_document g.host) (activity_or_missing g) (activity_or_missing h) g h c (act_document-shown g c)
+    (λ m. ap (λ (k : Option (List ℕ)). shown_document k (option_map (sight_of h c) m)) host ∙ act_document-shown h c m) same
 
 object_agrees : (g h : Town) (c : Caller) (id : Option (List ℕ)) → view g c ≡ view h c → object_answer g c id ≡ object_answer h c id
 object_agrees g h c None same = refl
@@ -541,7 +542,7 @@ answers_agree g h c (Webfinger resource) agree = webfinger_agrees g h resource a
 answers_agree g h c (Actor name) agree = rw (agree.host, ids_agree g h c name agree) refl
 answers_agree g h c (Collection which ask) agree = collection_agrees g h c which ask agree
 answers_agree g h c (Activity name number) agree =
-    ap (λ (k : Option (List ℕ)). activity_answer g c (id_at k activity_id name number)) agree.host ∙ act_agrees g h c (id_at h.host activity_id name number) agree.view
+    ap (λ (k : Option (List ℕ)). activity_answer g c (id_at k activity_id name number)) agree.host ∙ act_agrees g h c (id_at h.host activity_id name number) agree.host agree.view
 answers_agree g h c (Object name number) agree =
     ap (λ (k : Option (List ℕ)). object_answer g c (id_at k object_id name number)) agree.host ∙ object_agrees g h c (id_at h.host object_id name number) agree.view
 answers_agree g h c (Outbox name post) agree =

@@ -19,7 +19,7 @@ use Rattle.fedi_asks.specs.Asks.{entry_of, IsPostable}
 use Rattle.fedi_asks.specs.Built.{is_built_ask}
 use Rattle.fedi_laws.proofs.Due.{held_on, same_later, stays_due, IsOtherEntry}
 use Rattle.fedi_laws.proofs.IdsTown.{HasIds, step_by}
-use Rattle.fedi_laws.proofs.Lists.{first_none, other_none}
+use Rattle.fedi_town.proofs.Lists.{first_none, other_none}
 use Rattle.fedi_laws.proofs.Next.{entry_admissible, entry_built}
 use Rattle.fedi_laws.proofs.Sound.{IsHosted, not_hosted, step_sound}
 use Rattle.fedi_laws.specs.Statements.{is_attempt_of}

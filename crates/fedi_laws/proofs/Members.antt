@@ -14,7 +14,7 @@ use Rattle.fedi_town.specs.Ids.{actor_id, actor_path, followers_id}
 use Rattle.fedi_town.specs.Towns.{Town}
 use Rattle.fedi_town.specs.declared.act.Actor.{Actor}
 use Rattle.fedi_town.proofs.Paths.{actor_path_is_plain}
-use Rattle.fedi_laws.proofs.Texts.{is_false, bytes_eq-is}
+use Rattle.fedi_town.proofs.Texts.{is_false, bytes_eq-is}
 
 -- the member's name is one, and gives its id at the host
 abbrev pub is_member : Option (List ℕ) → Actor → Bool

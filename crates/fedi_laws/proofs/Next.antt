@@ -1,18 +1,18 @@
 -- The entry that an ask makes is admissible, so that a legal history stays one, and built where the ask is.
 use Rattle.std.proofs.Common.{◌≡◌, ℕ, Bool, true, false, List, [], ◌∷◌, Option, Some, None, refl, ap, subst}
-use Rattle.std.specs.Prelude.{nat_lt, filter, is_none, if◌then◌else◌, option_map}
+use Rattle.std.specs.Prelude.{filter, is_none, if◌then◌else◌, option_map}
 use Rattle.std.specs.List.{list_any, find, filter_map, cons_option}
 use Rattle.std.specs.Str.{bytes_eq}
 use Rattle.std.proofs.lemmas.Bool.{and_parts}
 use Rattle.fedi_town.specs.declared.refusal.Refusal.{Refusal}
-use Rattle.fedi_town.specs.declared.refusal.Refusal.TheVariants.{ActorFull, NotOrigin}
+use Rattle.fedi_town.specs.declared.refusal.Refusal.TheVariants.{NotOrigin}
 use Rattle.fedi_objects.specs.declared.activity.Activity as activities
 use Rattle.fedi_objects.specs.declared.entry.Entry.{Entry}
 use Rattle.fedi_objects.specs.declared.entry.Entry.TheVariants.{Local, Remote}
 use Rattle.fedi_asks.specs.Answers.{Refuse}
 use Rattle.fedi_asks.specs.Asks.{IsRead, IsReadFor, IsPostable, entry_of}
 use Rattle.fedi_asks.specs.Built.{is_built_ask}
-use Rattle.fedi_asks.specs.Posting.{Judgement, Stop, Repeat, Keep, by_steps, judge_read, unless_repeat, judge_activity, unless_broken, with_room, judge_post, repeat_under, is_bad_key, is_there, judge_delivery, judge_inbox, repeat_by, post_entry, inbox_entry, entry_at, inbox_entry_at, delivery_of}
+use Rattle.fedi_asks.specs.Posting.{Judgement, Stop, Repeat, Keep, by_steps, judge_read, unless_repeat, judge_activity, unless_broken, judge_post, repeat_under, is_bad_key, is_there, judge_delivery, judge_inbox, repeat_by, post_entry, inbox_entry, entry_at, inbox_entry_at, delivery_of}
 use Rattle.fedi_asks.specs.Reading.{is_nobody, is_self}
 use Rattle.fedi_asks.specs.declared.ask.Ask.{Ask}
 use Rattle.fedi_asks.specs.declared.ask.Ask.TheVariants.{Nowhere, WrongMethod, Webfinger, Actor, Collection, Activity, Object, Outbox, Inbox}
@@ -24,11 +24,11 @@ use Rattle.fedi_asks.specs.declared.post.Read.TheVariants.{NotJson, Bad, Ready}
 use Rattle.fedi_laws.proofs.Knowledge.{self_is}
 use Rattle.fedi_town.specs.Agreement.{repeats_of}
 use Rattle.fedi_town.specs.Built.{is_built}
-use Rattle.fedi_town.specs.Deeds.{deed_of, is_create}
+use Rattle.fedi_town.specs.Deeds.{is_create}
 use Rattle.fedi_town.specs.Origins.{is_foreign, has_inbox}
 use Rattle.fedi_town.specs.Legal.{is_admissible, may_deliver, is_new_key, has_key}
 use Rattle.fedi_town.specs.Relations.{ref_id}
-use Rattle.fedi_town.specs.Rules.{broken}
+use Rattle.fedi_town.specs.Rules.{broken_post}
 use Rattle.fedi_town.specs.Shapes.{is_posted, is_delivered}
 use Rattle.fedi_town.specs.Towns.{Town, is_by, has_host, count_of, id_of}
 use Rattle.fedi_town.specs.declared.act.Act.{Act}
@@ -46,20 +46,12 @@ steps_kept false false true true v a e = (refl, e)
 -- ---- a post
 
 record IsJudged (t : Town) (c : Caller) (author : List ℕ) (key : KeyAsk) (a : activities.Activity) : Type 0 where
-  unbroken : broken t c author (deed_of a.kind) (ref_id a.object) ≡ None
-  room : nat_lt (count_of t author) 4294967295 ≡ true
+  unbroken : broken_post t c author a ≡ None
   new : repeat_under (repeats_of t author) key ≡ None
 
-room_kept : (count : ℕ) (a b : activities.Activity) → with_room count (Keep a) ≡ Keep b → (nat_lt count 4294967295 ≡ true) × (a ≡ b)
-room_kept count a b e =
-    elim (nat_lt count 4294967295) as (λ s. (if s then Keep a else Stop (Refuse ActorFull)) ≡ Keep b → (s ≡ true) × (a ≡ b)) [
-      | true ↦ λ h. (refl, let same : a ≡ b = cc in same)
-      | false ↦ λ h. absurd cc
-    ] e
-
-rule_kept : (r : Option Refusal) (v : Judgement) (b : activities.Activity) → unless_broken r v ≡ Keep b → (r ≡ None) × (v ≡ Keep b)
-rule_kept None v b e = (refl, e)
-rule_kept (Some x) v b e = absurd cc
+rule_kept : (r : Option Refusal) (a b : activities.Activity) → unless_broken r (Keep a) ≡ Keep b → (r ≡ None) × (a ≡ b)
+rule_kept None a b e = (refl, let same : a ≡ b = cc in same)
+rule_kept (Some x) a b e = absurd cc
 
 choice_kept : (s : Bool) (l : Option (List ℕ)) (w : Judgement) (b : activities.Activity) (x : _) → (if s then Repeat l else Stop x) ≡ Keep b → ⊥
 choice_kept true l w b x e = absurd cc
@@ -75,10 +67,9 @@ read_kept t c author post NotJson b is e = absurd cc
 read_kept t c author post (Bad fault) b is e = absurd cc
 read_kept t c author post (Ready a) b is e =
     let first = new_kept post.digest (repeat_under (repeats_of t author) post.key) (judge_activity t c author a) b e in
-    let second = rule_kept (broken t c author (deed_of a.kind) (ref_id a.object)) (with_room (count_of t author) (Keep a)) b first.1 in
-    let third = room_kept (count_of t author) a b second.1 in
-    subst (λ (x : activities.Activity). (is_posted author x ≡ true) × IsJudged t c author post.key x) third.1
-    (is, record { unbroken = second.0; room = third.0; new = first.0 })
+    let second = rule_kept (broken_post t c author a) a b first.1 in
+    subst (λ (x : activities.Activity). (is_posted author x ≡ true) × IsJudged t c author post.key x) second.1
+    (is, record { unbroken = second.0; new = first.0 })
 
 -- a key under which nothing was posted
 abbrev Kept : Type 0
@@ -121,7 +112,7 @@ post_admissible t c name author post moment (Keep a) e read id verdict made =
     let j : IsJudged t (callers.Actor name) author post.key a = subst (λ (d : Caller). IsJudged t d author post.key a) (self_is c name steps.0) kept.1 in
     let same : Local name (repeat_by post.digest post.key) a moment ≡ e = cc in
     subst (λ (x : Entry). is_admissible t x ≡ true) same
-    (rw (id, kept.0, j.room, is_new (filter (is_by author) t.acts) post.digest post.key j.new, j.unbroken) refl)
+    (rw (id, kept.0, is_new (filter (is_by author) t.acts) post.digest post.key j.new, j.unbroken) refl)
 
 -- ---- a delivery
 
@@ -198,8 +189,7 @@ read_ready t c author post NotJson b e = absurd cc
 read_ready t c author post (Bad fault) b e = absurd cc
 read_ready t c author post (Ready a) b e =
     let first = new_kept post.digest (repeat_under (repeats_of t author) post.key) (judge_activity t c author a) b e in
-    let second = rule_kept (broken t c author (deed_of a.kind) (ref_id a.object)) (with_room (count_of t author) (Keep a)) b first.1 in
-    ap (λ (x : activities.Activity). Ready x) (room_kept (count_of t author) a b second.1).1
+    ap (λ (x : activities.Activity). Ready x) (rule_kept (broken_post t c author a) a b first.1).1
 
 built_by : (t : Town) (c : Caller) (name : List ℕ) (post : Post) (moment : ℕ) (a : Option (List ℕ)) (e : Entry)
     → entry_at t c name post moment a ≡ Some e → is_built e ≡ true

@@ -2,7 +2,7 @@
 use Rattle.std.proofs.Common.{◌≡◌, ℕ, ◌*◌, Bool, List, [], ◌∷◌, ◌++◌, take, drop, refl, sym, ap, ◌∙◌}
 use Rattle.std.specs.Prelude.{map, filter, reverse}
 use Rattle.std.proofs.lemmas.List.{map-append, take-map, drop-map, reverse-append}
-use Rattle.fedi_laws.proofs.Lists.{filter-through}
+use Rattle.fedi_town.proofs.Lists.{filter-through}
 use Rattle.fedi_town.specs.Collections.{page_of}
 use Rattle.fedi_town.specs.Lists.{differs, firsts}
 

@@ -13,13 +13,13 @@ use Rattle.fedi_laws.proofs.Answered.{IsHidden, to_follower, hidden_too}
 use Rattle.fedi_laws.proofs.Grounded.{AreGrounded}
 use Rattle.fedi_laws.proofs.Members.{HasMembers, is_member, IsFound, found, not_public, not_followers}
 use Rattle.fedi_laws.proofs.Reached.{follow_reaches}
-use Rattle.fedi_laws.proofs.Steps.{accepts_for, answers}
+use Rattle.fedi_town.proofs.Steps.{accept, accepts_for, answers}
 use Rattle.fedi_laws.proofs.Told.{told_agrees}
 use Rattle.fedi_town.specs.Activities.{local_act}
 use Rattle.fedi_town.specs.Agreement.{Agree}
 use Rattle.fedi_town.specs.Deeds.{changes_nothing, is_follow, is_accepted, deed_of}
 use Rattle.fedi_town.specs.Relations.{ref_id}
-use Rattle.fedi_town.specs.Effects.{accept_for, accept_by, accept, followee, to_one}
+use Rattle.fedi_town.specs.Effects.{accept_for, accept_by, followee, to_one}
 use Rattle.fedi_town.specs.Ids.{actor_id}
 use Rattle.fedi_town.specs.Seeing.{sees}
 use Rattle.fedi_town.specs.Towns.{Town, deed, has_id}
@@ -28,7 +28,7 @@ use Rattle.fedi_town.specs.declared.act.Actor.{Actor as Member}
 use Rattle.fedi_town.specs.declared.caller.Caller.{Caller}
 use Rattle.fedi_town.specs.declared.deed.Deed.{Deed}
 use Rattle.fedi_town.specs.declared.deed.Deed.TheVariants.{Create, Update, Delete, Follow, Like, Announce, Block, Accept, Reject, Undo, Other}
-use Rattle.fedi_laws.proofs.Texts.{bytes_eq-is}
+use Rattle.fedi_town.proofs.Texts.{bytes_eq-is}
 
 pub follows_is : (d : Deed) → is_follow d ≡ true → d ≡ Follow
 follows_is Create e = absurd cc

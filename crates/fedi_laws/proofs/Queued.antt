@@ -10,7 +10,7 @@ use Rattle.fedi_town.specs.Collections.{text_of}
 use Rattle.fedi_town.specs.Queues.{progress_of, sends, is_at_peer, delivery_to, deliveries_of, queue, is_due_at, is_due_delivery, is_due_in, is_due}
 use Rattle.fedi_town.specs.Relations.{is_id, has_activity_id}
 use Rattle.fedi_town.specs.Towns.{Town}
-use Rattle.fedi_laws.proofs.Texts.{bytes_eq-is, and_none}
+use Rattle.fedi_town.proofs.Texts.{bytes_eq-is, and_none}
 
 -- the one that is asked for, and the others
 this_one : (h q d a : Bool) → ((q && (h && (true && d))) || (h && (a && (q && d)))) ≡ (h && (true && (q && d)))

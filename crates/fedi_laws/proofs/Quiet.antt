@@ -2,7 +2,7 @@
 use Rattle.std.proofs.Common.{◌≡◌, ℕ, false, List, ◌++◌, Option, Some, None, refl, ◌∙◌}
 use Rattle.std.specs.List.{list_any}
 use Rattle.std.proofs.lemmas.List.Folds.{list_any-append}
-use Rattle.fedi_laws.proofs.Lists.{or_none, list_any-agree}
+use Rattle.fedi_town.proofs.Lists.{or_none, list_any-agree}
 use Rattle.fedi_town.specs.Relations.{is_block_of, blocks, has_block_between}
 use Rattle.fedi_town.specs.Seeing.{sees, sees_as, sees_with, reaches}
 use Rattle.fedi_town.specs.Towns.{Town, id_of}

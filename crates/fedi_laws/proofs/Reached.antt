@@ -11,7 +11,7 @@ use Rattle.fedi_objects.specs.declared.activity.Activity.{Activity}
 use Rattle.fedi_objects.specs.declared.kind.State.TheVariants.{Accepted, Pending, Rejected}
 use Rattle.fedi_town.specs.Activities.{local_act}
 use Rattle.fedi_town.proofs.Once.{once-among}
-use Rattle.fedi_laws.proofs.Texts.{bytes_eq-same, bytes_eq-is, or_true, or_no}
+use Rattle.fedi_town.proofs.Texts.{bytes_eq-same, bytes_eq-is, or_true, or_no}
 use Rattle.fedi_town.specs.Addressing.{is_recipient, addressees, recipients_with, is_nobody_here, is_of_town, complete_recipients, implied_recipient, with_implied}
 use Rattle.fedi_town.specs.Deeds.{deed_of, is_accepted}
 use Rattle.fedi_town.specs.Ids.{actor_id, followers_id}

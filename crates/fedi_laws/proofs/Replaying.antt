@@ -23,7 +23,7 @@ use Rattle.fedi_town.specs.declared.effect.Effect.TheVariants as effects
 use Rattle.fedi_town.specs.Activities.{local_act, remote_act}
 use Rattle.fedi_town.specs.Addressing.{act_of}
 use Rattle.fedi_town.specs.Deeds.{is_update, is_delete, is_follow, is_done, is_standing, is_accepted}
-use Rattle.fedi_town.specs.Effects.{where_passes, in_state, is_pending_follow, is_standing_activity, end_follow, affect, pair_ends, follow_ends, undo_effect, effect_about, effect_with, takes_effect, effect_of, accept_by, accept_for, followee, acceptance, accept}
+use Rattle.fedi_town.specs.Effects.{where_passes, in_state, is_pending_follow, is_standing_activity, end_follow, affect, pair_ends, follow_ends, undo_effect, effect_about, effect_with, takes_effect, effect_of, accept_by, accept_for, followee, acceptance}
 use Rattle.fedi_town.specs.Histories.{addition_of, member_addition, post_addition, inbox_addition, delivery_addition, is_known, with_addition, step, town}
 use Rattle.fedi_town.specs.Objects.{makes, object_of, object_at, whole_of, rewrite_ref, rewrite_act, update_object, tombstone_of}
 use Rattle.fedi_town.specs.Relations.{ref_id, is_id, is_about, is_open_follow}
@@ -31,11 +31,11 @@ use Rattle.fedi_town.specs.Replays.{acts_in, acts_from, acts_of, updates, delete
 use Rattle.fedi_town.specs.Towns.{Town, deed, empty_town, id_of}
 use Rattle.fedi_laws.proofs.Alike.{about_it}
 use Rattle.fedi_laws.proofs.Inboxes.{maker-inbox}
-use Rattle.fedi_laws.proofs.Kept.{changed-kept, made-kept}
-use Rattle.fedi_laws.proofs.Lists.{list_any-through, find-through, find-stays, find-none}
-use Rattle.fedi_laws.proofs.MadeOnce.{local_new, remote_new, accept_makes_none}
-use Rattle.fedi_laws.proofs.Steps.{answers}
-use Rattle.fedi_laws.proofs.Texts.{bytes_eq-is, bytes_eq-same, is_false, not_both}
+use Rattle.fedi_town.proofs.Kept.{changed-kept, made-kept}
+use Rattle.fedi_town.proofs.Lists.{list_any-through, find-through, find-stays, find-none}
+use Rattle.fedi_town.proofs.MadeOnce.{local_new, remote_new, accept_makes_none}
+use Rattle.fedi_town.proofs.Steps.{accept, answers}
+use Rattle.fedi_town.proofs.Texts.{bytes_eq-is, bytes_eq-same, is_false, not_both}
 
 -- ---- what an effect leaves of an object
 

@@ -10,7 +10,7 @@ use Rattle.fedi_objects.specs.declared.activity.Activity.{Activity}
 use Rattle.fedi_objects.specs.declared.entry.Entry.{Entry}
 use Rattle.fedi_objects.specs.declared.entry.Entry.TheVariants.{Hosted, Made, PeerSet, Local, Remote, Tried}
 use Rattle.fedi_laws.proofs.Members.{is_member}
-use Rattle.fedi_laws.proofs.Steps.{after_post, after_delivery, after_inbox}
+use Rattle.fedi_town.proofs.Steps.{after_post, after_delivery, after_inbox}
 use Rattle.fedi_town.specs.Activities.{remote_act}
 use Rattle.fedi_town.specs.declared.addition.Addition.TheVariants as additions
 use Rattle.fedi_town.specs.Effects.{acceptance}
@@ -23,7 +23,7 @@ use Rattle.fedi_town.specs.declared.command_fault.CommandFault.{CommandFault}
 use Rattle.fedi_town.specs.declared.command_fault.CommandFault.TheVariants.{HostTaken, BadAddress}
 use Rattle.fedi_town.specs.declared.act.Actor.{Actor}
 use Rattle.fedi_town.specs.declared.act.Peer.{Peer}
-use Rattle.fedi_laws.proofs.Texts.{bytes_eq-same}
+use Rattle.fedi_town.proofs.Texts.{bytes_eq-same}
 
 abbrev pub is_apart : Option (List ℕ) → Peer → Bool
 is_apart host p = is_other_host host p.host

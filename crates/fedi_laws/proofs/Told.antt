@@ -3,13 +3,13 @@ use Rattle.std.proofs.Common.{◌≡◌, ℕ, Bool, true, false, List, [], ◌�
 use Rattle.std.specs.Prelude.{◌&&◌, if◌then◌else◌, option_to_list}
 use Rattle.std.specs.List.{list_any}
 use Rattle.fedi_laws.proofs.Grounded.{AreGrounded}
-use Rattle.fedi_laws.proofs.Lists.{map-still}
+use Rattle.fedi_town.proofs.Lists.{map-still}
 use Rattle.fedi_laws.proofs.Quiet.{AreQuiet, with_acts}
-use Rattle.fedi_laws.proofs.Steps.{accepts_for, answers}
+use Rattle.fedi_town.proofs.Steps.{accept, accepts_for, answers}
 use Rattle.fedi_laws.proofs.Unseen.{unseen_agree}
 use Rattle.fedi_town.specs.Agreement.{Agree}
 use Rattle.fedi_town.specs.Deeds.{changes_nothing, is_block, is_follow, is_accepted}
-use Rattle.fedi_town.specs.Effects.{accept_for, affect, effect_about, effect_with, effect_of, takes_effect, accept_by, accept, followee}
+use Rattle.fedi_town.specs.Effects.{accept_for, affect, effect_about, effect_with, effect_of, takes_effect, accept_by, followee}
 use Rattle.fedi_town.specs.Relations.{ref_id, is_block_of}
 use Rattle.fedi_town.specs.Seeing.{sees}
 use Rattle.fedi_town.specs.Towns.{Town, deed}

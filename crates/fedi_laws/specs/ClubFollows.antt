@@ -1,5 +1,6 @@
 -- Follows and Blocks in the club.
 use Rattle.std.specs.Prelude.{◌≡◌, ℕ, true, false, List, [], ◌∷◌, ◌++◌, codes, Some}
+use Rattle.std.specs.Str.{bytes_eq}
 use Rattle.fedi_town.specs.declared.refusal.Refusal.TheVariants.{NotStanding, Blocked}
 use Rattle.fedi_address.specs.Iris.{public_iri}
 use Rattle.fedi_objects.specs.declared.activity.ObjectRef.TheVariants.{Id, Whole}
@@ -11,7 +12,7 @@ use Rattle.fedi_town.specs.declared.caller.Which.TheVariants.{Outbox, Followers,
 use Rattle.fedi_town.specs.declared.deed.Deed.TheVariants.{Follow, Accept, Undo}
 use Rattle.fedi_town.specs.Addressing.{no_recipients}
 use Rattle.fedi_town.specs.Histories.{town}
-use Rattle.fedi_town.specs.Relations.{followers}
+use Rattle.fedi_town.specs.Relations.{followers, follows}
 use Rattle.fedi_town.specs.States.{has_room}
 use Rattle.fedi_town.specs.Towns.{Town, count_of}
 use Rattle.fedi_laws.specs.Fixture.{ana, ben, cleo, dan, member, activity_number, start, to, activity, note, posts, is_legal, states, recipients, sight, total, rule}
@@ -39,6 +40,9 @@ pub record LockedFollow : Type 0 where
   pub legal : is_legal after_second_follow ≡ true
   pub waits : states after_follow ≡ Pending ∷ []
   pub accepted : states after_accept ≡ Accepted ∷ Done ∷ []
+  pub follows_not_yet : follows (town after_follow) (member ana) (member dan) ≡ false
+  pub follows_now : follows (town after_accept) (member ana) (member dan) ≡ true
+  pub follows_no_more : follows (town after_undo) (member ana) (member dan) ≡ false
   pub accepted_once : rule after_accept dan Accept (activity_number ana (codes "1")) ≡ Some NotStanding
   pub following : total after_accept (Actor ana) (Following ana) ≡ Some 1
   pub hidden : total after_accept (Actor cleo) (Following ana) ≡ Some 0
@@ -107,7 +111,7 @@ pub record PostToFollowers : Type 0 where
 
 -- ---- the last number
 
--- who follows the own account with the last number but one leaves no room for the Accept; another does
+-- whoever has the last number but one can answer the Follow of another, and whoever has the last can not
 pub record LastNumber : Type 0 where
-  pub own : (t : Town) (a : List ℕ) → count_of t a ≡ 4294967294 → has_room t a a ≡ false
+  pub last : (t : Town) (a b : List ℕ) → count_of t b ≡ 4294967294 → bytes_eq a b ≡ false → has_room t a b ≡ true
   pub full : (t : Town) (a b : List ℕ) → count_of t b ≡ 4294967295 → has_room t a b ≡ false

@@ -1,27 +1,31 @@
 -- The laws of what a history means.
-use Rattle.std.specs.Prelude.{◌≡◌, ℕ, ◌≤◌, Bool, true, false, List, [], ◌∷◌, ◌++◌, IsTrue, Option, Some}
+use Rattle.std.specs.Prelude.{◌≡◌, ℕ, ◌+◌, ◌≤◌, Bool, true, false, ◌||◌, if◌then◌else◌, List, [], ◌∷◌, ◌++◌, map, IsTrue, Option, Some}
 use Rattle.std.specs.List.{list_any}
 use Rattle.fedi_address.specs.Names.{is_name}
 use Rattle.fedi_objects.specs.declared.activity.Activity.{Activity}
+use Rattle.fedi_objects.specs.declared.activity.ObjectRef.TheVariants.{Id, Whole}
 use Rattle.fedi_objects.specs.declared.entry.Entry.{Entry}
 use Rattle.fedi_objects.specs.declared.entry.Entry.TheVariants.{Hosted, Made, PeerSet, Local, Remote, Tried}
+use Rattle.fedi_objects.specs.declared.kind.Kind.TheVariants as kinds
 use Rattle.fedi_objects.specs.declared.object.Object.{Object}
 use Rattle.fedi_objects.specs.Forms.{is_tombstone}
+use Rattle.fedi_town.specs.declared.act.Act.{Act}
 use Rattle.fedi_town.specs.declared.caller.Caller.{Caller}
 use Rattle.fedi_town.specs.Activities.{local_act, remote_act}
 use Rattle.fedi_town.specs.Agreement.{Agree, member_names}
 use Rattle.fedi_town.specs.Built.{are_built}
-use Rattle.fedi_town.specs.Deeds.{deed_of, changes_nothing, is_follow}
+use Rattle.fedi_town.specs.Deeds.{deed_of, changes_nothing, is_delete, is_follow, is_update}
 use Rattle.fedi_town.specs.Histories.{town, is_known}
-use Rattle.fedi_town.specs.Ids.{actor_id}
+use Rattle.fedi_town.specs.Ids.{actor_id, object_id}
 use Rattle.fedi_town.specs.Legal.{IsLegal, is_caller}
 use Rattle.fedi_town.specs.Lists.{PassesOnce}
-use Rattle.fedi_town.specs.Objects.{makes, object_at}
+use Rattle.fedi_town.specs.Objects.{emptied, maker, makes, object_at, rewrite_act}
 use Rattle.fedi_town.specs.Queues.{is_due, is_due_delivery, is_of_pair, queue}
-use Rattle.fedi_town.specs.Relations.{has_activity_id}
+use Rattle.fedi_town.specs.Relations.{has_activity_id, ref_id}
 use Rattle.fedi_town.specs.Replays.{acts_of, replay}
 use Rattle.fedi_town.specs.Seeing.{sees}
-use Rattle.fedi_town.specs.Towns.{Town, has_name, id_of}
+use Rattle.fedi_town.specs.Showing.{bare_tombstone}
+use Rattle.fedi_town.specs.Towns.{Town, count_of, has_name, id_of}
 use Rattle.fedi_town.specs.declared.caller.Caller.TheVariants as callers
 use Rattle.fedi_asks.specs.declared.ask.Ask.{Ask}
 use Rattle.fedi_asks.specs.declared.ask.Ask.TheVariants as asks
@@ -87,6 +91,35 @@ AddedInboxesTellTheirOwners =
     → is_caller (town history) c ≡ true → is_self c inbox ≡ false
     → Agree (town (history ++ Remote peer inbox a moment ∷ [])) (town history) c
 
+-- an object without what lies behind a Tombstone, where it is one
+abbrev pub bare_object : Object → Object
+bare_object o = if is_tombstone o then bare_tombstone o else o
+
+-- the town without it
+abbrev pub without_deleted : Town → Town
+without_deleted t = record t { acts = map (rewrite_act bare_object) t.acts }
+
+-- Histories that differ in nothing but what lies behind Tombstones agree for everybody, so that nobody is told of it.
+abbrev pub DeletedContentIsToldToNobody : Type 0
+DeletedContentIsToldToNobody =
+    (g h : List Entry) (c : Caller) → without_deleted (town g) ≡ without_deleted (town h) → Agree (town g) (town h) c
+
+-- the caller is nobody or a member
+abbrev pub is_no_peer : Caller → Bool
+is_no_peer callers.Nobody = true
+is_no_peer (callers.Actor name) = true
+is_no_peer (callers.Peer host) = false
+
+-- Who sees the Create of an object sees each Update and Delete of it that its author posts. Who is parted from the author by
+-- a Block sees neither.
+abbrev pub ChangesReachTheReaders : Type 0
+ChangesReachTheReaders =
+    (history : List Entry) (host name id : List ℕ) (repeat : Option (List ℕ × List ℕ)) (a : Activity) (moment : ℕ) (m : Act) (c : Caller)
+    → IsLegal history → (town history).host ≡ Some host → (is_update (deed_of a.kind) || is_delete (deed_of a.kind)) ≡ true
+    → ref_id (local_act (town history) host name repeat a moment).activity.object ≡ Some id → maker (town history) id ≡ Some m
+    → m.author ≡ actor_id host name → is_no_peer c ≡ true → sees (town history) c m ≡ true
+    → sees (town history) c (local_act (town history) host name repeat a moment) ≡ true
+
 -- No answer, to whomever and for whatever, names those whom `bto` and `bcc` hide (ActivityPub, section 6).
 abbrev pub AnswersAreClean : Type 0
 AnswersAreClean = (t : Town) (c : Caller) (ask : Ask) → is_clean_answer (answer_of t c ask) ≡ true
@@ -103,6 +136,24 @@ abbrev pub TombstonesStay : Type 0
 TombstonesStay =
     (history later : List Entry) (id : List ℕ) (o : Object) → object_at (town history) id ≡ Some o → is_tombstone o ≡ true
     → object_at (town (history ++ later)) id ≡ Some o
+
+-- a Create of this object
+abbrev pub creates : Object → Activity → Activity
+creates o a = record a { kind = kinds.Create; object = Whole o }
+
+-- a Delete of the object of this id
+abbrev pub deletes : List ℕ → Activity → Activity
+deletes id a = record a { kind = kinds.Delete; object = Id id }
+
+-- What a deleted object said leaves no trace: after its Delete the town is the same whatever was in the properties that an
+-- Update may set, and so is all that anybody is told from then on.
+abbrev pub DeletedContentLeavesNoTrace : Type 0
+DeletedContentLeavesNoTrace =
+    (history later : List Entry) (host name id : List ℕ) (first second : Option (List ℕ × List ℕ)) (a b : Activity) (o other : Object) (m n : ℕ)
+    → (town history).host ≡ Some host → id ≡ object_id host name (count_of (town history) (actor_id host name) + 1)
+    → list_any (makes id) (town history).acts ≡ false → is_tombstone o ≡ false → emptied o ≡ emptied other
+    → town (history ++ Local name first (creates o a) m ∷ Local name second (deletes id b) n ∷ later)
+    ≡ town (history ++ Local name first (creates other a) m ∷ Local name second (deletes id b) n ∷ later)
 
 -- No object is made twice.
 abbrev pub ObjectsAreMadeOnce : Type 0

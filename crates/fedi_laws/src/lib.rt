@@ -17,10 +17,11 @@ pub use histories::{
     due_deliveries_stay_due, members_have_their_ids,
 };
 pub use objects::{
-    activities_are_there_once, objects_are_made_once, objects_are_replayed, tombstones_stay,
+    activities_are_there_once, deleted_content_leaves_no_trace, objects_are_made_once,
+    objects_are_replayed, tombstones_stay,
 };
 pub use privacy::{
     added_inboxes_tell_their_owners, answers_are_clean, answers_are_private,
-    posts_of_nobody_are_unread, profiles_tell_names_alone, unseen_deliveries_tell_nothing,
-    unseen_posts_tell_nothing,
+    changes_reach_the_readers, deleted_content_is_told_to_nobody, posts_of_nobody_are_unread,
+    profiles_tell_names_alone, unseen_deliveries_tell_nothing, unseen_posts_tell_nothing,
 };

@@ -1,6 +1,6 @@
 //! What stands of objects and activities.
 
-ghost use Rattle.fedi_laws.specs.Statements.{ActivitiesAreThereOnce, ObjectsAreMadeOnce, ObjectsAreReplayed, TombstonesStay};
+ghost use Rattle.fedi_laws.specs.Statements.{ActivitiesAreThereOnce, DeletedContentLeavesNoTrace, ObjectsAreMadeOnce, ObjectsAreReplayed, TombstonesStay};
 
 /// An object as it stands is that of its Create, changed by each Update that was done, and a Tombstone
 /// from its Delete on (ActivityPub, sections 6.2 to 6.4).
@@ -13,6 +13,13 @@ pub fn objects_are_replayed()
 #[tactic(auto, using(crate::proofs::Burial::tombstone_stays))]
 pub fn tombstones_stay()
     ensures { TombstonesStay }
+{}
+
+/// What a deleted object said leaves no trace: two histories that differ in it alone leave the same
+/// town, so that nobody is told it from the Delete on (ActivityPub, section 6.4).
+#[tactic(auto, using(crate::proofs::Erased::no_trace))]
+pub fn deleted_content_leaves_no_trace()
+    ensures { DeletedContentLeavesNoTrace }
 {}
 
 /// No object is made twice.

@@ -1,6 +1,6 @@
 //! What a caller may learn.
 
-ghost use Rattle.fedi_laws.specs.Statements.{AddedInboxesTellTheirOwners, AnswersAreClean, AnswersArePrivate, PostsOfNobodyAreUnread, ProfilesTellNamesAlone, UnseenDeliveriesTellNothing, UnseenPostsTellNothing};
+ghost use Rattle.fedi_laws.specs.Statements.{AddedInboxesTellTheirOwners, AnswersAreClean, AnswersArePrivate, ChangesReachTheReaders, DeletedContentIsToldToNobody, PostsOfNobodyAreUnread, ProfilesTellNamesAlone, UnseenDeliveriesTellNothing, UnseenPostsTellNothing};
 
 /// Histories that agree for a caller give the caller the same answer, whatever else stands in them.
 #[tactic(auto, using(crate::proofs::Isolation::private_answers))]
@@ -36,6 +36,19 @@ pub fn unseen_deliveries_tell_nothing()
 /// A delivery of what is known tells the owner of its inbox alone.
 pub fn added_inboxes_tell_their_owners()
     ensures { AddedInboxesTellTheirOwners }
+{}
+
+/// What lies behind a Tombstone is told to nobody: histories that differ in it alone agree for everybody
+/// (ActivityPub, section 6.4).
+pub fn deleted_content_is_told_to_nobody()
+    ensures { DeletedContentIsToldToNobody }
+{}
+
+/// Who sees an object's Create sees each Update and Delete of it by its author (ActivityPub, sections 6.3
+/// and 6.4), and so does everybody where the Create is public. A Block hides all of them.
+#[tactic(auto, using(crate::proofs::Readers::changes_are_seen))]
+pub fn changes_reach_the_readers()
+    ensures { ChangesReachTheReaders }
 {}
 
 /// No answer names those whom `bto` and `bcc` hide (ActivityPub, section 6).

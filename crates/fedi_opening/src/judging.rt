@@ -5,19 +5,14 @@ ghost use Rattle.fedi_address.specs.Hosts.{is_host_text};
 ghost use Rattle.fedi_address.specs.Names.{is_name};
 ghost use Rattle.fedi_town.specs.declared.caller.Caller.TheVariants.{Actor};
 ghost use Rattle.fedi_town.specs.Built.{is_built};
-ghost use Rattle.fedi_town.specs.Deeds.{deed_of};
 ghost use Rattle.fedi_town.specs.Legal.{broken_command, is_admissible, is_new_key, may_post};
-ghost use Rattle.fedi_town.specs.Relations.{ref_id};
-ghost use Rattle.fedi_town.specs.Rules.{broken};
+ghost use Rattle.fedi_town.specs.Rules.{broken_post};
 ghost use Rattle.fedi_town.specs.Towns.{id_of, is_by};
 
 use fedi_address::{Host, Iri, LocalName};
 use fedi_effects::{Facts, judge_local};
 use fedi_objects::{Activity, Entry, RepeatKey};
 use fedi_shapes::is_posted;
-
-/// The most activities that a member may have.
-const MOST: usize = 4_294_967_295;
 
 // Whether the server may be set up for the host. A `Host` has no other text than that of one.
 fn may_be_set_up(facts: &Facts, host: &Host) -> bool
@@ -48,8 +43,8 @@ fn is_new_key(facts: &Facts, author: &Iri, repeat: &Option<(RepeatKey, [u8; 32])
 // Whether the activity of the member of this name breaks no rule.
 fn breaks_no_rule(facts: &Facts, name: &LocalName, author: &Iri, activity: &Activity) -> bool
     requires { id_of facts.now.town name.now ≡ Some author.now }
-    ensures { result ≡ is_none (broken facts.now.town (Actor name.now) author.now
-        (deed_of activity.now.kind) (ref_id activity.now.object)) }
+    ensures { result ≡ is_none (broken_post facts.now.town (Actor name.now) author.now
+        activity.now) }
 {
     judge_local(facts, author, activity).is_ok()
 }
@@ -68,7 +63,6 @@ fn may_post(
         None => false,
         Some(author) => {
             is_posted(author, activity)
-                && facts.count_of(author) < MOST
                 && is_new_key(facts, author, repeat)
                 && breaks_no_rule(facts, name, author, activity)
         }
@@ -77,8 +71,8 @@ fn may_post(
 
 /// Whether an entry may come next in the history of these facts, as one that this server takes so far.
 /// It is set up once and first. A member has a name and a key that no member had before. A post is a
-/// member's, has the shape of one, breaks no rule (ActivityPub, section 6), comes under a key that is new,
-/// and its author has fewer than 4,294,967,295 activities.
+/// member's, has the shape of one, breaks no rule (ActivityPub, section 6; that its author has fewer than
+/// 4,294,967,295 activities is the last), and comes under a key that is new.
 pub fn may_come(facts: &Facts, entry: &Entry) -> bool
     ensures { result ≡ (is_admissible facts.now.town entry.now && is_built entry.now) }
 {

@@ -8,7 +8,7 @@ use Rattle.std.proofs.lemmas.Slice.Eq.{bytes_eq-Decides}
 use Rattle.fedi_town.specs.declared.act.Act.{Act}
 use Rattle.fedi_town.specs.Deeds.{is_create, is_done}
 use Rattle.fedi_town.specs.Objects.{makes}
-use Rattle.fedi_town.specs.Relations.{is_about, is_block_of, is_following, is_id, ref_id}
+use Rattle.fedi_town.specs.Relations.{is_about, is_block_of, is_follow_of, is_following, is_id, ref_id}
 use Rattle.fedi_town.specs.Towns.{deed, is_by}
 use Rattle.fedi_town.specs.Legal.{has_key}
 use Rattle.fedi_register.specs.declared.register.Author.{Author}
@@ -16,7 +16,7 @@ use Rattle.fedi_register.specs.Marks.{Mark, first_place}
 use Rattle.fedi_register.specs.Following.{with_follower}
 use Rattle.fedi_register.specs.Keys.{is_repeat}
 use Rattle.fedi_register.proofs.Chains.{got_at, longer}
-use Rattle.fedi_register.specs.Registers.{IsIndexed, act_found, asks_to_follow, follower_in, is_block_at, is_keyed, is_making, is_there, key_mark, keeps_away, mark_of, marks_from, object_mark, passes_at, places_from, ref_mark, with_follower_at}
+use Rattle.fedi_register.specs.Registers.{IsIndexed, asks_to_follow, follower_in, is_keyed, is_making, is_there, key_mark, keeps_away, mark_of, marks_from, object_mark, passes_at, places_from, ref_mark, with_follower_at}
 
 -- ---- whether one passes
 
@@ -39,11 +39,25 @@ unfolding keeps_away is_block_of
 blocks_stand a b x none = rw none refl
 
 pub blocks_found : (a b : List ℕ) (acts : List Act) (follows places : List ℕ) (keyed made : List Mark) (authors : List Author) → IsIndexed acts follows places keyed made authors
-    → list_any (is_block_at acts a b) places ≡ list_any (is_block_of a b) acts
-unfolding is_block_at
+    → list_any (passes_at (is_block_of a b) acts) places ≡ list_any (is_block_of a b) acts
+unfolding passes_at
 blocks_found a b acts follows places keyed made authors h = rw h.blocks (any-after keeps_away (is_block_of a b) (blocks_stand a b) [] acts)
 
+follows_stand : (a b : List ℕ) (x : Act) → asks_to_follow x ≡ false → is_follow_of a b x ≡ false
+unfolding asks_to_follow is_follow_of
+follows_stand a b x none = rw none refl
+
+pub follows_found : (a b : List ℕ) (acts : List Act) (places blocks : List ℕ) (keyed made : List Mark) (authors : List Author) → IsIndexed acts places blocks keyed made authors
+    → list_any (passes_at (is_follow_of a b) acts) places ≡ list_any (is_follow_of a b) acts
+unfolding passes_at
+follows_found a b acts places blocks keyed made authors h = rw h.follows (any-after asks_to_follow (is_follow_of a b) (follows_stand a b) [] acts)
+
 -- ---- the first that passes and is marked
+
+-- the activity at the place that was found
+abbrev pub act_found : List Act → Option ℕ → Option Act
+act_found acts None = None
+act_found acts (Some place) = slice_get acts place
 
 -- where q passes the mark is this
 abbrev IsMarkedBy : (Act → ℕ) → ℕ → (Act → Bool) → Type 0

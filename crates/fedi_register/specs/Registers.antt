@@ -4,7 +4,7 @@ use Rattle.std.specs.List.{find, fold}
 use Rattle.std.specs.Str.{bytes_eq}
 use Rattle.fedi_town.specs.declared.act.Act.{Act}
 use Rattle.fedi_town.specs.Deeds.{is_block, is_create, is_follow}
-use Rattle.fedi_town.specs.Relations.{is_block_of, ref_id}
+use Rattle.fedi_town.specs.Relations.{ref_id}
 use Rattle.fedi_town.specs.Towns.{deed, is_by}
 use Rattle.fedi_register.specs.declared.register.Author.{Author}
 use Rattle.fedi_register.specs.declared.register.Register.TheInside.{Inside}
@@ -76,18 +76,9 @@ abbrev pub is_there : (Act → Bool) → Option Act → Bool
 is_there q None = false
 is_there q (Some x) = q x
 
--- a Block of b by a that stands is at this place
-unfoldable pub is_block_at : List Act → List ℕ → List ℕ → ℕ → Bool
-is_block_at acts a b place = is_there (is_block_of a b) (slice_get acts place)
-
 -- what passes is at this place
 unfoldable pub passes_at : (Act → Bool) → List Act → ℕ → Bool
 passes_at q acts place = is_there q (slice_get acts place)
-
--- the activity at the place that was found
-abbrev pub act_found : List Act → Option ℕ → Option Act
-act_found acts None = None
-act_found acts (Some place) = slice_get acts place
 
 -- one more follower, where there is one
 abbrev pub follower_in : List ℕ → List (List ℕ) → Option Act → List (List ℕ)

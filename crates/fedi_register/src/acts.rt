@@ -3,7 +3,7 @@
 ghost use Rattle.std.specs.Prelude.{◌≡◌, option_copied};
 ghost use Rattle.fedi_town.specs.Deeds.{deed_of, is_accepted, is_announce, is_block, is_create, is_done, is_follow, is_like, is_open, is_pending, is_standing};
 ghost use Rattle.fedi_town.specs.Objects.{makes};
-ghost use Rattle.fedi_town.specs.Relations.{has_activity_id, is_about, is_block_of, is_following, is_id, is_open_follow};
+ghost use Rattle.fedi_town.specs.Relations.{has_activity_id, is_about, is_block_of, is_follow_of, is_following, is_id, is_open_follow};
 ghost use Rattle.fedi_town.specs.States.{can_be_undone, is_announce_of, is_like_of};
 ghost use Rattle.fedi_town.specs.Towns.{is_by};
 
@@ -148,6 +148,14 @@ pub fn is_open_follow(act: &Kept, a: &Iri, b: &Iri) -> bool
     ensures { result ≡ is_open_follow a.now b.now act.now }
 {
     is_follow(act) && is_open(act.state()) && is_by(act, a) && is_about(act, b)
+}
+
+/// Whether the activity is a Follow of b by a that was accepted (ActivityPub, section 6.5).
+#[tactic(auto, unfolding(fedi_town::specs::Relations::is_follow_of))]
+pub(crate) fn is_follow_of(act: &Kept, a: &Iri, b: &Iri) -> bool
+    ensures { result ≡ is_follow_of a.now b.now act.now }
+{
+    is_follow(act) && is_accepted(act.state()) && is_by(act, a) && is_about(act, b)
 }
 
 /// Whether the activity is a Follow of b that was accepted.

@@ -5,14 +5,14 @@ ghost use Rattle.std.specs.List.{find, fold, list_any, position_or_len};
 ghost use Rattle.fedi_address.specs.Recipients.{is_among};
 ghost use Rattle.fedi_town.specs.Effects.{affect};
 ghost use Rattle.fedi_town.specs.Objects.{makes};
-ghost use Rattle.fedi_town.specs.Relations.{is_block_of};
+ghost use Rattle.fedi_town.specs.Relations.{is_block_of, is_follow_of};
 ghost use Rattle.fedi_register.specs.Changes.{AreMadeOnce};
 ghost use Rattle.fedi_register.specs.Following.{with_follower, with_one};
 ghost use Rattle.fedi_register.specs.Keys.{is_repeat};
 ghost use Rattle.fedi_register.specs.Marks.{first_place};
-ghost use Rattle.fedi_register.specs.Registers.{CountsOne, SameCounts, asks_to_follow, count_by, count_in, ids_of, is_author, is_block_at, is_keyed, is_making, keeps_away, key_mark, mark_of, mark_step, object_mark, passes_at, ref_mark, with_follower_at};
+ghost use Rattle.fedi_register.specs.Registers.{CountsOne, SameCounts, asks_to_follow, count_by, count_in, ids_of, is_author, is_keyed, is_making, keeps_away, key_mark, mark_of, mark_step, object_mark, passes_at, ref_mark, with_follower_at};
 
-use crate::acts::{is_block, is_block_of, is_create, is_follow, makes};
+use crate::acts::{is_block, is_block_of, is_create, is_follow, is_follow_of, makes};
 use crate::applying::apply_effect;
 use crate::followers::add_follower;
 use crate::marks::Marks;
@@ -172,9 +172,9 @@ fn is_keyed(act: &Kept) -> bool
     act.repeat().is_some()
 }
 
-#[tactic(auto, unfolding(crate::specs::Registers::is_block_at))]
+#[tactic(auto, unfolding(crate::specs::Registers::passes_at))]
 fn is_block_at(acts: &[Kept], a: &Iri, b: &Iri, place: usize) -> bool
-    ensures { result ≡ is_block_at acts.now a.now b.now place }
+    ensures { result ≡ passes_at (is_block_of a.now b.now) acts.now place }
 {
     match acts.get(place) {
         Some(act) => is_block_of(act, a, b),
@@ -183,9 +183,25 @@ fn is_block_at(acts: &[Kept], a: &Iri, b: &Iri, place: usize) -> bool
 }
 
 fn blocks_among(acts: &[Kept], places: &[usize], a: &Iri, b: &Iri) -> bool
-    ensures { result ≡ list_any (is_block_at acts.now a.now b.now) places.now }
+    ensures { result ≡ list_any (passes_at (is_block_of a.now b.now) acts.now) places.now }
 {
     places.iter().any(|place| is_block_at(acts, a, b, *place))
+}
+
+#[tactic(auto, unfolding(crate::specs::Registers::passes_at))]
+fn is_follow_at(acts: &[Kept], a: &Iri, b: &Iri, place: usize) -> bool
+    ensures { result ≡ passes_at (is_follow_of a.now b.now) acts.now place }
+{
+    match acts.get(place) {
+        Some(act) => is_follow_of(act, a, b),
+        None => false,
+    }
+}
+
+fn follows_among(acts: &[Kept], places: &[usize], a: &Iri, b: &Iri) -> bool
+    ensures { result ≡ list_any (passes_at (is_follow_of a.now b.now) acts.now) places.now }
+{
+    places.iter().any(|place| is_follow_at(acts, a, b, *place))
 }
 
 #[tactic(auto, unfolding(crate::specs::Registers::passes_at))]
@@ -382,6 +398,13 @@ impl Register {
         ensures { result ≡ list_any (is_block_of a.now b.now) self.now.acts }
     {
         blocks_among(&self.acts, &self.blocks, a, b)
+    }
+
+    /// Whether a follows b: a Follow of b by a was accepted.
+    pub fn follows(&self, a: &Iri, b: &Iri) -> bool
+        ensures { result ≡ list_any (is_follow_of a.now b.now) self.now.acts }
+    {
+        follows_among(&self.acts, &self.follows, a, b)
     }
 
     /// The activity that made the object of this id.

@@ -53,7 +53,7 @@ is_equal : (a b : List ℕ) → bytes_eq a b ≡ true → a ≡ b
 is_equal a b e = (bytes_eq-Decides a b).0 e
 
 -- of those that pass a test it is one where it is one of all and passes
-filter-among : (p : List ℕ → Bool) (b : List ℕ) (xs : List (List ℕ)) → p b ≡ true → is_among b (filter p xs) ≡ is_among b xs
+pub filter-among : (p : List ℕ → Bool) (b : List ℕ) (xs : List (List ℕ)) → p b ≡ true → is_among b (filter p xs) ≡ is_among b xs
 unfolding is_among
 filter-among p b [] passes = refl
 filter-among p b (x ∷ xs) passes =

@@ -172,7 +172,3 @@ acceptance t x = record { act = x; effect = effect_of t x; answer = answer_to t 
 -- the town after it: the earlier ones as they are now, the activity, and its answer
 abbrev pub with_acceptance : Town → Acceptance → Town
 with_acceptance t a = record t { acts = map (affect a.effect) t.acts ++ a.act ∷ option_to_list a.answer }
-
--- the activity is accepted
-abbrev pub accept : Town → Act → Town
-accept t x = with_acceptance t (acceptance t x)

@@ -1,5 +1,5 @@
 -- Which entries may come next, and which histories are legal.
-use Rattle.std.specs.Prelude.{ℕ, Bool, true, false, not, ◌&&◌, ◌||◌, if◌then◌else◌, nat_lt, IsTrue, List, [], ◌∷◌, filter, Option, Some, None, is_some, is_none}
+use Rattle.std.specs.Prelude.{ℕ, Bool, true, false, not, ◌&&◌, ◌||◌, if◌then◌else◌, IsTrue, List, [], ◌∷◌, filter, Option, Some, None, is_some, is_none}
 use Rattle.std.specs.List.{list_any, find}
 use Rattle.std.specs.Str.{bytes_eq}
 use Rattle.fedi_address.specs.Hosts.{is_host_text}
@@ -14,14 +14,12 @@ use Rattle.fedi_town.specs.declared.caller.Caller.{Caller}
 use Rattle.fedi_town.specs.declared.caller.Caller.TheVariants as callers
 use Rattle.fedi_town.specs.declared.command_fault.CommandFault.{CommandFault}
 use Rattle.fedi_town.specs.declared.command_fault.CommandFault.TheVariants.{NameTaken, KeyTaken, HostTaken, BadAddress}
-use Rattle.fedi_town.specs.Deeds.{deed_of}
 use Rattle.fedi_town.specs.Origins.{is_foreign, has_inbox}
 use Rattle.fedi_town.specs.Histories.{step}
 use Rattle.fedi_town.specs.Queues.{is_due}
-use Rattle.fedi_town.specs.Relations.{ref_id}
-use Rattle.fedi_town.specs.Rules.{broken}
+use Rattle.fedi_town.specs.Rules.{broken_post}
 use Rattle.fedi_town.specs.Shapes.{is_posted, is_delivered}
-use Rattle.fedi_town.specs.Towns.{Town, empty_town, has_name, has_digest, has_host, is_by, count_of, id_of}
+use Rattle.fedi_town.specs.Towns.{Town, empty_town, has_name, has_digest, has_host, is_by, id_of}
 
 -- ---- a member's post
 
@@ -35,13 +33,13 @@ abbrev pub is_new_key : List Act → Option (List ℕ × List ℕ) → Bool
 is_new_key acts None = true
 is_new_key acts (Some r) = not (list_any (λ x. has_key r.0 x.repeat) acts)
 
--- the post is a member's; its shape is that of a post; the author has fewer than 4,294,967,295 activities, none under the
--- same key; and it breaks no rule
+-- the post is a member's; its shape is that of a post; none of the author's activities was posted under the same key; and it
+-- breaks no rule
 abbrev pub may_post : Town → List ℕ → Option (List ℕ × List ℕ) → Activity → Option (List ℕ) → Bool
 may_post t name repeat a None = false
 may_post t name repeat a (Some author) =
-    is_posted author a && (nat_lt (count_of t author) 4294967295
-    && (is_new_key (filter (is_by author) t.acts) repeat && is_none (broken t (callers.Actor name) author (deed_of a.kind) (ref_id a.object))))
+    is_posted author a
+    && (is_new_key (filter (is_by author) t.acts) repeat && is_none (broken_post t (callers.Actor name) author a))
 
 -- ---- a delivery
 

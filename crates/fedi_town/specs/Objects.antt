@@ -104,9 +104,13 @@ update_object (Id iri) stamp o = o
 update_object (Whole new) stamp o = replace_object new o
 update_object (Changed c) stamp o = change_object c stamp o
 
+-- an object without the properties that an Update may set (ActivityPub, section 6.3)
+abbrev pub emptied : Object → Object
+emptied o = record o { content = None; summary = None; name = None; url = None; in_reply_to = None; tags = [] }
+
 -- what is left of an object after a Delete (ActivityPub, section 6.4; ActivityStreams 2.0 Vocabulary, section 3.3)
 unfoldable pub tombstone_of : List ℕ → List ℕ → Object → Object
-tombstone_of kind stamp o = record o { kind = kind; former_kind = Some o.kind; deleted = Some stamp }
+tombstone_of kind stamp o = record (emptied o) { kind = kind; former_kind = Some o.kind; deleted = Some stamp }
 
 -- what an activity carries, after a change of the object
 abbrev pub rewrite_ref : (Object → Object) → ObjectRef → ObjectRef

@@ -3,19 +3,20 @@
 use Rattle.std.specs.Prelude.{ℕ, Bool, true, false, not, ◌&&◌, List, Option, Some, None}
 use Rattle.std.specs.List.{find}
 use Rattle.fedi_town.specs.declared.refusal.Refusal.{Refusal}
-use Rattle.fedi_town.specs.declared.refusal.Refusal.TheVariants.{NotFound, NotOwner, Gone, Blocked, NotPublic, NotStanding}
+use Rattle.fedi_town.specs.declared.refusal.Refusal.TheVariants.{NotFound, NotOwner, Gone, Blocked, NotPublic, NotStanding, ActorFull}
+use Rattle.fedi_objects.specs.declared.activity.Activity.{Activity}
 use Rattle.fedi_objects.specs.declared.kind.State.{State}
 use Rattle.fedi_town.specs.declared.act.Act.{Act}
 use Rattle.fedi_town.specs.declared.caller.Caller.{Caller}
 use Rattle.fedi_town.specs.declared.deed.Deed.{Deed}
 use Rattle.fedi_town.specs.declared.deed.Deed.TheVariants.{Create, Update, Delete, Follow, Like, Announce, Block, Accept, Reject, Undo, Other}
 use Rattle.fedi_town.specs.Addressing.{is_nobody_here}
-use Rattle.fedi_town.specs.Deeds.{is_follow, is_open, is_pending}
+use Rattle.fedi_town.specs.Deeds.{deed_of, is_follow, is_open, is_pending}
 use Rattle.fedi_town.specs.Objects.{makes, is_deleted}
-use Rattle.fedi_town.specs.Relations.{has_activity_id, is_about, has_block_between}
+use Rattle.fedi_town.specs.Relations.{ref_id, has_activity_id, is_about, has_block_between}
 use Rattle.fedi_town.specs.Seeing.{seen}
 use Rattle.fedi_town.specs.States.{can_be_undone}
-use Rattle.fedi_town.specs.Towns.{Town, deed, is_by}
+use Rattle.fedi_town.specs.Towns.{Town, deed, is_by, has_next, count_of}
 
 -- this refusal where the condition holds, and else what the further rules say
 abbrev pub refuse_if : Bool → Refusal → Option Refusal → Option Refusal
@@ -74,3 +75,18 @@ broken_about t c author Other id = None
 abbrev pub broken : Town → Caller → List ℕ → Deed → Option (List ℕ) → Option Refusal
 broken t c author d None = None
 broken t c author d (Some id) = broken_about t c author d id
+
+-- ---- a post
+
+-- the author has as many activities as there are numbers
+abbrev pub number_rule : Town → List ℕ → Option Refusal
+number_rule t author = refuse_if (not (has_next (count_of t author))) ActorFull None
+
+-- the first of two rules that is broken
+abbrev pub first_broken : Option Refusal → Option Refusal → Option Refusal
+first_broken None second = second
+first_broken (Some r) second = Some r
+
+-- the first rule that the author's post breaks, the last of which is that there is a number for it
+abbrev pub broken_post : Town → Caller → List ℕ → Activity → Option Refusal
+broken_post t c author a = first_broken (broken t c author (deed_of a.kind) (ref_id a.object)) (number_rule t author)

@@ -1,5 +1,5 @@
 -- The shape in which reading leaves an activity: of a client's post (ActivityPub, section 6), and of a delivery (section 7).
-use Rattle.std.specs.Prelude.{ℕ, Bool, true, false, not, ◌&&◌, ◌||◌, nat_le, List, [], ◌∷◌, length, codes, Option, Some, None, is_some, is_none}
+use Rattle.std.specs.Prelude.{ℕ, Bool, true, false, not, ◌&&◌, ◌||◌, nat_le, List, [], ◌∷◌, length, Option, Some, None, is_some, is_none}
 use Rattle.std.specs.List.{list_all}
 use Rattle.std.specs.Cmp.Lexicographic.{pointwise}
 use Rattle.std.specs.Str.{bytes_eq}
@@ -13,6 +13,7 @@ use Rattle.fedi_objects.specs.declared.object.Edit.{Edit}
 use Rattle.fedi_objects.specs.declared.object.Edit.TheVariants.{Keep, Remove, Give}
 use Rattle.fedi_objects.specs.declared.object.Object.{Object}
 use Rattle.fedi_objects.specs.declared.object.Tag.{Tag}
+use Rattle.fedi_objects.specs.Forms.{is_tombstone}
 use Rattle.fedi_objects.specs.Limits.{is_date, is_text, is_type}
 use Rattle.fedi_town.specs.declared.deed.Deed.{Deed}
 use Rattle.fedi_town.specs.Deeds.{deed_of, is_create, is_update, is_follow, is_block, is_other}
@@ -81,7 +82,7 @@ is_change_within c = is_text_edit c.content && (is_text_edit c.summary && (is_te
 abbrev pub is_unset_object : Object → Bool
 is_unset_object o =
     (is_none o.id && (is_none o.attributed_to && (is_none o.published && (is_none o.updated && (is_none o.former_kind && is_none o.deleted)))))
-    && not (bytes_eq o.kind (codes "Tombstone"))
+    && not (is_tombstone o)
 
 -- a Create carries its object, which names the same as the Create (ActivityPub, section 6.2); an Update a change (6.3.1);
 -- each other activity with a side effect at most an id, and it has one

@@ -5,7 +5,8 @@ use Rattle.fedi_objects.specs.declared.activity.Activity.{Activity}
 use Rattle.fedi_objects.specs.declared.activity.ObjectRef.{ObjectRef}
 use Rattle.fedi_objects.specs.declared.activity.ObjectRef.TheVariants.{Nothing, Id, Whole}
 use Rattle.fedi_objects.specs.declared.object.Object.{Object}
-use Rattle.fedi_objects.specs.Objects.{stripped_object}
+use Rattle.fedi_objects.specs.Forms.{is_tombstone}
+use Rattle.fedi_objects.specs.Objects.{object_of_kind, stripped_object}
 use Rattle.fedi_town.specs.declared.act.Act.{Act}
 use Rattle.fedi_town.specs.declared.caller.Caller.{Caller}
 use Rattle.fedi_town.specs.declared.caller.Caller.TheVariants.{Nobody, Actor, Peer}
@@ -26,10 +27,18 @@ present_object t x =
     if is_create (deed x) && is_done x.state then whole_of x.activity.object else (
     if is_update (deed x) && is_done x.state then object_of (maker_of t (ref_id x.activity.object)) else None)
 
+-- a Tombstone by its four members: `id`, `type`, `formerType` and `deleted` (ActivityStreams 2.0 Vocabulary, section 3.3)
+abbrev pub bare_tombstone : Object → Object
+bare_tombstone o = record (object_of_kind o.kind) { id = o.id; former_kind = o.former_kind; deleted = o.deleted }
+
+-- an object as it is shown: a Tombstone by these members alone, any other without `bto` and `bcc` (ActivityPub, section 6)
+abbrev pub shown_object : Object → Object
+shown_object o = if is_tombstone o then bare_tombstone o else stripped_object o
+
 -- the object where there is one, else its id
 abbrev pub object_or_id : Option Object → Option (List ℕ) → ObjectRef
 object_or_id None id = ref_to id
-object_or_id (Some o) id = Whole (stripped_object o)
+object_or_id (Some o) id = Whole (shown_object o)
 
 -- what is shown of what the activity is about
 unfoldable pub shown_ref : Town → Act → ObjectRef

@@ -1,5 +1,5 @@
 -- The state in which an activity is accepted: whether its side effect happens (ActivityPub, sections 6 and 7).
-use Rattle.std.specs.Prelude.{ℕ, Bool, true, false, not, ◌&&◌, ◌||◌, nat_lt, List, Option, Some, None, if◌then◌else◌}
+use Rattle.std.specs.Prelude.{ℕ, Bool, true, false, not, ◌&&◌, ◌||◌, List, Option, Some, None, if◌then◌else◌}
 use Rattle.std.specs.List.{list_any}
 use Rattle.std.specs.Str.{bytes_eq}
 use Rattle.fedi_objects.specs.declared.activity.ObjectRef.{ObjectRef}
@@ -13,7 +13,7 @@ use Rattle.fedi_town.specs.Deeds.{is_follow, is_like, is_announce, is_block, is_
 use Rattle.fedi_town.specs.Objects.{makes, maker, is_deleted, is_whole}
 use Rattle.fedi_town.specs.Relations.{ref_id, is_about, has_block_between, is_actor, blocks}
 use Rattle.fedi_town.specs.Seeing.{sees_as}
-use Rattle.fedi_town.specs.Towns.{Town, deed, is_by, has_id, count_after}
+use Rattle.fedi_town.specs.Towns.{Town, deed, is_by, has_id, has_next, count_after}
 
 -- the state where the condition holds, and else Plain
 abbrev pub only_where : Bool → State → State
@@ -49,7 +49,7 @@ is_announce_of a id x = (is_announce (deed x) && is_standing x.state) && (is_by 
 
 -- b has room for one more activity after this one of the author
 unfoldable pub has_room : Town → List ℕ → List ℕ → Bool
-has_room t author b = nat_lt (count_after t author b) 4294967295
+has_room t author b = has_next (count_after t author b)
 
 -- Follows of this member wait for an answer
 unfoldable pub is_locked : Town → List ℕ → Bool

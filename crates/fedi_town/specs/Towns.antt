@@ -1,5 +1,5 @@
 -- What the entries of a history so far have made.
-use Rattle.std.specs.Prelude.{ℕ, ◌+◌, Bool, List, [], filter, length, Option, None, option_map, if◌then◌else◌}
+use Rattle.std.specs.Prelude.{ℕ, ◌+◌, Bool, nat_lt, List, [], filter, length, Option, None, option_map, if◌then◌else◌}
 use Rattle.std.specs.List.{find}
 use Rattle.std.specs.Str.{bytes_eq}
 use Rattle.fedi_town.specs.declared.act.Act.{Act}
@@ -57,6 +57,10 @@ is_by author x = bytes_eq x.author author
 -- how many activities the author has
 abbrev pub count_of : Town → List ℕ → ℕ
 count_of t author = length (filter (is_by author) t.acts)
+
+-- after so many activities there is a number for one more, of which the highest is 4,294,967,295
+abbrev pub has_next : ℕ → Bool
+has_next count = nat_lt count 4294967295
 
 -- how many activities this one has after one more of the author
 abbrev pub count_after : Town → List ℕ → List ℕ → ℕ

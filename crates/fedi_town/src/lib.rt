@@ -9,6 +9,7 @@ mod command_fault;
 mod deed;
 mod effect;
 mod ids;
+mod numbers;
 mod outcome;
 mod refusal;
 
@@ -19,5 +20,6 @@ pub use command_fault::CommandFault;
 pub use deed::Deed;
 pub use effect::Effect;
 pub use ids::{activity_iri, actor_iri, object_iri};
+pub use numbers::{MOST_ACTIVITIES, most_activities_are_fixed, next_number};
 pub use outcome::Outcome;
 pub use refusal::Refusal;

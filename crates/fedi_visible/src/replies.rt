@@ -45,7 +45,7 @@ fn activity_document(alloc: Global, facts: &Facts, act: &Kept) -> Result<Reply, 
     ensures { IfOk result (λ r. r ≡ reply_of (activity_document facts.now.town act.now)) }
 {
     let mut out = new_document(alloc)?;
-    write_activity(&mut out, &shown_of(facts, act, true), true)?;
+    write_activity(&mut out, &shown_of(facts, act), true)?;
     Ok(showing(StatusCode::OK, out))
 }
 

@@ -1,14 +1,14 @@
 //! What is shown of an activity.
 
-ghost use Rattle.std.specs.Prelude.{◌≡◌, Bool, option_copied, option_map};
+ghost use Rattle.std.specs.Prelude.{◌≡◌, Bool, Some, option_copied, option_map};
 ghost use Rattle.fedi_objects.specs.Forms.{activity_form, object_in, shown_in};
-ghost use Rattle.fedi_objects.specs.Objects.{stripped_object};
+ghost use Rattle.fedi_town.specs.Addressing.{is_of_town};
 ghost use Rattle.fedi_town.specs.Objects.{object_of, maker_of, whole_of};
 ghost use Rattle.fedi_town.specs.Relations.{ref_id};
-ghost use Rattle.fedi_town.specs.Showing.{object_or_id, present_object, ref_to, shown_activity, shown_ref};
+ghost use Rattle.fedi_town.specs.Showing.{object_or_id, present_object, ref_to, shown_activity, shown_object, shown_ref};
 
 use fedi_address::Iri;
-use fedi_effects::Facts;
+use fedi_effects::{Facts, is_of_town};
 use fedi_kept::Kept;
 use fedi_objects::{Shown, ShownObject, State, StrippedObject};
 use fedi_town::Deed;
@@ -16,7 +16,7 @@ use fedi_town::Deed;
 // The object that an Update of this id changed, as it stands now.
 fn changed_object<'a>(facts: &'a Facts, id: Option<&Iri>) -> Option<StrippedObject<'a>>
     ensures { result
-        ≡ option_map stripped_object (object_of (maker_of facts.now.town (option_copied id.entry))) }
+        ≡ option_map shown_object (object_of (maker_of facts.now.town (option_copied id.entry))) }
 {
     match id {
         Some(id) => facts.maker(id)?.object(),
@@ -28,7 +28,7 @@ fn changed_object<'a>(facts: &'a Facts, id: Option<&Iri>) -> Option<StrippedObje
 /// they were done.
 #[tactic(auto, unfolding(fedi_town::specs::Showing::present_object))]
 pub fn present_object<'a>(facts: &'a Facts, act: &'a Kept) -> Option<StrippedObject<'a>>
-    ensures { result ≡ option_map stripped_object (present_object facts.now.town act.now) }
+    ensures { result ≡ option_map shown_object (present_object facts.now.town act.now) }
 {
     match (act.deed(), act.state()) {
         (Deed::Create, State::Done) => act.object(),
@@ -57,11 +57,13 @@ fn shown_object<'a>(facts: &'a Facts, act: &'a Kept) -> ShownObject<'a>
     }
 }
 
-/// What those see of an activity who may see it: without `bto` and `bcc`, and with its object as it
-/// stands now (ActivityPub, section 6). `local` is whether its author is a member of this server.
-#[tactic(auto, using(crate::proofs::ShownForms::shown_form))]
-pub fn shown_of<'a>(facts: &'a Facts, act: &'a Kept, local: bool) -> Shown<'a>
-    ensures local { result.local ≡ local }
+/// What those see of an activity who may see it: without `bto` and `bcc`, with its author as its actor,
+/// and with its object as it is now, of which a Tombstone shows four members alone (ActivityPub, section
+/// 6). An activity is local if its author is of this host.
+pub fn shown_of<'a>(facts: &'a Facts, act: &'a Kept) -> Shown<'a>
+    ensures shown { shown_in result
+        ≡ record (shown_activity facts.now.town act.now) { actor = Some act.now.author } }
+    ensures local { result.local ≡ is_of_town facts.now.town.host act.now.author }
     ensures state { result.state ≡ act.now.state }
     ensures public { result.public ≡ act.now.is_public }
     ensures form { (local context : Bool)
@@ -84,7 +86,7 @@ pub fn shown_of<'a>(facts: &'a Facts, act: &'a Kept, local: bool) -> Shown<'a>
         tags: act.tags(),
         state: act.state(),
         public: act.is_public(),
-        local,
+        local: is_of_town(facts, act.author()),
         object: shown_object(facts, act),
     }
 }

@@ -1,7 +1,7 @@
 use Rattle.std.proofs.Common.{ap, ◌∙◌}
 use Rattle.std.specs.Prelude.{List, Option, ℕ}
-use Rattle.fedi_register.specs.Registers.{act_found, mark_of}
-use Rattle.fedi_register.proofs.Places.{repeat_found}
+use Rattle.fedi_register.specs.Registers.{mark_of}
+use Rattle.fedi_register.proofs.Places.{act_found, repeat_found}
 use Rattle.fedi_register.proofs.register.Register.first_under.Goals as goal
 
 pub returns-in-Some : goal.returns-in-Some

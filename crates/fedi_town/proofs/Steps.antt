@@ -4,9 +4,13 @@ use Rattle.std.specs.Prelude.{map, option_to_list}
 use Rattle.fedi_objects.specs.declared.activity.Activity.{Activity}
 use Rattle.fedi_town.specs.declared.act.Act.{Act}
 use Rattle.fedi_town.specs.declared.act.Actor.{Actor}
-use Rattle.fedi_town.specs.Effects.{affect, effect_of, accept_for, answer_to, accept}
+use Rattle.fedi_town.specs.Effects.{affect, effect_of, accept_for, answer_to, acceptance, with_acceptance}
 use Rattle.fedi_town.specs.Histories.{post_addition, inbox_addition, delivery_addition, with_addition}
 use Rattle.fedi_town.specs.Towns.{Town}
+
+-- the town after an activity is accepted
+abbrev pub accept : Town → Act → Town
+accept t x = with_acceptance t (acceptance t x)
 
 -- the town after a member's post
 abbrev pub after_post : Option (List ℕ) → Town → List ℕ → Option (List ℕ × List ℕ) → Activity → ℕ → Town

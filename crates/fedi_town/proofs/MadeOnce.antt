@@ -9,16 +9,14 @@ use Rattle.fedi_objects.specs.declared.activity.ObjectRef.{ObjectRef}
 use Rattle.fedi_objects.specs.declared.entry.Entry.{Entry}
 use Rattle.fedi_objects.specs.declared.entry.Entry.TheVariants.{Hosted, Made, PeerSet, Local, Remote, Tried}
 use Rattle.fedi_objects.specs.declared.kind.State.TheVariants.{Done}
-use Rattle.fedi_laws.proofs.Finding.{PassesOnce-push, PassesOnce-map}
+use Rattle.fedi_town.proofs.Finding.{PassesOnce-push, PassesOnce-map}
 use Rattle.fedi_town.specs.Lists.{PassesOnce}
-use Rattle.fedi_laws.proofs.Grounded.{ref_id-received}
-use Rattle.fedi_laws.proofs.Inboxes.{made-inbox}
-use Rattle.fedi_laws.proofs.Kept.{changed-kept, made-kept}
-use Rattle.fedi_laws.proofs.Lists.{list_any-through}
-use Rattle.fedi_laws.proofs.Steps.{accept_in_steps, with_act, accepts_for, after_delivery, after_inbox, after_post}
+use Rattle.fedi_town.proofs.Kept.{changed-kept, made-inbox, made-kept, ref_id-received}
+use Rattle.fedi_town.proofs.Lists.{list_any-through}
+use Rattle.fedi_town.proofs.Steps.{accept, accept_in_steps, with_act, accepts_for, after_delivery, after_inbox, after_post}
 use Rattle.fedi_town.specs.Activities.{local_act, remote_act}
 use Rattle.fedi_town.specs.Deeds.{is_create, is_done, is_follow, is_accepted, deed_of}
-use Rattle.fedi_town.specs.Effects.{acceptance, accept_for, affect, effect_of, accept_by, accept, followee}
+use Rattle.fedi_town.specs.Effects.{acceptance, accept_for, affect, effect_of, accept_by, followee}
 use Rattle.fedi_town.specs.declared.addition.Addition.TheVariants as additions
 use Rattle.fedi_town.specs.Histories.{with_addition, member_addition, with_recipient, is_known, step, town}
 use Rattle.fedi_town.specs.Objects.{makes, is_whole}
@@ -29,7 +27,7 @@ use Rattle.fedi_town.specs.declared.act.Act.{Act}
 use Rattle.fedi_town.specs.declared.act.Actor.{Actor}
 use Rattle.fedi_town.specs.declared.deed.Deed.{Deed}
 use Rattle.fedi_town.specs.declared.deed.Deed.TheVariants.{Create, Update, Delete, Follow, Like, Announce, Block, Accept, Reject, Undo, Other}
-use Rattle.fedi_laws.proofs.Texts.{bytes_eq-is}
+use Rattle.fedi_town.proofs.Texts.{bytes_eq-is}
 
 pub record MadeOnce (acts : List Act) : Type 0 where
   pub once : (id : List ℕ) → PassesOnce (makes id) acts

@@ -1,14 +1,17 @@
 -- What becomes of an activity keeps its type, whether it is done, and what it is about.
-use Rattle.std.proofs.Common.{◌≡◌, ℕ, Bool, true, false, List, Option, Some, None, refl, sym, ◌∙◌}
+use Rattle.std.proofs.Common.{◌≡◌, ℕ, Bool, true, false, List, [], ◌∷◌, ◌++◌, Option, Some, None, refl, sym, ◌∙◌}
 use Rattle.std.specs.Prelude.{◌&&◌, if◌then◌else◌}
 use Rattle.fedi_objects.specs.declared.activity.ObjectRef.{ObjectRef}
 use Rattle.fedi_objects.specs.declared.activity.ObjectRef.TheVariants.{Nothing, Id, Whole, Changed}
 use Rattle.fedi_objects.specs.declared.kind.State.{State}
 use Rattle.fedi_objects.specs.declared.kind.State.TheVariants.{Plain, Done, Pending, Accepted, Rejected, Standing, Undone}
 use Rattle.fedi_objects.specs.declared.object.Object.{Object}
+use Rattle.fedi_objects.specs.Forms.{is_tombstone}
+use Rattle.fedi_town.specs.Activities.{complete_tombstone, receive_object, receive_ref}
 use Rattle.fedi_town.specs.Addressing.{act_of}
 use Rattle.fedi_town.specs.Deeds.{is_follow, is_done, is_open, is_pending, is_standing}
 use Rattle.fedi_town.specs.Effects.{where_passes, in_state, end_follow, is_pending_follow, is_standing_activity, affect, pair_ends, follow_ends, undo_effect, effect_about, effect_with, effect_of, takes_effect}
+use Rattle.fedi_town.specs.Histories.{with_recipient}
 use Rattle.fedi_town.specs.Objects.{makes, rewrite_act, rewrite_ref, update_object, change_object, replace_object, tombstone_of}
 use Rattle.fedi_town.specs.Relations.{ref_id, has_activity_id, is_about, is_open_follow}
 use Rattle.fedi_town.specs.Towns.{Town, deed}
@@ -172,3 +175,33 @@ changed-kept t x y = affected-kept (effect_of t x) y (fair t x)
 pub made-kept : (y z : Act) → IsKept y z → (id : List ℕ) → makes id z ≡ makes id y
 unfolding makes is_about
 made-kept y z k id = rw (k.kind, k.done, k.about) refl
+
+-- ---- what another server delivers
+
+choice-id : (b : Bool) (x y : Object) → x.id ≡ y.id → (if b then x else y).id ≡ y.id
+choice-id true x y e = e
+choice-id false x y e = refl
+
+received-id : (moment : ℕ) (o : Object) → (receive_object moment o).id ≡ o.id
+unfolding receive_object
+received-id moment o = choice-id (is_tombstone o) (complete_tombstone moment o) o refl
+
+pub ref_id-received : (author : List ℕ) (moment : ℕ) (r : ObjectRef) → ref_id (receive_ref author moment r) ≡ ref_id r
+ref_id-received author moment Nothing = refl
+ref_id-received author moment (Id iri) = refl
+ref_id-received author moment (Whole o) = received-id moment o
+ref_id-received author moment (Changed c) = refl
+
+-- ---- one more recipient
+
+-- what makes no difference to the rest of an activity
+choice-same : {A : Type 0} (g : Act → A) (b : Bool) (y z : Act) → g z ≡ g y → g (if b then z else y) ≡ g y
+choice-same g true y z e = e
+choice-same g false y z e = refl
+
+pub also-same : {A : Type 0} (g : Act → A) (id owner : List ℕ) (y : Act) → g (record y { recipients = y.recipients ++ owner ∷ [] }) ≡ g y → g (with_recipient id owner y) ≡ g y
+also-same g id owner y e = choice-same g (has_activity_id id y) y (record y { recipients = y.recipients ++ owner ∷ [] }) e
+
+pub made-inbox : (i id owner : List ℕ) (y : Act) → makes i (with_recipient id owner y) ≡ makes i y
+unfolding makes is_about
+made-inbox i id owner y = also-same (makes i) id owner y refl

@@ -1,0 +1,153 @@
+-- Who sees the Create of an object sees its author's Updates and its Delete.
+use Rattle.std.proofs.Common.{◌≡◌, ℕ, Bool, true, false, List, [], ◌∷◌, ◌++◌, Option, Some, None, refl, sym, ap, subst, ◌∙◌}
+use Rattle.std.specs.Prelude.{◌&&◌, ◌||◌, not, filter, if◌then◌else◌, option_map}
+use Rattle.std.specs.List.{find, flat_map, list_all, list_any}
+use Rattle.std.specs.Str.{bytes_eq}
+use Rattle.std.proofs.lemmas.List.Folds.{list_any-append}
+use Rattle.fedi_address.specs.declared.recipients.Recipients.{Recipients}
+use Rattle.fedi_address.specs.Iris.{public_iri}
+use Rattle.fedi_address.specs.Recipients.{all_of, is_among, is_public}
+use Rattle.fedi_objects.specs.declared.activity.Activity.{Activity}
+use Rattle.fedi_objects.specs.declared.entry.Entry.{Entry}
+use Rattle.fedi_town.specs.declared.act.Act.{Act}
+use Rattle.fedi_town.specs.declared.act.Actor.{Actor as Member}
+use Rattle.fedi_town.specs.declared.caller.Caller.{Caller}
+use Rattle.fedi_town.specs.declared.caller.Caller.TheVariants.{Nobody, Actor, Peer}
+use Rattle.fedi_town.specs.declared.deed.Deed.{Deed}
+use Rattle.fedi_town.specs.declared.deed.Deed.TheVariants.{Create, Update, Delete, Follow, Like, Announce, Block, Accept, Reject, Undo, Other}
+use Rattle.fedi_town.specs.Activities.{act_by, local_act}
+use Rattle.fedi_town.specs.Addressing.{addressees, is_nobody_here, is_of_town, is_recipient, original, recipients_with}
+use Rattle.fedi_town.specs.Deeds.{deed_of, is_delete, is_update}
+use Rattle.fedi_town.specs.Histories.{town}
+use Rattle.fedi_town.specs.Ids.{actor_id}
+use Rattle.fedi_town.specs.Legal.{IsLegal}
+use Rattle.fedi_town.specs.Objects.{maker, maker_of}
+use Rattle.fedi_town.specs.Relations.{has_block_between, is_actor, ref_id}
+use Rattle.fedi_town.specs.Seeing.{sees, sees_as, sees_with}
+use Rattle.fedi_town.specs.Towns.{Town, has_id, has_name, id_of, is_by}
+use Rattle.fedi_town.proofs.Once.{filter-among, once-among}
+use Rattle.fedi_town.proofs.Texts.{and_none, bytes_eq-is, bytes_eq-same, is_false, not_both, or_true}
+use Rattle.fedi_laws.proofs.IdsTown.{found_any}
+use Rattle.fedi_laws.proofs.Members.{is_member, not_public}
+use Rattle.fedi_laws.proofs.People.{id_of-is, named_is}
+use Rattle.fedi_laws.proofs.Sound.{IsHosted, is_set, town_sound}
+use Rattle.fedi_laws.specs.Statements.{is_no_peer}
+
+-- ---- who gets what the Create's readers get
+
+also_among : (me : List ℕ) (xs others : List (List ℕ)) → is_among me others ≡ true → is_among me (xs ++ others) ≡ true
+unfolding is_among
+also_among me xs others there = list_any-append (λ u. bytes_eq u me) xs others ∙ rw there (or_true (list_any (λ u. bytes_eq u me) xs))
+
+also_gets : (t : Town) (author me : List ℕ) (r : Recipients) (others : List (List ℕ)) → is_recipient t author me ≡ true → is_among me others ≡ true
+    → is_among me (recipients_with t author r others) ≡ true
+also_gets t author me r others passes there =
+    let all : List (List ℕ) = flat_map (addressees t author) (all_of r) ++ others in
+    once-among me (filter (is_recipient t author) all)
+    ∙ filter-among (is_recipient t author) me all passes
+    ∙ also_among me (flat_map (addressees t author) (all_of r)) others there
+
+other_way : (a b : List ℕ) → bytes_eq a b ≡ false → bytes_eq b a ≡ false
+other_way a b e = is_false (bytes_eq b a) (λ h. not_both (bytes_eq a b) (rw (bytes_eq-is b a h) (bytes_eq-same a)) e)
+
+-- a member is nobody who is not here
+known_id : (name me : List ℕ) (xs : List Member) → option_map (λ a. a.id) (find (has_name name) xs) ≡ Some me → list_any (has_id me) xs ≡ true
+unfolding has_id
+known_id name me [] e = absurd cc
+known_id name me (x ∷ xs) e =
+    elim (has_name name x) as (λ b. option_map (λ a. a.id) (if b then Some x else find (has_name name) xs) ≡ Some me → (bytes_eq x.id me || list_any (has_id me) xs) ≡ true) [
+      | true ↦ λ h. let same : x.id ≡ me = cc in rw (same, bytes_eq-same me) refl
+      | false ↦ λ h. rw (known_id name me xs h) (or_true (bytes_eq x.id me))
+    ] e
+
+-- a member whom no Block parts from the author may get what the author sends to others
+may_get : (t : Town) (author name me : List ℕ) → bytes_eq me public_iri ≡ false → id_of t name ≡ Some me → bytes_eq author me ≡ false
+    → has_block_between t me author ≡ false → is_recipient t author me ≡ true
+unfolding is_recipient is_nobody_here is_actor
+may_get t author name me not_all known other free =
+    rw (not_all, other_way author me other, known_id name me t.actors known, free, and_none (is_of_town t.host me)) refl
+
+-- ---- who sees it
+
+seen_by : (own block p q more also : Bool) → (p ≡ true → more ≡ true) → (block ≡ false → own ≡ false → q ≡ true → also ≡ true)
+    → (own || (not block && (p || q))) ≡ true → (own || (not block && (more || also))) ≡ true
+seen_by true block p q more also f g h = refl
+seen_by false true p q more also f g h = absurd cc
+seen_by false false true q more also f g h = rw (f refl) refl
+seen_by false false false true more also f g h = rw (g refl refl refl) (or_true more)
+seen_by false false false false more also f g h = absurd cc
+
+seen_as : (t : Town) (me : List ℕ) (m x : Act) → x.author ≡ m.author → (m.is_public ≡ true → x.is_public ≡ true)
+    → (has_block_between t me m.author ≡ false → is_by me m ≡ false → is_among me m.recipients ≡ true → is_among me x.recipients ≡ true)
+    → sees_as t me m ≡ true → sees_as t me x ≡ true
+unfolding sees_as is_by
+seen_as t me m x same public gets seen =
+    rw same (seen_by (is_by me m) (has_block_between t me m.author) m.is_public (is_among me m.recipients) x.is_public (is_among me x.recipients) public gets seen)
+
+-- ---- an Update or a Delete
+
+original_is : (t : Town) (d : Deed) (id : Option (List ℕ)) → (is_update d || is_delete d) ≡ true → original t d id ≡ maker_of t id
+original_is t Create id e = absurd cc
+original_is t Update id e = refl
+original_is t Delete id e = refl
+original_is t Follow id e = absurd cc
+original_is t Like id e = absurd cc
+original_is t Announce id e = absurd cc
+original_is t Block id e = absurd cc
+original_is t Accept id e = absurd cc
+original_is t Reject id e = absurd cc
+original_is t Undo id e = absurd cc
+original_is t Other id e = absurd cc
+
+-- what is known of an Update or a Delete of what m made, by its author
+record IsChange (t : Town) (author : List ℕ) (b : Activity) (m : Act) : Type 0 where
+  of : original t (deed_of b.kind) (ref_id b.object) ≡ Some m
+  by : m.author ≡ author
+
+is_open_too : (t : Town) (author : List ℕ) (repeat : Option (List ℕ × List ℕ)) (moment : ℕ) (b : Activity) (m : Act) → IsChange t author b m
+    → m.is_public ≡ true → (act_by t author repeat moment b).is_public ≡ true
+is_open_too t author repeat moment b m is public = rw (is.of, public) (or_true (is_public b.recipients))
+
+goes_too : (t : Town) (author : List ℕ) (repeat : Option (List ℕ × List ℕ)) (moment : ℕ) (b : Activity) (m : Act) (me : List ℕ) → IsChange t author b m
+    → is_recipient t author me ≡ true → is_among me m.recipients ≡ true → is_among me (act_by t author repeat moment b).recipients ≡ true
+goes_too t author repeat moment b m me is passes there = rw is.of (also_gets t author me b.recipients m.recipients passes there)
+
+reader_of : (t : Town) (author : List ℕ) (repeat : Option (List ℕ × List ℕ)) (moment : ℕ) (b : Activity) (m : Act) (name : List ℕ) (id : Option (List ℕ)) → IsChange t author b m
+    → id_of t name ≡ id → ((me : List ℕ) → id ≡ Some me → bytes_eq me public_iri ≡ false)
+    → sees_with t id m ≡ true → sees_with t id (act_by t author repeat moment b) ≡ true
+unfolding is_by
+reader_of t author repeat moment b m name None is known not_all seen = is_open_too t author repeat moment b m is seen
+reader_of t author repeat moment b m name (Some me) is known not_all seen =
+    seen_as t me m (act_by t author repeat moment b) (sym is.by) (is_open_too t author repeat moment b m is)
+    (λ free other there. goes_too t author repeat moment b m me is
+    (may_get t author name me (not_all me refl) known (rw is.by at other) (rw is.by at free)) there) seen
+
+reader_is : (t : Town) (author : List ℕ) (repeat : Option (List ℕ × List ℕ)) (moment : ℕ) (b : Activity) (m : Act) (c : Caller) → IsChange t author b m → is_no_peer c ≡ true
+    → ((name me : List ℕ) → id_of t name ≡ Some me → bytes_eq me public_iri ≡ false) → sees t c m ≡ true → sees t c (act_by t author repeat moment b) ≡ true
+unfolding sees
+reader_is t author repeat moment b m Nobody is here not_all seen = is_open_too t author repeat moment b m is seen
+reader_is t author repeat moment b m (Actor name) is here not_all seen = reader_of t author repeat moment b m name (id_of t name) is refl (not_all name) seen
+reader_is t author repeat moment b m (Peer host) is here not_all seen = absurd cc
+
+-- no member's id is Public
+not_everybody : (history : List Entry) (host name me : List ℕ) → IsLegal history → (town history).host ≡ Some host → id_of (town history) name ≡ Some me
+    → bytes_eq me public_iri ≡ false
+not_everybody history host name me legal hosted known =
+    let t : Town = town history in
+    let s : IsHosted t = town_sound history legal in
+    let all : list_all (is_member (Some host)) t.actors ≡ true = subst (λ (k : Option (List ℕ)). list_all (is_member k) t.actors ≡ true) hosted s.sound.members in
+    rw (id_of-is t host name me all known)
+    (not_public host name (subst (λ (k : Option (List ℕ)). is_set k ≡ true) hosted s.host)
+    (named_is name (Some host) t.actors all (found_any (has_name name) t.actors me known)))
+
+-- Who sees the Create of an object sees its author's Updates and its Delete.
+pub changes_are_seen : (history : List Entry) (host name id : List ℕ) (repeat : Option (List ℕ × List ℕ)) (a : Activity) (moment : ℕ) (m : Act) (c : Caller)
+    → IsLegal history → (town history).host ≡ Some host → (is_update (deed_of a.kind) || is_delete (deed_of a.kind)) ≡ true
+    → ref_id (local_act (town history) host name repeat a moment).activity.object ≡ Some id → maker (town history) id ≡ Some m → m.author ≡ actor_id host name
+    → is_no_peer c ≡ true → sees (town history) c m ≡ true → sees (town history) c (local_act (town history) host name repeat a moment) ≡ true
+changes_are_seen history host name id repeat a moment m c legal hosted changes about made own here seen =
+    let t : Town = town history in
+    let x : Act = local_act t host name repeat a moment in
+    reader_is t (actor_id host name) repeat moment x.activity m c
+    (record { of = original_is t (deed_of a.kind) (ref_id x.activity.object) changes ∙ ap (maker_of t) about ∙ made; by = own })
+    here (λ n me known. not_everybody history host n me legal hosted known) seen
