@@ -1,6 +1,6 @@
 //! What runs begin with.
 
-use crate::files::{disk_of, store_of};
+use crate::store_files::{disk_of, store_of};
 use fedi_outside::{FixedClock, MemoryDisk, MemoryEntropy, MemorySink, MemorySource};
 use fedi_program::Connection;
 use std::alloc::{AllocError, Global};

@@ -2,7 +2,7 @@
 
 use crate::cases::SECONDS;
 use crate::example::{MEMBERS, TOWN};
-use crate::program::{FIRST, HELLO_LAST, NOT_FOUND_LAST, NOTE, PSST_LAST};
+use crate::program::{FIRST, NOTE};
 use crate::rows::expect;
 use crate::runs::are_texts;
 use fedi_address::{Host, LocalName};
@@ -21,15 +21,24 @@ use std::test::Fail;
 
 type Machine = Core<PlainShelf, MemoryKeeper>;
 
-/// Callers that no request to the example town has: who asks for an object of ana's, its number, and the whole reply
-/// to a member that may see as much.
+/// The bodies of the replies to readings of ana's first object and of her second, and of nothing.
+const HELLO: &str =
+    "{\"@context\":\"https://www.w3.org/ns/activitystreams\",\"attributedTo\":\"https://club.example/users/ana\",\"content\":\"Hello\",\"id\":\"https://club.example/users/ana/o/1\",\"likes\":\"https://club.example/users/ana/o/1/likes\",\"published\":\"1994-11-06T08:49:37Z\",\"shares\":\"https://club.example/users/ana/o/1/shares\",\"to\":[\"https://www.w3.org/ns/activitystreams#Public\"],\"type\":\"Note\"}";
+
+const PSST: &str =
+    "{\"@context\":\"https://www.w3.org/ns/activitystreams\",\"attributedTo\":\"https://club.example/users/ana\",\"content\":\"Psst\",\"id\":\"https://club.example/users/ana/o/2\",\"likes\":\"https://club.example/users/ana/o/2/likes\",\"published\":\"1994-11-06T08:49:37Z\",\"shares\":\"https://club.example/users/ana/o/2/shares\",\"type\":\"Note\"}";
+
+const NOT_FOUND: &str = "{\"error\":\"NotFound\"}";
+
+/// Callers that no request to the example town has: who asks for an object of ana's, its number, and the
+/// body of the reply.
 const CALLERS: [(&str, u32, &str); 6] = [
-    ("eve", 1, HELLO_LAST),
-    ("far.example", 1, HELLO_LAST),
-    ("club.example", 2, PSST_LAST),
-    ("eve", 2, NOT_FOUND_LAST),
-    ("far.example", 2, NOT_FOUND_LAST),
-    ("far.example", 4_294_967_295, NOT_FOUND_LAST),
+    ("eve", 1, HELLO),
+    ("far.example", 1, HELLO),
+    ("club.example", 2, PSST),
+    ("eve", 2, NOT_FOUND),
+    ("far.example", 2, NOT_FOUND),
+    ("far.example", 4_294_967_295, NOT_FOUND),
 ];
 
 fn keep<K: Keeper>(keeper: &mut K, record: &[u8]) -> Result<(), Fail> {
@@ -100,14 +109,9 @@ fn caller_of(alloc: Global, who: &str) -> Result<Caller, Fail> {
     Ok(Caller::Peer(Host::parse(alloc, who)?))
 }
 
-/// Whether this is the body of the reply, which has one brace that opens.
-fn is_body_of(body: &[u8], reply: &str) -> bool {
-    body.starts_with(b"{") && reply.as_bytes().ends_with(body)
-}
-
 fn is_decided(decision: &Result<Decision, AllocError>, wanted: &str) -> bool {
     match decision {
-        Ok(decision) => is_body_of(decision.reply.body.bytes(), wanted),
+        Ok(decision) => decision.reply.body.bytes() == wanted.as_bytes(),
         Err(_) => false,
     }
 }

@@ -1,4 +1,5 @@
 //! The texts of moments, as other software writes them.
+
 use crate::rows::expect;
 use fedi_text::Moment;
 use std::alloc::{AllocError, Global};

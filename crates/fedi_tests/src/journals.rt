@@ -1,32 +1,11 @@
-//! Files made by hand, and what they are found to be.
-use crate::rows::{expect, expect_at};
+//! Files that were written by hand, and what they are found to be.
+
+use crate::rows::expect_at;
+use crate::store_files::disk_of;
 use fedi_journal::{InitFault, Journal, JournalFault};
 use fedi_outside::{Keeper, MemoryDisk};
 use std::alloc::{AllocError, Global};
 use std::test::Fail;
-
-/// A file of these records: the magic, each behind an open gate and its length, and a closed gate.
-pub fn file_of(alloc: Global, records: &[&[u8]]) -> Result<Vec<u8>, AllocError> {
-    let mut file = Vec::new(alloc);
-    push_file(&mut file, records)?;
-    Ok(file)
-}
-
-fn push_file(file: &mut Vec<u8>, records: &[&[u8]]) -> Result<(), AllocError> {
-    file.extend_from_slice(b"FEDIJRN1")?;
-    for payload in records {
-        file.extend_from_slice(&[1])?;
-        file.extend_from_slice(&(payload.len() as u64).to_be_bytes())?;
-        file.extend_from_slice(payload)?;
-    }
-    file.extend_from_slice(&[0])
-}
-
-// Whether these are the bytes of such a file.
-fn is_file_of(alloc: Global, bytes: &[u8], records: &[&[u8]]) -> Result<bool, AllocError> {
-    let file = file_of(alloc, records)?;
-    Ok(file.as_slice() == bytes)
-}
 
 /// What a disk is found to be: the records of a journal, each behind a bar, or a fault.
 pub fn found_in(alloc: Global, disk: MemoryDisk) -> Result<String, Fail> {
@@ -70,11 +49,6 @@ fn push_records(
     Ok(())
 }
 
-/// A disk with these bytes.
-pub fn disk_of(alloc: Global, bytes: &[u8]) -> Result<MemoryDisk, AllocError> {
-    MemoryDisk::new(alloc, bytes.to_vec(alloc)?)
-}
-
 /// What these bytes are found to be.
 pub fn found(alloc: Global, bytes: &[u8]) -> Result<String, Fail> {
     found_in(alloc, disk_of(alloc, bytes)?)
@@ -112,74 +86,6 @@ fn files_are_found_by_their_bytes(rt: HostRuntime) -> Result<(), Fail> {
     Ok(())
 }
 
-// A file of two records, whose gates stand at 8, 20 and 29.
-const TWO: &[u8] = b"FEDIJRN1\x01\0\0\0\0\0\0\0\x03one\x01\0\0\0\0\0\0\0\0\0";
-
-// What is found of so many of its bytes.
-fn found_of_front(length: usize) -> &'static str {
-    if length < 9 {
-        "not a store"
-    } else if length < 21 {
-        "damaged at 8"
-    } else if length < 30 {
-        "damaged at 20"
-    } else {
-        "|one|"
-    }
-}
-
-#[test]
-fn a_file_that_is_cut_is_damaged_at_the_gate_of_what_is_missing(
-    rt: HostRuntime,
-) -> Result<(), Fail> {
-    expect(is_file_of(rt.alloc(), TWO, &[b"one", b""])?, "two records")?;
-    for length in 0..=TWO.len() {
-        expect_found(rt.alloc(), &TWO[..length], found_of_front(length), length)?;
-    }
-    Ok(())
-}
-
-// From this place to that one, a byte of the file that is set to this value makes this of it.
-const CHANGES: [(usize, usize, u8, &str); 19] = [
-    (0, 7, 0, "not a store"),
-    (0, 7, 255, "not a store"),
-    (8, 8, 0, ""),
-    (8, 8, 1, "|one|"),
-    (8, 8, 2, "damaged at 8"),
-    (8, 8, 255, "damaged at 8"),
-    (9, 15, 0, "|one|"),
-    (9, 15, 1, "damaged at 8"),
-    (9, 15, 255, "damaged at 8"),
-    (16, 16, 0, "damaged at 17"),
-    (16, 16, 4, "|one\u{1}"),
-    (16, 16, 13, "damaged at 8"),
-    (16, 16, 255, "damaged at 8"),
-    (17, 17, 79, "|One|"),
-    (20, 20, 0, "|one"),
-    (20, 20, 2, "damaged at 20"),
-    (21, 28, 1, "damaged at 20"),
-    (29, 29, 1, "damaged at 29"),
-    (29, 29, 2, "damaged at 29"),
-];
-
-fn expect_changed(alloc: Global, place: usize, byte: u8, wanted: &str) -> Result<(), Fail> {
-    let mut bytes = TWO.to_vec(alloc)?;
-    if let Some(here) = bytes.get_mut(place) {
-        *here = byte;
-    }
-    expect_found(alloc, &bytes, wanted, place)
-}
-
-#[test]
-fn a_byte_that_is_changed_tells(rt: HostRuntime) -> Result<(), Fail> {
-    for (from, to, byte, wanted) in &CHANGES {
-        for place in *from..=*to {
-            expect_changed(rt.alloc(), place, *byte, wanted)?;
-        }
-    }
-    Ok(())
-}
-
 /// How the making of a journal of this disk ends, and the disk.
 pub fn made(alloc: Global, disk: MemoryDisk) -> (&'static str, MemoryDisk) {
     match Journal::init(alloc, disk) {
@@ -212,7 +118,7 @@ fn is_made(alloc: Global, row: &(&[u8], &str, &[u8])) -> Result<bool, AllocError
 #[test]
 fn a_disk_is_made_a_journal_if_it_holds_no_other(rt: HostRuntime) -> Result<(), Fail> {
     for (number, row) in MAKINGS.iter().enumerate() {
-        expect_at(is_made(rt.alloc(), row)?, row.1, number as u64)?;
+        expect_at(is_made(rt.alloc(), row)?, row.1, number)?;
     }
     Ok(())
 }

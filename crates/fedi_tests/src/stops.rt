@@ -1,7 +1,9 @@
 //! Journals whose disk stops or fails at each call.
-use crate::disks::{Images, images_of};
-use crate::files::{disk_of, file_of, found, found_in, made};
+
+use crate::images::{Images, images_of};
+use crate::journals::{found, found_in, made};
 use crate::rows::{expect, expect_at};
+use crate::store_files::{disk_of, store_of};
 use fedi_journal::Journal;
 use fedi_outside::{Call, Keeper, MemoryDisk};
 use std::alloc::{AllocError, Global};
@@ -64,13 +66,13 @@ fn expect_calls(alloc: Global, disk: &MemoryDisk) -> Result<(), Fail> {
 }
 
 fn expect_bytes(alloc: Global, disk: &MemoryDisk, records: &[&[u8]]) -> Result<(), Fail> {
-    let wanted = file_of(alloc, records)?;
+    let wanted = store_of(alloc, records)?;
     expect(disk.bytes() == wanted.as_slice(), "the bytes of the disk")
 }
 
 #[test]
 fn an_append_makes_four_calls(rt: HostRuntime) -> Result<(), Fail> {
-    let file = file_of(rt.alloc(), &[b"one", b""])?;
+    let file = store_of(rt.alloc(), &[b"one", b""])?;
     let (done, disk) = added(rt.alloc(), MemoryDisk::new(rt.alloc(), file)?, b"three");
     expect(done, "an append")?;
     expect_calls(rt.alloc(), &disk)?;
@@ -86,7 +88,11 @@ fn expect_image(alloc: Global, image: &[u8], stop: u64) -> Result<(), Fail> {
     let found = found(alloc, image)?;
     let before = found.as_str() == "|one";
     let after = found.as_str() == "|one|three";
-    expect_at((before && stop < 9) || (after && stop > 6), &found, stop)
+    expect_at(
+        (before && stop < 9) || (after && stop > 6),
+        &found,
+        stop as usize,
+    )
 }
 
 fn expect_images(alloc: Global, images: &Images, stop: u64) -> Result<(), Fail> {
@@ -98,7 +104,7 @@ fn expect_images(alloc: Global, images: &Images, stop: u64) -> Result<(), Fail> 
 
 fn expect_after_append(alloc: Global, stop: u64) -> Result<(), Fail> {
     let (done, disk) = added(alloc, disk_of(alloc, ONE)?.stopping(stop), b"three");
-    expect_at(done == (stop == 9), "an append", stop)?;
+    expect_at(done == (stop == 9), "an append", stop as usize)?;
     expect_images(alloc, &images_of(alloc, ONE, disk.calls())?, stop)
 }
 
@@ -115,9 +121,9 @@ fn a_crash_at_each_call_of_an_append_leaves_what_was_acknowledged(
 
 fn expect_made_again(alloc: Global, image: &[u8], stop: u64) -> Result<(), Fail> {
     let (end, disk) = made(alloc, disk_of(alloc, image)?);
-    expect_at(end == "made", end, stop)?;
+    expect_at(end == "made", end, stop as usize)?;
     let found = found_in(alloc, disk)?;
-    expect_at(found.as_str() == "", &found, stop)
+    expect_at(found.as_str() == "", &found, stop as usize)
 }
 
 fn expect_all_made_again(alloc: Global, images: &Images, stop: u64) -> Result<(), Fail> {
@@ -163,9 +169,9 @@ fn kept(alloc: Global, disk: MemoryDisk) -> (bool, MemoryDisk) {
 fn expect_kept(alloc: Global, call: u64, other: u64) -> Result<(), Fail> {
     let failing = [call, other].to_vec(alloc)?;
     let (done, disk) = kept(alloc, disk_of(alloc, b"FEDIJRN1\0")?.failing(failing));
-    expect_at(done, "records added", call)?;
+    expect_at(done, "records added", call as usize)?;
     let found = found(alloc, disk.bytes())?;
-    expect_at(found.as_str() == "|one||three", &found, call)
+    expect_at(found.as_str() == "|one||three", &found, call as usize)
 }
 
 #[test]

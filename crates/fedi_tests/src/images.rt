@@ -1,4 +1,5 @@
 //! What a crash may leave of a disk, by its record of calls.
+
 use fedi_outside::Call;
 use std::alloc::{AllocError, Global};
 

@@ -1,4 +1,5 @@
 //! Digests, keys and their texts.
+
 use crate::rows::expect;
 use fedi_mac::{digest, hex_text, matches, read_key};
 use std::test::Fail;

@@ -1,4 +1,5 @@
 //! Addresses as the rules of the URL Standard give them, worked by hand.
+
 use crate::rows::expect;
 use fedi_address::{Host, HostFault, Iri, IriFault, LocalName};
 use std::alloc::{AllocError, Global};

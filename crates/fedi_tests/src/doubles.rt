@@ -1,5 +1,6 @@
 //! Sources, sinks and keepers in memory. What is made to fail is made in a function of its own and
 //! lent.
+
 use crate::rows::expect;
 use fedi_outside::{
     CalmKeeper, CalmSource, Failed, Keeper, MemoryKeeper, MemorySink, MemorySource, Sink, Source,
