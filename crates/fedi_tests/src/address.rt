@@ -78,11 +78,6 @@ fn iris_are_read_in_their_normal_form(rt: HostRuntime) -> Result<(), Fail> {
     for text in &NO_IRIS {
         expect(fault_of(alloc, text) == Some(IriFault::NotIri), text)?;
     }
-    Ok(())
-}
-
-#[test]
-fn iris_have_a_longest(rt: HostRuntime) -> Result<(), Fail> {
     let longest = fault_of_length(rt.alloc(), Iri::LONGEST)?;
     let longer = fault_of_length(rt.alloc(), Iri::LONGEST + 1)?;
     expect(longest.is_none(), "the longest")?;

@@ -55,23 +55,14 @@ fn has_calm_lengths(alloc: Global) -> Result<bool, Fail> {
     Ok(found.as_slice() == [3, 2, 0].as_slice())
 }
 
-#[test]
-fn bytes_are_read_in_pieces_and_reads_fail(rt: HostRuntime) -> Result<(), Fail> {
-    for row in &READS {
-        expect(has_lengths(rt.alloc(), row)?, row.0)?;
-    }
-    expect(has_calm_lengths(rt.alloc())?, "calm")
-}
-
 // What is written of each text in turn: how many of its bytes, or 9 if the write failed.
 fn counts<S: Sink>(sink: &mut S, texts: [&[u8]; 4]) -> [usize; 4] {
     texts.map(|text| sink.write(text).unwrap_or(9))
 }
 
-#[test]
-fn a_sink_keeps_what_it_takes(rt: HostRuntime) -> Result<(), Fail> {
-    let failing = [1].to_vec(rt.alloc())?;
-    let mut sink = MemorySink::new(rt.alloc()).limited(2).failing(failing);
+fn expect_taken(alloc: Global) -> Result<(), Fail> {
+    let failing = [1].to_vec(alloc)?;
+    let mut sink = MemorySink::new(alloc).limited(2).failing(failing);
     let counts = counts(&mut sink, [b"abc", b"c", b"c", b""]);
     expect(
         counts == [2, 9, 1, 0] && sink.bytes() == b"abc".as_slice(),
@@ -111,7 +102,12 @@ fn calm_keeps(alloc: Global, payloads: &[&[u8]]) -> Result<bool, Fail> {
 }
 
 #[test]
-fn records_are_kept_whatever_fails(rt: HostRuntime) -> Result<(), Fail> {
+fn doubles_in_memory_fail_as_they_are_told(rt: HostRuntime) -> Result<(), Fail> {
+    for row in &READS {
+        expect(has_lengths(rt.alloc(), row)?, row.0)?;
+    }
+    expect(has_calm_lengths(rt.alloc())?, "calm")?;
+    expect_taken(rt.alloc())?;
     let payloads: [&[u8]; 3] = [b"one", b"", b"three"];
     expect(failing_keeps(rt.alloc(), &payloads)?, "a keeper that fails")?;
     expect(calm_keeps(rt.alloc(), &payloads)?, "a calm keeper")

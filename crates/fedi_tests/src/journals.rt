@@ -78,14 +78,6 @@ const FILES: [(&[u8], &str); 8] = [
     ),
 ];
 
-#[test]
-fn files_are_found_by_their_bytes(rt: HostRuntime) -> Result<(), Fail> {
-    for row in &FILES {
-        expect_found(rt.alloc(), row.0, row.1, row.0.len())?;
-    }
-    Ok(())
-}
-
 /// How the making of a journal of this disk ends, and the disk.
 pub fn made(alloc: Global, disk: MemoryDisk) -> (&'static str, MemoryDisk) {
     match Journal::init(alloc, disk) {
@@ -116,7 +108,12 @@ fn is_made(alloc: Global, row: &(&[u8], &str, &[u8])) -> Result<bool, AllocError
 }
 
 #[test]
-fn a_disk_is_made_a_journal_if_it_holds_no_other(rt: HostRuntime) -> Result<(), Fail> {
+fn files_are_found_by_their_bytes_and_made_if_they_hold_nothing(
+    rt: HostRuntime,
+) -> Result<(), Fail> {
+    for row in &FILES {
+        expect_found(rt.alloc(), row.0, row.1, row.0.len())?;
+    }
     for (number, row) in MAKINGS.iter().enumerate() {
         expect_at(is_made(rt.alloc(), row)?, row.1, number)?;
     }

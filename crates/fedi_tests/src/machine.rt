@@ -143,11 +143,6 @@ fn expect_sights(alloc: Global, core: &Machine) -> Result<(), Fail> {
     Ok(())
 }
 
-#[test]
-fn servers_see_what_their_members_may(rt: HostRuntime) -> Result<(), Fail> {
-    expect_machine(rt.alloc(), 0, &TOWN, Wanted::Sights)
-}
-
 /// The end of a keeper before it keeps the records of the example town without posts, which are 222 bytes, and each nine more: so
 /// it is then this much below its limit.
 fn end_below(room: u64) -> u64 {
@@ -203,7 +198,8 @@ fn make_eva(alloc: Global, core: &mut Machine) -> Result<(), CommandFault> {
 }
 
 #[test]
-fn a_keeper_may_be_full(rt: HostRuntime) -> Result<(), Fail> {
+fn servers_see_what_they_may_and_a_keeper_may_be_full(rt: HostRuntime) -> Result<(), Fail> {
+    expect_machine(rt.alloc(), 0, &TOWN, Wanted::Sights)?;
     for (room, wanted) in &ROOMS {
         expect_machine(rt.alloc(), end_below(*room), &MEMBERS, *wanted)?;
     }

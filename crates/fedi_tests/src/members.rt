@@ -147,14 +147,6 @@ fn has_drawn(
     ends(alloc, &case, status, printed, kept)
 }
 
-#[test]
-fn a_key_is_drawn_that_nobody_has(rt: HostRuntime) -> Result<(), Fail> {
-    for (number, row) in DRAWS.iter().enumerate() {
-        expect_at(has_drawn(rt.alloc(), row)?, row.0, number)?;
-    }
-    Ok(())
-}
-
 fn has_fault(
     alloc: Global,
     opening: u64,
@@ -171,7 +163,10 @@ fn has_fault(
 }
 
 #[test]
-fn a_member_is_kept_and_then_told(rt: HostRuntime) -> Result<(), Fail> {
+fn a_member_is_kept_under_a_drawn_key_and_then_told(rt: HostRuntime) -> Result<(), Fail> {
+    for (number, row) in DRAWS.iter().enumerate() {
+        expect_at(has_drawn(rt.alloc(), row)?, row.0, number)?;
+    }
     let opening = calls_of_an_opening(rt.alloc(), &MEMBERS)?;
     for (number, row) in FAULTS.iter().enumerate() {
         expect_at(has_fault(rt.alloc(), opening, row)?, "a fault", number)?;

@@ -42,15 +42,15 @@ fn expect_bytes(rt: &HostRuntime, path: &str, bytes: &[u8]) -> Result<(), Fail> 
     expect(found.as_slice() == bytes, path)
 }
 
-#[test]
-fn the_first_write_creates_the_file_for_its_owner(rt: HostRuntime) -> Result<(), Fail> {
+// The first write creates the file for its owner.
+fn expect_first_write(rt: &HostRuntime) -> Result<(), Fail> {
     let path = "created.disk";
-    let _ = fs::remove_file(&rt, path);
-    expect_created(&rt, &mut FileDisk::new(&rt, path), path)?;
-    expect_bytes(&rt, path, b"hellp me")?;
-    let mode = fs::metadata(&rt, path)?.permissions().mode();
+    let _ = fs::remove_file(rt, path);
+    expect_created(rt, &mut FileDisk::new(rt, path), path)?;
+    expect_bytes(rt, path, b"hellp me")?;
+    let mode = fs::metadata(rt, path)?.permissions().mode();
     expect(mode & 0o777 == 0o600, "for its owner alone")?;
-    fs::remove_file(&rt, path)?;
+    fs::remove_file(rt, path)?;
     Ok(())
 }
 
@@ -61,12 +61,12 @@ fn expect_refused<D: Disk + Drop>(first: D, second: &mut D) -> Result<(), Fail> 
     expect(was_first && second.len() == Ok(4), "two disks")
 }
 
-#[test]
-fn a_second_disk_is_refused_until_the_first_is_dropped(rt: HostRuntime) -> Result<(), Fail> {
+// A second disk is refused until the first is dropped.
+fn expect_one_disk(rt: &HostRuntime) -> Result<(), Fail> {
     let path = "shared.disk";
-    fs::write(&rt, path, "mine")?;
-    expect_refused(FileDisk::new(&rt, path), &mut FileDisk::new(&rt, path))?;
-    fs::remove_file(&rt, path)?;
+    fs::write(rt, path, "mine")?;
+    expect_refused(FileDisk::new(rt, path), &mut FileDisk::new(rt, path))?;
+    fs::remove_file(rt, path)?;
     Ok(())
 }
 
@@ -80,13 +80,13 @@ fn expect_one_creates<D: Disk + Drop>(first: D, second: &mut D) -> Result<(), Fa
     expect(was_first && is_refused, "two disks of no file")
 }
 
-#[test]
-fn of_two_disks_that_found_no_file_one_creates_it(rt: HostRuntime) -> Result<(), Fail> {
+// Of two disks that found no file one creates it.
+fn expect_one_creator(rt: &HostRuntime) -> Result<(), Fail> {
     let path = "raced.disk";
-    let _ = fs::remove_file(&rt, path);
-    expect_one_creates(FileDisk::new(&rt, path), &mut FileDisk::new(&rt, path))?;
-    expect_bytes(&rt, path, b"first")?;
-    fs::remove_file(&rt, path)?;
+    let _ = fs::remove_file(rt, path);
+    expect_one_creates(FileDisk::new(rt, path), &mut FileDisk::new(rt, path))?;
+    expect_bytes(rt, path, b"first")?;
+    fs::remove_file(rt, path)?;
     Ok(())
 }
 
@@ -101,7 +101,10 @@ fn expect_too_short(rt: &HostRuntime, path: &str) -> Result<(), Fail> {
 }
 
 #[test]
-fn a_folder_and_a_file_that_is_too_short_are_refused(rt: HostRuntime) -> Result<(), Fail> {
+fn a_file_is_a_disk_of_one_process(rt: HostRuntime) -> Result<(), Fail> {
+    expect_first_write(&rt)?;
+    expect_one_disk(&rt)?;
+    expect_one_creator(&rt)?;
     expect(is_refused(&mut FileDisk::new(&rt, ".")), "a folder")?;
     let path = "short.disk";
     fs::write(&rt, path, "four")?;
@@ -171,16 +174,16 @@ const KEPT: &[u8] =
     b"FEDIJRN1\x01\0\0\0\0\0\0\0\x03one\x01\0\0\0\0\0\0\0\0\x01\0\0\0\0\0\0\0\x05three\
     \x01\0\0\0\0\0\0\0\x04four\x01\0\0\0\0\0\0\0\x015\x01\0\0\0\0\0\0\0\0\0";
 
-#[test]
-fn records_outlive_the_disk(rt: HostRuntime) -> Result<(), Fail> {
+// Records outlive the disk.
+fn expect_kept(rt: &HostRuntime) -> Result<(), Fail> {
     let path = "kept.journal";
-    let _ = fs::remove_file(&rt, path);
-    expect(has_made(rt.alloc(), FileDisk::new(&rt, path)), path)?;
+    let _ = fs::remove_file(rt, path);
+    expect(has_made(rt.alloc(), FileDisk::new(rt, path)), path)?;
     for row in &OPENINGS {
-        expect_opened(rt.alloc(), FileDisk::new(&rt, path), row.0, row.1)?;
+        expect_opened(rt.alloc(), FileDisk::new(rt, path), row.0, row.1)?;
     }
-    expect_bytes(&rt, path, KEPT)?;
-    fs::remove_file(&rt, path)?;
+    expect_bytes(rt, path, KEPT)?;
+    fs::remove_file(rt, path)?;
     Ok(())
 }
 
@@ -198,20 +201,22 @@ fn refusal<D: Disk + Drop>(alloc: Global, disk: D) -> Option<InitFault> {
     }
 }
 
-#[test]
-fn a_file_of_another_kind_is_no_store(rt: HostRuntime) -> Result<(), Fail> {
+// A file of another kind is no store, and stays as it is.
+fn expect_no_store(rt: &HostRuntime) -> Result<(), Fail> {
     let path = "other.journal";
-    fs::write(&rt, path, "whatever else")?;
-    expect(is_no_store(rt.alloc(), FileDisk::new(&rt, path)), path)?;
-    let refusal = refusal(rt.alloc(), FileDisk::new(&rt, path));
+    fs::write(rt, path, "whatever else")?;
+    expect(is_no_store(rt.alloc(), FileDisk::new(rt, path)), path)?;
+    let refusal = refusal(rt.alloc(), FileDisk::new(rt, path));
     expect(refusal == Some(InitFault::Exists), "it exists")?;
-    expect_bytes(&rt, path, b"whatever else")?;
-    fs::remove_file(&rt, path)?;
+    expect_bytes(rt, path, b"whatever else")?;
+    fs::remove_file(rt, path)?;
     Ok(())
 }
 
 #[test]
-fn a_missing_file_is_no_store_and_stays_missing(rt: HostRuntime) -> Result<(), Fail> {
+fn a_file_keeps_the_records_of_a_journal(rt: HostRuntime) -> Result<(), Fail> {
+    expect_kept(&rt)?;
+    expect_no_store(&rt)?;
     for path in ["missing.journal", "missing/below.journal"] {
         expect(is_no_store(rt.alloc(), FileDisk::new(&rt, path)), path)?;
         expect(!fs::exists(&rt, path)?, path)?;

@@ -16,12 +16,6 @@ fn refusal_text(alloc: Global) -> Result<Vec<u8>, AllocError> {
     reply_bytes(alloc, &reply, Moment::clamped(784_111_777), false, true)
 }
 
-#[test]
-fn a_refusal_is_written(rt: HostRuntime) -> Result<(), Fail> {
-    let text = refusal_text(rt.alloc())?;
-    expect(text.as_slice() == REFUSAL.as_bytes(), REFUSAL)
-}
-
 // Appends the target and the body.
 fn push_request(text: &mut Vec<u8>, request: &Request, body: &[u8]) -> Result<(), AllocError> {
     text.extend_from_slice(request.target.bytes())?;
@@ -182,16 +176,6 @@ fn expect_in_pieces(alloc: Global, row: &(&str, &str), size: usize) -> Result<()
     expect_arrivals(alloc, row.0, in_two, wanted)
 }
 
-#[test]
-fn requests_arrive_in_any_pieces(rt: HostRuntime) -> Result<(), Fail> {
-    for row in &STREAMS {
-        for size in 1..row.0.len() + 2 {
-            expect_in_pieces(rt.alloc(), row, size)?;
-        }
-    }
-    Ok(())
-}
-
 /// Two requests, the second of them in chunks.
 const TWO: &str =
     "POST /a HTTP/1.1\nHost: a\nContent-Length: 2\n\nhiPOST /b HTTP/1.1\nHost: a\nTransfer-Encoding: chunked\n\n2;x\r\nho\r\n0\r\nA: b\r\n\r\n";
@@ -206,7 +190,14 @@ fn wanted_up_to(fails: usize) -> &'static [u8] {
 }
 
 #[test]
-fn a_failed_read_is_told(rt: HostRuntime) -> Result<(), Fail> {
+fn requests_arrive_in_any_pieces_until_a_read_fails(rt: HostRuntime) -> Result<(), Fail> {
+    let text = refusal_text(rt.alloc())?;
+    expect(text.as_slice() == REFUSAL.as_bytes(), REFUSAL)?;
+    for row in &STREAMS {
+        for size in 1..row.0.len() + 2 {
+            expect_in_pieces(rt.alloc(), row, size)?;
+        }
+    }
     for fails in 0..TWO.len() {
         let cutting = Cutting {
             fails: fails as u64,
