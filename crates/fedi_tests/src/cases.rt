@@ -68,7 +68,8 @@ pub fn inetd<'a>(records: &'a [&'a [u8]], input: &'a [&'a str]) -> Case<'a> {
     }
 }
 
-/// The arguments of a command line, which is the program's name, and the arguments, each behind a space. The error is out of memory.
+/// The arguments of a command line, which is the program's name, and the arguments, each behind a
+/// space. The error is out of memory.
 pub fn arguments_of(alloc: Global, line: &str) -> Result<Vec<String>, AllocError> {
     let mut arguments = Vec::new(alloc);
     for word in line.split(' ').skip(1) {

@@ -8,7 +8,8 @@ use fedi_outside::{
 use std::alloc::Global;
 use std::test::Fail;
 
-// Reads three bytes at once until the end of the input, and returns how long each read was. A read that failed counts as 9.
+// Reads three bytes at once until the end of the input, and returns how long each read was. A read
+// that failed counts as 9.
 fn lengths<S: Source>(alloc: Global, source: &mut S) -> Result<Vec<usize>, Fail> {
     let mut into = [0; 3];
     let mut lengths = Vec::new(alloc);
@@ -70,7 +71,8 @@ fn expect_taken(alloc: Global) -> Result<(), Fail> {
     )
 }
 
-// Adds each payload, however often the keeper fails, and says whether each is loaded again, and none behind the last.
+// Adds each payload, however often the keeper fails, and says whether each is loaded again, and
+// none behind the last.
 fn keeps<K: Keeper>(alloc: Global, keeper: &mut K, payloads: &[&[u8]]) -> Result<bool, Fail> {
     for payload in payloads {
         for _ in 0..9 {

@@ -7,7 +7,7 @@ use fedi_outside::{Keeper, MemoryDisk};
 use std::alloc::{AllocError, Global};
 use std::test::Fail;
 
-/// What a disk is found to be: the records of a journal, each behind a bar, or a fault.
+/// What a disk is found to be: the records of a journal, each after a bar, or a fault.
 pub fn found_in(alloc: Global, disk: MemoryDisk) -> Result<String, Fail> {
     let mut text = String::new(alloc);
     let mut opened = Journal::open(alloc, disk);

@@ -30,8 +30,8 @@ const PSST: &str =
 
 const NOT_FOUND: &str = "{\"error\":\"NotFound\"}";
 
-/// Callers that no request to the example town has: who asks for an object of ana's, its number, and the
-/// body of the reply.
+/// Callers that no request to the example town has: who asks for an object of ana's, its number,
+/// and the body of the reply.
 const CALLERS: [(&str, u32, &str); 6] = [
     ("eve", 1, HELLO),
     ("far.example", 1, HELLO),
@@ -93,8 +93,8 @@ fn expect_over(alloc: Global, mut keeper: MemoryKeeper, wanted: Wanted) -> Resul
     expect_opened(alloc, &mut opened, wanted)
 }
 
-/// Fails unless that is so of the machine over a keeper of these records, whose end was this before it kept them. It is made here
-/// alone, and lent.
+/// Fails unless that is so of the machine over a keeper of these records, whose end was this before
+/// it kept them. It is made here alone, and lent.
 fn expect_machine(alloc: Global, end: u64, records: &[&[u8]], wanted: Wanted) -> Result<(), Fail> {
     let mut keeper = MemoryKeeper::at(alloc, end);
     keep_all(&mut keeper, records)?;
@@ -143,8 +143,8 @@ fn expect_sights(alloc: Global, core: &Machine) -> Result<(), Fail> {
     Ok(())
 }
 
-/// The end of a keeper before it keeps the records of the example town without posts, which are 222 bytes, and each nine more: so
-/// it is then this much below its limit.
+/// The end of a keeper before it keeps the records of the example town without posts, which are 222
+/// bytes, and each nine more: so it is then this much below its limit.
 fn end_below(room: u64) -> u64 {
     (1 << 62) - 267 - room.min(1_000)
 }
@@ -170,8 +170,8 @@ fn replies(alloc: Global, core: &mut Machine, wanted: &[&str]) -> Result<bool, A
 const FULL: &str =
     "HTTP/1.1 500 Internal Server Error\r\nDate: Sun, 06 Nov 1994 08:49:37 GMT\r\nContent-Type: application/json\r\nContent-Length: 23\r\n\r\n{\"error\":\"JournalFull\"}";
 
-/// How far below its limit the end of a keeper is, and what is then wanted. The record of a post has 199 bytes and that of eva's making
-/// 49, which need ten more.
+/// How far below its limit the end of a keeper is, and what is then wanted. The record of a post
+/// has 199 bytes and that of eva's making 49, which need ten more.
 const ROOMS: [(u64, Wanted<'static>); 5] = [
     (10, Wanted::Replies(&[FULL, FULL])),
     (208, Wanted::Replies(&[FULL, FULL])),

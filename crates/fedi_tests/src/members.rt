@@ -8,7 +8,8 @@ use crate::store_files::{has_records, records_of};
 use std::alloc::{AllocError, Global};
 use std::test::Fail;
 
-/// A run of this command line over the example town without posts, whose writes take six bytes at most.
+/// A run of this command line over the example town without posts, whose writes take six bytes at
+/// most.
 fn making(line: &str) -> Case<'_> {
     Case {
         write_limit: 6,
@@ -16,7 +17,8 @@ fn making(line: &str) -> Case<'_> {
     }
 }
 
-/// The record of eva's making: her name, the digest of the key, whether she is locked, and the moment.
+/// The record of eva's making: her name, the digest of the key, whether she is locked, and the
+/// moment.
 const UNLOCKED: &[u8] =
     b"\x02\0\0\0\x03eva\x73\x33\x7f\x47\x9f\xe1\x70\xd7\x3e\x53\xe2\x47\xf3\x05\x2e\x42\x43\xcc\x9c\x2a\x0f\xfa\x62\x18\x53\xd9\x38\x5c\x61\x9e\xfb\x77\0\0\0\0\0\x2e\xbc\x98\xa1";
 
@@ -34,8 +36,8 @@ const ANAS_KEY: &[u8] = &[0; 32];
 
 const TOO_FEW: &[u8] = &[0; 31];
 
-/// The command line, how much of the example town there is, the bytes that keys are drawn from, which draws fail, and the status, what is
-/// printed, and the record that is kept.
+/// The command line, how much of the example town there is, the bytes that keys are drawn from,
+/// which draws fail, and the status, what is printed, and the record that is kept.
 const DRAWS: [(&str, usize, &[u8], &[u64], u8, &str, &[u8]); 9] = [
     (
         "fedi add-actor s eva",
@@ -76,8 +78,8 @@ const DRAWS: [(&str, usize, &[u8], &[u64], u8, &str, &[u8]); 9] = [
     ("fedi add-actor s eva", 5, KEY, &[0], 6, "", NOTHING),
 ];
 
-/// Which calls of the disk fail, counted from the append's first, which are four, and which writes, and
-/// the status, what is printed, and the record that is kept.
+/// Which calls of the disk fail, counted from the append's first, which are four, and which writes,
+/// and the status, what is printed, and the record that is kept.
 const FAULTS: [(&[u64], &[u64], u8, &str, &[u8]); 8] = [
     (&[0], &[], 5, "disk fault\n", NOTHING),
     (&[1], &[], 5, "disk fault\n", NOTHING),

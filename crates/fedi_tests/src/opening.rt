@@ -106,7 +106,8 @@ fn answers<K: Keeper>(
     }
 }
 
-// Fails with the text of the row unless an opening of the keeper answers so. A shelf is made here alone, and lent.
+// Fails with the text of the row unless an opening of the keeper answers so. A shelf is made here
+// alone, and lent.
 fn expect_open<K: Keeper>(
     alloc: Global,
     row: &str,

@@ -1,5 +1,5 @@
-//! Connections over the example town, in memory: reads and writes that fail, inputs that are cut, and
-//! the dates of replies.
+//! Connections over the example town, in memory: reads and writes that fail, inputs that are cut,
+//! and the dates of replies.
 
 use crate::cases::{Case, calm, inetd};
 use crate::example::{MEMBERS, TOWN};
@@ -68,8 +68,8 @@ const READ: &str = "GET / HTTP/1.1\r\nHost: a\r\n\r\n";
 const NOT_FOUND: &str =
     "HTTP/1.1 404 Not Found\r\nDate: Sun, 06 Nov 1994 08:49:37 GMT\r\nContent-Type: application/json\r\nContent-Length: 20\r\n\r\n{\"error\":\"NotFound\"}";
 
-/// Whether the run ends where this read fails, each of one byte of two requests: those before it are
-/// answered.
+/// Whether the run ends where this read fails, each of one byte of two requests: those before it
+/// are answered.
 fn ends_at_read(alloc: Global, call: usize) -> Result<bool, AllocError> {
     let case = Case {
         in_bytes: true,

@@ -113,7 +113,7 @@ fn a_file_is_a_disk_of_one_process(rt: HostRuntime) -> Result<(), Fail> {
     Ok(())
 }
 
-// Appends the records of a keeper, each behind a bar.
+// Appends the records of a keeper, each after a bar.
 fn push_records<K: Keeper>(alloc: Global, text: &mut Vec<u8>, keeper: &mut K) -> Result<(), Fail> {
     for place in 0..keeper.count() {
         text.extend_from_slice(b"|")?;

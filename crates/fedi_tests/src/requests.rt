@@ -77,7 +77,8 @@ fn push_arrivals(
     Ok(())
 }
 
-/// How the bytes come: the first piece has so many, and the others have this size, or all of the rest. This read fails.
+/// How the bytes come: the first piece has so many, and the others have this size, or all of the
+/// rest. This read fails.
 #[derive(Clone, Copy)]
 struct Cutting {
     first: usize,
@@ -141,7 +142,8 @@ const STREAMS: [(&str, &str); 8] = [
         "/a \n\n\n; /b ; CutShort",
     ),
     ("GET / HTTP/1.1\nHost: a\n\nGET /\n\nx", "/ ; BadHead"),
-    // Bodies in chunks, with extensions and trailers, and what follows them (RFC 9112, section 7.1).
+    // Bodies in chunks, with extensions and trailers, and what follows them (RFC 9112, section
+    // 7.1).
     (
         "PUT /a HTTP/1.1\nHost: a\nTransfer-Encoding: chunked\n\n3;x\r\nabc\r\n0A \t;y=\"z\"\r\n0123456789\r\n0;z\r\nA: b\r\nC:d\n\nGET /b HTTP/1.0\n\n",
         "/a abc0123456789; /b ; End",

@@ -6,7 +6,8 @@ use fedi_outside::{FixedClock, MemoryDisk, MemoryEntropy, MemorySink, MemorySour
 use fedi_program::{Connection, run};
 use std::alloc::{AllocError, Global};
 
-/// What a run left: its status, what it wrote, the bytes of the disk, and how many calls that was asked.
+/// What a run left: its status, what it wrote, the bytes of the disk, and how many calls that was
+/// asked.
 #[derive(Drop)]
 pub struct Left {
     pub status: u8,
@@ -62,8 +63,8 @@ pub fn are_texts(bytes: &[u8], texts: &[&str]) -> bool {
     rest.is_empty()
 }
 
-/// Whether the run ends with this status, writes these texts, and leaves a store of the records that it began with and so
-/// many more. The error is out of memory.
+/// Whether the run ends with this status, writes these texts, and leaves a store of the records
+/// that it began with and so many more. The error is out of memory.
 pub fn ends(
     alloc: Global,
     case: &Case,
@@ -79,8 +80,8 @@ pub fn ends(
     )
 }
 
-/// How many calls of the disk the opening of a store of these records takes: as many as a run that counts
-/// it. The error is out of memory.
+/// How many calls of the disk the opening of a store of these records takes: as many as a run that
+/// counts it. The error is out of memory.
 pub fn calls_of_an_opening(alloc: Global, records: &[&[u8]]) -> Result<u64, AllocError> {
     let left = left_by(alloc, &calm("fedi check s", records))?;
     Ok(left.calls)

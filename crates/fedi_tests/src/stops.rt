@@ -90,8 +90,8 @@ fn expect_appended(alloc: Global) -> Result<(), Fail> {
 // A file of one record, with something behind its closed gate.
 const ONE: &[u8] = b"FEDIJRN1\x01\0\0\0\0\0\0\0\x03one\0\x01 left of others";
 
-// What an image is found to hold after a crash at this call, if the opening takes so many and the append
-// the next four: what was acknowledged, and all or nothing of the record of the append.
+// What an image is found to hold after a crash at this call, if the opening takes so many and the
+// append the next four: what was acknowledged, and all or nothing of the record of the append.
 fn expect_image(alloc: Global, image: &[u8], opening: u64, stop: u64) -> Result<(), Fail> {
     let found = found(alloc, image)?;
     let before = found.as_str() == "|one";

@@ -4,8 +4,8 @@ use fedi_journal::Journal;
 use fedi_outside::{Keeper, MemoryDisk};
 use std::alloc::{AllocError, Global};
 
-/// The bytes of a store of these records: the magic, each record behind an open gate and its length in eight bytes, and a
-/// closed gate. The error is out of memory.
+/// The bytes of a store of these records: the magic, each record after an open gate and its length
+/// in eight bytes, and a closed gate. The error is out of memory.
 pub fn store_of(alloc: Global, records: &[&[u8]]) -> Result<Vec<u8>, AllocError> {
     let mut bytes = Vec::from_slice(alloc, b"FEDIJRN1")?;
     for record in records {
@@ -33,7 +33,8 @@ fn load_all<K: Keeper>(alloc: Global, keeper: &mut K) -> Result<Option<Vec<Vec<u
     Ok(Some(records))
 }
 
-/// The records of the journal with these bytes, or none if they are no journal. The error is out of memory.
+/// The records of the journal with these bytes, or none if they are no journal. The error is out of
+/// memory.
 pub fn records_of(alloc: Global, bytes: &[u8]) -> Result<Option<Vec<Vec<u8>>>, AllocError> {
     match Journal::open(alloc, disk_of(alloc, bytes)?) {
         Ok(mut journal) => load_all(alloc, &mut journal),
@@ -41,7 +42,8 @@ pub fn records_of(alloc: Global, bytes: &[u8]) -> Result<Option<Vec<Vec<u8>>>, A
     }
 }
 
-/// Whether the journal with these bytes has these records and so many more behind them. The error is out of memory.
+/// Whether the journal with these bytes has these records and so many more after them. The error
+/// is out of memory.
 pub fn has_records(
     alloc: Global,
     bytes: &[u8],

@@ -14,7 +14,8 @@ const CLUB: &[u8] =
 
 const MADE: &str = "made club.example\n";
 
-/// Whether a run over a disk with these bytes ends with this status, prints this, and leaves these bytes.
+/// Whether a run over a disk with these bytes ends with this status, prints this, and leaves these
+/// bytes.
 fn is_left(
     alloc: Global,
     case: &Case,
@@ -48,7 +49,8 @@ fn making(bytes: &[u8]) -> Case<'_> {
     }
 }
 
-/// Whether a making that left this told of its disk, and whether the next one ends with this status.
+/// Whether a making that left this told of its disk, and whether the next one ends with this
+/// status.
 fn is_made_after(alloc: Global, left: &Left, status: u8) -> Result<bool, AllocError> {
     let printed = if status == 0 { MADE } else { "exists\n" };
     let is_told = left.status == 5 && are_texts(&left.out, &["disk fault\n"]);
@@ -66,8 +68,8 @@ fn is_made_again(alloc: Global, call: u64, stop: u64, status: u8) -> Result<bool
     is_made_after(alloc, &left, status)
 }
 
-/// The call that fails in the making of a store, and the status of the next making: the size, the journal with its sync, and the four
-/// calls of an append. At the last one the store is there.
+/// The call that fails in the making of a store, and the status of the next making: the size, the
+/// journal with its sync, and the four calls of an append. At the last one the store is there.
 const MAKINGS: [(usize, u8); 7] = [(0, 0), (1, 0), (2, 0), (3, 0), (4, 0), (5, 0), (6, 9)];
 
 fn expect_made_again(alloc: Global, call: usize, status: u8) -> Result<(), Fail> {
@@ -90,8 +92,8 @@ fn stores_are_counted_and_made_also_after_a_disk_that_failed(rt: HostRuntime) ->
     Ok(())
 }
 
-/// Whether the opening of a store of the example town without posts, whose disk fails at this call, ends
-/// at it.
+/// Whether the opening of a store of the example town without posts, whose disk fails at this call,
+/// ends at it.
 fn is_not_opened(alloc: Global, line: &str, call: u64, printed: &str) -> Result<bool, AllocError> {
     let case = Case {
         failing_calls: &[call],
@@ -131,9 +133,9 @@ fn each_call_of_an_opening_may_fail(rt: HostRuntime) -> Result<(), Fail> {
 const FAULT: &str =
     "HTTP/1.1 503 Service Unavailable\r\nDate: Sun, 06 Nov 1994 08:49:37 GMT\r\nContent-Type: application/json\r\nContent-Length: 23\r\n\r\n{\"error\":\"KeeperFault\"}";
 
-/// Which calls of the disk fail, counted from the first after the opening, the replies to two posts, and
-/// how many records the disk has more. An append writes a record, syncs, opens its gate and syncs again,
-/// and a settling closes a gate and syncs.
+/// Which calls of the disk fail, counted from the first after the opening, the replies to two
+/// posts, and how many records the disk has more. An append writes a record, syncs, opens its gate
+/// and syncs again, and a settling closes a gate and syncs.
 const DISKS: [(&[u64], &[&str], usize); 13] = [
     (&[], &[FIRST, SECOND], 2),
     (&[0], &[FAULT, FIRST], 1),
@@ -182,8 +184,8 @@ const WITHOUT: &str = "entries 5 actors 4 activities 0\n";
 
 const WITH: &str = "entries 6 actors 4 activities 1\n";
 
-/// From which call on the disk of a post stops, counted from the first of its append, the byte that a
-/// crash leaves at the gate, if it is another than is read, and what is counted then.
+/// From which call on the disk of a post stops, counted from the first of its append, the byte that
+/// a crash leaves at the gate, if it is another than is read, and what is counted then.
 const STOPS: [(u64, Option<u8>, &str); 7] = [
     (0, None, WITHOUT),
     (1, None, WITHOUT),
