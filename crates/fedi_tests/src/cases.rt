@@ -1,6 +1,6 @@
 //! What runs begin with.
 
-use crate::files::{disk_of, store_of};
+use crate::store_files::{disk_of, store_of};
 use fedi_outside::{FixedClock, MemoryDisk, MemoryEntropy, MemorySink, MemorySource};
 use fedi_program::Connection;
 use std::alloc::{AllocError, Global};
@@ -68,7 +68,8 @@ pub fn inetd<'a>(records: &'a [&'a [u8]], input: &'a [&'a str]) -> Case<'a> {
     }
 }
 
-/// The arguments of a command line, which is the program's name, and the arguments, each behind a space. The error is out of memory.
+/// The arguments of a command line, which is the program's name, and the arguments, each behind a
+/// space. The error is out of memory.
 pub fn arguments_of(alloc: Global, line: &str) -> Result<Vec<String>, AllocError> {
     let mut arguments = Vec::new(alloc);
     for word in line.split(' ').skip(1) {

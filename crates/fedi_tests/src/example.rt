@@ -1,7 +1,7 @@
-//! The example town, by its records, which were worked by hand from the format of entries: `club.example` with its members
-//! ana, ben, cleo and dan, who is locked, and ana's two posts, one to everybody and one to ben alone. All of it happened at
-//! 1994-11-06T08:49:37Z. The keys of the members are 32 bytes 0, 1, 2 and 3, and their records have the SHA-256 digests of
-//! these.
+//! The example town, by its records, which were worked by hand from the format of entries:
+//! `club.example` with its members ana, ben, cleo and dan, who is locked, and ana's two posts, one
+//! to everybody and one to ben alone. All of it happened at 1994-11-06T08:49:37Z. The keys of the
+//! members are 32 bytes 0, 1, 2 and 3, and their records have the SHA-256 digests of these.
 
 /// The server was set up for club.example.
 pub const HOSTED: &[u8] = b"\

@@ -1,47 +1,70 @@
-//! Tests of whole runs of the program: that calls succeed with ample memory, and what outside
-//! vectors and worked texts want.
+//! Tests of what no contract says: that calls succeed with ample memory, what outside vectors and
+//! worked texts want, and what happens if what lies outside fails or stops. Whole conversations at
+//! which nothing fails are scenes, as in `scenes/`.
 //!
 //! Values are made in helper functions, and lent, and a test fails with the text of the row that
 //! does not hold. Tests call the program in `runs` and nowhere else.
 #![tactic(auto)]
 
-// Whole runs over what lies in memory, and the example town.
 #[cfg(test)]
-mod arguments;
+mod rows;
+
+// What lies outside: doubles in memory, real streams, and real files as disks and as journals.
 #[cfg(test)]
-mod cases;
+mod devices;
 #[cfg(test)]
-mod example;
-#[cfg(test)]
-mod files;
-#[cfg(test)]
-mod machine;
-#[cfg(test)]
-mod members;
+mod doubles;
 #[cfg(test)]
 mod outside;
 #[cfg(test)]
-mod program;
+mod real_files;
+
+// Words: moments, addresses, keys, posts and entries.
 #[cfg(test)]
-mod rows;
+mod address;
+#[cfg(test)]
+mod entries;
+#[cfg(test)]
+mod mac;
+#[cfg(test)]
+mod moments;
+#[cfg(test)]
+mod reading;
+
+// Requests and replies as clients write and read them.
+#[cfg(test)]
+mod requests;
+#[cfg(test)]
+mod routes;
+
+// Journals in memory: files written by hand, and disks that stop or fail at each call.
+#[cfg(test)]
+mod images;
+#[cfg(test)]
+mod journals;
+#[cfg(test)]
+mod stops;
+#[cfg(test)]
+mod store_files;
+
+// Histories and machines over keepers in memory.
+#[cfg(test)]
+mod example;
+#[cfg(test)]
+mod machine;
+#[cfg(test)]
+mod opening;
+#[cfg(test)]
+mod records;
+
+// Whole runs over what lies in memory.
+#[cfg(test)]
+mod cases;
+#[cfg(test)]
+mod members;
+#[cfg(test)]
+mod program;
 #[cfg(test)]
 mod runs;
 #[cfg(test)]
 mod stores;
-
-// Scenes of members who follow, like, change, delete and block, and of what their collections then
-// hold.
-#[cfg(test)]
-mod collections;
-#[cfg(test)]
-mod rules;
-#[cfg(test)]
-mod scenes;
-
-// Collections of each length, and what each reader sees of them.
-#[cfg(test)]
-mod lengths;
-#[cfg(test)]
-mod readers;
-#[cfg(test)]
-mod towns;

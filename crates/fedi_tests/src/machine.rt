@@ -2,7 +2,7 @@
 
 use crate::cases::SECONDS;
 use crate::example::{MEMBERS, TOWN};
-use crate::program::{FIRST, HELLO_LAST, NOT_FOUND_LAST, NOTE, PSST_LAST};
+use crate::program::{FIRST, NOTE};
 use crate::rows::expect;
 use crate::runs::are_texts;
 use fedi_address::{Host, LocalName};
@@ -21,15 +21,24 @@ use std::test::Fail;
 
 type Machine = Core<PlainShelf, MemoryKeeper>;
 
-/// Callers that no request to the example town has: who asks for an object of ana's, its number, and the whole reply
-/// to a member that may see as much.
+/// The bodies of the replies to readings of ana's first object and of her second, and of nothing.
+const HELLO: &str =
+    "{\"@context\":\"https://www.w3.org/ns/activitystreams\",\"attributedTo\":\"https://club.example/users/ana\",\"content\":\"Hello\",\"id\":\"https://club.example/users/ana/o/1\",\"likes\":\"https://club.example/users/ana/o/1/likes\",\"published\":\"1994-11-06T08:49:37Z\",\"shares\":\"https://club.example/users/ana/o/1/shares\",\"to\":[\"https://www.w3.org/ns/activitystreams#Public\"],\"type\":\"Note\"}";
+
+const PSST: &str =
+    "{\"@context\":\"https://www.w3.org/ns/activitystreams\",\"attributedTo\":\"https://club.example/users/ana\",\"content\":\"Psst\",\"id\":\"https://club.example/users/ana/o/2\",\"likes\":\"https://club.example/users/ana/o/2/likes\",\"published\":\"1994-11-06T08:49:37Z\",\"shares\":\"https://club.example/users/ana/o/2/shares\",\"type\":\"Note\"}";
+
+const NOT_FOUND: &str = "{\"error\":\"NotFound\"}";
+
+/// Callers that no request to the example town has: who asks for an object of ana's, its number,
+/// and the body of the reply.
 const CALLERS: [(&str, u32, &str); 6] = [
-    ("eve", 1, HELLO_LAST),
-    ("far.example", 1, HELLO_LAST),
-    ("club.example", 2, PSST_LAST),
-    ("eve", 2, NOT_FOUND_LAST),
-    ("far.example", 2, NOT_FOUND_LAST),
-    ("far.example", 4_294_967_295, NOT_FOUND_LAST),
+    ("eve", 1, HELLO),
+    ("far.example", 1, HELLO),
+    ("club.example", 2, PSST),
+    ("eve", 2, NOT_FOUND),
+    ("far.example", 2, NOT_FOUND),
+    ("far.example", 4_294_967_295, NOT_FOUND),
 ];
 
 fn keep<K: Keeper>(keeper: &mut K, record: &[u8]) -> Result<(), Fail> {
@@ -84,8 +93,8 @@ fn expect_over(alloc: Global, mut keeper: MemoryKeeper, wanted: Wanted) -> Resul
     expect_opened(alloc, &mut opened, wanted)
 }
 
-/// Fails unless that is so of the machine over a keeper of these records, whose end was this before it kept them. It is made here
-/// alone, and lent.
+/// Fails unless that is so of the machine over a keeper of these records, whose end was this before
+/// it kept them. It is made here alone, and lent.
 fn expect_machine(alloc: Global, end: u64, records: &[&[u8]], wanted: Wanted) -> Result<(), Fail> {
     let mut keeper = MemoryKeeper::at(alloc, end);
     keep_all(&mut keeper, records)?;
@@ -100,14 +109,9 @@ fn caller_of(alloc: Global, who: &str) -> Result<Caller, Fail> {
     Ok(Caller::Peer(Host::parse(alloc, who)?))
 }
 
-/// Whether this is the body of the reply, which has one brace that opens.
-fn is_body_of(body: &[u8], reply: &str) -> bool {
-    body.starts_with(b"{") && reply.as_bytes().ends_with(body)
-}
-
 fn is_decided(decision: &Result<Decision, AllocError>, wanted: &str) -> bool {
     match decision {
-        Ok(decision) => is_body_of(decision.reply.body.bytes(), wanted),
+        Ok(decision) => decision.reply.body.bytes() == wanted.as_bytes(),
         Err(_) => false,
     }
 }
@@ -139,13 +143,8 @@ fn expect_sights(alloc: Global, core: &Machine) -> Result<(), Fail> {
     Ok(())
 }
 
-#[test]
-fn servers_see_what_their_members_may(rt: HostRuntime) -> Result<(), Fail> {
-    expect_machine(rt.alloc(), 0, &TOWN, Wanted::Sights)
-}
-
-/// The end of a keeper before it keeps the records of the example town without posts, which are 222 bytes, and each nine more: so
-/// it is then this much below its limit.
+/// The end of a keeper before it keeps the records of the example town without posts, which are 222
+/// bytes, and each nine more: so it is then this much below its limit.
 fn end_below(room: u64) -> u64 {
     (1 << 62) - 267 - room.min(1_000)
 }
@@ -171,8 +170,8 @@ fn replies(alloc: Global, core: &mut Machine, wanted: &[&str]) -> Result<bool, A
 const FULL: &str =
     "HTTP/1.1 500 Internal Server Error\r\nDate: Sun, 06 Nov 1994 08:49:37 GMT\r\nContent-Type: application/json\r\nContent-Length: 23\r\n\r\n{\"error\":\"JournalFull\"}";
 
-/// How far below its limit the end of a keeper is, and what is then wanted. The record of a post has 199 bytes and that of eva's making
-/// 49, which need ten more.
+/// How far below its limit the end of a keeper is, and what is then wanted. The record of a post
+/// has 199 bytes and that of eva's making 49, which need ten more.
 const ROOMS: [(u64, Wanted<'static>); 5] = [
     (10, Wanted::Replies(&[FULL, FULL])),
     (208, Wanted::Replies(&[FULL, FULL])),
@@ -199,7 +198,8 @@ fn make_eva(alloc: Global, core: &mut Machine) -> Result<(), CommandFault> {
 }
 
 #[test]
-fn a_keeper_may_be_full(rt: HostRuntime) -> Result<(), Fail> {
+fn servers_see_what_they_may_and_a_keeper_may_be_full(rt: HostRuntime) -> Result<(), Fail> {
+    expect_machine(rt.alloc(), 0, &TOWN, Wanted::Sights)?;
     for (room, wanted) in &ROOMS {
         expect_machine(rt.alloc(), end_below(*room), &MEMBERS, *wanted)?;
     }

@@ -2,14 +2,14 @@
 
 use crate::cases::{Case, KEY, calm};
 use crate::example::{MEMBERS, TOWN};
-use crate::files::{has_records, records_of};
-use crate::program::USAGE;
-use crate::rows::{expect, expect_at};
-use crate::runs::{are_texts, left_by};
+use crate::rows::expect_at;
+use crate::runs::{are_texts, calls_after, calls_of_an_opening, left_by};
+use crate::store_files::{has_records, records_of};
 use std::alloc::{AllocError, Global};
 use std::test::Fail;
 
-/// A run of this command line over the example town without posts, whose writes take six bytes at most.
+/// A run of this command line over the example town without posts, whose writes take six bytes at
+/// most.
 fn making(line: &str) -> Case<'_> {
     Case {
         write_limit: 6,
@@ -17,7 +17,8 @@ fn making(line: &str) -> Case<'_> {
     }
 }
 
-/// The record of eva's making: her name, the digest of the key, whether she is locked, and the moment.
+/// The record of eva's making: her name, the digest of the key, whether she is locked, and the
+/// moment.
 const UNLOCKED: &[u8] =
     b"\x02\0\0\0\x03eva\x73\x33\x7f\x47\x9f\xe1\x70\xd7\x3e\x53\xe2\x47\xf3\x05\x2e\x42\x43\xcc\x9c\x2a\x0f\xfa\x62\x18\x53\xd9\x38\x5c\x61\x9e\xfb\x77\0\0\0\0\0\x2e\xbc\x98\xa1";
 
@@ -30,35 +31,14 @@ pub const EVA: &str = "eva 303132333435363738396162636465666768696a6b6c6d6e6f707
 /// No record.
 const NOTHING: &[u8] = &[];
 
-/// The command line, and the status, what is printed, and the record that is kept.
-const WORDS: [(&str, u8, &str, &[u8]); 17] = [
-    ("fedi add-actor s eva", 0, EVA, UNLOCKED),
-    ("fedi add-actor --locked s eva", 0, EVA, LOCKED),
-    ("fedi add-actor s --locked eva", 0, EVA, LOCKED),
-    ("fedi add-actor s eva --locked", 0, EVA, LOCKED),
-    ("fedi add-actor", 2, USAGE, NOTHING),
-    ("fedi add-actor s", 2, USAGE, NOTHING),
-    ("fedi add-actor s --locked", 2, USAGE, NOTHING),
-    ("fedi add-actor s a b", 2, USAGE, NOTHING),
-    ("fedi add-actor --locked --locked s x", 2, USAGE, NOTHING),
-    ("fedi add-actor --locked s x --locked", 2, USAGE, NOTHING),
-    ("fedi add-actor s x --lock", 2, USAGE, NOTHING),
-    ("fedi add-actor -- s x", 2, USAGE, NOTHING),
-    ("fedi add-actor -s x", 2, USAGE, NOTHING),
-    ("fedi fly s", 2, USAGE, NOTHING),
-    ("fedi add-actor s Ana", 10, "refused: bad name\n", NOTHING),
-    ("fedi add-actor s ", 10, "refused: bad name\n", NOTHING),
-    ("fedi add-actor s ana", 10, "refused: name taken\n", NOTHING),
-];
-
 /// Ana's key, and too few bytes for one.
 const ANAS_KEY: &[u8] = &[0; 32];
 
 const TOO_FEW: &[u8] = &[0; 31];
 
-/// The command line, how much of the example town there is, the bytes that keys are drawn from, which draws fail, and the status, what is
-/// printed, and the record that is kept.
-const DRAWS: [(&str, usize, &[u8], &[u64], u8, &str, &[u8]); 8] = [
+/// The command line, how much of the example town there is, the bytes that keys are drawn from,
+/// which draws fail, and the status, what is printed, and the record that is kept.
+const DRAWS: [(&str, usize, &[u8], &[u64], u8, &str, &[u8]); 9] = [
     (
         "fedi add-actor s eva",
         5,
@@ -93,52 +73,24 @@ const DRAWS: [(&str, usize, &[u8], &[u64], u8, &str, &[u8]); 8] = [
     // The host alone is enough, and members may have gone before.
     ("fedi add-actor s eva", 1, KEY, &[], 0, EVA, UNLOCKED),
     ("fedi add-actor s eva", 7, KEY, &[], 0, EVA, UNLOCKED),
+    ("fedi add-actor s --locked eva", 5, KEY, &[], 0, EVA, LOCKED),
     // The draw fails.
     ("fedi add-actor s eva", 5, KEY, &[0], 6, "", NOTHING),
 ];
 
-/// The command line, which calls of the disk fail and which writes, and the status, what is printed, and the record that is kept.
-/// The calls up to 13 are those of the opening, and the last four those of an append.
-const FAULTS: [(&str, &[u64], &[u64], u8, &str, &[u8]); 9] = [
-    (
-        "fedi add-actor s eva",
-        &[14],
-        &[],
-        5,
-        "disk fault\n",
-        NOTHING,
-    ),
-    (
-        "fedi add-actor s eva",
-        &[15],
-        &[],
-        5,
-        "disk fault\n",
-        NOTHING,
-    ),
-    (
-        "fedi add-actor s eva",
-        &[16],
-        &[],
-        5,
-        "disk fault\n",
-        NOTHING,
-    ),
+/// Which calls of the disk fail, counted from the append's first, which are four, and which writes,
+/// and the status, what is printed, and the record that is kept.
+const FAULTS: [(&[u64], &[u64], u8, &str, &[u8]); 8] = [
+    (&[0], &[], 5, "disk fault\n", NOTHING),
+    (&[1], &[], 5, "disk fault\n", NOTHING),
+    (&[2], &[], 5, "disk fault\n", NOTHING),
     // The record's gate is open, and that is not synced.
-    (
-        "fedi add-actor s eva",
-        &[17],
-        &[],
-        5,
-        "disk fault\n",
-        UNLOCKED,
-    ),
-    ("fedi add-actor s eva", &[18], &[], 0, EVA, UNLOCKED),
-    // A write fails: the member was made, and a status that a text would tell stays.
-    ("fedi add-actor s eva", &[], &[1], 7, "eva 30", UNLOCKED),
-    ("fedi add-actor s ana", &[], &[1], 10, "refuse", NOTHING),
-    ("fedi add-actor s eva", &[14], &[0], 5, "", NOTHING),
-    ("fedi add-actor s eva", &[0], &[0], 5, "", NOTHING),
+    (&[3], &[], 5, "disk fault\n", UNLOCKED),
+    (&[4], &[], 0, EVA, UNLOCKED),
+    // A write fails: the member was made.
+    (&[], &[1], 7, "eva 30", UNLOCKED),
+    (&[0], &[0], 5, "", NOTHING),
+    (&[], &[0], 7, "", UNLOCKED),
 ];
 
 /// Whether a run ends with this status, prints this, and keeps this record or none.
@@ -183,19 +135,6 @@ fn is_last(alloc: Global, disk: &[u8], record: &[u8]) -> Result<bool, AllocError
     Ok(ends_with(found.as_ref(), record))
 }
 
-fn has_words(alloc: Global, row: &(&str, u8, &str, &[u8])) -> Result<bool, AllocError> {
-    let (line, status, printed, kept) = *row;
-    ends(alloc, &making(line), status, printed, kept)
-}
-
-#[test]
-fn words_make_a_member_or_are_refused(rt: HostRuntime) -> Result<(), Fail> {
-    for row in &WORDS {
-        expect(has_words(rt.alloc(), row)?, row.0)?;
-    }
-    Ok(())
-}
-
 fn has_drawn(
     alloc: Global,
     row: &(&str, usize, &[u8], &[u64], u8, &str, &[u8]),
@@ -210,31 +149,29 @@ fn has_drawn(
     ends(alloc, &case, status, printed, kept)
 }
 
-#[test]
-fn a_key_is_drawn_that_nobody_has(rt: HostRuntime) -> Result<(), Fail> {
-    for (number, row) in DRAWS.iter().enumerate() {
-        expect_at(has_drawn(rt.alloc(), row)?, row.0, number)?;
-    }
-    Ok(())
-}
-
-fn has_outside(
+fn has_fault(
     alloc: Global,
-    row: &(&str, &[u64], &[u64], u8, &str, &[u8]),
+    opening: u64,
+    row: &(&[u64], &[u64], u8, &str, &[u8]),
 ) -> Result<bool, AllocError> {
-    let (line, failing_calls, failing_writes, status, printed, kept) = *row;
+    let (failing, failing_writes, status, printed, kept) = *row;
+    let failing_calls = calls_after(alloc, opening, failing)?;
     let case = Case {
-        failing_calls,
+        failing_calls: &failing_calls,
         failing_writes,
-        ..making(line)
+        ..making("fedi add-actor s eva")
     };
     ends(alloc, &case, status, printed, kept)
 }
 
 #[test]
-fn a_member_is_kept_and_then_told(rt: HostRuntime) -> Result<(), Fail> {
+fn a_member_is_kept_under_a_drawn_key_and_then_told(rt: HostRuntime) -> Result<(), Fail> {
+    for (number, row) in DRAWS.iter().enumerate() {
+        expect_at(has_drawn(rt.alloc(), row)?, row.0, number)?;
+    }
+    let opening = calls_of_an_opening(rt.alloc(), &MEMBERS)?;
     for (number, row) in FAULTS.iter().enumerate() {
-        expect_at(has_outside(rt.alloc(), row)?, row.0, number)?;
+        expect_at(has_fault(rt.alloc(), opening, row)?, "a fault", number)?;
     }
     Ok(())
 }

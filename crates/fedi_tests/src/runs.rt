@@ -1,12 +1,13 @@
 //! Runs, and what they leave.
 
-use crate::cases::{Case, arguments_of, connection_of, disk_in, entropy_of};
-use crate::files::has_records;
+use crate::cases::{Case, arguments_of, calm, connection_of, disk_in, entropy_of};
+use crate::store_files::has_records;
 use fedi_outside::{FixedClock, MemoryDisk, MemoryEntropy, MemorySink, MemorySource};
 use fedi_program::{Connection, run};
 use std::alloc::{AllocError, Global};
 
-/// What a run left: its status, what it wrote, the bytes of the disk, and how many calls that was asked.
+/// What a run left: its status, what it wrote, the bytes of the disk, and how many calls that was
+/// asked.
 #[derive(Drop)]
 pub struct Left {
     pub status: u8,
@@ -62,8 +63,8 @@ pub fn are_texts(bytes: &[u8], texts: &[&str]) -> bool {
     rest.is_empty()
 }
 
-/// Whether the run ends with this status, writes these texts, and leaves a store of the records that it began with and so
-/// many more. The error is out of memory.
+/// Whether the run ends with this status, writes these texts, and leaves a store of the records
+/// that it began with and so many more. The error is out of memory.
 pub fn ends(
     alloc: Global,
     case: &Case,
@@ -77,4 +78,20 @@ pub fn ends(
             && are_texts(&left.out, wanted)
             && has_records(alloc, &left.disk, case.records, more)?,
     )
+}
+
+/// How many calls of the disk the opening of a store of these records takes: as many as a run that
+/// counts it. The error is out of memory.
+pub fn calls_of_an_opening(alloc: Global, records: &[&[u8]]) -> Result<u64, AllocError> {
+    let left = left_by(alloc, &calm("fedi check s", records))?;
+    Ok(left.calls)
+}
+
+/// These calls, counted from the first after an opening of so many. The error is out of memory.
+pub fn calls_after(alloc: Global, opening: u64, calls: &[u64]) -> Result<Vec<u64>, AllocError> {
+    let mut after = Vec::new(alloc);
+    for call in calls {
+        after.push(opening.saturating_add(*call))?;
+    }
+    Ok(after)
 }

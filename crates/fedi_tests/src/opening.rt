@@ -1,0 +1,164 @@
+//! What an opening answers at records of a small history, and at others.
+//!
+//! A keeper is made in one function, and lent, and a test fails with the text of the row that does
+//! not hold.
+ghost use Rattle.std.specs.Prelude.{◌≡◌, []};
+
+use crate::records::{
+    ANA, BEN, CREATE, FOLLOW, HISTORY, HOSTED, LIKE, OWN_FOLLOW, PEER_SET, SAME_KEY, TWICE_TO,
+    WITH_ID,
+};
+use crate::rows::expect;
+use fedi_address::{Iri, LocalName};
+use fedi_opening::{OpenFault, open_history};
+use fedi_outside::{Keeper, MemoryKeeper};
+use fedi_store::PlainShelf;
+use fedi_town::{Caller, Which};
+use fedi_visible::Shelf;
+use std::alloc::Global;
+use std::test::Fail;
+
+// A rule, records that break it, and the place of the first that is damaged.
+const DAMAGED: [(&str, &[&[u8]], u64); 15] = [
+    ("the server is set up first", &[ANA, HOSTED], 0),
+    ("the server is set up once", &[HOSTED, HOSTED], 1),
+    ("the server is set up once", &[HOSTED, ANA, HOSTED], 2),
+    ("a name is one member's", &[HOSTED, ANA, ANA], 2),
+    ("a key is one member's", &[HOSTED, ANA, SAME_KEY], 2),
+    ("who posts is a member", &[HOSTED, CREATE, ANA], 1),
+    ("who posts is a member", &[HOSTED, ANA, FOLLOW, BEN], 2),
+    (
+        "what is liked is there",
+        &[HOSTED, ANA, BEN, LIKE, CREATE],
+        3,
+    ),
+    (
+        "a key for repeats is used once",
+        &[HOSTED, ANA, CREATE, CREATE],
+        3,
+    ),
+    ("nobody follows herself", &[HOSTED, ANA, OWN_FOLLOW], 2),
+    ("a post has no id", &[HOSTED, ANA, BEN, WITH_ID], 3),
+    (
+        "a recipient is named once",
+        &[HOSTED, ANA, BEN, TWICE_TO],
+        3,
+    ),
+    ("a peer is not taken so far", &[HOSTED, PEER_SET], 1),
+    ("the first of several", &[HOSTED, b"", ANA, b""], 1),
+    ("no record is empty", &[b""], 0),
+];
+
+fn add<K: Keeper>(keeper: &mut K, record: &[u8]) -> Result<(), Fail> {
+    keeper.reserve(record.len())?;
+    keeper.settle()?;
+    keeper.append(record)?;
+    Ok(())
+}
+
+fn add_all<K: Keeper>(keeper: &mut K, records: &[&[u8]]) -> Result<(), Fail> {
+    for record in records {
+        add(keeper, record)?;
+    }
+    Ok(())
+}
+
+// What is wanted of an opening.
+#[derive(Clone, Copy)]
+enum Wanted {
+    // That it finds the whole history.
+    History,
+    // That it is refused.
+    Fault(OpenFault),
+}
+
+// Whether the shelf has the Create, the Follow with its Accept, and the Like.
+fn has_history(shelf: &PlainShelf) -> bool {
+    let facts = shelf.facts();
+    let is_hosted = facts
+        .host()
+        .is_some_and(|host| host.text() == "club.example");
+    is_hosted && facts.actors().len() == 2 && facts.acts().len() == 4
+}
+
+// Whether the first item of ana's outbox is the first activity, her Create.
+fn has_first_item(alloc: Global, shelf: &PlainShelf) -> Result<bool, Fail> {
+    let ana = LocalName::parse("ana").ok_or("no name")?;
+    let id = Iri::parse(alloc, "https://club.example/users/ana")?;
+    let first = shelf.visible_at(&Caller::Nobody, &Which::Outbox(ana), &id, 0);
+    Ok(first == Some(0))
+}
+
+fn answers<K: Keeper>(
+    alloc: Global,
+    keeper: &mut K,
+    shelf: &mut PlainShelf,
+    wanted: Wanted,
+) -> Result<bool, Fail>
+    requires empty { shelf.old.history ≡ [] }
+{
+    let fault = open_history(alloc, keeper, shelf).err();
+    match wanted {
+        Wanted::History => {
+            Ok(fault.is_none() && has_history(shelf) && has_first_item(alloc, shelf)?)
+        }
+        Wanted::Fault(other) => Ok(fault == Some(other)),
+    }
+}
+
+// Fails with the text of the row unless an opening of the keeper answers so. A shelf is made here
+// alone, and lent.
+fn expect_open<K: Keeper>(
+    alloc: Global,
+    row: &str,
+    keeper: &mut K,
+    wanted: Wanted,
+) -> Result<(), Fail> {
+    let mut made = PlainShelf::empty(alloc);
+    let holds = match &mut made {
+        Ok(shelf) => answers(alloc, keeper, shelf, wanted)?,
+        Err(_) => false,
+    };
+    expect(holds, row)
+}
+
+// The same of a keeper of these records.
+fn expect_opened(alloc: Global, row: &str, records: &[&[u8]], wanted: Wanted) -> Result<(), Fail> {
+    let mut keeper = MemoryKeeper::new(alloc);
+    add_all(&mut keeper, records)?;
+    expect_open(alloc, row, &mut keeper, wanted)
+}
+
+// The opening of a keeper fails, and the same keeper opens at the next try.
+fn expect_one_failure<K: Keeper>(alloc: Global, keeper: &mut K) -> Result<(), Fail> {
+    expect_open(
+        alloc,
+        "a load that fails",
+        keeper,
+        Wanted::Fault(OpenFault::Failed),
+    )?;
+    expect_open(alloc, "the next try", keeper, Wanted::History)
+}
+
+fn expect_failing(alloc: Global, place: u64) -> Result<(), Fail> {
+    let mut keeper = MemoryKeeper::new(alloc);
+    add_all(&mut keeper, &HISTORY)?;
+    // Each record took two calls.
+    let failing = [place.saturating_add(12)].to_vec(alloc)?;
+    expect_one_failure(alloc, &mut keeper.failing(failing))
+}
+
+#[test]
+fn a_history_is_opened_or_the_reason_is_named(rt: HostRuntime) -> Result<(), Fail> {
+    expect_opened(rt.alloc(), "the history", &HISTORY, Wanted::History)?;
+    let empty = Wanted::Fault(OpenFault::Empty);
+    expect_opened(rt.alloc(), "no record", &[], empty)?;
+    for (rule, records, place) in &DAMAGED {
+        let fault = OpenFault::Damaged { place: *place };
+        expect_opened(rt.alloc(), rule, records, Wanted::Fault(fault))?;
+    }
+    for place in 0..HISTORY.len() as u64 {
+        expect_failing(rt.alloc(), place)?;
+    }
+    Ok(())
+}

@@ -1,0 +1,61 @@
+//! The file of a journal, by its records.
+
+use fedi_journal::Journal;
+use fedi_outside::{Keeper, MemoryDisk};
+use std::alloc::{AllocError, Global};
+
+/// The bytes of a store of these records: the magic, each record after an open gate and its length
+/// in eight bytes, and a closed gate. The error is out of memory.
+pub fn store_of(alloc: Global, records: &[&[u8]]) -> Result<Vec<u8>, AllocError> {
+    let mut bytes = Vec::from_slice(alloc, b"FEDIJRN1")?;
+    for record in records {
+        bytes.push(1)?;
+        bytes.extend_from_slice(&(record.len() as u64).to_be_bytes())?;
+        bytes.extend_from_slice(record)?;
+    }
+    bytes.push(0)?;
+    Ok(bytes)
+}
+
+/// A disk with these bytes, at which nothing fails. The error is out of memory.
+pub fn disk_of(alloc: Global, bytes: &[u8]) -> Result<MemoryDisk, AllocError> {
+    MemoryDisk::new(alloc, bytes.to_vec(alloc)?)
+}
+
+fn load_all<K: Keeper>(alloc: Global, keeper: &mut K) -> Result<Option<Vec<Vec<u8>>>, AllocError> {
+    let mut records = Vec::new(alloc);
+    for place in 0..keeper.count() {
+        let Ok(Some(record)) = keeper.load(alloc, place) else {
+            return Ok(None);
+        };
+        records.push(record)?;
+    }
+    Ok(Some(records))
+}
+
+/// The records of the journal with these bytes, or none if they are no journal. The error is out of
+/// memory.
+pub fn records_of(alloc: Global, bytes: &[u8]) -> Result<Option<Vec<Vec<u8>>>, AllocError> {
+    match Journal::open(alloc, disk_of(alloc, bytes)?) {
+        Ok(mut journal) => load_all(alloc, &mut journal),
+        Err(_) => Ok(None),
+    }
+}
+
+/// Whether the journal with these bytes has these records and so many more after them. The error
+/// is out of memory.
+pub fn has_records(
+    alloc: Global,
+    bytes: &[u8],
+    records: &[&[u8]],
+    more: usize,
+) -> Result<bool, AllocError> {
+    let Some(found) = records_of(alloc, bytes)? else {
+        return Ok(false);
+    };
+    let mut pairs = found.iter().zip(records.iter());
+    Ok(
+        found.len().checked_sub(more) == Some(records.len())
+            && pairs.all(|(one, other)| one.as_slice() == *other),
+    )
+}
