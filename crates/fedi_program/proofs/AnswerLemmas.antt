@@ -1,11 +1,13 @@
 -- From what the machine decides for a caller, and what its keeper does, to the answer to a request.
 use Rattle.std.proofs.Common.{◌≡◌, ℕ, List, length, Bool, Option, Some, None, Result, Ok, Err, Vec, IfOk, OnErr, inl, inr, refl, sym, subst, ◌∙◌}
+use Rattle.fedi_core.specs.Keeping.{Refuses}
 use Rattle.fedi_core.specs.declared.keeping.KeepFault.{KeepFault}
+use Rattle.fedi_core.specs.declared.keeping.KeepFault.TheVariants as faults
 use Rattle.fedi_entry.specs.Codes.{code_of}
 use Rattle.fedi_log.specs.Keeping.{State}
 use Rattle.fedi_log.specs.Log.{Failed, Full, Kept, NoEntry, Outcome}
 use Rattle.fedi_objects.specs.declared.entry.Entry.{Entry}
-use Rattle.fedi_outside.specs.Keepers.{HasRoom, IsFull, LeavesRecords}
+use Rattle.fedi_outside.specs.Keepers.{HasRoom, IsFull, KeeperState, LeavesRecords}
 use Rattle.fedi_model.proofs.Clean.{refused_is_clean, reply_is_clean}
 use Rattle.fedi_asks.specs.declared.ask.Ask.{Ask}
 use Rattle.fedi_town.specs.declared.caller.Caller.{Caller}
@@ -170,3 +172,11 @@ decided state moment q body c ask r made other host is at asks reply_is made_is 
 -- by a reason that is another's name
 pub unkept_by : (room : ℕ → ℕ) (before after : Standing) (e : Entry) (f fault : KeepFault) → f ≡ fault → IsUnkept room before after e f → IsUnkept room before after e fault
 unkept_by room before after e f fault is k = subst (IsUnkept room before after e) is k
+
+pub full_by : (room : ℕ → ℕ) (code : List ℕ) (f : KeepFault) (before after : KeeperState) → f ≡ faults.Full → Refuses room code f before after
+    → IsFull room before.end (length code)
+full_by room code f before after is k = (subst (λ (x : KeepFault). Refuses room code x before after) is k).0
+
+pub fits_by : (room : ℕ → ℕ) (code : List ℕ) (f : KeepFault) (before after : KeeperState) → f ≡ faults.Failed → Refuses room code f before after
+    → HasRoom room before.end (length code)
+fits_by room code f before after is k = (subst (λ (x : KeepFault). Refuses room code x before after) is k).0

@@ -103,13 +103,12 @@ leaves_failed b by e log kept left is =
     )
 
 -- before the turn, or after it
-LeavesBeforeOrAfter : Base → Log → Log → List (List ℕ) → List (List ℕ) → Type 0
+abbrev LeavesBeforeOrAfter : Base → Log → Log → List (List ℕ) → List (List ℕ) → Type 0
 LeavesBeforeOrAfter b log items kept left = LeavesAfter b kept (since b log) left ⊎ LeavesAfter b kept (since b log ++ items) left
 
 turn_leaves : (b : Base) (by : Option ℕ) (o : Outcome) (log : Log) (kept : List (List ℕ)) (doubt : Option (List ℕ)) (left : List (List ℕ))
     → IsDoubted (doubts_of (option_to_list b.shown.doubt) (since b log)) doubt → MayLeaveIn o (with_codes kept (since b log)) doubt left
     → LeavesBeforeOrAfter b log (items_of by o) kept left
-unfolding LeavesBeforeOrAfter
 turn_leaves b by NoEntry log kept doubt left doubted may = inl (leaves_now b kept (since b log) doubt left doubted may)
 turn_leaves b by (Full e) log kept doubt left doubted may = inl (leaves_now b kept (since b log) doubt left doubted may)
 turn_leaves b by (Kept e) log kept doubt left doubted (inl may) = inl (leaves_now b kept (since b log) doubt left doubted may)
@@ -123,7 +122,6 @@ turn_left : (b : Base) (by : Option ℕ) (o : Outcome) (log : Log) (kept : List 
 turn_left b by o log kept doubt left opened doubted may = of (turn_leaves b by o log kept doubt left doubted may)
   where
     of : LeavesBeforeOrAfter b log (items_of by o) kept left → IsLeft b (log ++ items_of by o) kept left
-    unfolding LeavesBeforeOrAfter
     of (inl h) = left_before b log (items_of by o) kept left opened h
     of (inr h) = left_after b log (items_of by o) kept left opened h
 
@@ -268,7 +266,6 @@ after_more b by seen more log moment o before after holds goes early was turn =
         one left (inr may) = of (turn_leaves b by o log kept k.doubt left holds.keeper.doubt may)
           where
             of : LeavesBeforeOrAfter b log (items_of by o) kept left → IsLeftAfter b seen (log ++ items_of by o) kept left
-            unfolding LeavesBeforeOrAfter
             of (inl h) = record {
               past = more;
               rest = items_of by o;

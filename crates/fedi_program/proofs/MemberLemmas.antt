@@ -1,6 +1,7 @@
 -- What the making of a member leaves: a status that it may end with, and a machine that stands for a log.
-use Rattle.std.proofs.Common.{◌≡◌, ℕ, Bool, true, List, length, ◌++◌, Option, None, Some, Result, Ok, Err, OnOk, OnErr, inl, inr, refl, sym, ap, subst, ◌∙◌}
-use Rattle.fedi_core.specs.Commands.{RefusesCommand}
+use Rattle.std.proofs.Common.{◌≡◌, ◌⊎◌, ℕ, Bool, true, false, if◌then◌else◌, List, length, ◌++◌, Option, None, Some, Result, Ok, Err, OnOk, OnErr, inl, inr, refl, sym, ap, subst, ◌∙◌}
+use Rattle.std.specs.List.{list_any}
+use Rattle.fedi_core.specs.Commands.{IsCommand, RefusesCommand}
 use Rattle.fedi_core.specs.Crashing.{PassesTimeRefused}
 use Rattle.fedi_core.specs.declared.keeping.KeepFault.TheVariants as keeps
 use Rattle.fedi_core.proofs.Crashing.{quiet_call, settled_after}
@@ -9,12 +10,14 @@ use Rattle.fedi_log.specs.Keeping.{Base, Follows, State}
 use Rattle.fedi_log.specs.Log.{Failed, Full, NoEntry, given, items_of}
 use Rattle.fedi_log.proofs.Keeping.{unchanged}
 use Rattle.fedi_objects.specs.declared.entry.Entry.{Entry}
+use Rattle.fedi_objects.specs.declared.entry.Entry.TheVariants.{Hosted, Made, PeerSet, Local, Remote, Tried}
 use Rattle.fedi_opening.specs.Opening.{IsNext}
 use Rattle.fedi_outside.specs.Keepers.{KeeperState, LeavesRecords, PassesTime, after_fault}
 use Rattle.fedi_town.specs.declared.command_fault.CommandFault.{CommandFault}
 use Rattle.fedi_town.specs.declared.command_fault.CommandFault.TheVariants as faults
 use Rattle.fedi_town.specs.Histories.{town}
-use Rattle.fedi_town.specs.Towns.{Town}
+use Rattle.fedi_town.specs.Legal.{broken_command}
+use Rattle.fedi_town.specs.Towns.{Town, has_digest, has_name}
 use Rattle.fedi_startup.specs.Marks.{SurvivesMarked}
 use Rattle.fedi_startup.specs.Surviving.{growth, room}
 use Rattle.fedi_program.specs.Commands.{AddActor, Init, Task}
@@ -163,6 +166,27 @@ refused_only room before after e faults.BadAddress other same k = (after, same, 
 refused_only room before after e faults.Full other same k = (after, same, k, refl)
 refused_only room before after e faults.KeeperFault other same k = absurd (other refl)
 refused_only room before after e faults.Memory other same k = (after, same, k, refl)
+
+-- a command that breaks a rule was refused for it
+pub broken_unmade : (room : ℕ → ℕ) (s : State) (e : Entry) (fault : CommandFault) → IsCommand (town s.history) e → broken_command (town s.history) e ≡ Some fault
+    → IsUnmade room s s e fault
+broken_unmade room s (Hosted host moment) fault command is = absurd command
+broken_unmade room s (PeerSet host key address relay moment) fault command is = absurd command
+broken_unmade room s (Local name repeat a moment) fault command is = absurd command
+broken_unmade room s (Remote peer inbox a moment) fault command is = absurd command
+broken_unmade room s (Tried activity recipient came moment) fault command is = absurd command
+broken_unmade room s (Made name digest locked moment) fault command is =
+    of (taken (list_any (has_name name) (town s.history).actors) (list_any (has_digest digest) (town s.history).actors) is)
+  where
+    taken : (a b : Bool) → (if a then Some faults.NameTaken else (if b then Some faults.KeyTaken else None)) ≡ Some fault
+        → (fault ≡ faults.NameTaken) ⊎ (fault ≡ faults.KeyTaken)
+    taken true b same = inl cc
+    taken false true same = inr cc
+    taken false false same = absurd (cc same)
+
+    of : (fault ≡ faults.NameTaken) ⊎ (fault ≡ faults.KeyTaken) → IsUnmade room s s (Made name digest locked moment) fault
+    of (inl name_is) = subst (IsUnmade room s s (Made name digest locked moment)) (sym name_is) (s, refl, (is ∙ ap (λ (f : CommandFault). Some f) name_is, refl), refl)
+    of (inr key_is) = subst (IsUnmade room s s (Made name digest locked moment)) (sym key_is) (s, refl, (is ∙ ap (λ (f : CommandFault). Some f) key_is, refl), refl)
 
 -- ---- the task
 

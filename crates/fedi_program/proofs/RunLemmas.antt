@@ -50,7 +50,7 @@ store_talks told before after first now status done (inr (opened, closed, log, s
 
 pub served_safe : (told : Option ℕ) (before after : Medium) (first now : Scene) (status : ℕ) → ServesStore told before after first now status → IsKeptSafe before after
 served_safe told before after first now status (inl (fault, refused, _, _)) = inl (fault, refused)
-served_safe told before after first now status (inr (opened, closed, log, served, _)) = inr (opened, closed, log, served)
+served_safe told before after first now status (inr (opened, closed, log, served, _)) = inr (opened, closed, (log, served))
 
 pub added_safe : (told : Option ℕ) (before after : Medium) (chance left : Chance) (first now : Output) (name : List ℕ) (locked : Bool) (status : ℕ)
     → AddsMember told before after chance left first now name locked status → IsKeptSafe before after
@@ -59,7 +59,7 @@ added_safe told before after chance left first now name locked status (inr (open
 
 pub checked_safe : (before after : Medium) (first now : Output) (status : ℕ) → ChecksStore before after first now status → IsKeptSafe before after
 checked_safe before after first now status (inl (fault, refused, _)) = inl (fault, refused)
-checked_safe before after first now status (inr (opened, served, _)) = inr (opened, opened, given opened.history, served)
+checked_safe before after first now status (inr (opened, served, _)) = inr (opened, opened, (given opened.history, served))
 
 -- ---- the status
 

@@ -6,9 +6,11 @@ ghost use Rattle.fedi_log.specs.declared.items.Item.{Item};
 ghost use Rattle.fedi_log.specs.Keeping.{Base, Holds, since};
 ghost use Rattle.fedi_log.specs.Leaving.{CrashesAfter, IsLeftAfter};
 ghost use Rattle.fedi_log.specs.Log.{Added, IsOthers, Log, Outcome, history_of, items_of, marks_of};
-ghost use Rattle.fedi_outside.specs.Keepers.{LeavesRecords};
-ghost use Rattle.fedi_program.specs.Crashing.{Standing, Turns};
+ghost use Rattle.fedi_core.specs.Machines.{Machine};
+ghost use Rattle.fedi_program.specs.Crashing.{Turns, standing_by};
 ghost use Rattle.fedi_program.specs.Conversations.{AreAtFronts, AreCalm, Conversation, Converses, Exchange, IsAtEnd, NoGaps, Progress, Setting, StandApart, failures, own_items, progress};
+
+use fedi_outside::Keeper;
 
 /// A conversation that nobody else adds to the log of has no gaps: each request is answered at the
 /// log that the one before it left.
@@ -58,18 +60,19 @@ pub fn failures_are_marked()
 /// What was acknowledged survives a crash at any later moment, before or after the end of the session.
 ///
 /// Once an exchange is over, a crash leaves the records of all of the log at that moment, with at most the
-/// one in doubt (`now`). Each further turn adds only what comes behind that log (`on`). So whatever a crash
+/// one in doubt (`now`). Each further turn adds only what comes after that log (`on`). So whatever a crash
 /// since that moment leaves begins with the records of the opening and of all that was kept up to then
 /// (`entries`), and ends a life whose log goes on from that log.
-pub fn acknowledged_entries_survive()
-    ensures now { (b : Base) (log : Log) (s : Standing) → Holds b s.state log
-        → LeavesRecords s.state.keeper s.crashes
-        → CrashesAfter b log log s.crashes.clock s.crashes }
+pub fn acknowledged_entries_survive<P: Keeper>()
+    ensures now { (b : Base) (log : Log) (core : Machine P)
+        → let is = standing_by P.shown P.crashes core in Holds b is.state log
+        → CrashesAfter b log log is.crashes.clock is.crashes }
     ensures on { (b : Base) (by : Option ℕ) (seen more log : Log) (moment : ℕ) (o : Outcome)
-        (before after : Standing) → Holds b before.state log → log ≡ seen ++ more
-        → moment ≤ before.crashes.clock
-        → CrashesAfter b seen log moment before.crashes → Turns b.growth before after o
-        → CrashesAfter b seen (log ++ items_of by o) moment after.crashes }
+        (before after : Machine P) → let was = standing_by P.shown P.crashes before in
+        let is = standing_by P.shown P.crashes after in Holds b was.state log
+        → log ≡ seen ++ more → moment ≤ was.crashes.clock
+        → CrashesAfter b seen log moment was.crashes → Turns b.growth was is o
+        → CrashesAfter b seen (log ++ items_of by o) moment is.crashes }
     ensures entries { (b : Base) (seen log : Log) (kept left : List (List ℕ))
         → b.kept ≤ length seen → IsLeftAfter b seen log kept left → (more : List (List ℕ))
         × (left ≡ (kept ++ map code_of (history_of (since b seen))) ++ more) }

@@ -77,7 +77,9 @@ fn enroll<P: Keeper>(
         None (given core.old.history) (state_of core.new.history (P.shown core.new.keeper))
         (P.crashes core.old.keeper) (P.crashes core.new.keeper) }
 {
-    core.facts().judge_command(&entry)?;
+    if let Err(fault) = core.facts().judge_command(&entry) {
+        return Err(fault);
+    }
     let Ok(line) = key_line(alloc, name, key) else {
         return Err(CommandFault::Memory);
     };
