@@ -1,5 +1,5 @@
 -- What is decided on a post, by the judgement on it.
-use Rattle.std.proofs.Common.{◌≡◌, ℕ, ◌+◌, true, List, Option, Some, None, refl, sym, subst, ap, ◌∙◌}
+use Rattle.std.proofs.Common.{◌≡◌, ℕ, ◌+◌, true, false, List, Option, Some, None, refl, sym, subst, ap, ◌∙◌}
 use Rattle.std.specs.Prelude.{option_map}
 use Rattle.fedi_objects.specs.declared.activity.Activity.{Activity}
 use Rattle.fedi_objects.specs.declared.entry.Entry.TheVariants.{Local}
@@ -20,6 +20,7 @@ use Rattle.fedi_asks.specs.Answers.{Answer, Refuse, Misshape}
 use Rattle.fedi_asks.specs.Reading.{is_self}
 use Rattle.fedi_town.proofs.Texts.{bytes_eq-is}
 use Rattle.fedi_model.specs.declared.reply.Reply.{Reply}
+use Rattle.fedi_model.specs.Memory.{is_refused}
 use Rattle.fedi_model.specs.Replies.{reply_of, without_body}
 
 pub is_own : (c : Caller) (name : List ℕ) → is_self c name ≡ true → c ≡ Actor name
@@ -109,3 +110,17 @@ pub kept_entry : (t : Town) (c : Caller) (name author : List ℕ) (post : Post) 
     → Some (Local name repeat a moment) ≡ entry_at t c name post moment (id_of t name)
 kept_entry t c name author post moment a repeat found h key =
     subst (λ (own : Option (List ℕ)). Some (Local name repeat a moment) ≡ entry_at t c name post moment own) found (rw (h, key) refl)
+
+-- ---- memory
+
+-- the answer to a post that is repeated is no refusal
+pub repeated_wanted : (t : Town) (c : Caller) (name author : List ℕ) (post : Post) (id : Option (List ℕ)) → IsFound t name author
+    → judge_post t c name author post ≡ Repeat id → is_refused (post_answer t c name post (id_of t name)) ≡ false
+repeated_wanted t c name author post id found h =
+    subst (λ (own : Option (List ℕ)). is_refused (post_answer t c name post own) ≡ false) found (rw h refl)
+
+-- nor is that to one that is kept
+pub kept_wanted : (t : Town) (c : Caller) (name author : List ℕ) (post : Post) (a : Activity) → IsFound t name author
+    → judge_post t c name author post ≡ Keep a → is_refused (post_answer t c name post (id_of t name)) ≡ false
+kept_wanted t c name author post a found h =
+    subst (λ (own : Option (List ℕ)). is_refused (post_answer t c name post own) ≡ false) found (rw h refl)

@@ -1,9 +1,10 @@
 //! What the machine decides on one ask.
 
-ghost use Rattle.std.specs.Prelude.{◌≡◌, ◌<◌, ◌+◌, IfOk, IsTrue, option_copied, option_map};
+ghost use Rattle.std.specs.Prelude.{◌≡◌, ◌<◌, ◌+◌, IfOk, IsTrue, OnErr, false, option_copied, option_map};
 ghost use Rattle.fedi_asks.specs.Asks.{entry_of};
 ghost use Rattle.fedi_asks.specs.Built.{is_built_ask};
 ghost use Rattle.fedi_asks.specs.Posting.{entry_at, post_answer};
+ghost use Rattle.fedi_model.specs.Memory.{is_refused, takes_memory};
 ghost use Rattle.fedi_model.specs.Replies.{reply, reply_of, without_body};
 ghost use Rattle.fedi_town.specs.Ids.{activity_id};
 ghost use Rattle.fedi_town.specs.Towns.{id_of};
@@ -82,6 +83,8 @@ fn decide_post(
         name post (id_of facts.now.town name))) }
     ensures entry { IfOk result (λ d. d.entry ≡ entry_at facts.now.town caller.now
         name post moment (id_of facts.now.town name)) }
+    ensures memory { OnErr result (is_refused (post_answer facts.now.town caller.now
+        name post (id_of facts.now.town name)) ≡ false) }
 {
     let Some(author) = facts.id_of(&name) else {
         return Ok(Decision {
@@ -111,7 +114,8 @@ fn decide_post(
     }
 }
 
-/// Decides on an ask by the history on a shelf. The only error is out of memory.
+/// Decides on an ask by the history on a shelf. The only error is out of memory, and what is refused takes
+/// none, but where an id is made to find a thing.
 pub fn decide<S: Shelf>(
     alloc: Global,
     shelf: &S,
@@ -124,6 +128,8 @@ pub fn decide<S: Shelf>(
         d.reply ≡ reply (S.holding shelf.now).town caller.now ask) }
     ensures entry { IfOk result (λ d.
         d.entry ≡ entry_of (S.holding shelf.now).town caller.now ask moment) }
+    ensures memory { OnErr result
+        (IsTrue (takes_memory (S.holding shelf.now).town caller.now ask)) }
 {
     let facts = shelf.facts();
     let reply = match ask {

@@ -13,6 +13,7 @@ ghost use Rattle.fedi_asks.specs.Asks.{entry_of};
 ghost use Rattle.fedi_asks.specs.Built.{is_built_ask};
 ghost use Rattle.fedi_model.specs.Callers.{caller_by, member_or_refused};
 ghost use Rattle.fedi_model.specs.Credentials.{shown_by as credentials_shown_by};
+ghost use Rattle.fedi_model.specs.Memory.{takes_memory};
 ghost use Rattle.fedi_model.specs.Replies.{IsPrivate, reply};
 ghost use Rattle.fedi_model.specs.Routes.{IsPostableAt};
 ghost use Rattle.fedi_core.specs.Commands.{IsCommand, RefusesCommand};
@@ -145,7 +146,8 @@ impl<S: Shelf + Drop, P: Keeper> Core<S, P> {
 
     /// Decides on an ask at a moment (ActivityPub, sections 3.2, 4.1 and 6; RFC 7033, section 4.2): the
     /// reply, and for a post that is accepted the entry that `keep` has to keep before the reply is sent.
-    /// It changes nothing. The error is out of memory.
+    /// It changes nothing. The error is out of memory, which comes only where the answer takes memory: what
+    /// is refused takes none, but where an id is made to find a thing.
     pub fn decide(
         &self,
         alloc: Global,
@@ -161,6 +163,8 @@ impl<S: Shelf + Drop, P: Keeper> Core<S, P> {
         ensures may_add { IfOk result (λ d. IfSome d.entry (MayAdd (town self.now.history))) }
         // Each legal history that agrees with this one on what the caller may know gives the same reply.
         ensures private { IfOk result (λ d. IsPrivate self.now.history caller.now ask d.reply) }
+        ensures memory { OnErr result
+            (IsTrue (takes_memory (town self.now.history) caller.now ask)) }
     {
         decide(alloc, &self.shelf, caller, ask, moment)
     }

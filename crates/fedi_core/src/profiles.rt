@@ -1,10 +1,11 @@
 //! The replies to who asks who a member is, and to a method that a path does not have. Out of memory is
 //! the only error.
 
-ghost use Rattle.std.specs.Prelude.{◌≡◌, IfOk, option_copied};
+ghost use Rattle.std.specs.Prelude.{◌≡◌, IfOk, OnErr, false, option_copied};
 ghost use Rattle.serde_json.specs.Data.{Data};
 ghost use Rattle.fedi_asks.specs.Documents.{actor_form, jrd_form};
 ghost use Rattle.fedi_asks.specs.Reading.{actor_or_missing, profile_or_missing, webfinger_answer};
+ghost use Rattle.fedi_model.specs.Memory.{is_refused};
 ghost use Rattle.fedi_model.specs.Replies.{disallowed, reply_of, showing};
 ghost use Rattle.fedi_objects.specs.Writing.{IsDocument};
 ghost use Rattle.fedi_town.specs.Towns.{id_of};
@@ -66,8 +67,10 @@ fn profile_document(
 
 /// The reply to who reads the actor document of the member of this name (ActivityPub, section 4.1).
 pub fn actor_reply(alloc: Global, facts: &Facts, name: &LocalName) -> Result<Reply, AllocError>
-    ensures { IfOk result (λ r. r ≡ reply_of (actor_or_missing facts.now.town.host name.now
+    ensures reply { IfOk result (λ r. r ≡ reply_of (actor_or_missing facts.now.town.host name.now
         (id_of facts.now.town name.now))) }
+    ensures memory { OnErr result (is_refused (actor_or_missing facts.now.town.host name.now
+        (id_of facts.now.town name.now)) ≡ false) }
 {
     let Some(host) = facts.host() else {
         return Ok(refusal_reply(Refusal::NotFound));
@@ -85,8 +88,10 @@ fn profile_reply(
     name: &LocalName,
     rels: &[Text],
 ) -> Result<Reply, AllocError>
-    ensures { IfOk result (λ r. r ≡ reply_of (profile_or_missing facts.now.town.host name.now
-        rels.now (id_of facts.now.town name.now))) }
+    ensures reply { IfOk result (λ r. r ≡ reply_of (profile_or_missing facts.now.town.host
+        name.now rels.now (id_of facts.now.town name.now))) }
+    ensures memory { OnErr result (is_refused (profile_or_missing facts.now.town.host
+        name.now rels.now (id_of facts.now.town name.now)) ≡ false) }
 {
     let Some(host) = facts.host() else {
         return Ok(refusal_reply(Refusal::NotFound));
@@ -104,8 +109,10 @@ pub fn webfinger_reply(
     facts: &Facts,
     resource: Option<&Resource>,
 ) -> Result<Reply, AllocError>
-    ensures { IfOk result (λ r. r
+    ensures reply { IfOk result (λ r. r
         ≡ reply_of (webfinger_answer facts.now.town (option_copied resource.entry))) }
+    ensures memory { OnErr result (is_refused
+        (webfinger_answer facts.now.town (option_copied resource.entry)) ≡ false) }
 {
     let Some(resource) = resource else {
         return Ok(refusal_reply(Refusal::BadQuery));
