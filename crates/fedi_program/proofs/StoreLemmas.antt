@@ -6,6 +6,9 @@ use Rattle.fedi_entry.specs.Codes.{code_of}
 use Rattle.fedi_images.specs.Images.{IsImage, plain}
 use Rattle.fedi_images.proofs.Steps.{of_some}
 use Rattle.fedi_images.specs.Known.{record_crashes, records_told}
+use Rattle.fedi_journal.proofs.FindingSteps.{nothing_elapses}
+use Rattle.fedi_journal.proofs.Rewriting.{untouched_by}
+use Rattle.fedi_journal.specs.Making.{KeepsOther}
 use Rattle.fedi_log.specs.Keeping.{State, since}
 use Rattle.fedi_log.specs.Log.{Log, given}
 use Rattle.fedi_objects.specs.declared.entry.Entry.TheVariants.{Hosted}
@@ -94,6 +97,10 @@ given_up start found before middle opened opens closes nothing foreign = record 
     reads (Some bytes) told same =
         let other = some_told found.reads same in
         (other.0, other.1, inr (rs, file bytes (told bytes refl), left other.0 other.1))
+
+-- nothing was asked of the disk
+pub not_asked : (shown : DiskState) (crashes : DiskCrashes) → KeepsOther shown shown crashes crashes
+not_asked shown crashes = λ bytes is other. untouched_by shown shown crashes crashes refl (nothing_elapses crashes)
 
 -- The host whose text was read is the text that was given.
 pub making_ends : {D : Type 0} (shown : D → DiskState) (crashes : D → DiskCrashes) (told : Option ℕ) (before after : D) (first now : Output)

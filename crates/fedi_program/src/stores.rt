@@ -95,6 +95,7 @@ fn made_line(alloc: Global, host: &str) -> Result<Vec<u8>, AllocError>
 /// made before the store, so that a store is not made of which this cannot be told, being out of memory.
 /// The answer is the exit status: a store was made at 0 and 7. The disk comes back. Whatever the answer,
 /// the bytes of a store that is there stay: reads give the same, and a crash leaves nothing new.
+#[tactic(auto, using(crate::proofs::StoreLemmas::not_asked))]
 pub fn begin_store<O: Sink, D: Disk, C: Clock>(
     alloc: Global,
     out: &mut O,
