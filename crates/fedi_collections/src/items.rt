@@ -10,7 +10,7 @@ ghost use Rattle.fedi_town.specs.Collections.{text_of};
 ghost use Rattle.fedi_town.specs.declared.act.Act.{Act};
 
 use fedi_address::Iri;
-use fedi_effects::{Facts, is_of_town};
+use fedi_effects::Facts;
 use fedi_kept::Kept;
 use fedi_objects::write_activity;
 use fedi_town::Which;
@@ -22,9 +22,7 @@ use std::alloc::AllocError;
 fn write_embedded(out: &mut Writer, facts: &Facts, act: &Kept) -> Result<(), AllocError>
     ensures { OnOk result (IsWritten (embedded_form facts.now.town act.now) out.old out.new) }
 {
-    let local = is_of_town(facts, act.author());
-    let shown = shown_of(facts, act, local);
-    write_activity(out, &shown, false)
+    write_activity(out, &shown_of(facts, act), false)
 }
 
 fn text_or_empty(iri: Option<&Iri>) -> &str

@@ -1,5 +1,5 @@
 -- What becomes of a post, as the judgement on it is told.
-use Rattle.std.specs.Prelude.{◌≡◌, List, ℕ, Option, option_copied, Result, Ok, Err}
+use Rattle.std.specs.Prelude.{◌≡◌, List, ℕ, Option, option_copied}
 use Rattle.fedi_town.specs.declared.caller.Caller.{Caller}
 use Rattle.fedi_town.specs.declared.caller.Caller.TheVariants.{Actor}
 use Rattle.fedi_town.specs.declared.refusal.Refusal.{Refusal}
@@ -30,8 +30,3 @@ pub record IsAdmitted (c : Caller) (name : List ℕ) (post : Post) : Type 0 wher
 -- one of them refuses it so
 abbrev pub IsTurnedAway : Caller → List ℕ → Post → Refusal → Type 0
 IsTurnedAway c name post r = (j : Judgement) → steps_before c name post j ≡ Stop (Refuse r)
-
--- the judgement on an activity, as whether it may be posted
-abbrev pub told_of : Result Unit Refusal → Activity → Judgement
-told_of (Ok _) a = Keep a
-told_of (Err r) a = Stop (Refuse r)

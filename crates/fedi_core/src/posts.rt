@@ -1,8 +1,8 @@
 //! What becomes of a post, before it is kept.
 
 ghost use Rattle.std.specs.Prelude.{◌≡◌, ℕ, List, Option, Some, MatchResult};
-ghost use Rattle.fedi_asks.specs.Posting.{is_bad_key, Judgement, judge_activity, judge_post, repeat_by, repeat_under, unless_repeat};
-ghost use Rattle.fedi_core.specs.Judging.{IsAdmitted, IsJudged, IsTurnedAway, told_of};
+ghost use Rattle.fedi_asks.specs.Posting.{is_bad_key, Judgement, judge_post, repeat_by, repeat_under, unless_repeat};
+ghost use Rattle.fedi_core.specs.Judging.{IsAdmitted, IsJudged, IsTurnedAway};
 ghost use Rattle.fedi_town.specs.Agreement.{repeats_of};
 ghost use Rattle.fedi_town.specs.Towns.{id_of};
 ghost use Rattle.fedi_town.specs.declared.caller.Caller.TheVariants.{Actor};
@@ -13,9 +13,6 @@ use fedi_model::{KeyAsk, Post, Read, Reply, misshapen_reply, refusal_reply};
 use fedi_objects::{Activity, Boxed, RepeatKey};
 use fedi_town::{Caller, Refusal};
 use fedi_visible::{is_nobody, is_self};
-
-/// The most activities that a member may have.
-const MOST: usize = 4_294_967_295;
 
 /// What becomes of a post.
 #[derive(Drop)]
@@ -95,20 +92,6 @@ fn repeat_by(digest: [u8; 32], key: KeyAsk) -> Option<(RepeatKey, [u8; 32])>
     }
 }
 
-// Whether the author may post an activity that repeats nothing: no rule is broken, and there is room for
-// one more of the author.
-fn judge_activity(facts: &Facts, author: &Iri, activity: &Activity) -> Result<(), Refusal>
-    ensures { (name : List ℕ) → id_of facts.now.town name ≡ Some author.now
-        → judge_activity facts.now.town (Actor name) author.now activity.now
-        ≡ told_of result activity.now }
-{
-    judge_local(facts, author, activity)?;
-    if facts.count_of(author) >= MOST {
-        return Err(Refusal::ActorFull);
-    }
-    Ok(())
-}
-
 /// What becomes of the post at the name of the member who is the author with this id. It is refused for
 /// a key that is none, if nobody is known to post or somebody else, for another media type, for what is
 /// no JSON or has not the shape of a post, for a key that was used for another body, for a rule that it
@@ -141,7 +124,7 @@ pub fn judge<'a>(
     if let Some(repeat) = repeat_under(facts, author, &key) {
         return judge_repeat(&repeat, &digest);
     }
-    match judge_activity(facts, author, activity.get()) {
+    match judge_local(facts, author, activity.get()) {
         Ok(()) => Judged::Kept(activity, repeat_by(digest, key)),
         Err(refusal) => Judged::Refused(refusal_reply(refusal)),
     }

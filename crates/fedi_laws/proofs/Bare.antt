@@ -1,7 +1,7 @@
 -- What lies behind a Tombstone is told to nobody.
 use Rattle.std.proofs.Common.{◌≡◌, ℕ, Bool, true, false, List, [], ◌∷◌, length, Option, Some, None, refl, sym, ap, ◌∙◌}
 use Rattle.std.specs.Prelude.{filter, if◌then◌else◌, map, option_map}
-use Rattle.std.specs.List.{cons_option, filter_map, find}
+use Rattle.std.specs.List.{filter_map, find}
 use Rattle.std.proofs.lemmas.List.{length-map}
 use Rattle.fedi_objects.specs.declared.activity.ObjectRef.{ObjectRef}
 use Rattle.fedi_objects.specs.declared.activity.ObjectRef.TheVariants.{Nothing, Id, Whole, Changed}
@@ -12,14 +12,13 @@ use Rattle.fedi_objects.specs.Objects.{stripped_object}
 use Rattle.fedi_town.specs.declared.act.Act.{Act}
 use Rattle.fedi_town.specs.declared.caller.Caller.{Caller}
 use Rattle.fedi_town.specs.declared.caller.Caller.TheVariants.{Nobody, Actor, Peer}
-use Rattle.fedi_town.specs.Agreement.{Agree, IsSameOwn, SameOwn, member_names, peer_of, repeats_of}
-use Rattle.fedi_town.specs.Deeds.{is_create, is_done, is_update}
+use Rattle.fedi_town.specs.Agreement.{Agree, IsSameOwn, member_names, peer_of, repeats_of}
 use Rattle.fedi_town.specs.Histories.{town}
 use Rattle.fedi_town.specs.Objects.{makes, maker_of, object_of, rewrite_act, rewrite_ref, whole_of}
 use Rattle.fedi_town.specs.Relations.{blocks, has_block_between, is_about, is_block_of, ref_id}
 use Rattle.fedi_town.specs.Seeing.{reaches, seen, sees, sees_as, sees_with}
 use Rattle.fedi_town.specs.Showing.{bare_tombstone, id_of_caller, object_or_id, present_object, shown_activity, shown_object, shown_ref, sight_of, view}
-use Rattle.fedi_town.specs.Towns.{Town, count_of, deed, id_of, is_by}
+use Rattle.fedi_town.specs.Towns.{Town, count_of, id_of, is_by}
 use Rattle.fedi_town.proofs.Lists.{filter-through, find-through, list_any-agree, list_any-through, map-through}
 use Rattle.fedi_laws.specs.Statements.{bare_object, without_deleted}
 

@@ -1,7 +1,7 @@
 -- No answer names those who are hidden.
 use Rattle.std.proofs.Common.{◌≡◌, ℕ, zero, suc, ◌+◌, Bool, true, false, List, [], ◌∷◌, ◌++◌, length, Option, Some, None, refl}
 use Rattle.std.proofs.lemmas.Bool.{and_parts}
-use Rattle.std.specs.Prelude.{◌&&◌, ◌||◌, ◌==◌, map, codes, nat_le, nat_lt, if◌then◌else◌}
+use Rattle.std.specs.Prelude.{◌&&◌, ◌||◌, ◌==◌, map, codes, nat_le, if◌then◌else◌}
 use Rattle.std.specs.Ordering.{nat_cmp, match_ordering}
 use Rattle.std.specs.declared.cmp.Ordering.TheVariants.{Less, Equal, Greater}
 use Rattle.std.specs.Cmp.Lexicographic.{slice_cmp}
@@ -21,14 +21,12 @@ use Rattle.fedi_town.specs.declared.caller.Which.{Which}
 use Rattle.fedi_town.specs.declared.caller.Which.TheVariants as whiches
 use Rattle.fedi_town.specs.Agreement.{repeats_of, peer_of}
 use Rattle.fedi_town.specs.Collections.{items, owner_of, highest, page_of}
-use Rattle.fedi_town.specs.Deeds.{deed_of}
 use Rattle.fedi_town.specs.Origins.{is_foreign}
 use Rattle.fedi_town.specs.Ids.{actor_id, activity_id, object_id}
 use Rattle.fedi_town.specs.Objects.{whole_of}
-use Rattle.fedi_town.specs.Relations.{ref_id}
 use Rattle.fedi_town.specs.Rules.{broken_post, seen_act, seen_maker}
 use Rattle.fedi_town.specs.Showing.{shown_activity}
-use Rattle.fedi_town.specs.Towns.{Town, count_of, id_of}
+use Rattle.fedi_town.specs.Towns.{Town, id_of}
 use Rattle.fedi_asks.specs.declared.ask.Ask.{Ask}
 use Rattle.fedi_asks.specs.declared.ask.Ask.TheVariants.{Nowhere, WrongMethod, Webfinger, Actor, Collection, Activity, Object, Outbox, Inbox}
 use Rattle.fedi_asks.specs.declared.ask.PageAsk.{PageAsk}

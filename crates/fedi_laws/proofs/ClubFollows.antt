@@ -22,7 +22,7 @@ use Rattle.fedi_town.specs.Seeing.{sees_as, is_of_peer, reaches, sees}
 use Rattle.fedi_objects.specs.Limits.{is_text, is_type, is_date}
 use Rattle.fedi_town.specs.Showing.{present_object, shown_ref, shown_activity, sight_of}
 use Rattle.fedi_town.specs.States.{is_like_of, is_announce_of, has_room, is_locked, follow_state, can_be_undone, state_of}
-use Rattle.fedi_town.specs.Towns.{Town, count_of, count_after, has_name, has_id, has_digest, has_host, is_by}
+use Rattle.fedi_town.specs.Towns.{Town, count_of, has_name, has_id, has_digest, has_host, is_by}
 use Rattle.fedi_town.proofs.Texts.{is_false}
 use Rattle.fedi_laws.specs.ClubFollows.{LockedFollow, BlockAndUndo, PostToFollowers, LastNumber}
 

@@ -1,6 +1,6 @@
 -- A delivery that only adds an inbox changes nothing for others than that inbox's owner.
-use Rattle.std.proofs.Common.{◌≡◌, ℕ, Bool, true, false, List, [], ◌∷◌, ◌++◌, length, Option, Some, None, refl, ap, ◌∙◌}
-use Rattle.std.specs.Prelude.{map, filter, option_map, if◌then◌else◌}
+use Rattle.std.proofs.Common.{◌≡◌, ℕ, false, List, [], ◌∷◌, ◌++◌, length, Option, Some, None, refl, ap, ◌∙◌}
+use Rattle.std.specs.Prelude.{map, filter, option_map}
 use Rattle.std.specs.List.{list_any, find, filter_map}
 use Rattle.std.specs.Str.{bytes_eq}
 use Rattle.std.proofs.lemmas.List.{length-map}
@@ -11,7 +11,7 @@ use Rattle.fedi_town.proofs.Lists.{list_any-through, filter-through, find-throug
 use Rattle.fedi_town.specs.Agreement.{Agree, SameOwn, IsSameOwn, peer_of}
 use Rattle.fedi_town.specs.Histories.{with_recipient}
 use Rattle.fedi_town.specs.Objects.{makes, maker_of, object_of}
-use Rattle.fedi_town.specs.Relations.{ref_id, has_activity_id, is_id, is_about, is_block_of, blocks, has_block_between}
+use Rattle.fedi_town.specs.Relations.{ref_id, is_id, is_about, is_block_of, blocks, has_block_between}
 use Rattle.fedi_town.specs.Seeing.{sees, sees_as, sees_with, seen, reaches, is_of_peer}
 use Rattle.fedi_town.specs.Showing.{sight_of, shown_ref, shown_activity, present_object, id_of_caller, own_among, view}
 use Rattle.fedi_town.specs.Towns.{Town, id_of, is_by}

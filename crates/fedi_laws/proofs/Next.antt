@@ -1,9 +1,8 @@
 -- The entry that an ask makes is admissible, so that a legal history stays one, and built where the ask is.
 use Rattle.std.proofs.Common.{◌≡◌, ℕ, Bool, true, false, List, [], ◌∷◌, Option, Some, None, refl, ap, subst}
-use Rattle.std.specs.Prelude.{filter, is_none, if◌then◌else◌, option_map}
+use Rattle.std.specs.Prelude.{filter, if◌then◌else◌, option_map}
 use Rattle.std.specs.List.{list_any, find, filter_map, cons_option}
 use Rattle.std.specs.Str.{bytes_eq}
-use Rattle.std.proofs.lemmas.Bool.{and_parts}
 use Rattle.fedi_town.specs.declared.refusal.Refusal.{Refusal}
 use Rattle.fedi_town.specs.declared.refusal.Refusal.TheVariants.{NotOrigin}
 use Rattle.fedi_objects.specs.declared.activity.Activity as activities
@@ -24,13 +23,11 @@ use Rattle.fedi_asks.specs.declared.post.Read.TheVariants.{NotJson, Bad, Ready}
 use Rattle.fedi_laws.proofs.Knowledge.{self_is}
 use Rattle.fedi_town.specs.Agreement.{repeats_of}
 use Rattle.fedi_town.specs.Built.{is_built}
-use Rattle.fedi_town.specs.Deeds.{is_create}
 use Rattle.fedi_town.specs.Origins.{is_foreign, has_inbox}
 use Rattle.fedi_town.specs.Legal.{is_admissible, may_deliver, is_new_key, has_key}
-use Rattle.fedi_town.specs.Relations.{ref_id}
 use Rattle.fedi_town.specs.Rules.{broken_post}
 use Rattle.fedi_town.specs.Shapes.{is_posted, is_delivered}
-use Rattle.fedi_town.specs.Towns.{Town, is_by, has_host, count_of, id_of}
+use Rattle.fedi_town.specs.Towns.{Town, is_by, has_host, id_of}
 use Rattle.fedi_town.specs.declared.act.Act.{Act}
 use Rattle.fedi_town.specs.declared.act.Peer.{Peer}
 use Rattle.fedi_town.specs.declared.caller.Caller.{Caller}
