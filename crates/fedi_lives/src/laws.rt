@@ -46,8 +46,12 @@ pub fn later_crashes_end_lives()
         → AllByRecursion IsFormed (opened ++ history_of (since base log))
         → base.kept ≤ length seen
         → (crash : IsLeftAfter base seen log (map code_of opened) left)
-        → IsLife (record { base = base; opened = opened;
-        log = since base (seen ++ crash.past); left = left }) }
+        → IsLife (record {
+          base = base;
+          opened = opened;
+          log = since base (seen ++ crash.past);
+          left = left;
+        }) }
     ensures begins { (base : Base) (seen past : Log) → base.kept ≤ length seen
         → since base (seen ++ past) ≡ since base seen ++ past }
 {}

@@ -20,8 +20,9 @@ pub use answers::answer;
 pub use commands::{Command, command_of, store_of};
 pub use connection::Connection;
 pub use laws::{
-    acknowledged_entries_survive, conversations_are_determined, conversations_have_no_gaps, conversations_own_their_items,
-    conversations_stand_in_the_log, conversations_stay, failures_are_marked,
+    acknowledged_entries_survive, conversations_are_determined, conversations_have_no_gaps,
+    conversations_own_their_items, conversations_stand_in_the_log, conversations_stay,
+    failures_are_marked,
 };
 pub use running::{Ended, run};
 pub use sessions::{SessionEnd, exchange, session};

@@ -35,8 +35,7 @@ returns-in_default-clause-text g c =
     let z = c.in_default.is in
     let n : c.in_ok-reply.field-0.entry ≡ None = cc in
     let d : IsDecided (state_of c.args.core.now.history (g.P.Keeper.shown c.args.core.now.keeper)) c.args.moment c.args.request.now c.args.body.now c.in-Ok.caller c.in_ok-ask.ask c.in_ok-reply.field-0.reply (None) =
-    decided _ _ c.args.request.now c.args.body.now c.in-Ok.caller c.in_ok-ask.ask c.in_ok-reply.field-0.reply _ _ _ (sym caller) c.host.ensures c.in_ok-ask.ensures.asks e.reply e.entry e.private n in
-    (
+    decided _ _ c.args.request.now c.args.body.now c.in-Ok.caller c.in_ok-ask.ask c.in_ok-reply.field-0.reply _ _ _ (sym caller) c.host.ensures c.in_ok-ask.ensures.asks e.reply e.entry e.private n in (
       c.in_ok-reply.field-0.reply,
       read_answers _ _ _ _ c.args.request.now c.args.body.now c.in-Ok.caller c.in_ok-ask.ask c.in_ok-reply.field-0.reply (g.met.P.Keeper.crash_now c.args.core.now.keeper) d,
       c.in_ok-text.ensures,
@@ -51,8 +50,7 @@ returns-in-Ok-keep-clause-text g c =
     let n : c.in_ok-reply.field-0.entry ≡ Some c.in-Some.entry = cc in
     let d : IsDecided (state_of c.args.core.now.history (g.P.Keeper.shown c.args.core.now.keeper)) c.args.moment c.args.request.now c.args.body.now c.in-Ok.caller c.in_ok-ask.ask c.in_ok-reply.field-0.reply (Some c.in-Some.entry) =
     decided _ _ c.args.request.now c.args.body.now c.in-Ok.caller c.in_ok-ask.ask c.in_ok-reply.field-0.reply _ _ _ (sym caller) c.host.ensures c.in_ok-ask.ensures.asks e.reply e.entry e.private n in
-    let k = c.in-Ok-keep.ensures in
-    (
+    let k = c.in-Ok-keep.ensures in (
       c.in_ok-reply.field-0.reply,
       kept_answers _ _ _ _ _ c.args.request.now c.args.body.now c.in-Ok.caller c.in_ok-ask.ask c.in_ok-reply.field-0.reply c.in-Some.entry d k.kept.fits
           (kept_turn _ _ _ _ c.in-Some.entry k.kept k.time),
@@ -88,8 +86,7 @@ returns-in-Failed-clause-text g c =
     let n : c.in_ok-reply.field-0.entry ≡ Some c.in-Some.entry = cc in
     let d : IsDecided (state_of c.args.core.now.history (g.P.Keeper.shown c.args.core.now.keeper)) c.args.moment c.args.request.now c.args.body.now c.in-Ok.caller c.in_ok-ask.ask c.in_ok-reply.field-0.reply (Some c.in-Some.entry) =
     decided _ _ c.args.request.now c.args.body.now c.in-Ok.caller c.in_ok-ask.ask c.in_ok-reply.field-0.reply _ _ _ (sym caller) c.host.ensures c.in_ok-ask.ensures.asks e.reply e.entry e.private n in
-    let x = c.in-Err-keep.ensures in
-    (
+    let x = c.in-Err-keep.ensures in (
       _,
       failed_answers _ _ _ _ _ c.args.request.now c.args.body.now c.in-Ok.caller c.in_ok-ask.ask c.in_ok-reply.field-0.reply c.in-Some.entry d
           (fits_by g.P.Keeper.room _ c.in-Err-keep.field-0.fault _ _ c.in-Failed.is x.refused)
