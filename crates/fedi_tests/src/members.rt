@@ -80,12 +80,15 @@ const DRAWS: [(&str, usize, &[u8], &[u64], u8, &str, &[u8]); 9] = [
 
 /// Which calls of the disk fail, counted from the append's first, which are four, and which writes,
 /// and the status, what is printed, and the record that is kept.
-const FAULTS: [(&[u64], &[u64], u8, &str, &[u8]); 8] = [
+const FAULTS: [(&[u64], &[u64], u8, &str, &[u8]); 10] = [
     (&[0], &[], 5, "disk fault\n", NOTHING),
     (&[1], &[], 5, "disk fault\n", NOTHING),
     (&[2], &[], 5, "disk fault\n", NOTHING),
-    // The record's gate is open, and that is not synced.
-    (&[3], &[], 5, "disk fault\n", UNLOCKED),
+    // The record's gate is open, and that is not synced: it is closed again, unless that fails too,
+    // at its write or at its sync.
+    (&[3], &[], 5, "disk fault\n", NOTHING),
+    (&[3, 4], &[], 5, "disk fault\n", UNLOCKED),
+    (&[3, 5], &[], 5, "disk fault\n", NOTHING),
     (&[4], &[], 0, EVA, UNLOCKED),
     // A write fails: the member was made.
     (&[], &[1], 7, "eva 30", UNLOCKED),
