@@ -15,7 +15,7 @@ use fedi_program::{Connection, session};
 use fedi_routes::Routes;
 use fedi_store::PlainShelf;
 use fedi_text::Moment;
-use fedi_town::CommandFault;
+use fedi_town::{CommandFault, next_number};
 use std::alloc::{AllocError, Global};
 use std::test::Fail;
 
@@ -204,4 +204,13 @@ fn servers_see_what_they_may_and_a_keeper_may_be_full(rt: HostRuntime) -> Result
         expect_machine(rt.alloc(), end_below(*room), &MEMBERS, *wanted)?;
     }
     Ok(())
+}
+
+#[test]
+fn the_last_activity_of_a_member_has_the_last_number() -> Result<(), Fail> {
+    expect(next_number(0) == Some(1), "the first number")?;
+    expect(
+        next_number(4_294_967_294) == Some(4_294_967_295) && next_number(4_294_967_295).is_none(),
+        "the last number",
+    )
 }
