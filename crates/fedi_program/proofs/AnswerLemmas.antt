@@ -28,7 +28,7 @@ use Rattle.fedi_town.specs.Towns.{Town}
 use Rattle.fedi_program.specs.Conversations.{IsPrivateReply, IsReply, Settles}
 use Rattle.fedi_program.specs.Crashing.{Standing, Turns}
 use Rattle.fedi_program.specs.Endings.{IsAnswerText, IsTurn}
-use Rattle.fedi_program.proofs.Turning.{IsUnkept, idle_turn}
+use Rattle.fedi_program.proofs.Turning.{idle_turn}
 
 -- ---- who may not be taken for a caller
 
@@ -168,10 +168,6 @@ decided state moment q body c ask r made other host is at asks reply_is made_is 
 }
 
 -- ---- why an entry was not kept
-
--- by a reason that is another's name
-pub unkept_by : (room : ℕ → ℕ) (before after : Standing) (e : Entry) (f fault : KeepFault) → f ≡ fault → IsUnkept room before after e f → IsUnkept room before after e fault
-unkept_by room before after e f fault is k = subst (IsUnkept room before after e) is k
 
 pub full_by : (room : ℕ → ℕ) (code : List ℕ) (f : KeepFault) (before after : KeeperState) → f ≡ faults.Full → Refuses room code f before after
     → IsFull room before.end (length code)

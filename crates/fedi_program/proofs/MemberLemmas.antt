@@ -1,13 +1,12 @@
 -- What the making of a member leaves: a status that it may end with, and a machine that stands for a log.
 use Rattle.std.proofs.Common.{◌≡◌, ◌⊎◌, ℕ, Bool, true, false, if◌then◌else◌, List, length, ◌++◌, Option, None, Some, Result, Ok, Err, OnOk, OnErr, inl, inr, refl, sym, ap, subst, ◌∙◌}
 use Rattle.std.specs.List.{list_any}
-use Rattle.fedi_core.specs.Commands.{IsCommand, RefusesCommand}
-use Rattle.fedi_core.specs.Crashing.{PassesTimeRefused}
+use Rattle.fedi_core.specs.Commands.{IsCommand}
 use Rattle.fedi_core.specs.declared.keeping.KeepFault.TheVariants as keeps
 use Rattle.fedi_core.proofs.Crashing.{quiet_call, settled_after}
 use Rattle.fedi_entry.specs.Codes.{code_of}
-use Rattle.fedi_log.specs.Keeping.{Base, Follows, State}
-use Rattle.fedi_log.specs.Log.{Failed, Full, NoEntry, given, items_of}
+use Rattle.fedi_log.specs.Keeping.{Base, State}
+use Rattle.fedi_log.specs.Log.{Failed, given, items_of}
 use Rattle.fedi_log.proofs.Keeping.{unchanged}
 use Rattle.fedi_objects.specs.declared.entry.Entry.{Entry}
 use Rattle.fedi_objects.specs.declared.entry.Entry.TheVariants.{Hosted, Made, PeerSet, Local, Remote, Tried}
@@ -17,18 +16,18 @@ use Rattle.fedi_town.specs.declared.command_fault.CommandFault.{CommandFault}
 use Rattle.fedi_town.specs.declared.command_fault.CommandFault.TheVariants as faults
 use Rattle.fedi_town.specs.Histories.{town}
 use Rattle.fedi_town.specs.Legal.{broken_command}
-use Rattle.fedi_town.specs.Towns.{Town, has_digest, has_name}
+use Rattle.fedi_town.specs.Towns.{has_digest, has_name}
 use Rattle.fedi_startup.specs.Marks.{SurvivesMarked}
 use Rattle.fedi_startup.specs.Surviving.{growth, room}
 use Rattle.fedi_program.specs.Commands.{AddActor, Init, Task}
-use Rattle.fedi_program.specs.Crashing.{Standing, SurvivesTurn, Turns}
+use Rattle.fedi_program.specs.Crashing.{Standing, Turns}
 use Rattle.fedi_program.specs.Endings.{Output, Prints}
 use Rattle.fedi_program.specs.Members.{Chance, EndsWith, IsSettled, IsUnmade, MakesMember, TellsFault, key_line, member_entry}
 use Rattle.fedi_program.specs.Runs.{is_status_of}
 use Rattle.fedi_program.specs.Stores.{AddsMember, Medium}
 use Rattle.fedi_program.proofs.CrashLemmas.{survives_more, survives_turn}
 use Rattle.fedi_program.proofs.RunLemmas.{known_status, told_status}
-use Rattle.fedi_program.proofs.Turning.{IsUnkept, failed_turn, full_turn, memory_turn}
+use Rattle.fedi_program.proofs.Turning.{IsUnkept, failed_turn}
 
 -- ---- the status
 
@@ -66,33 +65,6 @@ adds_status told before after chance left first now name locked status (inl (fau
     told_status (Some (AddActor name locked)) fault first now status refl refl refl refl tells
 adds_status told before after chance left first now name locked status (inr (opened, closed, _, made)) =
     member_status growth room told chance left opened closed first now name locked status made
-
--- ---- one turn of the machine
-
--- the keeper was not asked, since a rule is broken
-broken_turn : (growth : ℕ → ℕ) (before after : Standing) → after.state.history ≡ before.state.history → after.state.keeper ≡ before.state.keeper
-    → PassesTime before.state.keeper.records before.state.keeper.doubt before.crashes after.crashes → SurvivesTurn growth before after
-broken_turn growth before after same k time = (
-  NoEntry,
-  record {
-    follows = subst (λ (x : KeeperState). Follows growth before.state (record after.state { keeper = x }) NoEntry) (sym k)
-        (unchanged growth before.state (record after.state { keeper = before.state.keeper }) same refl refl refl refl);
-    passes = time;
-    may_fail = tt;
-  },
-)
-
--- a command was refused
-pub command_turn : (growth room : ℕ → ℕ) (t : Town) (before after : Standing) (e : Entry) (fault : CommandFault) → after.state.history ≡ before.state.history
-    → (fault ≡ faults.KeeperFault → IsNext (town before.state.history) e) → RefusesCommand room t e fault before.state.keeper after.state.keeper
-    → PassesTimeRefused fault before.state.keeper.records before.state.keeper.doubt (code_of e) before.crashes after.crashes → SurvivesTurn growth before after
-command_turn growth room t before after e faults.NameTaken same may k time = broken_turn growth before after same k.1 time
-command_turn growth room t before after e faults.KeyTaken same may k time = broken_turn growth before after same k.1 time
-command_turn growth room t before after e faults.HostTaken same may k time = broken_turn growth before after same k.1 time
-command_turn growth room t before after e faults.BadAddress same may k time = broken_turn growth before after same k.1 time
-command_turn growth room t before after e faults.Full same may k time = (Full e, full_turn growth room before after e same (k.1, time))
-command_turn growth room t before after e faults.KeeperFault same may k time = (Failed e, failed_turn growth room before after e same (may refl) (k.1, time))
-command_turn growth room t before after e faults.Memory same may k time = (NoEntry, memory_turn growth room before after e same (k.1, time))
 
 -- ---- a keeper that failed was asked to settle
 
@@ -155,17 +127,6 @@ pub settles : {T E : Type 0} (refused after : State) (settled : Result T E) → 
     → OnOk settled (after.keeper ≡ record refused.keeper { doubt = None }) → OnErr settled (after.keeper ≡ after_fault refused.keeper) → IsSettled refused after
 settles refused after (Ok x) still done failed = (still, inl done)
 settles refused after (Err x) still done failed = (still, inr failed)
-
--- a reason other than that the keeper failed: nothing was done after it
-pub refused_only : (room : ℕ → ℕ) (before after : State) (e : Entry) (fault : CommandFault) → (fault ≡ faults.KeeperFault → ⊥) → after.history ≡ before.history
-    → RefusesCommand room (town before.history) e fault before.keeper after.keeper → IsUnmade room before after e fault
-refused_only room before after e faults.NameTaken other same k = (after, same, k, refl)
-refused_only room before after e faults.KeyTaken other same k = (after, same, k, refl)
-refused_only room before after e faults.HostTaken other same k = (after, same, k, refl)
-refused_only room before after e faults.BadAddress other same k = (after, same, k, refl)
-refused_only room before after e faults.Full other same k = (after, same, k, refl)
-refused_only room before after e faults.KeeperFault other same k = absurd (other refl)
-refused_only room before after e faults.Memory other same k = (after, same, k, refl)
 
 -- a command that breaks a rule was refused for it
 pub broken_unmade : (room : ℕ → ℕ) (s : State) (e : Entry) (fault : CommandFault) → IsCommand (town s.history) e → broken_command (town s.history) e ≡ Some fault

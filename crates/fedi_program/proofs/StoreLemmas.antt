@@ -1,5 +1,5 @@
 -- A machine that was opened over a disk, and closed.
-use Rattle.std.proofs.Common.{◌≡◌, ℕ, ◌≤◌, Option, Some, None, List, inl, inr, refl, sym, subst, ◌∙◌}
+use Rattle.std.proofs.Common.{◌≡◌, ℕ, ◌≤◌, Bool, Option, Some, None, List, inl, inr, refl, sym, subst, ◌∙◌}
 use Rattle.std.specs.Prelude.{IfSome, option_map}
 use Rattle.fedi_address.specs.Hosts.{IsHost}
 use Rattle.fedi_entry.specs.Codes.{code_of}
@@ -21,11 +21,12 @@ use Rattle.fedi_startup.proofs.Told.{each_some}
 use Rattle.fedi_startup.specs.Making.{LeavesAtMost}
 use Rattle.fedi_startup.specs.Marks.{Survives}
 use Rattle.fedi_startup.specs.Stores.{HasRecords, HasSameRecords, IsClosed, IsOpened, IsStoreOf, KeepsForeign, LeavesFiles, LeavesNothingNew, records_of}
-use Rattle.fedi_startup.specs.Surviving.{LeavesStoresAlong, LeavesStoresFound, SurvivesOnDisk, opened_base}
+use Rattle.fedi_startup.specs.Surviving.{LeavesStoresAlong, LeavesStoresFound, SurvivesOnDisk, growth, opened_base, room}
 use Rattle.fedi_startup.specs.declared.faults.StoreFault.TheVariants as faults
 use Rattle.fedi_program.specs.Conversations.{IsNow}
-use Rattle.fedi_program.specs.Endings.{Output}
-use Rattle.fedi_program.specs.Stores.{ChecksStore, Counts, EndsMaking, IsRefused, IsServed, MakesStore}
+use Rattle.fedi_program.specs.Endings.{Output, RunsTo, Scene, setting_of}
+use Rattle.fedi_program.specs.Members.{Chance, MakesMember}
+use Rattle.fedi_program.specs.Stores.{AddsMember, ChecksStore, Counts, EndsMaking, IsRefused, IsServed, MakesStore, ServesStore}
 
 pub served : (start found later : DiskState) (before middle after : DiskCrashes) (opened closed : State) (log : Log) (count : ℕ)
     → IsOpened start opened → opened.keeper.records ≡ records_told plain count found → before.clock ≤ middle.clock
@@ -57,6 +58,31 @@ served start found later before middle after opened closed log count opens told 
         → IfSome reads (λ _. LeavesStoresFound before after opened.history (since (opened_base opened) log))
     with_found None all = tt
     with_found (Some bytes) all = stores_found before after opened closed log opens.some opens.doubt closes.sound survives.holds survives.marks all
+
+-- and served a connection in between
+pub serves : (told : Option ℕ) (start found later : DiskState) (before middle after : DiskCrashes) (opened closed : State) (log : Log) (count : ℕ) (first now : Scene) (status : ℕ)
+    → IsOpened start opened → opened.keeper.records ≡ records_told plain count found → before.clock ≤ middle.clock
+    → IfSome start.reads (λ _. LeavesNothingNew before middle)
+    → IfSome start.reads (λ _. LeavesFiles middle (records_of opened.history) None) → ((image : List ℕ) → middle.left_since middle.clock image → middle.may_leave image)
+    → Survives (opened_base opened) None (given opened.history) log closed (record_crashes plain found middle) (record_crashes plain later after)
+    → IsClosed later after closed
+    → RunsTo (setting_of growth room told opened) opened log first now status
+    → ServesStore told (record { shown = start; crashes = before }) (record { shown = later; crashes = after }) first now status
+serves told start found later before middle after opened closed log count first now status opens records clock nothing left only survives closes runs =
+    inr (opened, closed, log, served start found later before middle after opened closed log count opens records clock nothing left only survives closes, runs)
+
+-- or made a member
+pub adds : (told : Option ℕ) (start found later : DiskState) (before middle after : DiskCrashes) (opened closed : State) (log : Log) (count : ℕ) (chance spent : Chance) (first now : Output)
+    (name : List ℕ) (locked : Bool) (status : ℕ)
+    → IsOpened start opened → opened.keeper.records ≡ records_told plain count found → before.clock ≤ middle.clock
+    → IfSome start.reads (λ _. LeavesNothingNew before middle)
+    → IfSome start.reads (λ _. LeavesFiles middle (records_of opened.history) None) → ((image : List ℕ) → middle.left_since middle.clock image → middle.may_leave image)
+    → Survives (opened_base opened) None (given opened.history) log closed (record_crashes plain found middle) (record_crashes plain later after)
+    → IsClosed later after closed
+    → MakesMember growth room told chance spent opened closed first now name locked status
+    → AddsMember told (record { shown = start; crashes = before }) (record { shown = later; crashes = after }) chance spent first now name locked status
+adds told start found later before middle after opened closed log count chance spent first now name locked status opens records clock nothing left only survives closes made =
+    inr (opened, closed, (log, served start found later before middle after opened closed log count opens records clock nothing left only survives closes), made)
 
 -- a machine that was opened, and closed before it did anything, for want of memory
 pub given_up : (start found : DiskState) (before middle : DiskCrashes) (opened : State) → IsOpened start opened → IsClosed found middle opened

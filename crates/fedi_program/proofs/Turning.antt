@@ -66,6 +66,28 @@ failed_turn growth room before after e same next k =
       may_fail = next;
     }
 
+-- by a reason that is another's name
+pub unkept_by : (room : ℕ → ℕ) (before after : Standing) (e : Entry) (f fault : KeepFault) → f ≡ fault → IsUnkept room before after e f → IsUnkept room before after e fault
+unkept_by room before after e f fault is k = subst (IsUnkept room before after e) is k
+
+pub memory_turn_by : (growth room : ℕ → ℕ) (before after : Standing) (e : Entry) (f : KeepFault) → f ≡ faults.Memory → after.state.history ≡ before.state.history
+    → Refuses room (code_of e) f before.state.keeper after.state.keeper
+    → PassesTimeUnkept f before.state.keeper.records before.state.keeper.doubt (code_of e) before.crashes after.crashes → Turns growth before after NoEntry
+memory_turn_by growth room before after e f is same refused time =
+    memory_turn growth room before after e same (unkept_by room before after e f faults.Memory is (refused, time))
+
+pub full_turn_by : (growth room : ℕ → ℕ) (before after : Standing) (e : Entry) (f : KeepFault) → f ≡ faults.Full → after.state.history ≡ before.state.history
+    → Refuses room (code_of e) f before.state.keeper after.state.keeper
+    → PassesTimeUnkept f before.state.keeper.records before.state.keeper.doubt (code_of e) before.crashes after.crashes → Turns growth before after (Full e)
+full_turn_by growth room before after e f is same refused time =
+    full_turn growth room before after e same (unkept_by room before after e f faults.Full is (refused, time))
+
+pub failed_turn_by : (growth room : ℕ → ℕ) (before after : Standing) (e : Entry) (f : KeepFault) → f ≡ faults.Failed → after.state.history ≡ before.state.history
+    → IsNext (town before.state.history) e → Refuses room (code_of e) f before.state.keeper after.state.keeper
+    → PassesTimeUnkept f before.state.keeper.records before.state.keeper.doubt (code_of e) before.crashes after.crashes → Turns growth before after (Failed e)
+failed_turn_by growth room before after e f is same next refused time =
+    failed_turn growth room before after e same next (unkept_by room before after e f faults.Failed is (refused, time))
+
 -- ---- it was kept
 
 pub kept_turn : (growth room : ℕ → ℕ) (before after : Standing) (e : Entry)

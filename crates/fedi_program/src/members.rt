@@ -14,7 +14,7 @@ ghost use Rattle.fedi_town.specs.Legal.{broken_command};
 use crate::printing::{print, tell};
 use crate::statuses::{DISK_FAULT, FULL, OUT_OF_MEMORY, READ_FAULT, REFUSED};
 use fedi_address::LocalName;
-use fedi_core::Core;
+use fedi_core::{Core, KeepError, KeepFault};
 use fedi_mac::{digest, hex_text};
 use fedi_objects::Entry;
 use fedi_outside::{Clock, Entropy, Failed, Keeper, Sink};
@@ -83,14 +83,17 @@ fn enroll<P: Keeper>(
     let Ok(line) = key_line(alloc, name, key) else {
         return Err(CommandFault::Memory);
     };
-    match core.command(alloc, entry) {
+    match core.keep(alloc, entry) {
         Ok(()) => Ok(line),
-        Err(CommandFault::KeeperFault) => {
-            // Whatever becomes of it, the command failed.
-            let _ = core.settle();
-            Err(CommandFault::KeeperFault)
-        }
-        Err(fault) => Err(fault),
+        Err(KeepError { fault, .. }) => match fault {
+            KeepFault::Full => Err(CommandFault::Full),
+            KeepFault::Failed => {
+                // Whatever becomes of it, the command failed.
+                let _ = core.settle();
+                Err(CommandFault::KeeperFault)
+            }
+            KeepFault::Memory => Err(CommandFault::Memory),
+        },
     }
 }
 

@@ -1,9 +1,8 @@
 use Rattle.std.proofs.Common.{◌≡◌, ℕ, List, Option, None, Some, refl, subst, sym}
-use Rattle.fedi_core.specs.declared.keeping.KeepFault.TheVariants as faults
 use Rattle.fedi_log.specs.Keeping.{state_of}
 use Rattle.fedi_model.specs.Routes.{IsPostableAt}
-use Rattle.fedi_program.proofs.AnswerLemmas.{IsDecided, decided, failed_answers, fits_by, full_answers, full_by, full_untold, kept_answers, read_answers, refused_answers, texted, unkept_by, untexted}
-use Rattle.fedi_program.proofs.Turning.{failed_turn, full_turn, idle_turn, kept_turn, memory_turn}
+use Rattle.fedi_program.proofs.AnswerLemmas.{IsDecided, decided, failed_answers, fits_by, full_answers, full_by, full_untold, kept_answers, read_answers, refused_answers, texted, untexted}
+use Rattle.fedi_program.proofs.Turning.{failed_turn_by, full_turn_by, idle_turn, kept_turn, memory_turn_by}
 use Rattle.fedi_program.proofs.answers.answer.Goals as goal
 
 pub returns-in-Err-clause-text : goal.returns-in-Err-clause-text
@@ -70,12 +69,12 @@ returns-in-Full-clause-text g c =
     texted _ _ _ _ _ c.args.request.now c.args.body.now _ _ c.refusal_text-in-Full.result
     (full_answers _ _ _ _ _ c.args.request.now c.args.body.now c.in-Ok.caller c.in_ok-ask.ask c.in_ok-reply.field-0.reply c.in-Some.entry d
     (full_by g.P.Keeper.room _ c.in-Err-keep.field-0.fault _ _ c.in-Full.is x.refused)
-    (full_turn _ g.P.Keeper.room _ _ c.in-Some.entry x.same (unkept_by g.P.Keeper.room _ _ c.in-Some.entry c.in-Err-keep.field-0.fault faults.Full c.in-Full.is (x.refused, x.time_refused)))) c.refusal_text-in-Full.ensures
+    (full_turn_by _ g.P.Keeper.room _ _ c.in-Some.entry c.in-Err-keep.field-0.fault c.in-Full.is x.same x.refused x.time_refused)) c.refusal_text-in-Full.ensures
 
 pub returns-in-Full-clause-unanswered : goal.returns-in-Full-clause-unanswered
 returns-in-Full-clause-unanswered g c =
     let x = c.in-Err-keep.ensures in
-    untexted _ _ _ c.refusal_text-in-Full.result (full_untold _ _ _ c.in-Some.entry (full_turn _ g.P.Keeper.room _ _ c.in-Some.entry x.same (unkept_by g.P.Keeper.room _ _ c.in-Some.entry c.in-Err-keep.field-0.fault faults.Full c.in-Full.is (x.refused, x.time_refused))))
+    untexted _ _ _ c.refusal_text-in-Full.result (full_untold _ _ _ c.in-Some.entry (full_turn_by _ g.P.Keeper.room _ _ c.in-Some.entry c.in-Err-keep.field-0.fault c.in-Full.is x.same x.refused x.time_refused))
 
 pub returns-in-Failed-clause-text : goal.returns-in-Failed-clause-text
 returns-in-Failed-clause-text g c =
@@ -90,14 +89,14 @@ returns-in-Failed-clause-text g c =
       _,
       failed_answers _ _ _ _ _ c.args.request.now c.args.body.now c.in-Ok.caller c.in_ok-ask.ask c.in_ok-reply.field-0.reply c.in-Some.entry d
           (fits_by g.P.Keeper.room _ c.in-Err-keep.field-0.fault _ _ c.in-Failed.is x.refused)
-          (failed_turn _ g.P.Keeper.room _ _ c.in-Some.entry x.same (x.next c.in-Failed.is) (unkept_by g.P.Keeper.room _ _ c.in-Some.entry c.in-Err-keep.field-0.fault faults.Failed c.in-Failed.is (x.refused, x.time_refused))),
+          (failed_turn_by _ g.P.Keeper.room _ _ c.in-Some.entry c.in-Err-keep.field-0.fault c.in-Failed.is x.same (x.next c.in-Failed.is) x.refused x.time_refused),
       c.in_ok-fault_text.ensures,
     )
 
 pub returns-clause-unanswered : goal.returns-clause-unanswered
 returns-clause-unanswered g c =
     let x = c.in-Err-keep.ensures in
-    memory_turn _ g.P.Keeper.room _ _ c.in-Some.entry x.same (unkept_by g.P.Keeper.room _ _ c.in-Some.entry c.in-Err-keep.field-0.fault faults.Memory c.in-Memory.is (x.refused, x.time_refused))
+    memory_turn_by _ g.P.Keeper.room _ _ c.in-Some.entry c.in-Err-keep.field-0.fault c.in-Memory.is x.same x.refused x.time_refused
 
 pub decide-requires-clause-postable : goal.decide-requires-clause-postable
 decide-requires-clause-postable g c = subst (λ (host : Option (List ℕ)). IsPostableAt host c.in_ok-ask.ask) c.host.ensures c.in_ok-ask.ensures.postable

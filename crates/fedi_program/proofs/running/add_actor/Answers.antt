@@ -1,6 +1,6 @@
-use Rattle.std.proofs.Common.{length, inr, refl}
+use Rattle.std.proofs.Common.{length, refl}
 use Rattle.fedi_program.proofs.Hosted.{hosted}
-use Rattle.fedi_program.proofs.StoreLemmas.{served}
+use Rattle.fedi_program.proofs.StoreLemmas.{adds}
 use Rattle.fedi_program.proofs.running.add_actor.Goals as goal
 
 pub make_member-status-requires : goal.make_member-status-requires
@@ -15,14 +15,7 @@ returns-in-Ok-clause-added g c =
     let last = now.keeper.disk in
     let closed = rw c.close_store.ensures.disk at c.close_store.ensures.closed in
     let survives = c.make_member-status.ensures.crashes in
-    inr (
-      _,
-      _,
-      (
-        survives.0,
-        rw c.close_store.ensures.disk (served (g.D.Disk.shown c.args.disk) (g.D.Disk.shown core.keeper.disk) (g.D.Disk.shown last) (g.D.Disk.crashes c.args.disk)
-            (g.D.Disk.crashes core.keeper.disk) (g.D.Disk.crashes last) _ _ survives.0 (length core.keeper.gates.items)
-            c.in-Ok.ensures.opened refl c.in-Ok.ensures.clock c.in-Ok.ensures.time c.in-Ok.ensures.leaves (g.met.D.Disk.only_now core.keeper.disk) survives.1 closed),
-      ),
-      c.make_member-status.ensures.made,
-    )
+    rw c.close_store.ensures.disk (adds _ (g.D.Disk.shown c.args.disk) (g.D.Disk.shown core.keeper.disk) (g.D.Disk.shown last) (g.D.Disk.crashes c.args.disk)
+    (g.D.Disk.crashes core.keeper.disk) (g.D.Disk.crashes last) _ _ survives.0 (length core.keeper.gates.items) _ _ _ _ _ _ _
+    c.in-Ok.ensures.opened refl c.in-Ok.ensures.clock c.in-Ok.ensures.time c.in-Ok.ensures.leaves (g.met.D.Disk.only_now core.keeper.disk) survives.1 closed
+    c.make_member-status.ensures.made)

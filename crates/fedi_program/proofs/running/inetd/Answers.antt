@@ -1,6 +1,6 @@
-use Rattle.std.proofs.Common.{length, inl, inr, refl}
+use Rattle.std.proofs.Common.{length, inl, refl}
 use Rattle.fedi_startup.specs.declared.faults.StoreFault.TheVariants as faults
-use Rattle.fedi_program.proofs.StoreLemmas.{given_up, served}
+use Rattle.fedi_program.proofs.StoreLemmas.{given_up, serves}
 use Rattle.fedi_program.proofs.running.inetd.Goals as goal
 
 pub returns-in-Ok-new-clause-session : goal.returns-in-Ok-new-clause-session
@@ -11,15 +11,10 @@ returns-in-Ok-new-clause-session g c =
     let last = now.keeper.disk in
     let closed = rw c.close_store.ensures.disk at c.close_store.ensures.closed in
     let ends = c.session-end.ensures.ends in
-    inr (
-      _,
-      _,
-      ends.0,
-      rw c.close_store.ensures.disk (served start (g.D.Disk.shown core.keeper.disk) (g.D.Disk.shown last) (g.D.Disk.crashes c.args.disk)
-          (g.D.Disk.crashes core.keeper.disk) (g.D.Disk.crashes last) _ _ ends.0 (length core.keeper.gates.items)
-          c.in-Ok.ensures.opened refl c.in-Ok.ensures.clock c.in-Ok.ensures.time c.in-Ok.ensures.leaves (g.met.D.Disk.only_now core.keeper.disk) ends.1 closed),
-      (c.session-end.result, c.status_of.ensures, ends.2),
-    )
+    rw c.close_store.ensures.disk (serves _ start (g.D.Disk.shown core.keeper.disk) (g.D.Disk.shown last) (g.D.Disk.crashes c.args.disk)
+    (g.D.Disk.crashes core.keeper.disk) (g.D.Disk.crashes last) _ _ ends.0 (length core.keeper.gates.items) _ _ _
+    c.in-Ok.ensures.opened refl c.in-Ok.ensures.clock c.in-Ok.ensures.time c.in-Ok.ensures.leaves (g.met.D.Disk.only_now core.keeper.disk) ends.1 closed
+    (c.session-end.result, c.status_of.ensures, ends.2))
 
 pub returns-in-Err-new-clause-session : goal.returns-in-Err-new-clause-session
 returns-in-Err-new-clause-session g c =

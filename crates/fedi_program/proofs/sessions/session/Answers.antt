@@ -7,11 +7,16 @@ use Rattle.fedi_program.proofs.Conversing.{caused_on, stands_first, stands_next,
 use Rattle.fedi_program.proofs.sessions.session.Goals as goal
 
 pub loop-served-init : goal.loop-served-init
-loop-served-init g c = record {
-  stands = rw c.new-buffer.ensures (stands_first _ _ _ refl refl (g.met.P.Keeper.crash_now c.args.core.now.keeper));
-  counted = refl;
-  clock = refl;
-}
+loop-served-init g c =
+    let opened = state_of c.args.core.now.history (g.P.Keeper.shown c.args.core.now.keeper) in
+    let start = standing_by g.P.Keeper.shown g.P.Keeper.crashes c.args.core.now in
+    let first = scene_of (g.S.Source.left c.args.connection.now.input) (output_by g.O.Sink.sent g.O.Sink.write_faults c.args.connection.now.out) in
+    record {
+      stands = rw c.new-buffer.ensures (stands_first (setting_of g.P.Keeper.growth g.P.Keeper.room (g.C.Clock.told c.args.connection.now.clock) opened) start first refl refl
+          (g.met.P.Keeper.crash_now c.args.core.now.keeper));
+      counted = refl;
+      clock = refl;
+    }
 
 pub returns-in-Some-clause-ends : goal.returns-in-Some-clause-ends
 returns-in-Some-clause-ends g c =
