@@ -3,7 +3,7 @@
 
 use fedi_file::FileDisk;
 use fedi_program::{
-    Connection, OUT_OF_MEMORY, Reading, SystemClock, Writing, run, store_of, system_entropy,
+    Connection, OUT_OF_MEMORY, Reading, SystemClock, SystemEntropy, Writing, run, store_of,
 };
 use std::alloc::AllocError;
 use std::io::ErrorKind;
@@ -36,7 +36,7 @@ fn main(rt: HostRuntime) -> ExitCode {
     };
     // Arguments that name no store never ask the disk, and so open nothing.
     let disk = FileDisk::new(&rt, store_of(&arguments).unwrap_or_default());
-    let mut entropy = system_entropy(&rt);
+    let mut entropy = SystemEntropy::new(&rt);
     let ended = run(rt.alloc(), &arguments, &mut connection, disk, &mut entropy);
     ExitCode::from(ended.status)
 }

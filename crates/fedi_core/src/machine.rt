@@ -88,7 +88,8 @@ impl<S: Shelf + Drop, P: Keeper> Core<S, P> {
     /// An error hands the keeper back. It is `Empty`, exactly if there is no record; `Damaged`, with the
     /// place of the first record that is the code of no entry that may come there; `Failed`, if the keeper
     /// failed, which it counts once; and `Memory`, out of memory. The keeper's records, what is in doubt and
-    /// the end of it are as before, whatever comes. Nothing may be in doubt when it is opened.
+    /// the end of it are as before, whatever comes, and what lies outside is read and not written. Nothing may
+    /// be in doubt when it is opened.
     pub fn open(alloc: Global, shelf: S, keeper: P) -> Result<Core<S, P>, (OpenFault, P)>
         requires empty { S.holding shelf ≡ empty_holding }
         requires settled { (P.shown keeper).doubt ≡ None }
@@ -99,6 +100,7 @@ impl<S: Shelf + Drop, P: Keeper> Core<S, P> {
             (history : List Entry) × IsStopped back.0 (P.shown keeper) history) }
         ensures shown { P.shown (keeper_after result)
             ≡ after_open (outcome_of result) (P.shown keeper) }
+        ensures outside { P.only_read keeper (keeper_after result) }
         ensures time { PassesTime (P.shown keeper).records (P.shown keeper).doubt
             (P.crashes keeper) (P.crashes (keeper_after result)) }
     {

@@ -409,10 +409,53 @@ module _ (f : Format) (ok : IsFormat f) where
     keeps = λ moment image past was. two.keeps moment image (omega (arith, past, one.clock)) (one.keeps moment image past was);
   }
 
+  -- an image that the two writes of an append add
+  appended_holds : (old mid : DiskState) (before between : DiskCrashes) (end at : ℕ) (gates block p : List ℕ) → at ≡ end + 1 → IsKnown f old before end gates None → IsReady old mid between end gates p
+      → (bytes image : List ℕ) → old.reads ≡ Some bytes → MayTear at block before image ⊎ MayTear end (1 ∷ []) between image → Holds (kept_in f (length gates) bytes) (Some p) image
+  appended_holds old mid before between end at gates block p is_at known ready bytes image is added =
+      ⊎_elim (staged_torn old before end at gates block p is_at known bytes image is)
+      (λ torn. open_torn (kept_in f (length gates) bytes) p end torn.0 image (known.ends bytes is) (ready.staged bytes torn.0 is torn.1) torn.2) added
+
   pub append_passes : (old mid new : DiskState) (before between after : DiskCrashes) (end at : ℕ) (gates block p : List ℕ) → at ≡ end + 1 → end + (10 + f.width + length p) ≤ 2 ^ 62 → IsKnown f old before end gates None
       → IsReady old mid between end gates p → StaysTold mid.reads new.reads → Elapses before between (MayTear at block before) → Elapses between after (MayTear end (1 ∷ []) between)
       → PassesTime (records_told f (length gates) old) (Some p) (record_crashes f old before) (record_crashes f new after)
   append_passes old mid new before between after end at gates block p is_at room known ready told one two =
       passes old new before after end gates None (Some p) _ known (elapses_then before between after _ _ one two) (told_on old.reads mid.reads new.reads ready.told told) (one_doubt end p room)
-      (λ bytes image is added. ⊎_elim (staged_torn old before end at gates block p is_at known bytes image is)
-      (λ torn. open_torn (kept_in f (length gates) bytes) p end torn.0 image (known.ends bytes is) (ready.staged bytes torn.0 is torn.1) torn.2) added)
+      (appended_holds old mid before between end at gates block p is_at known ready)
+
+  -- ---- crashes, by images
+
+  -- each image that a call adds is a file of the records, or of these with the one in doubt
+  adds_files : (old : DiskState) (before after : DiskCrashes) (end : ℕ) (gates : List ℕ) (was doubt : Option (List ℕ)) (added : List ℕ → Type 0) → IsKnown f old before end gates was
+      → Elapses before after added → FitsDoubt f end doubt → ((bytes image : List ℕ) → old.reads ≡ Some bytes → added image → Holds (kept_in f (length gates) bytes) doubt image)
+      → (kept : List (List ℕ)) → records_told f (length gates) old ≡ Some kept
+      → Elapses before after (λ image. (list : List (List ℕ)) × IsImage f list image × MayLeave kept doubt list)
+  adds_files old before after end gates was doubt added known time fits holds kept told = record {
+    clock = time.clock;
+    now = λ image left. file image (time.now image left);
+    nothing_else = λ moment image past left. ⊎_elim (λ here. inl here) (λ new_one. inr (file image new_one)) (time.nothing_else moment image past left);
+    keeps = time.keeps;
+  }
+    where
+      here : (bytes : List ℕ) × (old.reads ≡ Some bytes) × (kept_in f (length gates) bytes ≡ kept)
+      here = some_is old.reads (kept_in f (length gates)) kept told
+
+      file : (image : List ℕ) → added image → (list : List (List ℕ)) × IsImage f list image × MayLeave kept doubt list
+      file image new_one =
+          let ends = known.ends here.0 here.1 in
+          let found = image_of (kept_in f (length gates) here.0) doubt image (omega (arith, known.fits, ends)) (λ p in_doubt. omega (arith, ends, fits p in_doubt)) (holds here.0 image here.1 new_one) in
+          (found.0, found.1, subst (λ (rs : List (List ℕ)). MayLeave rs doubt found.0) here.2 found.2)
+
+  pub stage_adds_files : (old : DiskState) (before after : DiskCrashes) (end at : ℕ) (gates block p : List ℕ) → at ≡ end + 1 → end + (10 + f.width + length p) ≤ 2 ^ 62 → IsKnown f old before end gates None
+      → Elapses before after (MayTear at block before) → (kept : List (List ℕ)) → records_told f (length gates) old ≡ Some kept
+      → Elapses before after (λ image. (list : List (List ℕ)) × IsImage f list image × MayLeave kept (Some p) list)
+  stage_adds_files old before after end at gates block p is_at room known time =
+      adds_files old before after end gates None (Some p) _ known time (one_doubt end p room) (staged_torn old before end at gates block p is_at known)
+
+  pub append_adds_files : (old mid : DiskState) (before between after : DiskCrashes) (end at : ℕ) (gates block p : List ℕ) → at ≡ end + 1 → end + (10 + f.width + length p) ≤ 2 ^ 62 → IsKnown f old before end gates None
+      → IsReady old mid between end gates p → Elapses before between (MayTear at block before) → Elapses between after (MayTear end (1 ∷ []) between)
+      → (kept : List (List ℕ)) → records_told f (length gates) old ≡ Some kept
+      → Elapses before after (λ image. (list : List (List ℕ)) × IsImage f list image × MayLeave kept (Some p) list)
+  append_adds_files old mid before between after end at gates block p is_at room known ready one two =
+      adds_files old before after end gates None (Some p) _ known (elapses_then before between after _ _ one two) (one_doubt end p room)
+      (appended_holds old mid before between end at gates block p is_at known ready)

@@ -14,19 +14,6 @@ use Rattle.fedi_images.proofs.Steps.{no_doubt}
 use Rattle.fedi_journal.specs.Finding.{IsGate, IsScanned}
 use Rattle.fedi_journal.specs.declared.finding.Gate.TheVariants.{Closed, Open, Bad}
 
--- ---- readings that follow one another
-
-pub nothing_elapses : (c : DiskCrashes) → Elapses c c c.may_leave
-nothing_elapses c = record { clock = omega arith; now = λ image left. left; nothing_else = λ moment image past left. inl left; keeps = λ moment image past left. left }
-
-pub elapses_on : (a b c : DiskCrashes) → Elapses a b a.may_leave → Elapses b c b.may_leave → Elapses a c a.may_leave
-elapses_on a b c one two = record {
-  clock = omega (arith, one.clock, two.clock);
-  now = λ image left. one.now image (two.now image left);
-  nothing_else = λ moment image past left. ⊎_elim (λ here. one.nothing_else moment image past here) (λ new_one. inr (one.now image new_one)) (two.nothing_else moment image (omega (arith, past, one.clock)) left);
-  keeps = λ moment image past was. two.keeps moment image (omega (arith, past, one.clock)) (one.keeps moment image past was);
-}
-
 -- ---- the number behind a gate
 
 pub number_behind : (all head number : List ℕ) (gate : ℕ) → head ≡ take 9 (drop gate all) → number ≡ drop 1 head → take 8 (drop 1 (drop gate all)) ≡ number

@@ -2,24 +2,13 @@
 use Rattle.std.proofs.Common.{◌≡◌, inl, inr, ⊎_elim, ℕ, zero, suc, ◌+◌, ◌<◌, true, List, [], ◌∷◌, ◌++◌, length, get_or, take, drop, refl, sym, ◌∙◌, ap, subst, arith, take-append-drop, length-take-le, length-drop}
 use Rattle.std.specs.Prelude.{Option, Some, None, option_map, slice_get, IfSome, Result, Ok, Err, OnOk, OnErr}
 use Rattle.std.proofs.lemmas.List.{drop-drop}
-use Rattle.fedi_outside.specs.Disks.{DiskCrashes, DiskState, Elapses, HasTorn, IsTorn, LeavesOnly, MayTear, TearsTold, after_write, spliced}
+use Rattle.fedi_outside.specs.Disks.{DiskCrashes, DiskState, Elapses, HasTorn, IsTorn, IsUntouched, LeavesOnly, MayTear, TearsTold, after_write, spliced}
 use Rattle.fedi_images.specs.Known.{are_apart}
 use Rattle.fedi_images.proofs.Gates.{apart_at}
 use Rattle.fedi_images.proofs.Steps.{of_some}
-use Rattle.fedi_journal.specs.Untouched.{IsUntouched}
-use Rattle.fedi_journal.proofs.FindingSteps.{elapses_on}
+use Rattle.fedi_outside.proofs.Untouched.{elapses_on, untouched_by, untouched_then}
 
 -- ---- what is untouched
-
-pub untouched_then : (a b c : DiskState) (x y z : DiskCrashes) → IsUntouched a b x y → IsUntouched b c y z → IsUntouched a c x z
-untouched_then a b c x y z one two = record {
-  reads = two.reads ∙ one.reads;
-  clock = omega (arith, one.clock, two.clock);
-  crashes = λ bytes is. elapses_on x y z (one.crashes bytes is) (two.crashes bytes (one.reads ∙ is));
-}
-
-pub untouched_by : (a b : DiskState) (x y : DiskCrashes) → b.reads ≡ a.reads → Elapses x y x.may_leave → IsUntouched a b x y
-untouched_by a b x y same time = record { reads = same; clock = time.clock; crashes = λ bytes is. time }
 
 -- what a synced disk has is synced while it is untouched
 pub still_synced : (a b : DiskState) (x y : DiskCrashes) → IsUntouched a b x y → IfSome a.reads (LeavesOnly x) → IfSome b.reads (LeavesOnly y)

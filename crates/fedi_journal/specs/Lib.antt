@@ -1,5 +1,5 @@
 pub mod Blocks
+pub mod Files
 pub mod Finding
 pub mod Making
 pub mod Opening
-pub mod Untouched

@@ -1,12 +1,11 @@
 -- What becomes of a disk that is made a journal.
 use Rattle.std.specs.Prelude.{ℕ, ◌≡◌, ◌<◌, List, [], ◌∷◌, ◌++◌, length, take, Some, None, option_map}
 use Rattle.fedi_outside.specs.Causes.{next_count}
-use Rattle.fedi_outside.specs.Disks.{DiskCrashes, DiskState, TearsTold}
+use Rattle.fedi_outside.specs.Disks.{DiskCrashes, DiskState, IsUntouched, TearsTold}
 use Rattle.fedi_outside.specs.Keepers.{KeeperState}
 use Rattle.fedi_images.specs.Images.{plain}
 use Rattle.fedi_journal.specs.declared.faults.InitFault.{InitFault}
 use Rattle.fedi_journal.specs.declared.faults.InitFault.TheVariants.{Exists, Failed}
-use Rattle.fedi_journal.specs.Untouched.{IsUntouched}
 
 -- the bytes of a journal without records: the magic and a closed gate
 abbrev pub blank : List ℕ

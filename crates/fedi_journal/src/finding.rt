@@ -1,12 +1,11 @@
 //! Finding the records of a disk.
 ghost use Rattle.std.specs.Prelude.{ℕ, ◌≡◌, ◌<◌, ◌≤◌, ◌+◌, ◌^◌, true, false, List, length, take, drop, get_or, Some, IfOk, IfSome, OnOk, OnErr, IsErrOf};
 ghost use Rattle.fedi_outside.specs.Causes.{HasCause};
-ghost use Rattle.fedi_outside.specs.Disks.{Elapses, LeavesOnly, after_reading};
+ghost use Rattle.fedi_outside.specs.Disks.{Elapses, IsUntouched, LeavesOnly, after_reading};
 ghost use Rattle.fedi_images.specs.Images.{plain, size_code};
 ghost use Rattle.fedi_images.specs.Known.{are_apart};
 ghost use Rattle.fedi_images.specs.Opening.{IsDamagedAt, IsFound, IsNoStore};
 ghost use Rattle.fedi_journal.specs.Finding.{IsGate, IsInside, faults_found};
-ghost use Rattle.fedi_journal.specs.Untouched.{IsUntouched};
 
 use crate::blocks::number_of;
 use crate::faults::JournalFault;

@@ -5,6 +5,8 @@ ghost use Rattle.fedi_images.specs.Known.{IsKnown, are_apart, record_crashes, re
 ghost use Rattle.fedi_images.proofs.ImageLemmas.{plain_ok};
 ghost use Rattle.fedi_images.proofs.Steps.{leaves_records, told_count};
 ghost use Rattle.fedi_journal.specs.Blocks.{doubt_in};
+ghost use Rattle.fedi_outside.proofs.Untouched.{untouched_now, untouched_then};
+ghost use Rattle.fedi_outside.specs.Disks.{IsUntouched};
 
 use crate::blocks::write_block;
 use crate::faults::{InitFault, JournalFault};
@@ -55,7 +57,6 @@ impl<D: Disk> Journal<D> {
     ghost use Rattle.fedi_journal.specs.Finding.{faults_after};
     ghost use Rattle.fedi_journal.specs.Making.{IsOther, IsUnmade, KeepsOther, blank, blank_shown};
     ghost use Rattle.fedi_journal.specs.Opening.{disk_after, disk_of};
-    ghost use Rattle.fedi_journal.specs.Untouched.{IsUntouched};
 
     /// Opens the records of a disk. It syncs before it reads, so that a crash leaves what it finds. Then it writes the last open gate
     /// and the closed one again, which an earlier process may have failed to sync, and syncs once more. Whatever the answer, reads
@@ -160,6 +161,12 @@ fn span_of(gates: &[u64], end: u64, place: u64) -> Option<(u64, u64)>
 }
 
 impl<D: Disk> Keeper for Journal<D> {
+    ghost use Rattle.std.specs.Prelude.{List, OnErr, OnOk, Some, None};
+    ghost use Rattle.fedi_journal.specs.Files.{HasRecords};
+    ghost use Rattle.fedi_journal.specs.Opening.{disk_of};
+    ghost use Rattle.fedi_outside.specs.Disks.{Elapses};
+    ghost use Rattle.fedi_outside.specs.Keepers.{HasAdded, HasFailed, PassesTime};
+
     ghost shown = { λ k. record {
       records = records_told plain (length k.gates.items) (D.shown k.disk);
       held = length k.gates.items;
@@ -175,8 +182,16 @@ impl<D: Disk> Keeper for Journal<D> {
 
     ghost room = { λ length. 10 + length };
 
+    ghost only_read = { λ a b. IsUntouched (D.shown a.disk) (D.shown b.disk)
+        (D.crashes a.disk) (D.crashes b.disk) };
+
     ghost crash_now = { λ k. leaves_records plain plain_ok (D.shown k.disk) (D.crashes k.disk)
         k.end k.gates.items (doubt_in k.in_doubt k.block.items) (D.only_now k.disk) k.known };
+
+    ghost read_none = { λ k. untouched_now (D.shown k.disk) (D.crashes k.disk) };
+
+    ghost read_both = { λ a b c. untouched_then (D.shown a.disk) (D.shown b.disk) (D.shown c.disk)
+        (D.crashes a.disk) (D.crashes b.disk) (D.crashes c.disk) };
 
     ghost told_held = { λ k. told_count plain plain_ok (length k.gates.items) (D.shown k.disk) };
 
@@ -217,7 +232,24 @@ impl<D: Disk> Keeper for Journal<D> {
         Ok(())
     }
 
-    fn append(&mut self, payload: &[u8]) -> Result<(), Failed> {
+    fn append(&mut self, payload: &[u8]) -> Result<(), Failed>
+        requires settled { (⟦<Journal<D> as Keeper>⟧.shown self.old).doubt ≡ None }
+        requires spare { length payload.now < self.old.spare }
+        requires room { self.old.end + (10 + length payload.now) ≤ 2 ^ 62 }
+        ensures added { OnOk result (HasAdded ⟦<Journal<D> as Keeper>⟧.growth payload.now
+            (⟦<Journal<D> as Keeper>⟧.shown self.old) (⟦<Journal<D> as Keeper>⟧.shown self.new)) }
+        ensures refused { OnErr result (HasFailed payload.now
+            (⟦<Journal<D> as Keeper>⟧.shown self.old) (⟦<Journal<D> as Keeper>⟧.shown self.new)) }
+        ensures time { PassesTime (⟦<Journal<D> as Keeper>⟧.shown self.old).records
+            (Some payload.now)
+            (⟦<Journal<D> as Keeper>⟧.crashes self.old) (⟦<Journal<D> as Keeper>⟧.crashes self.new) }
+        // A crash on the way leaves an image from before, or a file of the records, or of these
+        // and the payload.
+        ensures images { (kept : List (List ℕ))
+            → (⟦<Journal<D> as Keeper>⟧.shown self.old).records ≡ Some kept
+            → Elapses (D.crashes (disk_of self.old)) (D.crashes (disk_of self.new))
+            (HasRecords kept (Some payload.now)) }
+    {
         let gate = self.end;
         write_block(&mut self.block, payload);
         write_synced(&mut self.disk, gate + 1, &self.block)?;

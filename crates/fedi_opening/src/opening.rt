@@ -19,6 +19,7 @@ fn load_record<P: Keeper>(alloc: Global, keeper: &mut P, place: u64) -> Result<V
         IfOk result (λ bytes. slice_get records place ≡ Some bytes.items)) }
     ensures unloaded { IfErr result IsUnloaded }
     ensures shown { P.shown keeper.new ≡ after_open result (P.shown keeper.old) }
+    ensures outside { P.only_read keeper.old keeper.new }
     ensures time { PassesTime (P.shown keeper.old).records (P.shown keeper.old).doubt
         (P.crashes keeper.old) (P.crashes keeper.new) }
 {
@@ -45,6 +46,7 @@ fn open_record<S: Shelf, P: Keeper>(
     ensures stopped { IfErr result (λ fault.
         IsStopped fault (P.shown keeper.old) (S.holding shelf.new).history) }
     ensures shown { P.shown keeper.new ≡ after_open result (P.shown keeper.old) }
+    ensures outside { P.only_read keeper.old keeper.new }
     ensures time { PassesTime (P.shown keeper.old).records (P.shown keeper.old).doubt
         (P.crashes keeper.old) (P.crashes keeper.new) }
 {
@@ -61,7 +63,8 @@ fn open_record<S: Shelf, P: Keeper>(
 /// The errors are `Empty`, exactly if there is no record; `Damaged`, with the place of the first record
 /// that is the code of no entry that may come there; `Failed`, if the keeper failed, which it counts once;
 /// and `Memory`, out of memory. After an error the shelf holds the history of the records before that. The
-/// keeper's records, what is in doubt and the end of it are as before, whatever comes.
+/// keeper's records, what is in doubt and the end of it are as before, whatever comes, and what lies outside
+/// is read and not written.
 pub fn open_history<S: Shelf, P: Keeper>(
     alloc: Global,
     keeper: &mut P,
@@ -76,6 +79,7 @@ pub fn open_history<S: Shelf, P: Keeper>(
     ensures stopped { IfErr result (λ fault.
         IsStopped fault (P.shown keeper.old) (S.holding shelf.new).history) }
     ensures shown { P.shown keeper.new ≡ after_open result (P.shown keeper.old) }
+    ensures outside { P.only_read keeper.old keeper.new }
     ensures time { PassesTime (P.shown keeper.old).records (P.shown keeper.old).doubt
         (P.crashes keeper.old) (P.crashes keeper.new) }
 {

@@ -1,2 +1,3 @@
 pub mod DiskSteps
 pub mod MemoryDiskSteps
+pub mod Untouched

@@ -74,3 +74,9 @@ pub record Elapses (before after : DiskCrashes) (added : List ℕ → Type 0) : 
   pub now : (image : List ℕ) → after.may_leave image → added image
   pub nothing_else : (moment : ℕ) (image : List ℕ) → moment ≤ before.clock → after.left_since moment image → before.left_since moment image ⊎ added image
   pub keeps : (moment : ℕ) (image : List ℕ) → moment ≤ before.clock → before.left_since moment image → after.left_since moment image
+
+-- reads give the bytes that they gave, and if these are told, a crash on the way or afterwards leaves nothing new
+pub record IsUntouched (before after : DiskState) (was now : DiskCrashes) : Type 0 where
+  pub reads : after.reads ≡ before.reads
+  pub clock : was.clock ≤ now.clock
+  pub crashes : (bytes : List ℕ) → before.reads ≡ Some bytes → Elapses was now was.may_leave

@@ -2,7 +2,7 @@
 ghost use Rattle.std.specs.Prelude.{ℕ, ◌≡◌, ◌↔◌, ◌+◌, ◌^◌, ◌<◌, ◌≤◌, max, List, [], ◌∷◌, ◌++◌, length, Some, None, IsOk, IfOk, IfErr, OnOk, OnErr, IsErr, IsErrOf, vec_capacity};
 ghost use Rattle.fedi_outside.specs.Keepers.{Finds};
 ghost use Rattle.fedi_outside.specs.MemoryKeepers.{no_crashes, no_records, shown_with};
-ghost use Rattle.std.proofs.Common.{refl};
+ghost use Rattle.std.proofs.Common.{refl, ◌∙◌};
 
 use crate::Failed;
 use crate::keepers::{Keeper, LoadFault, ReserveFault};
@@ -119,7 +119,13 @@ impl Keeper for CalmKeeper {
 
     ghost room = { λ length. 10 + length };
 
+    ghost only_read = { λ before after. after.records ≡ before.records };
+
     ghost crash_now = { λ _. tt };
+
+    ghost read_none = { λ _. refl };
+
+    ghost read_both = { λ _ _ _ one two. two ∙ one };
 
     ghost told_held = { λ _. refl };
 

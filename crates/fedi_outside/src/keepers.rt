@@ -64,29 +64,36 @@ pub trait Keeper {
     /// How far from the limit the end has to be before a record of this length is added.
     ghost room: { ℕ → ℕ };
 
+    /// From the first state to the second what lies outside was only read, so that it is as it was.
+    ghost only_read: { Self → Self → Type 0 };
+
     /// How many records there are.
     fn count(&self) -> u64
         ensures { result ≡ (shown self.now).held };
 
     /// The record at this place, counted from 0, or none exactly if the place is at least the count. All is as before, also after
-    /// an error: `Failed` if the keeper failed, `Memory` if there is such a record and no memory for it.
+    /// an error: `Failed` if the keeper failed, `Memory` if there is such a record and no memory for it. What lies outside is read,
+    /// and not written.
     fn load(&mut self, alloc: Global, place: u64) -> Result<Option<Vec<u8>>, LoadFault>
         ensures found { IfSome (shown self.old).records
             (λ records. IfOk result (Finds records place)) }
         ensures some { IfOk result (λ found. is_some found ≡ nat_lt place (shown self.old).held) }
         ensures held { IsErrOf result LoadFault.Memory → place < (shown self.old).held }
         ensures shown { shown self.new ≡ after_load result (shown self.old) }
+        ensures outside { only_read self.old self.new }
         ensures time { PassesTime (shown self.old).records (shown self.old).doubt
             (crashes self.old) (crashes self.new) };
 
     /// Makes room for a record of this length. `Full` exactly if the end and the room for it come to more than 2^62; `Memory` if
-    /// there was no such room yet and there is no memory for it. All else is as before, and after an error the room too.
+    /// there was no such room yet and there is no memory for it. All else is as before, and after an error the room too. Nothing
+    /// outside is written.
     fn reserve(&mut self, length: usize) -> Result<(), ReserveFault>
         ensures full { IsErrOf result ReserveFault.Full ↔ IsFull room (shown self.old).end length }
         ensures spare { OnOk result (length < (shown self.new).spare) }
         ensures spared { IsErrOf result ReserveFault.Memory → (shown self.old).spare ≤ length }
         ensures shown { OnlyRoomChanged (shown self.old) (shown self.new) }
         ensures refused { OnErr result ((shown self.new).spare ≡ (shown self.old).spare) }
+        ensures outside { only_read self.old self.new }
         ensures time { PassesTime (shown self.old).records (shown self.old).doubt
             (crashes self.old) (crashes self.new) };
 
@@ -112,6 +119,13 @@ pub trait Keeper {
 
     /// A crash now leaves the records, or these with the one in doubt: after a call that settled, the records alone.
     ghost crash_now: { (keeper : Self) → LeavesRecords (shown keeper) (crashes keeper) };
+
+    /// No call reads only.
+    ghost read_none: { (keeper : Self) → only_read keeper keeper };
+
+    /// Two calls that read only are calls that read only.
+    ghost read_both: { (first middle last : Self)
+        → only_read first middle → only_read middle last → only_read first last };
 
     /// The count is the number of the records.
     ghost told_held: { (keeper : Self) → IfSome (shown keeper).records

@@ -3,7 +3,7 @@ ghost use Rattle.std.specs.Prelude.{◌≡◌, ◌↔◌, ◌+◌, ◌^◌, ◌<
 ghost use Rattle.fedi_outside.specs.Keepers.{Finds};
 ghost use Rattle.fedi_outside.specs.MemoryKeepers.{no_crashes, no_records, shown_with};
 ghost use Rattle.fedi_outside.specs.Plans.{after_call, is_to_fail, no_faults};
-ghost use Rattle.std.proofs.Common.{refl};
+ghost use Rattle.std.proofs.Common.{refl, ◌∙◌};
 
 use crate::Failed;
 use crate::calm_keepers::{CalmKeeper, Record};
@@ -74,7 +74,13 @@ impl Keeper for MemoryKeeper {
 
     ghost room = { λ length. 10 + length };
 
+    ghost only_read = { λ before after. after.keeper.records ≡ before.keeper.records };
+
     ghost crash_now = { λ _. tt };
+
+    ghost read_none = { λ _. refl };
+
+    ghost read_both = { λ _ _ _ one two. two ∙ one };
 
     ghost told_held = { λ _. refl };
 

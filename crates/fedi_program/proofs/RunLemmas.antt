@@ -59,7 +59,7 @@ added_safe told before after chance left first now name locked status (inr (open
 
 pub checked_safe : (before after : Medium) (first now : Output) (status : ℕ) → ChecksStore before after first now status → IsKeptSafe before after
 checked_safe before after first now status (inl (fault, refused, _)) = inl (fault, refused)
-checked_safe before after first now status (inr (opened, served, _)) = inr (opened, opened, (given opened.history, served))
+checked_safe before after first now status (inr (opened, served, _, _)) = inr (opened, opened, (given opened.history, served))
 
 -- ---- the status
 

@@ -1,26 +1,24 @@
 -- A machine that was opened over a disk, and closed.
-use Rattle.std.proofs.Common.{◌≡◌, ℕ, ◌≤◌, Bool, Option, Some, None, List, inl, inr, refl, sym, subst, ◌∙◌}
-use Rattle.std.specs.Prelude.{IfSome, option_map}
+use Rattle.std.proofs.Common.{◌≡◌, ℕ, Bool, Option, Some, None, List, inl, inr, refl, sym, subst, ◌∙◌}
+use Rattle.std.specs.Prelude.{IfSome}
 use Rattle.fedi_address.specs.Hosts.{IsHost}
 use Rattle.fedi_entry.specs.Codes.{code_of}
-use Rattle.fedi_images.specs.Images.{IsImage, plain}
+use Rattle.fedi_images.specs.Images.{plain}
 use Rattle.fedi_images.proofs.Steps.{of_some}
 use Rattle.fedi_images.specs.Known.{record_crashes, records_told}
-use Rattle.fedi_journal.proofs.FindingSteps.{nothing_elapses}
-use Rattle.fedi_journal.proofs.Rewriting.{untouched_by}
 use Rattle.fedi_journal.specs.Making.{KeepsOther}
 use Rattle.fedi_log.specs.Keeping.{State, since}
 use Rattle.fedi_log.specs.Log.{Log, given}
 use Rattle.fedi_objects.specs.declared.entry.Entry.TheVariants.{Hosted}
-use Rattle.fedi_outside.specs.Disks.{DiskCrashes, DiskState}
-use Rattle.fedi_outside.specs.Keepers.{MayLeave}
+use Rattle.fedi_outside.proofs.Untouched.{untouched_now}
+use Rattle.fedi_outside.specs.Disks.{DiskCrashes, DiskState, IsUntouched}
 use Rattle.fedi_startup.proofs.OpeningSteps.{begins_so}
 use Rattle.fedi_startup.proofs.Stored.{leaves_stores, stores_along, stores_found}
 use Rattle.fedi_startup.proofs.Surviving.{survives_on_disk}
 use Rattle.fedi_startup.proofs.Told.{each_some}
 use Rattle.fedi_startup.specs.Making.{LeavesAtMost}
 use Rattle.fedi_startup.specs.Marks.{Survives}
-use Rattle.fedi_startup.specs.Stores.{HasRecords, HasSameRecords, IsClosed, IsOpened, IsStoreOf, KeepsForeign, LeavesFiles, LeavesNothingNew, records_of}
+use Rattle.fedi_startup.specs.Stores.{IsClosed, IsOpened, IsStoreOf, LeavesFiles, records_of}
 use Rattle.fedi_startup.specs.Surviving.{LeavesStoresAlong, LeavesStoresFound, SurvivesOnDisk, growth, opened_base, room}
 use Rattle.fedi_startup.specs.declared.faults.StoreFault.TheVariants as faults
 use Rattle.fedi_program.specs.Conversations.{IsNow}
@@ -29,13 +27,13 @@ use Rattle.fedi_program.specs.Members.{Chance, MakesMember}
 use Rattle.fedi_program.specs.Stores.{AddsMember, ChecksStore, Counts, EndsMaking, IsRefused, IsServed, MakesStore, ServesStore}
 
 pub served : (start found later : DiskState) (before middle after : DiskCrashes) (opened closed : State) (log : Log) (count : ℕ)
-    → IsOpened start opened → opened.keeper.records ≡ records_told plain count found → before.clock ≤ middle.clock
-    → IfSome start.reads (λ _. LeavesNothingNew before middle)
+    → IsOpened start opened → opened.keeper.records ≡ records_told plain count found → IsUntouched start found before middle
+    → ((image : List ℕ) → before.left_since before.clock image → before.may_leave image)
     → IfSome start.reads (λ _. LeavesFiles middle (records_of opened.history) None) → ((image : List ℕ) → middle.left_since middle.clock image → middle.may_leave image)
     → Survives (opened_base opened) None (given opened.history) log closed (record_crashes plain found middle) (record_crashes plain later after)
     → IsClosed later after closed
     → IsServed (record { shown = start; crashes = before }) (record { shown = later; crashes = after }) opened closed log
-served start found later before middle after opened closed log count opens told clock nothing left only survives closes = record {
+served start found later before middle after opened closed log count opens told same first left only survives closes = record {
   opens = opens;
   closes = closes;
   holds = survives.holds;
@@ -47,7 +45,7 @@ served start found later before middle after opened closed log count opens told 
 }
   where
     files : IfSome start.reads (λ _. SurvivesOnDisk before after opened log)
-    files = survives_on_disk start found later before middle after opened closed log count opens told clock nothing left only survives
+    files = survives_on_disk start found later before middle after opened closed log count opens told same first left only survives
 
     with_all : (reads : Option (List ℕ)) → IfSome reads (λ _. SurvivesOnDisk before after opened log)
         → IfSome reads (λ _. LeavesStoresAlong before after opened.history (since (opened_base opened) log))
@@ -61,77 +59,48 @@ served start found later before middle after opened closed log count opens told 
 
 -- and served a connection in between
 pub serves : (told : Option ℕ) (start found later : DiskState) (before middle after : DiskCrashes) (opened closed : State) (log : Log) (count : ℕ) (first now : Scene) (status : ℕ)
-    → IsOpened start opened → opened.keeper.records ≡ records_told plain count found → before.clock ≤ middle.clock
-    → IfSome start.reads (λ _. LeavesNothingNew before middle)
+    → IsOpened start opened → opened.keeper.records ≡ records_told plain count found → IsUntouched start found before middle
+    → ((image : List ℕ) → before.left_since before.clock image → before.may_leave image)
     → IfSome start.reads (λ _. LeavesFiles middle (records_of opened.history) None) → ((image : List ℕ) → middle.left_since middle.clock image → middle.may_leave image)
     → Survives (opened_base opened) None (given opened.history) log closed (record_crashes plain found middle) (record_crashes plain later after)
     → IsClosed later after closed
     → RunsTo (setting_of growth room told opened) opened log first now status
     → ServesStore told (record { shown = start; crashes = before }) (record { shown = later; crashes = after }) first now status
-serves told start found later before middle after opened closed log count first now status opens records clock nothing left only survives closes runs =
-    inr (opened, closed, log, served start found later before middle after opened closed log count opens records clock nothing left only survives closes, runs)
+serves told start found later before middle after opened closed log count first now status opens records same before_now left only survives closes runs =
+    inr (opened, closed, log, served start found later before middle after opened closed log count opens records same before_now left only survives closes, runs)
 
 -- or made a member
 pub adds : (told : Option ℕ) (start found later : DiskState) (before middle after : DiskCrashes) (opened closed : State) (log : Log) (count : ℕ) (chance spent : Chance) (first now : Output)
     (name : List ℕ) (locked : Bool) (status : ℕ)
-    → IsOpened start opened → opened.keeper.records ≡ records_told plain count found → before.clock ≤ middle.clock
-    → IfSome start.reads (λ _. LeavesNothingNew before middle)
+    → IsOpened start opened → opened.keeper.records ≡ records_told plain count found → IsUntouched start found before middle
+    → ((image : List ℕ) → before.left_since before.clock image → before.may_leave image)
     → IfSome start.reads (λ _. LeavesFiles middle (records_of opened.history) None) → ((image : List ℕ) → middle.left_since middle.clock image → middle.may_leave image)
     → Survives (opened_base opened) None (given opened.history) log closed (record_crashes plain found middle) (record_crashes plain later after)
     → IsClosed later after closed
     → MakesMember growth room told chance spent opened closed first now name locked status
     → AddsMember told (record { shown = start; crashes = before }) (record { shown = later; crashes = after }) chance spent first now name locked status
-adds told start found later before middle after opened closed log count chance spent first now name locked status opens records clock nothing left only survives closes made =
-    inr (opened, closed, (log, served start found later before middle after opened closed log count opens records clock nothing left only survives closes), made)
+adds told start found later before middle after opened closed log count chance spent first now name locked status opens records same before_now left only survives closes made =
+    inr (opened, closed, (log, served start found later before middle after opened closed log count opens records same before_now left only survives closes), made)
 
 -- a machine that was opened, and closed before it did anything, for want of memory
-pub given_up : (start found : DiskState) (before middle : DiskCrashes) (opened : State) → IsOpened start opened → IsClosed found middle opened
-    → IfSome start.reads (λ _. LeavesNothingNew before middle) → KeepsForeign start found before middle
+pub given_up : (start found : DiskState) (before middle : DiskCrashes) (opened : State) → IsOpened start opened → IsClosed found middle opened → IsUntouched start found before middle
     → IsRefused (record { shown = start; crashes = before }) (record { shown = found; crashes = middle }) faults.Memory
-given_up start found before middle opened opens closes nothing foreign = record {
+given_up start found before middle opened opens closes same = record {
   back = record {
-    why = each_some start.reads (λ bytes is. begins_so (records_of opened.history) bytes (file bytes is));
-    reads = reads start.reads (λ bytes is. is) (sym opens.records ∙ closes.records);
+    why = each_some start.reads (λ bytes is. begins_so (records_of opened.history) bytes (of_some start.reads (IsStoreOf opened.history) opens.stored bytes is).file);
     faults = sym closes.faults ∙ opens.faults;
   };
-  still = nothing;
-  foreign = foreign;
+  same = same;
 }
-  where
-    rs : List (List ℕ)
-    rs = records_of opened.history
-
-    file : (bytes : List ℕ) → start.reads ≡ Some bytes → IsImage plain rs bytes
-    file bytes is = (of_some start.reads (IsStoreOf opened.history) opens.stored bytes is).file
-
-    left : (other : List ℕ) → found.reads ≡ Some other → IsImage plain rs other
-    left other is =
-        let here = of_some found.reads (HasRecords rs opened.keeper.doubt) closes.file other is in
-        let same : here.0 ≡ rs = subst (λ (d : Option (List ℕ)). MayLeave rs d here.0) opens.doubt here.2 in
-        subst (λ (l : List (List ℕ)). IsImage plain l other) same here.1
-
-    none_told : (o : Option (List ℕ)) → None ≡ option_map (λ _. rs) o → o ≡ None
-    none_told None is = refl
-    none_told (Some other) is = absurd (cc is)
-
-    some_told : (o : Option (List ℕ)) → Some rs ≡ option_map (λ _. rs) o → (other : List ℕ) × (o ≡ Some other)
-    some_told None is = absurd (cc is)
-    some_told (Some other) is = (other, refl)
-
-    reads : (o : Option (List ℕ)) → ((bytes : List ℕ) → o ≡ Some bytes → start.reads ≡ Some bytes) → option_map (λ _. rs) o ≡ option_map (λ _. rs) found.reads → HasSameRecords o found.reads
-    reads None told same = none_told found.reads same
-    reads (Some bytes) told same =
-        let other = some_told found.reads same in
-        (other.0, other.1, inr (rs, file bytes (told bytes refl), left other.0 other.1))
 
 -- nothing was asked of the disk
 pub not_asked : (shown : DiskState) (crashes : DiskCrashes) → KeepsOther shown shown crashes crashes
-not_asked shown crashes = λ bytes is other. untouched_by shown shown crashes crashes refl (nothing_elapses crashes)
+not_asked shown crashes = λ bytes is other. untouched_now shown crashes
 
 -- The host whose text was read is the text that was given.
 pub making_ends : {D : Type 0} (shown : D → DiskState) (crashes : D → DiskCrashes) (told : Option ℕ) (before after : D) (first now : Output)
     (host other : List ℕ) (moment status : ℕ) → other ≡ host → IsHost other → IsNow told moment
-    → LeavesAtMost shown crashes (code_of (Hosted other moment)) before after
+    → LeavesAtMost (code_of (Hosted other moment)) (shown before).reads (crashes before) (crashes after)
     → EndsMaking (shown before) (shown after) (crashes after) first now host (Hosted other moment) status
     → MakesStore shown crashes told before after first now host status
 making_ends shown crashes told before after first now host other moment status same is moment_is time ends =
@@ -139,17 +108,17 @@ making_ends shown crashes told before after first now host other moment status s
       subst IsHost same is,
       moment,
       moment_is,
-      subst (λ (h : List ℕ). LeavesAtMost shown crashes (code_of (Hosted h moment)) before after) same time,
+      subst (λ (h : List ℕ). LeavesAtMost (code_of (Hosted h moment)) (shown before).reads (crashes before) (crashes after)) same time,
       subst (λ (h : List ℕ). EndsMaking (shown before) (shown after) (crashes after) first now host (Hosted h moment) status) same ends,
     ))
 
 -- A machine that was opened to be counted, and closed.
 pub checks : (start found : DiskState) (before middle : DiskCrashes) (opened : State) (count : ℕ) (first now : Output) (status : ℕ)
-    → IsOpened start opened → opened.keeper.records ≡ records_told plain count found → before.clock ≤ middle.clock
-    → IfSome start.reads (λ _. LeavesNothingNew before middle)
+    → IsOpened start opened → opened.keeper.records ≡ records_told plain count found → IsUntouched start found before middle
+    → ((image : List ℕ) → before.left_since before.clock image → before.may_leave image)
     → IfSome start.reads (λ _. LeavesFiles middle (records_of opened.history) None) → ((image : List ℕ) → middle.left_since middle.clock image → middle.may_leave image)
     → Survives (opened_base opened) None (given opened.history) (given opened.history) opened (record_crashes plain found middle) (record_crashes plain found middle)
     → IsClosed found middle opened → Counts first now opened.history status
     → ChecksStore (record { shown = start; crashes = before }) (record { shown = found; crashes = middle }) first now status
-checks start found before middle opened count first now status opens told clock nothing left only survives closes counts =
-    inr (opened, served start found found before middle middle opened opened (given opened.history) count opens told clock nothing left only survives closes, counts)
+checks start found before middle opened count first now status opens told same before_now left only survives closes counts =
+    inr (opened, served start found found before middle middle opened opened (given opened.history) count opens told same before_now left only survives closes, same, counts)

@@ -1,3 +1,4 @@
+pub mod Adapters
 pub mod Commands
 pub mod Conversations
 pub mod Crashing

@@ -6,14 +6,14 @@ use Rattle.fedi_log.specs.Log.{Log, given}
 use Rattle.fedi_entry.specs.Codes.{code_of}
 use Rattle.fedi_objects.specs.declared.entry.Entry.{Entry}
 use Rattle.fedi_objects.specs.declared.entry.Entry.TheVariants.{Hosted}
-use Rattle.fedi_outside.specs.Disks.{DiskCrashes, DiskState}
+use Rattle.fedi_outside.specs.Disks.{DiskCrashes, DiskState, IsUntouched}
 use Rattle.fedi_program.specs.Conversations.{IsNow}
 use Rattle.fedi_program.specs.Endings.{Output, Prints, RunsTo, Scene, TalksIfTold, Writes, setting_of}
 use Rattle.fedi_program.specs.Members.{Chance, MakesMember, Tells, refusal_line}
 use Rattle.fedi_report.specs.Reports.{check_text}
 use Rattle.fedi_startup.specs.Marks.{MarksMayCome}
 use Rattle.fedi_startup.specs.Making.{IsMade, IsNotMade, LeavesAtMost}
-use Rattle.fedi_startup.specs.Stores.{ComesBack, IsClosed, IsOpened, KeepsForeign, LeavesNothingNew, LeavesStores}
+use Rattle.fedi_startup.specs.Stores.{ComesBack, IsClosed, IsOpened, LeavesStores}
 use Rattle.fedi_startup.specs.Surviving.{LeavesStoresAlong, LeavesStoresFound, SurvivesOnDisk, growth, opened_base, room}
 use Rattle.fedi_startup.specs.declared.faults.MakeFault.{MakeFault}
 use Rattle.fedi_startup.specs.declared.faults.MakeFault.TheVariants as makes
@@ -31,17 +31,19 @@ pub record Medium : Type 1 where
 abbrev pub medium_by : {D : Type 0} → (D → DiskState) → (D → DiskCrashes) → D → Medium
 medium_by shown crashes disk = record { shown = shown disk; crashes = crashes disk }
 
--- No machine was opened over the disk, for this reason: it has the records that it had, and a crash on the way leaves what a
--- crash before might have left. If its bytes are no file of records, it is untouched, image by image.
+-- reads of the disk give the same bytes, and a crash on the way or afterwards leaves nothing new, image by image
+abbrev pub IsSame : Medium → Medium → Type 0
+IsSame before after = IsUntouched before.shown after.shown before.crashes after.crashes
+
+-- no machine was opened over the disk, for this reason, and it is untouched
 pub record IsRefused (before after : Medium) (fault : StoreFault) : Type 0 where
   pub back : ComesBack fault before.shown after.shown
-  pub still : IfSome before.shown.reads (λ _. LeavesNothingNew before.crashes after.crashes)
-  pub foreign : KeepsForeign before.shown after.shown before.crashes after.crashes
+  pub same : IsSame before after
 
 -- A machine was opened over the disk, in the first of these states, and closed in the second, and stands for this log. The disk's
 -- file has the records of its history. If its bytes are told, a crash after the run leaves a store of that history, or of it with
 -- the entry in doubt; a crash on the way left files of the records along the log, if one before did, and these are stores; and
--- from the end of the opening on it left such stores whatever one before did.
+-- from some moment of the run on it left such stores whatever one before did.
 pub record IsServed (before after : Medium) (opened closed : State) (log : Log) : Type 0 where
   pub opens : IsOpened before.shown opened
   pub closes : IsClosed after.shown after.crashes closed
@@ -110,11 +112,12 @@ AddsMember told before after chance left first now name locked status =
 abbrev pub Counts : Output → Output → List Entry → ℕ → Type 0
 Counts first now history status = Prints first now (check_text history) status ⊎ ((status ≡ 12) × Writes first now [])
 
--- how a run counts what the store of a disk has, which stays so
+-- how a run counts what the store of a disk has, which is untouched
 abbrev pub ChecksStore : Medium → Medium → Output → Output → ℕ → Type 0
 ChecksStore before after first now status =
     ((fault : StoreFault) × IsRefused before after fault × TellsOfStore fault first now status)
-    ⊎ ((opened : State) × IsServed before after opened opened (given opened.history) × Counts first now opened.history status)
+    ⊎ ((opened : State) × IsServed before after opened opened (given opened.history) × IsSame before after
+    × Counts first now opened.history status)
 
 -- ---- making a store
 
@@ -141,5 +144,5 @@ MakesStore shown crashes told before after first now host status =
     ((status ≡ 12) × (after ≡ before) × Writes first now [])
     ⊎ (((IsHost host → ⊥) × (after ≡ before) × Tells first now 10 (refusal_line (codes "bad host")) status)
     ⊎ (IsHost host × (moment : ℕ) × IsNow told moment
-    × LeavesAtMost shown crashes (code_of (Hosted host moment)) before after
+    × LeavesAtMost (code_of (Hosted host moment)) (shown before).reads (crashes before) (crashes after)
     × EndsMaking (shown before) (shown after) (crashes after) first now host (Hosted host moment) status))

@@ -1,10 +1,11 @@
 //! The real input, output, clock and source of random bytes. What they hold is told as far as std tells
 //! it.
-ghost use Rattle.std.specs.Prelude.{◌≡◌, ◌<◌, ◌/◌, ℕ, None, IfOk, OnOk, is_some, length, option_and_then};
+ghost use Rattle.std.specs.Prelude.{◌≡◌, ◌<◌, ◌/◌, ℕ, None, IfOk, OnOk, is_some, length};
 ghost use Rattle.std.specs.Io.{ReadsAtMost, WritesAtMost};
-ghost use Rattle.std.specs.Io.KnownBytes.{Consumes, ReadConsumes, WriteAppends};
+ghost use Rattle.std.specs.Io.KnownBytes.{ReadConsumes, WriteAppends};
 ghost use Rattle.std.specs.Time.{system_time_nanos};
 ghost use Rattle.fedi_outside.specs.Causes.{HasCause};
+ghost use Rattle.fedi_program.specs.Adapters.{IsReadOf};
 
 use fedi_outside::{Clock, Entropy, Failed, Sink, Source};
 use std::fs::File;
@@ -131,36 +132,38 @@ fn seconds_of(time: SystemTime) -> u64
     }
 }
 
-/// A reader of std as a source of random bytes: each draw that does not read all its bytes is a counted
-/// fault.
+/// The file of a path as a source of random bytes, opened for each draw. A draw that does not open it, or
+/// does not read all its bytes, is a counted fault.
 #[derive(Drop)]
-pub struct ReadEntropy<F> {
-    reader: F,
+pub struct SystemEntropy<'a, R> {
+    rt: &'a R,
+    path: &'a str,
     faults: u64,
 }
 
-impl<F: Read> ReadEntropy<F> {
-    /// The reader, with no fault so far.
-    pub fn new(reader: F) -> Self
-        ensures reader { result.reader ≡ reader }
+impl<'a, R: Files> SystemEntropy<'a, R> {
+    /// The system's own source. Nothing is opened yet.
+    pub fn new(rt: &'a R) -> Self
         ensures faults { result.faults ≡ 0 }
     {
-        ReadEntropy { reader, faults: 0 }
+        SystemEntropy {
+            rt,
+            path: "/dev/urandom",
+            faults: 0,
+        }
     }
 }
 
-// As of a source, the bytes are told by `passes`.
-impl<F: Read> Entropy for ReadEntropy<F> {
+impl<R: Files> Entropy for SystemEntropy<'_, R> {
     ghost next = { λ _. None };
 
     ghost faults = { λ s. s.faults };
 
     fn fill(&mut self, into: &mut [u8; 32]) -> Result<(), Failed>
-        ensures passes { OnOk result (Consumes (F.remaining self.old.reader)
-            (F.remaining self.new.reader) into.new) }
+        ensures read { OnOk result (IsReadOf R.File.remaining into.new) }
         ensures cause { HasCause self.old.faults self.new.faults result }
     {
-        match self.reader.read_exact(into) {
+        match read_file(self.rt, self.path, into) {
             Ok(()) => Ok(()),
             Err(_) => {
                 self.faults = self.faults.saturating_add(1);
@@ -170,40 +173,10 @@ impl<F: Read> Entropy for ReadEntropy<F> {
     }
 }
 
-/// The file of a path as a reader, which opens it at its first read.
-#[derive(Drop)]
-pub struct LateFile<'a, R: Files> {
-    rt: &'a R,
-    path: &'a str,
-    file: Option<R::File>,
-}
-
-impl<'a, R: Files> LateFile<'a, R> {
-    /// The file of this path. Nothing is opened yet.
-    pub fn new(rt: &'a R, path: &'a str) -> Self {
-        LateFile {
-            rt,
-            path,
-            file: None,
-        }
-    }
-}
-
-impl<R: Files> Read for LateFile<'_, R> {
-    ghost remaining = { λ f. option_and_then R.File.remaining f.file };
-
-    fn read(&mut self, into: &mut [u8]) -> io::Result<usize> {
-        let mut file = match self.file.take() {
-            Some(file) => file,
-            None => File::open(self.rt, self.path)?,
-        };
-        let read = file.read(into);
-        self.file = Some(file);
-        read
-    }
-}
-
-/// The system's source of random bytes, which is opened at the first draw.
-pub fn system_entropy<R: Files>(rt: &R) -> ReadEntropy<LateFile<'_, R>> {
-    ReadEntropy::new(LateFile::new(rt, "/dev/urandom"))
+// Opens the file of the path, and reads as many bytes as there is room for.
+fn read_file<R: Files>(rt: &R, path: &str, into: &mut [u8]) -> io::Result<()>
+    ensures { OnOk result (IsReadOf R.File.remaining into.new) }
+{
+    let mut file = File::open(rt, path)?;
+    file.read_exact(into)
 }

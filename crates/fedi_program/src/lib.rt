@@ -15,7 +15,7 @@ mod statuses;
 mod stores;
 mod usage;
 
-pub use adapters::{LateFile, ReadEntropy, Reading, SystemClock, Writing, system_entropy};
+pub use adapters::{Reading, SystemClock, SystemEntropy, Writing};
 pub use answers::answer;
 pub use commands::{Command, command_of, store_of};
 pub use connection::Connection;

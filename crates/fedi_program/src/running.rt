@@ -242,7 +242,8 @@ pub fn run<S: Source, O: Sink, D: Disk, C: Clock, E: Entropy>(
         → KeepsOther (D.shown disk) (D.shown result.disk)
         (D.crashes disk) (D.crashes result.disk) }
 
-    // What a store has is counted, and stays.
+    // What a store has is counted, and the disk is untouched: reads give the same bytes, and a crash at
+    // any moment of the run leaves nothing new.
     ensures checked { task_in (map string_bytes arguments.now) ≡ Some Check
         → ChecksStore
         (medium_by D.shown D.crashes disk) (medium_by D.shown D.crashes result.disk)
@@ -254,7 +255,7 @@ pub fn run<S: Source, O: Sink, D: Disk, C: Clock, E: Entropy>(
     // any moment of the run leaves the records of before the run, or those that the opening found with
     // the first of these, none or more, and behind them at most one that was in doubt then. After the
     // run it leaves the records of all of them, with at most the one in doubt. One that is not opened
-    // has the records that it had, and what is no file of records is untouched.
+    // is untouched, image by image.
     ensures crashes { opens_store (task_in (map string_bytes arguments.now)) ≡ true
         → IsKeptSafe (medium_by D.shown D.crashes disk) (medium_by D.shown D.crashes result.disk) }
 

@@ -8,30 +8,25 @@ use Rattle.std.proofs.lemmas.Slice.Eq.{bytes_eq-Decides}
 use Rattle.std.proofs.lemmas.Str.{is_utf8-from_IsUtf8}
 use Rattle.fedi_address.specs.Hosts.{IsHost, address}
 use Rattle.fedi_address.specs.Iris.{normal}
-use Rattle.fedi_core.proofs.Crashing.{quiet_call}
-use Rattle.fedi_core.specs.Crashing.{MayLeaveWith, PassesTimeUnkept, PassesTimeWith}
-use Rattle.fedi_core.specs.Keeping.{HasFailedOnce, MayDoubt}
-use Rattle.fedi_core.specs.declared.keeping.KeepFault.{KeepFault}
-use Rattle.fedi_core.specs.declared.keeping.KeepFault.TheVariants as keeps
 use Rattle.fedi_entry.specs.Fields.{IsFormed, is_host, is_own}
-use Rattle.fedi_images.proofs.Finding.{images_left}
 use Rattle.fedi_images.proofs.ImageLemmas.{closed_intro, plain_ok}
 use Rattle.fedi_images.proofs.Steps.{of_some}
 use Rattle.fedi_images.specs.Images.{IsImage, front, kept_in, plain}
-use Rattle.fedi_images.specs.Known.{record_crashes, records_told}
+use Rattle.fedi_images.specs.Known.{records_told}
+use Rattle.fedi_journal.specs.Files.{HasRecords}
 use Rattle.fedi_journal.specs.Making.{IsOther, IsUnmade, KeepsOther, blank, blank_shown}
 use Rattle.fedi_journal.specs.declared.faults.InitFault.{InitFault}
 use Rattle.fedi_journal.specs.declared.faults.InitFault.TheVariants as inits
 use Rattle.fedi_objects.specs.declared.entry.Entry.{Entry}
 use Rattle.fedi_objects.specs.declared.entry.Entry.TheVariants.{Hosted}
 use Rattle.fedi_outside.specs.Causes.{next_count}
-use Rattle.fedi_outside.specs.Disks.{DiskCrashes, DiskState, Elapses, LeavesOnly, MayTear, TearsTold, spliced}
-use Rattle.fedi_outside.specs.Keepers.{Adds, Crashes, HasAdded, KeeperState, MayLeave, OnlyRoomChanged}
-use Rattle.fedi_startup.specs.Making.{IsMade, IsNotMade, LeavesAtMost, MayBeBegun, MayBeEmpty, WasFree}
+use Rattle.fedi_outside.specs.Disks.{DiskCrashes, DiskState, Elapses, IsUntouched, LeavesOnly, MayTear, TearsTold, spliced}
+use Rattle.fedi_outside.specs.Keepers.{HasAdded, HasFailed, KeeperState, MayLeave, OnlyRoomChanged}
+use Rattle.fedi_startup.specs.Making.{IsMade, IsNotMade, LeavesAtMost, LeavesFirst, MayBeBegun, MayBeEmpty, MayBegin, WasFree}
 use Rattle.fedi_startup.specs.Faults.{of_init}
 use Rattle.fedi_startup.specs.declared.faults.MakeFault.TheVariants.{Failed, Memory}
-use Rattle.fedi_startup.specs.Stores.{HasRecords, IsSound, LeavesFiles, LeftFiles, records_of}
-use Rattle.fedi_startup.proofs.Told.{each_some, of_told, told_alike, told_bytes, untold_bytes}
+use Rattle.fedi_startup.specs.Stores.{IsSound, LeavesFiles, LeftFiles, records_of}
+use Rattle.fedi_startup.proofs.Told.{each_some, told_alike, told_bytes, untold_bytes}
 
 -- ---- the first entry
 
@@ -153,19 +148,31 @@ module _ (start after : DiskState) (crashes : DiskCrashes) (k l : KeeperState) (
           let left : found.2.0 ≡ [] = subst (λ (d : Option (List ℕ)). MayLeave [] d found.2.0) (room.doubt ∙ calm_before) found.2.2 in
           (found.0, found.1, inr (fresh bytes is, subst (λ (rs : List (List ℕ)). IsImage plain rs found.0) left found.2.1))
 
-  pub has_failed : HasFailedOnce code k l → IsNotMade code Failed start after
-  has_failed failed = (reads start.reads refl, sym counts ∙ (failed.faults ∙ ap next_count faults_before))
+  pub has_failed : (m : KeeperState) → OnlyRoomChanged k m → HasFailed code m l → IsNotMade code Failed start after
+  has_failed m room failed = (reads start.reads refl, sym counts ∙ (failed.faults ∙ ap next_count (room.faults ∙ faults_before)))
     where
-      may : (left : List (List ℕ)) → MayDoubt code k.doubt l.doubt → MayLeave [] l.doubt left → MayLeave [] (Some code) left
-      may left (inl as_before) is = inl (subst (λ (d : Option (List ℕ)). MayLeave [] d left) (as_before ∙ calm_before) is)
-      may left (inr (inl calm)) is = inl (subst (λ (d : Option (List ℕ)). MayLeave [] d left) calm is)
-      may left (inr (inr this)) is = subst (λ (d : Option (List ℕ)). MayLeave [] d left) this is
+      same : l.records ≡ k.records
+      same = failed.records ∙ room.records
+
+      may : (left : List (List ℕ)) → (l.doubt ≡ None) ⊎ (l.doubt ≡ Some code) → MayLeave [] l.doubt left → MayLeave [] (Some code) left
+      may left (inl calm) is = inl (subst (λ (d : Option (List ℕ)). MayLeave [] d left) calm is)
+      may left (inr this) is = subst (λ (d : Option (List ℕ)). MayLeave [] d left) this is
 
       reads : (o : Option (List ℕ)) → start.reads ≡ o → MayBeBegun code o after.reads
-      reads None is = untold_empty failed.records is
+      reads None is = untold_empty same is
       reads (Some bytes) is =
-          let found = told_empty failed.records bytes is in
+          let found = told_empty same bytes is in
           (found.0, found.1, inr (fresh bytes is, inr (found.2.0, found.2.1, may found.2.0 failed.doubt found.2.2)))
+
+-- a record was added after room was made for it
+pub added_in_room : (growth : ℕ → ℕ) (code : List ℕ) (k m l : KeeperState) → OnlyRoomChanged k m → HasAdded growth code m l → HasAdded growth code k l
+added_in_room growth code k m l room added = record {
+  records = added.records ∙ ap (option_map (λ (rs : List (List ℕ)). rs ++ code ∷ [])) room.records;
+  held = added.held ∙ ap (λ (n : ℕ). n + 1) room.held;
+  doubt = added.doubt;
+  end = added.end ∙ ap (λ (n : ℕ). n + growth (length code)) room.end;
+  faults = added.faults ∙ room.faults;
+}
 
 -- ---- crashes
 
@@ -174,62 +181,71 @@ blank_file : (bytes : List ℕ) → IsImage plain [] (spliced 0 blank bytes)
 unfolding front
 blank_file bytes = record { short = tt; spelled = closed_intro plain plain_ok [] (spliced 0 blank bytes) (drop 9 bytes) refl }
 
--- from when it was one on
-pub leaves_one : (start found later : DiskState) (between after : DiskCrashes) (k : KeeperState) (code : List ℕ)
-    → ((image : List ℕ) → between.left_since between.clock image → between.may_leave image)
-    → found.reads ≡ option_map (spliced 0 blank) start.reads → IfSome found.reads (LeavesOnly between) → k ≡ blank_shown start
-    → PassesTimeWith k.records k.doubt code (record_crashes plain found between) (record_crashes plain later after)
-    → IfSome start.reads (λ _. LeftFiles between after [] (Some code))
-leaves_one start found later between after k code only written durable begun passes = each_some start.reads at
+-- What crashes may leave once a disk is a journal without records: what was left then, or a file of no record, or of this one.
+abbrev MayLeaveSince : List ℕ → DiskCrashes → List ℕ → Type 0
+MayLeaveSince code begun image = begun.may_leave image ⊎ HasRecords [] (Some code) image
+
+-- only room was made since
+pub room_since : (code : List ℕ) (found later : DiskState) (begun after : DiskCrashes) → IsUntouched found later begun after
+    → (bytes : List ℕ) → found.reads ≡ Some bytes → Elapses begun after (MayLeaveSince code begun)
+room_since code found later begun after same bytes is =
+    let time = same.crashes bytes is in
+    record {
+      clock = time.clock;
+      now = λ image left. inl (time.now image left);
+      nothing_else = λ moment image past left. ⊎_elim (λ here. inl here) (λ old. inr (inl old)) (time.nothing_else moment image past left);
+      keeps = time.keeps;
+    }
+
+-- and then the record was written, or was to be
+pub written_since : (code : List ℕ) (found later : DiskState) (begun ready after : DiskCrashes) (records : Option (List (List ℕ))) → IsUntouched found later begun ready
+    → ((bytes : List ℕ) → found.reads ≡ Some bytes → records ≡ Some [])
+    → ((kept : List (List ℕ)) → records ≡ Some kept → Elapses ready after (HasRecords kept (Some code)))
+    → (bytes : List ℕ) → found.reads ≡ Some bytes → Elapses begun after (MayLeaveSince code begun)
+written_since code found later begun ready after records same none writes bytes is =
+    let room = room_since code found later begun ready same bytes is in
+    let time = writes [] (none bytes is) in
+    record {
+      clock = omega (arith, room.clock, time.clock);
+      now = λ image left. inr (time.now image left);
+      nothing_else = λ moment image past left. ⊎_elim (λ here. room.nothing_else moment image past here) (λ new. inr (inr new)) (time.nothing_else moment image (omega (arith, past, room.clock)) left);
+      keeps = λ moment image past left. time.keeps moment image (omega (arith, past, room.clock)) (room.keeps moment image past left);
+    }
+
+-- a journal was made, and then its first record was to be kept
+pub at_most : (code : List ℕ) (start found : DiskState) (before begun after : DiskCrashes) → ((image : List ℕ) → begun.left_since begun.clock image → begun.may_leave image)
+    → found.reads ≡ option_map (spliced 0 blank) start.reads → IfSome found.reads (LeavesOnly begun) → Elapses before begun (MayTear 0 blank before) → begun.clock ≤ after.clock
+    → ((bytes : List ℕ) → found.reads ≡ Some bytes → Elapses begun after (MayLeaveSince code begun)) → LeavesAtMost code start.reads before after
+at_most code start found before begun after only written durable first clock second = inr (begun.clock, (first.clock, clock), each_some start.reads at)
   where
-    at : (bytes : List ℕ) → start.reads ≡ Some bytes → LeftFiles between after [] (Some code)
-    at bytes is image since =
-        let file = images_left plain plain_ok found later between after (λ left. left ≡ []) (MayLeaveWith [] None code) 1 between.clock (omega arith)
-        files adds (λ left none. omega (arith, ap length none)) few image since in
-        (file.0, file.1, either file.0 file.2)
+    at : (bytes : List ℕ) → start.reads ≡ Some bytes → LeavesFirst code begun.clock before after
+    at bytes is = (time, files)
       where
         here : found.reads ≡ Some (spliced 0 blank bytes)
         here = written ∙ ap (option_map (spliced 0 blank)) is
 
-        files : (image : List ℕ) → between.left_since between.clock image → (rs : List (List ℕ)) × IsImage plain rs image × (rs ≡ [])
-        files image past =
-            let same : image ≡ spliced 0 blank bytes = of_some found.reads (LeavesOnly between) durable (spliced 0 blank bytes) here image (only image past) in
-            ([], subst (λ (b : List ℕ). IsImage plain [] b) (sym same) (blank_file bytes), refl)
+        since : Elapses begun after (MayLeaveSince code begun)
+        since = second (spliced 0 blank bytes) here
 
-        adds : Adds between.clock (record_crashes plain found between).left_since (record_crashes plain later after).left_since (MayLeaveWith [] None code)
-        adds = subst (λ (d : Option (List ℕ)). Adds between.clock (record_crashes plain found between).left_since (record_crashes plain later after).left_since (MayLeaveWith [] d code))
-            (ap (λ (s : KeeperState). s.doubt) begun)
-            (of_told (is_some found.reads) k.records [] (λ kept. Adds between.clock (record_crashes plain found between).left_since (record_crashes plain later after).left_since (MayLeaveWith kept k.doubt code))
-            (ap is_some here) (ap (λ (s : KeeperState). s.records) begun ∙ ap (option_map (λ _. [])) is) passes.crash)
+        blank_left : (image : List ℕ) → begun.may_leave image → HasRecords [] (Some code) image
+        blank_left image left =
+            let same : image ≡ spliced 0 blank bytes = of_some found.reads (LeavesOnly begun) durable (spliced 0 blank bytes) here image left in
+            ([], subst (λ (b : List ℕ). IsImage plain [] b) (sym same) (blank_file bytes), inl refl)
 
-        few : (left : List (List ℕ)) → MayLeaveWith [] None code left → length left ≤ 1
-        few left (inl none) = omega (arith, ap length none)
-        few left (inr one) = omega (arith, ap length one)
+        new_one : (image : List ℕ) → MayLeaveSince code begun image → MayBegin code before image
+        new_one image (inl old) = inl (first.now image old)
+        new_one image (inr new) = inr new
 
-        either : (left : List (List ℕ)) → (left ≡ []) ⊎ MayLeaveWith [] None code left → MayLeave [] (Some code) left
-        either left (inl none) = inl none
-        either left (inr (inl none)) = inl none
-        either left (inr (inr one)) = inr one
+        time : Elapses before after (MayBegin code before)
+        time = record {
+          clock = omega (arith, first.clock, clock);
+          now = λ image left. new_one image (since.now image left);
+          nothing_else = λ moment image past left.
+              ⊎_elim (λ here. ⊎_elim (λ old. inl old) (λ torn. inr (inl torn)) (first.nothing_else moment image past here)) (λ new. inr (new_one image new))
+              (since.nothing_else moment image (omega (arith, past, first.clock)) left);
+          keeps = λ moment image past left. since.keeps moment image (omega (arith, past, first.clock)) (first.keeps moment image past left);
+        }
 
--- where no record was kept
-pub unkept_time : (fault : KeepFault) (records : Option (List (List ℕ))) (doubt : Option (List ℕ)) (code : List ℕ) (before after : Crashes)
-    → PassesTimeUnkept fault records doubt code before after → PassesTimeWith records doubt code before after
-unkept_time keeps.Full records doubt code before after passes = quiet_call records doubt code before after passes
-unkept_time keeps.Failed records doubt code before after passes = passes
-unkept_time keeps.Memory records doubt code before after passes = quiet_call records doubt code before after passes
-
--- a journal was made, and then its first record was to be kept
-pub at_most : {D : Type 0} (shown : D → DiskState) (crashes : D → DiskCrashes) (before begun later result : D) (k : KeeperState) (code other : List ℕ)
-    → result ≡ later → code ≡ other → ((image : List ℕ) → (crashes begun).left_since (crashes begun).clock image → (crashes begun).may_leave image)
-    → (shown begun).reads ≡ option_map (spliced 0 blank) (shown before).reads → IfSome (shown begun).reads (LeavesOnly (crashes begun)) → k ≡ blank_shown (shown before)
-    → Elapses (crashes before) (crashes begun) (MayTear 0 blank (crashes before))
-    → PassesTimeWith k.records k.doubt code (record_crashes plain (shown begun) (crashes begun)) (record_crashes plain (shown later) (crashes later))
-    → LeavesAtMost shown crashes other before result
-at_most shown crashes before begun later result k code other same spelled only written durable blanks elapses passes =
-    subst (λ d. LeavesAtMost shown crashes other before d) (sym same) (subst (λ (text : List ℕ). LeavesAtMost shown crashes text before later) spelled
-    (inr (
-      begun,
-      elapses,
-      passes.clock,
-      leaves_one (shown before) (shown begun) (shown later) (crashes begun) (crashes later) k code only written durable blanks passes,
-    )))
+        files : LeftFiles begun.clock after [] (Some code)
+        files image left =
+            ⊎_elim (λ here. blank_left image (only image here)) (λ new. ⊎_elim (λ old. blank_left image old) (λ file. file) new) (since.nothing_else begun.clock image (omega arith) left)

@@ -10,7 +10,7 @@ use Rattle.fedi_images.specs.Images.{IsImage, blocks, front, kept_in, plain}
 use Rattle.fedi_images.specs.Known.{IsKnown, record_crashes, records_told}
 use Rattle.fedi_images.specs.Opening.{IsDamagedAt, IsNoStore}
 use Rattle.fedi_journal.specs.Finding as journals
-use Rattle.fedi_journal.specs.Untouched.{IsUntouched}
+use Rattle.fedi_journal.specs.Files.{HasRecords}
 use Rattle.fedi_journal.specs.declared.faults.JournalFault.{JournalFault}
 use Rattle.fedi_journal.specs.declared.faults.JournalFault.TheVariants as journal_faults
 use Rattle.fedi_log.proofs.Leaving.{few_kept}
@@ -20,61 +20,24 @@ use Rattle.fedi_opening.proofs.Records.{read_all}
 use Rattle.fedi_opening.specs.Opening.{IsDamaged, IsRead, IsStopped, after_open}
 use Rattle.fedi_opening.specs.declared.fault.OpenFault.{OpenFault}
 use Rattle.fedi_opening.specs.declared.fault.OpenFault.TheVariants.{Failed, Damaged, Empty, Memory}
-use Rattle.fedi_outside.specs.Disks.{DiskCrashes, DiskState, Elapses}
+use Rattle.fedi_outside.specs.Disks.{DiskCrashes, DiskState, IsUntouched}
 use Rattle.fedi_outside.specs.Keepers.{Adds, KeeperState, MayLeave, PassesTime}
 use Rattle.fedi_startup.specs.Faults.{of_journal, of_opening}
-use Rattle.fedi_startup.specs.Stores.{ComesBack, HasRecords, HasSameRecords, IsNotOpened, IsOpened, IsSound, KeepsForeign, LeavesFiles, LeavesNothingNew, count_after, records_of}
+use Rattle.fedi_startup.specs.Stores.{ComesBack, IsNotOpened, IsOpened, IsSound, LeavesFiles, LeftFiles, count_after, records_of}
 use Rattle.fedi_startup.proofs.Told.{each_some, of_told, told_bytes, untold_bytes}
 
 -- ---- crashes
 
--- no call, or calls that left only what might have been left
-pub elapsed_old : (before after : DiskCrashes) → ((image : List ℕ) → before.left_since before.clock image → before.may_leave image) → Elapses before after before.may_leave
-    → LeavesNothingNew before after
-elapsed_old before after only elapses records doubt files image since = left (elapses.nothing_else before.clock image (omega arith) since)
+-- what left files of some records, and was untouched since, leaves such files
+pub untouched_files : (start found : DiskState) (before middle : DiskCrashes) (bytes : List ℕ) (records : List (List ℕ)) (doubt : Option (List ℕ))
+    → IsUntouched start found before middle → start.reads ≡ Some bytes → ((image : List ℕ) → before.left_since before.clock image → before.may_leave image)
+    → LeavesFiles before records doubt → LeftFiles before.clock middle records doubt
+untouched_files start found before middle bytes records doubt same is only files image since =
+    left ((same.crashes bytes is).nothing_else before.clock image (omega arith) since)
   where
     left : before.left_since before.clock image ⊎ before.may_leave image → HasRecords records doubt image
     left (inl past) = files image (only image past)
     left (inr now) = files image now
-
-pub no_time : (crashes : DiskCrashes) → ((image : List ℕ) → crashes.left_since crashes.clock image → crashes.may_leave image) → LeavesNothingNew crashes crashes
-no_time crashes only records doubt files image since = files image (only image since)
-
--- the same disk by another name
-pub nothing_here : {D : Type 0} (crashes : D → DiskCrashes) (told : Option (List ℕ)) (before : DiskCrashes) (a b : D) → a ≡ b
-    → IfSome told (λ _. LeavesNothingNew before (crashes b)) → IfSome told (λ _. LeavesNothingNew before (crashes a))
-nothing_here crashes told before a b same h = subst (λ d. IfSome told (λ _. LeavesNothingNew before (crashes d))) (sym same) h
-
--- the records were found, and then read
-module _ (start found later : DiskState) (before middle after : DiskCrashes) (told : Option (List (List ℕ))) (doubted : Option (List ℕ)) (end : ℕ)
-    (stays : IfSome start.reads before.may_leave)
-    (only : (image : List ℕ) → before.left_since before.clock image → before.may_leave image)
-    (untouched : IsUntouched start found before middle)
-    (finds : (bytes : List ℕ) → start.reads ≡ Some bytes → (rs : List (List ℕ)) × IsImage plain rs bytes × (told ≡ Some rs) × (end ≡ length (front plain rs)))
-    (settled : doubted ≡ None)
-    (passes : PassesTime told doubted (record_crashes plain found middle) (record_crashes plain later after)) where
-  adds : (bytes : List ℕ) (is : start.reads ≡ Some bytes)
-      → Adds middle.clock (record_crashes plain found middle).left_since (record_crashes plain later after).left_since (λ left. left ≡ (finds bytes is).0)
-  adds bytes is =
-      let rs = (finds bytes is).0 in
-      subst (λ (o : Option (List ℕ)). Adds middle.clock (record_crashes plain found middle).left_since (record_crashes plain later after).left_since (MayLeave rs o)) settled
-      (of_told (is_some found.reads) told rs (λ kept. Adds middle.clock (record_crashes plain found middle).left_since (record_crashes plain later after).left_since (MayLeave kept doubted)) (ap is_some (untouched.reads ∙ is)) (finds bytes is).2 passes.crash)
-
-  pub read_old : IfSome start.reads (λ _. LeavesNothingNew before after)
-  read_old = each_some start.reads at
-    where
-      at : (bytes : List ℕ) → start.reads ≡ Some bytes → LeavesNothingNew before after
-      at bytes is records doubt files image since =
-          let rs = (finds bytes is).0 in
-          let here = files bytes (of_some start.reads before.may_leave stays bytes is) in
-          let file = images_left plain plain_ok found later middle after (MayLeave records doubt) (λ left. left ≡ rs) (length records + length rs + 1) before.clock untouched.clock
-          (elapsed_old before middle only (untouched.crashes bytes is) records doubt files) (adds bytes is)
-          (λ left old. omega (arith, few_kept records doubt left old)) (λ left new. omega (arith, ap length new)) image since in
-          (file.0, file.1, either file.0 rs here.0 (one_image plain plain_ok here.0 rs bytes here.1 (finds bytes is).1) here.2 file.2)
-        where
-          either : (left rs there : List (List ℕ)) → there ≡ rs → MayLeave records doubt there → MayLeave records doubt left ⊎ (left ≡ rs) → MayLeave records doubt left
-          either left rs there one may (inl old) = old
-          either left rs there one may (inr new) = subst (λ (l : List (List ℕ)). MayLeave records doubt l) (one ∙ sym new) may
 
 -- ---- a machine
 
@@ -138,23 +101,14 @@ begins_so rs bytes image =
     ap (take 8) (image.spelled ∙ append_assoc plain.magic (blocks plain [] rs) (0 ∷ drop (length (front plain rs) + 1) bytes))
     ∙ take_at plain.magic (blocks plain [] rs ++ 0 ∷ drop (length (front plain rs) + 1) bytes) 8 refl
 
--- what is untouched is so if it is no file of records, and what is a file of records is not
-pub foreign_untouched : (start after : DiskState) (before now : DiskCrashes) → IsUntouched start after before now → KeepsForeign start after before now
-foreign_untouched start after before now same = λ bytes is none. same
-
-pub not_foreign : (start after : DiskState) (before now : DiskCrashes) (P : List ℕ → List (List ℕ) → Type 0)
-    → ((bytes : List ℕ) → start.reads ≡ Some bytes → (rs : List (List ℕ)) × IsImage plain rs bytes × P bytes rs) → KeepsForeign start after before now
-not_foreign start after before now P finds = λ bytes is none. let f = finds bytes is in absurd (none f.0 f.1)
-
 -- the journal was not opened
 pub not_found : (fault : JournalFault) (start after : DiskState)
     → ((place : ℕ) → fault ≡ journal_faults.Damaged place → (bytes : List ℕ) → start.reads ≡ Some bytes → IsDamagedAt plain place bytes)
     → (fault ≡ journal_faults.NotAStore → (bytes : List ℕ) → start.reads ≡ Some bytes → IsNoStore plain bytes)
     → (fault ≡ journal_faults.Memory → (bytes : List ℕ) → start.reads ≡ Some bytes → take 8 bytes ≡ plain.magic)
-    → after.reads ≡ start.reads → after.faults ≡ journals.count_after fault start.faults → ComesBack (of_journal fault) start after
-not_found fault start after damaged store memory same faults = record {
+    → after.faults ≡ journals.count_after fault start.faults → ComesBack (of_journal fault) start after
+not_found fault start after damaged store memory faults = record {
   why = why fault damaged store memory;
-  reads = alike start.reads same;
   faults = faults ∙ counts fault;
 }
   where
@@ -166,42 +120,32 @@ not_found fault start after damaged store memory same faults = record {
     why journal_faults.Failed damaged store memory = tt
     why journal_faults.Memory damaged store memory = each_some start.reads (λ bytes is. memory refl bytes is)
 
-    alike : (reads : Option (List ℕ)) → after.reads ≡ reads → HasSameRecords reads after.reads
-    alike None is = is
-    alike (Some bytes) is = (bytes, is, inl refl)
-
     counts : (fault : JournalFault) → journals.count_after fault start.faults ≡ count_after (of_journal fault) start.faults
     counts journal_faults.NotAStore = refl
     counts (journal_faults.Damaged place) = refl
     counts journal_faults.Failed = refl
     counts journal_faults.Memory = refl
 
--- what an opening that failed leaves of its keeper
-same_keeper : (fault : OpenFault) (k : KeeperState) → let l = after_open {T = ℕ} (Err fault) k in
-    (l.records ≡ k.records) × (l.doubt ≡ k.doubt) × (l.faults ≡ count_after (of_opening fault) k.faults)
-same_keeper Failed k = (refl, refl, refl)
-same_keeper (Damaged place) k = (refl, refl, refl)
-same_keeper Empty k = (refl, refl, refl)
-same_keeper Memory k = (refl, refl, refl)
+-- how many faults a keeper counts after an opening that failed
+counts_fault : (fault : OpenFault) (k : KeeperState) → (after_open {T = ℕ} (Err fault) k).faults ≡ count_after (of_opening fault) k.faults
+counts_fault Failed k = refl
+counts_fault (Damaged place) k = refl
+counts_fault Empty k = refl
+counts_fault Memory k = refl
 
 none_held : (rs : List (List ℕ)) → 0 ≡ length rs → rs ≡ []
 none_held [] is = refl
 none_held (r ∷ rs) is = absurd (omega (arith, is))
 
 -- the history was not
-pub not_read : (fault : OpenFault) (start found after : DiskState) (crashes : DiskCrashes) (k l : KeeperState) (history : List Entry) (count more : ℕ)
+pub not_read : (fault : OpenFault) (start found after : DiskState) (k l : KeeperState) (history : List Entry)
     → ((bytes : List ℕ) → start.reads ≡ Some bytes → (rs : List (List ℕ)) × IsImage plain rs bytes × (k.records ≡ Some rs) × (k.end ≡ length (front plain rs)))
-    → k.doubt ≡ None → found.reads ≡ start.reads → found.faults ≡ start.faults → k.records ≡ records_told plain count found → k.faults ≡ found.faults
-    → IfSome k.records (λ records. k.held ≡ length records)
-    → IsStopped fault k history → l ≡ after_open {T = ℕ} (Err fault) k
-    → l.records ≡ records_told plain more after → l.faults ≡ after.faults
-    → ((kept : List (List ℕ)) → l.records ≡ Some kept → (image : List ℕ) → crashes.may_leave image → (rs : List (List ℕ)) × IsImage plain rs image × MayLeave kept l.doubt rs)
-    → IfSome after.reads crashes.may_leave
+    → found.faults ≡ start.faults → k.faults ≡ found.faults → IfSome k.records (λ records. k.held ≡ length records)
+    → IsStopped fault k history → l ≡ after_open {T = ℕ} (Err fault) k → l.faults ≡ after.faults
     → ComesBack (of_opening fault) start after
-not_read fault start found after crashes k l history count more finds settled same faults told counts counted stopped shown told_after counts_after images stays = record {
+not_read fault start found after k l history finds faults counts counted stopped shown counts_after = record {
   why = why fault stopped;
-  reads = reads start.reads finds (told ∙ ap (option_map (kept_in plain count)) same);
-  faults = sym counts_after ∙ (ap (λ (s : KeeperState). s.faults) shown ∙ ((same_keeper fault k).2 ∙ ap (count_after (of_opening fault)) (counts ∙ faults)));
+  faults = sym counts_after ∙ (ap (λ (s : KeeperState). s.faults) shown ∙ (counts_fault fault k ∙ ap (count_after (of_opening fault)) (counts ∙ faults)));
 }
   where
     counted_at : (rs : List (List ℕ)) → k.records ≡ Some rs → k.held ≡ length rs
@@ -219,19 +163,3 @@ not_read fault start found after crashes k l history count more finds settled sa
     why (Damaged place) stops = each_some start.reads (λ bytes is. let f = finds bytes is in (f.0, f.1, (history, damaged f.0 place f.2 stops)))
     why Empty stops = each_some start.reads (λ bytes is. let f = finds bytes is in inr (empty f.0 bytes stops f.2 f.1))
     why Memory stops = each_some start.reads (λ bytes is. let f = finds bytes is in begins_so f.0 bytes f.1)
-
-    records : l.records ≡ k.records
-    records = ap (λ (s : KeeperState). s.records) shown ∙ (same_keeper fault k).0
-
-    doubt : l.doubt ≡ None
-    doubt = ap (λ (s : KeeperState). s.doubt) shown ∙ ((same_keeper fault k).1 ∙ settled)
-
-    reads : (o : Option (List ℕ)) → ((bytes : List ℕ) → o ≡ Some bytes → (rs : List (List ℕ)) × IsImage plain rs bytes × (k.records ≡ Some rs) × (k.end ≡ length (front plain rs)))
-        → k.records ≡ option_map (kept_in plain count) o → HasSameRecords o after.reads
-    reads None each is = untold_bytes (kept_in plain more) after.reads (sym told_after ∙ (records ∙ is))
-    reads (Some bytes) each is =
-        let f = each bytes refl in
-        let other = told_bytes (kept_in plain more) after.reads f.0 (sym told_after ∙ (records ∙ f.2)) in
-        let file = images f.0 (records ∙ f.2) other.0 (of_some after.reads crashes.may_leave stays other.0 other.1) in
-        let left : file.0 ≡ f.0 = subst (λ (d : Option (List ℕ)). MayLeave f.0 d file.0) doubt file.2 in
-        (other.0, other.1, inr (f.0, f.1, subst (λ (rs : List (List ℕ)). IsImage plain rs other.0) left file.1))

@@ -11,6 +11,7 @@ use Rattle.fedi_core.specs.Machines.{IsNextCode}
 use Rattle.fedi_entry.specs.Codes.{code_of}
 use Rattle.fedi_entry.specs.Fields.{IsFormed}
 use Rattle.fedi_images.specs.Images.{IsImage, plain}
+use Rattle.fedi_images.specs.Known.{record_crashes, records_told}
 use Rattle.fedi_log.proofs.Growing.{given_history, history_append}
 use Rattle.fedi_log.specs.Keeping.{HoldsSince, State, since}
 use Rattle.fedi_log.specs.Leaving.{IsLeft}
@@ -25,10 +26,11 @@ use Rattle.fedi_town.specs.Built.{is_built}
 use Rattle.fedi_town.specs.Histories.{step, town}
 use Rattle.fedi_town.specs.Legal.{is_admissible, is_legal_from}
 use Rattle.fedi_town.specs.Towns.{Town, empty_town}
-use Rattle.fedi_startup.specs.Marks.{MarksMayCome}
-use Rattle.fedi_startup.specs.Stores.{IsAround, IsClosed, IsSound, IsStoreOf, LeavesFiles, LeavesStores, records_of}
-use Rattle.fedi_startup.specs.Surviving.{IsFirstPart, LeavesStoresAlong, LeavesStoresFound, SurvivesOnDisk, opened_base}
+use Rattle.fedi_startup.specs.Marks.{MarksMayCome, Survives}
+use Rattle.fedi_startup.specs.Stores.{IsAround, IsClosed, IsOpened, IsSound, IsStoreOf, LeavesFiles, LeavesStores, records_of}
+use Rattle.fedi_startup.specs.Surviving.{IsFirstPart, LeavesFoundFrom, LeavesStoresAlong, LeavesStoresFound, LeavesStoresFrom, SurvivesOnDisk, opened_base}
 use Rattle.fedi_startup.proofs.Marks.{doubts_come}
+use Rattle.fedi_startup.proofs.Surviving.{found_since, records_held}
 use Rattle.fedi_startup.proofs.Told.{each_some}
 
 -- ---- sound histories
@@ -195,14 +197,26 @@ stores_along before after opened now log some settled sound holds marks survives
           (store.0, store.1, inr store.2)
     ]
 
--- and from the end of the opening on, of the first part alone
+-- and from a moment at which the files were found, of the first part alone
+pub stores_from : (moment : ℕ) (after : DiskCrashes) (opened now : State) (log : Log) → opened.history ≢ [] → opened.keeper.doubt ≡ None → IsSound now.history
+    → HoldsSince (opened_base opened) None (given opened.history) now log → MarksMayCome [] log → LeavesFoundFrom moment after opened log
+    → LeavesStoresFrom moment after opened.history (since (opened_base opened) log)
+stores_from moment after opened now log some settled sound holds marks found image since_then =
+    let file = found image since_then in
+    first_part opened now log image file.0 some settled sound (now_grown opened now log holds) (marks_since opened now log holds marks) file.1 file.2
+
 pub stores_found : (before after : DiskCrashes) (opened now : State) (log : Log) → opened.history ≢ [] → opened.keeper.doubt ≡ None → IsSound now.history
     → HoldsSince (opened_base opened) None (given opened.history) now log → MarksMayCome [] log → SurvivesOnDisk before after opened log
     → LeavesStoresFound before after opened.history (since (opened_base opened) log)
-stores_found before after opened now log some settled sound holds marks survives = (
-  survives.moment,
-  survives.during,
-  λ image since_then.
-      let file = survives.found image since_then in
-      first_part opened now log image file.0 some settled sound (now_grown opened now log holds) (marks_since opened now log holds marks) file.1 file.2,
-)
+stores_found before after opened now log some settled sound holds marks survives =
+    (survives.moment, survives.during, stores_from survives.moment after opened now log some settled sound holds marks survives.found)
+
+-- The moment is that at which the opening ended.
+pub stores_since_opening : (start found later : DiskState) (middle after : DiskCrashes) (opened now : State) (log : Log) (count : ℕ) (bytes : List ℕ)
+    → start.reads ≡ Some bytes → IsOpened start opened → opened.keeper.records ≡ records_told plain count found
+    → LeavesFiles middle (records_of opened.history) None → ((image : List ℕ) → middle.left_since middle.clock image → middle.may_leave image)
+    → Survives (opened_base opened) None (given opened.history) log now (record_crashes plain found middle) (record_crashes plain later after)
+    → IsSound now.history → LeavesStoresFrom middle.clock after opened.history (since (opened_base opened) log)
+stores_since_opening start found later middle after opened now log count bytes is opening told files only survives sound =
+    stores_from middle.clock after opened now log opening.some opening.doubt sound survives.holds survives.marks
+    (found_since found later middle after opened now log count told (records_held start opened bytes opening is) survives files only)

@@ -1,11 +1,12 @@
 -- What becomes of a disk that is made a store.
-use Rattle.std.specs.Prelude.{◌≡◌, ◌⊎◌, ◌≤◌, ℕ, List, [], IfSome, Option, Some, None, is_some}
+use Rattle.std.specs.Prelude.{◌≡◌, ◌⊎◌, ℕ, List, [], IfSome, Option, Some, None, is_some}
 use Rattle.fedi_images.specs.Images.{IsImage, plain}
+use Rattle.fedi_journal.specs.Files.{HasRecords}
 use Rattle.fedi_journal.specs.Making.{IsOther, blank}
 use Rattle.fedi_objects.specs.declared.entry.Entry.{Entry}
 use Rattle.fedi_outside.specs.Causes.{next_count}
 use Rattle.fedi_outside.specs.Disks.{DiskCrashes, DiskState, Elapses, IsTorn, MayTear}
-use Rattle.fedi_startup.specs.Stores.{HasRecords, IsStoreOf, LeavesFiles, LeftFiles, records_of}
+use Rattle.fedi_startup.specs.Stores.{IsDuring, IsStoreOf, LeavesFiles, LeftFiles, records_of}
 use Rattle.fedi_startup.specs.declared.faults.MakeFault.{MakeFault}
 use Rattle.fedi_startup.specs.declared.faults.MakeFault.TheVariants.{Exists, Failed, Memory}
 
@@ -41,12 +42,19 @@ IsNotMade code Exists before after = IfSome before.reads IsOther × (after.reads
 IsNotMade code Failed before after = MayBeBegun code before.reads after.reads × (after.faults ≡ next_count before.faults)
 IsNotMade code Memory before after = MayBeEmpty before.reads after.reads × (after.faults ≡ before.faults)
 
--- What a crash may leave while a disk is made a store whose first record is this one: an image that one before might have left,
--- of which the first nine bytes may be torn; and from some moment on, if it came to that and the disk tells its bytes, a file of
--- no record, or of this one.
-abbrev pub LeavesAtMost : {D : Type 0} → (D → DiskState) → (D → DiskCrashes) → List ℕ → D → D → Type 0
-LeavesAtMost {D} shown crashes code before after =
-    Elapses (crashes before) (crashes after) (MayTear 0 blank (crashes before))
-    ⊎ ((begun : D) × Elapses (crashes before) (crashes begun) (MayTear 0 blank (crashes before))
-    × ((crashes begun).clock ≤ (crashes after).clock)
-    × IfSome (shown before).reads (λ _. LeftFiles (crashes begun) (crashes after) [] (Some code)))
+-- an image that a crash before might have left, of which the first nine bytes may be torn, or a file of no record, or of this one
+abbrev pub MayBegin : List ℕ → DiskCrashes → List ℕ → Type 0
+MayBegin code before image = MayTear 0 blank before image ⊎ HasRecords [] (Some code) image
+
+-- What crashes may leave once a disk that told its bytes has been a journal without records since this moment: such images, and
+-- from that moment on files of no record, or of this one.
+abbrev pub LeavesFirst : List ℕ → ℕ → DiskCrashes → DiskCrashes → Type 0
+LeavesFirst code moment before after = Elapses before after (MayBegin code before) × LeftFiles moment after [] (Some code)
+
+-- What a crash may leave while a disk of which reads gave these bytes is made a store whose first record is this one: an image
+-- that one before might have left, of which the first nine bytes may be torn; or, if it came to that, a file of no record, or of
+-- this one, and from some moment of the call on such a file alone.
+abbrev pub LeavesAtMost : List ℕ → Option (List ℕ) → DiskCrashes → DiskCrashes → Type 0
+LeavesAtMost code reads before after =
+    Elapses before after (MayTear 0 blank before)
+    ⊎ ((moment : ℕ) × IsDuring before after moment × IfSome reads (λ _. LeavesFirst code moment before after))

@@ -1,20 +1,19 @@
 -- Stores: disks with the file of the records of a history, and what becomes of a disk that is opened or closed as one.
-use Rattle.std.specs.Prelude.{◌≡◌, ◌∷◌, ◌++◌, ◌≢◌, ◌⊎◌, ℕ, List, [], length, map, take, IfSome, IsTrue, Option, Some, None, option_map, Result, Ok, Err}
+use Rattle.std.specs.Prelude.{◌≡◌, ◌∷◌, ◌++◌, ◌≢◌, ◌⊎◌, ◌≤◌, ℕ, List, [], length, map, take, IfSome, IsTrue, Option, Some, None, option_map, Result, Ok, Err}
 use Rattle.std.specs.List.{AllByRecursion}
 use Rattle.fedi_core.specs.Machines.{IsNextCode, Machine}
 use Rattle.fedi_entry.specs.Codes.{code_of}
 use Rattle.fedi_entry.specs.Fields.{IsFormed}
 use Rattle.fedi_images.specs.Images.{IsImage, front, plain}
 use Rattle.fedi_images.specs.Opening.{IsDamagedAt, IsNoStore}
+use Rattle.fedi_journal.specs.Files.{HasRecords}
 use Rattle.fedi_journal.specs.Opening.{disk_of}
-use Rattle.fedi_journal.specs.Untouched.{IsUntouched}
 use Rattle.fedi_journal.specs.declared.journal.Journal.{Journal}
 use Rattle.fedi_log.specs.Keeping.{State}
 use Rattle.fedi_objects.specs.declared.entry.Entry.{Entry}
 use Rattle.fedi_opening.specs.Opening.{IsDamaged}
 use Rattle.fedi_outside.specs.Causes.{next_count}
 use Rattle.fedi_outside.specs.Disks.{DiskCrashes, DiskState}
-use Rattle.fedi_outside.specs.Keepers.{MayLeave}
 use Rattle.fedi_outside.specs.declared.disks.Disk.{Ghosts}
 use Rattle.fedi_startup.specs.declared.faults.StoreFault.{StoreFault}
 use Rattle.fedi_startup.specs.declared.faults.StoreFault.TheVariants.{NotAStore, DamagedByte, DamagedRecord, Failed, Memory}
@@ -54,22 +53,17 @@ HasNoRecord bytes = IsNoStore plain bytes ⊎ IsImage plain [] bytes
 
 -- ---- what a crash leaves
 
--- the bytes are a file of these records, or of these with the one in doubt
-abbrev pub HasRecords : List (List ℕ) → Option (List ℕ) → List ℕ → Type 0
-HasRecords records doubt bytes = (left : List (List ℕ)) × IsImage plain left bytes × MayLeave records doubt left
+-- a moment between these two
+abbrev pub IsDuring : DiskCrashes → DiskCrashes → ℕ → Type 0
+IsDuring before after moment = (before.clock ≤ moment) × (moment ≤ after.clock)
 
--- each image that a crash now may leave is such a file
+-- each image that a crash now may leave is a file of these records, or of these with the one in doubt
 abbrev pub LeavesFiles : DiskCrashes → List (List ℕ) → Option (List ℕ) → Type 0
 LeavesFiles crashes records doubt = (image : List ℕ) → crashes.may_leave image → HasRecords records doubt image
 
--- each image that a crash at some moment from the first one on may have left is such a file
-abbrev pub LeftFiles : DiskCrashes → DiskCrashes → List (List ℕ) → Option (List ℕ) → Type 0
-LeftFiles before after records doubt = (image : List ℕ) → after.left_since before.clock image → HasRecords records doubt image
-
--- if a crash before leaves files of certain records, or of these with one in doubt, then so did each crash since
-abbrev pub LeavesNothingNew : DiskCrashes → DiskCrashes → Type 0
-LeavesNothingNew before after =
-    (records : List (List ℕ)) (doubt : Option (List ℕ)) → LeavesFiles before records doubt → LeftFiles before after records doubt
+-- each image that a crash at this moment or later may have left is such a file
+abbrev pub LeftFiles : ℕ → DiskCrashes → List (List ℕ) → Option (List ℕ) → Type 0
+LeftFiles moment crashes records doubt = (image : List ℕ) → crashes.left_since moment image → HasRecords records doubt image
 
 -- ---- which stores these files are
 
@@ -113,21 +107,9 @@ count_after (DamagedRecord place) n = n
 count_after Failed n = next_count n
 count_after Memory n = n
 
--- reads give the same bytes, or those of a file of the same records
-abbrev pub HasSameRecords : Option (List ℕ) → Option (List ℕ) → Type 0
-HasSameRecords None after = after ≡ None
-HasSameRecords (Some bytes) after =
-    (other : List ℕ) × (after ≡ Some other) × ((other ≡ bytes) ⊎ ((rs : List (List ℕ)) × IsImage plain rs bytes × IsImage plain rs other))
-
--- if the bytes are no file of records, the disk is untouched
-abbrev pub KeepsForeign : DiskState → DiskState → DiskCrashes → DiskCrashes → Type 0
-KeepsForeign before after was now =
-    (bytes : List ℕ) → before.reads ≡ Some bytes → ((rs : List (List ℕ)) → IsImage plain rs bytes → ⊥) → IsUntouched before after was now
-
--- no machine was opened: the records are as before, and a fault of the disk is counted
+-- no machine was opened, and a fault of the disk is counted
 pub record ComesBack (fault : StoreFault) (before after : DiskState) : Type 0 where
   pub why : IsNotOpened fault before
-  pub reads : HasSameRecords before.reads after.reads
   pub faults : after.faults ≡ count_after fault before.faults
 
 -- the disk of the machine, or the one that came back

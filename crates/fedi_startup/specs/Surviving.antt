@@ -8,7 +8,7 @@ use Rattle.fedi_log.specs.Log.{Log, doubts_of, history_of}
 use Rattle.fedi_outside.specs.Disks.{DiskCrashes}
 use Rattle.fedi_outside.specs.Keepers.{MayLeave}
 use Rattle.fedi_objects.specs.declared.entry.Entry.{Entry}
-use Rattle.fedi_startup.specs.Stores.{IsAround, IsStoreOf, LeavesFiles, LeavesStores, records_of}
+use Rattle.fedi_startup.specs.Stores.{IsAround, IsDuring, IsStoreOf, LeavesFiles, LeavesStores, records_of}
 
 -- a record of this length moves the end so far
 abbrev pub growth : ℕ → ℕ
@@ -32,10 +32,6 @@ LeavesAlong before after opened log =
     → (left : List (List ℕ)) × IsImage plain left image
     × (MayLeave records doubt left ⊎ IsLeft (opened_base opened) log (records_of opened.history) left)
 
--- a moment of the run
-abbrev pub IsDuring : DiskCrashes → DiskCrashes → ℕ → Type 0
-IsDuring before after moment = (before.clock ≤ moment) × (moment ≤ after.clock)
-
 -- From this moment on, whatever a crash before may have left, a crash left a file of the records that the opening found, with
 -- those of the first entries that the run kept, none or more, and behind them at most one that was in doubt then.
 abbrev pub LeavesFoundFrom : ℕ → DiskCrashes → State → Log → Type 0
@@ -43,7 +39,7 @@ LeavesFoundFrom moment after opened log =
     (image : List ℕ) → after.left_since moment image
     → (left : List (List ℕ)) × IsImage plain left image × IsLeft (opened_base opened) log (records_of opened.history) left
 
--- crashes during the run left such files along the log, and from the end of the opening on without a premise
+-- crashes during the run left such files along the log, and from some moment of the run on without a premise
 pub record SurvivesOnDisk (before after : DiskCrashes) (opened : State) (log : Log) : Type 0 where
   pub along : LeavesAlong before after opened log
   pub moment : ℕ
@@ -69,9 +65,12 @@ LeavesStoresAlong before after opened added =
     → (image : List ℕ) → after.left_since before.clock image
     → (left : List Entry) × IsStoreOf left image × (IsAround history doubt left ⊎ IsFirstPart opened added left)
 
--- From some moment of the run on, when the opening had ended, whatever a crash before may have left, a crash left a store of the
--- history that was opened with the first entries that the run kept, none or more, and at most the one entry that was in doubt then.
+-- From this moment on, whatever a crash before may have left, a crash left a store of the history that was opened with the first
+-- entries that the run kept, none or more, and at most the one entry that was in doubt then.
+abbrev pub LeavesStoresFrom : ℕ → DiskCrashes → List Entry → Log → Type 0
+LeavesStoresFrom moment after opened added =
+    (image : List ℕ) → after.left_since moment image → (left : List Entry) × IsStoreOf left image × IsFirstPart opened added left
+
+-- and so from some moment of the run on
 abbrev pub LeavesStoresFound : DiskCrashes → DiskCrashes → List Entry → Log → Type 0
-LeavesStoresFound before after opened added =
-    (moment : ℕ) × IsDuring before after moment
-    × ((image : List ℕ) → after.left_since moment image → (left : List Entry) × IsStoreOf left image × IsFirstPart opened added left)
+LeavesStoresFound before after opened added = (moment : ℕ) × IsDuring before after moment × LeavesStoresFrom moment after opened added

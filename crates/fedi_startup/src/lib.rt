@@ -9,6 +9,6 @@ mod opening;
 
 pub use closing::close_store;
 pub use faults::{MakeFault, StoreFault};
-pub use laws::{stores_are_not_made_anew, stores_have_one_answer};
+pub use laws::{stores_are_not_made_anew, stores_have_one_answer, what_was_opened_stays};
 pub use making::make_store;
 pub use opening::{StoreCore, open_store};

@@ -8,11 +8,10 @@ ghost use Rattle.fedi_startup.specs.Stores.{IsSound};
 
 use crate::faults::MakeFault;
 use fedi_address::Host;
-use fedi_core::{KeepFault, store};
 use fedi_entry::encode;
 use fedi_journal::Journal;
 use fedi_objects::Entry;
-use fedi_outside::Disk;
+use fedi_outside::{Disk, Failed, Keeper, ReserveFault};
 use fedi_text::Moment;
 use std::alloc::{AllocError, Global};
 
@@ -47,7 +46,8 @@ pub fn make_store<D: Disk>(
         (D.shown disk) (D.shown result.1)) }
     ensures stays { KeepsOther (D.shown disk) (D.shown result.1)
         (D.crashes disk) (D.crashes result.1) }
-    ensures time { LeavesAtMost D.shown D.crashes (code_of (Hosted host moment)) disk result.1 }
+    ensures time { LeavesAtMost (code_of (Hosted host moment)) (D.shown disk).reads
+        (D.crashes disk) (D.crashes result.1) }
 {
     let entry = first_entry(host, moment);
     let code = match encode(alloc, &entry) {
@@ -58,11 +58,14 @@ pub fn make_store<D: Disk>(
         Ok(journal) => journal,
         Err((fault, disk)) => return (Err(fault.into()), disk),
     };
-    let made = match store(&mut journal, &code) {
+    match journal.reserve(code.len()) {
+        Ok(()) => {}
+        Err(ReserveFault::Full) => unreachable!(),
+        Err(ReserveFault::Memory) => return (Err(MakeFault::Memory), journal.into_disk()),
+    }
+    let made = match journal.append(&code) {
         Ok(()) => Ok(()),
-        Err(KeepFault::Full) => unreachable!(),
-        Err(KeepFault::Failed) => Err(MakeFault::Failed),
-        Err(KeepFault::Memory) => Err(MakeFault::Memory),
+        Err(Failed) => Err(MakeFault::Failed),
     };
     (made, journal.into_disk())
 }

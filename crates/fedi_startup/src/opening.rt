@@ -1,12 +1,13 @@
 //! Opening a store.
-ghost use Rattle.std.specs.Prelude.{◌≡◌, ◌≢◌, ◌≤◌, List, IfErr, IfOk, IfSome, None, OnOk};
+ghost use Rattle.std.specs.Prelude.{◌≡◌, ◌≢◌, List, IfErr, IfOk, IfSome, None, OnOk};
 ghost use Rattle.fedi_core.specs.Opening.{keeper_after, outcome_of};
 ghost use Rattle.fedi_journal.specs.Opening.{disk_of};
 ghost use Rattle.fedi_log.specs.Keeping.{state_of};
 ghost use Rattle.fedi_objects.specs.declared.entry.Entry.{Entry};
 ghost use Rattle.fedi_opening.specs.Opening.{IsRead, IsStopped, after_open};
+ghost use Rattle.fedi_outside.specs.Disks.{IsUntouched};
 ghost use Rattle.fedi_outside.specs.Keepers.{PassesTime};
-ghost use Rattle.fedi_startup.specs.Stores.{ComesBack, IsOpened, KeepsForeign, LeavesFiles, LeavesNothingNew, disk_left, records_of};
+ghost use Rattle.fedi_startup.specs.Stores.{ComesBack, IsOpened, LeavesFiles, disk_left, records_of};
 
 use crate::faults::StoreFault;
 use fedi_core::Core;
@@ -29,6 +30,7 @@ fn open_core<P: Keeper>(alloc: Global, keeper: P) -> Result<Core<PlainShelf, P>,
         (history : List Entry) × IsStopped back.0 (P.shown keeper) history) }
     ensures shown { P.shown (keeper_after result)
         ≡ after_open (outcome_of result) (P.shown keeper) }
+    ensures outside { P.only_read keeper (keeper_after result) }
     ensures time { PassesTime (P.shown keeper).records (P.shown keeper).doubt
         (P.crashes keeper) (P.crashes (keeper_after result)) }
 {
@@ -40,24 +42,21 @@ fn open_core<P: Keeper>(alloc: Global, keeper: P) -> Result<Core<PlainShelf, P>,
 
 /// Opens the machine over the store of a disk: finds the records of its file, and the history that they
 /// are the codes of. The disk is synced, and the gates that are found are written again, so that a crash
-/// leaves what is found.
+/// leaves what is found. Whatever the answer, reads give the same bytes, and a crash leaves nothing new.
 ///
-/// Each error hands the disk back, with the records as before. It is `NotAStore`, if the disk has fewer
+/// Each error hands the disk back. It is `NotAStore`, if the disk has fewer
 /// than 9 bytes, or does not begin with the magic, or has no record; `DamagedByte`, with the place of the
 /// first gate that is not as it should be; `DamagedRecord`, with the place of the first record that is the
 /// code of no entry that may stand there; `Failed`, if the disk failed, which it counts once; and `Memory`,
-/// if out of memory, and only if the disk begins with the magic. What is no file of records is untouched.
+/// if out of memory, and only if the disk begins with the magic.
 pub fn open_store<D: Disk>(alloc: Global, disk: D) -> Result<StoreCore<D>, (StoreFault, D)>
     ensures opened { IfOk result (λ core. IsOpened (D.shown disk)
         (state_of core.history (⟦<Journal<D> as Keeper>⟧.shown core.keeper))) }
     ensures leaves { IfOk result (λ core. IfSome (D.shown disk).reads (λ _.
         LeavesFiles (D.crashes (disk_of core.keeper)) (records_of core.history) None)) }
     ensures refused { IfErr result (λ back. ComesBack back.0 (D.shown disk) (D.shown back.1)) }
-    ensures foreign { KeepsForeign (D.shown disk) (D.shown (disk_left result))
+    ensures untouched { IsUntouched (D.shown disk) (D.shown (disk_left result))
         (D.crashes disk) (D.crashes (disk_left result)) }
-    ensures clock { (D.crashes disk).clock ≤ (D.crashes (disk_left result)).clock }
-    ensures time { IfSome (D.shown disk).reads (λ _.
-        LeavesNothingNew (D.crashes disk) (D.crashes (disk_left result))) }
 {
     let journal = match Journal::open(alloc, disk) {
         Ok(journal) => journal,

@@ -2,7 +2,7 @@
 
 use crate::rows::expect;
 use fedi_outside::{Clock, Entropy, Failed, Sink, Source};
-use fedi_program::{Reading, SystemClock, Writing, system_entropy};
+use fedi_program::{Reading, SystemClock, SystemEntropy, Writing};
 use std::test::Fail;
 
 /// What reads of two bytes each take of `abc`.
@@ -53,5 +53,5 @@ fn the_outside_is_real(rt: HostRuntime) -> Result<(), Fail> {
     expect(written == [Ok(3), Ok(0), Ok(1)], "writes")?;
     expect(is_short(), "writes that fail")?;
     expect(SystemClock::new(&rt).now() > 784_111_777, "the clock")?;
-    expect(is_drawn(&mut system_entropy(&rt)), "draws")
+    expect(is_drawn(&mut SystemEntropy::new(&rt)), "draws")
 }

@@ -3,7 +3,8 @@ use Rattle.fedi_outside.specs.Disks.{DiskState}
 use Rattle.fedi_images.specs.Known.{are_apart}
 use Rattle.fedi_images.proofs.Gates.{apart_push}
 use Rattle.fedi_journal.specs.Finding.{IsGate, IsInside, IsScanned}
-use Rattle.fedi_journal.proofs.FindingSteps.{elapses_on, nothing_elapses, scan_goes_on, scan_starts}
+use Rattle.fedi_journal.proofs.FindingSteps.{scan_goes_on, scan_starts}
+use Rattle.fedi_outside.proofs.Untouched.{elapses_on, nothing_elapses}
 use Rattle.fedi_journal.proofs.finding.scan.Goals as goal
 
 pub records-init : goal.records-init

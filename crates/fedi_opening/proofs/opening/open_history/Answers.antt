@@ -10,6 +10,7 @@ loop-place-init g c =
     let keeper = c.args.keeper.now in
     record {
       shown = refl;
+      outside = g.met.P.Keeper.read_none keeper;
       time = no_time (g.P.Keeper.shown keeper) (g.P.Keeper.crashes keeper) (g.met.P.Keeper.crash_now keeper);
       read = read_none (g.P.Keeper.shown keeper).records (g.S.Shelf.holding c.args.shelf.now).history c.requires.empty;
     }
@@ -28,6 +29,7 @@ loop-place-preserved g c =
     let after = c.open_record.new.keeper in
     record {
       shown = c.in_ok-open_record.ensures.shown ∙ held.shown;
+      outside = g.met.P.Keeper.read_both c.args.keeper.now before after held.outside c.open_record.ensures.outside;
       time = more_time first.records first.doubt (crashes c.args.keeper.now) (crashes before) (crashes after) held.time
           (subst (λ (k : KeeperState). PassesTime k.records k.doubt (crashes before) (crashes after)) held.shown c.open_record.ensures.time);
       read = subst (λ (k : KeeperState). IsRead k.records (c.loop-place.place + 1) (g.S.Shelf.holding c.open_record.new.shelf).history) held.shown c.in_ok-open_record.ensures.read;

@@ -9,6 +9,7 @@ invariant-loop-place g l =
     let first = g.P.Keeper.shown l.fn.keeper in
     record {
       shown : g.P.Keeper.shown l.keeper ≡ first;
+      outside : g.P.Keeper.only_read l.fn.keeper l.keeper;
       time : PassesTime first.records first.doubt (g.P.Keeper.crashes l.fn.keeper) (g.P.Keeper.crashes l.keeper);
       read : IsRead first.records l.place (g.S.Shelf.holding l.shelf).history;
     }

@@ -17,5 +17,5 @@ returns-in-Ok-clause-added g c =
     let survives = c.make_member-status.ensures.crashes in
     rw c.close_store.ensures.disk (adds _ (g.D.Disk.shown c.args.disk) (g.D.Disk.shown core.keeper.disk) (g.D.Disk.shown last) (g.D.Disk.crashes c.args.disk)
     (g.D.Disk.crashes core.keeper.disk) (g.D.Disk.crashes last) _ _ survives.0 (length core.keeper.gates.items) _ _ _ _ _ _ _
-    c.in-Ok.ensures.opened refl c.in-Ok.ensures.clock c.in-Ok.ensures.time c.in-Ok.ensures.leaves (g.met.D.Disk.only_now core.keeper.disk) survives.1 closed
+    c.in-Ok.ensures.opened refl c.in-Ok.ensures.untouched (g.met.D.Disk.only_now c.args.disk) c.in-Ok.ensures.leaves (g.met.D.Disk.only_now core.keeper.disk) survives.1 closed
     c.make_member-status.ensures.made)

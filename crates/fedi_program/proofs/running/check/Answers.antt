@@ -9,6 +9,6 @@ returns-in-Ok g c =
     let closed = rw c.close_store.ensures.disk at c.close_store.ensures.closed in
     record {
       checked = rw c.close_store.ensures.disk (checks (g.D.Disk.shown c.args.disk) (g.D.Disk.shown found) (g.D.Disk.crashes c.args.disk) (g.D.Disk.crashes found)
-          _ (length keeper.gates.items) _ _ _ c.in-Ok.ensures.opened refl c.in-Ok.ensures.clock c.in-Ok.ensures.time c.in-Ok.ensures.leaves (g.met.D.Disk.only_now found) c.count-status.ensures.crashes closed
+          _ (length keeper.gates.items) _ _ _ c.in-Ok.ensures.opened refl c.in-Ok.ensures.untouched (g.met.D.Disk.only_now c.args.disk) c.in-Ok.ensures.leaves (g.met.D.Disk.only_now found) c.count-status.ensures.crashes closed
           c.count-status.ensures.counted);
     }

@@ -13,7 +13,7 @@ returns-in-Ok-new-clause-session g c =
     let ends = c.session-end.ensures.ends in
     rw c.close_store.ensures.disk (serves _ start (g.D.Disk.shown core.keeper.disk) (g.D.Disk.shown last) (g.D.Disk.crashes c.args.disk)
     (g.D.Disk.crashes core.keeper.disk) (g.D.Disk.crashes last) _ _ ends.0 (length core.keeper.gates.items) _ _ _
-    c.in-Ok.ensures.opened refl c.in-Ok.ensures.clock c.in-Ok.ensures.time c.in-Ok.ensures.leaves (g.met.D.Disk.only_now core.keeper.disk) ends.1 closed
+    c.in-Ok.ensures.opened refl c.in-Ok.ensures.untouched (g.met.D.Disk.only_now c.args.disk) c.in-Ok.ensures.leaves (g.met.D.Disk.only_now core.keeper.disk) ends.1 closed
     (c.session-end.result, c.status_of.ensures, ends.2))
 
 pub returns-in-Err-new-clause-session : goal.returns-in-Err-new-clause-session
@@ -23,7 +23,7 @@ returns-in-Err-new-clause-session g c =
     inl (
       faults.Memory,
       rw c.close_store-in-Err-new.ensures.disk (given_up (g.D.Disk.shown c.args.disk) (g.D.Disk.shown found) (g.D.Disk.crashes c.args.disk) (g.D.Disk.crashes found) _
-          c.in-Ok.ensures.opened closed c.in-Ok.ensures.time c.in-Ok.ensures.foreign),
+          c.in-Ok.ensures.opened closed c.in-Ok.ensures.untouched),
       refl,
       refl,
     )

@@ -3,11 +3,13 @@ use Rattle.fedi_images.proofs.ImageLemmas.{plain_ok}
 use Rattle.fedi_images.proofs.Steps.{told_count}
 use Rattle.fedi_images.specs.Images.{plain}
 use Rattle.fedi_log.specs.Keeping.{state_of}
+use Rattle.fedi_outside.proofs.Untouched.{untouched_then}
+use Rattle.fedi_outside.specs.Disks.{IsUntouched}
 use Rattle.fedi_outside.specs.Keepers.{KeeperState}
 use Rattle.fedi_startup.specs.Stores.{ComesBack, IsOpened}
 use Rattle.fedi_startup.specs.declared.faults.StoreFault.{StoreFault}
-use Rattle.fedi_startup.proofs.OpeningSteps.{elapsed_old, is_opened, leaves_found, not_found, not_read, nothing_here, read_old}
-use Rattle.fedi_startup.proofs.Told.{each_some, faults_here, records_here}
+use Rattle.fedi_startup.proofs.OpeningSteps.{is_opened, leaves_found, not_found, not_read}
+use Rattle.fedi_startup.proofs.Told.{faults_here}
 use Rattle.fedi_startup.proofs.opening.open_store.Goals as goal
 
 pub returns-in-Err-clause-refused : goal.returns-in-Err-clause-refused
@@ -15,12 +17,7 @@ returns-in-Err-clause-refused g c =
     let start = g.D.Disk.shown c.args.disk in
     let after = g.D.Disk.shown c.in-Err.disk in
     subst (λ (fault : StoreFault). ComesBack fault start after) (sym c.into.ensures)
-    (not_found c.in-Err.fault start after c.in-Err.ensures.damaged c.in-Err.ensures.store c.in-Err.ensures.memory c.in-Err.ensures.same.reads c.in-Err.ensures.faults)
-
-pub returns-in-Err-clause-time : goal.returns-in-Err-clause-time
-returns-in-Err-clause-time g c =
-    each_some (g.D.Disk.shown c.args.disk).reads (λ bytes is.
-    elapsed_old (g.D.Disk.crashes c.args.disk) (g.D.Disk.crashes c.in-Err.disk) (g.met.D.Disk.only_now c.args.disk) (c.in-Err.ensures.same.crashes bytes is))
+    (not_found c.in-Err.fault start after c.in-Err.ensures.damaged c.in-Err.ensures.store c.in-Err.ensures.memory c.in-Err.ensures.faults)
 
 pub returns-in-Ok-open_core-clause-opened : goal.returns-in-Ok-open_core-clause-opened
 returns-in-Ok-open_core-clause-opened g c =
@@ -40,14 +37,13 @@ returns-in-Ok-open_core-clause-leaves g c =
     leaves_found (g.D.Disk.shown c.args.disk) (g.D.Disk.shown j.disk) (g.D.Disk.crashes j.disk) j.end j.gates.items _ core.history
     (returns-in-Ok-open_core-clause-opened g c) refl j.known
 
-pub returns-in-Ok-open_core-clause-time : goal.returns-in-Ok-open_core-clause-time
-returns-in-Ok-open_core-clause-time g c =
+pub returns-in-Ok-open_core-clause-untouched : goal.returns-in-Ok-open_core-clause-untouched
+returns-in-Ok-open_core-clause-untouched g c =
+    let disk = c.args.disk in
     let journal = c.in-Ok.journal in
     let later = c.in-Ok-open_core.core.keeper.disk in
-    read_old (g.D.Disk.shown c.args.disk) (g.D.Disk.shown journal.disk) (g.D.Disk.shown later)
-    (g.D.Disk.crashes c.args.disk) (g.D.Disk.crashes journal.disk) (g.D.Disk.crashes later) _ _ _
-    (g.met.D.Disk.reads_stay c.args.disk) (g.met.D.Disk.only_now c.args.disk) c.in-Ok.ensures.same
-    c.in-Ok.ensures.found c.in-Ok.ensures.settled c.in-Ok-open_core.ensures.time
+    untouched_then (g.D.Disk.shown disk) (g.D.Disk.shown journal.disk) (g.D.Disk.shown later)
+    (g.D.Disk.crashes disk) (g.D.Disk.crashes journal.disk) (g.D.Disk.crashes later) c.in-Ok.ensures.same c.in-Ok-open_core.ensures.outside
 
 pub returns-in-Err-open_core-clause-refused : goal.returns-in-Err-open_core-clause-refused
 returns-in-Err-open_core-clause-refused g c =
@@ -57,19 +53,15 @@ returns-in-Err-open_core-clause-refused g c =
     let after = g.D.Disk.shown c.into_disk.result in
     let stop = c.in-Err-open_core.ensures.stopped in
     subst (λ (fault : StoreFault). ComesBack fault start after) (sym c.into-in-Err-open_core.ensures)
-    (not_read c.in-Err-open_core.fault start found after (g.D.Disk.crashes c.into_disk.result) _ _ stop.0 (length journal.gates.items) _
-    c.in-Ok.ensures.found c.in-Ok.ensures.settled c.in-Ok.ensures.same.reads c.in-Ok.ensures.faults refl refl
+    (not_read c.in-Err-open_core.fault start found after _ _ stop.0 c.in-Ok.ensures.found c.in-Ok.ensures.faults refl
     (told_count plain plain_ok (length journal.gates.items) found) stop.1 c.in-Err-open_core.ensures.shown
-    (records_here g.D.Disk.shown _ _ _ c.into_disk.ensures.disk) (faults_here g.D.Disk.shown _ _ c.into_disk.ensures.disk)
-    c.into_disk.ensures.images (g.met.D.Disk.reads_stay c.into_disk.result))
+    (faults_here g.D.Disk.shown _ _ c.into_disk.ensures.disk))
 
-pub returns-in-Err-open_core-clause-time : goal.returns-in-Err-open_core-clause-time
-returns-in-Err-open_core-clause-time g c =
+pub returns-in-Err-open_core-clause-untouched : goal.returns-in-Err-open_core-clause-untouched
+returns-in-Err-open_core-clause-untouched g c =
+    let disk = c.args.disk in
     let journal = c.in-Ok.journal in
     let later = c.in-Err-open_core.journal.disk in
-    let start = g.D.Disk.shown c.args.disk in
-    nothing_here g.D.Disk.crashes start.reads (g.D.Disk.crashes c.args.disk) c.into_disk.result later c.into_disk.ensures.disk
-    (read_old start (g.D.Disk.shown journal.disk) (g.D.Disk.shown later)
-    (g.D.Disk.crashes c.args.disk) (g.D.Disk.crashes journal.disk) (g.D.Disk.crashes later) _ _ _
-    (g.met.D.Disk.reads_stay c.args.disk) (g.met.D.Disk.only_now c.args.disk) c.in-Ok.ensures.same
-    c.in-Ok.ensures.found c.in-Ok.ensures.settled c.in-Err-open_core.ensures.time)
+    subst (λ d. IsUntouched (g.D.Disk.shown disk) (g.D.Disk.shown d) (g.D.Disk.crashes disk) (g.D.Disk.crashes d)) (sym c.into_disk.ensures.disk)
+    (untouched_then (g.D.Disk.shown disk) (g.D.Disk.shown journal.disk) (g.D.Disk.shown later)
+    (g.D.Disk.crashes disk) (g.D.Disk.crashes journal.disk) (g.D.Disk.crashes later) c.in-Ok.ensures.same c.in-Err-open_core.ensures.outside)

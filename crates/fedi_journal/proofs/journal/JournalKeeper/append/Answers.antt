@@ -5,7 +5,7 @@ use Rattle.fedi_outside.specs.Disks.{DiskState, spliced}
 use Rattle.fedi_images.specs.Images.{plain}
 use Rattle.fedi_images.specs.Known.{IsKnown, records_told}
 use Rattle.fedi_images.proofs.ImageLemmas.{plain_ok}
-use Rattle.fedi_images.proofs.Steps.{append_passes, open_done, open_failed, stage_done, stage_failed, stage_passes, torn_told, written_told}
+use Rattle.fedi_images.proofs.Steps.{append_adds_files, append_passes, open_done, open_failed, stage_adds_files, stage_done, stage_failed, stage_passes, torn_told, written_told}
 use Rattle.fedi_journal.proofs.KeeperSteps.{end_same, on_err, payload_back, spells, still_sure}
 use Rattle.fedi_journal.proofs.journal.JournalKeeper.append.Goals as goal
 
@@ -187,3 +187,44 @@ returns-in-Ok-clause-time g c =
     (g.met.D.Disk.reads_stay k.disk) c.in_ok-write_synced.ensures.written c.in_ok-write_synced.ensures.durable in
     append_passes plain plain_ok old mid new before between after k.end (k.end + 1) k.gates.items block p refl c.requires.room known ready
     (written_told (spliced k.end (1 ∷ [])) mid.reads new.reads (ap (λ (d : DiskState). d.reads) c.in-Ok.ensures.written)) c.write_synced.ensures.time c.write_synced-2.ensures.time
+
+pub returns-in_err-write_synced-clause-images : goal.returns-in_err-write_synced-clause-images
+returns-in_err-write_synced-clause-images g c =
+    let k = c.args.self.now in
+    let p = c.args.payload.now in
+    let block = c.deref.result.now in
+    let old = g.D.Disk.shown k.disk in
+    let before = g.D.Disk.crashes k.disk in
+    let between = g.D.Disk.crashes c.write_synced.new.disk in
+    let known = subst (IsKnown plain old before k.end k.gates.items) c.requires.settled k.known in
+    stage_adds_files plain plain_ok old before between k.end (k.end + 1) k.gates.items block p refl c.requires.room known c.write_synced.ensures.time
+
+pub returns-in-Err-clause-images : goal.returns-in-Err-clause-images
+returns-in-Err-clause-images g c =
+    let k = c.args.self.now in
+    let p = c.args.payload.now in
+    let block = c.deref.result.now in
+    let old = g.D.Disk.shown k.disk in
+    let before = g.D.Disk.crashes k.disk in
+    let mid = g.D.Disk.shown c.write_synced.new.disk in
+    let between = g.D.Disk.crashes c.write_synced.new.disk in
+    let known = subst (IsKnown plain old before k.end k.gates.items) c.requires.settled k.known in
+    let after = g.D.Disk.crashes c.write_synced-2.new.disk in
+    let ready = stage_done plain plain_ok old mid before between k.end (k.end + 1) k.gates.items block p refl (spells (length k.gates.items) old p block (c.deref.ensures.value ∙ c.write_block.ensures.bytes)) known
+    (g.met.D.Disk.reads_stay k.disk) c.in_ok-write_synced.ensures.written c.in_ok-write_synced.ensures.durable in
+    append_adds_files plain plain_ok old mid before between after k.end (k.end + 1) k.gates.items block p refl c.requires.room known ready c.write_synced.ensures.time c.write_synced-2.ensures.time
+
+pub returns-in-Ok-clause-images : goal.returns-in-Ok-clause-images
+returns-in-Ok-clause-images g c =
+    let k = c.args.self.now in
+    let p = c.args.payload.now in
+    let block = c.deref.result.now in
+    let old = g.D.Disk.shown k.disk in
+    let before = g.D.Disk.crashes k.disk in
+    let mid = g.D.Disk.shown c.write_synced.new.disk in
+    let between = g.D.Disk.crashes c.write_synced.new.disk in
+    let known = subst (IsKnown plain old before k.end k.gates.items) c.requires.settled k.known in
+    let after = g.D.Disk.crashes c.write_synced-2.new.disk in
+    let ready = stage_done plain plain_ok old mid before between k.end (k.end + 1) k.gates.items block p refl (spells (length k.gates.items) old p block (c.deref.ensures.value ∙ c.write_block.ensures.bytes)) known
+    (g.met.D.Disk.reads_stay k.disk) c.in_ok-write_synced.ensures.written c.in_ok-write_synced.ensures.durable in
+    append_adds_files plain plain_ok old mid before between after k.end (k.end + 1) k.gates.items block p refl c.requires.room known ready c.write_synced.ensures.time c.write_synced-2.ensures.time
