@@ -3,11 +3,10 @@ use Rattle.std.proofs.Common.{◌≡◌, ℕ, Bool, true, false, List, [], ◌�
 use Rattle.std.specs.Prelude.{◌&&◌, ◌||◌, not, cond}
 use Rattle.std.specs.List.{list_any}
 use Rattle.std.specs.Str.{bytes_eq}
-use Rattle.fedi_address.specs.Recipients.{is_among}
+use Rattle.fedi_address.specs.Recipients.{distinct, is_among}
 use Rattle.fedi_town.proofs.Lists.{first_none, other_none}
 use Rattle.fedi_laws.proofs.Reached.{Reaches}
 use Rattle.fedi_town.specs.Addressing.{is_recipient, addressees, recipients_with}
-use Rattle.fedi_town.specs.Lists.{each_once}
 use Rattle.fedi_town.specs.Effects.{to_one}
 use Rattle.fedi_town.specs.Ids.{followers_id}
 use Rattle.fedi_town.specs.Relations.{has_block_between}
@@ -21,10 +20,10 @@ use Rattle.fedi_town.proofs.Texts.{is_false, not_both, bytes_eq-is, bytes_eq-sam
 -- it goes to the follower, or to nobody
 pub to_follower : (u : Town) (b follower : List ℕ) → bytes_eq follower (followers_id b) ≡ false
     → (recipients_with u b (to_one follower) [] ≡ follower ∷ []) ⊎ (recipients_with u b (to_one follower) [] ≡ [])
-unfolding addressees
+unfolding addressees distinct is_among
 to_follower u b follower one =
     rw one
-    (elim (is_recipient u b follower) as (λ s. (each_once (cond s (follower ∷ []) []) ≡ follower ∷ []) ⊎ (each_once (cond s (follower ∷ []) []) ≡ [])) [
+    (elim (is_recipient u b follower) as (λ s. (distinct (cond s (follower ∷ []) []) ≡ follower ∷ []) ⊎ (distinct (cond s (follower ∷ []) []) ≡ [])) [
       | true ↦ inl refl
       | false ↦ inr refl
     ])

@@ -6,7 +6,7 @@ use Rattle.std.proofs.lemmas.List.{append-nil}
 use Rattle.std.proofs.lemmas.List.Elements.{filter-append, filter_agree}
 use Rattle.std.proofs.lemmas.List.Sums.{fold-append}
 use Rattle.fedi_address.specs.declared.recipients.Recipients.{Recipients}
-use Rattle.fedi_address.specs.Recipients.{all_of, is_public, names}
+use Rattle.fedi_address.specs.Recipients.{all_of, distinct, is_public, names}
 use Rattle.fedi_objects.specs.declared.activity.Activity.{Activity}
 use Rattle.fedi_objects.specs.declared.activity.ObjectRef.TheVariants.{Id, Whole}
 use Rattle.fedi_objects.specs.declared.entry.Entry.{Entry}
@@ -24,7 +24,6 @@ use Rattle.fedi_town.specs.Addressing.{addressees, complete_recipients, implied_
 use Rattle.fedi_town.specs.Effects.{affect, effect_of, effect_with, takes_effect}
 use Rattle.fedi_town.specs.Histories.{step, town}
 use Rattle.fedi_town.specs.Ids.{activity_id, actor_id, followers_id, object_id}
-use Rattle.fedi_town.specs.Lists.{each_once}
 use Rattle.fedi_town.specs.Objects.{emptied, is_deleted, makes, rewrite_act, tombstone_of}
 use Rattle.fedi_town.specs.Relations.{followers, is_about, is_actor, is_block_of, is_following, ref_id}
 use Rattle.fedi_town.specs.States.{is_own_live, state_of}
@@ -69,7 +68,7 @@ not_following z o author b m = rw m.kind refl
 followers-after : (t : Town) (z : Act) (o : Object) (author b : List ℕ) → IsMaker z author → followers (after t z o) b ≡ followers t b
 unfolding followers
 followers-after t z o author b m =
-    ap (λ (xs : List Act). each_once (map (λ x. x.author) xs))
+    ap (λ (xs : List Act). distinct (map (λ x. x.author) xs))
     (filter-append (is_following b) t.acts (carrying z o ∷ []) ∙ rw (filter-none (is_following b) (carrying z o ∷ []) (not_following z o author b m), append-nil) refl)
 
 addressees-after : (t : Town) (z : Act) (o : Object) (author iri : List ℕ) → IsMaker z author → addressees (after t z o) author iri ≡ addressees t author iri
@@ -87,9 +86,9 @@ flat_map_agree f g same (x ∷ xs) = rw (same x, flat_map_agree f g same xs) ref
 recipients-after : (t : Town) (z : Act) (o : Object) (author : List ℕ) (r : Recipients) (others : List (List ℕ)) → IsMaker z author
     → recipients_with (after t z o) author r others ≡ recipients_with t author r others
 recipients-after t z o author r others m =
-    ap (λ (ys : List (List ℕ)). each_once (filter (is_recipient (after t z o) author) (ys ++ others)))
+    ap (λ (ys : List (List ℕ)). distinct (filter (is_recipient (after t z o) author) (ys ++ others)))
     (flat_map_agree (addressees (after t z o) author) (addressees t author) (λ iri. addressees-after t z o author iri m) (all_of r))
-    ∙ ap each_once (filter_agree (is_recipient (after t z o) author) (is_recipient t author) (λ iri. recipient-after t z o author iri m) (flat_map (addressees t author) (all_of r) ++ others))
+    ∙ ap distinct (filter_agree (is_recipient (after t z o) author) (is_recipient t author) (λ iri. recipient-after t z o author iri m) (flat_map (addressees t author) (all_of r) ++ others))
 
 count-after : (t : Town) (z : Act) (o : Object) (author : List ℕ) → IsMaker z author → count_of (after t z o) author ≡ count_of t author + 1
 unfolding is_by

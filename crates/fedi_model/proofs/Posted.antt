@@ -17,36 +17,10 @@ use Rattle.fedi_reading.specs.Properties.{entries_at, reads_type}
 use Rattle.fedi_reading.specs.Reading.{recipient_of, tags_of, wrapped, reads_posted}
 use Rattle.fedi_reading.proofs.KeptLemmas.{named_by, AreNamed, IsMadeOf, type_kept, words_kept, people_kept, tags_kept, object_parts, posted_object}
 use Rattle.fedi_objects.specs.Limits.{is_text, is_type}
+use Rattle.fedi_town.proofs.Once.{once_folded}
 use Rattle.fedi_town.specs.Shapes.{is_none_or, is_each_once, are_addressed, are_same, are_tags, is_posted}
 
 -- ---- lists without doubles
-
--- a name that is not there is not there either with another behind
-still_new : (name text : List ℕ) (others : List (List ℕ)) → is_among name others ≡ false → bytes_eq text name ≡ false → is_among name (others ++ text ∷ []) ≡ false
-unfolding is_among
-still_new name text others new other = rw (list_any-append (λ u. bytes_eq u name) others (text ∷ []), new, other) refl
-
--- a new name makes no double
-once_pushed : (kept : List (List ℕ)) (text : List ℕ) → is_each_once kept ≡ true → is_among text kept ≡ false → is_each_once (kept ++ text ∷ []) ≡ true
-unfolding is_among
-once_pushed [] text once new = refl
-once_pushed (name ∷ others) text once new =
-    let first = and_parts (not (is_among name others)) (is_each_once others) once in
-    let apart = or_parts (bytes_eq name text) (is_among text others) new in
-    let other : bytes_eq text name ≡ false = nat_list_eq_equiv.symm text name ∙ apart.0 in
-    let front : is_among name (others ++ text ∷ []) ≡ false = still_new name text others (not-true (is_among name others) first.0) other in
-    let rest : is_each_once (others ++ text ∷ []) ≡ true = once_pushed others text first.1 apart.1 in
-    rw (front, rest) refl
-
--- each text is added where it is new, so that no double comes
-once_added : (kept : List (List ℕ)) (text : List ℕ) → is_each_once kept ≡ true → is_each_once (add_new kept text) ≡ true
-once_added kept text once =
-    elim (is_among text kept) as (λ b. is_among text kept ≡ b → is_each_once (cond b kept (kept ++ text ∷ [])) ≡ true)
-    [ true ↦ λ _. once | false ↦ once_pushed kept text once ] refl
-
-pub once_folded : (kept texts : List (List ℕ)) → is_each_once kept ≡ true → is_each_once (fold add_new kept texts) ≡ true
-once_folded kept [] once = once
-once_folded kept (text ∷ texts) once = once_folded (add_new kept text) texts (once_added kept text once)
 
 named_once : (key : List ℕ) (d : Data) → is_each_once (named_by key d) ≡ true
 unfolding distinct

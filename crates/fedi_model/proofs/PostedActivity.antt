@@ -26,7 +26,8 @@ use Rattle.fedi_town.specs.Deeds.{deed_of, is_create, is_update, is_follow, is_b
 use Rattle.fedi_town.specs.Relations.{ref_id, is_id}
 use Rattle.fedi_objects.specs.Limits.{is_text, is_type}
 use Rattle.fedi_town.specs.Shapes.{is_none_or, is_each_once, are_addressed, are_tags, is_text_edit, is_tags_edit, is_posted_ref, is_posted}
-use Rattle.fedi_model.proofs.Posted.{once_folded, same_people, addressed, not_long, named_shortly, read_is_posted}
+use Rattle.fedi_town.proofs.Once.{once_folded}
+use Rattle.fedi_model.proofs.Posted.{same_people, addressed, not_long, named_shortly, read_is_posted}
 
 -- ---- a Create
 

@@ -4,13 +4,12 @@ use Rattle.std.specs.List.{find, flat_map}
 use Rattle.std.specs.Str.{bytes_eq}
 use Rattle.fedi_address.specs.declared.recipients.Recipients.{Recipients}
 use Rattle.fedi_address.specs.Iris.{public_iri}
-use Rattle.fedi_address.specs.Recipients.{all_of, names}
+use Rattle.fedi_address.specs.Recipients.{all_of, distinct, names}
 use Rattle.fedi_town.specs.declared.act.Act.{Act}
 use Rattle.fedi_town.specs.declared.deed.Deed.{Deed}
 use Rattle.fedi_town.specs.declared.deed.Deed.TheVariants.{Create, Update, Delete, Follow, Like, Announce, Block, Accept, Reject, Undo, Other}
 use Rattle.fedi_town.specs.Deeds.{is_block}
 use Rattle.fedi_town.specs.Ids.{is_of_host, followers_id}
-use Rattle.fedi_town.specs.Lists.{each_once}
 use Rattle.fedi_town.specs.Objects.{maker_of}
 use Rattle.fedi_town.specs.Relations.{ref_id, has_activity_id, is_actor, has_block_between, followers}
 use Rattle.fedi_town.specs.Towns.{Town, deed}
@@ -41,7 +40,7 @@ addressees t author iri = if bytes_eq iri (followers_id author) then followers t
 -- the recipients in the order `to`, `cc`, `bto`, `bcc`, `audience`, and then these others, each once
 abbrev pub recipients_with : Town → List ℕ → Recipients → List (List ℕ) → List (List ℕ)
 recipients_with t author r others =
-    each_once (filter (is_recipient t author) (flat_map (addressees t author) (all_of r) ++ others))
+    distinct (filter (is_recipient t author) (flat_map (addressees t author) (all_of r) ++ others))
 
 -- ---- whom an activity implies
 

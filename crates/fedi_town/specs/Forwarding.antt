@@ -3,13 +3,13 @@ use Rattle.std.specs.Prelude.{ℕ, Bool, false, not, ◌&&◌, ◌||◌, List, [
 use Rattle.std.specs.List.{list_any, find, flat_map}
 use Rattle.std.specs.Str.{bytes_eq}
 use Rattle.fedi_address.specs.Iris.{host_of}
+use Rattle.fedi_address.specs.Recipients.{distinct}
 use Rattle.fedi_objects.specs.declared.activity.Activity.{Activity}
 use Rattle.fedi_objects.specs.declared.object.Object.{Object}
 use Rattle.fedi_town.specs.declared.act.Act.{Act}
 use Rattle.fedi_town.specs.declared.act.Actor.{Actor}
 use Rattle.fedi_town.specs.Addressing.{is_of_town}
 use Rattle.fedi_town.specs.Ids.{followers_id}
-use Rattle.fedi_town.specs.Lists.{each_once}
 use Rattle.fedi_town.specs.Objects.{maker, maker_of, object_of, whole_of}
 use Rattle.fedi_town.specs.Relations.{ref_id, is_actor, followers, blocks}
 use Rattle.fedi_town.specs.Towns.{Town}
@@ -61,4 +61,4 @@ forwards_at t author iri = far_followers t author (find (has_followers_at iri) t
 unfoldable pub forwards_of : Town → List ℕ → Activity → List (List ℕ)
 forwards_of t author a =
     if list_any (is_ours t) (mentions t a)
-    then each_once (flat_map (forwards_at t author) (a.recipients.to ++ (a.recipients.cc ++ a.recipients.audience))) else []
+    then distinct (flat_map (forwards_at t author) (a.recipients.to ++ (a.recipients.cc ++ a.recipients.audience))) else []

@@ -1,7 +1,6 @@
 -- Lists in which each thing stands once, or at most one passes a test.
-use Rattle.std.specs.Prelude.{◌≡◌, ℕ, Bool, true, false, not, List, [], ◌∷◌, filter}
+use Rattle.std.specs.Prelude.{◌≡◌, Bool, true, false, not, List, [], ◌∷◌, filter}
 use Rattle.std.specs.List.{list_any}
-use Rattle.std.specs.Str.{bytes_eq}
 
 -- it is another than this
 unfoldable pub differs : {A : Type 0} → (A → A → Bool) → A → A → Bool
@@ -11,10 +10,6 @@ differs same x y = not (same x y)
 abbrev pub firsts : {A : Type 0} → (A → A → Bool) → List A → List A
 firsts same [] = []
 firsts same (x ∷ xs) = x ∷ filter (differs same x) (firsts same xs)
-
--- each text once, where it stands first
-abbrev pub each_once : List (List ℕ) → List (List ℕ)
-each_once texts = firsts bytes_eq texts
 
 -- at most one passes the test
 abbrev pub PassesOnce : {A : Type 0} → (A → Bool) → List A → Type 0

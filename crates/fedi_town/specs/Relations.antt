@@ -2,11 +2,11 @@
 use Rattle.std.specs.Prelude.{ℕ, Bool, false, ◌&&◌, ◌||◌, List, map, filter, Option, Some, None}
 use Rattle.std.specs.List.{list_any}
 use Rattle.std.specs.Str.{bytes_eq}
+use Rattle.fedi_address.specs.Recipients.{distinct}
 use Rattle.fedi_objects.specs.declared.activity.ObjectRef.{ObjectRef}
 use Rattle.fedi_objects.specs.declared.activity.ObjectRef.TheVariants.{Nothing, Id, Whole, Changed}
 use Rattle.fedi_town.specs.declared.act.Act.{Act}
 use Rattle.fedi_town.specs.Deeds.{is_follow, is_block, is_accepted, is_open, is_standing}
-use Rattle.fedi_town.specs.Lists.{each_once}
 use Rattle.fedi_town.specs.Towns.{Town, deed, is_by, has_id}
 
 -- ---- what an activity is about
@@ -69,4 +69,4 @@ is_following b x = (is_follow (deed x) && is_accepted x.state) && is_about b x
 
 -- those who follow b, in the order of their Follows (ActivityPub, section 5.3)
 unfoldable pub followers : Town → List ℕ → List (List ℕ)
-followers t b = each_once (map (λ x. x.author) (filter (is_following b) t.acts))
+followers t b = distinct (map (λ x. x.author) (filter (is_following b) t.acts))
