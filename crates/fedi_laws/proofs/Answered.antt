@@ -9,8 +9,8 @@ use Rattle.fedi_laws.proofs.Reached.{Reaches}
 use Rattle.fedi_town.specs.Addressing.{is_recipient, addressees, recipients_with}
 use Rattle.fedi_town.specs.Effects.{to_one}
 use Rattle.fedi_town.specs.Ids.{followers_id}
-use Rattle.fedi_town.specs.Relations.{has_block_between}
-use Rattle.fedi_town.specs.Seeing.{sees, sees_as, sees_with, reaches, is_of_peer}
+use Rattle.fedi_town.specs.Relations.{has_block_between, follows}
+use Rattle.fedi_town.specs.Seeing.{sees, sees_as, sees_with, reaches, is_of_peer, is_for_follower, is_followed_from}
 use Rattle.fedi_town.specs.Towns.{Town, id_of, is_by}
 use Rattle.fedi_town.specs.declared.act.Act.{Act}
 use Rattle.fedi_town.specs.declared.caller.Caller.{Caller}
@@ -33,6 +33,7 @@ pub record IsHidden (t : Town) (x : Act) (follower b : List ℕ) (z : Act) : Typ
   pub author : z.author ≡ b
   pub followed_by : x.author ≡ follower
   pub open_to_none : z.is_public ≡ false
+  pub for_none : z.for_followers ≡ false
   pub to : (z.recipients ≡ follower ∷ []) ⊎ (z.recipients ≡ [])
   pub reaching : Reaches t follower b x
 
@@ -42,9 +43,9 @@ or_true2 false b = or_true b
 
 -- whoever is the one that is followed sees the Follow
 followed_sees : (t : Town) (x : Act) (follower b : List ℕ) → x.author ≡ follower → Reaches t follower b x → sees_as t b x ≡ true
-unfolding sees_as is_by
+unfolding sees_as is_by is_for_follower
 followed_sees t x follower b own r =
-    rw (own, r.free) (elim r.is as (λ _. (bytes_eq follower b || (true && (x.is_public || is_among b x.recipients))) ≡ true) [
+    rw (own, r.free) (elim r.is as (λ _. (bytes_eq follower b || (true && (x.is_public || (is_among b x.recipients || (x.for_followers && follows t b follower))))) ≡ true) [
       | inl public ↦ rw public (or_true (bytes_eq follower b))
       | inr (inl self) ↦ rw (bytes_eq-is b follower self, bytes_eq-same follower) refl
       | inr (inr to) ↦ rw to (or_true2 (bytes_eq follower b) x.is_public)
@@ -60,9 +61,9 @@ among_one id one = or_no (bytes_eq one id)
 
 -- ---- a member
 
-hidden_by : (a m p q : Bool) → a ≡ false → p ≡ false → q ≡ false → (a || (not m && (p || q))) ≡ false
-hidden_by a true p q x y z = rw x refl
-hidden_by a false p q x y z = rw (x, y, z) refl
+hidden_by : (a m p q w v : Bool) → a ≡ false → p ≡ false → q ≡ false → w ≡ false → (a || (not m && (p || (q || (w && v))))) ≡ false
+hidden_by a true p q w v x y z f = rw x refl
+hidden_by a false p q w v x y z f = rw (x, y, z, f) refl
 
 not_by : (t : Town) (x z : Act) (follower b id : List ℕ) → IsHidden t x follower b z → sees_as t id x ≡ false → is_by id z ≡ true → ⊥
 unfolding is_by
@@ -81,10 +82,10 @@ not_to t x z follower b id h unseen =
     (λ (none : z.recipients ≡ []). rw (none, none_at_all id) refl) h.to
 
 hidden_as : (t : Town) (x z : Act) (follower b id : List ℕ) → IsHidden t x follower b z → sees_as t id x ≡ false → sees_as t id z ≡ false
-unfolding sees_as
+unfolding sees_as is_for_follower
 hidden_as t x z follower b id h unseen =
-    hidden_by (is_by id z) (has_block_between t id z.author) z.is_public (is_among id z.recipients)
-    (is_false (is_by id z) (not_by t x z follower b id h unseen)) h.open_to_none (not_to t x z follower b id h unseen)
+    hidden_by (is_by id z) (has_block_between t id z.author) z.is_public (is_among id z.recipients) z.for_followers (follows t id z.author)
+    (is_false (is_by id z) (not_by t x z follower b id h unseen)) h.open_to_none (not_to t x z follower b id h unseen) h.for_none
 
 hidden_with : (t : Town) (x z : Act) (follower b : List ℕ) (id : Option (List ℕ)) → IsHidden t x follower b z → sees_with t id x ≡ false → sees_with t id z ≡ false
 hidden_with t x z follower b None h unseen = h.open_to_none
@@ -113,7 +114,7 @@ unseen_by t host x unseen =
     let rest = other_none x.is_public _ unseen in record {
       hidden = first_none x.is_public _ unseen;
       other = first_none (is_of_peer host x.author) _ rest;
-      none = other_none (is_of_peer host x.author) _ rest;
+      none = first_none (list_any (reaches t host x.author) x.recipients) _ (other_none (is_of_peer host x.author) _ rest);
     }
 
 not_of_peer : (t : Town) (host : List ℕ) (x : Act) (follower b : List ℕ) → x.author ≡ follower → Reaches t follower b x → IsUnseenBy t host x → is_of_peer host b ≡ true → ⊥
@@ -135,7 +136,7 @@ unfolding sees
 hidden_from t host x z follower b h unseen =
     let u : IsUnseenBy t host x = unseen_by t host x unseen in
     let other : is_of_peer host z.author ≡ false = rw h.author (is_false (is_of_peer host b) (not_of_peer t host x follower b h.followed_by h.reaching u)) in
-    rw (h.open_to_none, other, none_reached t host x z follower b h u) refl
+    rw (h.open_to_none, other, none_reached t host x z follower b h u, h.for_none) refl
 
 -- Who does not see the Follow does not see its Accept.
 pub hidden_too : (t : Town) (c : Caller) (x z : Act) (follower b : List ℕ) → IsHidden t x follower b z → sees t c x ≡ false → sees t c z ≡ false

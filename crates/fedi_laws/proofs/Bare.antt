@@ -15,8 +15,8 @@ use Rattle.fedi_town.specs.declared.caller.Caller.TheVariants.{Nobody, Actor, Pe
 use Rattle.fedi_town.specs.Agreement.{Agree, IsSameOwn, member_names, peer_of, repeats_of}
 use Rattle.fedi_town.specs.Histories.{town}
 use Rattle.fedi_town.specs.Objects.{makes, maker_of, object_of, rewrite_act, rewrite_ref, whole_of}
-use Rattle.fedi_town.specs.Relations.{blocks, has_block_between, is_about, is_block_of, ref_id}
-use Rattle.fedi_town.specs.Seeing.{reaches, seen, sees, sees_as, sees_with}
+use Rattle.fedi_town.specs.Relations.{blocks, follows, has_block_between, is_about, is_block_of, is_follow_of, is_following, ref_id}
+use Rattle.fedi_town.specs.Seeing.{is_followed_from, is_follower_from, is_for_follower, reaches, seen, sees, sees_as, sees_with}
 use Rattle.fedi_town.specs.Showing.{bare_tombstone, id_of_caller, object_or_id, present_object, shown_activity, shown_object, shown_ref, sight_of, view}
 use Rattle.fedi_town.specs.Towns.{Town, count_of, id_of, is_by}
 use Rattle.fedi_town.proofs.Lists.{filter-through, find-through, list_any-agree, list_any-through, map-through}
@@ -83,9 +83,16 @@ between-bare : (t : Town) (a b : List ℕ) → has_block_between (without_delete
 unfolding has_block_between
 between-bare t a b = rw (blocks-bare t a b, blocks-bare t b a) refl
 
+follow-bare : (a b : List ℕ) (y : Act) → is_follow_of a b (bare y) ≡ is_follow_of a b y
+unfolding is_follow_of is_by is_about rewrite_act
+follow-bare a b y = rw (bare-ref y.activity.object) refl
+
+follows-bare : (t : Town) (a b : List ℕ) → follows (without_deleted t) a b ≡ follows t a b
+follows-bare t a b = list_any-through bare (is_follow_of a b) (is_follow_of a b) (follow-bare a b) t.acts
+
 sees_as-bare : (t : Town) (me : List ℕ) (y : Act) → sees_as (without_deleted t) me (bare y) ≡ sees_as t me y
-unfolding sees_as is_by rewrite_act
-sees_as-bare t me y = rw (between-bare t me y.author) refl
+unfolding sees_as is_by is_for_follower rewrite_act
+sees_as-bare t me y = rw (between-bare t me y.author, follows-bare t me y.author) refl
 
 sees_with-bare : (t : Town) (me : Option (List ℕ)) (y : Act) → sees_with (without_deleted t) me (bare y) ≡ sees_with t me y
 unfolding rewrite_act
@@ -96,12 +103,23 @@ reaches-bare : (t : Town) (host author r : List ℕ) → reaches (without_delete
 unfolding reaches
 reaches-bare t host author r = rw (between-bare t r author) refl
 
+follower-bare : (t : Town) (host author : List ℕ) (f : Act) → is_follower_from (without_deleted t) host author (bare f) ≡ is_follower_from t host author f
+unfolding is_follower_from is_following is_about rewrite_act
+follower-bare t host author f = rw (bare-ref f.activity.object, reaches-bare t host author f.author) refl
+
+followers-bare : (t : Town) (host author : List ℕ) → is_followed_from (without_deleted t) host author ≡ is_followed_from t host author
+followers-bare t host author =
+    list_any-through bare (is_follower_from (without_deleted t) host author) (is_follower_from t host author) (follower-bare t host author) t.acts
+
 sees-bare : (t : Town) (c : Caller) (y : Act) → sees (without_deleted t) c (bare y) ≡ sees t c y
 unfolding sees rewrite_act
 sees-bare t Nobody y = refl
 sees-bare t (Actor name) y = sees_with-bare t (id_of t name) y
 sees-bare t (Peer host) y =
-    rw (list_any-agree (reaches (without_deleted t) host y.author) (reaches t host y.author) (reaches-bare t host y.author) y.recipients) refl
+    rw (
+      list_any-agree (reaches (without_deleted t) host y.author) (reaches t host y.author) (reaches-bare t host y.author) y.recipients,
+      followers-bare t host y.author,
+    ) refl
 
 -- ---- what is shown
 

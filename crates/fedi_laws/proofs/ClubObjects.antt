@@ -15,7 +15,7 @@ use Rattle.fedi_town.specs.Objects.{makes, is_deleted, change_object, replace_ob
 use Rattle.fedi_town.specs.Queues.{is_of_pair, progress_of, sends, is_at_peer, deliveries_of, is_due_in}
 use Rattle.fedi_town.specs.Relations.{is_about, has_activity_id, is_actor, is_block_of, has_block_between, is_follow_of, is_open_follow, is_following, followers}
 use Rattle.fedi_town.specs.Rules.{broken_about}
-use Rattle.fedi_town.specs.Seeing.{sees_as, is_of_peer, reaches, sees}
+use Rattle.fedi_town.specs.Seeing.{is_for_follower, is_follower_from, sees_as, is_of_peer, reaches, sees}
 use Rattle.fedi_objects.specs.Limits.{is_text, is_type, is_date}
 use Rattle.fedi_town.specs.Showing.{present_object, shown_ref, shown_activity, sight_of}
 use Rattle.fedi_town.specs.States.{is_like_of, is_announce_of, has_room, is_locked, follow_state, can_be_undone, state_of}
@@ -23,17 +23,17 @@ use Rattle.fedi_town.specs.Towns.{has_name, has_id, has_digest, has_host, is_by}
 use Rattle.fedi_laws.specs.ClubObjects.{SecretNote, OpenNote, DeletedNote, ChangedNote}
 
 pub secret_note : SecretNote
-unfolding digits after_any host_of is_among distinct actor_id activity_id object_id is_of_host differs has_name has_id has_digest has_host is_by is_about has_activity_id is_actor is_block_of has_block_between is_follow_of is_open_follow is_following followers makes is_deleted change_object replace_object tombstone_of rewrite_act is_nobody_here is_recipient addressees implied_recipient complete_recipients sees_as is_of_peer reaches sees present_object shown_ref shown_activity sight_of is_like_of is_announce_of has_room is_locked follow_state can_be_undone state_of is_pending_follow is_standing_activity end_follow effect_of accept_by receive_object is_ours is_far has_followers_at forwards_at forwards_of broken_about is_item is_same_item is_of_pair progress_of sends is_at_peer deliveries_of is_due_in is_text is_type is_date
+unfolding digits after_any host_of is_among distinct actor_id activity_id object_id is_of_host differs has_name has_id has_digest has_host is_by is_about has_activity_id is_actor is_block_of has_block_between is_follow_of is_open_follow is_following followers makes is_deleted change_object replace_object tombstone_of rewrite_act is_nobody_here is_recipient addressees implied_recipient complete_recipients is_for_follower is_follower_from sees_as is_of_peer reaches sees present_object shown_ref shown_activity sight_of is_like_of is_announce_of has_room is_locked follow_state can_be_undone state_of is_pending_follow is_standing_activity end_follow effect_of accept_by receive_object is_ours is_far has_followers_at forwards_at forwards_of broken_about is_item is_same_item is_of_pair progress_of sends is_at_peer deliveries_of is_due_in is_text is_type is_date
 secret_note = record { legal = refl; sent = refl; seen_by_ben = refl; unseen_by_cleo = refl; unseen = refl; in_inbox = refl; shown_to_ben = refl; shown_to_ana = refl }
 
 pub open_note : OpenNote
-unfolding digits after_any host_of is_among distinct actor_id activity_id object_id is_of_host differs has_name has_id has_digest has_host is_by is_about has_activity_id is_actor is_block_of has_block_between is_follow_of is_open_follow is_following followers makes is_deleted change_object replace_object tombstone_of rewrite_act is_nobody_here is_recipient addressees implied_recipient complete_recipients sees_as is_of_peer reaches sees present_object shown_ref shown_activity sight_of is_like_of is_announce_of has_room is_locked follow_state can_be_undone state_of is_pending_follow is_standing_activity end_follow effect_of accept_by receive_object is_ours is_far has_followers_at forwards_at forwards_of broken_about is_item is_same_item is_of_pair progress_of sends is_at_peer deliveries_of is_due_in is_text is_type is_date
+unfolding digits after_any host_of is_among distinct actor_id activity_id object_id is_of_host differs has_name has_id has_digest has_host is_by is_about has_activity_id is_actor is_block_of has_block_between is_follow_of is_open_follow is_following followers makes is_deleted change_object replace_object tombstone_of rewrite_act is_nobody_here is_recipient addressees implied_recipient complete_recipients is_for_follower is_follower_from sees_as is_of_peer reaches sees present_object shown_ref shown_activity sight_of is_like_of is_announce_of has_room is_locked follow_state can_be_undone state_of is_pending_follow is_standing_activity end_follow effect_of accept_by receive_object is_ours is_far has_followers_at forwards_at forwards_of broken_about is_item is_same_item is_of_pair progress_of sends is_at_peer deliveries_of is_due_in is_text is_type is_date
 open_note = record { legal = refl; sent = refl; seen_by_all = refl; shown_to_all = refl; in_inbox_of_ben = refl; in_inbox_of_cleo = refl; in_inbox_of_dan = refl }
 
 pub deleted_note : DeletedNote
-unfolding digits after_any host_of is_among distinct actor_id activity_id object_id is_of_host differs has_name has_id has_digest has_host is_by is_about has_activity_id is_actor is_block_of has_block_between is_follow_of is_open_follow is_following followers makes is_deleted change_object replace_object tombstone_of rewrite_act is_nobody_here is_recipient addressees implied_recipient complete_recipients sees_as is_of_peer reaches sees present_object shown_ref shown_activity sight_of is_like_of is_announce_of has_room is_locked follow_state can_be_undone state_of is_pending_follow is_standing_activity end_follow effect_of accept_by receive_object is_ours is_far has_followers_at forwards_at forwards_of broken_about is_item is_same_item is_of_pair progress_of sends is_at_peer deliveries_of is_due_in is_text is_type is_date
+unfolding digits after_any host_of is_among distinct actor_id activity_id object_id is_of_host differs has_name has_id has_digest has_host is_by is_about has_activity_id is_actor is_block_of has_block_between is_follow_of is_open_follow is_following followers makes is_deleted change_object replace_object tombstone_of rewrite_act is_nobody_here is_recipient addressees implied_recipient complete_recipients is_for_follower is_follower_from sees_as is_of_peer reaches sees present_object shown_ref shown_activity sight_of is_like_of is_announce_of has_room is_locked follow_state can_be_undone state_of is_pending_follow is_standing_activity end_follow effect_of accept_by receive_object is_ours is_far has_followers_at forwards_at forwards_of broken_about is_item is_same_item is_of_pair progress_of sends is_at_peer deliveries_of is_due_in is_text is_type is_date
 deleted_note = record { legal = refl; done = refl; sent = refl; kind = refl; former = refl; deleted = refl; unseen_by_cleo = refl; unseen = refl; deleted_once = refl; not_liked = refl; not_found = refl }
 
 pub changed_note : ChangedNote
-unfolding digits after_any host_of is_among distinct actor_id activity_id object_id is_of_host differs has_name has_id has_digest has_host is_by is_about has_activity_id is_actor is_block_of has_block_between is_follow_of is_open_follow is_following followers makes is_deleted change_object replace_object tombstone_of rewrite_act is_nobody_here is_recipient addressees implied_recipient complete_recipients sees_as is_of_peer reaches sees present_object shown_ref shown_activity sight_of is_like_of is_announce_of has_room is_locked follow_state can_be_undone state_of is_pending_follow is_standing_activity end_follow effect_of accept_by receive_object is_ours is_far has_followers_at forwards_at forwards_of broken_about is_item is_same_item is_of_pair progress_of sends is_at_peer deliveries_of is_due_in is_text is_type is_date
+unfolding digits after_any host_of is_among distinct actor_id activity_id object_id is_of_host differs has_name has_id has_digest has_host is_by is_about has_activity_id is_actor is_block_of has_block_between is_follow_of is_open_follow is_following followers makes is_deleted change_object replace_object tombstone_of rewrite_act is_nobody_here is_recipient addressees implied_recipient complete_recipients is_for_follower is_follower_from sees_as is_of_peer reaches sees present_object shown_ref shown_activity sight_of is_like_of is_announce_of has_room is_locked follow_state can_be_undone state_of is_pending_follow is_standing_activity end_follow effect_of accept_by receive_object is_ours is_far has_followers_at forwards_at forwards_of broken_about is_item is_same_item is_of_pair progress_of sends is_at_peer deliveries_of is_due_in is_text is_type is_date
 changed_note = record { legal = refl; content = refl; summary = refl; updated = refl; public = refl; not_owner = refl; not_found = refl; not_public = refl }

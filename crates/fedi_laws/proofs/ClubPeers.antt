@@ -15,33 +15,37 @@ use Rattle.fedi_town.specs.Objects.{makes, is_deleted, change_object, replace_ob
 use Rattle.fedi_town.specs.Queues.{is_of_pair, progress_of, sends, is_at_peer, deliveries_of, is_due_in}
 use Rattle.fedi_town.specs.Relations.{is_about, has_activity_id, is_actor, is_block_of, has_block_between, is_follow_of, is_open_follow, is_following, followers}
 use Rattle.fedi_town.specs.Rules.{broken_about}
-use Rattle.fedi_town.specs.Seeing.{sees_as, is_of_peer, reaches, sees}
+use Rattle.fedi_town.specs.Seeing.{is_for_follower, is_follower_from, sees_as, is_of_peer, reaches, sees}
 use Rattle.fedi_objects.specs.Limits.{is_text, is_type, is_date}
 use Rattle.fedi_town.specs.Showing.{present_object, shown_ref, shown_activity, sight_of}
 use Rattle.fedi_town.specs.States.{is_like_of, is_announce_of, has_room, is_locked, follow_state, can_be_undone, state_of}
 use Rattle.fedi_town.specs.Towns.{has_name, has_id, has_digest, has_host, is_by}
-use Rattle.fedi_laws.specs.ClubPeers.{DeliveredNote, PeersAndRelays, DeliveredTombstone, DeliveredFollow, StrayFollow, ForwardedReply}
+use Rattle.fedi_laws.specs.ClubPeers.{DeliveredNote, PeersAndRelays, DeliveredTombstone, DeliveredFollow, StrayFollow, ForwardedReply, FarFollower}
 
 pub delivered_note : DeliveredNote
-unfolding digits after_any host_of is_among distinct actor_id activity_id object_id is_of_host differs has_name has_id has_digest has_host is_by is_about has_activity_id is_actor is_block_of has_block_between is_follow_of is_open_follow is_following followers makes is_deleted change_object replace_object tombstone_of rewrite_act is_nobody_here is_recipient addressees implied_recipient complete_recipients sees_as is_of_peer reaches sees present_object shown_ref shown_activity sight_of is_like_of is_announce_of has_room is_locked follow_state can_be_undone state_of is_pending_follow is_standing_activity end_follow effect_of accept_by receive_object is_ours is_far has_followers_at forwards_at forwards_of broken_about is_item is_same_item is_of_pair progress_of sends is_at_peer deliveries_of is_due_in is_text is_type is_date
+unfolding digits after_any host_of is_among distinct actor_id activity_id object_id is_of_host differs has_name has_id has_digest has_host is_by is_about has_activity_id is_actor is_block_of has_block_between is_follow_of is_open_follow is_following followers makes is_deleted change_object replace_object tombstone_of rewrite_act is_nobody_here is_recipient addressees implied_recipient complete_recipients is_for_follower is_follower_from sees_as is_of_peer reaches sees present_object shown_ref shown_activity sight_of is_like_of is_announce_of has_room is_locked follow_state can_be_undone state_of is_pending_follow is_standing_activity end_follow effect_of accept_by receive_object is_ours is_far has_followers_at forwards_at forwards_of broken_about is_item is_same_item is_of_pair progress_of sends is_at_peer deliveries_of is_due_in is_text is_type is_date
 delivered_note = record { legal = refl; done = refl; inboxes = refl; not_again = refl; with_ana = refl; with_ben = refl; author = refl }
 
 pub peers_and_relays : PeersAndRelays
-unfolding digits after_any host_of is_among distinct actor_id activity_id object_id is_of_host differs has_name has_id has_digest has_host is_by is_about has_activity_id is_actor is_block_of has_block_between is_follow_of is_open_follow is_following followers makes is_deleted change_object replace_object tombstone_of rewrite_act is_nobody_here is_recipient addressees implied_recipient complete_recipients sees_as is_of_peer reaches sees present_object shown_ref shown_activity sight_of is_like_of is_announce_of has_room is_locked follow_state can_be_undone state_of is_pending_follow is_standing_activity end_follow effect_of accept_by receive_object is_ours is_far has_followers_at forwards_at forwards_of broken_about is_item is_same_item is_of_pair progress_of sends is_at_peer deliveries_of is_due_in is_text is_type is_date
+unfolding digits after_any host_of is_among distinct actor_id activity_id object_id is_of_host differs has_name has_id has_digest has_host is_by is_about has_activity_id is_actor is_block_of has_block_between is_follow_of is_open_follow is_following followers makes is_deleted change_object replace_object tombstone_of rewrite_act is_nobody_here is_recipient addressees implied_recipient complete_recipients is_for_follower is_follower_from sees_as is_of_peer reaches sees present_object shown_ref shown_activity sight_of is_like_of is_announce_of has_room is_locked follow_state can_be_undone state_of is_pending_follow is_standing_activity end_follow effect_of accept_by receive_object is_ours is_far has_followers_at forwards_at forwards_of broken_about is_item is_same_item is_of_pair progress_of sends is_at_peer deliveries_of is_due_in is_text is_type is_date
 peers_and_relays = record { other_host = refl; own_host = refl; by_relay = refl; of_member = refl }
 
 pub delivered_tombstone : DeliveredTombstone
-unfolding digits after_any host_of is_among distinct actor_id activity_id object_id is_of_host differs has_name has_id has_digest has_host is_by is_about has_activity_id is_actor is_block_of has_block_between is_follow_of is_open_follow is_following followers makes is_deleted change_object replace_object tombstone_of rewrite_act is_nobody_here is_recipient addressees implied_recipient complete_recipients sees_as is_of_peer reaches sees present_object shown_ref shown_activity sight_of is_like_of is_announce_of has_room is_locked follow_state can_be_undone state_of is_pending_follow is_standing_activity end_follow effect_of accept_by receive_object is_ours is_far has_followers_at forwards_at forwards_of broken_about is_item is_same_item is_of_pair progress_of sends is_at_peer deliveries_of is_due_in is_text is_type is_date
+unfolding digits after_any host_of is_among distinct actor_id activity_id object_id is_of_host differs has_name has_id has_digest has_host is_by is_about has_activity_id is_actor is_block_of has_block_between is_follow_of is_open_follow is_following followers makes is_deleted change_object replace_object tombstone_of rewrite_act is_nobody_here is_recipient addressees implied_recipient complete_recipients is_for_follower is_follower_from sees_as is_of_peer reaches sees present_object shown_ref shown_activity sight_of is_like_of is_announce_of has_room is_locked follow_state can_be_undone state_of is_pending_follow is_standing_activity end_follow effect_of accept_by receive_object is_ours is_far has_followers_at forwards_at forwards_of broken_about is_item is_same_item is_of_pair progress_of sends is_at_peer deliveries_of is_due_in is_text is_type is_date
 delivered_tombstone = record { legal = refl; former = refl; deleted = refl }
 
 pub delivered_follow : DeliveredFollow
-unfolding digits after_any host_of is_among distinct actor_id activity_id object_id is_of_host differs has_name has_id has_digest has_host is_by is_about has_activity_id is_actor is_block_of has_block_between is_follow_of is_open_follow is_following followers makes is_deleted change_object replace_object tombstone_of rewrite_act is_nobody_here is_recipient addressees implied_recipient complete_recipients sees_as is_of_peer reaches sees present_object shown_ref shown_activity sight_of is_like_of is_announce_of has_room is_locked follow_state can_be_undone state_of is_pending_follow is_standing_activity end_follow effect_of accept_by receive_object is_ours is_far has_followers_at forwards_at forwards_of broken_about is_item is_same_item is_of_pair progress_of sends is_at_peer deliveries_of is_due_in is_text is_type is_date
+unfolding digits after_any host_of is_among distinct actor_id activity_id object_id is_of_host differs has_name has_id has_digest has_host is_by is_about has_activity_id is_actor is_block_of has_block_between is_follow_of is_open_follow is_following followers makes is_deleted change_object replace_object tombstone_of rewrite_act is_nobody_here is_recipient addressees implied_recipient complete_recipients is_for_follower is_follower_from sees_as is_of_peer reaches sees present_object shown_ref shown_activity sight_of is_like_of is_announce_of has_room is_locked follow_state can_be_undone state_of is_pending_follow is_standing_activity end_follow effect_of accept_by receive_object is_ours is_far has_followers_at forwards_at forwards_of broken_about is_item is_same_item is_of_pair progress_of sends is_at_peer deliveries_of is_due_in is_text is_type is_date
 delivered_follow = record { legal = refl; not_again = refl; accepted = refl; answer = refl; one = refl; waits = refl; legal_too = refl; accepted_too = refl; one_too = refl }
 
 pub stray_follow : StrayFollow
-unfolding digits after_any host_of is_among distinct actor_id activity_id object_id is_of_host differs has_name has_id has_digest has_host is_by is_about has_activity_id is_actor is_block_of has_block_between is_follow_of is_open_follow is_following followers makes is_deleted change_object replace_object tombstone_of rewrite_act is_nobody_here is_recipient addressees implied_recipient complete_recipients sees_as is_of_peer reaches sees present_object shown_ref shown_activity sight_of is_like_of is_announce_of has_room is_locked follow_state can_be_undone state_of is_pending_follow is_standing_activity end_follow effect_of accept_by receive_object is_ours is_far has_followers_at forwards_at forwards_of broken_about is_item is_same_item is_of_pair progress_of sends is_at_peer deliveries_of is_due_in is_text is_type is_date
+unfolding digits after_any host_of is_among distinct actor_id activity_id object_id is_of_host differs has_name has_id has_digest has_host is_by is_about has_activity_id is_actor is_block_of has_block_between is_follow_of is_open_follow is_following followers makes is_deleted change_object replace_object tombstone_of rewrite_act is_nobody_here is_recipient addressees implied_recipient complete_recipients is_for_follower is_follower_from sees_as is_of_peer reaches sees present_object shown_ref shown_activity sight_of is_like_of is_announce_of has_room is_locked follow_state can_be_undone state_of is_pending_follow is_standing_activity end_follow effect_of accept_by receive_object is_ours is_far has_followers_at forwards_at forwards_of broken_about is_item is_same_item is_of_pair progress_of sends is_at_peer deliveries_of is_due_in is_text is_type is_date
 stray_follow = record { legal = refl; accepted = refl; follows = refl; seen_by_ana = refl; not_found = refl }
 
 pub forwarded_reply : ForwardedReply
-unfolding digits after_any host_of is_among distinct actor_id activity_id object_id is_of_host differs has_name has_id has_digest has_host is_by is_about has_activity_id is_actor is_block_of has_block_between is_follow_of is_open_follow is_following followers makes is_deleted change_object replace_object tombstone_of rewrite_act is_nobody_here is_recipient addressees implied_recipient complete_recipients sees_as is_of_peer reaches sees present_object shown_ref shown_activity sight_of is_like_of is_announce_of has_room is_locked follow_state can_be_undone state_of is_pending_follow is_standing_activity end_follow effect_of accept_by receive_object is_ours is_far has_followers_at forwards_at forwards_of broken_about is_item is_same_item is_of_pair progress_of sends is_at_peer deliveries_of is_due_in is_text is_type is_date
+unfolding digits after_any host_of is_among distinct actor_id activity_id object_id is_of_host differs has_name has_id has_digest has_host is_by is_about has_activity_id is_actor is_block_of has_block_between is_follow_of is_open_follow is_following followers makes is_deleted change_object replace_object tombstone_of rewrite_act is_nobody_here is_recipient addressees implied_recipient complete_recipients is_for_follower is_follower_from sees_as is_of_peer reaches sees present_object shown_ref shown_activity sight_of is_like_of is_announce_of has_room is_locked follow_state can_be_undone state_of is_pending_follow is_standing_activity end_follow effect_of accept_by receive_object is_ours is_far has_followers_at forwards_at forwards_of broken_about is_item is_same_item is_of_pair progress_of sends is_at_peer deliveries_of is_due_in is_text is_type is_date
 forwarded_reply = record { legal = refl; due = refl; unnamed = refl; near = refl }
+
+pub far_follower : FarFollower
+unfolding digits after_any host_of is_among distinct actor_id activity_id object_id is_of_host differs has_name has_id has_digest has_host is_by is_about has_activity_id is_actor is_block_of has_block_between is_follow_of is_open_follow is_following followers makes is_deleted change_object replace_object tombstone_of rewrite_act is_nobody_here is_recipient addressees implied_recipient complete_recipients is_for_follower is_follower_from sees_as is_of_peer reaches sees present_object shown_ref shown_activity sight_of is_like_of is_announce_of has_room is_locked follow_state can_be_undone state_of is_pending_follow is_standing_activity end_follow effect_of accept_by receive_object is_ours is_far has_followers_at forwards_at forwards_of broken_about is_item is_same_item is_of_pair progress_of sends is_at_peer deliveries_of is_due_in is_text is_type is_date
+far_follower = record { legal = refl; before = refl; after = refl; other = refl; undone = refl; legal_block = refl; blocked = refl }

@@ -11,8 +11,8 @@ use Rattle.fedi_town.proofs.Lists.{list_any-through, filter-through, find-throug
 use Rattle.fedi_town.specs.Agreement.{Agree, SameOwn, IsSameOwn, peer_of}
 use Rattle.fedi_town.specs.Histories.{with_recipient}
 use Rattle.fedi_town.specs.Objects.{makes, maker_of, object_of}
-use Rattle.fedi_town.specs.Relations.{ref_id, is_id, is_about, is_block_of, blocks, has_block_between}
-use Rattle.fedi_town.specs.Seeing.{sees, sees_as, sees_with, seen, reaches, is_of_peer}
+use Rattle.fedi_town.specs.Relations.{ref_id, is_id, is_about, is_block_of, blocks, has_block_between, is_follow_of, follows, is_following}
+use Rattle.fedi_town.specs.Seeing.{sees, sees_as, sees_with, seen, reaches, is_of_peer, is_for_follower, is_follower_from, is_followed_from}
 use Rattle.fedi_town.specs.Showing.{sight_of, shown_ref, shown_activity, present_object, id_of_caller, own_among, view}
 use Rattle.fedi_town.specs.Towns.{Town, id_of, is_by}
 use Rattle.fedi_town.specs.declared.act.Act.{Act}
@@ -38,14 +38,23 @@ among-inbox : (me owner : List ℕ) (rs : List (List ℕ)) → bytes_eq owner me
 unfolding is_among
 among-inbox me owner rs other = list_any-append (λ u. bytes_eq u me) rs (owner ∷ []) ∙ rw other (or_no (list_any (λ u. bytes_eq u me) rs))
 
+same-follow : (id owner a b : List ℕ) (y : Act) → is_follow_of a b (with_recipient id owner y) ≡ is_follow_of a b y
+unfolding is_follow_of is_by is_about
+same-follow id owner a b y = also-same (is_follow_of a b) id owner y refl
+
+follows-inbox : (t : Town) (id owner a b : List ℕ) → follows (with_owner t id owner) a b ≡ follows t a b
+follows-inbox t id owner a b = list_any-through (with_recipient id owner) (is_follow_of a b) (is_follow_of a b) (same-follow id owner a b) t.acts
+
 sees_as-inbox : (t : Town) (id owner me : List ℕ) (y : Act) → bytes_eq owner me ≡ false → sees_as (with_owner t id owner) me (with_recipient id owner y) ≡ sees_as t me y
-unfolding sees_as is_by
+unfolding sees_as is_by is_for_follower
 sees_as-inbox t id owner me y other =
     rw (
       also-same (λ z. z.author) id owner y refl,
       also-same (λ z. z.is_public) id owner y refl,
       also-same (λ z. is_among me z.recipients) id owner y (among-inbox me owner y.recipients other),
       between-inbox t id owner me y.author,
+      follows-inbox t id owner me y.author,
+      also-same (λ z. z.for_followers) id owner y refl,
     ) refl
 
 reaches-inbox : (t : Town) (id owner host author r : List ℕ) → reaches (with_owner t id owner) host author r ≡ reaches t host author r
@@ -61,6 +70,11 @@ any_reached : (t : Town) (id owner host author : List ℕ) (rs : List (List ℕ)
 any_reached t id owner host author rs other =
     list_any-append (reaches t host author) rs (owner ∷ []) ∙ rw (not_reached t host author owner other) (or_no (list_any (reaches t host author) rs))
 
+follower-inbox : (t : Town) (id owner host author : List ℕ) (f : Act) → is_follower_from (with_owner t id owner) host author (with_recipient id owner f) ≡ is_follower_from t host author f
+unfolding is_follower_from is_following is_about
+follower-inbox t id owner host author f =
+    also-same (is_follower_from (with_owner t id owner) host author) id owner f refl ∙ rw (reaches-inbox t id owner host author f.author) refl
+
 sees_from-inbox : (t : Town) (id owner host : List ℕ) (y : Act) → is_of_peer host owner ≡ false → sees (with_owner t id owner) (Peer host) (with_recipient id owner y) ≡ sees t (Peer host) y
 unfolding sees
 sees_from-inbox t id owner host y other =
@@ -69,6 +83,8 @@ sees_from-inbox t id owner host y other =
       also-same (λ z. z.is_public) id owner y refl,
       list_any-agree (reaches (with_owner t id owner) host y.author) (reaches t host y.author) (reaches-inbox t id owner host y.author) (with_recipient id owner y).recipients,
       also-same (λ z. list_any (reaches t host y.author) z.recipients) id owner y (any_reached t id owner host y.author y.recipients other),
+      also-same (λ z. z.for_followers) id owner y refl,
+      list_any-through (with_recipient id owner) (is_follower_from (with_owner t id owner) host y.author) (is_follower_from t host y.author) (follower-inbox t id owner host y.author) t.acts,
     ) refl
 
 -- ---- callers who are another

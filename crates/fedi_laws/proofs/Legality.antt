@@ -32,6 +32,15 @@ legal_push (d ∷ history) t e legal ok =
     let parts = and_parts (is_admissible t d) (is_legal_from (step t d) history) legal in
     rw (parts.0, legal_push history (step t d) e parts.1 ok) refl
 
+-- of a legal history each entry may come after those before it
+pub legal_last : (history : List Entry) (t : Town) (e : Entry) → is_legal_from t (history ++ e ∷ []) ≡ true
+    → (is_legal_from t history ≡ true) × (is_admissible (fold step t history) e ≡ true)
+legal_last [] t e legal = (refl, (and_parts (is_admissible t e) true legal).0)
+legal_last (d ∷ history) t e legal =
+    let parts = and_parts (is_admissible t d) (is_legal_from (step t d) (history ++ e ∷ [])) legal in
+    let rest = legal_last history (step t d) e parts.1 in
+    (rw (parts.0, rest.0) refl, rest.1)
+
 -- The entry that an ask makes may come next.
 pub asks_keep_legal : (history : List Entry) (c : Caller) (ask : Ask) (moment : ℕ) (e : Entry) → IsLegal history
     → IsPostable (town history) ask → entry_of (town history) c ask moment ≡ Some e → IsLegal (history ++ e ∷ [])

@@ -2,6 +2,7 @@ pub mod Alike
 pub mod Answered
 pub mod Bare
 pub mod Burial
+pub mod Changes
 pub mod Clean
 pub mod ClubFollows
 pub mod ClubObjects

@@ -77,6 +77,7 @@ is_hidden t u host name repeat a moment b member named_so m does about state =
       author = sym m.same;
       followed_by = refl;
       open_to_none = among_one follower (not_public host name m.shape named_so);
+      for_none = refl;
       to = to_follower u member.id follower (rw m.id (not_followers host name member.name named_so));
       reaching = follow_reaches t host name repeat a moment b does about state (rw (m.same, m.id) (not_followers host member.name name m.name));
     }

@@ -46,7 +46,7 @@ shown-stays t xs (Peer host) x grounded = rw (shown_ref-stays t xs x grounded) r
 
 seen-stays : (t : Town) (xs : List Act) (c : Caller) → AreQuiet xs → list_any (sees t c) xs ≡ false → seen (with_acts t xs) c ≡ seen t c
 seen-stays t xs c q unseen =
-    filter_agree (sees (with_acts t xs) c) (sees t c) (sees-quiet t xs q c) (t.acts ++ xs)
+    filter_agree (sees (with_acts t xs) c) (sees t c) (sees-quiet t xs q c unseen) (t.acts ++ xs)
     ∙ filter-append (sees t c) t.acts xs
     ∙ rw (filter-none (sees t c) xs unseen, append-nil) refl
 

@@ -8,14 +8,14 @@ use Rattle.fedi_objects.specs.declared.entry.Entry.{Entry}
 use Rattle.fedi_objects.specs.declared.kind.Kind.TheVariants as kinds
 use Rattle.fedi_objects.specs.declared.kind.State.TheVariants.{Done, Pending, Accepted, Standing, Undone}
 use Rattle.fedi_town.specs.declared.caller.Caller.TheVariants.{Nobody, Actor}
-use Rattle.fedi_town.specs.declared.caller.Which.TheVariants.{Outbox, Followers, Following}
+use Rattle.fedi_town.specs.declared.caller.Which.TheVariants.{Inbox, Outbox, Followers, Following}
 use Rattle.fedi_town.specs.declared.deed.Deed.TheVariants.{Follow, Accept, Undo}
 use Rattle.fedi_town.specs.Addressing.{no_recipients}
 use Rattle.fedi_town.specs.Histories.{town}
 use Rattle.fedi_town.specs.Relations.{followers, follows}
 use Rattle.fedi_town.specs.States.{has_room}
 use Rattle.fedi_town.specs.Towns.{Town, count_of}
-use Rattle.fedi_laws.specs.Fixture.{ana, ben, cleo, dan, member, activity_number, start, to, activity, note, posts, is_legal, states, recipients, sight, total, rule}
+use Rattle.fedi_laws.specs.Fixture.{ana, ben, cleo, dan, member, activity_number, object_number, start, to, activity, note, posts, is_legal, states, recipients, sight, total, rule}
 
 -- ---- ana follows dan, who is locked and accepts; she takes it back, and follows ben, who is not locked
 
@@ -99,7 +99,7 @@ after_note = start ++ (posts ben (activity kinds.Follow (Id (member ana)) no_rec
 abbrev pub after_late_follow : List Entry
 after_late_follow = after_note ++ posts cleo (activity kinds.Follow (Id (member ana)) no_recipients) ∷ []
 
--- the Note goes to those who follow when it is accepted, and to nobody who follows later
+-- the Note goes to those who follow when it is accepted, and those who follow later see it too
 pub record PostToFollowers : Type 0 where
   pub legal : is_legal after_late_follow ≡ true
   pub sent : recipients after_note ≡ (member ana ∷ []) ∷ (member ben ∷ []) ∷ (member ben ∷ []) ∷ []
@@ -107,7 +107,58 @@ pub record PostToFollowers : Type 0 where
       ≡ Some (activity_number ben (codes "1")) ∷ Some (activity_number ana (codes "1")) ∷ Some (activity_number ana (codes "2")) ∷ []
   pub stranger : sight after_note (Actor cleo) ≡ []
   pub both : followers (town after_late_follow) (member ana) ≡ member ben ∷ member cleo ∷ []
-  pub later : sight after_late_follow (Actor cleo) ≡ Some (activity_number cleo (codes "1")) ∷ Some (activity_number ana (codes "3")) ∷ []
+  pub later : sight after_late_follow (Actor cleo)
+      ≡ Some (activity_number ana (codes "2")) ∷ Some (activity_number cleo (codes "1")) ∷ Some (activity_number ana (codes "3")) ∷ []
+
+-- ---- ana posts to her followers before there is one; ben follows her afterwards
+
+-- she posted the Note
+abbrev pub before_first_follow : List Entry
+before_first_follow = start ++ posts ana (activity kinds.Create (Whole (note (to fans))) (to fans)) ∷ []
+
+-- ben followed her
+abbrev pub after_first_follow : List Entry
+after_first_follow = before_first_follow ++ posts ben (activity kinds.Follow (Id (member ana)) no_recipients) ∷ []
+
+-- he took it back
+abbrev pub after_unfollow : List Entry
+after_unfollow = after_first_follow ++ posts ben (activity kinds.Undo (Id (activity_number ben (codes "1"))) no_recipients) ∷ []
+
+-- she ended it
+abbrev pub after_reject : List Entry
+after_reject = after_first_follow ++ posts ana (activity kinds.Reject (Id (activity_number ben (codes "1"))) no_recipients) ∷ []
+
+-- she blocked him
+abbrev pub after_parting : List Entry
+after_parting = after_first_follow ++ posts ana (activity kinds.Block (Id (member ben)) no_recipients) ∷ []
+
+-- ana deleted the object, of which ben is told as he follows her
+abbrev pub after_delete : List Entry
+after_delete = after_first_follow ++ posts ana (activity kinds.Delete (Id (object_number ana (codes "1"))) no_recipients) ∷ []
+
+-- The Note went to nobody. Ben sees it from his Follow on, in ana's outbox and not in his inbox, until the Follow ends by
+-- his Undo, by ana's Reject or by a Block; and so he sees its Delete. Nobody else sees it.
+pub record LateFollower : Type 0 where
+  pub legal : is_legal after_unfollow ≡ true
+  pub sent : recipients after_first_follow ≡ [] ∷ (member ana ∷ []) ∷ (member ben ∷ []) ∷ []
+  pub before : sight before_first_follow (Actor ben) ≡ []
+  pub after : sight after_first_follow (Actor ben)
+      ≡ Some (activity_number ana (codes "1")) ∷ Some (activity_number ben (codes "1")) ∷ Some (activity_number ana (codes "2")) ∷ []
+  pub in_outbox : total after_first_follow (Actor ben) (Outbox ana) ≡ Some 2
+  pub in_inbox : total after_first_follow (Actor ben) (Inbox ben) ≡ Some 1
+  pub stranger : sight after_first_follow (Actor cleo) ≡ []
+  pub nobody : sight after_first_follow Nobody ≡ []
+  pub undone : sight after_unfollow (Actor ben)
+      ≡ Some (activity_number ben (codes "1")) ∷ Some (activity_number ana (codes "2")) ∷ Some (activity_number ben (codes "2")) ∷ []
+  pub legal_reject : is_legal after_reject ≡ true
+  pub rejected : sight after_reject (Actor ben)
+      ≡ Some (activity_number ben (codes "1")) ∷ Some (activity_number ana (codes "2")) ∷ Some (activity_number ana (codes "3")) ∷ []
+  pub legal_block : is_legal after_parting ≡ true
+  pub blocked : sight after_parting (Actor ben) ≡ Some (activity_number ben (codes "1")) ∷ []
+  pub legal_delete : is_legal after_delete ≡ true
+  pub deleted : sight after_delete (Actor ben)
+      ≡ Some (activity_number ana (codes "1")) ∷ Some (activity_number ben (codes "1")) ∷ Some (activity_number ana (codes "2"))
+      ∷ Some (activity_number ana (codes "3")) ∷ []
 
 -- ---- the last number
 

@@ -18,6 +18,7 @@ use Rattle.fedi_town.specs.Histories.{town}
 use Rattle.fedi_town.specs.Objects.{object_at}
 use Rattle.fedi_town.specs.Queues.{Due, queue}
 use Rattle.fedi_town.specs.Relations.{followers}
+use Rattle.fedi_laws.specs.ClubFollows.{fans}
 use Rattle.fedi_laws.specs.Fixture.{ana, ben, dan, member, activity_number, object_number, hill, lake, dora, eve, with_peers, to, activity, note, posts, delivers, is_legal, states, recipients, sight, total, rule}
 
 -- an id of dora's
@@ -150,3 +151,33 @@ pub record ForwardedReply : Type 0 where
       ∷ record { activity = Some (by_dora (codes "/a/8")); recipient = eve; progress = Due 0 2 } ∷ []
   pub unnamed : map (λ x. x.forwards) (town (before_reply ++ reply_to [] ∷ [])).acts ≡ [] ∷ [] ∷ [] ∷ [] ∷ []
   pub near : map (λ x. x.forwards) (town (after_remote_follow ++ reply_to ((member ana ++ codes "/followers") ∷ []) ∷ [])).acts ≡ [] ∷ [] ∷ [] ∷ []
+
+-- ---- ana posts to her followers before there is one; eve of lake follows her afterwards
+
+-- she posted the Note
+abbrev pub before_far_follow : List Entry
+before_far_follow = with_peers ++ posts ana (activity kinds.Create (Whole (note (to fans))) (to fans)) ∷ []
+
+-- eve followed her
+abbrev pub after_far_follow : List Entry
+after_far_follow = before_far_follow ++ delivers lake ana eve (eve ++ codes "/a/1") (activity kinds.Follow (Id (member ana)) no_recipients) ∷ []
+
+-- eve took it back
+abbrev pub after_far_undo : List Entry
+after_far_undo = after_far_follow ++ delivers lake ana eve (eve ++ codes "/a/2") (activity kinds.Undo (Id (eve ++ codes "/a/1")) no_recipients) ∷ []
+
+-- ana blocked her
+abbrev pub after_far_block : List Entry
+after_far_block = after_far_follow ++ posts ana (activity kinds.Block (Id eve) no_recipients) ∷ []
+
+-- Lake sees the Note while somebody of lake follows ana, and hill, of which nobody does, never.
+pub record FarFollower : Type 0 where
+  pub legal : is_legal after_far_undo ≡ true
+  pub before : sight before_far_follow (Peer lake) ≡ []
+  pub after : sight after_far_follow (Peer lake)
+      ≡ Some (activity_number ana (codes "1")) ∷ Some (eve ++ codes "/a/1") ∷ Some (activity_number ana (codes "2")) ∷ []
+  pub other : sight after_far_follow (Peer hill) ≡ []
+  pub undone : sight after_far_undo (Peer lake)
+      ≡ Some (eve ++ codes "/a/1") ∷ Some (activity_number ana (codes "2")) ∷ Some (eve ++ codes "/a/2") ∷ []
+  pub legal_block : is_legal after_far_block ≡ true
+  pub blocked : sight after_far_block (Peer lake) ≡ Some (eve ++ codes "/a/1") ∷ []

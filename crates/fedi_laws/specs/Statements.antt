@@ -110,12 +110,13 @@ is_no_peer callers.Nobody = true
 is_no_peer (callers.Actor name) = true
 is_no_peer (callers.Peer host) = false
 
--- Who sees the Create of an object sees each Update and Delete of it that its author posts. Who is parted from the author by
--- a Block sees neither.
+-- Who sees the Create of an object sees each Update and Delete of it that its author may post. Who is parted from the author
+-- by a Block sees neither.
 abbrev pub ChangesReachTheReaders : Type 0
 ChangesReachTheReaders =
     (history : List Entry) (host name id : List ℕ) (repeat : Option (List ℕ × List ℕ)) (a : Activity) (moment : ℕ) (m : Act) (c : Caller)
-    → IsLegal history → (town history).host ≡ Some host → (is_update (deed_of a.kind) || is_delete (deed_of a.kind)) ≡ true
+    → IsLegal (history ++ Local name repeat a moment ∷ []) → (town history).host ≡ Some host
+    → (is_update (deed_of a.kind) || is_delete (deed_of a.kind)) ≡ true
     → ref_id (local_act (town history) host name repeat a moment).activity.object ≡ Some id → maker (town history) id ≡ Some m
     → m.author ≡ actor_id host name → is_no_peer c ≡ true → sees (town history) c m ≡ true
     → sees (town history) c (local_act (town history) host name repeat a moment) ≡ true

@@ -1,8 +1,8 @@
 //! What happens in a small club, computed from the definitions.
 
-ghost use Rattle.fedi_laws.specs.ClubFollows.{BlockAndUndo, LastNumber, LockedFollow, PostToFollowers};
+ghost use Rattle.fedi_laws.specs.ClubFollows.{BlockAndUndo, LastNumber, LateFollower, LockedFollow, PostToFollowers};
 ghost use Rattle.fedi_laws.specs.ClubObjects.{ChangedNote, DeletedNote, OpenNote, SecretNote};
-ghost use Rattle.fedi_laws.specs.ClubPeers.{DeliveredFollow, DeliveredNote, DeliveredTombstone, ForwardedReply, PeersAndRelays, StrayFollow};
+ghost use Rattle.fedi_laws.specs.ClubPeers.{DeliveredFollow, DeliveredNote, DeliveredTombstone, FarFollower, ForwardedReply, PeersAndRelays, StrayFollow};
 
 /// A Follow of a locked member waits for the Accept.
 #[tactic(auto, using(crate::proofs::ClubFollows::locked_follow))]
@@ -16,10 +16,17 @@ pub fn a_follower_is_blocked()
     ensures { BlockAndUndo }
 {}
 
-/// A Note to followers goes to those who follow when it is accepted.
+/// A Note to followers goes to those who follow when it is accepted, and is seen by those who follow
+/// later.
 #[tactic(auto, using(crate::proofs::ClubFollows::post_to_followers))]
 pub fn followers_get_a_note()
     ensures { PostToFollowers }
+{}
+
+/// A Note to followers is seen by who follows later, as long as the Follow lasts.
+#[tactic(auto, using(crate::proofs::ClubFollows::late_follower))]
+pub fn a_late_follower_sees_a_note()
+    ensures { LateFollower }
 {}
 
 /// There is no Accept without a number for it.
@@ -86,4 +93,10 @@ pub fn a_follow_goes_astray()
 #[tactic(auto, using(crate::proofs::ClubPeers::forwarded_reply))]
 pub fn a_reply_is_forwarded()
     ensures { ForwardedReply }
+{}
+
+/// A Note to followers is seen by another server, as long as somebody there follows.
+#[tactic(auto, using(crate::proofs::ClubPeers::far_follower))]
+pub fn a_follower_elsewhere_sees_a_note()
+    ensures { FarFollower }
 {}

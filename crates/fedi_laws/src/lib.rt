@@ -7,10 +7,11 @@ mod objects;
 mod privacy;
 
 pub use club::{
-    a_follow_goes_astray, a_follow_is_delivered, a_follower_is_blocked,
-    a_locked_member_is_followed, a_note_is_changed, a_note_is_deleted, a_note_is_delivered,
-    a_note_is_public, a_note_is_secret, a_reply_is_forwarded, a_tombstone_is_delivered,
-    followers_get_a_note, numbers_end, peers_deliver_their_own,
+    a_follow_goes_astray, a_follow_is_delivered, a_follower_elsewhere_sees_a_note,
+    a_follower_is_blocked, a_late_follower_sees_a_note, a_locked_member_is_followed,
+    a_note_is_changed, a_note_is_deleted, a_note_is_delivered, a_note_is_public, a_note_is_secret,
+    a_reply_is_forwarded, a_tombstone_is_delivered, followers_get_a_note, numbers_end,
+    peers_deliver_their_own,
 };
 pub use histories::{
     asks_keep_histories_built, asks_keep_histories_legal, due_deliveries_are_queued,
