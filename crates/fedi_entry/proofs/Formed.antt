@@ -18,7 +18,7 @@ use Rattle.fedi_objects.specs.declared.object.Object.{Object}
 use Rattle.fedi_objects.specs.declared.object.Tag.{Tag}
 use Rattle.fedi_objects.specs.Limits.{is_date, is_text, is_type}
 use Rattle.fedi_entry.specs.Codes.{HasDigest, HasSizes, HasStatus}
-use Rattle.fedi_entry.specs.Fields.{AreWords, IfGiven, IsActivity, IsChange, IsFormed, IsList, IsMoment, IsObject, IsObjectRef, IsRepeat, IsTag, IsText, MayCome}
+use Rattle.fedi_entry.specs.Fields.{AreWords, IfGiven, IsActivity, IsChange, IsFormed, IsMoment, IsObject, IsObjectRef, IsRepeat, IsTag, IsText, MayCome}
 use Rattle.fedi_entry.specs.Limits.{AreTagsWithin, AreWordsWithin, IfPasses, IsActivityWithin, IsChangeWithin, IsObjectRefWithin, IsObjectWithin, KeepsLimits, Passes}
 
 -- ---- sizes

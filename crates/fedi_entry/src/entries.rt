@@ -146,10 +146,11 @@ fn put_fields(bytes: &mut Vec<u8>, entry: &Entry) -> Result<(), AllocError>
     put_moment(bytes, *moment)
 }
 
-/// The bytes of an entry, from which the same entry is read again.
+/// The bytes of an entry, from which the same entry is read again. Each of its fields has to keep its limit,
+/// as each does of an entry that may come next in a history.
 ///
-/// Each field keeps its limit, as those of each entry do that may come next in a history. The error is
-/// out of memory: also for an entry that is longer than 4,294,967,295 bytes, or has a list of more items.
+/// The error is out of memory. It is given too if the entry has more than 4,294,967,295 bytes, or a list of
+/// it more items: no rule bounds the number of mentions.
 #[tactic(auto, unfolding(crate::specs::Codes::code_of))]
 pub fn encode(alloc: Global, entry: &Entry) -> Result<Vec<u8>, AllocError>
     requires limits { KeepsLimits entry.now }
