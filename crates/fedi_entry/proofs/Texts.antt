@@ -1,9 +1,12 @@
--- Whether bytes are UTF-8, as a test.
-use Rattle.std.proofs.Common.{◌≡◌, ℕ, Bool, true, false, List, refl}
+-- Whether bytes are UTF-8, as a test, and the form of a text.
+use Rattle.std.proofs.Common.{◌≡◌, ℕ, Bool, true, false, List, Option, Some, None, refl}
+use Rattle.std.specs.Prelude.{IfSome, IsTrue}
 use Rattle.std.specs.Str.{is_utf8, IsUtf8}
 use Rattle.std.proofs.lemmas.Str.{IsUtf8-from_is_utf8, is_utf8-from_IsUtf8}
 use Rattle.fedi_objects.specs.Keys.{is_repeat_key}
 use Rattle.fedi_objects.proofs.KeyLemmas.{key_is_utf8}
+use Rattle.fedi_entry.specs.Fields.{IsText}
+use Rattle.fedi_entry.specs.Limits.{IfPasses}
 
 pub is_utf8_text : (bytes : List ℕ) → IsUtf8 bytes → is_utf8 bytes ≡ true
 is_utf8_text = is_utf8-from_IsUtf8
@@ -17,3 +20,8 @@ is_no_utf8 bytes fails = by (is_utf8 bytes) refl
 
 pub is_utf8_key : (key : List ℕ) → is_repeat_key key ≡ true → is_utf8 key ≡ true
 is_utf8_key key is = is_utf8_text key (key_is_utf8 key is)
+
+-- a text, if there is one, that is UTF-8 and passes the test has the form of one
+pub if_text : (test : List ℕ → Bool) (o : Option (List ℕ)) → IfSome o (λ bytes. IsTrue (is_utf8 bytes)) → IfPasses test o → IfSome o (IsText test)
+if_text test None utf8 passes = tt
+if_text test (Some text) utf8 passes = record { utf8 = utf8; passes = passes }

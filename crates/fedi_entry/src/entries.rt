@@ -2,13 +2,13 @@
 
 ghost use Rattle.std.specs.Prelude.{◌≡◌, ◌++◌, ◌<◌, ◌^◌, length, IfOk, IfSome, OnOk};
 ghost use Rattle.fedi_entry.specs.Codes.{came_code, code_of, entry_number, fields_code, option_code, repeat_code, what_code, Fits};
-ghost use Rattle.fedi_entry.specs.Fields.{IsFormed, IsRepeat, MayCome};
+ghost use Rattle.fedi_entry.specs.Fields.{IsFormed, IsRepeat};
+ghost use Rattle.fedi_entry.specs.Limits.{KeepsLimits};
 
-use crate::limits::Limit;
 use crate::values::{
-    Encode, put_bool, put_byte, put_bytes, put_key, put_limited, put_moment, put_status,
+    Encode, put_bool, put_byte, put_bytes, put_key, put_moment, put_status, put_text,
 };
-use fedi_objects::{Came, Entry, ObjectRef, RepeatKey, Sent, What};
+use fedi_objects::{Came, Entry, ObjectRef, RepeatKey, What};
 use std::alloc::{AllocError, Global};
 
 /// The room for an entry without long texts.
@@ -34,18 +34,16 @@ fn put_repeat(bytes: &mut Vec<u8>, repeat: &Option<(RepeatKey, [u8; 32])>) -> Re
     }
 }
 
-/// Appends what came of a lookup or a post. A bad actor that came of a post is refused.
+/// Appends what came of a lookup or a post.
 #[tactic(auto, unfolding(crate::specs::Codes::what_code))]
-fn put_what(bytes: &mut Vec<u8>, step: Sent, what: &What) -> Result<(), AllocError>
-    ensures code { OnOk result (bytes.new.items ≡ bytes.old.items ++ what_code what.now) }
-    ensures formed { OnOk result (MayCome step what.now) }
+fn put_what(bytes: &mut Vec<u8>, what: &What) -> Result<(), AllocError>
+    ensures { OnOk result (bytes.new.items ≡ bytes.old.items ++ what_code what.now) }
 {
-    match (what, step) {
-        (What::Failed, _) => put_byte(bytes, 0),
-        (What::NoHead, _) => put_byte(bytes, 1),
-        (What::BadActor, Sent::Lookup) => put_byte(bytes, 2),
-        (What::BadActor, Sent::Post) => Err(AllocError),
-        (What::Status(status), _) => {
+    match what {
+        What::Failed => put_byte(bytes, 0),
+        What::NoHead => put_byte(bytes, 1),
+        What::BadActor => put_byte(bytes, 2),
+        What::Status(status) => {
             put_byte(bytes, 3)?;
             put_status(bytes, *status)
         }
@@ -55,11 +53,10 @@ fn put_what(bytes: &mut Vec<u8>, step: Sent, what: &What) -> Result<(), AllocErr
 /// Appends what came of an attempt to deliver.
 #[tactic(auto, unfolding(crate::specs::Codes::came_code))]
 fn put_came(bytes: &mut Vec<u8>, came: &Came) -> Result<(), AllocError>
-    ensures code { OnOk result (bytes.new.items ≡ bytes.old.items ++ came_code came.now) }
-    ensures formed { OnOk result (MayCome came.now.step came.now.what) }
+    ensures { OnOk result (bytes.new.items ≡ bytes.old.items ++ came_code came.now) }
 {
     put_byte(bytes, came.step as u8)?;
-    put_what(bytes, came.step, &came.what)
+    put_what(bytes, &came.what)
 }
 
 /// The byte that says which kind of entry it is.
@@ -77,8 +74,9 @@ fn kind_number(entry: &Entry) -> u8
 }
 
 /// Appends the fields of an entry.
-#[tactic(auto, unfolding(crate::specs::Codes::fields_code, crate::specs::Fields::IsFormed))]
+#[tactic(auto, unfolding(crate::specs::Codes::fields_code, crate::specs::Fields::IsFormed, crate::specs::Limits::KeepsLimits))]
 fn put_fields(bytes: &mut Vec<u8>, entry: &Entry) -> Result<(), AllocError>
+    requires limits { KeepsLimits entry.now }
     ensures code { OnOk result (bytes.new.items ≡ bytes.old.items ++ fields_code entry.now) }
     ensures formed { OnOk result (IsFormed entry.now) }
 {
@@ -107,7 +105,7 @@ fn put_fields(bytes: &mut Vec<u8>, entry: &Entry) -> Result<(), AllocError>
         } => {
             host.put(bytes)?;
             put_key(bytes, key)?;
-            put_limited(bytes, address, Limit::Address)?;
+            put_text(bytes, address.text())?;
             put_bool(bytes, *relay)?;
             moment
         }
@@ -148,14 +146,14 @@ fn put_fields(bytes: &mut Vec<u8>, entry: &Entry) -> Result<(), AllocError>
     put_moment(bytes, *moment)
 }
 
-/// The bytes of an entry, from which the same entry is read again.
+/// The bytes of an entry, from which the same entry is read again. Each of its fields has to keep its limit,
+/// as each does of an entry that may come next in a history.
 ///
-/// The error is out of memory. It is given too for an entry that could not be read again, as it is
-/// longer than 4,294,967,295 bytes, or a field of it is past its limit: a content, a summary or a
-/// name of more than 65,536 bytes, what is no type, no date, no address of a peer or no status, or
-/// a bad actor that came of a post. No member meets this: such a post is refused when it is read.
+/// The error is out of memory. It is given too if the entry has more than 4,294,967,295 bytes, or a list of
+/// it more items: no rule bounds the number of mentions.
 #[tactic(auto, unfolding(crate::specs::Codes::code_of))]
 pub fn encode(alloc: Global, entry: &Entry) -> Result<Vec<u8>, AllocError>
+    requires limits { KeepsLimits entry.now }
     ensures code { IfOk result (λ bytes. bytes.items ≡ code_of entry.now) }
     ensures short { IfOk result (λ bytes. length bytes.items < 2 ^ 32) }
     ensures fits { OnOk result (Fits entry.now) }

@@ -4,6 +4,7 @@ ghost use Rattle.std.specs.Prelude.{◌≡◌, ℕ, List, [], ◌∷◌, ◌++�
 ghost use Rattle.fedi_objects.specs.declared.entry.Entry.{Entry};
 ghost use Rattle.fedi_entry.specs.Codes.{code_of, entry_number, Fits};
 ghost use Rattle.fedi_entry.specs.Fields.{IsFormed};
+ghost use Rattle.fedi_entry.specs.Limits.{KeepsLimits};
 ghost use Rattle.fedi_entry.specs.Reading.{read_entry};
 
 /// The code of an entry begins with the number of its kind, as 4 of a post, and so is not empty.
@@ -28,4 +29,11 @@ pub fn codes_are_read()
 pub fn codes_are_no_fronts()
     ensures { (a b : Entry) (rest : List ℕ) → IsFormed a → IsFormed b
         → code_of a ++ rest ≡ code_of b → (a ≡ b) × (rest ≡ []) }
+{}
+
+/// What is read can be written again: where the fields of an entry have their forms, each keeps its
+/// limit.
+#[tactic(auto, using(crate::proofs::Formed::formed_keeps))]
+pub fn forms_keep_limits()
+    ensures { (entry : Entry) → IsFormed entry → KeepsLimits entry }
 {}

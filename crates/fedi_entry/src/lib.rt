@@ -19,5 +19,8 @@ mod values;
 pub use entries::encode;
 pub use fault::EntryFault;
 pub use known_hosts::KnownHosts;
-pub use laws::{codes_are_no_fronts, codes_are_read, codes_are_unique, codes_begin_with_the_kind};
+pub use laws::{
+    codes_are_no_fronts, codes_are_read, codes_are_unique, codes_begin_with_the_kind,
+    forms_keep_limits,
+};
 pub use read_entries::decode;

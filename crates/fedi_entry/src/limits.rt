@@ -17,7 +17,7 @@ const LONGEST_ADDRESS: usize = 255;
 
 /// Whether the text may be a content, a summary or a name: at most 65,536 bytes.
 #[tactic(auto, unfolding(fedi_objects::specs::Limits::is_text))]
-pub fn is_content(text: &str) -> bool
+fn is_content(text: &str) -> bool
     ensures { result ≡ limits.is_text text.now }
 {
     text.len() <= LONGEST_CONTENT

@@ -3,9 +3,9 @@
 ghost use Rattle.std.specs.Prelude.{◌≡◌, ◌++◌, OnOk};
 ghost use Rattle.fedi_entry.specs.Codes.{activity_words, object_times, object_words, words_code};
 ghost use Rattle.fedi_entry.specs.Fields.{AreActivityWords, AreObjectTimes, AreObjectWords, AreWords};
+ghost use Rattle.fedi_entry.specs.Limits.{AreTimesWithin, AreWordsWithin, IsSaidWithin};
 
-use crate::limits::Limit;
-use crate::values::{Encode, put_byte, put_limited, put_limited_option};
+use crate::values::{Encode, put_byte, put_text, put_text_option};
 use fedi_address::Recipients;
 use fedi_objects::{Activity, Change, Object, ObjectRef, Tag};
 use fedi_text::Text;
@@ -14,8 +14,11 @@ use std::alloc::AllocError;
 impl Encode for Tag {
     ghost use Rattle.fedi_entry.specs.Codes.{tag_code};
     ghost use Rattle.fedi_entry.specs.Fields.{IsTag};
+    ghost use Rattle.fedi_entry.specs.Limits.{IsTagWithin};
 
     ghost code = { tag_code };
+
+    ghost limits = { IsTagWithin };
 
     ghost form = { IsTag };
 
@@ -31,6 +34,8 @@ impl Encode for Recipients {
     ghost use Rattle.fedi_entry.specs.Fields.{AreRecipients};
 
     ghost code = { recipients_code };
+
+    ghost limits = { λ _. Unit {0} };
 
     ghost form = { AreRecipients };
 
@@ -52,6 +57,7 @@ fn put_words(
     summary: &Option<Text>,
     name: &Option<Text>,
 ) -> Result<(), AllocError>
+    requires limits { AreWordsWithin content.now summary.now name.now }
     ensures code { OnOk result (bytes.new.items
         ≡ bytes.old.items ++ words_code content.now summary.now name.now) }
     ensures formed { OnOk result (AreWords content.now summary.now name.now) }
@@ -64,6 +70,7 @@ fn put_words(
 /// Appends what an object says.
 #[tactic(auto, unfolding(crate::specs::Codes::object_words))]
 fn put_object_words(bytes: &mut Vec<u8>, object: &Object) -> Result<(), AllocError>
+    requires limits { AreWordsWithin object.now.content object.now.summary object.now.name }
     ensures code { OnOk result (bytes.new.items ≡ bytes.old.items ++ object_words object.now) }
     ensures formed { OnOk result (AreObjectWords object.now) }
 {
@@ -73,29 +80,33 @@ fn put_object_words(bytes: &mut Vec<u8>, object: &Object) -> Result<(), AllocErr
 }
 
 /// Appends when an object was published, updated and deleted, and its former type.
-#[tactic(auto, unfolding(crate::specs::Codes::object_times))]
+#[tactic(auto, using(crate::proofs::Texts::if_text), unfolding(crate::specs::Codes::object_times))]
 fn put_times(bytes: &mut Vec<u8>, object: &Object) -> Result<(), AllocError>
+    requires limits { AreTimesWithin object.now }
     ensures code { OnOk result (bytes.new.items ≡ bytes.old.items ++ object_times object.now) }
     ensures formed { OnOk result (AreObjectTimes object.now) }
 {
-    put_limited_option(bytes, &object.published, Limit::Date)?;
-    put_limited_option(bytes, &object.updated, Limit::Date)?;
-    put_limited_option(bytes, &object.former_kind, Limit::Kind)?;
-    put_limited_option(bytes, &object.deleted, Limit::Date)
+    put_text_option(bytes, &object.published)?;
+    put_text_option(bytes, &object.updated)?;
+    put_text_option(bytes, &object.former_kind)?;
+    put_text_option(bytes, &object.deleted)
 }
 
 impl Encode for Object {
     ghost use Rattle.fedi_entry.specs.Codes.{object_code};
     ghost use Rattle.fedi_entry.specs.Fields.{IsObject};
+    ghost use Rattle.fedi_entry.specs.Limits.{IsObjectWithin};
 
     ghost code = { object_code };
+
+    ghost limits = { IsObjectWithin };
 
     ghost form = { IsObject };
 
     #[tactic(auto, unfolding(crate::specs::Codes::object_code, crate::specs::Codes::object_head))]
     fn put(&self, bytes: &mut Vec<u8>) -> Result<(), AllocError> {
         self.id.put(bytes)?;
-        put_limited(bytes, &self.kind, Limit::Kind)?;
+        put_text(bytes, self.kind.text())?;
         self.attributed_to.put(bytes)?;
         self.recipients.put(bytes)?;
         put_object_words(bytes, self)?;
@@ -107,8 +118,11 @@ impl Encode for Object {
 impl Encode for Change {
     ghost use Rattle.fedi_entry.specs.Codes.{change_code};
     ghost use Rattle.fedi_entry.specs.Fields.{IsChange};
+    ghost use Rattle.fedi_entry.specs.Limits.{IsChangeWithin};
 
     ghost code = { change_code };
+
+    ghost limits = { IsChangeWithin };
 
     ghost form = { IsChange };
 
@@ -127,8 +141,11 @@ impl Encode for Change {
 impl Encode for ObjectRef {
     ghost use Rattle.fedi_entry.specs.Codes.{object_ref_code};
     ghost use Rattle.fedi_entry.specs.Fields.{IsObjectRef};
+    ghost use Rattle.fedi_entry.specs.Limits.{IsObjectRefWithin};
 
     ghost code = { object_ref_code };
+
+    ghost limits = { IsObjectRefWithin };
 
     ghost form = { IsObjectRef };
 
@@ -153,22 +170,26 @@ impl Encode for ObjectRef {
 }
 
 /// Appends what an activity itself says.
-#[tactic(auto, unfolding(crate::specs::Codes::activity_words))]
+#[tactic(auto, using(crate::proofs::Texts::if_text), unfolding(crate::specs::Codes::activity_words))]
 fn put_activity_words(bytes: &mut Vec<u8>, activity: &Activity) -> Result<(), AllocError>
+    requires limits { IsSaidWithin activity.now }
     ensures code { OnOk result (bytes.new.items ≡ bytes.old.items ++ activity_words activity.now) }
     ensures formed { OnOk result (AreActivityWords activity.now) }
 {
     activity.in_reply_to.put(bytes)?;
     put_words(bytes, &activity.content, &activity.summary, &activity.name)?;
-    put_limited_option(bytes, &activity.published, Limit::Date)?;
+    put_text_option(bytes, &activity.published)?;
     activity.tags.put(bytes)
 }
 
 impl Encode for Activity {
     ghost use Rattle.fedi_entry.specs.Codes.{activity_code};
     ghost use Rattle.fedi_entry.specs.Fields.{IsActivity};
+    ghost use Rattle.fedi_entry.specs.Limits.{IsActivityWithin};
 
     ghost code = { activity_code };
+
+    ghost limits = { IsActivityWithin };
 
     ghost form = { IsActivity };
 

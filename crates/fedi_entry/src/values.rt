@@ -1,31 +1,34 @@
 //! Appending values to a buffer.
 //!
-//! What no type says is tested: the limits of texts, counts and statuses. What is past its limit is
-//! refused as out of memory.
+//! What is appended keeps its limits, so that nothing is tested but lengths and counts: one that does not
+//! fit in four bytes is refused as out of memory.
 
-ghost use Rattle.std.specs.Prelude.{◌≡◌, ◌<◌, ◌≤◌, ◌^◌, ◌∷◌, [], ◌++◌, length, IfSome, IsTrue, OnOk};
+ghost use Rattle.std.specs.Prelude.{◌≡◌, ◌<◌, ◌^◌, ◌∷◌, [], ◌++◌, length, IfSome, IsTrue, OnOk};
 ghost use Rattle.std.specs.List.{flat_map, All};
 ghost use Rattle.std.specs.Str.{is_utf8};
 ghost use Rattle.fedi_entry.specs.Codes.{bool_code, option_code, text_code, u16_code, u32_code, u64_code};
-ghost use Rattle.fedi_entry.specs.Fields.{test_of, IsKey, IsMoment, IsText};
+ghost use Rattle.fedi_entry.specs.Fields.{IsKey, IsMoment};
 
-use crate::limits::{Limit, is_content};
 use fedi_address::{Host, Iri, Items, LocalName};
 use fedi_objects::Edit;
 use fedi_text::{Moment, Text};
 use std::alloc::AllocError;
 
-/// A value that has a code, and a form in which it is read again.
+/// A value that has a code, limits that its type does not tell, and a form in which it is read again.
 pub trait Encode {
     ghost use Rattle.std.specs.Prelude.{List, ℕ};
 
     ghost code: { Self → List ℕ };
 
+    ghost limits: { Self → Type 0 };
+
     ghost form: { Self → Type 0 };
 
-    /// Appends the code of the value. The error is that it is out of memory, or that the value has
-    /// not its form. After an error the buffer ends with a part of the code.
+    /// Appends the code of the value, which keeps its limits. The error is out of memory; it is given too
+    /// if a length or a count does not fit in four bytes. After an error the buffer ends with a part of
+    /// the code.
     fn put(&self, bytes: &mut Vec<u8>) -> Result<(), AllocError>
+        requires limits { limits self.now }
         ensures code { OnOk result (bytes.new.items ≡ bytes.old.items ++ code self.now) }
         ensures formed { OnOk result (form self.now) };
 }
@@ -45,15 +48,11 @@ pub fn put_bool(bytes: &mut Vec<u8>, value: bool) -> Result<(), AllocError>
     put_byte(bytes, if value { 1 } else { 0 })
 }
 
-/// Appends a status. One that is not 100 to 999 is refused.
+/// Appends a status.
 #[tactic(auto, unfolding(crate::specs::Codes::u16_code))]
 pub fn put_status(bytes: &mut Vec<u8>, status: u16) -> Result<(), AllocError>
-    ensures code { OnOk result (bytes.new.items ≡ bytes.old.items ++ u16_code status) }
-    ensures formed { OnOk result ((100 ≤ status) × (status ≤ 999)) }
+    ensures { OnOk result (bytes.new.items ≡ bytes.old.items ++ u16_code status) }
 {
-    if status < 100 || 999 < status {
-        return Err(AllocError);
-    }
     bytes.extend_from_slice(&status.to_be_bytes())
 }
 
@@ -97,40 +96,25 @@ pub fn put_bytes(bytes: &mut Vec<u8>, text: &[u8]) -> Result<(), AllocError>
 
 /// Appends a text with its length before it.
 #[tactic(auto, using(crate::proofs::Texts::is_utf8_text))]
-fn put_text(bytes: &mut Vec<u8>, text: &str) -> Result<(), AllocError>
+pub fn put_text(bytes: &mut Vec<u8>, text: &str) -> Result<(), AllocError>
     ensures code { OnOk result (bytes.new.items ≡ bytes.old.items ++ text_code text.now) }
     ensures utf8 { OnOk result (IsTrue (is_utf8 text.now)) }
 {
     put_bytes(bytes, text.as_bytes())
 }
 
-/// Appends a text. One that does not keep to these limits is refused.
-pub fn put_limited(bytes: &mut Vec<u8>, text: &Text, limit: Limit) -> Result<(), AllocError>
-    ensures code { OnOk result (bytes.new.items ≡ bytes.old.items ++ text_code text.now) }
-    ensures formed { OnOk result (IsText (test_of limit) text.now) }
-{
-    if !limit.passes(text.text()) {
-        return Err(AllocError);
-    }
-    put_text(bytes, text.text())
-}
-
-/// Appends a text, if there is one. One that does not keep to these limits is refused.
+/// Appends a text, if there is one.
 #[tactic(auto, unfolding(crate::specs::Codes::option_code))]
-pub fn put_limited_option(
-    bytes: &mut Vec<u8>,
-    text: &Option<Text>,
-    limit: Limit,
-) -> Result<(), AllocError>
+pub fn put_text_option(bytes: &mut Vec<u8>, text: &Option<Text>) -> Result<(), AllocError>
     ensures code { OnOk result (bytes.new.items
         ≡ bytes.old.items ++ option_code text_code text.now) }
-    ensures formed { OnOk result (IfSome text.now (IsText (test_of limit))) }
+    ensures utf8 { OnOk result (IfSome text.now (λ bytes. IsTrue (is_utf8 bytes))) }
 {
     match text {
         None => put_byte(bytes, 0),
         Some(text) => {
             put_byte(bytes, 1)?;
-            put_limited(bytes, text, limit)
+            put_text(bytes, text.text())
         }
     }
 }
@@ -140,6 +124,8 @@ impl Encode for Iri {
     ghost use Rattle.fedi_entry.specs.Fields.{is_iri, IsText};
 
     ghost code = { text_code };
+
+    ghost limits = { λ _. Unit {0} };
 
     ghost form = { IsText is_iri };
 
@@ -154,15 +140,15 @@ impl Encode for Text {
     ghost use Rattle.fedi_objects.specs.Limits.{is_text};
     ghost use Rattle.fedi_entry.specs.Codes.{text_code};
     ghost use Rattle.fedi_entry.specs.Fields.{IsText};
+    ghost use Rattle.fedi_entry.specs.Limits.{Passes};
 
     ghost code = { text_code };
+
+    ghost limits = { Passes is_text };
 
     ghost form = { IsText is_text };
 
     fn put(&self, bytes: &mut Vec<u8>) -> Result<(), AllocError> {
-        if !is_content(self.text()) {
-            return Err(AllocError);
-        }
         put_text(bytes, self.text())
     }
 }
@@ -172,6 +158,8 @@ impl Encode for Host {
     ghost use Rattle.fedi_entry.specs.Fields.{is_host, IsText};
 
     ghost code = { text_code };
+
+    ghost limits = { λ _. Unit {0} };
 
     ghost form = { IsText is_host };
 
@@ -188,6 +176,8 @@ impl Encode for LocalName {
 
     ghost code = { text_code };
 
+    ghost limits = { λ _. Unit {0} };
+
     ghost form = { IsText is_name };
 
     fn put(&self, bytes: &mut Vec<u8>) -> Result<(), AllocError> {
@@ -200,6 +190,8 @@ impl<T: Encode> Encode for Option<T> {
     ghost use Rattle.fedi_entry.specs.Codes.{option_code};
 
     ghost code = { option_code T.code };
+
+    ghost limits = { λ o. IfSome o T.limits };
 
     ghost form = { λ o. IfSome o T.form };
 
@@ -221,6 +213,8 @@ impl<T: Encode> Encode for Edit<T> {
 
     ghost code = { edit_code T.code };
 
+    ghost limits = { IfGiven T.limits };
+
     ghost form = { IfGiven T.form };
 
     #[tactic(auto, unfolding(crate::specs::Codes::edit_code))]
@@ -238,6 +232,7 @@ impl<T: Encode> Encode for Edit<T> {
 
 // Appends each value.
 fn put_each<T: Encode>(bytes: &mut Vec<u8>, items: &[T]) -> Result<(), AllocError>
+    requires limits { All T.limits items.now }
     ensures code { OnOk result (bytes.new.items ≡ bytes.old.items ++ flat_map T.code items.now) }
     ensures formed { OnOk result (All T.form items.now) }
 {
@@ -248,10 +243,13 @@ fn put_each<T: Encode>(bytes: &mut Vec<u8>, items: &[T]) -> Result<(), AllocErro
 }
 
 impl<T: Encode> Encode for Items<T> {
+    ghost use Rattle.std.specs.List.{AllByRecursion};
     ghost use Rattle.fedi_entry.specs.Codes.{list_code};
     ghost use Rattle.fedi_entry.specs.Fields.{IsList};
 
     ghost code = { list_code T.code };
+
+    ghost limits = { AllByRecursion T.limits };
 
     ghost form = { IsList T.form };
 
