@@ -12,7 +12,8 @@ use Rattle.fedi_paths.proofs.Found.{found}
 use Rattle.fedi_paths.proofs.Fitted.{sound, AreBytes}
 use Rattle.fedi_paths.proofs.Taken.{taken, pairs}
 use Rattle.fedi_paths.proofs.Texts.{texts, Texts}
-use Rattle.fedi_routes.specs.Table.{or_empty, route_text, pattern_of, names_of, route_of, rows, IsRouted}
+use Rattle.fedi_town.specs.Collections.{text_of}
+use Rattle.fedi_routes.specs.Table.{route_text, pattern_of, names_of, route_of, rows, IsRouted}
 use Rattle.fedi_routes.specs.declared.kinds.Kind.{Kind}
 use Rattle.fedi_routes.specs.declared.kinds.Kind.TheVariants.{Webfinger, Member, Numbered}
 use Rattle.fedi_routes.specs.declared.kinds.Part.TheVariants.{Actor}
@@ -70,7 +71,7 @@ by_name (Numbered part) ps path name number n m h e = rw (n, m) (record { segmen
 -- the text is what the parameter of this name took
 abbrev IsTextOf : List ℕ → List ℕ → List (ℕ × ℕ) → List ℕ → List ℕ → List ℕ → Type 0
 IsTextOf pattern text names path key given =
-    AllText (walk pattern text path names 0 0) → given ≡ or_empty (named key (walk pattern text path names 0 0))
+    AllText (walk pattern text path names 0 0) → given ≡ text_of (named key (walk pattern text path names 0 0))
 
 fitted : (kind : Kind) (ps : List (List ℕ)) (path pattern text : List ℕ) (names : List (ℕ × ℕ)) (name number : List ℕ)
     → (pattern ≡ pattern_of kind) × (text ≡ route_text kind) × (names ≡ names_of kind) → AreSegments (pattern_of kind) ps
@@ -120,4 +121,4 @@ routed_once k l n m o p path a b =
     value_of (Some r) = r.value
 
     by : List ℕ → List (List ℕ × List ℕ) → List ℕ
-    by key ps = or_empty (named key ps)
+    by key ps = text_of (named key ps)

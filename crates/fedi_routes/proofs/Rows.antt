@@ -14,7 +14,8 @@ use Rattle.matchit.specs.declared.error.InsertError.TheVariants.{Conflict, Inval
 use Rattle.matchit.specs.Params.{named}
 use Rattle.fedi_paths.specs.Patterns.{is_plain, are_clear_of}
 use Rattle.fedi_paths.proofs.Taken.{pairs, wilds}
-use Rattle.fedi_routes.specs.Table.{or_empty, route_text, pattern_of, names_of, route_of, added, kinds, rows}
+use Rattle.fedi_town.specs.Collections.{text_of}
+use Rattle.fedi_routes.specs.Table.{route_text, pattern_of, names_of, route_of, added, kinds, rows}
 use Rattle.fedi_routes.specs.declared.kinds.Kind.{Kind}
 use Rattle.fedi_routes.specs.declared.kinds.Kind.TheVariants.{Webfinger, Member, Numbered}
 use Rattle.fedi_routes.specs.declared.kinds.Part.TheVariants.{Actor}
@@ -57,8 +58,8 @@ pub record Good (kind : Kind) : Type 0 where
   pub plain : is_plain (pattern_of kind) ≡ true
   pub short : leb (length (pattern_of kind)) 18446744073709551615 ≡ true
   pub counted : wilds (pattern_of kind) ≡ length (names_of kind)
-  pub name : (ps : List (List ℕ)) → or_empty (named (codes "name") (pairs (route_text kind) (names_of kind) ps)) ≡ name_in kind ps
-  pub number : (ps : List (List ℕ)) → or_empty (named (codes "number") (pairs (route_text kind) (names_of kind) ps)) ≡ number_in kind ps
+  pub name : (ps : List (List ℕ)) → text_of (named (codes "name") (pairs (route_text kind) (names_of kind) ps)) ≡ name_in kind ps
+  pub number : (ps : List (List ℕ)) → text_of (named (codes "number") (pairs (route_text kind) (names_of kind) ps)) ≡ number_in kind ps
 
 -- each is computed
 pub good : (kind : Kind) → Good kind

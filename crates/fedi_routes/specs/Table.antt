@@ -1,5 +1,5 @@
 -- The routes of the server, as the router keeps them.
-use Rattle.std.specs.Prelude.{◌≡◌, ℕ, List, [], ◌∷◌, ◌++◌, codes, decimal, IsTrue, Option, None, Some}
+use Rattle.std.specs.Prelude.{◌≡◌, ℕ, List, [], ◌∷◌, ◌++◌, codes, decimal, IsTrue}
 use Rattle.matchit.specs.Order.{placed}
 use Rattle.matchit.specs.Router.{RouteOf}
 use Rattle.matchit.specs.Rows.{RowsOf, param_token}
@@ -107,8 +107,3 @@ IsAt Webfinger name number there = there ≡ place.Webfinger
 IsAt (Member part) name number there = IsTrue (is_name name) × (there ≡ member_place part name)
 IsAt (Numbered part) name number there =
     IsTrue (is_name name) × ((n : ℕ) × IsNumber n × (number ≡ decimal n) × (there ≡ numbered_place part name n))
-
--- the text, or none
-abbrev pub or_empty : Option (List ℕ) → List ℕ
-or_empty None = []
-or_empty (Some text) = text

@@ -4,7 +4,8 @@ ghost use Rattle.std.specs.Prelude.{◌≡◌, ◌∷◌, [], ℕ, List, None, O
 ghost use Rattle.matchit.specs.Params.{AllText, named, walk};
 ghost use Rattle.matchit.specs.Router.{nearest};
 ghost use Rattle.fedi_routes.specs.Table as table;
-ghost use Rattle.fedi_routes.specs.Table.{IsRouted, or_empty};
+ghost use Rattle.fedi_routes.specs.Table.{IsRouted};
+ghost use Rattle.fedi_town.specs.Collections.{text_of};
 ghost use Rattle.fedi_routes.specs.declared.kinds.Kind.{Kind};
 
 use crate::kinds::Kind;
@@ -77,7 +78,7 @@ fn out_of_memory(_error: InsertError) -> AllocError
 fn parameter<'p>(params: &Params<'_, 'p>, name: &str) -> &'p str
     ensures { let taken = walk params.now.pattern.now params.now.text.now params.now.path.now
         params.now.names.now 0 0
-        in AllText taken → result.now ≡ or_empty (named name.now taken) }
+        in AllText taken → result.now ≡ text_of (named name.now taken) }
 {
     params.get(name).unwrap_or("")
 }
