@@ -1,23 +1,26 @@
-//! The facts that a history has made, kept as plain lists.
+//! The facts that a history has made.
 
-ghost use Rattle.std.specs.Prelude.{◌≡◌, ◌∷◌, ◌++◌, [], ◌+◌, ◌^◌, ◌<◌, ◌≤◌, IsTrue, IfOk, None, OnErr, OnOk, Some, map, option_copied, option_to_list, vec_len, vec_capacity};
+ghost use Rattle.std.specs.Prelude.{◌≡◌, ◌∷◌, ◌++◌, [], ◌+◌, ◌^◌, ◌<◌, ◌≤◌, ◌&&◌, Bool, IsTrue, IfOk, None, OnErr, OnOk, Some, map, option_copied, option_to_list, vec_len, vec_capacity};
+ghost use Rattle.std.specs.Fn.{FnReturnsAt};
 ghost use Rattle.std.specs.List.{find};
+ghost use Rattle.fedi_town.specs.declared.act.Act.{Act};
 ghost use Rattle.fedi_town.specs.Built.{is_built};
 ghost use Rattle.fedi_town.specs.Effects.{affect};
 ghost use Rattle.fedi_town.specs.Histories.{addition_of, town, with_addition};
-ghost use Rattle.fedi_town.specs.Objects.{maker};
+ghost use Rattle.fedi_town.specs.Objects.{maker, makes};
 ghost use Rattle.fedi_town.specs.Relations.{has_activity_id, is_actor};
 ghost use Rattle.fedi_town.specs.Towns.{count_of, empty_town, has_digest, has_id, has_name, id_of};
 ghost use Rattle.fedi_address.specs.Recipients.{is_among};
 ghost use Rattle.fedi_effects.specs.Additions.{HasAnswerer, HasAuthors, addition_in};
 ghost use Rattle.fedi_register.specs.Changes.{AreMadeOnce};
+ghost use Rattle.fedi_register.specs.Marks.{Decides};
 
 use crate::making::prepare;
 use crate::ready::{Ready, know_authors, make_ready};
 use fedi_address::{Host, Iri, LocalName};
 use fedi_kept::{Kept, Pool, Trace};
 use fedi_objects::Entry;
-use fedi_register::{Register, has_activity_id};
+use fedi_register::Register;
 use fedi_town::{Actor, Effect};
 use std::alloc::{AllocError, Global};
 use std::marker::Model;
@@ -311,7 +314,17 @@ impl Facts {
     pub fn activity_of(&self, id: &Iri) -> Option<&Kept>
         ensures { option_copied result ≡ find (has_activity_id id.now) self.now.town.acts }
     {
-        self.acts().iter().find(|x| has_activity_id(x, id))
+        self.register.activity(id)
+    }
+
+    /// The first activity of this id that passes the test, or none if there is no such activity.
+    pub fn first_by_id<F: Fn(&Kept) -> bool>(&self, id: &Iri, passes: F) -> Option<&Kept>
+        requires { F.IsAlwaysCallable passes }
+        ensures { (p : Act → Bool) → Decides (FnReturnsAt F.Fn passes) p
+            → option_copied result
+            ≡ find (λ x. has_activity_id id.now x && p x) self.now.town.acts }
+    {
+        self.register.first_by_id(id, passes)
     }
 
     /// The activity that made the object of this id, or none if there is no such object.
@@ -319,6 +332,16 @@ impl Facts {
         ensures { option_copied result ≡ maker self.now.town id.now }
     {
         self.register.maker(id)
+    }
+
+    /// The first activity that made the object of this id and passes the test, or none if there is no such
+    /// activity.
+    pub fn first_maker<F: Fn(&Kept) -> bool>(&self, id: &Iri, passes: F) -> Option<&Kept>
+        requires { F.IsAlwaysCallable passes }
+        ensures { (p : Act → Bool) → Decides (FnReturnsAt F.Fn passes) p
+            → option_copied result ≡ find (λ x. makes id.now x && p x) self.now.town.acts }
+    {
+        self.register.first_maker(id, passes)
     }
 }
 

@@ -1,7 +1,9 @@
-//! Who blocks whom, and who follows whom.
+//! Who blocks, follows, likes and shares what.
 
 ghost use Rattle.std.specs.Prelude.{◌≡◌, IfOk};
+ghost use Rattle.std.specs.List.{list_any};
 ghost use Rattle.fedi_town.specs.Relations.{blocks, followers, follows, has_block_between};
+ghost use Rattle.fedi_town.specs.States.{is_announce_of, is_like_of};
 
 use crate::facts::Facts;
 use fedi_address::Iri;
@@ -29,6 +31,20 @@ impl Facts {
         ensures { result ≡ follows self.now.town a.now b.now }
     {
         self.register().follows(a, b)
+    }
+
+    /// Whether a likes this: a Like of it by a stands (ActivityPub, section 6.8).
+    pub fn likes(&self, a: &Iri, id: &Iri) -> bool
+        ensures { result ≡ list_any (is_like_of a.now id.now) self.now.town.acts }
+    {
+        self.register().likes(a, id)
+    }
+
+    /// Whether a shares this: an Announce of it by a stands (ActivityPub, section 7.11).
+    pub fn shares(&self, a: &Iri, id: &Iri) -> bool
+        ensures { result ≡ list_any (is_announce_of a.now id.now) self.now.town.acts }
+    {
+        self.register().shares(a, id)
     }
 
     /// Those who follow b, in the order of their Follows (ActivityPub, section 5.3). The error is out of

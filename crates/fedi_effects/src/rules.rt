@@ -1,16 +1,13 @@
 //! The rules that a member's post may break (ActivityPub, section 6).
 
-ghost use Rattle.std.specs.Prelude.{◌≡◌, ◌&&◌, ℕ, List, Some, None, option_copied};
-ghost use Rattle.std.specs.List.{find};
+ghost use Rattle.std.specs.Prelude.{◌≡◌, ℕ, List, Some, None, option_copied};
 ghost use Rattle.std.specs.Result.{result_err};
 ghost use Rattle.fedi_town.specs.declared.caller.Caller.TheVariants.{Actor};
 ghost use Rattle.fedi_town.specs.declared.refusal.Refusal.TheVariants.{Blocked, NotFound};
 ghost use Rattle.fedi_town.specs.Addressing.{is_nobody_here};
 ghost use Rattle.fedi_town.specs.Deeds.{deed_of, is_follow, is_open, is_pending};
-ghost use Rattle.fedi_town.specs.Objects.{makes};
-ghost use Rattle.fedi_town.specs.Relations.{has_activity_id, has_block_between, ref_id};
+ghost use Rattle.fedi_town.specs.Relations.{has_block_between, ref_id};
 ghost use Rattle.fedi_town.specs.Rules.{announce_rule, answer_rule, broken, broken_about, broken_post, change_rule, like_rule, number_rule, refuse_if, seen_act, seen_maker, undo_rule};
-ghost use Rattle.fedi_town.specs.Seeing.{sees_as};
 ghost use Rattle.fedi_town.specs.Towns.{id_of};
 
 use crate::addressing::is_nobody_here;
@@ -21,37 +18,17 @@ use crate::subjects::ref_id;
 use fedi_address::Iri;
 use fedi_kept::Kept;
 use fedi_objects::Activity;
-use fedi_register::{
-    can_be_undone, has_activity_id, is_about, is_by, is_follow, is_open, is_pending, makes,
-};
+use fedi_register::{can_be_undone, is_about, is_by, is_follow, is_open, is_pending};
 use fedi_town::{Deed, Refusal};
 
 // ---- what the author sees
-
-// The first of these that made the object of this id and that the author sees.
-fn first_maker<'a>(acts: &'a [Kept], facts: &Facts, author: &Iri, id: &Iri) -> Option<&'a Kept>
-    ensures { option_copied result
-        ≡ find (λ x. makes id.now x && sees_as facts.now.town author.now x) acts.now }
-{
-    acts.iter()
-        .find(|x| makes(x, id) && sees_as(facts, author, x))
-}
-
-// The first of these that has this id and that the author sees.
-fn first_act<'a>(acts: &'a [Kept], facts: &Facts, author: &Iri, id: &Iri) -> Option<&'a Kept>
-    ensures { option_copied result
-        ≡ find (λ x. has_activity_id id.now x && sees_as facts.now.town author.now x) acts.now }
-{
-    acts.iter()
-        .find(|x| has_activity_id(x, id) && sees_as(facts, author, x))
-}
 
 // The activity that made the object of this id, where the author sees it.
 fn seen_maker<'a>(facts: &'a Facts, author: &Iri, id: &Iri) -> Option<&'a Kept>
     ensures { (name : List ℕ) → id_of facts.now.town name ≡ Some author.now
         → option_copied result ≡ seen_maker facts.now.town (Actor name) id.now }
 {
-    first_maker(facts.acts(), facts, author, id)
+    facts.first_maker(id, |act| sees_as(facts, author, act))
 }
 
 // The activity of this id, where the author sees it.
@@ -59,7 +36,7 @@ fn seen_act<'a>(facts: &'a Facts, author: &Iri, id: &Iri) -> Option<&'a Kept>
     ensures { (name : List ℕ) → id_of facts.now.town name ≡ Some author.now
         → option_copied result ≡ seen_act facts.now.town (Actor name) id.now }
 {
-    first_act(facts.acts(), facts, author, id)
+    facts.first_by_id(id, |act| sees_as(facts, author, act))
 }
 
 // ---- the rules

@@ -5,7 +5,7 @@ ghost use Rattle.std.specs.List.{list_any};
 ghost use Rattle.fedi_town.specs.Deeds.{is_open, is_pending};
 ghost use Rattle.fedi_town.specs.Objects.{makes};
 ghost use Rattle.fedi_town.specs.Relations.{ref_id};
-ghost use Rattle.fedi_town.specs.States.{can_be_undone, follow_state, has_room, is_announce_of, is_follow_for, is_like_of, is_live_to, is_locked, is_own_live, is_own_undoable, is_public_act, only_where, state_about, state_of};
+ghost use Rattle.fedi_town.specs.States.{can_be_undone, follow_state, has_room, is_follow_for, is_live_to, is_locked, is_own_live, is_own_undoable, is_public_act, only_where, state_about, state_of};
 ghost use Rattle.fedi_town.specs.Towns.{count_after, has_id, has_next};
 ghost use Rattle.fedi_effects.specs.Subjects.{subject_of};
 
@@ -15,9 +15,7 @@ use crate::subjects::{is_whole, ref_id};
 use fedi_address::Iri;
 use fedi_kept::Kept;
 use fedi_objects::{ObjectRef, State};
-use fedi_register::{
-    can_be_undone, is_about, is_announce_of, is_by, is_follow, is_like_of, is_open, is_pending,
-};
+use fedi_register::{can_be_undone, is_about, is_by, is_follow, is_open, is_pending};
 use fedi_town::{Actor, Deed, MOST_ACTIVITIES};
 
 // The state where the condition holds, and else Plain.
@@ -64,21 +62,6 @@ fn is_public_act(maker: Option<&Kept>) -> bool
         Some(maker) => maker.is_public(),
         None => false,
     }
-}
-
-fn likes(facts: &Facts, author: &Iri, id: &Iri) -> bool
-    ensures { result ≡ list_any (is_like_of author.now id.now) facts.now.town.acts }
-{
-    facts.acts().iter().any(|act| is_like_of(act, author, id))
-}
-
-fn announces(facts: &Facts, author: &Iri, id: &Iri) -> bool
-    ensures { result ≡ list_any (is_announce_of author.now id.now) facts.now.town.acts }
-{
-    facts
-        .acts()
-        .iter()
-        .any(|act| is_announce_of(act, author, id))
 }
 
 // ---- Follows
@@ -186,13 +169,13 @@ fn state_about(
         Deed::Follow if facts.is_actor(id) => follow_state(facts, author, id),
         Deed::Follow => State::Pending,
         Deed::Like => only_where(
-            is_live_to(facts, author, subject) && !likes(facts, author, id),
+            is_live_to(facts, author, subject) && !facts.likes(author, id),
             State::Standing,
         ),
         Deed::Announce => only_where(
             is_live_to(facts, author, subject)
                 && is_public_act(subject)
-                && !announces(facts, author, id),
+                && !facts.shares(author, id),
             State::Standing,
         ),
         Deed::Block => only_where(!facts.blocks(author, id) && id != author, State::Standing),

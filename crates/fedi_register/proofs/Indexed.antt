@@ -8,7 +8,7 @@ use Rattle.fedi_town.specs.declared.act.Act.{Act}
 use Rattle.fedi_town.specs.declared.effect.Effect.{Effect}
 use Rattle.fedi_town.specs.declared.effect.Effect.TheVariants as effects
 use Rattle.fedi_town.specs.declared.deed.Deed.{Deed}
-use Rattle.fedi_town.specs.Deeds.{is_block, is_create, is_follow}
+use Rattle.fedi_town.specs.Deeds.{is_create, is_follow}
 use Rattle.fedi_town.specs.Effects.{affect, end_follow, in_state, is_pending_follow, is_standing_activity, where_passes}
 use Rattle.fedi_objects.specs.declared.kind.State.{State}
 use Rattle.fedi_objects.specs.declared.kind.State.TheVariants.{Accepted, Undone}
@@ -18,9 +18,10 @@ use Rattle.fedi_town.specs.Towns.{deed, is_by}
 use Rattle.fedi_objects.specs.declared.activity.ObjectRef.{ObjectRef}
 use Rattle.fedi_objects.specs.declared.activity.ObjectRef.TheVariants.{Nothing, Id, Whole, Changed}
 use Rattle.fedi_objects.specs.declared.object.Object.{Object}
-use Rattle.fedi_register.specs.declared.register.Author.{Author}
-use Rattle.fedi_register.specs.Marks.{Mark}
-use Rattle.fedi_register.specs.Registers.{CountsOne, IsIndexed, SameCounts, asks_to_follow, count_by, is_keyed, is_making, keeps_away, key_mark, marks_from, object_mark, places_from, ref_mark}
+use Rattle.fedi_register.specs.declared.authors.Author.{Author}
+use Rattle.fedi_register.specs.Authors.{CountsOne, SameCounts, count_in}
+use Rattle.fedi_register.specs.Marks.{Mark, marks_from}
+use Rattle.fedi_register.specs.Registers.{IsIndexed, asks_to_follow, count_by, has_own_id, is_keyed, is_making, is_relation, key_mark, object_mark, own_mark, places_from, ref_mark, relates, relation_mark}
 
 -- ---- one more activity
 
@@ -43,28 +44,28 @@ places_pushed p acts x old new place passes at is before after =
     let from_none : 0 + length acts ≡ length acts = omega arith in
     rw (after, before, is, at) (sym (places-push p 0 acts x ∙ ap (λ (k : ℕ). places_from p 0 acts ++ (if p x then k ∷ [] else [])) from_none))
 
-marks-push : (p : Act → Bool) (mark : Act → ℕ) (n : ℕ) (acts : List Act) (x : Act)
-    → marks_from p mark n (acts ++ x ∷ []) ≡ marks_from p mark n acts ++ (if p x then record { mark = mark x; place = n + length acts } ∷ [] else [])
+marks-push : {A : Type 0} (p : A → Bool) (mark : A → ℕ) (n : ℕ) (xs : List A) (x : A)
+    → marks_from p mark n (xs ++ x ∷ []) ≡ marks_from p mark n xs ++ (if p x then record { mark = mark x; place = n + length xs } ∷ [] else [])
 marks-push p mark n [] x = let here : n + 0 ≡ n = omega arith in rw here refl
-marks-push p mark n (y ∷ acts) x =
-    let further : suc n + length acts ≡ n + length (y ∷ acts) = omega arith in
+marks-push {A} p mark n (y ∷ xs) x =
+    let further : suc n + length xs ≡ n + length (y ∷ xs) = omega arith in
     let new : ℕ → List Mark = λ k. if p x then record { mark = mark x; place = k } ∷ [] else [] in
-    let rest : marks_from p mark (suc n) (acts ++ x ∷ []) ≡ marks_from p mark (suc n) acts ++ new (n + length (y ∷ acts)) =
-    marks-push p mark (suc n) acts x ∙ ap (λ (k : ℕ). marks_from p mark (suc n) acts ++ new k) further in
+    let rest : marks_from p mark (suc n) (xs ++ x ∷ []) ≡ marks_from p mark (suc n) xs ++ new (n + length (y ∷ xs)) =
+    marks-push p mark (suc n) xs x ∙ ap (λ (k : ℕ). marks_from p mark (suc n) xs ++ new k) further in
     let own : Mark = record { mark = mark y; place = n } in
-    elim (p y) as (λ b. (if b then own ∷ marks_from p mark (suc n) (acts ++ x ∷ []) else marks_from p mark (suc n) (acts ++ x ∷ []))
-    ≡ (if b then own ∷ marks_from p mark (suc n) acts else marks_from p mark (suc n) acts) ++ new (n + length (y ∷ acts))) [
+    elim (p y) as (λ b. (if b then own ∷ marks_from p mark (suc n) (xs ++ x ∷ []) else marks_from p mark (suc n) (xs ++ x ∷ []))
+    ≡ (if b then own ∷ marks_from p mark (suc n) xs else marks_from p mark (suc n) xs) ++ new (n + length (y ∷ xs))) [
       | true ↦ ap (λ (marks : List Mark). own ∷ marks) rest
       | false ↦ rest
     ]
 
-pub marks_pushed : (p : Act → Bool) (mark : Act → ℕ) (acts : List Act) (x : Act) (old new : List Mark) (place own : ℕ) (passes : Bool) → place ≡ length acts
-    → passes ≡ p x → own ≡ mark x → old ≡ marks_from p mark 0 acts → new ≡ old ++ (if passes then record { mark = own; place = place } ∷ [] else [])
-    → new ≡ marks_from p mark 0 (acts ++ x ∷ [])
-marks_pushed p mark acts x old new place own passes at is marked before after =
-    let from_none : 0 + length acts ≡ length acts = omega arith in
+pub marks_pushed : {A : Type 0} (p : A → Bool) (mark : A → ℕ) (xs : List A) (x : A) (old new : List Mark) (place own : ℕ) (passes : Bool) → place ≡ length xs
+    → passes ≡ p x → own ≡ mark x → old ≡ marks_from p mark 0 xs → new ≡ old ++ (if passes then record { mark = own; place = place } ∷ [] else [])
+    → new ≡ marks_from p mark 0 (xs ++ x ∷ [])
+marks_pushed p mark xs x old new place own passes at is marked before after =
+    let from_none : 0 + length xs ≡ length xs = omega arith in
     rw (after, before, is, at, marked)
-    (sym (marks-push p mark 0 acts x ∙ ap (λ (k : ℕ). marks_from p mark 0 acts ++ (if p x then record { mark = mark x; place = k } ∷ [] else [])) from_none))
+    (sym (marks-push p mark 0 xs x ∙ ap (λ (k : ℕ). marks_from p mark 0 xs ++ (if p x then record { mark = mark x; place = k } ∷ [] else [])) from_none))
 
 count-push : (id : List ℕ) (acts : List Act) (x : Act) → count_by (acts ++ x ∷ []) id ≡ count_by acts id + (if bytes_eq x.author id then 1 else 0)
 unfolding is_by
@@ -73,16 +74,10 @@ count-push id acts x =
     ∙ length-append (filter (is_by id) acts) (filter (is_by id) (x ∷ []))
     ∙ elim (bytes_eq x.author id) as (λ b. count_by acts id + length (if b then x ∷ [] else []) ≡ count_by acts id + (if b then 1 else 0)) [ true ↦ refl | false ↦ refl ]
 
-pub indexed_pushed : (acts : List Act) (x : Act) (f b f' b' : List ℕ) (k m k' m' : List Mark) (authors authors' : List Author) → IsIndexed acts f b k m authors
-    → f' ≡ places_from asks_to_follow 0 (acts ++ x ∷ []) → b' ≡ places_from keeps_away 0 (acts ++ x ∷ []) → k' ≡ marks_from is_keyed key_mark 0 (acts ++ x ∷ [])
-    → m' ≡ marks_from is_making object_mark 0 (acts ++ x ∷ []) → CountsOne authors authors' x.author → IsIndexed (acts ++ x ∷ []) f' b' k' m' authors'
-indexed_pushed acts x f b f' b' k m k' m' authors authors' h follows blocks keyed made counts = record {
-  made = made;
-  follows = follows;
-  blocks = blocks;
-  keyed = keyed;
-  count = λ id. counts.count id ∙ ap (λ (n : ℕ). n + (if bytes_eq x.author id then 1 else 0)) (h.count id) ∙ sym (count-push id acts x);
-}
+pub count_pushed : (acts : List Act) (x : Act) (authors authors' : List Author) → ((id : List ℕ) → count_in authors id ≡ count_by acts id) → CountsOne authors authors' x.author
+    → (id : List ℕ) → count_in authors' id ≡ count_by (acts ++ x ∷ []) id
+count_pushed acts x authors authors' h counts id =
+    counts.count id ∙ ap (λ (n : ℕ). n + (if bytes_eq x.author id then 1 else 0)) (h id) ∙ sym (count-push id acts x)
 
 -- ---- what is affected
 
@@ -91,20 +86,21 @@ pub record IsAlike (x y : Act) : Type 0 where
   pub author : y.author ≡ x.author
   pub deed : deed y ≡ deed x
   pub repeat : y.repeat ≡ x.repeat
+  pub id : y.activity.id ≡ x.activity.id
   pub about : ref_id y.activity.object ≡ ref_id x.activity.object
 
 alike : (y : Act) → IsAlike y y
-alike y = record { author = refl; deed = refl; repeat = refl; about = refl }
+alike y = record { author = refl; deed = refl; repeat = refl; id = refl; about = refl }
 
 then-alike : (x y z : Act) → IsAlike x y → IsAlike y z → IsAlike x z
-then-alike x y z h k = record { author = k.author ∙ h.author; deed = k.deed ∙ h.deed; repeat = k.repeat ∙ h.repeat; about = k.about ∙ h.about }
+then-alike x y z h k = record { author = k.author ∙ h.author; deed = k.deed ∙ h.deed; repeat = k.repeat ∙ h.repeat; id = k.id ∙ h.id; about = k.about ∙ h.about }
 
 where-alike : (p : Act → Bool) (f : Act → Act) (y : Act) → IsAlike y (f y) → IsAlike y (where_passes p f y)
 where-alike p f y h = elim (p y) as (λ b. IsAlike y (if b then f y else y)) [ true ↦ h | false ↦ alike y ]
 
 end-alike : (a b : List ℕ) (s : State) (y : Act) → IsAlike y (end_follow a b s y)
 unfolding end_follow
-end-alike a b s y = where-alike (is_open_follow a b) (in_state s) y (record { author = refl; deed = refl; repeat = refl; about = refl })
+end-alike a b s y = where-alike (is_open_follow a b) (in_state s) y (record { author = refl; deed = refl; repeat = refl; id = refl; about = refl })
 
 changed-about : (f : Object → Object) → ((o : Object) → (f o).id ≡ o.id) → (r : ObjectRef) → ref_id (rewrite_ref f r) ≡ ref_id r
 changed-about f same Nothing = refl
@@ -132,12 +128,12 @@ buried-about kind stamp r = changed-about (tombstone_of kind stamp) (buried-id k
 affected-alike : (e : Effect) (y : Act) → IsAlike y (affect e y)
 unfolding rewrite_act
 affected-alike effects.Nothing y = alike y
-affected-alike (effects.Update id by stamp) y = where-alike (makes id) (rewrite_act (update_object by stamp)) y (record { author = refl; deed = refl; repeat = refl; about = updated-about by stamp y.activity.object })
-affected-alike (effects.Delete id kind stamp) y = where-alike (makes id) (rewrite_act (tombstone_of kind stamp)) y (record { author = refl; deed = refl; repeat = refl; about = buried-about kind stamp y.activity.object })
-affected-alike (effects.Accept id) y = where-alike (is_pending_follow id) (in_state Accepted) y (record { author = refl; deed = refl; repeat = refl; about = refl })
+affected-alike (effects.Update id by stamp) y = where-alike (makes id) (rewrite_act (update_object by stamp)) y (record { author = refl; deed = refl; repeat = refl; id = refl; about = updated-about by stamp y.activity.object })
+affected-alike (effects.Delete id kind stamp) y = where-alike (makes id) (rewrite_act (tombstone_of kind stamp)) y (record { author = refl; deed = refl; repeat = refl; id = refl; about = buried-about kind stamp y.activity.object })
+affected-alike (effects.Accept id) y = where-alike (is_pending_follow id) (in_state Accepted) y (record { author = refl; deed = refl; repeat = refl; id = refl; about = refl })
 affected-alike (effects.EndFollows a b s) y = end-alike a b s y
 affected-alike (effects.EndBoth a b) y = then-alike y (end_follow b a Undone y) (end_follow a b Undone (end_follow b a Undone y)) (end-alike b a Undone y) (end-alike a b Undone (end_follow b a Undone y))
-affected-alike (effects.Undo id) y = where-alike (is_standing_activity id) (in_state Undone) y (record { author = refl; deed = refl; repeat = refl; about = refl })
+affected-alike (effects.Undo id) y = where-alike (is_standing_activity id) (in_state Undone) y (record { author = refl; deed = refl; repeat = refl; id = refl; about = refl })
 
 places-mapped : (p : Act → Bool) (f : Act → Act) → ((x : Act) → p (f x) ≡ p x) → (n : ℕ) (acts : List Act) → places_from p n (map f acts) ≡ places_from p n acts
 places-mapped p f same n [] = refl
@@ -172,9 +168,21 @@ follows-alike : (e : Effect) (x : Act) → asks_to_follow (affect e x) ≡ asks_
 unfolding asks_to_follow
 follows-alike e x = ap (λ (d : Deed). is_follow d) (affected-alike e x).deed
 
-blocks-alike : (e : Effect) (x : Act) → keeps_away (affect e x) ≡ keeps_away x
-unfolding keeps_away
-blocks-alike e x = ap (λ (d : Deed). is_block d) (affected-alike e x).deed
+own-alike : (e : Effect) (x : Act) → has_own_id (affect e x) ≡ has_own_id x
+unfolding has_own_id
+own-alike e x = ap (λ (o : Option (List ℕ)). is_some o) (affected-alike e x).id
+
+own_mark-alike : (e : Effect) (x : Act) → own_mark (affect e x) ≡ own_mark x
+unfolding own_mark
+own_mark-alike e x = ap (λ (o : Option (List ℕ)). ref_mark o) (affected-alike e x).id
+
+relates-alike : (e : Effect) (x : Act) → relates (affect e x) ≡ relates x
+unfolding relates
+relates-alike e x = ap (λ (d : Deed). is_relation d) (affected-alike e x).deed
+
+relation-alike : (e : Effect) (x : Act) → relation_mark (affect e x) ≡ relation_mark x
+unfolding relation_mark
+relation-alike e x = rw ((affected-alike e x).author, (affected-alike e x).about) refl
 
 keyed-alike : (e : Effect) (x : Act) → is_keyed (affect e x) ≡ is_keyed x
 unfolding is_keyed
@@ -184,15 +192,19 @@ by-alike : (id : List ℕ) (e : Effect) (x : Act) → is_by id (affect e x) ≡ 
 unfolding is_by
 by-alike id e x = ap (λ (author : List ℕ). bytes_eq author id) (affected-alike e x).author
 
-pub indexed_affected : (e : Effect) (acts : List Act) (f b : List ℕ) (k m : List Mark) (authors : List Author) → IsIndexed acts f b k m authors → IsIndexed (map (affect e) acts) f b k m authors
-indexed_affected e acts f b k m authors h = record {
-  made = h.made ∙ sym (marks-mapped is_making object_mark (affect e) (making-alike e) (mark-alike e) 0 acts);
-  follows = h.follows ∙ sym (places-mapped asks_to_follow (affect e) (follows-alike e) 0 acts);
-  blocks = h.blocks ∙ sym (places-mapped keeps_away (affect e) (blocks-alike e) 0 acts);
-  keyed = h.keyed ∙ sym (marks-mapped is_keyed key_mark (affect e) (keyed-alike e) (key-alike e) 0 acts);
+pub indexed_affected : (e : Effect) (acts : List Act) (f : List ℕ) (k m i p : List Mark) (authors : List Author) → IsIndexed acts f k m i p authors
+    → IsIndexed (map (affect e) acts) f k m i p authors
+indexed_affected e acts f k m i p authors h = record {
+  follow = h.follow ∙ sym (places-mapped asks_to_follow (affect e) (follows-alike e) 0 acts);
+  key = h.key ∙ sym (marks-mapped is_keyed key_mark (affect e) (keyed-alike e) (key-alike e) 0 acts);
+  object = h.object ∙ sym (marks-mapped is_making object_mark (affect e) (making-alike e) (mark-alike e) 0 acts);
+  id = h.id ∙ sym (marks-mapped has_own_id own_mark (affect e) (own-alike e) (own_mark-alike e) 0 acts);
+  pair = h.pair ∙ sym (marks-mapped relates relation_mark (affect e) (relates-alike e) (relation-alike e) 0 acts);
   count = λ id. h.count id ∙ sym (count-mapped (is_by id) (affect e) (by-alike id e) acts);
 }
 
 -- where the authors count the same
-pub indexed_known : (acts : List Act) (f b : List ℕ) (k m : List Mark) (old new : List Author) → IsIndexed acts f b k m old → SameCounts old new → IsIndexed acts f b k m new
-indexed_known acts f b k m old new h same = record { made = h.made; follows = h.follows; blocks = h.blocks; keyed = h.keyed; count = λ id. same.count id ∙ h.count id }
+pub indexed_known : (acts : List Act) (f : List ℕ) (k m i p : List Mark) (old new : List Author) → IsIndexed acts f k m i p old → SameCounts old new
+    → IsIndexed acts f k m i p new
+indexed_known acts f k m i p old new h same =
+    record { follow = h.follow; key = h.key; object = h.object; id = h.id; pair = h.pair; count = λ id. same.count id ∙ h.count id }

@@ -31,7 +31,7 @@ map-once {A} p f (x ∷ xs) once any d =
       | false ↦ λ e. let k : 1 + position_or_len p xs ≡ suc (position_or_len p xs) = omega arith in rw (e, k) (ap (λ (ys : List A). x ∷ ys) (map-once p f xs once.1 (rw e at any) d))
     ] refl
 
-lt_step : (k n : ℕ) → ltb (1 + k) (suc n) ≡ ltb k n
+pub lt_step : (k n : ℕ) → ltb (1 + k) (suc n) ≡ ltb k n
 lt_step k n =
     elim (ltb k n) as (λ b. ltb k n ≡ b → ltb (1 + k) (suc n) ≡ b) [
       | true ↦ λ e. lt-ltb (1 + k) (suc n) (omega (arith, ltb-true k n e))

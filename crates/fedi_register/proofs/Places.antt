@@ -1,151 +1,119 @@
--- What is found at the places of those that may pass is what is found among all.
-use Rattle.std.proofs.Common.{◌≡◌, ℕ, suc, Bool, true, false, List, [], ◌∷◌, ◌++◌, Option, Some, None, refl, sym, ap, subst, ◌∙◌, append_assoc, eq-eqb, length}
-use Rattle.std.specs.Prelude.{◌&&◌, nat_eq, is_some, option_map, slice_get, if◌then◌else◌}
-use Rattle.std.specs.List.{find, fold, list_any}
+-- What is looked up is marked so that it is found, and what is gathered at places is what is gathered among all.
+use Rattle.std.proofs.Common.{◌≡◌, ℕ, suc, Bool, true, false, List, [], ◌∷◌, ◌++◌, Option, Some, None, refl, ap, subst, ◌∙◌, append_assoc, length}
+use Rattle.std.specs.Prelude.{◌&&◌, is_some, option_map, slice_get, if◌then◌else◌}
+use Rattle.std.specs.List.{fold}
 use Rattle.std.specs.Str.{bytes_eq}
 use Rattle.std.proofs.lemmas.Bool.{and_parts}
 use Rattle.std.proofs.lemmas.Slice.Eq.{bytes_eq-Decides}
 use Rattle.fedi_town.specs.declared.act.Act.{Act}
-use Rattle.fedi_town.specs.Deeds.{is_create, is_done}
-use Rattle.fedi_town.specs.Objects.{makes}
-use Rattle.fedi_town.specs.Relations.{is_about, is_block_of, is_follow_of, is_following, is_id, ref_id}
-use Rattle.fedi_town.specs.Towns.{deed, is_by}
+use Rattle.fedi_town.specs.declared.deed.Deed.{Deed}
+use Rattle.fedi_town.specs.declared.deed.Deed.TheVariants.{Follow, Like, Announce, Block}
+use Rattle.fedi_town.specs.Deeds.{is_accepted, is_announce, is_block, is_create, is_done, is_follow, is_like, is_open, is_standing}
 use Rattle.fedi_town.specs.Legal.{has_key}
-use Rattle.fedi_register.specs.declared.register.Author.{Author}
-use Rattle.fedi_register.specs.Marks.{Mark, first_place}
+use Rattle.fedi_town.specs.Objects.{makes}
+use Rattle.fedi_town.specs.Relations.{has_activity_id, is_about, is_block_of, is_follow_of, is_following, is_id, is_open_follow, ref_id}
+use Rattle.fedi_town.specs.States.{is_announce_of, is_like_of}
+use Rattle.fedi_town.specs.Towns.{deed, is_by}
+use Rattle.fedi_register.specs.Authors.{author_mark, is_author}
 use Rattle.fedi_register.specs.Following.{with_follower}
 use Rattle.fedi_register.specs.Keys.{is_repeat}
+use Rattle.fedi_register.specs.Marks.{every, mark_of, mark_of_pair}
+use Rattle.fedi_register.specs.Registers.{IsNarrower, asks_to_follow, follower_in, has_own_id, is_keyed, is_making, is_relation, key_mark, object_mark, own_mark, pair_mark, places_from, ref_mark, relates, relates_to, relation_mark, with_follower_at}
 use Rattle.fedi_register.proofs.Chains.{got_at, longer}
-use Rattle.fedi_register.specs.Registers.{IsIndexed, asks_to_follow, follower_in, is_keyed, is_making, is_there, key_mark, keeps_away, mark_of, marks_from, object_mark, passes_at, places_from, ref_mark, with_follower_at}
+use Rattle.fedi_register.proofs.Found.{IsMarkedSo}
 
--- ---- whether one passes
+-- ---- marks
 
-any-after : (p q : Act → Bool) → ((x : Act) → p x ≡ false → q x ≡ false) → (before xs : List Act)
-    → list_any (λ place. is_there q (slice_get (before ++ xs) place)) (places_from p (length before) xs) ≡ list_any q xs
-any-after p q fails before [] = refl
-any-after p q fails before (x ∷ xs) =
-    let rest : list_any (λ place. is_there q (slice_get (before ++ x ∷ xs) place)) (places_from p (suc (length before)) xs) ≡ list_any q xs =
-    subst (λ (all : List Act). list_any (λ place. is_there q (slice_get all place)) (places_from p (suc (length before)) xs) ≡ list_any q xs) (append_assoc before (x ∷ []) xs)
-    (subst (λ (n : ℕ). list_any (λ place. is_there q (slice_get ((before ++ x ∷ []) ++ xs) place)) (places_from p n xs) ≡ list_any q xs) (longer before x)
-    (any-after p q fails (before ++ x ∷ []) xs)) in
-    elim (p x) as (λ b. p x ≡ b → list_any (λ place. is_there q (slice_get (before ++ x ∷ xs) place))
-    (if b then length before ∷ places_from p (suc (length before)) xs else places_from p (suc (length before)) xs) ≡ list_any q (x ∷ xs)) [
-      | true ↦ λ e. rw (got_at before x xs, rest) refl
-      | false ↦ λ e. rw (rest, fails x e) refl
-    ] refl
+is_equal : (a b : List ℕ) → bytes_eq a b ≡ true → a ≡ b
+is_equal a b e = (bytes_eq-Decides a b).0 e
 
-blocks_stand : (a b : List ℕ) (x : Act) → keeps_away x ≡ false → is_block_of a b x ≡ false
-unfolding keeps_away is_block_of
-blocks_stand a b x none = rw none refl
+-- what passes a further test too is marked the same
+pub marked_narrower : {A : Type 0} (p q r : A → Bool) (mark : A → ℕ) (n : ℕ) → IsMarkedSo p mark n q → ((x : A) → r x ≡ true → q x ≡ true) → IsMarkedSo p mark n r
+marked_narrower p q r mark n so narrow = λ x is. so x (narrow x is)
 
-pub blocks_found : (a b : List ℕ) (acts : List Act) (follows places : List ℕ) (keyed made : List Mark) (authors : List Author) → IsIndexed acts follows places keyed made authors
-    → list_any (passes_at (is_block_of a b) acts) places ≡ list_any (is_block_of a b) acts
-unfolding passes_at
-blocks_found a b acts follows places keyed made authors h = rw h.blocks (any-after keeps_away (is_block_of a b) (blocks_stand a b) [] acts)
+-- an id is there, and marked so
+id_marked : (id : List ℕ) (own : Option (List ℕ)) → is_id id own ≡ true → (is_some own ≡ true) × (ref_mark own ≡ mark_of id)
+id_marked id None is = absurd cc
+id_marked id (Some own) is = (refl, ap mark_of (is_equal own id is))
 
-follows_stand : (a b : List ℕ) (x : Act) → asks_to_follow x ≡ false → is_follow_of a b x ≡ false
-unfolding asks_to_follow is_follow_of
-follows_stand a b x none = rw none refl
+pub own_marked : (id : List ℕ) → IsMarkedSo has_own_id own_mark (mark_of id) (has_activity_id id)
+unfolding has_activity_id has_own_id own_mark
+own_marked id x is = id_marked id x.activity.id is
 
-pub follows_found : (a b : List ℕ) (acts : List Act) (places blocks : List ℕ) (keyed made : List Mark) (authors : List Author) → IsIndexed acts places blocks keyed made authors
-    → list_any (passes_at (is_follow_of a b) acts) places ≡ list_any (is_follow_of a b) acts
-unfolding passes_at
-follows_found a b acts places blocks keyed made authors h = rw h.follows (any-after asks_to_follow (is_follow_of a b) (follows_stand a b) [] acts)
+pub made_marked : (id : List ℕ) → IsMarkedSo is_making object_mark (mark_of id) (makes id)
+unfolding is_making makes is_about object_mark
+made_marked id x is =
+    let parts = and_parts (is_create (deed x) && is_done x.state) (is_id id (ref_id x.activity.object)) is in
+    ((and_parts (is_create (deed x)) (is_done x.state) parts.0).0, (id_marked id (ref_id x.activity.object) parts.1).1)
 
--- ---- the first that passes and is marked
-
--- the activity at the place that was found
-abbrev pub act_found : List Act → Option ℕ → Option Act
-act_found acts None = None
-act_found acts (Some place) = slice_get acts place
-
--- where q passes the mark is this
-abbrev IsMarkedBy : (Act → ℕ) → ℕ → (Act → Bool) → Type 0
-IsMarkedBy mark n q = (x : Act) → (nat_eq (mark x) n && q x) ≡ q x
-
-first-marked : (passes : Bool) (all : List Act) (x : Act) (place : ℕ) (later : Option ℕ) (others : Option Act) (at : Bool) → at ≡ passes
-    → slice_get all place ≡ Some x → act_found all later ≡ others → act_found all (if at then Some place else later) ≡ (if passes then Some x else others)
-first-marked passes all x place later others at same got rest =
-    subst (λ (b : Bool). act_found all (if at then Some place else later) ≡ (if b then Some x else others)) same
-    (elim at as (λ b. act_found all (if b then Some place else later) ≡ (if b then Some x else others)) [ true ↦ got | false ↦ rest ])
-
-find-marked : (p q : Act → Bool) (mark : Act → ℕ) (n : ℕ) → ((x : Act) → p x ≡ false → q x ≡ false) → IsMarkedBy mark n q → (before xs : List Act)
-    → act_found (before ++ xs) (first_place (passes_at q (before ++ xs)) n (marks_from p mark (length before) xs)) ≡ find q xs
-unfolding passes_at
-find-marked p q mark n fails by before [] = refl
-find-marked p q mark n fails by before (x ∷ xs) =
-    let first : List Act → ℕ → Option ℕ = λ all k. first_place (passes_at q all) n (marks_from p mark k xs) in
-    let found : List Act → ℕ → Option Act = λ all k. act_found all (first all k) in
-    let rest : found (before ++ x ∷ xs) (suc (length before)) ≡ find q xs =
-    subst (λ (all : List Act). found all (suc (length before)) ≡ find q xs) (append_assoc before (x ∷ []) xs)
-    (subst (λ (k : ℕ). found ((before ++ x ∷ []) ++ xs) k ≡ find q xs) (longer before x) (find-marked p q mark n fails by (before ++ x ∷ []) xs)) in
-    let at : Bool = nat_eq (mark x) n && passes_at q (before ++ x ∷ xs) (length before) in
-    let here : at ≡ q x = ap (λ (o : Option Act). nat_eq (mark x) n && is_there q o) (got_at before x xs) ∙ by x in
-    elim (p x) as (λ b. p x ≡ b → act_found (before ++ x ∷ xs) (first_place (passes_at q (before ++ x ∷ xs)) n
-    (if b then record { mark = mark x; place = length before } ∷ marks_from p mark (suc (length before)) xs else marks_from p mark (suc (length before)) xs)) ≡ find q (x ∷ xs)) [
-      | true ↦ λ e. first-marked (q x) (before ++ x ∷ xs) x (length before) (first (before ++ x ∷ xs) (suc (length before))) (find q xs) at here (got_at before x xs) rest
-      | false ↦ λ e. rest ∙ ap (λ (b : Bool). if b then Some x else find q xs) (sym (fails x e))
-    ] refl
-
-and_none : (a : Bool) → (a && false) ≡ false
-and_none true = refl
-and_none false = refl
-
--- what passes has the mark of what is looked up
-marked_where : (b c : Bool) → (c ≡ true → b ≡ true) → (b && c) ≡ c
-marked_where b true marked = rw (marked refl) refl
-marked_where b false marked = and_none b
-
-same_mark : (own text : List ℕ) → bytes_eq own text ≡ true → nat_eq (mark_of own) (mark_of text) ≡ true
-same_mark own text is =
-    subst (λ (other : List ℕ). nat_eq (mark_of own) (mark_of other) ≡ true) ((bytes_eq-Decides own text).0 is) (eq-eqb (mark_of own) (mark_of own) refl)
-
--- ---- what made an object
-
-about_marked : (id : List ℕ) (own : Option (List ℕ)) → is_id id own ≡ true → nat_eq (ref_mark own) (mark_of id) ≡ true
-about_marked id None is = absurd cc
-about_marked id (Some own) is = same_mark own id is
-
-makes_marked : (id : List ℕ) → IsMarkedBy object_mark (mark_of id) (makes id)
-unfolding makes is_about object_mark
-makes_marked id x =
-    marked_where (nat_eq (ref_mark (ref_id x.activity.object)) (mark_of id)) ((is_create (deed x) && is_done x.state) && is_id id (ref_id x.activity.object))
-    (λ e. about_marked id (ref_id x.activity.object) (and_parts (is_create (deed x) && is_done x.state) (is_id id (ref_id x.activity.object)) e).1)
-
-makes_making : (id : List ℕ) (x : Act) → is_making x ≡ false → makes id x ≡ false
-unfolding is_making makes
-makes_making id x none = rw none refl
-
-pub maker_found : (id : List ℕ) (n : ℕ) (acts : List Act) (follows blocks : List ℕ) (keyed made : List Mark) (authors : List Author)
-    → IsIndexed acts follows blocks keyed made authors → n ≡ mark_of id → act_found acts (first_place (passes_at (makes id) acts) n made) ≡ find (makes id) acts
-maker_found id n acts follows blocks keyed made authors h is =
-    rw (h.made, is) (find-marked is_making (makes id) object_mark (mark_of id) (makes_making id) (makes_marked id) [] acts)
-
--- ---- what was posted under a key
-
-key_marked : (key : List ℕ) (pair : Option (List ℕ × List ℕ)) → has_key key pair ≡ true → nat_eq (ref_mark (option_map (λ r. r.0) pair)) (mark_of key) ≡ true
+key_marked : (key : List ℕ) (pair : Option (List ℕ × List ℕ)) → has_key key pair ≡ true → (is_some pair ≡ true) × (ref_mark (option_map (λ r. r.0) pair) ≡ mark_of key)
 key_marked key None is = absurd cc
-key_marked key (Some pair) is = same_mark pair.0 key is
+key_marked key (Some pair) is = (refl, ap mark_of (is_equal pair.0 key is))
 
-repeats_marked : (author key : List ℕ) → IsMarkedBy key_mark (mark_of key) (is_repeat author key)
-unfolding is_repeat key_mark
-repeats_marked author key x =
-    marked_where (nat_eq (ref_mark (option_map (λ r. r.0) x.repeat)) (mark_of key)) (is_by author x && has_key key x.repeat)
-    (λ e. key_marked key x.repeat (and_parts (is_by author x) (has_key key x.repeat) e).1)
+pub repeat_marked : (author key : List ℕ) → IsMarkedSo is_keyed key_mark (mark_of key) (is_repeat author key)
+unfolding is_keyed is_repeat key_mark
+repeat_marked author key x is = key_marked key x.repeat (and_parts (is_by author x) (has_key key x.repeat) is).1
 
-without_key : (author key : List ℕ) (x : Act) (pair : Option (List ℕ × List ℕ)) → is_some pair ≡ false → (is_by author x && has_key key pair) ≡ false
-without_key author key x None e = and_none (is_by author x)
-without_key author key x (Some pair) e = absurd cc
+pub author_marked : (id : List ℕ) → IsMarkedSo every author_mark (mark_of id) (is_author id)
+unfolding is_author author_mark
+author_marked id a is = (refl, ap mark_of (is_equal a.id id is))
 
-repeats_keyed : (author key : List ℕ) (x : Act) → is_keyed x ≡ false → is_repeat author key x ≡ false
-unfolding is_keyed is_repeat
-repeats_keyed author key x none = without_key author key x x.repeat none
+about_marked : (a b : List ℕ) (about : Option (List ℕ)) → is_id b about ≡ true → pair_mark a about ≡ mark_of_pair a b
+about_marked a b None is = absurd cc
+about_marked a b (Some id) is = ap (λ (own : List ℕ). mark_of_pair a own) (is_equal id b is)
 
-pub repeat_found : (author key : List ℕ) (n : ℕ) (acts : List Act) (follows blocks : List ℕ) (keyed made : List Mark) (authors : List Author)
-    → IsIndexed acts follows blocks keyed made authors → n ≡ mark_of key
-    → act_found acts (first_place (passes_at (is_repeat author key) acts) n keyed) ≡ find (is_repeat author key) acts
-repeat_found author key n acts follows blocks keyed made authors h is =
-    rw (h.keyed, is) (find-marked is_keyed (is_repeat author key) key_mark (mark_of key) (repeats_keyed author key) (repeats_marked author key) [] acts)
+pub relation_marked : (a b : List ℕ) → IsMarkedSo relates relation_mark (mark_of_pair a b) (relates_to a b)
+unfolding relates_to relation_mark is_by is_about
+relation_marked a b x is =
+    let parts = and_parts (relates x) (bytes_eq x.author a && is_id b (ref_id x.activity.object)) is in
+    let both = and_parts (bytes_eq x.author a) (is_id b (ref_id x.activity.object)) parts.1 in
+    (parts.0, ap (λ (author : List ℕ). pair_mark author (ref_id x.activity.object)) (is_equal x.author a both.0) ∙ about_marked a b (ref_id x.activity.object) both.1)
+
+-- ---- relations
+
+-- what does one of these and relates the two is a relation of the two
+relating : (a b : List ℕ) (x : Act) (does stands : Bool) → (does ≡ true → is_relation (deed x) ≡ true) → ((does && stands) && (is_by a x && is_about b x)) ≡ true
+    → relates_to a b x ≡ true
+unfolding relates_to relates
+relating a b x does stands relation is =
+    let parts = and_parts (does && stands) (is_by a x && is_about b x) is in
+    rw (relation (and_parts does stands parts.0).0) parts.1
+
+follow_relates : (d : Deed) → is_follow d ≡ true → is_relation d ≡ true
+follow_relates Follow is = refl
+follow_relates d is = absurd cc
+
+like_relates : (d : Deed) → is_like d ≡ true → is_relation d ≡ true
+like_relates Like is = refl
+like_relates d is = absurd cc
+
+announce_relates : (d : Deed) → is_announce d ≡ true → is_relation d ≡ true
+announce_relates Announce is = refl
+announce_relates d is = absurd cc
+
+block_relates : (d : Deed) → is_block d ≡ true → is_relation d ≡ true
+block_relates Block is = refl
+block_relates d is = absurd cc
+
+pub follows_narrower : (a b : List ℕ) → IsNarrower (is_follow_of a b) (relates_to a b)
+unfolding is_follow_of
+follows_narrower a b x is = relating a b x (is_follow (deed x)) (is_accepted x.state) (follow_relates (deed x)) is
+
+pub open_narrower : (a b : List ℕ) → IsNarrower (is_open_follow a b) (relates_to a b)
+unfolding is_open_follow
+open_narrower a b x is = relating a b x (is_follow (deed x)) (is_open x.state) (follow_relates (deed x)) is
+
+pub likes_narrower : (a b : List ℕ) → IsNarrower (is_like_of a b) (relates_to a b)
+unfolding is_like_of
+likes_narrower a b x is = relating a b x (is_like (deed x)) (is_standing x.state) (like_relates (deed x)) is
+
+pub shares_narrower : (a b : List ℕ) → IsNarrower (is_announce_of a b) (relates_to a b)
+unfolding is_announce_of
+shares_narrower a b x is = relating a b x (is_announce (deed x)) (is_standing x.state) (announce_relates (deed x)) is
+
+pub blocks_narrower : (a b : List ℕ) → IsNarrower (is_block_of a b) (relates_to a b)
+unfolding is_block_of
+blocks_narrower a b x is = relating a b x (is_block (deed x)) (is_standing x.state) (block_relates (deed x)) is
 
 -- ---- what is gathered
 
@@ -170,7 +138,7 @@ fold-after b found before (x ∷ xs) =
       | false ↦ λ e. rw (not_followed b found x e) (rest found)
     ] refl
 
-pub followers_found : (b : List ℕ) (found : List (List ℕ)) (acts : List Act) (places blocks : List ℕ) (keyed made : List Mark) (authors : List Author) → IsIndexed acts places blocks keyed made authors
+pub followers_found : (b : List ℕ) (found : List (List ℕ)) (acts : List Act) (places : List ℕ) → places ≡ places_from asks_to_follow 0 acts
     → fold (with_follower_at acts b) found places ≡ fold (with_follower b) found acts
 unfolding with_follower_at
-followers_found b found acts places blocks keyed made authors h = rw h.follows (fold-after b found [] acts)
+followers_found b found acts places are = rw are (fold-after b found [] acts)

@@ -1,5 +1,5 @@
 -- The chains in which marks stand.
-use Rattle.std.specs.Prelude.{◌≡◌, ℕ, zero, suc, ◌-◌, ◌%◌, ◌<◌, ◌≤◌, Bool, false, nat_eq, List, map, length, Option, None, Some, slice_get, slice_index, vec_len, vec_capacity, if◌then◌else◌}
+use Rattle.std.specs.Prelude.{◌≡◌, ℕ, zero, suc, ◌+◌, ◌%◌, ◌<◌, ◌≤◌, ◌^◌, Bool, false, nat_eq, List, map, length, Option, None, Some, slice_get, slice_index, vec_len, vec_capacity, if◌then◌else◌}
 use Rattle.fedi_register.specs.declared.marks.Step.{Step}
 use Rattle.fedi_register.specs.declared.marks.Marks.TheInside.{Inside}
 use Rattle.fedi_register.specs.Marks.{Mark, Marked}
@@ -8,39 +8,46 @@ use Rattle.fedi_register.specs.Marks.{Mark, Marked}
 abbrev pub mark_in : Step → Mark
 mark_in x = record { mark = x.mark; place = x.place }
 
--- the chain that a mark belongs to
-unfoldable pub chain_of : ℕ → ℕ
-chain_of mark = mark % 16384
+-- the chain, of so many, that a mark belongs to
+unfoldable pub chain_of : ℕ → ℕ → ℕ
+chain_of n mark = mark % n
 
--- there is a step, and it is of this chain
-abbrev pub is_of : ℕ → Option Step → Bool
-is_of chain None = false
-is_of chain (Some x) = nat_eq (chain_of x.mark) chain
+-- there is a mark, and it is of this chain
+abbrev pub is_of : ℕ → ℕ → Option Mark → Bool
+is_of n chain None = false
+is_of n chain (Some m) = nat_eq (chain_of n m.mark) chain
 
--- one more than the number of the newest of this chain among the first k steps, or 0 where there is none
-abbrev pub newest : ℕ → List Step → ℕ → ℕ
-newest chain steps zero = zero
-newest chain steps (suc k) = if is_of chain (slice_get steps k) then suc k else newest chain steps k
+-- one more than the number of the newest of this chain among the first k, or 0 where there is none
+abbrev pub newest : ℕ → ℕ → List Mark → ℕ → ℕ
+newest n chain marks zero = zero
+newest n chain marks (suc k) = if is_of n chain (slice_get marks k) then suc k else newest n chain marks k
 
 -- the step to which such a number leads
 abbrev pub step_before : List Step → ℕ → Option Step
 step_before steps zero = None
 step_before steps (suc k) = slice_get steps k
 
--- each step leads to the newest before it of its chain
-pub record IsChained (steps : List Step) : Type 0 where
-  pub before : (k : ℕ) (x : Step) → slice_get steps k ≡ Some x → x.before ≡ newest (chain_of x.mark) steps k
+-- the marks of the steps
+abbrev pub marks_of : List Step → List Mark
+marks_of steps = map mark_in steps
 
--- each chain begins at its newest step
-pub record HasHeads (steps : List Step) (heads : List ℕ) : Type 0 where
-  pub head : (chain : ℕ) → slice_index heads chain ≡ newest chain steps (length steps)
+-- each of the first k steps leads to the newest before it of its chain
+pub record IsChained (n : ℕ) (steps : List Step) (k : ℕ) : Type 0 where
+  pub before : (j : ℕ) (x : Step) → j < k → slice_get steps j ≡ Some x → x.before ≡ newest n (chain_of n x.mark) (marks_of steps) j
+
+-- each chain begins at its newest step among the first k
+pub record HasHeads (n : ℕ) (marks : List Mark) (heads : List ℕ) (k : ℕ) : Type 0 where
+  pub head : (chain : ℕ) → chain < n → slice_index heads chain ≡ newest n chain marks k
 
 -- the marks, as those see them who look up
 abbrev pub marked_in : Inside → Marked
-marked_in m = record { marks = map mark_in m.steps.items; room = vec_capacity m.steps - vec_len m.steps }
+marked_in m = record { marks = marks_of m.steps.items; room = m.room }
 
--- the steps stand in chains, and each chain has a head before there is room for a step
+-- the steps stand in chains, there is at least one chain where there is a step or room for one, and a number of a step fits its field
 abbrev pub AreMarks : Inside → Type 0
 AreMarks m =
-    IsChained m.steps.items × HasHeads m.steps.items m.heads.items
-    × (vec_len m.steps < vec_capacity m.steps → 16384 ≤ length m.heads.items)
+    IsChained (length m.heads.items) m.steps.items (length m.steps.items)
+    × HasHeads (length m.heads.items) (marks_of m.steps.items) m.heads.items (length m.steps.items)
+    × (0 < length m.steps.items + m.room → 0 < length m.heads.items)
+    × (length m.steps.items + m.room < 2 ^ 32)
+    × (vec_len m.steps + m.room ≤ vec_capacity m.steps)

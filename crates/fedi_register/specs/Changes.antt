@@ -1,10 +1,14 @@
 -- What becomes of one earlier activity, effect by effect.
-use Rattle.std.specs.Prelude.{ℕ, List}
+use Rattle.std.specs.Prelude.{ℕ, Bool, true, false, not, ◌&&◌, nat_lt, List, length, Option, Some, None, if◌then◌else◌}
+use Rattle.std.specs.List.{position_or_len}
+use Rattle.fedi_objects.specs.declared.kind.State.{State}
+use Rattle.fedi_objects.specs.declared.kind.State.TheVariants.{Plain, Done, Pending, Accepted, Rejected, Standing, Undone}
 use Rattle.fedi_town.specs.declared.act.Act.{Act}
 use Rattle.fedi_town.specs.declared.effect.Effect.TheVariants as effects
 use Rattle.fedi_town.specs.Effects.{affect}
 use Rattle.fedi_town.specs.Lists.{PassesOnce}
 use Rattle.fedi_town.specs.Objects.{makes}
+use Rattle.fedi_town.specs.Relations.{is_open_follow}
 
 -- after a Block
 unfoldable pub end_both : List ℕ → List ℕ → Act → Act
@@ -21,3 +25,24 @@ undo_one id y = affect (effects.Undo id) y
 -- no object was made twice
 abbrev pub AreMadeOnce : List Act → Type 0
 AreMadeOnce acts = (id : List ℕ) → PassesOnce (makes id) acts
+
+-- ---- one change after the other
+
+-- the place of the first that passes, where one passes
+abbrev pub place_where : {A : Type 0} → (A → Bool) → List A → Option ℕ
+place_where p xs = if nat_lt (position_or_len p xs) (length xs) then Some (position_or_len p xs) else None
+
+-- two states are the same
+abbrev pub is_state : State → State → Bool
+is_state Plain Plain = true
+is_state Done Done = true
+is_state Pending Pending = true
+is_state Accepted Accepted = true
+is_state Rejected Rejected = true
+is_state Standing Standing = true
+is_state Undone Undone = true
+is_state _ _ = false
+
+-- it is a Follow of b by a that waits or was accepted, and is in another state than this
+unfoldable pub is_unended : List ℕ → List ℕ → State → Act → Bool
+is_unended a b s y = is_open_follow a b y && not (is_state y.state s)

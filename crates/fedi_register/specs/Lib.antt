@@ -1,3 +1,4 @@
+pub mod Authors
 pub mod Chains
 pub mod Changes
 pub mod Following

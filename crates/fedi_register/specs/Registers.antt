@@ -1,15 +1,16 @@
 -- The accepted activities, with what is looked up among them.
-use Rattle.std.specs.Prelude.{◌≡◌, ℕ, suc, ◌+◌, ◌*◌, ◌%◌, ◌≤◌, Bool, false, List, [], ◌∷◌, map, filter, length, Option, Some, None, is_some, option_map, slice_get, vec_len, vec_capacity, if◌then◌else◌}
-use Rattle.std.specs.List.{find, fold}
-use Rattle.std.specs.Str.{bytes_eq}
+use Rattle.std.specs.Prelude.{◌≡◌, ℕ, suc, ◌+◌, ◌<◌, ◌≤◌, ◌^◌, Bool, true, false, ◌&&◌, List, [], ◌∷◌, filter, length, Option, Some, None, is_some, option_map, slice_get, vec_len, vec_capacity, if◌then◌else◌}
 use Rattle.fedi_town.specs.declared.act.Act.{Act}
-use Rattle.fedi_town.specs.Deeds.{is_block, is_create, is_follow}
-use Rattle.fedi_town.specs.Relations.{ref_id}
+use Rattle.fedi_town.specs.declared.deed.Deed.{Deed}
+use Rattle.fedi_town.specs.declared.deed.Deed.TheVariants.{Follow, Like, Announce, Block}
+use Rattle.fedi_town.specs.Deeds.{is_create, is_follow}
+use Rattle.fedi_town.specs.Relations.{is_about, ref_id}
 use Rattle.fedi_town.specs.Towns.{deed, is_by}
-use Rattle.fedi_register.specs.declared.register.Author.{Author}
+use Rattle.fedi_register.specs.declared.authors.Author.{Author}
 use Rattle.fedi_register.specs.declared.register.Register.TheInside.{Inside}
+use Rattle.fedi_register.specs.Authors.{count_in, ids_of}
 use Rattle.fedi_register.specs.Following.{with_follower}
-use Rattle.fedi_register.specs.Marks.{Mark}
+use Rattle.fedi_register.specs.Marks.{Mark, mark_of, mark_of_pair, marks_from}
 
 -- the activities, the authors who are known, and how many more activities there is room for
 pub record Registered : Type 0 where
@@ -22,10 +23,6 @@ pub record Registered : Type 0 where
 -- it asks to follow
 unfoldable pub asks_to_follow : Act → Bool
 asks_to_follow x = is_follow (deed x)
-
--- it keeps somebody away
-unfoldable pub keeps_away : Act → Bool
-keeps_away x = is_block (deed x)
 
 -- it was posted under a key
 unfoldable pub is_keyed : Act → Bool
@@ -42,14 +39,6 @@ places_from p n (x ∷ xs) = if p x then n ∷ places_from p (suc n) xs else pla
 unfoldable pub is_making : Act → Bool
 is_making x = is_create (deed x)
 
--- one more byte
-unfoldable pub mark_step : ℕ → ℕ → ℕ
-mark_step mark byte = (mark * 31 + byte) % 4294967296
-
--- a number for an id, by which most other ids are told apart
-unfoldable pub mark_of : List ℕ → ℕ
-mark_of id = fold mark_step 7 id
-
 -- the number for the id of what the activity is about
 abbrev pub ref_mark : Option (List ℕ) → ℕ
 ref_mark None = 0
@@ -63,22 +52,48 @@ object_mark x = ref_mark (ref_id x.activity.object)
 unfoldable pub key_mark : Act → ℕ
 key_mark x = ref_mark (option_map (λ r. r.0) x.repeat)
 
--- the marks of those that pass, where the first activity has this place
-abbrev pub marks_from : (Act → Bool) → (Act → ℕ) → ℕ → List Act → List Mark
-marks_from p mark n [] = []
-marks_from p mark n (x ∷ xs) =
-    if p x then record { mark = mark x; place = n } ∷ marks_from p mark (suc n) xs else marks_from p mark (suc n) xs
+-- ---- what has an id
 
--- ---- what is found at a place
+-- it has an id
+unfoldable pub has_own_id : Act → Bool
+has_own_id x = is_some x.activity.id
 
--- there is one, and it passes
-abbrev pub is_there : (Act → Bool) → Option Act → Bool
-is_there q None = false
-is_there q (Some x) = q x
+-- the number for its own id
+unfoldable pub own_mark : Act → ℕ
+own_mark x = ref_mark x.activity.id
 
--- what passes is at this place
-unfoldable pub passes_at : (Act → Bool) → List Act → ℕ → Bool
-passes_at q acts place = is_there q (slice_get acts place)
+-- ---- relations
+
+-- a Follow, a Like, an Announce or a Block: what is looked up by its author and what it is about
+abbrev pub is_relation : Deed → Bool
+is_relation Follow = true
+is_relation Like = true
+is_relation Announce = true
+is_relation Block = true
+is_relation _ = false
+
+-- it is one of these
+unfoldable pub relates : Act → Bool
+relates x = is_relation (deed x)
+
+-- the number for an author and what something is about
+abbrev pub pair_mark : List ℕ → Option (List ℕ) → ℕ
+pair_mark author None = 0
+pair_mark author (Some id) = mark_of_pair author id
+
+-- the number for the author of the activity and what it is about
+unfoldable pub relation_mark : Act → ℕ
+relation_mark x = pair_mark x.author (ref_id x.activity.object)
+
+-- it relates this author to this
+unfoldable pub relates_to : List ℕ → List ℕ → Act → Bool
+relates_to author id x = relates x && (is_by author x && is_about id x)
+
+-- what passes the one test passes the other
+abbrev pub IsNarrower : (Act → Bool) → (Act → Bool) → Type 0
+IsNarrower p q = (x : Act) → p x ≡ true → q x ≡ true
+
+-- ---- followers
 
 -- one more follower, where there is one
 abbrev pub follower_in : List ℕ → List (List ℕ) → Option Act → List (List ℕ)
@@ -91,31 +106,6 @@ with_follower_at acts b found place = follower_in b found (slice_get acts place)
 
 -- ---- authors
 
--- the author of this id
-unfoldable pub is_author : List ℕ → Author → Bool
-is_author id a = bytes_eq a.id id
-
--- what was counted, where something was
-abbrev pub count_found : Option Author → ℕ
-count_found None = 0
-count_found (Some a) = a.count
-
--- how many activities were counted of the author of this id
-unfoldable pub count_in : List Author → List ℕ → ℕ
-count_in authors id = count_found (find (is_author id) authors)
-
--- the ids of the authors
-abbrev pub ids_of : List Author → List (List ℕ)
-ids_of authors = map (λ a. a.id) authors
-
--- the same was counted of each author
-pub record SameCounts (old new : List Author) : Type 0 where
-  pub count : (id : List ℕ) → count_in new id ≡ count_in old id
-
--- of this author one more was counted
-pub record CountsOne (old new : List Author) (author : List ℕ) : Type 0 where
-  pub count : (id : List ℕ) → count_in new id ≡ count_in old id + (if bytes_eq author id then 1 else 0)
-
 -- how many of these activities are the author's
 abbrev pub count_by : List Act → List ℕ → ℕ
 count_by acts id = length (filter (is_by id) acts)
@@ -124,22 +114,25 @@ count_by acts id = length (filter (is_by id) acts)
 
 -- the register, as its callers see it
 abbrev pub registered_in : Inside → Registered
-registered_in r = record { acts = r.acts.items; known = ids_of r.authors.items; room = r.room }
+registered_in r = record { acts = r.acts.items; known = ids_of r.authors; room = r.room }
 
 -- each look-up finds what stands among the activities
-pub record IsIndexed (acts : List Act) (f b : List ℕ) (k m : List Mark) (authors : List Author) : Type 0 where
-  pub follows : f ≡ places_from asks_to_follow 0 acts
-  pub blocks : b ≡ places_from keeps_away 0 acts
-  pub keyed : k ≡ marks_from is_keyed key_mark 0 acts
-  pub made : m ≡ marks_from is_making object_mark 0 acts
+pub record IsIndexed (acts : List Act) (follows : List ℕ) (keyed made ids pairs : List Mark) (authors : List Author) : Type 0 where
+  pub follow : follows ≡ places_from asks_to_follow 0 acts
+  pub key : keyed ≡ marks_from is_keyed key_mark 0 acts
+  pub object : made ≡ marks_from is_making object_mark 0 acts
+  pub id : ids ≡ marks_from has_own_id own_mark 0 acts
+  pub pair : pairs ≡ marks_from relates relation_mark 0 acts
   pub count : (id : List ℕ) → count_in authors id ≡ count_by acts id
 
--- and there is room in each list
+-- and there is room in each list, and a place fits its field
 abbrev pub IsRegister : Inside → Type 0
 IsRegister r =
-    IsIndexed r.acts.items r.follows.items r.blocks.items r.keyed.marks r.made.marks r.authors.items
+    IsIndexed r.acts.items r.follows.items r.keyed.marks r.made.marks r.ids.marks r.pairs.marks r.authors
     × (vec_len r.acts + r.room ≤ vec_capacity r.acts)
+    × (vec_len r.acts + r.room < 2 ^ 32)
     × (vec_len r.follows + r.room ≤ vec_capacity r.follows)
-    × (vec_len r.blocks + r.room ≤ vec_capacity r.blocks)
     × (r.room ≤ r.keyed.room)
     × (r.room ≤ r.made.room)
+    × (r.room ≤ r.ids.room)
+    × (r.room ≤ r.pairs.room)

@@ -3,6 +3,7 @@
 
 mod acts;
 mod applying;
+mod authors;
 mod followers;
 mod marks;
 mod register;
@@ -13,4 +14,5 @@ pub use acts::{
     is_block_of, is_by, is_create, is_done, is_follow, is_following, is_like, is_like_of, is_open,
     is_open_follow, is_pending, is_standing, makes,
 };
+pub use marks::{MOST_ITEMS, Marks, mark_of, mark_of_iri};
 pub use register::Register;

@@ -1,47 +1,49 @@
 //! The accepted activities, with what is looked up among them.
 
-ghost use Rattle.std.specs.Prelude.{◌≡◌, ◌∷◌, [], ◌+◌, ◌-◌, ◌^◌, ◌<◌, ◌≤◌, ◌++◌, IsTrue, None, OnOk, Some, length, map, nat_lt, vec_len, vec_capacity, option_copied, option_map, slice_get, if◌then◌else◌};
-ghost use Rattle.std.specs.List.{find, fold, list_any, position_or_len};
+ghost use Rattle.std.specs.Prelude.{◌≡◌, ◌∷◌, Bool, [], ◌+◌, ◌-◌, ◌&&◌, ◌^◌, ◌<◌, ◌≤◌, ◌++◌, IsTrue, OnOk, map, vec_len, vec_capacity, option_copied, option_map, if◌then◌else◌};
+ghost use Rattle.std.specs.Fn.{FnReturnsAt};
+ghost use Rattle.std.specs.List.{find, fold, list_any};
 ghost use Rattle.fedi_address.specs.Recipients.{is_among};
+ghost use Rattle.fedi_town.specs.declared.act.Act.{Act};
 ghost use Rattle.fedi_town.specs.Effects.{affect};
 ghost use Rattle.fedi_town.specs.Objects.{makes};
-ghost use Rattle.fedi_town.specs.Relations.{is_block_of, is_follow_of};
+ghost use Rattle.fedi_town.specs.Relations.{has_activity_id, is_block_of, is_follow_of};
+ghost use Rattle.fedi_town.specs.States.{is_announce_of, is_like_of};
 ghost use Rattle.fedi_register.specs.Changes.{AreMadeOnce};
 ghost use Rattle.fedi_register.specs.Following.{with_follower, with_one};
 ghost use Rattle.fedi_register.specs.Keys.{is_repeat};
-ghost use Rattle.fedi_register.specs.Marks.{first_place};
-ghost use Rattle.fedi_register.specs.Registers.{CountsOne, SameCounts, asks_to_follow, count_by, count_in, ids_of, is_author, is_keyed, is_making, keeps_away, key_mark, mark_of, mark_step, object_mark, passes_at, ref_mark, with_follower_at};
+ghost use Rattle.fedi_register.specs.Marks.{Decides};
+ghost use Rattle.fedi_register.specs.Registers.{IsNarrower, asks_to_follow, count_by, has_own_id, is_keyed, is_making, key_mark, object_mark, own_mark, pair_mark, ref_mark, relates, relates_to, relation_mark, with_follower_at};
 
-use crate::acts::{is_block, is_block_of, is_create, is_follow, is_follow_of, makes};
+use crate::acts::{
+    has_activity_id, is_announce_of, is_block_of, is_create, is_follow, is_follow_of, is_like_of,
+    makes,
+};
 use crate::applying::apply_effect;
+use crate::authors::Authors;
 use crate::followers::add_follower;
-use crate::marks::Marks;
+use crate::marks::{MOST_ITEMS, Marks, mark_of, mark_of_iri, mark_of_iris};
 use crate::repeats::is_repeat;
 use fedi_address::Iri;
 use fedi_kept::Kept;
 use fedi_objects::RepeatKey;
-use fedi_town::Effect;
+use fedi_town::{Deed, Effect};
 use std::alloc::{AllocError, Global};
 use std::marker::Model;
 
-// How many activities an author has.
-#[derive(Drop)]
-struct Author {
-    id: Iri,
-    count: usize,
-}
-
-/// The accepted activities in order. Beside them stand the places of the Follows and of the Blocks,
-/// marks of the keys under which posts were made and of the objects that were made, and how many
-/// activities each author has: what is looked up for each post is not sought among all of them.
+/// The accepted activities in order, with what is looked up for each post, so that it is not sought
+/// among all of them: the places of the Follows, and marks of the keys under which posts were made, of
+/// the objects that were made, of the activities' own ids, and of who follows, likes, shares or blocks
+/// what; and how many activities each author has.
 #[derive(Drop)]
 pub struct Register {
     acts: Vec<Kept>,
     follows: Vec<usize>,
-    blocks: Vec<usize>,
     keyed: Marks,
     made: Marks,
-    authors: Vec<Author>,
+    ids: Marks,
+    pairs: Marks,
+    authors: Authors,
     // How many more activities there is room for in each of the lists.
     room: usize,
 }
@@ -54,12 +56,6 @@ impl Model for Register {
     ghost view = { registered_in };
 
     ghost invariant = { IsRegister };
-}
-
-fn act_at(acts: &[Kept], place: usize) -> Option<&Kept>
-    ensures { option_copied result ≡ slice_get acts.now place }
-{
-    acts.get(place)
 }
 
 // Appends a place where the test was passed, to a list that has room for one more.
@@ -75,7 +71,7 @@ fn push_if(list: &mut Vec<usize>, passes: bool, place: usize)
 }
 
 // Appends a mark where the test was passed, to marks that have room for one more.
-fn mark_if(list: &mut Marks, passes: bool, mark: u64, place: usize)
+fn mark_if(list: &mut Marks, passes: bool, mark: u32, place: u32)
     requires { 1 ≤ list.old.room }
     ensures marks { list.new.marks ≡ list.old.marks
         ++ (if passes then record { mark = mark; place = place } ∷ [] else []) }
@@ -86,42 +82,16 @@ fn mark_if(list: &mut Marks, passes: bool, mark: u64, place: usize)
     }
 }
 
-#[tactic(auto, unfolding(crate::specs::Registers::mark_step))]
-fn mark_step(mark: u64, byte: u8) -> u64
-    requires { mark < 4294967296 }
-    ensures value { result ≡ mark_step mark byte }
-    ensures small { result < 4294967296 }
-{
-    (mark * 31 + byte as u64) % 4294967296
-}
-
-fn mark_bytes(bytes: &[u8]) -> u64
-    ensures { result ≡ fold mark_step 7 bytes.now }
-{
-    let mut mark = 7;
-    for byte in bytes {
-        mark = mark_step(mark, *byte);
-    }
-    mark
-}
-
-#[tactic(auto, unfolding(crate::specs::Registers::mark_of))]
-fn mark_of(text: &[u8]) -> u64
-    ensures { result ≡ mark_of text.now }
-{
-    mark_bytes(text)
-}
-
-fn id_mark(id: Option<&Iri>) -> u64
+fn id_mark(id: Option<&Iri>) -> u32
     ensures { result ≡ ref_mark (option_copied id.entry) }
 {
     match id {
-        Some(id) => mark_of(id.text().as_bytes()),
+        Some(id) => mark_of_iri(id),
         None => 0,
     }
 }
 
-fn pair_mark(pair: Option<&(RepeatKey, [u8; 32])>) -> u64
+fn repeat_mark(pair: Option<&(RepeatKey, [u8; 32])>) -> u32
     ensures { result ≡ ref_mark (option_map (λ r. r.0) (option_copied pair.entry)) }
 {
     match pair {
@@ -130,18 +100,41 @@ fn pair_mark(pair: Option<&(RepeatKey, [u8; 32])>) -> u64
     }
 }
 
+fn pair_mark(author: &Iri, about: Option<&Iri>) -> u32
+    ensures { result ≡ pair_mark author.now (option_copied about.entry) }
+{
+    match about {
+        Some(id) => mark_of_iris(author, id),
+        None => 0,
+    }
+}
+
 #[tactic(auto, unfolding(crate::specs::Registers::key_mark))]
-fn key_mark(act: &Kept) -> u64
+fn key_mark(act: &Kept) -> u32
     ensures { result ≡ key_mark act.now }
 {
-    pair_mark(act.repeat())
+    repeat_mark(act.repeat())
 }
 
 #[tactic(auto, unfolding(crate::specs::Registers::object_mark))]
-fn object_mark(act: &Kept) -> u64
+fn object_mark(act: &Kept) -> u32
     ensures { result ≡ object_mark act.now }
 {
     id_mark(act.object_id())
+}
+
+#[tactic(auto, unfolding(crate::specs::Registers::own_mark))]
+fn own_mark(act: &Kept) -> u32
+    ensures { result ≡ own_mark act.now }
+{
+    id_mark(act.id())
+}
+
+#[tactic(auto, unfolding(crate::specs::Registers::relation_mark))]
+fn relation_mark(act: &Kept) -> u32
+    ensures { result ≡ relation_mark act.now }
+{
+    pair_mark(act.author(), act.object_id())
 }
 
 #[tactic(auto, unfolding(crate::specs::Registers::is_making))]
@@ -158,13 +151,6 @@ fn asks_to_follow(act: &Kept) -> bool
     is_follow(act)
 }
 
-#[tactic(auto, unfolding(crate::specs::Registers::keeps_away))]
-fn keeps_away(act: &Kept) -> bool
-    ensures { result ≡ keeps_away act.now }
-{
-    is_block(act)
-}
-
 #[tactic(auto, unfolding(crate::specs::Registers::is_keyed))]
 fn is_keyed(act: &Kept) -> bool
     ensures { result ≡ is_keyed act.now }
@@ -172,75 +158,39 @@ fn is_keyed(act: &Kept) -> bool
     act.repeat().is_some()
 }
 
-#[tactic(auto, unfolding(crate::specs::Registers::passes_at))]
-fn is_block_at(acts: &[Kept], a: &Iri, b: &Iri, place: usize) -> bool
-    ensures { result ≡ passes_at (is_block_of a.now b.now) acts.now place }
+#[tactic(auto, unfolding(crate::specs::Registers::has_own_id))]
+fn has_own_id(act: &Kept) -> bool
+    ensures { result ≡ has_own_id act.now }
 {
-    match acts.get(place) {
-        Some(act) => is_block_of(act, a, b),
-        None => false,
+    act.id().is_some()
+}
+
+#[tactic(auto, unfolding(crate::specs::Registers::relates))]
+fn relates(act: &Kept) -> bool
+    ensures { result ≡ relates act.now }
+{
+    match act.deed() {
+        Deed::Follow | Deed::Like | Deed::Announce | Deed::Block => true,
+        _ => false,
     }
 }
 
-fn blocks_among(acts: &[Kept], places: &[usize], a: &Iri, b: &Iri) -> bool
-    ensures { result ≡ list_any (passes_at (is_block_of a.now b.now) acts.now) places.now }
+// Whether the activity has this id and passes the test.
+fn has_id_where<F: Fn(&Kept) -> bool>(act: &Kept, id: &Iri, passes: &F) -> bool
+    requires { F.IsAlwaysCallable passes.now }
+    ensures { (p : Act → Bool) → Decides (FnReturnsAt F.Fn passes.now) p
+        → result ≡ (has_activity_id id.now act.now && p act.now) }
 {
-    places.iter().any(|place| is_block_at(acts, a, b, *place))
+    has_activity_id(act, id) && passes(act)
 }
 
-#[tactic(auto, unfolding(crate::specs::Registers::passes_at))]
-fn is_follow_at(acts: &[Kept], a: &Iri, b: &Iri, place: usize) -> bool
-    ensures { result ≡ passes_at (is_follow_of a.now b.now) acts.now place }
+// Whether the activity made the object of this id and passes the test.
+fn makes_where<F: Fn(&Kept) -> bool>(act: &Kept, id: &Iri, passes: &F) -> bool
+    requires { F.IsAlwaysCallable passes.now }
+    ensures { (p : Act → Bool) → Decides (FnReturnsAt F.Fn passes.now) p
+        → result ≡ (makes id.now act.now && p act.now) }
 {
-    match acts.get(place) {
-        Some(act) => is_follow_of(act, a, b),
-        None => false,
-    }
-}
-
-fn follows_among(acts: &[Kept], places: &[usize], a: &Iri, b: &Iri) -> bool
-    ensures { result ≡ list_any (passes_at (is_follow_of a.now b.now) acts.now) places.now }
-{
-    places.iter().any(|place| is_follow_at(acts, a, b, *place))
-}
-
-#[tactic(auto, unfolding(crate::specs::Registers::passes_at))]
-fn is_made_at(acts: &[Kept], id: &Iri, place: usize) -> bool
-    ensures { result ≡ passes_at (makes id.now) acts.now place }
-{
-    match acts.get(place) {
-        Some(act) => makes(act, id),
-        None => false,
-    }
-}
-
-fn marked_maker(acts: &[Kept], made: &Marks, id: &Iri, mark: u64) -> Option<usize>
-    ensures { result ≡ first_place (passes_at (makes id.now) acts.now) mark made.now.marks }
-{
-    made.find(mark, |place| is_made_at(acts, id, place))
-}
-
-#[tactic(auto, unfolding(crate::specs::Registers::passes_at))]
-fn is_repeat_at(acts: &[Kept], author: &Iri, key: &RepeatKey, place: usize) -> bool
-    ensures { result ≡ passes_at (is_repeat author.now key.now) acts.now place }
-{
-    match acts.get(place) {
-        Some(act) => is_repeat(act, author, key),
-        None => false,
-    }
-}
-
-fn marked_repeat(
-    acts: &[Kept],
-    keyed: &Marks,
-    author: &Iri,
-    key: &RepeatKey,
-    mark: u64,
-) -> Option<usize>
-    ensures { result
-        ≡ first_place (passes_at (is_repeat author.now key.now) acts.now) mark keyed.now.marks }
-{
-    keyed.find(mark, |place| is_repeat_at(acts, author, key, place))
+    makes(act, id) && passes(act)
 }
 
 #[tactic(auto, unfolding(crate::specs::Registers::with_follower_at))]
@@ -274,93 +224,6 @@ fn add_followers(
     Ok(())
 }
 
-#[tactic(auto, unfolding(crate::specs::Registers::is_author))]
-fn is_author(author: &Author, id: &Iri) -> bool
-    ensures { result ≡ is_author id.now author.now }
-{
-    author.id == *id
-}
-
-fn author_of<'a>(authors: &'a [Author], id: &Iri) -> Option<&'a Author>
-    ensures { option_copied result ≡ find (is_author id.now) authors.now }
-{
-    authors.iter().find(|author| is_author(author, id))
-}
-
-#[tactic(auto, unfolding(crate::specs::Registers::count_in))]
-fn count_in(authors: &[Author], id: &Iri) -> usize
-    ensures { result ≡ count_in authors.now id.now }
-{
-    match author_of(authors, id) {
-        Some(author) => author.count,
-        None => 0,
-    }
-}
-
-fn has_author(authors: &[Author], id: &Iri) -> bool
-    ensures { result ≡ list_any (is_author id.now) authors.now }
-{
-    authors.iter().any(|author| is_author(author, id))
-}
-
-#[tactic(auto, using(crate::proofs::Counts::any_known))]
-fn is_known(authors: &[Author], id: &Iri) -> bool
-    ensures { result ≡ is_among id.now (ids_of authors.now) }
-{
-    has_author(authors, id)
-}
-
-// Adds the author with no activities, unless the author is there.
-#[tactic(auto, using(crate::proofs::Counts::ids_added, crate::proofs::Counts::counts_added, crate::proofs::Counts::counts_same), unfolding(crate::specs::Following::with_one))]
-fn add_author(authors: &mut Vec<Author>, id: &Iri) -> Result<(), AllocError>
-    ensures known { OnOk result (ids_of authors.new.items
-        ≡ with_one (ids_of authors.old.items) id.now) }
-    ensures counts { SameCounts authors.old.items authors.new.items }
-{
-    if is_known(authors, id) {
-        return Ok(());
-    }
-    let id = id.clone()?;
-    authors.push(Author { id, count: 0 })?;
-    Ok(())
-}
-
-fn place_of(authors: &[Author], id: &Iri) -> Option<usize>
-    ensures { result ≡ if nat_lt (position_or_len (is_author id.now) authors.now) (length authors.now)
-        then Some (position_or_len (is_author id.now) authors.now) else None }
-{
-    authors.iter().position(|author| is_author(author, id))
-}
-
-fn count_more(author: &mut Author)
-    requires { author.old.count < 2 ^ 63 }
-    ensures { author.new ≡ record author.old { count = author.old.count + 1 } }
-{
-    author.count += 1;
-}
-
-// Counts one more activity of an author who is there.
-fn count_one(authors: &mut [Author], id: &Iri)
-    requires known { IsTrue (is_among id.now (ids_of authors.old)) }
-    requires few { count_in authors.old id.now < 2 ^ 63 }
-    ensures known { ids_of authors.new ≡ ids_of authors.old }
-    ensures counts { CountsOne authors.old authors.new id.now }
-{
-    match place_of(authors, id) {
-        Some(place) => count_more(&mut authors[place]),
-        None => unreachable!(),
-    }
-}
-
-fn count_in_place(authors: &mut Vec<Author>, id: &Iri)
-    requires known { IsTrue (is_among id.now (ids_of authors.old.items)) }
-    requires few { count_in authors.old.items id.now < 2 ^ 63 }
-    ensures known { ids_of authors.new.items ≡ ids_of authors.old.items }
-    ensures counts { CountsOne authors.old.items authors.new.items id.now }
-{
-    count_one(authors.as_mut_slice(), id);
-}
-
 fn apply_in_place(acts: &mut Vec<Kept>, effect: Effect)
     requires { AreMadeOnce acts.old.items }
     ensures items { acts.new.items ≡ map (affect effect) acts.old.items }
@@ -378,10 +241,11 @@ impl Register {
         Register {
             acts: Vec::new(alloc),
             follows: Vec::new(alloc),
-            blocks: Vec::new(alloc),
             keyed: Marks::empty(alloc),
             made: Marks::empty(alloc),
-            authors: Vec::new(alloc),
+            ids: Marks::empty(alloc),
+            pairs: Marks::empty(alloc),
+            authors: Authors::empty(alloc),
             room: 0,
         }
     }
@@ -393,29 +257,86 @@ impl Register {
         self.acts.as_slice()
     }
 
+    // Whether an activity of the author about this passes the test, which only Follows, Likes, Announces
+    // and Blocks of theirs pass.
+    fn relates<F: Fn(&Kept) -> bool>(&self, author: &Iri, id: &Iri, passes: F) -> bool
+        requires { F.IsAlwaysCallable passes }
+        ensures { (p : Act → Bool) → Decides (FnReturnsAt F.Fn passes) p
+            → IsNarrower p (relates_to author.now id.now) → result ≡ list_any p self.now.acts }
+    {
+        self.pairs
+            .first_of(&self.acts, mark_of_iris(author, id), passes)
+            .is_some()
+    }
+
     /// Whether a blocks b.
     pub fn blocks(&self, a: &Iri, b: &Iri) -> bool
         ensures { result ≡ list_any (is_block_of a.now b.now) self.now.acts }
     {
-        blocks_among(&self.acts, &self.blocks, a, b)
+        self.relates(a, b, |act| is_block_of(act, a, b))
     }
 
     /// Whether a follows b: a Follow of b by a was accepted.
     pub fn follows(&self, a: &Iri, b: &Iri) -> bool
         ensures { result ≡ list_any (is_follow_of a.now b.now) self.now.acts }
     {
-        follows_among(&self.acts, &self.follows, a, b)
+        self.relates(a, b, |act| is_follow_of(act, a, b))
+    }
+
+    /// Whether a likes this: a Like of it by a stands.
+    pub fn likes(&self, a: &Iri, id: &Iri) -> bool
+        ensures { result ≡ list_any (is_like_of a.now id.now) self.now.acts }
+    {
+        self.relates(a, id, |act| is_like_of(act, a, id))
+    }
+
+    /// Whether a shares this: an Announce of it by a stands.
+    pub fn shares(&self, a: &Iri, id: &Iri) -> bool
+        ensures { result ≡ list_any (is_announce_of a.now id.now) self.now.acts }
+    {
+        self.relates(a, id, |act| is_announce_of(act, a, id))
+    }
+
+    /// The activity of this id.
+    pub fn activity(&self, id: &Iri) -> Option<&Kept>
+        ensures { option_copied result ≡ find (has_activity_id id.now) self.now.acts }
+    {
+        self.ids.first_of(&self.acts, mark_of_iri(id), |act| has_activity_id(act, id))
+    }
+
+    /// The first activity of this id that passes the test.
+    pub fn first_by_id<F: Fn(&Kept) -> bool>(&self, id: &Iri, passes: F) -> Option<&Kept>
+        requires { F.IsAlwaysCallable passes }
+        ensures { (p : Act → Bool) → Decides (FnReturnsAt F.Fn passes) p
+            → option_copied result
+            ≡ find (λ x. has_activity_id id.now x && p x) self.now.acts }
+    {
+        self.ids.first_of(
+            &self.acts,
+            mark_of_iri(id),
+            |act| has_id_where(act, id, &passes),
+        )
     }
 
     /// The activity that made the object of this id.
     pub fn maker(&self, id: &Iri) -> Option<&Kept>
         ensures { option_copied result ≡ find (makes id.now) self.now.acts }
     {
-        let mark = mark_of(id.text().as_bytes());
-        match marked_maker(&self.acts, &self.made, id, mark) {
-            Some(place) => act_at(&self.acts, place),
-            None => None,
-        }
+        self.made
+            .first_of(&self.acts, mark_of_iri(id), |act| makes(act, id))
+    }
+
+    /// The first activity that made the object of this id and passes the test.
+    pub fn first_maker<F: Fn(&Kept) -> bool>(&self, id: &Iri, passes: F) -> Option<&Kept>
+        requires { F.IsAlwaysCallable passes }
+        ensures { (p : Act → Bool) → Decides (FnReturnsAt F.Fn passes) p
+            → option_copied result ≡ find (λ x. makes id.now x && p x) self.now.acts }
+    {
+        self.made.first_of(
+            &self.acts,
+            mark_of_iri(id),
+            |act| makes_where(act, id, &passes),
+        )
     }
 
     /// What the author posted first under the key.
@@ -423,10 +344,8 @@ impl Register {
         ensures { option_copied result ≡ find (is_repeat author.now key.now) self.now.acts }
     {
         let mark = mark_of(key.bytes());
-        match marked_repeat(&self.acts, &self.keyed, author, key, mark) {
-            Some(place) => act_at(&self.acts, place),
-            None => None,
-        }
+        self.keyed
+            .first_of(&self.acts, mark, |act| is_repeat(act, author, key))
     }
 
     /// Adds those who follow b, each once. The error is out of memory.
@@ -443,21 +362,26 @@ impl Register {
         ensures value { result ≡ count_by self.now.acts author.now }
         ensures few { result < 2 ^ 63 }
     {
-        count_in(&self.authors, author)
+        self.authors.count_of(author)
     }
 
-    /// Makes room for two more activities in each list. The error is out of memory.
+    /// Makes room for two more activities in each list. The error is out of memory, as it is for more
+    /// than [`MOST_ITEMS`] activities.
     pub fn reserve(&mut self) -> Result<(), AllocError>
         ensures acts { self.new.acts ≡ self.old.acts }
         ensures known { self.new.known ≡ self.old.known }
         ensures room { OnOk result (self.new.room ≡ 2) }
     {
         self.room = 0;
+        if self.acts.len() > MOST_ITEMS {
+            return Err(AllocError);
+        }
         self.acts.reserve(2)?;
         self.follows.reserve(2)?;
-        self.blocks.reserve(2)?;
         self.keyed.reserve()?;
         self.made.reserve()?;
+        self.ids.reserve()?;
+        self.pairs.reserve()?;
         self.room = 2;
         Ok(())
     }
@@ -469,7 +393,7 @@ impl Register {
         ensures room { self.new.room ≡ self.old.room }
         ensures ok { OnOk result (self.new.known ≡ with_one self.old.known author.now) }
     {
-        add_author(&mut self.authors, author)
+        self.authors.add(author)
     }
 
     /// Does to the activities what an accepted one does to those before it. It takes no memory.
@@ -490,11 +414,13 @@ impl Register {
         } }
     {
         let place = self.acts.len();
+        let at = place as u32;
         push_if(&mut self.follows, asks_to_follow(&act), place);
-        push_if(&mut self.blocks, keeps_away(&act), place);
-        mark_if(&mut self.keyed, is_keyed(&act), key_mark(&act), place);
-        mark_if(&mut self.made, is_making(&act), object_mark(&act), place);
-        count_in_place(&mut self.authors, act.author());
+        mark_if(&mut self.keyed, is_keyed(&act), key_mark(&act), at);
+        mark_if(&mut self.made, is_making(&act), object_mark(&act), at);
+        mark_if(&mut self.ids, has_own_id(&act), own_mark(&act), at);
+        mark_if(&mut self.pairs, relates(&act), relation_mark(&act), at);
+        self.authors.count_one(act.author());
         self.acts.push_reserved(act);
         self.room -= 1;
     }

@@ -1,7 +1,6 @@
 //! The replies to what is read. Out of memory is the only error.
 
-ghost use Rattle.std.specs.Prelude.{◌≡◌, ◌&&◌, IfOk, option_copied, if◌then◌else◌};
-ghost use Rattle.std.specs.List.{find};
+ghost use Rattle.std.specs.Prelude.{◌≡◌, IfOk, option_copied, if◌then◌else◌};
 ghost use Rattle.serde_json.specs.Data.{Data};
 ghost use Rattle.fedi_asks.specs.Asks.{id_at};
 ghost use Rattle.fedi_asks.specs.Reading.{activity_answer, activity_document, object_answer, object_document};
@@ -9,15 +8,12 @@ ghost use Rattle.fedi_model.specs.Replies.{reply_of, showing};
 ghost use Rattle.fedi_objects.specs.Forms.{is_tombstone};
 ghost use Rattle.fedi_objects.specs.Writing.{IsDocument};
 ghost use Rattle.fedi_town.specs.Ids.{activity_id, object_id};
-ghost use Rattle.fedi_town.specs.Objects.{makes};
-ghost use Rattle.fedi_town.specs.Relations.{has_activity_id};
 ghost use Rattle.fedi_town.specs.Rules.{seen_act, seen_maker};
-ghost use Rattle.fedi_town.specs.Seeing.{sees};
 
 use crate::seeing::sees;
 use crate::showing::{present_object, shown_of};
 use fedi_address::{Iri, LocalName};
-use fedi_effects::{Facts, has_activity_id, makes};
+use fedi_effects::Facts;
 use fedi_kept::Kept;
 use fedi_model::{Body, Form, Reply, refusal_reply};
 use fedi_objects::{StrippedObject, new_document, text_of, write_activity, write_object};
@@ -49,21 +45,11 @@ fn activity_document(alloc: Global, facts: &Facts, act: &Kept) -> Result<Reply, 
     Ok(showing(StatusCode::OK, out))
 }
 
-// The first of these that has this id and that the caller sees. It stands alone, as `first_maker`
-// does, since the proof of the function that calls it needs what the search finds.
-fn first_act<'a>(acts: &'a [Kept], facts: &Facts, caller: &Caller, id: &Iri) -> Option<&'a Kept>
-    ensures { option_copied result
-        ≡ find (λ x. has_activity_id id.now x && sees facts.now.town caller.now x) acts.now }
-{
-    acts.iter()
-        .find(|x| has_activity_id(x, id) && sees(facts, caller, x))
-}
-
 // The activity of this id, among those that the caller sees.
 fn seen_act<'a>(facts: &'a Facts, caller: &Caller, id: &Iri) -> Option<&'a Kept>
     ensures { option_copied result ≡ seen_act facts.now.town caller.now id.now }
 {
-    first_act(facts.acts(), facts, caller, id)
+    facts.first_by_id(id, |act| sees(facts, caller, act))
 }
 
 /// The reply to who asks for the member's activity of this number: its document, where the caller
@@ -109,19 +95,11 @@ fn object_document(alloc: Global, object: &StrippedObject) -> Result<Reply, Allo
     Ok(showing(status_of(object), out))
 }
 
-// The first of these that made the object of this id and that the caller sees.
-fn first_maker<'a>(acts: &'a [Kept], facts: &Facts, caller: &Caller, id: &Iri) -> Option<&'a Kept>
-    ensures { option_copied result
-        ≡ find (λ x. makes id.now x && sees facts.now.town caller.now x) acts.now }
-{
-    acts.iter().find(|x| makes(x, id) && sees(facts, caller, x))
-}
-
 /// The activity that made the object of this id, among those that the caller sees, or none.
 pub fn seen_maker<'a>(facts: &'a Facts, caller: &Caller, id: &Iri) -> Option<&'a Kept>
     ensures { option_copied result ≡ seen_maker facts.now.town caller.now id.now }
 {
-    first_maker(facts.acts(), facts, caller, id)
+    facts.first_maker(id, |act| sees(facts, caller, act))
 }
 
 // The object of this id, if the caller sees the activity that made it.

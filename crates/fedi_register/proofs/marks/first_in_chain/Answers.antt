@@ -1,19 +1,19 @@
 use Rattle.std.proofs.Common.{refl, eq-eqb}
 use Rattle.std.proofs.lemmas.Bool.{ne_eqb}
-use Rattle.fedi_register.proofs.Chains.{along_first, along_more, before_less}
+use Rattle.fedi_register.proofs.Chains.{along_first, along_last, along_more, before_less}
 use Rattle.fedi_register.proofs.marks.first_in_chain.Goals as goal
 use Rattle.fedi_register.proofs.marks.first_in_chain.Goals.{then-step-mark+then-passes, else-step-mark, else-step-mark-via-then-step-mark+else-passes, else-step-mark-via-else-step-mark}
 
 pub loop-step-init : goal.loop-step-init
-loop-step-init g c = along_first _ c.args.steps.now c.args.mark c.args.head c.requires.head
+loop-step-init g c = along_first _ _ c.args.steps.now c.args.mark c.args.head c.requires.head
 
 pub loop-step-smaller : goal.loop-step-smaller
-loop-step-smaller g c = before_less c.args.steps.now c.loop-step.next c.in-Some.step.now c.requires.chained c.in-Some.ensures
+loop-step-smaller g c = before_less _ c.args.steps.now c.loop-step.next c.in-Some.step.now c.requires.chained c.in-Some.ensures
 
 pub loop-step-preserved : goal.loop-step-preserved
 loop-step-preserved g c =
     let step = c.in-Some.step.now in
-    along_more _ c.args.steps.now c.args.mark c.loop-step.next c.loop-step.found _ step c.requires.chained c.loop-step.invariant c.in-Some.ensures (λ q decides.
+    along_more _ _ c.args.steps.now c.args.mark c.loop-step.next c.loop-step.found _ step c.requires.chained c.loop-step.invariant c.in-Some.ensures (λ q decides.
     elim c.if-step-mark.branch [
       | then-step-mark+then-passes w ↦
           rw (w.found-is, eq-eqb step.mark c.args.mark w.if-step-mark.true, ← decides step.place w.passes.result w.passes.ensures, w.if-passes.true) refl
@@ -23,3 +23,6 @@ loop-step-preserved g c =
         | else-step-mark-via-else-step-mark w' ↦ rw (w.found-is, ne_eqb step.mark c.args.mark w'.if-step-mark.false) refl
       ]
     ])
+
+pub returns : goal.returns
+returns g c = along_last _ _ c.args.steps.now c.args.mark c.loop-step.next c.loop-step.found c.loop-step.invariant (rw (← c.step_before.ensures, c.in_default.is) refl)

@@ -2,7 +2,7 @@ use Rattle.fedi_register.proofs.Chains.{IsAlong}
 use Rattle.fedi_register.proofs.marks.first_in_chain.Given as goal
 
 abbrev pub invariant-loop-step : goal.invariant-loop-step
-invariant-loop-step g l = IsAlong (goal.F-post g l.passes) l.steps l.mark l.next l.found
+invariant-loop-step g l = IsAlong l.chains (goal.F-post g l.passes) l.steps l.mark l.next l.found
 
 abbrev pub decreases-loop-step : goal.decreases-loop-step
 decreases-loop-step g l = l.next

@@ -1,8 +1,10 @@
-use Rattle.fedi_effects.proofs.Finds.{find_seen}
+use Rattle.std.proofs.Common.{refl, rules}
 use Rattle.fedi_town.specs.Relations.{has_activity_id}
 use Rattle.fedi_town.specs.Seeing.{sees}
+use Rattle.fedi_effects.proofs.Finds.{find_seen}
 use Rattle.fedi_visible.proofs.replies.seen_act.Goals as goal
 
 pub returns : goal.returns
 returns c =
-    find_seen (has_activity_id c.args.id.now) (sees c.args.facts.now.town c.args.caller.now) _ _ _ c.first_act.ensures c.acts.ensures
+    let sees_it = sees c.args.facts.now.town c.args.caller.now in
+    find_seen (has_activity_id c.args.id.now) sees_it _ _ _ (c.first_by_id.ensures sees_it (search rules)) refl

@@ -8,10 +8,12 @@ apply_in_place-requires c = subst AreMadeOnce (sym (ap (λ r. r.acts) c.self.vie
 
 pub invariant_of-self : goal.invariant_of-self
 invariant_of-self c = (
-  rw c.apply_in_place.ensures.items (indexed_affected c.args.effect _ _ _ _ _ _ c.self.invariant.0),
+  rw c.apply_in_place.ensures.items (indexed_affected c.args.effect _ _ _ _ _ _ _ c.self.invariant.0),
   rw (c.apply_in_place.ensures.len, c.apply_in_place.ensures.capacity) c.self.invariant.1,
-  c.self.invariant.2,
+  rw c.apply_in_place.ensures.len c.self.invariant.2,
   c.self.invariant.3,
   c.self.invariant.4,
   c.self.invariant.5,
+  c.self.invariant.6,
+  c.self.invariant.7,
 )

@@ -1,20 +1,16 @@
-use Rattle.std.proofs.Common.{ap, ◌∙◌}
-use Rattle.std.specs.Prelude.{List, Option, ℕ}
-use Rattle.fedi_register.specs.Registers.{mark_of}
-use Rattle.fedi_register.proofs.Places.{act_found, repeat_found}
+use Rattle.std.proofs.Common.{rules, ap, ◌∙◌}
+use Rattle.std.specs.Prelude.{List, ℕ}
+use Rattle.fedi_register.specs.Keys.{is_repeat}
+use Rattle.fedi_register.specs.Marks.{mark_of}
+use Rattle.fedi_register.specs.Registers.{is_keyed, key_mark}
+use Rattle.fedi_register.proofs.Found.{found}
+use Rattle.fedi_register.proofs.Places.{repeat_marked}
 use Rattle.fedi_register.proofs.register.Register.first_under.Goals as goal
 
-pub returns-in-Some : goal.returns-in-Some
-returns-in-Some c =
-    let acts = c.self.inside.acts.items in
-    let found = rw c.deref.ensures.value at c.in-Some.ensures in
-    c.act_at.ensures
-    ∙ rw (c.deref-in-Some.ensures.value, ← c.self.view_is)
-    (ap (λ (o : Option ℕ). act_found acts o) found ∙ repeat_found c.args.author.now c.args.key.now _ acts _ _ _ _ _ c.self.invariant.0 (c.mark_of-mark.ensures ∙ ap (λ (text : List ℕ). mark_of text) c.bytes.ensures.value))
-
-pub returns-in-None : goal.returns-in-None
-returns-in-None c =
-    let acts = c.self.inside.acts.items in
-    let found = rw c.deref.ensures.value at c.in-None.ensures in
+pub returns : goal.returns
+returns c =
+    let author = c.args.author.now in
+    let key = c.args.key.now in
     rw (← c.self.view_is)
-    (ap (λ (o : Option ℕ). act_found acts o) found ∙ repeat_found c.args.author.now c.args.key.now _ acts _ _ _ _ _ c.self.invariant.0 (c.mark_of-mark.ensures ∙ ap (λ (text : List ℕ). mark_of text) c.bytes.ensures.value))
+    (found is_keyed (is_repeat author key) key_mark _ _ _ _ _ _ (c.first_of.ensures (is_repeat author key) (search rules)) c.deref.ensures.value
+    (c.mark_of-mark.ensures ∙ ap (λ (text : List ℕ). mark_of text) c.bytes.ensures.value) c.self.invariant.0.key (repeat_marked author key))

@@ -1,8 +1,7 @@
-use Rattle.std.proofs.Common.{◌∙◌}
-use Rattle.fedi_register.proofs.Places.{follows_found}
+use Rattle.std.proofs.Common.{rules}
+use Rattle.fedi_town.specs.Relations.{is_follow_of}
+use Rattle.fedi_register.proofs.Places.{follows_narrower}
 use Rattle.fedi_register.proofs.register.Register.follows.Goals as goal
 
 pub returns : goal.returns
-returns c =
-    c.follows_among.ensures
-    ∙ rw (c.deref.ensures.value, c.deref-2.ensures.value, ← c.self.view_is) (follows_found c.args.a.now c.args.b.now _ _ _ _ _ _ c.self.invariant.0)
+returns c = c.relates.ensures (is_follow_of c.args.a.now c.args.b.now) (search rules) (follows_narrower c.args.a.now c.args.b.now)

@@ -1,0 +1,95 @@
+-- What is found by marks is what is found among all.
+use Rattle.std.proofs.Common.{◌≡◌, ℕ, suc, ◌+◌, arith, Bool, true, false, List, [], ◌∷◌, ◌++◌, Option, Some, None, refl, ap, subst, ◌∙◌, append_assoc, eq-eqb, length, ltb, Bor}
+use Rattle.std.specs.Prelude.{◌&&◌, ◌||◌, nat_eq, is_some, option_copied, if◌then◌else◌}
+use Rattle.std.specs.List.{find, list_any, position_or_len}
+use Rattle.std.proofs.lemmas.Bool.{lt-ltb}
+use Rattle.fedi_register.specs.Changes.{place_where}
+use Rattle.fedi_register.specs.Marks.{Mark, first_place, is_there, item_at, marks_from, passes_at}
+use Rattle.fedi_register.proofs.Chains.{got_at, longer}
+use Rattle.fedi_register.proofs.Once.{lt_step}
+
+-- what passes has a mark, and it is this
+abbrev pub IsMarkedSo : {A : Type 0} → (A → Bool) → (A → ℕ) → ℕ → (A → Bool) → Type 0
+IsMarkedSo {A} p mark n q = (x : A) → q x ≡ true → (p x ≡ true) × (mark x ≡ n)
+
+pub and_none : (a : Bool) → (a && false) ≡ false
+and_none true = refl
+and_none false = refl
+
+-- the place of the first that passes, where the first item has this place
+abbrev place_from : {A : Type 0} → (A → Bool) → ℕ → List A → Option ℕ
+place_from q n [] = None
+place_from q n (x ∷ xs) = if q x then Some n else place_from q (suc n) xs
+
+placed-after : {A : Type 0} (p q : A → Bool) (mark : A → ℕ) (n : ℕ) → IsMarkedSo p mark n q → (before xs : List A)
+    → first_place (passes_at q (before ++ xs)) n (marks_from p mark (length before) xs) ≡ place_from q (length before) xs
+unfolding passes_at
+placed-after p q mark n so before [] = refl
+placed-after {A} p q mark n so before (x ∷ xs) =
+    let all : List A = before ++ x ∷ xs in
+    let later : List Mark = marks_from p mark (suc (length before)) xs in
+    let own : Mark = record { mark = mark x; place = length before } in
+    let rest : first_place (passes_at q all) n later ≡ place_from q (suc (length before)) xs =
+    subst (λ (ys : List A). first_place (passes_at q ys) n later ≡ place_from q (suc (length before)) xs) (append_assoc before (x ∷ []) xs)
+    (subst (λ (k : ℕ). first_place (passes_at q ((before ++ x ∷ []) ++ xs)) n (marks_from p mark k xs) ≡ place_from q k xs) (longer before x)
+    (placed-after p q mark n so (before ++ x ∷ []) xs)) in
+    let here : passes_at q all (length before) ≡ q x = ap (λ (o : Option A). is_there q o) (got_at before x xs) in
+    elim (q x) as (λ b. q x ≡ b → first_place (passes_at q all) n (if p x then own ∷ later else later) ≡ (if b then Some (length before) else place_from q (suc (length before)) xs)) [
+      | true ↦ λ is. let by = so x is in rw (by.0, eq-eqb (mark x) n by.1, here, is) refl
+      | false ↦ λ isnt. elim (p x) as (λ b. first_place (passes_at q all) n (if b then own ∷ later else later) ≡ place_from q (suc (length before)) xs) [
+        | true ↦ rw (here, isnt, and_none (nat_eq (mark x) n)) rest
+        | false ↦ rest
+      ]
+    ] refl
+
+-- as a place among all
+place-position : {A : Type 0} (q : A → Bool) (xs : List A) (k : ℕ)
+    → place_from q k xs ≡ (if ltb (position_or_len q xs) (length xs) then Some (position_or_len q xs + k) else None)
+place-position q [] k = refl
+place-position q (x ∷ xs) k =
+    elim (q x) as (λ b. q x ≡ b → (if b then Some k else place_from q (suc k) xs)
+    ≡ (if ltb (position_or_len q (x ∷ xs)) (length (x ∷ xs)) then Some (position_or_len q (x ∷ xs) + k) else None)) [
+      | true ↦ λ is. let none : 0 + k ≡ k = omega arith in rw (is, lt-ltb 0 (suc (length xs)) (omega arith), none) refl
+      | false ↦ λ isnt.
+          let more : 1 + position_or_len q xs + k ≡ position_or_len q xs + suc k = omega arith in
+          rw (isnt, lt_step (position_or_len q xs) (length xs), more) (place-position q xs (suc k))
+    ] refl
+
+-- the place that is found by marks is that of the first that passes among all
+pub placed : {A : Type 0} (p q : A → Bool) (mark : A → ℕ) (n m : ℕ) (ys xs : List A) (marks : List Mark) (place : Option ℕ)
+    → place ≡ first_place (passes_at q ys) n marks → ys ≡ xs → n ≡ m → marks ≡ marks_from p mark 0 xs → IsMarkedSo p mark m q → place ≡ place_where q xs
+placed p q mark n m ys xs marks place is same number are so =
+    let none : position_or_len q xs + 0 ≡ position_or_len q xs = omega arith in
+    rw (is, same, number, are)
+    (placed-after p q mark m so [] xs ∙ place-position q xs 0 ∙ ap (λ (k : ℕ). if ltb (position_or_len q xs) (length xs) then Some k else None) none)
+
+item-found : {A : Type 0} (q : A → Bool) (before xs : List A) → item_at (before ++ xs) (place_from q (length before) xs) ≡ find q xs
+item-found q before [] = refl
+item-found {A} q before (x ∷ xs) =
+    let rest : item_at (before ++ x ∷ xs) (place_from q (suc (length before)) xs) ≡ find q xs =
+    subst (λ (ys : List A). item_at ys (place_from q (suc (length before)) xs) ≡ find q xs) (append_assoc before (x ∷ []) xs)
+    (subst (λ (k : ℕ). item_at ((before ++ x ∷ []) ++ xs) (place_from q k xs) ≡ find q xs) (longer before x) (item-found q (before ++ x ∷ []) xs)) in
+    elim (q x) as (λ b. item_at (before ++ x ∷ xs) (if b then Some (length before) else place_from q (suc (length before)) xs) ≡ (if b then Some x else find q xs)) [
+      | true ↦ got_at before x xs
+      | false ↦ rest
+    ]
+
+-- what is found by marks is the first that passes among all
+pub found : {A : Type 0} (p q : A → Bool) (mark : A → ℕ) (n m : ℕ) (ys xs : List A) (marks : List Mark) (got : Option A)
+    → got ≡ item_at ys (first_place (passes_at q ys) n marks) → ys ≡ xs → n ≡ m → marks ≡ marks_from p mark 0 xs → IsMarkedSo p mark m q → got ≡ find q xs
+found p q mark n m ys xs marks got is same number are so =
+    rw (is, same, number, are) (ap (λ (o : Option ℕ). item_at xs o) (placed-after p q mark m so [] xs) ∙ item-found q [] xs)
+
+-- ---- whether something is found
+
+pub some_copied : {T : Type 0} (o : Option (Bor T)) → is_some o ≡ is_some (option_copied o)
+some_copied None = refl
+some_copied (Some r) = refl
+
+pub some_found : {A : Type 0} (p : A → Bool) (xs : List A) → is_some (find p xs) ≡ list_any p xs
+some_found p [] = refl
+some_found {A} p (x ∷ xs) =
+    elim (p x) as (λ b. is_some (if b then Some x else find p xs) ≡ (b || list_any p xs)) [
+      | true ↦ refl
+      | false ↦ some_found p xs
+    ]

@@ -1,0 +1,18 @@
+use Rattle.std.proofs.Common.{rules, Bool}
+use Rattle.std.specs.Prelude.{◌&&◌}
+use Rattle.std.proofs.lemmas.Bool.{and_parts}
+use Rattle.fedi_town.specs.declared.act.Act.{Act}
+use Rattle.fedi_town.specs.Objects.{makes}
+use Rattle.fedi_register.specs.Marks.{mark_of}
+use Rattle.fedi_register.specs.Registers.{is_making, object_mark}
+use Rattle.fedi_register.proofs.Found.{found}
+use Rattle.fedi_register.proofs.Places.{made_marked, marked_narrower}
+use Rattle.fedi_register.proofs.register.Register.first_maker.Goals as goal
+
+pub returns : goal.returns
+returns g c = λ p decides.
+    let id = c.args.id.now in
+    let both : Act → Bool = λ x. makes id x && p x in
+    rw (← c.self.view_is)
+    (found is_making both object_mark _ _ _ _ _ _ (c.first_of.ensures both (search (rules, decides))) c.deref.ensures.value c.mark_of_iri.ensures c.self.invariant.0.object
+    (marked_narrower is_making (makes id) both object_mark (mark_of id) (made_marked id) (λ x is. (and_parts (makes id x) (p x) is).0)))

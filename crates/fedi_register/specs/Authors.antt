@@ -1,0 +1,44 @@
+-- The authors of the activities, and how many each has.
+use Rattle.std.specs.Prelude.{◌≡◌, ℕ, ◌+◌, Bool, List, map, Option, Some, None, if◌then◌else◌}
+use Rattle.std.specs.List.{find}
+use Rattle.std.specs.Str.{bytes_eq}
+use Rattle.fedi_register.specs.declared.authors.Author.{Author}
+use Rattle.fedi_register.specs.declared.authors.Authors.TheInside.{Inside}
+use Rattle.fedi_register.specs.Marks.{every, mark_of, marks_from}
+
+-- the author of this id
+unfoldable pub is_author : List ℕ → Author → Bool
+is_author id a = bytes_eq a.id id
+
+-- the number for the author's id
+unfoldable pub author_mark : Author → ℕ
+author_mark a = mark_of a.id
+
+-- what was counted, where something was
+abbrev pub count_found : Option Author → ℕ
+count_found None = 0
+count_found (Some a) = a.count
+
+-- how many activities were counted of the author of this id
+unfoldable pub count_in : List Author → List ℕ → ℕ
+count_in authors id = count_found (find (is_author id) authors)
+
+-- the ids of the authors
+abbrev pub ids_of : List Author → List (List ℕ)
+ids_of authors = map (λ a. a.id) authors
+
+-- the same was counted of each author
+pub record SameCounts (old new : List Author) : Type 0 where
+  pub count : (id : List ℕ) → count_in new id ≡ count_in old id
+
+-- of this author one more was counted
+pub record CountsOne (old new : List Author) (author : List ℕ) : Type 0 where
+  pub count : (id : List ℕ) → count_in new id ≡ count_in old id + (if bytes_eq author id then 1 else 0)
+
+-- the authors, as those see them who look up
+abbrev pub authors_in : Inside → List Author
+authors_in a = a.list.items
+
+-- each author is looked up by the id
+abbrev pub AreAuthors : Inside → Type 0
+AreAuthors a = a.ids.marks ≡ marks_from every author_mark 0 a.list.items

@@ -1,0 +1,129 @@
+//! The authors of the activities.
+
+ghost use Rattle.std.specs.Prelude.{◌≡◌, ◌+◌, ◌^◌, ◌<◌, [], IsTrue, OnOk, option_copied};
+ghost use Rattle.std.specs.List.{find};
+ghost use Rattle.fedi_address.specs.Recipients.{is_among};
+ghost use Rattle.fedi_register.specs.Authors.{CountsOne, SameCounts, author_mark, count_in, ids_of, is_author};
+ghost use Rattle.fedi_register.specs.Changes.{place_where};
+ghost use Rattle.fedi_register.specs.Following.{with_one};
+
+use crate::marks::{MOST_ITEMS, Marks, mark_of_iri};
+use fedi_address::Iri;
+use std::alloc::{AllocError, Global};
+use std::marker::Model;
+
+// How many activities an author has.
+#[derive(Drop)]
+pub(crate) struct Author {
+    id: Iri,
+    count: usize,
+}
+
+/// The authors in the order in which they became known, looked up by their ids.
+#[derive(Drop)]
+pub(crate) struct Authors {
+    list: Vec<Author>,
+    ids: Marks,
+}
+
+impl Model for Authors {
+    ghost use Rattle.std.specs.Prelude.{List};
+    ghost use Rattle.fedi_register.specs.declared.authors.Author.{Author as Counted};
+
+    ghost Value = { List Counted };
+
+    ghost use Rattle.fedi_register.specs.Authors.{AreAuthors, authors_in};
+
+    ghost view = { authors_in };
+
+    ghost invariant = { AreAuthors };
+}
+
+#[tactic(auto, unfolding(crate::specs::Authors::is_author))]
+fn is_author(author: &Author, id: &Iri) -> bool
+    ensures { result ≡ is_author id.now author.now }
+{
+    author.id == *id
+}
+
+fn count_more(author: &mut Author)
+    requires { author.old.count < 2 ^ 63 }
+    ensures { author.new ≡ record author.old { count = author.old.count + 1 } }
+{
+    author.count += 1;
+}
+
+impl Authors {
+    /// No authors.
+    pub(crate) fn empty(alloc: Global) -> Authors
+        ensures { result ≡ [] }
+    {
+        Authors {
+            list: Vec::new(alloc),
+            ids: Marks::empty(alloc),
+        }
+    }
+
+    fn find(&self, id: &Iri) -> Option<&Author>
+        ensures { option_copied result ≡ find (is_author id.now) self.now }
+    {
+        self.ids.first_of(&self.list, mark_of_iri(id), |author| is_author(author, id))
+    }
+
+    fn place_of(&self, id: &Iri) -> Option<usize>
+        ensures { result ≡ place_where (is_author id.now) self.now }
+    {
+        self.ids.place_of(&self.list, mark_of_iri(id), |author| is_author(author, id))
+    }
+
+    /// How many activities were counted of the author.
+    #[tactic(auto, unfolding(crate::specs::Authors::count_in))]
+    pub(crate) fn count_of(&self, id: &Iri) -> usize
+        ensures { result ≡ count_in self.now id.now }
+    {
+        match self.find(id) {
+            Some(author) => author.count,
+            None => 0,
+        }
+    }
+
+    fn is_known(&self, id: &Iri) -> bool
+        ensures { result ≡ is_among id.now (ids_of self.now) }
+    {
+        self.find(id).is_some()
+    }
+
+    /// Adds the author with no activities, unless the author is there. The error is out of memory, and
+    /// then all is as before.
+    pub(crate) fn add(&mut self, id: &Iri) -> Result<(), AllocError>
+        ensures known { OnOk result (ids_of self.new ≡ with_one (ids_of self.old) id.now) }
+        ensures counts { SameCounts self.old self.new }
+    {
+        if self.is_known(id) {
+            return Ok(());
+        }
+        let place = self.list.len();
+        if place > MOST_ITEMS {
+            return Err(AllocError);
+        }
+        self.ids.reserve()?;
+        let id = id.clone()?;
+        let mark = mark_of_iri(&id);
+        self.list.push(Author { id, count: 0 })?;
+        self.ids.push(mark, place as u32);
+        Ok(())
+    }
+
+    /// Counts one more activity of an author who is there.
+    pub(crate) fn count_one(&mut self, id: &Iri)
+        requires known { IsTrue (is_among id.now (ids_of self.old)) }
+        requires few { count_in self.old id.now < 2 ^ 63 }
+        ensures known { ids_of self.new ≡ ids_of self.old }
+        ensures counts { CountsOne self.old self.new id.now }
+    {
+        match self.place_of(id) {
+            Some(place) => count_more(&mut self.list[place]),
+            None => unreachable!(),
+        }
+    }
+}
