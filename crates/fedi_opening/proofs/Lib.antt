@@ -1,4 +1,5 @@
 pub mod Answers
 pub mod Keys
+pub mod Limits
 pub mod Records
 pub mod Times

@@ -1,7 +1,10 @@
-//! What an opening may find excludes all else.
+//! What an opening may find excludes all else, and which entries can be written.
 
-ghost use Rattle.std.specs.Prelude.{◌≡◌, ◌<◌, ℕ, List, Some, length};
+ghost use Rattle.std.specs.Prelude.{◌≡◌, ◌<◌, ℕ, IsTrue, List, Some, length};
+ghost use Rattle.fedi_entry.specs.Limits.{IsAttemptWithin, KeepsLimits};
 ghost use Rattle.fedi_objects.specs.declared.entry.Entry.{Entry};
+ghost use Rattle.fedi_town.specs.Legal.{is_admissible};
+ghost use Rattle.fedi_town.specs.Towns.{Town};
 ghost use Rattle.fedi_opening.specs.Opening.{IsDamaged, IsRead};
 
 /// Each list of records has one answer: it is the records of one history at most, it is damaged at one
@@ -16,4 +19,12 @@ pub fn records_have_one_answer()
     ensures either { (records : List (List ℕ)) (p : ℕ) (a b : List Entry)
         → IsRead (Some records) (length records) a
         → IsDamaged (Some records) (length records) p b → ⊥ }
+{}
+
+/// An entry that may come next can be written: each of its fields keeps its limit, if what came of an
+/// attempt does. That attempt was due, which says nothing of what came of it.
+#[tactic(auto, using(crate::proofs::Limits::admissible_keeps))]
+pub fn admissible_entries_keep_limits()
+    ensures { (t : Town) (e : Entry) → IsTrue (is_admissible t e) → IsAttemptWithin e
+        → KeepsLimits e }
 {}

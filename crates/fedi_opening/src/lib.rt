@@ -9,5 +9,5 @@ mod reading;
 
 pub use fault::OpenFault;
 pub use judging::may_come;
-pub use laws::records_have_one_answer;
+pub use laws::{admissible_entries_keep_limits, records_have_one_answer};
 pub use opening::open_history;
