@@ -10,7 +10,7 @@ use Rattle.fedi_town.specs.Addressing.{is_recipient, addressees, recipients_with
 use Rattle.fedi_town.specs.Effects.{to_one}
 use Rattle.fedi_town.specs.Ids.{followers_id}
 use Rattle.fedi_town.specs.Relations.{has_block_between, follows}
-use Rattle.fedi_town.specs.Seeing.{sees, sees_as, sees_with, reaches, is_of_peer, is_for_follower, is_followed_from}
+use Rattle.fedi_town.specs.Seeing.{sees, sees_as, sees_with, reaches, is_of_peer, is_for_follower}
 use Rattle.fedi_town.specs.Towns.{Town, id_of, is_by}
 use Rattle.fedi_town.specs.declared.act.Act.{Act}
 use Rattle.fedi_town.specs.declared.caller.Caller.{Caller}

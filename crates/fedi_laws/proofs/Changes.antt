@@ -23,9 +23,9 @@ use Rattle.fedi_town.specs.Objects.{is_deleted, is_whole, maker, makes}
 use Rattle.fedi_town.specs.Relations.{ref_id}
 use Rattle.fedi_town.specs.Rules.{broken, broken_about, broken_post, change_rule, first_broken, number_rule, refuse_if, seen_maker}
 use Rattle.fedi_town.specs.Seeing.{sees}
-use Rattle.fedi_town.specs.Shapes.{is_activity_within, is_posted, is_posted_ref, is_self_target}
+use Rattle.fedi_town.specs.Shapes.{is_activity_within, is_posted, is_posted_ref}
 use Rattle.fedi_town.specs.States.{is_own_live, state_about, state_of}
-use Rattle.fedi_town.specs.Towns.{Town, count_of, id_of, is_by}
+use Rattle.fedi_town.specs.Towns.{Town, id_of, is_by}
 use Rattle.fedi_town.proofs.Finding.{find-seen, seen_or}
 use Rattle.fedi_laws.proofs.People.{id_of-is}
 use Rattle.fedi_laws.proofs.Members.{is_member}

@@ -12,7 +12,7 @@ use Rattle.fedi_town.specs.Agreement.{Agree, SameOwn, IsSameOwn, peer_of}
 use Rattle.fedi_town.specs.Histories.{with_recipient}
 use Rattle.fedi_town.specs.Objects.{makes, maker_of, object_of}
 use Rattle.fedi_town.specs.Relations.{ref_id, is_id, is_about, is_block_of, blocks, has_block_between, is_follow_of, follows, is_following}
-use Rattle.fedi_town.specs.Seeing.{sees, sees_as, sees_with, seen, reaches, is_of_peer, is_for_follower, is_follower_from, is_followed_from}
+use Rattle.fedi_town.specs.Seeing.{sees, sees_as, sees_with, seen, reaches, is_of_peer, is_for_follower, is_follower_from}
 use Rattle.fedi_town.specs.Showing.{sight_of, shown_ref, shown_activity, present_object, id_of_caller, own_among, view}
 use Rattle.fedi_town.specs.Towns.{Town, id_of, is_by}
 use Rattle.fedi_town.specs.declared.act.Act.{Act}
