@@ -9,7 +9,7 @@ use Rattle.std.proofs.lemmas.List.Folds.{list_any-append}
 use Rattle.std.proofs.lemmas.Slice.Eq.{bytes_eq-Decides}
 use Rattle.fedi_address.specs.Recipients.{is_among}
 use Rattle.fedi_town.proofs.Lists.{first_none, other_none, or_none}
-use Rattle.fedi_town.specs.Lists.{differs, each_once}
+use Rattle.fedi_town.proofs.Once.{distinct_once}
 use Rattle.fedi_town.specs.Relations.{followers, is_following}
 use Rattle.fedi_town.specs.Shapes.{is_each_once}
 use Rattle.fedi_town.specs.Towns.{Town}
@@ -25,41 +25,6 @@ swapped a b other =
 not_false : (b : Bool) → not b ≡ true → b ≡ false
 not_false true e = absurd cc
 not_false false e = refl
-
--- ---- each once
-
-none-filtered : (p : List ℕ → Bool) (f : List ℕ) (xs : List (List ℕ)) → is_among f xs ≡ false → is_among f (filter p xs) ≡ false
-unfolding is_among
-none-filtered p f [] none = refl
-none-filtered p f (x ∷ xs) none =
-    let rest = none-filtered p f xs (other_none (bytes_eq x f) (is_among f xs) none) in
-    elim (p x) as (λ b. is_among f (cond b (x ∷ filter p xs) (filter p xs)) ≡ false) [
-      | true ↦ rw (first_none (bytes_eq x f) (is_among f xs) none, rest) refl
-      | false ↦ rest
-    ]
-
-once-filtered : (p : List ℕ → Bool) (xs : List (List ℕ)) → is_each_once xs ≡ true → is_each_once (filter p xs) ≡ true
-once-filtered p [] once = refl
-once-filtered p (x ∷ xs) once =
-    let parts = and_parts (not (is_among x xs)) (is_each_once xs) once in
-    let rest = once-filtered p xs parts.1 in
-    elim (p x) as (λ b. is_each_once (cond b (x ∷ filter p xs) (filter p xs)) ≡ true) [
-      | true ↦ rw (none-filtered p x xs (not_false (is_among x xs) parts.0), rest) refl
-      | false ↦ rest
-    ]
-
-none-others : (x : List ℕ) (xs : List (List ℕ)) → is_among x (filter (differs bytes_eq x) xs) ≡ false
-unfolding is_among differs
-none-others x [] = refl
-none-others x (y ∷ xs) =
-    elim (bytes_eq x y) as (λ b. bytes_eq x y ≡ b → is_among x (cond (not b) (y ∷ filter (differs bytes_eq x) xs) (filter (differs bytes_eq x) xs)) ≡ false) [
-      | true ↦ λ e. none-others x xs
-      | false ↦ λ e. rw (swapped x y e, none-others x xs) refl
-    ] refl
-
-firsts-once : (xs : List (List ℕ)) → is_each_once (each_once xs) ≡ true
-firsts-once [] = refl
-firsts-once (x ∷ xs) = rw (none-others x (each_once xs), once-filtered (differs bytes_eq x) (each_once xs) (firsts-once xs)) refl
 
 -- ---- found anew
 
@@ -98,4 +63,4 @@ fold-apart t author found (x ∷ xs) once =
 pub followers_apart : (t : Town) (author b : List ℕ) (found : List (List ℕ))
     → found ++ filter (is_new_recipient t author found) (followers t b) ≡ fold (with_reached t author) found (followers t b)
 unfolding followers
-followers_apart t author b found = sym (fold-apart t author found (followers t b) (firsts-once (map (λ x. x.author) (filter (is_following b) t.acts))))
+followers_apart t author b found = sym (fold-apart t author found (followers t b) (distinct_once (map (λ x. x.author) (filter (is_following b) t.acts))))

@@ -5,7 +5,7 @@ use Rattle.std.specs.List.{fold, list_any}
 use Rattle.std.specs.Str.{bytes_eq}
 use Rattle.std.proofs.lemmas.List.Sums.{fold_push}
 use Rattle.std.proofs.lemmas.Slice.Eq.{bytes_eq-Decides}
-use Rattle.fedi_address.specs.Recipients.{is_among}
+use Rattle.fedi_address.specs.Recipients.{add_new, is_among}
 use Rattle.fedi_objects.specs.declared.entry.Entry.{Entry}
 use Rattle.fedi_objects.specs.declared.entry.Entry.TheVariants.{Hosted, Made, PeerSet, Local, Remote, Tried}
 use Rattle.fedi_town.specs.declared.act.Act.{Act}
@@ -18,7 +18,6 @@ use Rattle.fedi_effects.specs.declared.ready.Ready.{Ready}
 use Rattle.fedi_effects.specs.declared.ready.Ready.TheVariants as ready
 use Rattle.fedi_effects.specs.Additions.{HasAuthors, IsBuiltAddition, addition_in, with_answerer, with_authors}
 use Rattle.fedi_register.specs.Changes.{AreMadeOnce}
-use Rattle.fedi_register.specs.Following.{with_one}
 
 -- ---- histories
 
@@ -71,16 +70,14 @@ more_among (x ∷ known) a b there =
       | false ↦ λ h. more_among known a b h
     ] there
 
-known_now : (known : List (List ℕ)) (a : List ℕ) → is_among a (with_one known a) ≡ true
-unfolding with_one
+known_now : (known : List (List ℕ)) (a : List ℕ) → is_among a (add_new known a) ≡ true
 known_now known a =
     elim (is_among a known) as (λ b. is_among a known ≡ b → is_among a (if b then known else known ++ a ∷ []) ≡ true) [
       | true ↦ λ e. e
       | false ↦ λ e. last_among known a
     ] refl
 
-known_still : (known : List (List ℕ)) (a b : List ℕ) → is_among a known ≡ true → is_among a (with_one known b) ≡ true
-unfolding with_one
+known_still : (known : List (List ℕ)) (a b : List ℕ) → is_among a known ≡ true → is_among a (add_new known b) ≡ true
 known_still known a b there =
     elim (is_among b known) as (λ c. is_among a (if c then known else known ++ b ∷ []) ≡ true) [ true ↦ there | false ↦ more_among known a b there ]
 
@@ -90,7 +87,7 @@ authors_with known (ready.Host host) = tt
 authors_with known (ready.Member member) = tt
 authors_with known (ready.Activity act effect None) = (known_now known act.author, tt)
 authors_with known (ready.Activity act effect (Some answer)) =
-    (known_still (with_one known act.author) act.author answer.author (known_now known act.author), known_now (with_one known act.author) answer.author)
+    (known_still (add_new known act.author) act.author answer.author (known_now known act.author), known_now (add_new known act.author) answer.author)
 
 pub authors_known : (before known : List (List ℕ)) (r : Ready) → known ≡ with_authors before r → HasAuthors known r
 authors_known before known r is = subst (λ (ids : List (List ℕ)). HasAuthors ids r) (sym is) (authors_with before r)

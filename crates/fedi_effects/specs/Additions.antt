@@ -1,11 +1,10 @@
 -- What was made ready of an addition.
 use Rattle.std.specs.Prelude.{ℕ, ⊤, IsTrue, List, Option, Some, None}
-use Rattle.fedi_address.specs.Recipients.{is_among}
+use Rattle.fedi_address.specs.Recipients.{add_new, is_among}
 use Rattle.fedi_town.specs.declared.act.Act.{Act}
 use Rattle.fedi_town.specs.declared.addition.Addition.{Addition}
 use Rattle.fedi_town.specs.declared.addition.Addition.TheVariants as additions
 use Rattle.fedi_effects.specs.declared.ready.Ready.{Ready}
-use Rattle.fedi_register.specs.Following.{with_one}
 use Rattle.fedi_effects.specs.declared.ready.Ready.TheVariants as ready
 
 -- the addition that it was made of
@@ -40,11 +39,11 @@ HasAuthors known (ready.Activity act effect answer) = IsTrue (is_among act.autho
 -- the answer's author becomes known
 abbrev pub with_answerer : List (List ℕ) → Option Act → List (List ℕ)
 with_answerer known None = known
-with_answerer known (Some answer) = with_one known answer.author
+with_answerer known (Some answer) = add_new known answer.author
 
 -- the authors of the activities become known
 abbrev pub with_authors : List (List ℕ) → Ready → List (List ℕ)
 with_authors known ready.Nothing = known
 with_authors known (ready.Host host) = known
 with_authors known (ready.Member member) = known
-with_authors known (ready.Activity act effect answer) = with_answerer (with_one known act.author) answer
+with_authors known (ready.Activity act effect answer) = with_answerer (add_new known act.author) answer

@@ -3,7 +3,7 @@
 ghost use Rattle.std.specs.Prelude.{◌≡◌, IfOk, OnOk};
 ghost use Rattle.fedi_effects.specs.Additions.{IsBuiltAddition, addition_in, with_answerer, with_authors};
 ghost use Rattle.fedi_town.specs.declared.addition.Addition.TheVariants as additions;
-ghost use Rattle.fedi_register.specs.Following.{with_one};
+ghost use Rattle.fedi_address.specs.Recipients.{add_new};
 
 use fedi_address::Host;
 use fedi_kept::{Kept, Pool};
@@ -144,7 +144,7 @@ fn know_both(register: &mut Register, act: &Kept, answer: &Option<Kept>) -> Resu
     ensures acts { register.new.acts ≡ register.old.acts }
     ensures room { register.new.room ≡ register.old.room }
     ensures known { OnOk result (register.new.known
-        ≡ with_answerer (with_one register.old.known act.now.author) answer.now) }
+        ≡ with_answerer (add_new register.old.known act.now.author) answer.now) }
 {
     register.know(act.author())?;
     know_answerer(register, answer)

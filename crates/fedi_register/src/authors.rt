@@ -2,10 +2,9 @@
 
 ghost use Rattle.std.specs.Prelude.{◌≡◌, ◌+◌, ◌^◌, ◌<◌, [], IsTrue, OnOk, option_copied};
 ghost use Rattle.std.specs.List.{find};
-ghost use Rattle.fedi_address.specs.Recipients.{is_among};
+ghost use Rattle.fedi_address.specs.Recipients.{add_new, is_among};
 ghost use Rattle.fedi_register.specs.Authors.{CountsOne, SameCounts, author_mark, count_in, ids_of, is_author};
 ghost use Rattle.fedi_register.specs.Changes.{place_where};
-ghost use Rattle.fedi_register.specs.Following.{with_one};
 
 use crate::marks::{MOST_ITEMS, Marks, mark_of_iri};
 use fedi_address::Iri;
@@ -96,7 +95,7 @@ impl Authors {
     /// Adds the author with no activities, unless the author is there. The error is out of memory, and
     /// then all is as before.
     pub(crate) fn add(&mut self, id: &Iri) -> Result<(), AllocError>
-        ensures known { OnOk result (ids_of self.new ≡ with_one (ids_of self.old) id.now) }
+        ensures known { OnOk result (ids_of self.new ≡ add_new (ids_of self.old) id.now) }
         ensures counts { SameCounts self.old self.new }
     {
         if self.is_known(id) {

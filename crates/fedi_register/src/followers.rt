@@ -1,7 +1,8 @@
 //! What a loop over activities gathers of those who follow somebody.
 
 ghost use Rattle.std.specs.Prelude.{◌≡◌, OnOk};
-ghost use Rattle.fedi_register.specs.Following.{with_follower, with_one};
+ghost use Rattle.fedi_address.specs.Recipients.{add_new};
+ghost use Rattle.fedi_register.specs.Following.{with_follower};
 
 use crate::acts::is_following;
 use fedi_address::{Iri, is_among};
@@ -9,9 +10,8 @@ use fedi_kept::Kept;
 use std::alloc::AllocError;
 
 // Adds the IRI unless it was found before.
-#[tactic(auto, unfolding(crate::specs::Following::with_one))]
 fn add_one(found: &mut Vec<Iri>, iri: &Iri) -> Result<(), AllocError>
-    ensures { OnOk result (found.new.items ≡ with_one found.old.items iri.now) }
+    ensures { OnOk result (found.new.items ≡ add_new found.old.items iri.now) }
 {
     if is_among(iri.text(), found) {
         return Ok(());

@@ -3,14 +3,14 @@
 ghost use Rattle.std.specs.Prelude.{◌≡◌, ◌∷◌, Bool, [], ◌+◌, ◌-◌, ◌&&◌, ◌^◌, ◌<◌, ◌≤◌, ◌++◌, IsTrue, OnOk, map, vec_len, vec_capacity, option_copied, option_map, if◌then◌else◌};
 ghost use Rattle.std.specs.Fn.{FnReturnsAt};
 ghost use Rattle.std.specs.List.{find, fold, list_any};
-ghost use Rattle.fedi_address.specs.Recipients.{is_among};
+ghost use Rattle.fedi_address.specs.Recipients.{add_new, is_among};
 ghost use Rattle.fedi_town.specs.declared.act.Act.{Act};
 ghost use Rattle.fedi_town.specs.Effects.{affect};
 ghost use Rattle.fedi_town.specs.Objects.{makes};
 ghost use Rattle.fedi_town.specs.Relations.{has_activity_id, is_block_of, is_follow_of};
 ghost use Rattle.fedi_town.specs.States.{is_announce_of, is_like_of};
 ghost use Rattle.fedi_register.specs.Changes.{AreMadeOnce};
-ghost use Rattle.fedi_register.specs.Following.{with_follower, with_one};
+ghost use Rattle.fedi_register.specs.Following.{with_follower};
 ghost use Rattle.fedi_register.specs.Keys.{is_repeat};
 ghost use Rattle.fedi_register.specs.Marks.{Decides};
 ghost use Rattle.fedi_register.specs.Registers.{IsNarrower, asks_to_follow, count_by, has_own_id, is_keyed, is_making, key_mark, object_mark, own_mark, pair_mark, ref_mark, relates, relates_to, relation_mark, with_follower_at};
@@ -391,7 +391,7 @@ impl Register {
     pub fn know(&mut self, author: &Iri) -> Result<(), AllocError>
         ensures acts { self.new.acts ≡ self.old.acts }
         ensures room { self.new.room ≡ self.old.room }
-        ensures ok { OnOk result (self.new.known ≡ with_one self.old.known author.now) }
+        ensures ok { OnOk result (self.new.known ≡ add_new self.old.known author.now) }
     {
         self.authors.add(author)
     }

@@ -1,14 +1,12 @@
 use Rattle.std.proofs.Common.{◌≡◌, ◌∙◌, refl, sym, ap, true, false}
 use Rattle.fedi_address.specs.Recipients.{is_among}
 use Rattle.fedi_register.specs.Authors.{author_mark, ids_of}
-use Rattle.fedi_register.specs.Following.{with_one}
 use Rattle.fedi_register.specs.Marks.{every}
 use Rattle.fedi_register.proofs.Counts.{counts_added, ids_added}
 use Rattle.fedi_register.proofs.Indexed.{marks_pushed}
 use Rattle.fedi_register.proofs.authors.Authors.add.Goals as goal
 
 pub returns-then-is_known-clause-known : goal.returns-then-is_known-clause-known
-unfolding with_one
 returns-then-is_known-clause-known c =
     let known : is_among c.args.id.now (ids_of c.args.self.now) ≡ true = sym c.is_known.ensures ∙ c.if-is_known.true in
     rw known refl
@@ -21,7 +19,6 @@ invariant_of-self-2 c =
     c.mark_of_iri-mark.ensures (c.reserve.ensures.marks ∙ c.self.invariant) (ap (λ m. m.marks) c.push-2.ensures))
 
 pub returns-clause-known : goal.returns-clause-known
-unfolding with_one
 returns-clause-known c =
     let other : is_among c.args.id.now (ids_of c.args.self.now) ≡ false = sym c.is_known.ensures ∙ c.if-is_known.false in
     rw (other, c.in_ok-push.ensures.items, ids_added, ← c.self.view_is, c.in_ok-id.ensures.cases) refl
