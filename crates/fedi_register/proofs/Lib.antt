@@ -1,5 +1,6 @@
 pub mod Chains
 pub mod Counts
+pub mod Edited
 pub mod Found
 pub mod Indexed
 pub mod Once

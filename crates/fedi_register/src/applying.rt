@@ -1,56 +1,92 @@
-//! What an accepted activity does to earlier ones. Nothing here takes memory, so that a change which
-//! was made ready cannot fail.
+//! What an accepted activity does to earlier ones: to those alone that it concerns, which are found by
+//! their marks. Nothing here takes memory, so that a change which was made ready cannot fail.
 
-ghost use Rattle.std.specs.Prelude.{◌≡◌, Some, None, map, length, nat_lt, if◌then◌else◌};
-ghost use Rattle.std.specs.List.{position_or_len};
-ghost use Rattle.fedi_town.specs.Effects.{affect, end_follow, is_pending_follow, is_standing_activity, where_passes};
+ghost use Rattle.std.specs.Prelude.{◌≡◌, ◌<◌, Some, length, map, set, slice_get};
+ghost use Rattle.fedi_town.specs.declared.act.Act.{Act};
+ghost use Rattle.fedi_town.specs.Effects.{affect, end_follow, in_state, is_pending_follow, is_standing_activity, where_passes};
 ghost use Rattle.fedi_town.specs.Lists.{PassesOnce};
 ghost use Rattle.fedi_town.specs.Objects.{makes, rewrite_act, tombstone_of, update_object};
-ghost use Rattle.fedi_register.specs.Changes.{AreMadeOnce, accept_one, end_both, undo_one};
+ghost use Rattle.fedi_register.specs.Changes.{AreMadeOnce, accept_one, end_both, is_state, is_unended, place_where, undo_one};
+ghost use Rattle.fedi_register.specs.Marks.{marks_from};
+ghost use Rattle.fedi_register.specs.Registers.{has_own_id, is_making, object_mark, own_mark, relates, relation_mark};
 
 use crate::acts::{has_activity_id, is_follow, is_open_follow, is_pending, is_standing, makes};
+use crate::marks::{Marks, mark_of_iri, mark_of_iris};
 use fedi_address::Iri;
 use fedi_kept::Kept;
 use fedi_objects::{ObjectRef, State};
 use fedi_text::Text;
 use fedi_town::Effect;
 
-#[tactic(auto, unfolding(fedi_town::specs::Effects::end_follow))]
-fn end_follow(act: &mut Kept, follower: &Iri, followee: &Iri, state: State)
-    ensures { act.new ≡ end_follow follower.now followee.now state act.old }
+fn set_state_at(acts: &mut [Kept], place: usize, state: State)
+    requires { place < length acts.old }
+    ensures { (y : Act) → slice_get acts.old place ≡ Some y
+        → acts.new ≡ set acts.old place (in_state state y) }
 {
-    if is_open_follow(act, follower, followee) {
-        act.set_state(state);
-    }
+    acts[place].set_state(state);
+}
+
+// ---- Follows
+
+fn is_state(own: State, state: State) -> bool
+    ensures { result ≡ is_state own state }
+{
+    matches!(
+        (own, state),
+        (State::Plain, State::Plain)
+            | (State::Done, State::Done)
+            | (State::Pending, State::Pending)
+            | (State::Accepted, State::Accepted)
+            | (State::Rejected, State::Rejected)
+            | (State::Standing, State::Standing)
+            | (State::Undone, State::Undone)
+    )
+}
+
+#[tactic(auto, unfolding(crate::specs::Changes::is_unended))]
+fn is_unended(act: &Kept, follower: &Iri, followee: &Iri, state: State) -> bool
+    ensures { result ≡ is_unended follower.now followee.now state act.now }
+{
+    is_open_follow(act, follower, followee) && !is_state(act.state(), state)
+}
+
+// The place of the first Follow of the one by the other that waits or was accepted, and has not ended so.
+fn unended_follow(
+    acts: &[Kept],
+    pairs: &Marks,
+    follower: &Iri,
+    followee: &Iri,
+    state: State,
+) -> Option<usize>
+    requires { pairs.now.marks ≡ marks_from relates relation_mark 0 acts.now }
+    ensures { result ≡ place_where (is_unended follower.now followee.now state) acts.now }
+{
+    pairs.place_of(acts, mark_of_iris(follower, followee), |act| {
+        is_unended(act, follower, followee, state)
+    })
 }
 
 // Each Follow of the one by the other that waits or was accepted ends so.
-#[tactic(auto, using(std::proofs::lemmas::List::Edits::map_over_more))]
-fn end_follows(acts: &mut [Kept], follower: &Iri, followee: &Iri, state: State)
-    ensures { acts.new ≡ map (end_follow follower.now followee.now state) acts.old }
+fn end_follows(acts: &mut [Kept], pairs: &Marks, follower: &Iri, followee: &Iri, state: State)
+    requires { pairs.now.marks ≡ marks_from relates relation_mark 0 acts.old }
+    ensures acts { acts.new ≡ map (end_follow follower.now followee.now state) acts.old }
+    ensures marks { pairs.now.marks ≡ marks_from relates relation_mark 0 acts.new }
 {
-    for act in acts.iter_mut() {
-        end_follow(act, follower, followee, state);
+    while let Some(place) = unended_follow(acts, pairs, follower, followee, state) {
+        set_state_at(acts, place, state);
     }
-}
-
-#[tactic(auto, unfolding(crate::specs::Changes::end_both))]
-fn end_both_in(act: &mut Kept, author: &Iri, other: &Iri)
-    ensures { act.new ≡ end_both author.now other.now act.old }
-{
-    end_follow(act, other, author, State::Undone);
-    end_follow(act, author, other, State::Undone);
 }
 
 // Each Follow between the two ends, in either direction.
-#[tactic(auto, using(std::proofs::lemmas::List::Edits::map_over_more))]
-fn end_both(acts: &mut [Kept], author: &Iri, other: &Iri)
+fn end_both(acts: &mut [Kept], pairs: &Marks, author: &Iri, other: &Iri)
+    requires { pairs.now.marks ≡ marks_from relates relation_mark 0 acts.old }
     ensures { acts.new ≡ map (end_both author.now other.now) acts.old }
 {
-    for act in acts.iter_mut() {
-        end_both_in(act, author, other);
-    }
+    end_follows(acts, pairs, other, author, State::Undone);
+    end_follows(acts, pairs, author, other, State::Undone);
 }
+
+// ---- answers
 
 #[tactic(auto, unfolding(fedi_town::specs::Effects::is_pending_follow))]
 fn is_pending_follow(act: &Kept, id: &Iri) -> bool
@@ -59,22 +95,20 @@ fn is_pending_follow(act: &Kept, id: &Iri) -> bool
     has_activity_id(act, id) && is_follow(act) && is_pending(act.state())
 }
 
-#[tactic(auto, unfolding(crate::specs::Changes::accept_one))]
-fn accept_in(act: &mut Kept, follow: &Iri)
-    ensures { act.new ≡ accept_one follow.now act.old }
+fn pending_follow(acts: &[Kept], ids: &Marks, id: &Iri) -> Option<usize>
+    requires { ids.now.marks ≡ marks_from has_own_id own_mark 0 acts.now }
+    ensures { result ≡ place_where (is_pending_follow id.now) acts.now }
 {
-    if is_pending_follow(act, follow) {
-        act.set_state(State::Accepted);
-    }
+    ids.place_of(acts, mark_of_iri(id), |act| is_pending_follow(act, id))
 }
 
 // The Follow of this id is accepted, if it waits.
-#[tactic(auto, using(std::proofs::lemmas::List::Edits::map_over_more))]
-fn accept(acts: &mut [Kept], follow: &Iri)
+fn accept(acts: &mut [Kept], ids: &Marks, follow: &Iri)
+    requires { ids.now.marks ≡ marks_from has_own_id own_mark 0 acts.old }
     ensures { acts.new ≡ map (accept_one follow.now) acts.old }
 {
-    for act in acts.iter_mut() {
-        accept_in(act, follow);
+    while let Some(place) = pending_follow(acts, ids, follow) {
+        set_state_at(acts, place, State::Accepted);
     }
 }
 
@@ -85,76 +119,87 @@ fn is_standing_activity(act: &Kept, id: &Iri) -> bool
     has_activity_id(act, id) && is_standing(act.state())
 }
 
-#[tactic(auto, unfolding(crate::specs::Changes::undo_one))]
-fn undo_in(act: &mut Kept, activity: &Iri)
-    ensures { act.new ≡ undo_one activity.now act.old }
+fn standing_activity(acts: &[Kept], ids: &Marks, id: &Iri) -> Option<usize>
+    requires { ids.now.marks ≡ marks_from has_own_id own_mark 0 acts.now }
+    ensures { result ≡ place_where (is_standing_activity id.now) acts.now }
 {
-    if is_standing_activity(act, activity) {
-        act.set_state(State::Undone);
-    }
+    ids.place_of(acts, mark_of_iri(id), |act| is_standing_activity(act, id))
 }
 
 // The activity of this id is taken back, if it stands.
-#[tactic(auto, using(std::proofs::lemmas::List::Edits::map_over_more))]
-fn undo(acts: &mut [Kept], activity: &Iri)
+fn undo(acts: &mut [Kept], ids: &Marks, activity: &Iri)
+    requires { ids.now.marks ≡ marks_from has_own_id own_mark 0 acts.old }
     ensures { acts.new ≡ map (undo_one activity.now) acts.old }
 {
-    for act in acts.iter_mut() {
-        undo_in(act, activity);
+    while let Some(place) = standing_activity(acts, ids, activity) {
+        set_state_at(acts, place, State::Undone);
     }
 }
 
+// ---- objects
+
 // Where the activity is that made the object.
-fn place_of(acts: &[Kept], object: &Iri) -> Option<usize>
-    ensures { result ≡ if nat_lt (position_or_len (makes object.now) acts.now) (length acts.now)
-        then Some (position_or_len (makes object.now) acts.now) else None }
+fn place_of(acts: &[Kept], made: &Marks, object: &Iri) -> Option<usize>
+    requires { made.now.marks ≡ marks_from is_making object_mark 0 acts.now }
+    ensures { result ≡ place_where (makes object.now) acts.now }
 {
-    acts.iter().position(|act| makes(act, object))
+    made.place_of(acts, mark_of_iri(object), |act| makes(act, object))
 }
 
 // The object is changed by what an Update carries.
-fn update(acts: &mut [Kept], object: &Iri, by: ObjectRef, stamp: Text)
-    requires { PassesOnce (makes object.now) acts.old }
+fn update(acts: &mut [Kept], made: &Marks, object: &Iri, by: ObjectRef, stamp: Text)
+    requires once { PassesOnce (makes object.now) acts.old }
+    requires marks { made.now.marks ≡ marks_from is_making object_mark 0 acts.old }
     ensures { acts.new
         ≡ map (where_passes (makes object.now) (rewrite_act (update_object by stamp))) acts.old }
 {
-    if let Some(place) = place_of(acts, object) {
+    if let Some(place) = place_of(acts, made, object) {
         acts[place].update_object(by, stamp);
     }
 }
 
 // A Tombstone is left of the object.
-fn bury(acts: &mut [Kept], object: &Iri, kind: Text, stamp: Text)
-    requires { PassesOnce (makes object.now) acts.old }
+fn bury(acts: &mut [Kept], made: &Marks, object: &Iri, kind: Text, stamp: Text)
+    requires once { PassesOnce (makes object.now) acts.old }
+    requires marks { made.now.marks ≡ marks_from is_making object_mark 0 acts.old }
     ensures { acts.new
         ≡ map (where_passes (makes object.now) (rewrite_act (tombstone_of kind stamp))) acts.old }
 {
-    if let Some(place) = place_of(acts, object) {
+    if let Some(place) = place_of(acts, made, object) {
         acts[place].bury(kind, stamp);
     }
 }
 
 /// The effect of an accepted activity on those before it (ActivityPub, sections 6 and 7).
 #[tactic(auto, using(crate::proofs::Once::nothing_changes), unfolding(crate::specs::Changes::accept_one, crate::specs::Changes::undo_one, crate::specs::Changes::end_both))]
-pub(crate) fn apply_effect(acts: &mut [Kept], effect: Effect)
-    requires { AreMadeOnce acts.old }
+pub(crate) fn apply_effect(
+    acts: &mut [Kept],
+    made: &Marks,
+    ids: &Marks,
+    pairs: &Marks,
+    effect: Effect,
+)
+    requires once { AreMadeOnce acts.old }
+    requires made { made.now.marks ≡ marks_from is_making object_mark 0 acts.old }
+    requires ids { ids.now.marks ≡ marks_from has_own_id own_mark 0 acts.old }
+    requires pairs { pairs.now.marks ≡ marks_from relates relation_mark 0 acts.old }
     ensures { acts.new ≡ map (affect effect) acts.old }
 {
     match effect {
         Effect::Nothing => {}
-        Effect::Update { object, by, stamp } => update(acts, &object, by, stamp),
+        Effect::Update { object, by, stamp } => update(acts, made, &object, by, stamp),
         Effect::Delete {
             object,
             kind,
             stamp,
-        } => bury(acts, &object, kind, stamp),
-        Effect::Accept { follow } => accept(acts, &follow),
+        } => bury(acts, made, &object, kind, stamp),
+        Effect::Accept { follow } => accept(acts, ids, &follow),
         Effect::EndFollows {
             follower,
             followee,
             state,
-        } => end_follows(acts, &follower, &followee, state),
-        Effect::EndBoth { author, other } => end_both(acts, &author, &other),
-        Effect::Undo { activity } => undo(acts, &activity),
+        } => end_follows(acts, pairs, &follower, &followee, state),
+        Effect::EndBoth { author, other } => end_both(acts, pairs, &author, &other),
+        Effect::Undo { activity } => undo(acts, ids, &activity),
     }
 }

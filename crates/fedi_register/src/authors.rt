@@ -3,7 +3,7 @@
 ghost use Rattle.std.specs.Prelude.{◌≡◌, ◌+◌, ◌^◌, ◌<◌, [], IsTrue, OnOk, option_copied};
 ghost use Rattle.std.specs.List.{find};
 ghost use Rattle.fedi_address.specs.Recipients.{add_new, is_among};
-ghost use Rattle.fedi_register.specs.Authors.{CountsOne, SameCounts, author_mark, count_in, ids_of, is_author};
+ghost use Rattle.fedi_register.specs.Authors.{CountsOne, SameCounts, count_in, ids_of, is_author};
 ghost use Rattle.fedi_register.specs.Changes.{place_where};
 
 use crate::marks::{MOST_ITEMS, Marks, mark_of_iri};

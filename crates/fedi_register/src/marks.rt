@@ -4,7 +4,6 @@
 
 ghost use Rattle.std.specs.Prelude.{◌≡◌, ℕ, Bool, ◌∷◌, [], ◌+◌, ◌-◌, ◌^◌, ◌<◌, ◌≤◌, ◌++◌, OnErr, OnOk, length, option_copied, set, slice_index, vec_capacity, vec_len};
 ghost use Rattle.std.specs.Fn.{FnReturnsAt};
-ghost use Rattle.std.specs.List.{fold};
 ghost use Rattle.fedi_register.specs.Chains.{HasHeads, IsChained, chain_of, marks_of, newest, step_before};
 ghost use Rattle.fedi_register.specs.Marks.{Decides, first_place, item_at, mark_after, mark_of, mark_of_pair, mark_step, passes_at};
 

@@ -12,7 +12,7 @@ ghost use Rattle.fedi_town.specs.States.{is_announce_of, is_like_of};
 ghost use Rattle.fedi_register.specs.Changes.{AreMadeOnce};
 ghost use Rattle.fedi_register.specs.Following.{with_follower};
 ghost use Rattle.fedi_register.specs.Keys.{is_repeat};
-ghost use Rattle.fedi_register.specs.Marks.{Decides};
+ghost use Rattle.fedi_register.specs.Marks.{Decides, marks_from};
 ghost use Rattle.fedi_register.specs.Registers.{IsNarrower, asks_to_follow, count_by, has_own_id, is_keyed, is_making, key_mark, object_mark, own_mark, pair_mark, ref_mark, relates, relates_to, relation_mark, with_follower_at};
 
 use crate::acts::{
@@ -224,13 +224,16 @@ fn add_followers(
     Ok(())
 }
 
-fn apply_in_place(acts: &mut Vec<Kept>, effect: Effect)
-    requires { AreMadeOnce acts.old.items }
+fn apply_in_place(acts: &mut Vec<Kept>, made: &Marks, ids: &Marks, pairs: &Marks, effect: Effect)
+    requires once { AreMadeOnce acts.old.items }
+    requires made { made.now.marks ≡ marks_from is_making object_mark 0 acts.old.items }
+    requires ids { ids.now.marks ≡ marks_from has_own_id own_mark 0 acts.old.items }
+    requires pairs { pairs.now.marks ≡ marks_from relates relation_mark 0 acts.old.items }
     ensures items { acts.new.items ≡ map (affect effect) acts.old.items }
     ensures len { vec_len acts.new ≡ vec_len acts.old }
     ensures capacity { vec_capacity acts.new ≡ vec_capacity acts.old }
 {
-    apply_effect(acts.as_mut_slice(), effect);
+    apply_effect(acts.as_mut_slice(), made, ids, pairs, effect);
 }
 
 impl Register {
@@ -401,7 +404,7 @@ impl Register {
         requires { AreMadeOnce self.old.acts }
         ensures { self.new ≡ record self.old { acts = map (affect effect) self.old.acts } }
     {
-        apply_in_place(&mut self.acts, effect);
+        apply_in_place(&mut self.acts, &self.made, &self.ids, &self.pairs, effect);
     }
 
     /// Adds an activity of a known author, where there is room for it. It takes no memory.

@@ -1,6 +1,13 @@
-use Rattle.std.proofs.Common.{◌≡◌, map, ◌++◌, take, drop}
-use Rattle.fedi_register.specs.Changes.{accept_one}
+use Rattle.std.proofs.Common.{length}
+use Rattle.std.specs.Prelude.{filter}
+use Rattle.fedi_objects.specs.declared.kind.State.TheVariants.{Accepted}
+use Rattle.fedi_town.specs.Effects.{in_state, is_pending_follow}
+use Rattle.fedi_register.specs.Registers.{has_own_id, own_mark}
+use Rattle.fedi_register.proofs.Edited.{IsEditing}
 use Rattle.fedi_register.proofs.applying.accept.Given as goal
 
-abbrev pub invariant-loop-act : goal.invariant-loop-act
-invariant-loop-act l = l.acts ≡ map (accept_one l.follow) (take l.act-index l.initial.acts) ++ drop l.act-index l.initial.acts
+abbrev pub invariant-loop-place : goal.invariant-loop-place
+invariant-loop-place l = IsEditing (is_pending_follow l.follow) (in_state Accepted) has_own_id own_mark l.ids.marks l.fn.acts l.acts
+
+abbrev pub decreases-loop-place : goal.decreases-loop-place
+decreases-loop-place l = length (filter (is_pending_follow l.follow) l.acts)

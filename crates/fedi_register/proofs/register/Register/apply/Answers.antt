@@ -3,8 +3,17 @@ use Rattle.fedi_register.specs.Changes.{AreMadeOnce}
 use Rattle.fedi_register.proofs.Indexed.{indexed_affected}
 use Rattle.fedi_register.proofs.register.Register.apply.Goals as goal
 
-pub apply_in_place-requires : goal.apply_in_place-requires
-apply_in_place-requires c = subst AreMadeOnce (sym (ap (λ r. r.acts) c.self.view_is)) c.requires
+pub apply_in_place-requires-clause-once : goal.apply_in_place-requires-clause-once
+apply_in_place-requires-clause-once c = subst AreMadeOnce (sym (ap (λ r. r.acts) c.self.view_is)) c.requires
+
+pub apply_in_place-requires-clause-made : goal.apply_in_place-requires-clause-made
+apply_in_place-requires-clause-made c = c.self.invariant.0.object
+
+pub apply_in_place-requires-clause-ids : goal.apply_in_place-requires-clause-ids
+apply_in_place-requires-clause-ids c = c.self.invariant.0.id
+
+pub apply_in_place-requires-clause-pairs : goal.apply_in_place-requires-clause-pairs
+apply_in_place-requires-clause-pairs c = c.self.invariant.0.pair
 
 pub invariant_of-self : goal.invariant_of-self
 invariant_of-self c = (

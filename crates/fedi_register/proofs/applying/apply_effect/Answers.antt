@@ -1,0 +1,7 @@
+use Rattle.fedi_register.proofs.applying.apply_effect.Goals as goal
+
+pub update-requires-clause-once : goal.update-requires-clause-once
+update-requires-clause-once c = c.requires.once c.in-Update.object
+
+pub bury-requires-clause-once : goal.bury-requires-clause-once
+bury-requires-clause-once c = c.requires.once c.in-Delete.object
