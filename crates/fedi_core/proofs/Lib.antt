@@ -1,5 +1,6 @@
 pub mod Commanding
 pub mod Accepting
 pub mod Growing
+pub mod Limits
 pub mod Judging
 pub mod Crashing

@@ -3,6 +3,7 @@
 ghost use Rattle.std.specs.Prelude.{◌≡◌, IfErr, IsTrue, IsErrOf, OnOk, OnErr, length};
 ghost use Rattle.fedi_entry.specs.Codes.{code_of};
 ghost use Rattle.fedi_entry.specs.Fields.{IsFormed};
+ghost use Rattle.fedi_entry.specs.Limits.{KeepsLimits};
 ghost use Rattle.fedi_town.specs.Built.{is_built};
 ghost use Rattle.fedi_outside.specs.Keepers.{HasAdded, HasRoom};
 ghost use Rattle.fedi_core.specs.Crashing.{PassesTimeUnkept, PassesTimeWith};
@@ -91,7 +92,8 @@ pub fn store_entry<S: Shelf, P: Keeper>(
     keeper: &mut P,
     entry: &Entry,
 ) -> Result<(), KeepFault>
-    requires { IsTrue (is_built entry.now) }
+    requires built { IsTrue (is_built entry.now) }
+    requires limits { KeepsLimits entry.now }
     ensures formed { OnOk result (IsFormed entry.now) }
     ensures formed_failed { IsErrOf result KeepFault.Failed → IsFormed entry.now }
     ensures grown { OnOk result (IsGrown (S.holding shelf.old) entry.now (S.holding shelf.new)) }

@@ -175,6 +175,7 @@ impl<S: Shelf + Drop, P: Keeper> Core<S, P> {
     /// comes before the keeper is settled. After an error the history is as before and the entry is
     /// handed back: `Full` if the keeper has no room for it, `Failed` if the keeper failed, which it
     /// counts once, and `Memory` if out of memory, which it does not count.
+    #[tactic(auto, using(crate::proofs::Limits::added_keeps))]
     pub fn keep(&mut self, alloc: Global, entry: Entry) -> Result<(), KeepError>
         requires { MayAdd (town self.old.history) entry }
         ensures kept { OnOk result (IsKept P.growth P.room self.old.history entry

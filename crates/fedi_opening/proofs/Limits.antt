@@ -16,7 +16,6 @@ use Rattle.fedi_objects.specs.declared.object.Edit.TheVariants.{Keep, Remove, Gi
 use Rattle.fedi_objects.specs.declared.object.Object.{Object}
 use Rattle.fedi_objects.specs.declared.object.Tag.{Tag}
 use Rattle.fedi_objects.specs.Limits.{is_address, is_date, is_text, is_type}
-use Rattle.fedi_town.specs.declared.command_fault.CommandFault.{CommandFault}
 use Rattle.fedi_town.specs.declared.command_fault.CommandFault.TheVariants.{HostTaken, BadAddress}
 use Rattle.fedi_town.specs.declared.deed.Deed.{Deed}
 use Rattle.fedi_town.specs.Deeds.{deed_of}

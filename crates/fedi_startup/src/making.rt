@@ -34,6 +34,7 @@ fn first_entry(host: Host, moment: Moment) -> Entry
 /// or with the first one. After `Memory` all is as before, or the disk is a journal without records. A
 /// journal without records can be made a store again. But the bytes of a store that is there stay, whatever
 /// the answer: reads give the same, and a crash leaves nothing new.
+#[tactic(auto, unfolding(fedi_entry::specs::Limits::KeepsLimits))]
 pub fn make_store<D: Disk>(
     alloc: Global,
     disk: D,

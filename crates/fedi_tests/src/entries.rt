@@ -1,5 +1,7 @@
 //! Entries as bytes, worked by hand from the format.
 
+ghost use Rattle.fedi_entry.specs.Limits.{KeepsLimits};
+
 use crate::rows::expect_at;
 use fedi_entry::{KnownHosts, decode, encode};
 use fedi_objects::Entry;
@@ -170,12 +172,15 @@ const ENTRIES: [&[u8]; 11] = [
 ];
 
 // Whether the entry is written as these bytes.
-fn is_written(alloc: Global, entry: &Entry, bytes: &[u8]) -> Result<bool, AllocError> {
+fn is_written(alloc: Global, entry: &Entry, bytes: &[u8]) -> Result<bool, AllocError>
+    requires { KeepsLimits entry.now }
+{
     let code = encode(alloc, entry)?;
     Ok(code.as_slice() == bytes)
 }
 
 // Whether the bytes are those of an entry, and are written again.
+#[tactic(auto, using(fedi_entry::proofs::Formed::formed_keeps))]
 fn come_back(alloc: Global, hosts: &mut KnownHosts, bytes: &[u8]) -> Result<bool, AllocError> {
     let read = decode(alloc, hosts, bytes);
     match &read {
