@@ -52,16 +52,16 @@ pub fn stores_are_not_made_anew()
 pub fn what_was_opened_stays<D: Disk>(opened: &StoreCore<D>, closed: &StoreCore<D>)
     ensures { (start : DiskState) (bytes : List ℕ) (log : Log)
         → let first = state_of opened.now.history
-            (⟦<Journal<D> as Keeper>⟧.shown opened.now.keeper) in
+        (⟦<Journal<D> as Keeper>⟧.shown opened.now.keeper) in
         let last = state_of closed.now.history
-            (⟦<Journal<D> as Keeper>⟧.shown closed.now.keeper) in
+        (⟦<Journal<D> as Keeper>⟧.shown closed.now.keeper) in
         start.reads ≡ Some bytes → IsOpened start first
         → LeavesFiles (D.crashes (disk_of opened.now.keeper)) (records_of first.history) None
         → Survives (opened_base first) None (given first.history) log last
-            (⟦<Journal<D> as Keeper>⟧.crashes opened.now.keeper)
-            (⟦<Journal<D> as Keeper>⟧.crashes closed.now.keeper)
+        (⟦<Journal<D> as Keeper>⟧.crashes opened.now.keeper)
+        (⟦<Journal<D> as Keeper>⟧.crashes closed.now.keeper)
         → IsSound last.history
         → LeavesStoresFrom (D.crashes (disk_of opened.now.keeper)).clock
-            (D.crashes (disk_of closed.now.keeper)) first.history
-            (since (opened_base first) log) }
+        (D.crashes (disk_of closed.now.keeper)) first.history
+        (since (opened_base first) log) }
 {}
