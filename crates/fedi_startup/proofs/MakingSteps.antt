@@ -1,5 +1,5 @@
 -- What becomes of a disk that is made a store.
-use Rattle.std.proofs.Common.{◌≡◌, ◌≢◌, ◌⊎◌, inl, inr, ⊎_elim, ℕ, ◌<◌, ◌≤◌, Bool, true, false, nat_lt, List, [], ◌∷◌, ◌++◌, length, take, drop, Option, Some, None, refl, sym, ap, subst, ◌∙◌, arith}
+use Rattle.std.proofs.Common.{◌≡◌, ◌≢◌, ◌⊎◌, inl, inr, ⊎_elim, ℕ, ◌+◌, ◌<◌, ◌≤◌, Bool, true, false, nat_lt, List, [], ◌∷◌, ◌++◌, length, take, drop, Option, Some, None, refl, sym, ap, subst, ◌∙◌, arith}
 use Rattle.std.specs.Cmp.Derive.{both_true}
 use Rattle.std.specs.Prelude.{IfSome, IsUtf8, codes, is_some, option_map}
 use Rattle.std.specs.Str.{bytes_eq}
@@ -211,6 +211,18 @@ written_since code found later begun ready after records same none writes bytes 
       nothing_else = λ moment image past left. ⊎_elim (λ here. room.nothing_else moment image past here) (λ new. inr (inr new)) (time.nothing_else moment image (omega (arith, past, room.clock)) left);
       keeps = λ moment image past left. time.keeps moment image (omega (arith, past, room.clock)) (room.keeps moment image past left);
     }
+
+-- the records of a journal that was made, while only room was made
+pub blank_records : (start found : DiskState) (k m : KeeperState) → k ≡ blank_shown start → OnlyRoomChanged k m → found.reads ≡ option_map (spliced 0 blank) start.reads
+    → (bytes : List ℕ) → found.reads ≡ Some bytes → m.records ≡ Some []
+blank_records start found k m is room written bytes here = room.records ∙ (ap (λ (s : KeeperState). s.records) is ∙ none start.reads (sym here ∙ written))
+  where
+    empty : Option (List ℕ) → Option (List (List ℕ))
+    empty o = option_map (λ _. []) o
+
+    none : (o : Option (List ℕ)) → Some bytes ≡ option_map (spliced 0 blank) o → empty o ≡ Some []
+    none None e = absurd (cc e)
+    none (Some before) e = refl
 
 -- a journal was made, and then its first record was to be kept
 pub at_most : (code : List ℕ) (start found : DiskState) (before begun after : DiskCrashes) → ((image : List ℕ) → begun.left_since begun.clock image → begun.may_leave image)
