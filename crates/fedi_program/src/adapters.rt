@@ -5,6 +5,7 @@ ghost use Rattle.std.specs.Io.{ReadsAtMost, WritesAtMost};
 ghost use Rattle.std.specs.Io.KnownBytes.{ReadConsumes, WriteAppends};
 ghost use Rattle.std.specs.Time.{system_time_nanos};
 ghost use Rattle.fedi_outside.specs.Causes.{HasCause};
+ghost use Rattle.fedi_outside.specs.Entropies.{FillConsumes};
 ghost use Rattle.fedi_program.specs.Adapters.{IsReadOf};
 
 use fedi_outside::{Clock, Entropy, Failed, Sink, Source};
@@ -161,6 +162,7 @@ impl<R: Files> Entropy for SystemEntropy<'_, R> {
 
     fn fill(&mut self, into: &mut [u8; 32]) -> Result<(), Failed>
         ensures read { OnOk result (IsReadOf R.File.remaining into.new) }
+        ensures bytes { FillConsumes None None result into.new }
         ensures cause { HasCause self.old.faults self.new.faults result }
     {
         match read_file(self.rt, self.path, into) {
