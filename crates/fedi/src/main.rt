@@ -3,11 +3,12 @@
 
 use fedi_file::FileDisk;
 use fedi_program::{
-    Connection, OUT_OF_MEMORY, Reading, SystemClock, SystemEntropy, Writing, run, store_of,
+    Connection, OUT_OF_MEMORY, Reading, Seed, SystemClock, SystemEntropy, Writing, run, store_of,
 };
 use std::alloc::AllocError;
 use std::io::ErrorKind;
 use std::process::ExitCode;
+use std::random::RandomSource;
 use std::{env, io};
 
 /// The arguments after the program's name, or none if one of them is no text. The error is out of memory.
@@ -25,6 +26,14 @@ fn arguments(rt: &HostRuntime) -> Result<Vec<String>, AllocError> {
     Ok(arguments)
 }
 
+/// A seed that strangers do not know. If the system has no random bytes, it is that of zeros: then look-ups
+/// have only lost their guard against texts that were chosen to be slow.
+fn seed(rt: &HostRuntime) -> Seed {
+    let mut secret = [0; 16];
+    let _ = rt.fill_bytes(&mut secret);
+    Seed::new(&secret)
+}
+
 fn main(rt: HostRuntime) -> ExitCode {
     let Ok(arguments) = arguments(&rt) else {
         return ExitCode::from(OUT_OF_MEMORY);
@@ -37,6 +46,13 @@ fn main(rt: HostRuntime) -> ExitCode {
     // Arguments that name no store never ask the disk, and so open nothing.
     let disk = FileDisk::new(&rt, store_of(&arguments).unwrap_or_default());
     let mut entropy = SystemEntropy::new(&rt);
-    let ended = run(rt.alloc(), &arguments, &mut connection, disk, &mut entropy);
+    let ended = run(
+        rt.alloc(),
+        seed(&rt),
+        &arguments,
+        &mut connection,
+        disk,
+        &mut entropy,
+    );
     ExitCode::from(ended.status)
 }

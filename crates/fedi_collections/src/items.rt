@@ -1,6 +1,6 @@
 //! The items of a page. Out of memory is the only error.
 
-ghost use Rattle.std.specs.Prelude.{◌≡◌, List, OnOk, Some, map, option_copied, reverse, slice_get};
+ghost use Rattle.std.specs.Prelude.{◌≡◌, ◌+◌, ◌≤◌, List, OnOk, Some, length, map, option_copied, reverse, slice_get};
 ghost use Rattle.serde_json.specs.Data.{array};
 ghost use Rattle.serde_json.specs.View.{items_of};
 ghost use Rattle.fedi_asks.specs.Documents.{embedded_form, item_form};
@@ -10,13 +10,14 @@ ghost use Rattle.fedi_town.specs.Collections.{text_of};
 ghost use Rattle.fedi_town.specs.declared.act.Act.{Act};
 
 use fedi_address::Iri;
-use fedi_effects::Facts;
+use fedi_effects::{Facts, Steps};
 use fedi_kept::Kept;
 use fedi_objects::write_activity;
 use fedi_town::Which;
 use fedi_visible::shown_of;
 use json::Writer;
 use std::alloc::AllocError;
+use std::sync::ledger::Ledger;
 
 // Writes an activity as it stands in a page.
 fn write_embedded(out: &mut Writer, facts: &Facts, act: &Kept) -> Result<(), AllocError>
@@ -47,37 +48,42 @@ fn write_item(out: &mut Writer, facts: &Facts, which: &Which, act: &Kept) -> Res
     }
 }
 
-// Writes the item at this place among the activities.
-fn write_place(
+// Writes the item at this place among the activities, if there is one.
+fn write_place<L: Ledger>(
     out: &mut Writer,
     facts: &Facts,
     which: &Which,
     place: usize,
+    steps: &mut Steps<L>,
 ) -> Result<(), AllocError>
-    ensures { OnOk result (Adds (tokens_at (item_form facts.now.town which.now)
+    ensures written { OnOk result (Adds (tokens_at (item_form facts.now.town which.now)
         (slice_get facts.now.town.acts place)) out.old out.new) }
+    ensures cost { steps.new ≤ steps.old + 1 }
 {
-    match facts.acts().get(place) {
-        Some(act) => write_item(out, facts, which, act),
-        None => Ok(()),
+    if place < facts.activities() {
+        write_item(out, facts, which, facts.shown(place, steps))
+    } else {
+        Ok(())
     }
 }
 
-/// Writes the items at these places among the activities, the last one first.
-pub(crate) fn write_items(
+/// Writes the items at these places among the activities, the last one first. Each is read once.
+pub(crate) fn write_items<L: Ledger>(
     out: &mut Writer,
     facts: &Facts,
     which: &Which,
     places: &[usize],
+    steps: &mut Steps<L>,
 ) -> Result<(), AllocError>
-    ensures { OnOk result ((xs : List Act)
+    ensures written { OnOk result ((xs : List Act)
         → map (slice_get facts.now.town.acts) places.now ≡ map Some xs
         → IsWritten (array (items_of (map (item_form facts.now.town which.now) (reverse xs))))
         out.old out.new) }
+    ensures cost { steps.new ≤ steps.old + length places.now }
 {
     out.begin_array()?;
     for place in places.iter().rev() {
-        write_place(out, facts, which, *place)?;
+        write_place(out, facts, which, *place, steps)?;
     }
     out.end_array()
 }

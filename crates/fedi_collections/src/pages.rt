@@ -1,22 +1,23 @@
 //! The documents of collections and of their pages. Out of memory is the only error.
 
-ghost use Rattle.std.specs.Prelude.{◌≡◌, ◌*◌, ◌≤◌, IfOk, List, OnErr, OnOk, Some, drop, length, map, option_map, reverse, slice_get, take};
+ghost use Rattle.std.specs.Prelude.{◌≡◌, ◌+◌, ◌*◌, ◌≤◌, IfOk, List, OnErr, OnOk, Some, drop, length, map, option_map, reverse, slice_get, take};
 ghost use Rattle.serde_json.specs.Written.{compact_text};
 ghost use Rattle.fedi_asks.specs.Documents.{collection_id, item_form, page_form, summary_form};
 ghost use Rattle.fedi_collections.specs.Pages.{page_text, summary_of, total_of};
 ghost use Rattle.fedi_objects.specs.Writing.{IsWritten};
-ghost use Rattle.fedi_town.specs.Collections.{highest};
+ghost use Rattle.fedi_town.specs.Collections.{highest, owner_of};
 ghost use Rattle.fedi_town.specs.declared.act.Act.{Act};
 
 use crate::address::Address;
 use crate::documents::{begin_page, end_page, highest_page, write_summary};
 use crate::items::write_items;
 use fedi_address::Iri;
-use fedi_effects::Facts;
+use fedi_effects::{Facts, Steps};
 use fedi_town::{Caller, Which};
 use fedi_visible::{PAGE, Shelf, VisiblePage};
 use json::Writer;
 use std::alloc::{AllocError, Global};
+use std::sync::ledger::Ledger;
 
 // The room for what stands beside the items, and for an item, in bytes. It grows if it is too small.
 const FRAME: usize = 768;
@@ -42,23 +43,22 @@ fn summary_text(
 
 /// The JSON of the owner's collection without its items (ActivityStreams 2.0 Core, section 5): its id, how
 /// many items the reader sees, and its newest and its oldest page, where it has items. The owner is the
-/// member or the object with this id.
-pub fn summary<S: Shelf>(
+/// member or the object with this id. It reads as many activities as a page of the shelf.
+pub fn summary<S: Shelf, L: Ledger>(
     alloc: Global,
     shelf: &S,
     caller: &Caller,
     which: &Which,
     owner: &Iri,
+    steps: &mut Steps<L>,
 ) -> Result<Vec<u8>, AllocError>
-    ensures { IfOk result (λ text. text.items ≡ compact_text
+    requires owner { owner_of (S.holding shelf.now).town which.now ≡ Some owner.now }
+    ensures text { IfOk result (λ text. text.items ≡ compact_text
         (summary_of (S.holding shelf.now).town caller.now which.now owner.now)) }
+    ensures cost { steps.new ≤ steps.old + S.page_cost shelf.now which.now owner.now }
 {
-    summary_text(
-        alloc,
-        which,
-        owner,
-        shelf.visible_count(caller, which, owner),
-    )
+    let page = shelf.visible_page(caller, which, owner, 0, steps);
+    summary_text(alloc, which, owner, page.total)
 }
 
 // The room for a page with so many items.
@@ -73,65 +73,74 @@ fn page_room(which: &Which, items: usize) -> usize
 }
 
 // Writes the page of this number, with the items at these places among the activities.
-fn write_page(
+fn write_page<L: Ledger>(
     out: &mut Writer,
     address: &mut Address,
     facts: &Facts,
     which: &Which,
     number: u64,
     page: &VisiblePage,
+    steps: &mut Steps<L>,
 ) -> Result<(), AllocError>
-    ensures { OnOk result ((xs : List Act)
+    ensures written { OnOk result ((xs : List Act)
         → map (slice_get facts.now.town.acts) page.now.places.items ≡ map Some xs
         → IsWritten (page_form address.old number page.now.total
         (map (item_form facts.now.town which.now) (reverse xs))) out.old out.new) }
+    ensures cost { steps.new ≤ steps.old + 20 }
 {
     begin_page(out, address, number)?;
-    write_items(out, facts, which, page.places.as_slice())?;
+    write_items(out, facts, which, page.places.as_slice(), steps)?;
     end_page(out, address, number, page.total)
 }
 
-fn page_text(
+fn page_text<L: Ledger>(
     alloc: Global,
     facts: &Facts,
     which: &Which,
     owner: &Iri,
     number: u64,
     page: &VisiblePage,
+    steps: &mut Steps<L>,
 ) -> Result<Vec<u8>, AllocError>
-    ensures { IfOk result (λ text. (xs : List Act)
+    ensures text { IfOk result (λ text. (xs : List Act)
         → map (slice_get facts.now.town.acts) page.now.places.items ≡ map Some xs
         → text.items ≡ compact_text
         (page_form (collection_id which.now owner.now) number page.now.total
         (map (item_form facts.now.town which.now) (reverse xs)))) }
+    ensures cost { steps.new ≤ steps.old + 20 }
 {
     let mut address = Address::of(alloc, which, owner)?;
     let room = page_room(which, page.places.as_slice().len());
     let mut out = Writer::new(Vec::with_capacity(alloc, room)?);
-    write_page(&mut out, &mut address, facts, which, number, page)?;
+    write_page(&mut out, &mut address, facts, which, number, page, steps)?;
     Ok(out.into_inner())
 }
 
 /// The JSON of the page of this number (ActivityStreams 2.0 Core, section 5.2): up to 20 items of those that
 /// the reader sees, the newest first, and the pages before and after it. None exactly if the page is above
-/// the highest, which has the newest item, and is 0 for an empty collection; it takes no memory then.
-pub fn page<S: Shelf>(
+/// the highest, which has the newest item, and is 0 for an empty collection; it takes no memory then. The
+/// owner is the member or the object with this id. Beside the activities that a page of the shelf reads, each
+/// item is read once.
+pub fn page<S: Shelf, L: Ledger>(
     alloc: Global,
     shelf: &S,
     caller: &Caller,
     which: &Which,
     owner: &Iri,
     number: u64,
+    steps: &mut Steps<L>,
 ) -> Result<Option<Vec<u8>>, AllocError>
+    requires owner { owner_of (S.holding shelf.now).town which.now ≡ Some owner.now }
     ensures text { IfOk result (λ page. option_map (λ text. text.items) page
         ≡ page_text (S.holding shelf.now).town caller.now which.now owner.now number) }
     ensures memory { OnErr result (number
         ≤ highest (total_of (S.holding shelf.now).town caller.now which.now owner.now)) }
+    ensures cost { steps.new ≤ steps.old + S.page_cost shelf.now which.now owner.now + 20 }
 {
-    let page = shelf.visible_page(caller, which, owner, number);
+    let page = shelf.visible_page(caller, which, owner, number, steps);
     if number > highest_page(page.total) {
         return Ok(None);
     }
-    let text = page_text(alloc, shelf.facts(), which, owner, number, &page)?;
+    let text = page_text(alloc, shelf.facts(), which, owner, number, &page, steps)?;
     Ok(Some(text))
 }

@@ -1,6 +1,6 @@
 //! The replies to who reads a collection. Out of memory is the only error.
 
-ghost use Rattle.std.specs.Prelude.{◌≡◌, ◌||◌, IfOk, IsTrue, OnErr, Some, false, not, option_copied};
+ghost use Rattle.std.specs.Prelude.{◌≡◌, ◌<◌, ◌||◌, IfOk, IsTrue, OnErr, Some, false, not, option_copied};
 ghost use Rattle.fedi_asks.specs.Reading.{collection_answer, is_malformed, items_answer, marks_rule, name_of, object_rule, owner_answer, reading_rule};
 ghost use Rattle.fedi_town.specs.Collections.{owner_of};
 ghost use Rattle.fedi_town.specs.declared.caller.Which.TheVariants.{Inbox, Likes};
@@ -10,13 +10,15 @@ ghost use Rattle.fedi_model.specs.declared.reply.Form.TheVariants.{Activity};
 
 use crate::pages::{page, summary};
 use fedi_address::{Iri, LocalName};
-use fedi_effects::Facts;
+use fedi_effects::{Facts, Steps};
 use fedi_kept::Kept;
 use fedi_model::{Body, Form, PageAsk, Reply, refusal_reply};
 use fedi_town::{Caller, Refusal, Which, object_iri};
 use fedi_visible::{Shelf, is_nobody, is_self, seen_maker};
 use http::StatusCode;
 use std::alloc::{AllocError, Global};
+use std::marker::Brand;
+use std::sync::ledger::{Blank, Ledger};
 
 // A document with this text.
 fn showing(text: Vec<u8>) -> Reply
@@ -120,30 +122,40 @@ fn object_owner(
 
 // ---- replies
 
+// The reply to who reads this part of the owner's collection. How often activities are read is counted
+// here, and the bounds are those of `summary` and `page`.
 #[tactic(auto, unfolding(fedi_asks::specs::Reading::items_answer))]
-fn items_reply<S: Shelf>(
+fn items_reply<S: Shelf, L: Ledger>(
     alloc: Global,
     shelf: &S,
     caller: &Caller,
     which: &Which,
     owner: &Iri,
     part: &PageAsk,
+    blank: Blank,
 ) -> Result<Reply, AllocError>
+    requires name { blank.name ≡ L.name }
+    requires parts { blank.parts ≡ L.parts }
+    requires some { 0 < blank.parts }
+    requires owner { owner_of (S.holding shelf.now).town which.now ≡ Some owner.now }
     ensures reply { IfOk result (λ r. r ≡ reply_of
         (items_answer (S.holding shelf.now).town caller.now which.now owner.now part.now)) }
     ensures memory { OnErr result (is_refused
         (items_answer (S.holding shelf.now).town caller.now which.now owner.now part.now)
         ≡ false) }
 {
+    let mut steps = Steps::<L>::new(blank);
     match part {
         PageAsk::Summary => {
-            let text = summary(alloc, shelf, caller, which, owner)?;
+            let text = summary(alloc, shelf, caller, which, owner, &mut steps)?;
             Ok(showing(text))
         }
-        PageAsk::Page(number) => match page(alloc, shelf, caller, which, owner, *number)? {
-            Some(text) => Ok(showing(text)),
-            None => Ok(refusal_reply(Refusal::NotFound)),
-        },
+        PageAsk::Page(number) => {
+            match page(alloc, shelf, caller, which, owner, *number, &mut steps)? {
+                Some(text) => Ok(showing(text)),
+                None => Ok(refusal_reply(Refusal::NotFound)),
+            }
+        }
         PageAsk::Malformed => Ok(refusal_reply(Refusal::BadQuery)),
     }
 }
@@ -157,6 +169,7 @@ fn owner_reply<S: Shelf>(
     owner: &Iri,
     part: &PageAsk,
 ) -> Result<Reply, AllocError>
+    requires { owner_of (S.holding shelf.now).town which.now ≡ Some owner.now }
     ensures reply { IfOk result (λ r. r ≡ reply_of (owner_answer
         (S.holding shelf.now).town caller.now which.now part.now (Some owner.now))) }
     ensures memory { OnErr result (is_refused (owner_answer
@@ -168,7 +181,7 @@ fn owner_reply<S: Shelf>(
     if let Some(refusal) = object_rule(shelf.facts(), caller, which, owner) {
         return Ok(refusal_reply(refusal));
     }
-    items_reply(alloc, shelf, caller, which, owner, part)
+    items_reply::<S, Brand>(alloc, shelf, caller, which, owner, part, Blank::new(1))
 }
 
 fn is_malformed(part: &PageAsk) -> bool

@@ -5,6 +5,7 @@ ghost use Rattle.fedi_entry.specs.Codes.{code_of};
 ghost use Rattle.fedi_entry.specs.Fields.{IsFormed};
 ghost use Rattle.fedi_entry.specs.Limits.{KeepsLimits};
 ghost use Rattle.fedi_town.specs.Built.{is_built};
+ghost use Rattle.fedi_town.specs.Legal.{is_admissible};
 ghost use Rattle.fedi_outside.specs.Keepers.{HasAdded, HasRoom};
 ghost use Rattle.fedi_core.specs.Crashing.{PassesTimeUnkept, PassesTimeWith};
 ghost use Rattle.fedi_core.specs.Keeping.{Refuses};
@@ -49,12 +50,12 @@ pub struct KeepError {
     pub entry: Entry,
 }
 
-/// Keeps one more record. Room is made first, so that nothing takes memory once the doubt is settled.
-///
-/// The errors are `Full`, if the keeper has no room for the record; `Failed`, if the keeper failed, which it
-/// counts once, and then the record may be in doubt; and `Memory`, out of memory. After an error the records
-/// are as before.
-pub fn store<P: Keeper>(keeper: &mut P, code: &[u8]) -> Result<(), KeepFault>
+// Keeps one more record. Room is made first, so that nothing takes memory once the doubt is settled.
+//
+// The errors are `Full`, if the keeper has no room for the record; `Failed`, if the keeper failed, which it
+// counts once, and then the record may be in doubt; and `Memory`, out of memory. After an error the records
+// are as before.
+fn store<P: Keeper>(keeper: &mut P, code: &[u8]) -> Result<(), KeepFault>
     ensures fits { OnOk result (HasRoom P.room (P.shown keeper.old).end (length code.now)) }
     ensures added { OnOk result
         (HasAdded P.growth code.now (P.shown keeper.old) (P.shown keeper.new)) }
@@ -93,6 +94,7 @@ pub fn store_entry<S: Shelf, P: Keeper>(
     entry: &Entry,
 ) -> Result<(), KeepFault>
     requires built { IsTrue (is_built entry.now) }
+    requires admissible { IsTrue (is_admissible (S.holding shelf.old).town entry.now) }
     requires limits { KeepsLimits entry.now }
     ensures formed { OnOk result (IsFormed entry.now) }
     ensures formed_failed { IsErrOf result KeepFault.Failed → IsFormed entry.now }

@@ -8,5 +8,5 @@ mod posts;
 mod profiles;
 
 pub use deciding::Decision;
-pub use keeping::{KeepError, KeepFault, store};
+pub use keeping::{KeepError, KeepFault};
 pub use machine::Core;

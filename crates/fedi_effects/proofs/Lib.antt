@@ -2,9 +2,9 @@ pub mod Apart
 pub mod Finds
 pub mod FirstPlaces
 pub mod Followed
-pub mod Found
 pub mod Gathering
 pub mod KeptKeys
+pub mod MemberMarks
 pub mod Originals
 pub mod Prefixes
 pub mod Towns

@@ -1,14 +1,12 @@
 -- What an entry adds, and what the history has made then.
 use Rattle.std.proofs.Common.{◌≡◌, ℕ, Bool, true, false, List, [], ◌∷◌, ◌++◌, Option, Some, None, refl, sym, ap, subst, ◌∙◌}
 use Rattle.std.specs.Prelude.{IsTrue, ◌||◌, if◌then◌else◌}
-use Rattle.std.specs.List.{fold, list_any}
 use Rattle.std.specs.Str.{bytes_eq}
 use Rattle.std.proofs.lemmas.List.Sums.{fold_push}
 use Rattle.std.proofs.lemmas.Slice.Eq.{bytes_eq-Decides}
 use Rattle.fedi_address.specs.Recipients.{add_new, is_among}
 use Rattle.fedi_objects.specs.declared.entry.Entry.{Entry}
 use Rattle.fedi_objects.specs.declared.entry.Entry.TheVariants.{Hosted, Made, PeerSet, Local, Remote, Tried}
-use Rattle.fedi_town.specs.declared.act.Act.{Act}
 use Rattle.fedi_town.specs.declared.addition.Addition.{Addition}
 use Rattle.fedi_town.specs.Built.{is_built}
 use Rattle.fedi_town.specs.Histories.{addition_of, member_addition, post_addition, step, town, with_addition}
@@ -16,7 +14,7 @@ use Rattle.fedi_town.specs.Towns.{Town, empty_town}
 use Rattle.fedi_town.proofs.MadeOnce.{made_once}
 use Rattle.fedi_effects.specs.declared.ready.Ready.{Ready}
 use Rattle.fedi_effects.specs.declared.ready.Ready.TheVariants as ready
-use Rattle.fedi_effects.specs.Additions.{HasAuthors, IsBuiltAddition, addition_in, with_answerer, with_authors}
+use Rattle.fedi_effects.specs.Additions.{HasAuthors, IsBuiltAddition, with_authors}
 use Rattle.fedi_register.specs.Changes.{AreMadeOnce}
 
 -- ---- histories

@@ -1,5 +1,5 @@
 -- What was made ready of an addition.
-use Rattle.std.specs.Prelude.{ℕ, ⊤, IsTrue, List, Option, Some, None}
+use Rattle.std.specs.Prelude.{ℕ, ⊤, IsTrue, List, [], ◌∷◌, Option, Some, None, option_to_list}
 use Rattle.fedi_address.specs.Recipients.{add_new, is_among}
 use Rattle.fedi_town.specs.declared.act.Act.{Act}
 use Rattle.fedi_town.specs.declared.addition.Addition.{Addition}
@@ -13,6 +13,16 @@ addition_in ready.Nothing = additions.Nothing
 addition_in (ready.Host host) = additions.Host host
 addition_in (ready.Member member) = additions.Member member
 addition_in (ready.Activity act effect answer) = additions.Activity (record { act = act; effect = effect; answer = answer })
+
+-- the activities that it brings
+abbrev pub acts_in : Addition → List Act
+acts_in additions.Nothing = []
+acts_in (additions.Host host) = []
+acts_in (additions.Member member) = []
+acts_in (additions.Peer peer) = []
+acts_in (additions.Activity a) = a.act ∷ option_to_list a.answer
+acts_in (additions.Inbox id owner) = []
+acts_in (additions.Attempt attempt) = []
 
 -- peers, inboxes and attempts are not built
 abbrev pub IsBuiltAddition : Addition → Type 0

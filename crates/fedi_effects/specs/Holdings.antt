@@ -1,14 +1,12 @@
 -- The facts, as their callers see them.
-use Rattle.std.specs.Prelude.{◌≡◌, ℕ, ◌+◌, ◌≤◌, ⊤, IsTrue, List, [], map, Option, Some, None, vec_len, vec_capacity}
-use Rattle.fedi_address.specs.Recipients.{is_among}
+use Rattle.std.specs.Prelude.{◌≡◌, ◌≤◌, ⊤, List, [], Option, Some, None}
 use Rattle.fedi_objects.specs.declared.entry.Entry.{Entry}
 use Rattle.fedi_town.specs.declared.act.Act.{Act}
 use Rattle.fedi_town.specs.Histories.{addition_of, town}
 use Rattle.fedi_town.specs.Towns.{Town}
 use Rattle.fedi_effects.specs.declared.facts.Facts.TheInside.{Inside}
-use Rattle.fedi_effects.specs.declared.ready.Ready.{Ready}
 use Rattle.fedi_effects.specs.declared.facts.Room.{Room}
-use Rattle.fedi_effects.specs.Additions.{HasAuthors, addition_in}
+use Rattle.fedi_effects.specs.Additions.{HasAuthors, acts_in, addition_in}
 
 -- the history that is held, the town that it has made, and the entry that room was made for
 pub record Holding : Type 0 where
@@ -16,11 +14,19 @@ pub record Holding : Type 0 where
   pub town : Town
   pub room : Option Entry
 
+-- the activities that the entry brings for which there is room
+abbrev pub coming : Town → Option Entry → List Act
+coming t None = []
+coming t (Some e) = acts_in (addition_of t e)
+
+abbrev pub coming_in : Holding → List Act
+coming_in h = coming h.town h.room
+
 -- ---- what is held
 
 -- the town of what is held
 abbrev pub town_in : Inside → Town
-town_in f = record { host = f.host; actors = f.actors.items; peers = []; acts = f.register.acts; attempts = [] }
+town_in f = record { host = f.host; actors = f.actors.actors; peers = []; acts = f.register.acts; attempts = [] }
 
 -- the entry that there is room for
 abbrev pub entry_in : Option Room → Option Entry
@@ -36,7 +42,7 @@ abbrev pub IsRoom : Inside → Option Room → Type 0
 IsRoom f None = ⊤
 IsRoom f (Some r) =
     (addition_in r.ready ≡ addition_of (town_in f) r.entry.value)
-    × (vec_len f.actors + 1 ≤ vec_capacity f.actors)
+    × (1 ≤ f.actors.room)
     × (f.register.room ≡ 2)
     × HasAuthors f.register.known r.ready
 

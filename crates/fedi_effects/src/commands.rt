@@ -6,7 +6,7 @@ ghost use Rattle.fedi_town.specs.Built.{is_built};
 ghost use Rattle.fedi_town.specs.Legal.{broken_command};
 ghost use Rattle.fedi_town.specs.Towns.{has_digest, has_name};
 
-use crate::facts::{Facts, has_digest, has_name};
+use crate::facts::Facts;
 use fedi_address::LocalName;
 use fedi_objects::Entry;
 use fedi_town::CommandFault;
@@ -15,13 +15,13 @@ impl Facts {
     fn has_member(&self, name: &LocalName) -> bool
         ensures { result ≡ list_any (has_name name.now) self.now.town.actors }
     {
-        self.actors().iter().any(|actor| has_name(actor, name))
+        self.members().named(name).is_some()
     }
 
     fn has_key(&self, digest: &[u8; 32]) -> bool
         ensures { result ≡ list_any (has_digest digest.now) self.now.town.actors }
     {
-        self.actors().iter().any(|actor| has_digest(actor, digest))
+        self.members().with_digest(digest).is_some()
     }
 
     /// The first rule that an operator's command breaks, if it breaks one: the server is set up once, and

@@ -1,6 +1,6 @@
 //! The facts that a history has made.
 
-ghost use Rattle.std.specs.Prelude.{◌≡◌, ◌∷◌, ◌++◌, [], ◌+◌, ◌^◌, ◌<◌, ◌≤◌, ◌&&◌, Bool, IsTrue, IfOk, None, OnErr, OnOk, Some, map, option_copied, option_to_list, vec_len, vec_capacity};
+ghost use Rattle.std.specs.Prelude.{◌≡◌, ◌∷◌, ◌++◌, [], ◌+◌, ◌^◌, ◌<◌, ◌≤◌, ◌&&◌, Bool, IsTrue, IfOk, None, OnErr, OnOk, Some, length, map, option_copied, option_to_list, slice_get};
 ghost use Rattle.std.specs.Fn.{FnReturnsAt};
 ghost use Rattle.std.specs.List.{find};
 ghost use Rattle.fedi_town.specs.declared.act.Act.{Act};
@@ -12,19 +12,23 @@ ghost use Rattle.fedi_town.specs.Relations.{has_activity_id, is_actor};
 ghost use Rattle.fedi_town.specs.Towns.{count_of, empty_town, has_digest, has_id, has_name, id_of};
 ghost use Rattle.fedi_address.specs.Recipients.{is_among};
 ghost use Rattle.fedi_effects.specs.Additions.{HasAnswerer, HasAuthors, addition_in};
+ghost use Rattle.fedi_effects.specs.Holdings.{coming_in};
 ghost use Rattle.fedi_register.specs.Changes.{AreMadeOnce};
 ghost use Rattle.fedi_register.specs.Marks.{Decides};
 
 use crate::making::prepare;
+use crate::members::Members;
 use crate::ready::{Ready, know_authors, make_ready};
+use crate::steps::Steps;
 use fedi_address::{Host, Iri, LocalName};
 use fedi_kept::{Kept, Pool, Trace};
 use fedi_objects::Entry;
-use fedi_register::Register;
+use fedi_register::{Register, Seed};
 use fedi_town::{Actor, Effect};
 use std::alloc::{AllocError, Global};
 use std::marker::Model;
 use std::snapshot::Snapshot;
+use std::sync::ledger::Ledger;
 
 // What was made for the entry that comes next.
 #[derive(Drop)]
@@ -40,7 +44,7 @@ struct Room {
 pub struct Facts {
     history: Trace<Entry>,
     host: Option<Host>,
-    actors: Vec<Actor>,
+    actors: Members,
     register: Register,
     room: Option<Room>,
     pool: Pool,
@@ -66,18 +70,14 @@ fn know(register: &mut Register, ready: &Ready) -> Result<(), AllocError>
 }
 
 // The members and the activities get room for one entry more, which was made ready.
-fn make_room(
-    actors: &mut Vec<Actor>,
-    register: &mut Register,
-    ready: &Ready,
-) -> Result<(), AllocError>
-    ensures actors { actors.new.items ≡ actors.old.items }
+fn make_room(actors: &mut Members, register: &mut Register, ready: &Ready) -> Result<(), AllocError>
+    ensures actors { actors.new.actors ≡ actors.old.actors }
     ensures acts { register.new.acts ≡ register.old.acts }
-    ensures actors_room { OnOk result (vec_len actors.new + 1 ≤ vec_capacity actors.new) }
+    ensures actors_room { OnOk result (1 ≤ actors.new.room) }
     ensures acts_room { OnOk result (register.new.room ≡ 2) }
     ensures known { OnOk result (HasAuthors register.new.known ready.now) }
 {
-    actors.reserve(1)?;
+    actors.reserve()?;
     register.reserve()?;
     know(register, ready)
 }
@@ -86,14 +86,14 @@ fn make_room(
 // dear to prove, so it is done by calls.
 fn keep_room(
     kept: &mut Option<Room>,
-    actors: &mut Vec<Actor>,
+    actors: &mut Members,
     register: &mut Register,
     pool: &mut Pool,
     room: Room,
 ) -> Result<(), AllocError>
-    ensures actors { actors.new.items ≡ actors.old.items }
+    ensures actors { actors.new.actors ≡ actors.old.actors }
     ensures acts { register.new.acts ≡ register.old.acts }
-    ensures actors_room { OnOk result (vec_len actors.new + 1 ≤ vec_capacity actors.new) }
+    ensures actors_room { OnOk result (1 ≤ actors.new.room) }
     ensures acts_room { OnOk result (register.new.room ≡ 2) }
     ensures known { OnOk result (HasAuthors register.new.known room.ready) }
     ensures ok { OnOk result (kept.new ≡ Some room) }
@@ -130,20 +130,20 @@ fn add_activity(register: &mut Register, act: Kept, effect: Effect, answer: Opti
 }
 
 // Adds what was made ready.
-fn add(host: &mut Option<Host>, actors: &mut Vec<Actor>, register: &mut Register, ready: Ready)
+fn add(host: &mut Option<Host>, actors: &mut Members, register: &mut Register, ready: Ready)
     requires once { AreMadeOnce register.old.acts }
-    requires actors { vec_len actors.old + 1 ≤ vec_capacity actors.old }
+    requires actors { 1 ≤ actors.old.room }
     requires room { register.old.room ≡ 2 }
     requires known { HasAuthors register.old.known ready }
     ensures { record {
       host = host.new;
-      actors = actors.new.items;
+      actors = actors.new.actors;
       peers = [];
       acts = register.new.acts;
       attempts = [];
     } ≡ with_addition (record {
       host = host.old;
-      actors = actors.old.items;
+      actors = actors.old.actors;
       peers = [];
       acts = register.old.acts;
       attempts = [];
@@ -152,7 +152,7 @@ fn add(host: &mut Option<Host>, actors: &mut Vec<Actor>, register: &mut Register
     match ready {
         Ready::Nothing => {}
         Ready::Host(new) => *host = Some(new),
-        Ready::Member(member) => actors.push_reserved(member),
+        Ready::Member(member) => actors.push(member),
         Ready::Activity {
             act,
             effect,
@@ -162,8 +162,9 @@ fn add(host: &mut Option<Host>, actors: &mut Vec<Actor>, register: &mut Register
 }
 
 impl Facts {
-    /// The facts of no entry. The error is out of memory.
-    pub fn empty(alloc: Global) -> Result<Facts, AllocError>
+    /// The facts of no entry. The seed is for the numbers by which members and activities are looked up.
+    /// The error is out of memory.
+    pub fn empty(alloc: Global, seed: Seed) -> Result<Facts, AllocError>
         ensures { IfOk result (λ facts.
             facts ≡ record { history = []; town = empty_town; room = None }) }
     {
@@ -171,8 +172,8 @@ impl Facts {
         Ok(Facts {
             history: Trace::new(),
             host: None,
-            actors: Vec::new(alloc),
-            register: Register::empty(alloc),
+            actors: Members::empty(alloc, seed),
+            register: Register::empty(alloc, seed),
             room: None,
             pool,
         })
@@ -224,6 +225,13 @@ impl Facts {
         )
     }
 
+    /// Gives up the room for an entry, so that none has room. All else stays as it is.
+    pub fn release(&mut self)
+        ensures { self.new ≡ record self.old { room = None } }
+    {
+        drop(self.room.take());
+    }
+
     /// Adds the entry for which there is room. It takes no memory.
     #[tactic(auto, using(crate::proofs::Towns::town_pushed, crate::proofs::Towns::town_made_once))]
     pub fn apply(&mut self, entry: &Entry)
@@ -249,6 +257,12 @@ impl Facts {
         &self.register
     }
 
+    pub(crate) fn members(&self) -> &Members
+        ensures { result.now.actors ≡ self.now.town.actors }
+    {
+        &self.actors
+    }
+
     /// The host, once the server was set up.
     pub fn host(&self) -> Option<&Host>
         ensures { option_copied result ≡ self.now.town.host }
@@ -263,43 +277,61 @@ impl Facts {
         self.actors.as_slice()
     }
 
-    /// The activities, in the order of acceptance.
-    pub fn acts(&self) -> &[Kept]
-        ensures { result.now ≡ self.now.town.acts }
+    /// How many activities there are.
+    pub fn activities(&self) -> usize
+        ensures value { result ≡ length self.now.town.acts }
+        ensures few { result < 2 ^ 63 }
     {
-        self.register.acts()
+        self.register.acts().len()
+    }
+
+    /// The activity at this place in the order of acceptance. It is read, which is one step.
+    pub fn shown<L: Ledger>(&self, place: usize, steps: &mut Steps<L>) -> &Kept
+        requires { place < length self.now.town.acts }
+        ensures act { Some result.now ≡ slice_get self.now.town.acts place }
+        ensures cost { steps.new ≡ steps.old + 1 }
+    {
+        steps.tick();
+        &self.register.acts()[place]
+    }
+
+    /// The activities that the entry for which there is room will add: its own, and the answer to it.
+    pub fn coming(&self) -> (Option<&Kept>, Option<&Kept>)
+        ensures { option_to_list (option_copied result.0) ++ option_to_list (option_copied result.1)
+            ≡ coming_in self.now }
+    {
+        match &self.room {
+            Some(room) => room.ready.activities(),
+            None => (None, None),
+        }
     }
 
     /// The id of the member of this name, or none if there is no such member.
     pub fn id_of(&self, name: &LocalName) -> Option<&Iri>
         ensures { option_copied result ≡ id_of self.now.town name.now }
     {
-        self.actors
-            .iter()
-            .find(|a| has_name(a, name))
-            .map(|a| &a.id)
+        self.actors.named(name).map(|a| &a.id)
     }
 
     /// The member whose key has this digest, or none if there is no such member.
     pub fn actor_with(&self, digest: &[u8; 32]) -> Option<&Actor>
         ensures { option_copied result ≡ find (has_digest digest.now) self.now.town.actors }
     {
-        self.actors.iter().find(|a| has_digest(a, digest))
+        self.actors.with_digest(digest)
     }
 
     /// The member of this id, or none if there is no such member.
     pub fn actor_of(&self, id: &Iri) -> Option<&Actor>
         ensures { option_copied result ≡ find (has_id id.now) self.now.town.actors }
     {
-        self.actors.iter().find(|a| has_id(a, id))
+        self.actors.of_id(id)
     }
 
     /// Whether the IRI is the id of a member.
-    #[tactic(auto, unfolding(fedi_town::specs::Relations::is_actor))]
     pub fn is_actor(&self, iri: &Iri) -> bool
         ensures { result ≡ is_actor self.now.town iri.now }
     {
-        self.actors.iter().any(|a| has_id(a, iri))
+        self.actors.of_id(iri).is_some()
     }
 
     /// How many activities the author has.
@@ -343,25 +375,4 @@ impl Facts {
     {
         self.register.first_maker(id, passes)
     }
-}
-
-#[tactic(auto, unfolding(fedi_town::specs::Towns::has_name))]
-pub(crate) fn has_name(actor: &Actor, name: &LocalName) -> bool
-    ensures { result ≡ has_name name.now actor.now }
-{
-    actor.name == *name
-}
-
-#[tactic(auto, unfolding(fedi_town::specs::Towns::has_id))]
-pub(crate) fn has_id(actor: &Actor, id: &Iri) -> bool
-    ensures { result ≡ has_id id.now actor.now }
-{
-    actor.id == *id
-}
-
-#[tactic(auto, unfolding(fedi_town::specs::Towns::has_digest))]
-pub(crate) fn has_digest(actor: &Actor, digest: &[u8; 32]) -> bool
-    ensures { result ≡ has_digest digest.now actor.now }
-{
-    actor.digest.as_slice() == digest.as_slice()
 }

@@ -1,7 +1,7 @@
 //! What an entry adds, made ready to be added without memory.
 
-ghost use Rattle.std.specs.Prelude.{◌≡◌, IfOk, OnOk};
-ghost use Rattle.fedi_effects.specs.Additions.{IsBuiltAddition, addition_in, with_answerer, with_authors};
+ghost use Rattle.std.specs.Prelude.{◌≡◌, ◌++◌, IfOk, OnOk, option_copied, option_to_list};
+ghost use Rattle.fedi_effects.specs.Additions.{IsBuiltAddition, acts_in, addition_in, with_answerer, with_authors};
 ghost use Rattle.fedi_town.specs.declared.addition.Addition.TheVariants as additions;
 ghost use Rattle.fedi_address.specs.Recipients.{add_new};
 
@@ -95,6 +95,21 @@ fn share_answer(answer: &mut Option<Kept>, pool: &mut Pool)
 }
 
 impl Ready {
+    /// The activity that is added, and the answer to it.
+    pub(crate) fn activities(&self) -> (Option<&Kept>, Option<&Kept>)
+        ensures { option_to_list (option_copied result.0) ++ option_to_list (option_copied result.1)
+            ≡ acts_in (addition_in self.now) }
+    {
+        match self {
+            Ready::Activity {
+                act,
+                effect: _,
+                answer,
+            } => (Some(act), answer.as_ref()),
+            Ready::Nothing | Ready::Host(_) | Ready::Member(_) => (None, None),
+        }
+    }
+
     /// Lets what comes again and again share the texts of equal ones. It takes no memory.
     pub(crate) fn share(&mut self, pool: &mut Pool)
         ensures { self.new ≡ self.old }

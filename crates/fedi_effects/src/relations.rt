@@ -1,12 +1,17 @@
 //! Who blocks, follows, likes and shares what.
 
-ghost use Rattle.std.specs.Prelude.{◌≡◌, IfOk};
+ghost use Rattle.std.specs.Prelude.{◌≡◌, Bool, IfOk, take};
+ghost use Rattle.std.specs.Fn.{FnReturnsAt};
 ghost use Rattle.std.specs.List.{list_any};
-ghost use Rattle.fedi_town.specs.Relations.{blocks, followers, follows, has_block_between};
+ghost use Rattle.fedi_register.specs.Marks.{Decides};
+ghost use Rattle.fedi_register.specs.Registers.{IsNarrower, relates_by_key};
+ghost use Rattle.fedi_town.specs.declared.act.Act.{Act};
+ghost use Rattle.fedi_town.specs.Relations.{blocks, followers, follows, has_block_between, is_following};
 ghost use Rattle.fedi_town.specs.States.{is_announce_of, is_like_of};
 
 use crate::facts::Facts;
 use fedi_address::Iri;
+use fedi_kept::Kept;
 use std::alloc::{AllocError, Global};
 
 impl Facts {
@@ -31,6 +36,35 @@ impl Facts {
         ensures { result ≡ follows self.now.town a.now b.now }
     {
         self.register().follows(a, b)
+    }
+
+    /// Whether a Follow of b that was accepted passes the test (ActivityPub, section 5.3), which nothing else
+    /// may pass.
+    pub fn is_followed_by<F: Fn(&Kept) -> bool>(&self, b: &Iri, passes: F) -> bool
+        requires { F.IsAlwaysCallable passes }
+        ensures { (p : Act → Bool) → Decides (FnReturnsAt F.Fn passes) p
+            → IsNarrower p (is_following b.now) → result ≡ list_any p self.now.town.acts }
+    {
+        self.register().is_followed_by(b, passes)
+    }
+
+    /// Whether an activity before this place, a Follow, a Like, an Announce or a Block by the author about
+    /// this, passes the test, which nothing else may pass. What has no object counts as about the empty
+    /// text.
+    pub fn is_related_before<F: Fn(&Kept) -> bool>(
+        &self,
+        place: usize,
+        author: &Iri,
+        about: &str,
+        passes: F,
+    ) -> bool
+        requires { F.IsAlwaysCallable passes }
+        ensures { (p : Act → Bool) → Decides (FnReturnsAt F.Fn passes) p
+            → IsNarrower p (relates_by_key author.now about.now)
+            → result ≡ list_any p (take place self.now.town.acts) }
+    {
+        self.register()
+            .is_related_before(place, author, about, passes)
     }
 
     /// Whether a likes this: a Like of it by a stands (ActivityPub, section 6.8).

@@ -10,14 +10,15 @@ use fedi_register::is_by;
 
 /// Whether the actor of this id sees the activity (ActivityPub, sections 5, 6 and 6.9): its own, and
 /// where no Block stands between it and the author what is public, what goes to it, and what is for the
-/// author's followers while it is one. Who follows is looked up last, and only for the latter.
+/// author's followers while it is one. A Follow is looked up for the latter alone, and a Block last, for
+/// what would be seen without it.
 #[tactic(auto, unfolding(fedi_town::specs::Seeing::sees_as, fedi_town::specs::Seeing::is_for_follower))]
 pub fn sees_as(facts: &Facts, id: &Iri, act: &Kept) -> bool
     ensures { result ≡ sees_as facts.now.town id.now act.now }
 {
     is_by(act, id)
-        || (!facts.has_block_between(id, act.author())
-            && (act.is_public()
-                || is_among(id.text(), act.recipients())
-                || (act.is_for_followers() && facts.follows(id, act.author()))))
+        || ((act.is_public()
+            || is_among(id.text(), act.recipients())
+            || (act.is_for_followers() && facts.follows(id, act.author())))
+            && !facts.has_block_between(id, act.author()))
 }

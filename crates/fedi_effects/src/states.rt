@@ -1,22 +1,22 @@
 //! The state in which a member's activity is accepted.
 
-ghost use Rattle.std.specs.Prelude.{◌≡◌, ◌&&◌, ◌^◌, ◌≤◌, Some, true, option_copied};
+ghost use Rattle.std.specs.Prelude.{◌≡◌, ◌^◌, ◌≤◌, Some, true, option_copied};
 ghost use Rattle.std.specs.List.{list_any};
 ghost use Rattle.fedi_town.specs.Deeds.{is_open, is_pending};
 ghost use Rattle.fedi_town.specs.Objects.{makes};
 ghost use Rattle.fedi_town.specs.Relations.{ref_id};
 ghost use Rattle.fedi_town.specs.States.{can_be_undone, follow_state, has_room, is_follow_for, is_live_to, is_locked, is_own_live, is_own_undoable, is_public_act, only_where, state_about, state_of};
-ghost use Rattle.fedi_town.specs.Towns.{count_after, has_id, has_next};
+ghost use Rattle.fedi_town.specs.Towns.{count_after, has_next};
 ghost use Rattle.fedi_effects.specs.Subjects.{subject_of};
 
-use crate::facts::{Facts, has_id};
+use crate::facts::Facts;
 use crate::seeing::sees_as;
 use crate::subjects::{is_whole, ref_id};
 use fedi_address::Iri;
 use fedi_kept::Kept;
 use fedi_objects::{ObjectRef, State};
 use fedi_register::{can_be_undone, is_about, is_by, is_follow, is_open, is_pending};
-use fedi_town::{Actor, Deed, MOST_ACTIVITIES};
+use fedi_town::{Deed, MOST_ACTIVITIES};
 
 // The state where the condition holds, and else Plain.
 fn only_where(holds: bool, state: State) -> State
@@ -90,21 +90,12 @@ fn has_room(facts: &Facts, author: &Iri, id: &Iri) -> bool
     has_next(count_after(facts, author, id))
 }
 
-fn is_locked_one(member: &Actor, id: &Iri) -> bool
-    ensures { result ≡ (has_id id.now member.now && member.now.locked) }
-{
-    has_id(member, id) && member.locked
-}
-
 // Whether Follows of this member wait for an answer.
 #[tactic(auto, unfolding(fedi_town::specs::States::is_locked))]
 fn is_locked(facts: &Facts, id: &Iri) -> bool
     ensures { result ≡ is_locked facts.now.town id.now }
 {
-    facts
-        .actors()
-        .iter()
-        .any(|member| is_locked_one(member, id))
+    facts.members().has_locked(id)
 }
 
 // What becomes of a Follow of this member: a Block refuses it, and else it is accepted at once, where

@@ -1,5 +1,5 @@
 -- What is seen of what is kept.
-use Rattle.std.specs.Prelude.{ℕ, List, [], Option, Some, None}
+use Rattle.std.specs.Prelude.{ℕ, List, [], Option, Some, None, option_map}
 use Rattle.std.specs.declared.boxed.Box.{Box}
 use Rattle.fedi_objects.specs.declared.activity.ObjectRef.{ObjectRef}
 use Rattle.fedi_objects.specs.declared.activity.ObjectRef.TheVariants as refs
@@ -7,6 +7,8 @@ use Rattle.fedi_objects.specs.declared.object.Object.{Object}
 use Rattle.fedi_kept.specs.declared.about.About.{About}
 use Rattle.fedi_kept.specs.declared.about.About.TheVariants as abouts
 use Rattle.fedi_kept.specs.declared.object.KeptObject.{KeptObject}
+use Rattle.fedi_kept.specs.declared.parts.Beside.{Beside}
+use Rattle.fedi_kept.specs.declared.parts.Beside.TheVariants as besides
 use Rattle.fedi_kept.specs.declared.parts.Named.{Named}
 use Rattle.fedi_kept.specs.declared.parts.Parts.{Parts}
 use Rattle.fedi_kept.specs.declared.parts.Rare.{Rare}
@@ -18,8 +20,14 @@ abbrev pub whole : KeptObject → Object
 whole k = record {
   id = k.id;
   kind = k.kind;
-  attributed_to = k.attributed_to;
-  recipients = record { to = k.to; cc = k.cc; bto = k.hidden.bto.value; bcc = k.hidden.bcc.value; audience = k.audience };
+  attributed_to = k.common.value.attributed_to;
+  recipients = record {
+    to = k.common.value.lists.to;
+    cc = k.common.value.lists.cc;
+    bto = k.hidden.bto.value;
+    bcc = k.hidden.bcc.value;
+    audience = k.common.value.lists.audience;
+  };
   in_reply_to = k.in_reply_to;
   content = k.content;
   summary = k.summary;
@@ -54,7 +62,12 @@ no_names = record { to = []; cc = []; audience = []; published = None }
 
 -- those of an object
 abbrev pub named_in : KeptObject → Names
-named_in k = record { to = k.to; cc = k.cc; audience = k.audience; published = k.published }
+named_in k = record {
+  to = k.common.value.lists.to;
+  cc = k.common.value.lists.cc;
+  audience = k.common.value.lists.audience;
+  published = k.published;
+}
 
 -- those of an activity that is new
 abbrev pub names_given : Named → Names
@@ -68,10 +81,9 @@ object_names (abouts.Whole k) = named_in k.value
 object_names (abouts.Changed c) = no_names
 
 -- those of an activity: its own, or else its object's
-abbrev pub named_part : {A : Type 0} → Option (Box Parts A) → About → Names
+abbrev pub named_part : Option Parts → About → Names
 named_part None about = object_names about
-named_part (Some p) about =
-    record { to = p.value.to; cc = p.value.cc; audience = p.value.audience; published = p.value.published }
+named_part (Some p) about = record { to = p.to; cc = p.cc; audience = p.audience; published = p.published }
 
 -- nothing that is rare
 abbrev pub no_rare : Rare
@@ -83,11 +95,29 @@ rare_in None = no_rare
 rare_in (Some r) = r.value
 
 -- what an activity has that is rare
-abbrev pub rare_part : {A : Type 0} → Option (Box Parts A) → Rare
+abbrev pub rare_part : Option Parts → Rare
 rare_part None = no_rare
-rare_part (Some p) = rare_in p.value.rare
+rare_part (Some p) = rare_in p.rare
 
 -- what is lent of it
 abbrev pub rare_lent : Option Rare → Rare
 rare_lent None = no_rare
 rare_lent (Some r) = r
+
+-- what lies in a box, where there is one
+abbrev pub unboxed : {T A : Type 0} → Option (Box T A) → Option T
+unboxed boxed = option_map (λ b. b.value) boxed
+
+-- the parts of its own
+abbrev pub parts_in : Beside → Option Parts
+parts_in besides.Nothing = None
+parts_in (besides.Parts p) = Some p.value
+parts_in (besides.Repeat r) = None
+parts_in (besides.Both b) = Some b.value.0.value
+
+-- the key under which a repeat is known, and the digest of the posted body
+abbrev pub repeat_in : Beside → Option (List ℕ × List ℕ)
+repeat_in besides.Nothing = None
+repeat_in (besides.Parts p) = None
+repeat_in (besides.Repeat r) = Some r.value
+repeat_in (besides.Both b) = Some b.value.1.value

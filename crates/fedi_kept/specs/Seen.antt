@@ -1,18 +1,12 @@
 -- An activity, as it is seen.
-use Rattle.std.specs.Prelude.{Option, option_map}
-use Rattle.std.specs.declared.boxed.Box.{Box}
 use Rattle.fedi_town.specs.declared.act.Act.{Act}
-use Rattle.fedi_kept.specs.Parts.{Names, named_part, rare_part, referred}
+use Rattle.fedi_kept.specs.Parts.{Names, named_part, parts_in, rare_part, referred, repeat_in}
 use Rattle.fedi_kept.specs.declared.kept.Kept.TheInside.{Inside}
 use Rattle.fedi_kept.specs.declared.parts.Rare.{Rare}
 
--- what lies in a box, where there is one
-abbrev pub unboxed : {T A : Type 0} → Option (Box T A) → Option T
-unboxed boxed = option_map (λ b. b.value) boxed
-
 -- the whole activity
 abbrev pub seen : Inside → Act
-seen k = let names : Names = named_part k.own k.about in let rare : Rare = rare_part k.own in record {
+seen k = let names : Names = named_part (parts_in k.beside) k.about in let rare : Rare = rare_part (parts_in k.beside) in record {
   author = k.author;
   activity = record {
     id = k.id;
@@ -34,7 +28,7 @@ seen k = let names : Names = named_part k.own k.about in let rare : Rare = rare_
     published = names.published;
     tags = rare.tags;
   };
-  repeat = unboxed k.repeat;
+  repeat = repeat_in k.beside;
   moment = k.moment;
   recipients = k.recipients;
   forwards = rare.forwards;

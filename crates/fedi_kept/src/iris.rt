@@ -56,11 +56,19 @@ pub(crate) fn are_same(left: &[Iri], right: &[Iri]) -> bool
     true
 }
 
+/// The same list, without the spare capacity that reading leaves.
+pub(crate) fn shrunk<T: Drop>(list: Items<T>) -> Items<T>
+    ensures { result ≡ list }
+{
+    let mut values = list.into_vec();
+    values.shrink_to_fit();
+    Items::new(values)
+}
+
 fn many_of(alloc: Global, iris: Items<Iri>) -> Result<Arc<Vec<Iri>>, AllocError>
     ensures { IfOk result (λ many. many.value.items ≡ iris) }
 {
-    let mut iris = iris.into_vec();
-    iris.shrink_to_fit();
+    let iris = shrunk(iris).into_vec();
     let many = Arc::new(alloc, iris)?;
     Ok(many)
 }

@@ -5,12 +5,11 @@ ghost use Rattle.fedi_town.specs.Showing.{shown_object};
 ghost use Rattle.fedi_town.specs.Deeds.{deed_of};
 ghost use Rattle.fedi_town.specs.Objects.{is_deleted, rewrite_act, tombstone_of, update_object, whole_of};
 ghost use Rattle.fedi_town.specs.Relations.{ref_id};
-ghost use Rattle.fedi_kept.specs.Seen.{unboxed};
 
 use crate::about::About;
-use crate::iris::Iris;
+use crate::iris::{Iris, shrunk};
 use crate::object::{Hidden, hidden_of};
-use crate::parts::{Named, Parts, Rare, content_of, rare_of_own, share_own};
+use crate::parts::{Beside, Named, Rare, beside_of, content_of};
 use crate::pool::Pool;
 use fedi_address::Iri;
 use fedi_objects::{Kind, ObjectRef, RepeatKey, State, StrippedObject, Tag};
@@ -28,10 +27,9 @@ pub struct Kept {
     author: Iri,
     id: Option<Iri>,
     about: About,
-    // `None` if the activity names whom its object names, was published when its object was, and has
-    // nothing that is rare.
-    own: Option<Box<Parts>>,
-    repeat: Option<Box<(RepeatKey, [u8; 32])>>,
+    // It has no parts of its own if it names whom its object names, was published when its object was, and
+    // has nothing that is rare.
+    beside: Beside,
     recipients: Iris,
     moment: Moment,
     kind: Kind,
@@ -41,6 +39,9 @@ pub struct Kept {
     actor: Snapshot<Option<Iri>>,
     hidden: Hidden,
 }
+
+// For each activity there is one.
+const _: () = prove!(size_of::<Kept>() == 88);
 
 impl Model for Kept {
     ghost use Rattle.fedi_town.specs.declared.act.Act.{Act};
@@ -52,22 +53,12 @@ impl Model for Kept {
     ghost view = { seen };
 }
 
-fn boxed<T: Drop>(alloc: Global, value: Option<T>) -> Result<Option<Box<T>>, AllocError>
-    ensures { IfOk result (λ kept. unboxed kept ≡ value) }
-{
-    match value {
-        None => Ok(None),
-        Some(value) => Ok(Some(Box::new(alloc, value)?)),
-    }
-}
-
 impl Kept {
     /// The activity, made ready to be kept. The error is out of memory.
     pub fn new(alloc: Global, act: Act) -> Result<Kept, AllocError>
         ensures { IfOk result (λ kept. kept ≡ act) }
     {
         let recipients = Iris::new(alloc, act.recipients)?;
-        let repeat = boxed(alloc, act.repeat)?;
         let activity = act.activity.into_inner();
         let names = activity.recipients;
         let hidden = hidden_of(&names);
@@ -84,16 +75,16 @@ impl Kept {
             content: activity.content,
             summary: activity.summary,
             name: activity.name,
-            tags: activity.tags,
-            forwards: act.forwards,
+            tags: shrunk(activity.tags),
+            forwards: shrunk(act.forwards),
         };
         let (about, own) = content_of(alloc, activity.object, named, rare)?;
+        let beside = beside_of(alloc, own, act.repeat)?;
         Ok(Kept {
             author: act.author,
             id: activity.id,
             about,
-            own,
-            repeat,
+            beside,
             recipients,
             moment: act.moment,
             kind: activity.kind,
@@ -172,7 +163,7 @@ impl Kept {
     pub fn forwards(&self) -> &[Iri]
         ensures { result.now ≡ self.now.forwards }
     {
-        match rare_of_own(&self.own) {
+        match self.beside.rare() {
             Some(rare) => rare.forwards.as_slice(),
             None => &[],
         }
@@ -182,10 +173,7 @@ impl Kept {
     pub fn repeat(&self) -> Option<&(RepeatKey, [u8; 32])>
         ensures { option_copied result ≡ self.now.repeat }
     {
-        match &self.repeat {
-            Some(repeat) => Some(&**repeat),
-            None => None,
-        }
+        self.beside.repeat()
     }
 
     /// The id of what it is about.
@@ -207,7 +195,7 @@ impl Kept {
     pub fn target(&self) -> Option<&Iri>
         ensures { option_copied result ≡ self.now.activity.target }
     {
-        match rare_of_own(&self.own) {
+        match self.beside.rare() {
             Some(rare) => rare.target.as_ref(),
             None => None,
         }
@@ -217,9 +205,9 @@ impl Kept {
     pub fn to(&self) -> &[Iri]
         ensures { result.now ≡ self.now.activity.recipients.to }
     {
-        match (&self.own, &self.about) {
+        match (self.beside.parts(), &self.about) {
             (Some(own), _) => own.to.as_slice(),
-            (None, About::Whole(object)) => object.to.as_slice(),
+            (None, About::Whole(object)) => object.common.lists.to.as_slice(),
             (None, _) => &[],
         }
     }
@@ -228,9 +216,9 @@ impl Kept {
     pub fn cc(&self) -> &[Iri]
         ensures { result.now ≡ self.now.activity.recipients.cc }
     {
-        match (&self.own, &self.about) {
+        match (self.beside.parts(), &self.about) {
             (Some(own), _) => own.cc.as_slice(),
-            (None, About::Whole(object)) => object.cc.as_slice(),
+            (None, About::Whole(object)) => object.common.lists.cc.as_slice(),
             (None, _) => &[],
         }
     }
@@ -239,9 +227,9 @@ impl Kept {
     pub fn audience(&self) -> &[Iri]
         ensures { result.now ≡ self.now.activity.recipients.audience }
     {
-        match (&self.own, &self.about) {
+        match (self.beside.parts(), &self.about) {
             (Some(own), _) => own.audience.as_slice(),
-            (None, About::Whole(object)) => object.audience.as_slice(),
+            (None, About::Whole(object)) => object.common.lists.audience.as_slice(),
             (None, _) => &[],
         }
     }
@@ -250,7 +238,7 @@ impl Kept {
     pub fn in_reply_to(&self) -> Option<&Iri>
         ensures { option_copied result ≡ self.now.activity.in_reply_to }
     {
-        match rare_of_own(&self.own) {
+        match self.beside.rare() {
             Some(rare) => rare.in_reply_to.as_ref(),
             None => None,
         }
@@ -260,7 +248,7 @@ impl Kept {
     pub fn content(&self) -> Option<&Text>
         ensures { option_copied result ≡ self.now.activity.content }
     {
-        match rare_of_own(&self.own) {
+        match self.beside.rare() {
             Some(rare) => rare.content.as_ref(),
             None => None,
         }
@@ -270,7 +258,7 @@ impl Kept {
     pub fn summary(&self) -> Option<&Text>
         ensures { option_copied result ≡ self.now.activity.summary }
     {
-        match rare_of_own(&self.own) {
+        match self.beside.rare() {
             Some(rare) => rare.summary.as_ref(),
             None => None,
         }
@@ -280,7 +268,7 @@ impl Kept {
     pub fn name(&self) -> Option<&Text>
         ensures { option_copied result ≡ self.now.activity.name }
     {
-        match rare_of_own(&self.own) {
+        match self.beside.rare() {
             Some(rare) => rare.name.as_ref(),
             None => None,
         }
@@ -290,7 +278,7 @@ impl Kept {
     pub fn published(&self) -> Option<&Text>
         ensures { option_copied result ≡ self.now.activity.published }
     {
-        match (&self.own, &self.about) {
+        match (self.beside.parts(), &self.about) {
             (Some(own), _) => own.published.as_ref(),
             (None, About::Whole(object)) => object.published.as_ref(),
             (None, _) => None,
@@ -301,7 +289,7 @@ impl Kept {
     pub fn tags(&self) -> &[Tag]
         ensures { result.now ≡ self.now.activity.tags }
     {
-        match rare_of_own(&self.own) {
+        match self.beside.rare() {
             Some(rare) => rare.tags.as_slice(),
             None => &[],
         }
@@ -350,7 +338,7 @@ impl Kept {
     {
         pool.share(&mut self.author);
         self.about.share(pool);
-        share_own(&mut self.own, pool);
+        self.beside.share(pool);
         self.recipients.share(pool);
     }
 }

@@ -3,6 +3,7 @@
 #![tactic(auto)]
 
 mod about;
+mod common;
 mod iris;
 mod kept;
 mod object;

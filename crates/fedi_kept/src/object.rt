@@ -7,7 +7,8 @@ ghost use Rattle.fedi_town.specs.Objects as objects;
 ghost use Rattle.fedi_town.specs.Showing.{bare_tombstone, shown_object};
 ghost use Rattle.fedi_kept.specs.Parts.{named_in, whole};
 
-use crate::iris::Iris;
+use crate::common::Common;
+use crate::iris::shrunk;
 use crate::pool::Pool;
 use fedi_address::{Iri, Items, Recipients};
 use fedi_objects::{
@@ -17,6 +18,7 @@ use fedi_text::Text;
 use std::alloc::{AllocError, Global};
 use std::mem;
 use std::snapshot::Snapshot;
+use std::sync::Arc;
 
 // Who is hidden from all but the author (ActivityPub, section 6). A contract sees them, and none is held.
 #[derive(Drop)]
@@ -30,10 +32,7 @@ pub(crate) struct Hidden {
 pub(crate) struct KeptObject {
     pub(crate) id: Option<Iri>,
     pub(crate) kind: Text,
-    pub(crate) attributed_to: Option<Iri>,
-    pub(crate) to: Iris,
-    pub(crate) cc: Iris,
-    pub(crate) audience: Iris,
+    pub(crate) common: Arc<Common>,
     pub(crate) in_reply_to: Option<Iri>,
     pub(crate) content: Option<Text>,
     pub(crate) summary: Option<Text>,
@@ -46,6 +45,9 @@ pub(crate) struct KeptObject {
     pub(crate) tags: Items<Tag>,
     pub(crate) hidden: Hidden,
 }
+
+// For each post there is one.
+const _: () = prove!(size_of::<KeptObject>() == 328);
 
 // A property after a client's Update.
 fn edit<T: Drop>(property: &mut Option<T>, by: Edit<T>)
@@ -80,33 +82,6 @@ pub(crate) fn hidden_of(recipients: &Recipients) -> Hidden
     }
 }
 
-/// Whom an activity or an object names to all who see it.
-#[derive(Drop)]
-pub(crate) struct Lists {
-    pub(crate) to: Iris,
-    pub(crate) cc: Iris,
-    pub(crate) audience: Iris,
-}
-
-impl Lists {
-    /// The same lists, made ready to be kept. The error is out of memory.
-    pub(crate) fn new(
-        alloc: Global,
-        to: Items<Iri>,
-        cc: Items<Iri>,
-        audience: Items<Iri>,
-    ) -> Result<Lists, AllocError>
-        ensures to { IfOk result (λ lists. lists.to ≡ to) }
-        ensures cc { IfOk result (λ lists. lists.cc ≡ cc) }
-        ensures audience { IfOk result (λ lists. lists.audience ≡ audience) }
-    {
-        let to = Iris::new(alloc, to)?;
-        let cc = Iris::new(alloc, cc)?;
-        let audience = Iris::new(alloc, audience)?;
-        Ok(Lists { to, cc, audience })
-    }
-}
-
 impl KeptObject {
     /// The object, made ready to be kept. The error is out of memory.
     pub(crate) fn new(alloc: Global, object: Object) -> Result<KeptObject, AllocError>
@@ -115,14 +90,12 @@ impl KeptObject {
         let mut object = object;
         let hidden = hidden_of(&object.recipients);
         let names = mem::replace(&mut object.recipients, Recipients::empty(alloc));
-        match Lists::new(alloc, names.to, names.cc, names.audience) {
-            Ok(lists) => Ok(KeptObject {
+        let author = object.attributed_to.take();
+        match Common::new(alloc, author, names) {
+            Ok(common) => Ok(KeptObject {
                 id: object.id,
                 kind: object.kind,
-                attributed_to: object.attributed_to,
-                to: lists.to,
-                cc: lists.cc,
-                audience: lists.audience,
+                common,
                 in_reply_to: object.in_reply_to,
                 content: object.content,
                 summary: object.summary,
@@ -132,7 +105,7 @@ impl KeptObject {
                 updated: object.updated,
                 former_kind: object.former_kind,
                 deleted: object.deleted,
-                tags: object.tags,
+                tags: shrunk(object.tags),
                 hidden,
             }),
             Err(error) => {
@@ -180,10 +153,10 @@ impl KeptObject {
         StrippedObject::of(ObjectView {
             id: self.id.as_ref(),
             kind: &self.kind,
-            attributed_to: self.attributed_to.as_ref(),
-            to: self.to.as_slice(),
-            cc: self.cc.as_slice(),
-            audience: self.audience.as_slice(),
+            attributed_to: self.common.attributed_to.as_ref(),
+            to: self.common.lists.to.as_slice(),
+            cc: self.common.lists.cc.as_slice(),
+            audience: self.common.lists.audience.as_slice(),
             in_reply_to: self.in_reply_to.as_ref(),
             content: self.content.as_ref(),
             summary: self.summary.as_ref(),
@@ -281,12 +254,10 @@ impl KeptObject {
 
     /// Lets the IRIs that come again and again share the texts of equal ones.
     pub(crate) fn share(&mut self, pool: &mut Pool)
-        ensures { self.new ≡ self.old }
+        ensures whole { whole self.new ≡ whole self.old }
+        ensures named { named_in self.new ≡ named_in self.old }
     {
-        pool.share_some(&mut self.attributed_to);
         pool.share_some(&mut self.in_reply_to);
-        self.to.share(pool);
-        self.cc.share(pool);
-        self.audience.share(pool);
+        pool.share_common(&mut self.common);
     }
 }

@@ -1,14 +1,15 @@
 //! What an activity has beside its object, as it is kept.
 
 ghost use Rattle.std.specs.Prelude.{◌≡◌, true, false, IfOk, [], option_copied};
-ghost use Rattle.fedi_kept.specs.Parts.{named_part, names_given, no_names, no_rare, object_names, rare_in, rare_lent, rare_part, referred};
+ghost use Rattle.fedi_kept.specs.Parts.{named_part, names_given, no_names, no_rare, object_names, rare_in, parts_in, rare_lent, rare_part, referred, repeat_in, unboxed};
 
 use crate::about::About;
+use crate::common::Lists;
 use crate::iris::{Iris, are_same};
-use crate::object::{KeptObject, Lists};
+use crate::object::KeptObject;
 use crate::pool::Pool;
 use fedi_address::{Iri, Items};
-use fedi_objects::{ObjectRef, Tag};
+use fedi_objects::{ObjectRef, RepeatKey, Tag};
 use fedi_text::Text;
 use std::alloc::{AllocError, Global};
 
@@ -32,6 +33,18 @@ pub(crate) struct Parts {
     pub(crate) audience: Iris,
     pub(crate) published: Option<Text>,
     pub(crate) rare: Option<Box<Rare>>,
+}
+
+/// The key under which a repeat is known, and the digest of the posted body.
+pub(crate) type Repeat = (RepeatKey, [u8; 32]);
+
+// What an activity has beside what it is about. Few have both, and one tag serves for the two.
+#[derive(Drop)]
+pub(crate) enum Beside {
+    Nothing,
+    Parts(Box<Parts>),
+    Repeat(Box<Repeat>),
+    Both(Box<(Box<Parts>, Box<Repeat>)>),
 }
 
 // Whom an activity names, and when it was published.
@@ -72,14 +85,17 @@ fn has_nothing(rare: &Rare) -> bool
 }
 
 fn is_named_alike(named: &Named, object: &KeptObject) -> bool
-    ensures to { result ≡ true → named.now.to ≡ object.now.to }
-    ensures cc { result ≡ true → named.now.cc ≡ object.now.cc }
-    ensures audience { result ≡ true → named.now.audience ≡ object.now.audience }
+    ensures to { result ≡ true → named.now.to ≡ object.now.common.value.lists.to }
+    ensures cc { result ≡ true → named.now.cc ≡ object.now.common.value.lists.cc }
+    ensures audience { result ≡ true → named.now.audience ≡ object.now.common.value.lists.audience }
     ensures published { result ≡ true → named.now.published ≡ object.now.published }
 {
-    are_same(named.to.as_slice(), object.to.as_slice())
-        && are_same(named.cc.as_slice(), object.cc.as_slice())
-        && are_same(named.audience.as_slice(), object.audience.as_slice())
+    are_same(named.to.as_slice(), object.common.lists.to.as_slice())
+        && are_same(named.cc.as_slice(), object.common.lists.cc.as_slice())
+        && are_same(
+            named.audience.as_slice(),
+            object.common.lists.audience.as_slice(),
+        )
         && is_same_text(&named.published, &object.published)
 }
 
@@ -118,8 +134,9 @@ fn parts_of(
     named: Named,
     rare: Option<Box<Rare>>,
 ) -> Result<Option<Box<Parts>>, AllocError>
-    ensures named { IfOk result (λ kept. (about : _) → named_part kept about ≡ names_given named) }
-    ensures rare { IfOk result (λ kept. rare_part kept ≡ rare_in rare) }
+    ensures named { IfOk result (λ kept. (about : _)
+        → named_part (unboxed kept) about ≡ names_given named) }
+    ensures rare { IfOk result (λ kept. rare_part (unboxed kept) ≡ rare_in rare) }
 {
     let lists = Lists::new(alloc, named.to, named.cc, named.audience)?;
     let parts = Box::new(
@@ -142,8 +159,8 @@ fn own_of(
     rare: Rare,
     about: &About,
 ) -> Result<Option<Box<Parts>>, AllocError>
-    ensures named { IfOk result (λ kept. named_part kept about.now ≡ names_given named) }
-    ensures rare { IfOk result (λ kept. rare_part kept ≡ rare) }
+    ensures named { IfOk result (λ kept. named_part (unboxed kept) about.now ≡ names_given named) }
+    ensures rare { IfOk result (λ kept. rare_part (unboxed kept) ≡ rare) }
 {
     let rare = rare_of(alloc, rare)?;
     if rare.is_none() && is_named_as_object(&named, about) {
@@ -160,8 +177,8 @@ pub(crate) fn content_of(
     rare: Rare,
 ) -> Result<(About, Option<Box<Parts>>), AllocError>
     ensures about { IfOk result (λ both. referred both.0 ≡ object) }
-    ensures named { IfOk result (λ both. named_part both.1 both.0 ≡ names_given named) }
-    ensures rare { IfOk result (λ both. rare_part both.1 ≡ rare) }
+    ensures named { IfOk result (λ both. named_part (unboxed both.1) both.0 ≡ names_given named) }
+    ensures rare { IfOk result (λ both. rare_part (unboxed both.1) ≡ rare) }
 {
     let about = About::new(alloc, object)?;
     match own_of(alloc, named, rare, &about) {
@@ -173,27 +190,81 @@ pub(crate) fn content_of(
     }
 }
 
-/// What few activities have, where this one has something of it.
-pub(crate) fn rare_of_own(own: &Option<Box<Parts>>) -> Option<&Rare>
-    ensures { rare_lent (option_copied result) ≡ rare_part own.now }
+/// The parts of its own and the key of an activity. The error is out of memory.
+pub(crate) fn beside_of(
+    alloc: Global,
+    own: Option<Box<Parts>>,
+    repeat: Option<Repeat>,
+) -> Result<Beside, AllocError>
+    ensures own { IfOk result (λ beside. parts_in beside ≡ unboxed own) }
+    ensures repeat { IfOk result (λ beside. repeat_in beside ≡ repeat) }
 {
-    match own {
-        Some(own) => match &own.rare {
-            Some(rare) => Some(&**rare),
-            None => None,
-        },
-        None => None,
+    match (own, repeat) {
+        (None, None) => Ok(Beside::Nothing),
+        (Some(own), None) => Ok(Beside::Parts(own)),
+        (None, Some(repeat)) => Ok(Beside::Repeat(Box::new(alloc, repeat)?)),
+        (Some(own), Some(repeat)) => {
+            let repeat = Box::new(alloc, repeat)?;
+            Ok(Beside::Both(Box::new(alloc, (own, repeat))?))
+        }
     }
 }
 
-/// Lets the IRIs that come again and again share the texts of equal ones.
-pub(crate) fn share_own(own: &mut Option<Box<Parts>>, pool: &mut Pool)
-    ensures rare { rare_part own.new ≡ rare_part own.old }
-    ensures named { (about : _) → named_part own.new about ≡ named_part own.old about }
-{
-    if let Some(own) = own {
-        own.to.share(pool);
-        own.cc.share(pool);
-        own.audience.share(pool);
+impl Beside {
+    /// The parts of its own.
+    pub(crate) fn parts(&self) -> Option<&Parts>
+        ensures { option_copied result ≡ parts_in self.now }
+    {
+        match self {
+            Beside::Parts(parts) => Some(&**parts),
+            Beside::Both(both) => Some(&*both.0),
+            Beside::Nothing | Beside::Repeat(_) => None,
+        }
+    }
+
+    /// What few activities have, where this one has something of it.
+    pub(crate) fn rare(&self) -> Option<&Rare>
+        ensures { rare_lent (option_copied result) ≡ rare_part (parts_in self.now) }
+    {
+        match self.parts() {
+            Some(parts) => match &parts.rare {
+                Some(rare) => Some(&**rare),
+                None => None,
+            },
+            None => None,
+        }
+    }
+
+    /// The key, and the digest of the posted body.
+    pub(crate) fn repeat(&self) -> Option<&Repeat>
+        ensures { option_copied result ≡ repeat_in self.now }
+    {
+        match self {
+            Beside::Repeat(repeat) => Some(&**repeat),
+            Beside::Both(both) => Some(&*both.1),
+            Beside::Nothing | Beside::Parts(_) => None,
+        }
+    }
+
+    /// Lets the IRIs that come again and again share the texts of equal ones.
+    pub(crate) fn share(&mut self, pool: &mut Pool)
+        ensures parts { parts_in self.new ≡ parts_in self.old }
+        ensures repeat { repeat_in self.new ≡ repeat_in self.old }
+    {
+        match self {
+            Beside::Parts(parts) => parts.share(pool),
+            Beside::Both(both) => both.0.share(pool),
+            Beside::Nothing | Beside::Repeat(_) => {}
+        }
+    }
+}
+
+impl Parts {
+    fn share(&mut self, pool: &mut Pool)
+        ensures { self.new ≡ self.old }
+    {
+        self.to.share(pool);
+        self.cc.share(pool);
+        self.audience.share(pool);
     }
 }

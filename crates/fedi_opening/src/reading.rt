@@ -1,8 +1,9 @@
 //! The entry that a record is the code of.
 
-ghost use Rattle.std.specs.Prelude.{◌≡◌, IfErr, IfOk};
+ghost use Rattle.std.specs.Prelude.{◌≡◌, IfErr, IfOk, IsTrue};
 ghost use Rattle.fedi_entry.specs.Codes.{code_of};
 ghost use Rattle.fedi_town.specs.Histories.{town};
+ghost use Rattle.fedi_town.specs.Legal.{is_admissible};
 ghost use Rattle.fedi_opening.specs.Opening.{IsNext, IsUnread};
 
 use crate::fault::OpenFault;
@@ -24,6 +25,7 @@ pub(crate) fn read_next(
     place: u64,
 ) -> Result<Entry, OpenFault>
     ensures next { IfOk result (IsNext (town facts.now.history)) }
+    ensures admissible { IfOk result (λ entry. IsTrue (is_admissible facts.now.town entry)) }
     ensures code { IfOk result (λ entry. code_of entry ≡ bytes.now) }
     ensures unread { IfErr result (IsUnread (town facts.now.history) bytes.now place) }
 {

@@ -1,5 +1,5 @@
 -- From what becomes of a store, and from the end of a session, to the end of a run.
-use Rattle.std.proofs.Common.{◌≡◌, ℕ, Bool, true, List, Option, Some, None, IfSome, inl, inr, refl, sym, ◌∙◌}
+use Rattle.std.proofs.Common.{◌≡◌, ◌⊎◌, ℕ, Bool, true, List, Option, Some, None, IfSome, arith, inl, inr, refl, sym, ◌∙◌}
 use Rattle.fedi_log.specs.Log.{Log, given}
 use Rattle.fedi_startup.specs.Surviving.{growth, room}
 use Rattle.fedi_startup.specs.declared.faults.StoreFault.{StoreFault}
@@ -9,7 +9,7 @@ use Rattle.fedi_program.specs.declared.sessions.SessionEnd.{SessionEnd}
 use Rattle.fedi_program.specs.declared.sessions.SessionEnd.TheVariants.{End, CutShort, Closed, ReadFault, WriteFault, Memory}
 use Rattle.fedi_program.specs.Commands.{Inetd, Task}
 use Rattle.fedi_program.specs.Conversations.{Setting}
-use Rattle.fedi_program.specs.Endings.{Faults, HasCauses, Output, RunsTo, Scene, Serves, Talks, TalksIfTold, setting_of}
+use Rattle.fedi_program.specs.Endings.{Faults, HasCauses, IsCaused, Output, RunsTo, Scene, Serves, Talks, TalksIfTold, setting_of, status_of}
 use Rattle.fedi_program.specs.Members.{Chance}
 use Rattle.fedi_program.specs.Runs.{is_status_of}
 use Rattle.fedi_program.specs.Stores.{AddsMember, ChecksStore, IsKeptSafe, Medium, ServesStore, TalksOverStore, TellsOfStore, status_by}
@@ -93,3 +93,40 @@ refused_causes counts (faults.DamagedByte place) = record { reads = refl; writes
 refused_causes counts (faults.DamagedRecord place) = record { reads = refl; writes = inl refl; failed = λ is. absurd cc; calm = λ is. refl }
 refused_causes counts faults.Failed = record { reads = refl; writes = inl refl; failed = λ is. absurd cc; calm = λ is. refl }
 refused_causes counts faults.Memory = record { reads = refl; writes = inl refl; failed = λ is. absurd cc; calm = λ is. refl }
+
+-- ---- why a session ended
+
+not_seven : (status : ℕ) → (status ≡ 7 → ⊥) → status ≡ 7 → ⊥
+not_seven status other e = other e
+
+no_calm : (status : ℕ) → (status ≡ 0 → ⊥) → (status ≡ 6 → ⊥) → (status ≡ 8 → ⊥) → (status ≡ 0) ⊎ ((status ≡ 6) ⊎ (status ≡ 8)) → ⊥
+no_calm status zero six eight (inl e) = zero e
+no_calm status zero six eight (inr (inl e)) = six e
+no_calm status zero six eight (inr (inr e)) = eight e
+
+-- a session that ended so, with its cause, gives its status with the causes of that
+pub has_causes : (before now : Faults) (ending : SessionEnd) (status : ℕ) → status ≡ status_of ending → IsCaused before now ending → HasCauses before now status
+has_causes before now End status is caused =
+    rw (is, caused) (record { reads = refl; writes = inl refl; failed = λ e. absurd (not_seven 0 (λ z. omega (arith, z)) e); calm = λ _. refl })
+has_causes before now Closed status is caused =
+    rw (is, caused) (record { reads = refl; writes = inl refl; failed = λ e. absurd (not_seven 0 (λ z. omega (arith, z)) e); calm = λ _. refl })
+has_causes before now CutShort status is caused =
+    rw (is, caused) (record { reads = refl; writes = inl refl; failed = λ e. absurd (not_seven 8 (λ z. omega (arith, z)) e); calm = λ _. refl })
+has_causes before now ReadFault status is caused =
+    rw (is, caused) (record { reads = refl; writes = inl refl; failed = λ e. absurd (not_seven 6 (λ z. omega (arith, z)) e); calm = λ _. refl })
+has_causes before now WriteFault status is caused =
+    rw (is, caused) (record {
+      reads = refl;
+      writes = inr refl;
+      failed = λ _. refl;
+      calm = λ e. absurd (no_calm 7 (λ z. omega (arith, z)) (λ z. omega (arith, z)) (λ z. omega (arith, z)) e);
+    })
+has_causes before now Memory status is (inl caused) =
+    rw (is, caused) (record { reads = refl; writes = inl refl; failed = λ e. absurd (not_seven 12 (λ z. omega (arith, z)) e); calm = λ _. refl })
+has_causes before now Memory status is (inr caused) =
+    rw (is, caused) (record {
+      reads = refl;
+      writes = inr refl;
+      failed = λ e. absurd (not_seven 12 (λ z. omega (arith, z)) e);
+      calm = λ e. absurd (no_calm 12 (λ z. omega (arith, z)) (λ z. omega (arith, z)) (λ z. omega (arith, z)) e);
+    })

@@ -9,10 +9,10 @@ ghost use Rattle.fedi_program.specs.Endings.{IsAnswerText};
 
 use fedi_core::{Core, Decision, KeepError, KeepFault};
 use fedi_http::reply_bytes;
+use fedi_index::IndexedShelf;
 use fedi_model::{Refusal, Request, refusal_reply};
 use fedi_outside::Keeper;
 use fedi_routes::{Routes, credentials, route};
-use fedi_store::PlainShelf;
 use fedi_text::Moment;
 use std::alloc::{AllocError, Global};
 
@@ -37,7 +37,7 @@ pub fn refusal_text(
 /// The error is out of memory, and then nothing was kept, and the keeper did not fail.
 pub fn answer<P: Keeper>(
     alloc: Global,
-    core: &mut Core<PlainShelf, P>,
+    core: &mut Core<IndexedShelf, P>,
     routes: &Routes,
     request: &Request,
     body: &[u8],

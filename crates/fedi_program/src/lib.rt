@@ -19,6 +19,7 @@ pub use adapters::{Reading, SystemClock, SystemEntropy, Writing};
 pub use answers::answer;
 pub use commands::{Command, command_of, store_of};
 pub use connection::Connection;
+pub use fedi_effects::Seed;
 pub use laws::{
     acknowledged_entries_survive, conversations_are_determined, conversations_have_no_gaps,
     conversations_own_their_items, conversations_stand_in_the_log, conversations_stay,

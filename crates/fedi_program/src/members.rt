@@ -15,10 +15,10 @@ use crate::printing::{print, tell};
 use crate::statuses::{DISK_FAULT, FULL, OUT_OF_MEMORY, READ_FAULT, REFUSED};
 use fedi_address::LocalName;
 use fedi_core::{Core, KeepError, KeepFault};
+use fedi_index::IndexedShelf;
 use fedi_mac::{digest, hex_text};
 use fedi_objects::Entry;
 use fedi_outside::{Clock, Entropy, Failed, Keeper, Sink};
-use fedi_store::PlainShelf;
 use fedi_text::Moment;
 use fedi_town::CommandFault;
 use std::alloc::{AllocError, Global};
@@ -58,7 +58,7 @@ fn tell_fault<O: Sink>(out: &mut O, fault: CommandFault) -> u8
 /// left, so that the member is not found by the next opening, unless that fails too.
 fn enroll<P: Keeper>(
     alloc: Global,
-    core: &mut Core<PlainShelf, P>,
+    core: &mut Core<IndexedShelf, P>,
     entry: Entry,
     name: &str,
     key: &[u8; 32],
@@ -103,7 +103,7 @@ fn enroll<P: Keeper>(
 /// failed again when it was to take back what it had of the entry, and then the next opening may find it.
 pub fn make_member<O: Sink, P: Keeper, C: Clock, E: Entropy>(
     alloc: Global,
-    core: &mut Core<PlainShelf, P>,
+    core: &mut Core<IndexedShelf, P>,
     out: &mut O,
     clock: &C,
     entropy: &mut E,

@@ -21,11 +21,12 @@ use crate::statuses::{CUT_SHORT, DONE, NOT_ACCEPTED, OUT_OF_MEMORY, READ_FAULT, 
 use crate::stores::{begin_store, status_by, tell_of_store};
 use crate::usage::usage;
 use fedi_core::Core;
+use fedi_effects::Seed;
+use fedi_index::IndexedShelf;
 use fedi_outside::{Clock, Disk, Entropy, Keeper, Sink, Source};
 use fedi_report::check_line;
 use fedi_routes::Routes;
 use fedi_startup::{close_store, open_store};
-use fedi_store::PlainShelf;
 use std::alloc::{AllocError, Global};
 
 /// How a run ended.
@@ -54,6 +55,7 @@ fn status_of(end: SessionEnd) -> u8
 /// told even where memory is short.
 fn inetd<S: Source, O: Sink, D: Disk, C: Clock>(
     alloc: Global,
+    seed: Seed,
     connection: &mut Connection<S, O, C>,
     disk: D,
 ) -> Ended<D>
@@ -69,7 +71,7 @@ fn inetd<S: Source, O: Sink, D: Disk, C: Clock>(
     ensures statuses { IsTrue (is_status_of (Some Inetd) result.status) }
     ensures clock { connection.new.clock ≡ connection.old.clock }
 {
-    match open_store(alloc, disk) {
+    match open_store(alloc, seed, disk) {
         Ok(mut core) => match Routes::new(alloc) {
             Ok(routes) => {
                 let end = session(alloc, &mut core, &routes, connection);
@@ -93,6 +95,7 @@ fn inetd<S: Source, O: Sink, D: Disk, C: Clock>(
 /// Makes a member of the store of the disk.
 fn add_actor<S, O: Sink, D: Disk, C: Clock, E: Entropy>(
     alloc: Global,
+    seed: Seed,
     connection: &mut Connection<S, O, C>,
     disk: D,
     entropy: &mut E,
@@ -107,7 +110,7 @@ fn add_actor<S, O: Sink, D: Disk, C: Clock, E: Entropy>(
     ensures input { connection.new.input ≡ connection.old.input }
     ensures clock { connection.new.clock ≡ connection.old.clock }
 {
-    match open_store(alloc, disk) {
+    match open_store(alloc, seed, disk) {
         Ok(mut core) => {
             let (out, clock) = (&mut connection.out, &connection.clock);
             let status = make_member(alloc, &mut core, out, clock, entropy, name, locked);
@@ -124,7 +127,7 @@ fn add_actor<S, O: Sink, D: Disk, C: Clock, E: Entropy>(
 }
 
 /// Prints how much the machine has. The answer is the exit status.
-fn count<O: Sink, P: Keeper>(alloc: Global, out: &mut O, core: &Core<PlainShelf, P>) -> u8
+fn count<O: Sink, P: Keeper>(alloc: Global, out: &mut O, core: &Core<IndexedShelf, P>) -> u8
     ensures counted { Counts (output_by O.sent O.write_faults out.old)
         (output_by O.sent O.write_faults out.new) core.now.history result }
     // The machine is only looked at.
@@ -139,13 +142,13 @@ fn count<O: Sink, P: Keeper>(alloc: Global, out: &mut O, core: &Core<PlainShelf,
 }
 
 /// Counts what the store of the disk has.
-fn check<O: Sink, D: Disk>(alloc: Global, out: &mut O, disk: D) -> Ended<D>
+fn check<O: Sink, D: Disk>(alloc: Global, seed: Seed, out: &mut O, disk: D) -> Ended<D>
     ensures checked { ChecksStore
         (medium_by D.shown D.crashes disk) (medium_by D.shown D.crashes result.disk)
         (output_by O.sent O.write_faults out.old) (output_by O.sent O.write_faults out.new)
         result.status }
 {
-    match open_store(alloc, disk) {
+    match open_store(alloc, seed, disk) {
         Ok(core) => {
             let status = count(alloc, out, &core);
             Ended {
@@ -186,9 +189,10 @@ fn check<O: Sink, D: Disk>(alloc: Global, out: &mut O, disk: D) -> Ended<D>
 /// | 13 | the store has no room for a member | `full` |
 ///
 /// A status other than 0 stays if its text cannot be written. The disk comes back with all that was
-/// kept.
+/// kept. The seed is what texts are looked up by: nothing that can be seen depends on it but time.
 pub fn run<S: Source, O: Sink, D: Disk, C: Clock, E: Entropy>(
     alloc: Global,
+    seed: Seed,
     arguments: &[String],
     connection: &mut Connection<S, O, C>,
     disk: D,
@@ -286,16 +290,16 @@ pub fn run<S: Source, O: Sink, D: Disk, C: Clock, E: Entropy>(
     ensures clock { connection.new.clock ≡ connection.old.clock }
 {
     match command_of(arguments) {
-        Some(Command::Inetd) => inetd(alloc, connection, disk),
+        Some(Command::Inetd) => inetd(alloc, seed, connection, disk),
         Some(Command::AddActor { name, locked }) => {
-            add_actor(alloc, connection, disk, entropy, name, locked)
+            add_actor(alloc, seed, connection, disk, entropy, name, locked)
         }
         Some(Command::Init { host }) => {
             let (out, clock) = (&mut connection.out, &connection.clock);
             let (status, disk) = begin_store(alloc, out, clock, disk, host);
             Ended { status, disk }
         }
-        Some(Command::Check) => check(alloc, &mut connection.out, disk),
+        Some(Command::Check) => check(alloc, seed, &mut connection.out, disk),
         Some(Command::Usage) => Ended {
             status: print(&mut connection.out, usage().as_bytes()),
             disk,

@@ -12,10 +12,10 @@ use crate::answers::{answer, refusal_text};
 use crate::connection::Connection;
 use fedi_core::Core;
 use fedi_http::{Arrived, Buffer, memory_text, read_request, send};
+use fedi_index::IndexedShelf;
 use fedi_model::Request;
 use fedi_outside::{Clock, Failed, Keeper, Sink, Source};
 use fedi_routes::Routes;
-use fedi_store::PlainShelf;
 use fedi_text::Moment;
 use std::alloc::{AllocError, Global};
 
@@ -79,7 +79,7 @@ fn is_last(request: &Request, served: u64) -> bool
 /// The answer is how the session ends, if it does.
 pub fn exchange<S: Source, O: Sink, P: Keeper, C: Clock>(
     alloc: Global,
-    core: &mut Core<PlainShelf, P>,
+    core: &mut Core<IndexedShelf, P>,
     routes: &Routes,
     connection: &mut Connection<S, O, C>,
     buffer: &mut Buffer,
@@ -136,7 +136,7 @@ pub fn exchange<S: Source, O: Sink, P: Keeper, C: Clock>(
 /// reply closes it, or a read or a write fails (RFC 9112, sections 9.3 and 9.6).
 pub fn session<S: Source, O: Sink, P: Keeper, C: Clock>(
     alloc: Global,
-    core: &mut Core<PlainShelf, P>,
+    core: &mut Core<IndexedShelf, P>,
     routes: &Routes,
     connection: &mut Connection<S, O, C>,
 ) -> SessionEnd

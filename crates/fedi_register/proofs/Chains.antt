@@ -1,14 +1,15 @@
--- What stands in chains is found along them.
-use Rattle.std.proofs.Common.{◌≡◌, ℕ, zero, suc, ◌<◌, ◌≤◌, arith, Bool, true, false, List, [], ◌∷◌, ◌++◌, Option, Some, None, refl, sym, ap, subst, ◌∙◌, length, take, replicate, set, get_or, below_more}
-use Rattle.std.specs.Prelude.{◌&&◌, nat_eq, slice_get, slice_index, option_map, if◌then◌else◌}
+-- What is kept in chains is found along them.
+use Rattle.std.proofs.Common.{◌≡◌, ℕ, zero, suc, ◌<◌, ◌≤◌, arith, Bool, true, false, List, [], ◌∷◌, ◌++◌, Option, Some, None, refl, sym, ap, subst, ◌∙◌, append_assoc, length, take, replicate, set, get_or, below_more}
+use Rattle.std.specs.Prelude.{◌%◌, ◌&&◌, filter, is_some, map, nat_eq, reverse, slice_get, slice_index, option_map, if◌then◌else◌}
 use Rattle.std.specs.Option.{option_or}
-use Rattle.std.proofs.lemmas.List.{get_or-set_other, get_or-set_same, map-append, length-map}
+use Rattle.std.proofs.lemmas.List.{append-nil, get_or-set_other, get_or-set_same, get_or_past, map-append, length-map, reverse-append}
+use Rattle.std.proofs.lemmas.Nat.{mod_below}
 use Rattle.std.proofs.lemmas.Bool.{eqb-false, eqb-true, ne_eqb}
 use Rattle.std.proofs.lemmas.Option.{slice_get_within, slice_get-map, slice_get-get_or}
 use Rattle.std.proofs.Math.Seq.{take-length}
 use Rattle.fedi_register.specs.declared.marks.Step.{Step}
 use Rattle.fedi_register.specs.Chains.{HasHeads, IsChained, chain_of, is_of, mark_in, marks_of, newest, step_before}
-use Rattle.fedi_register.specs.Marks.{Decides, Mark, first_place}
+use Rattle.fedi_register.specs.Marks.{Decides, Mark, first_place, places_of}
 
 pub got_at : {X : Type 0} (before : List X) (x : X) (xs : List X) → slice_get (before ++ x ∷ xs) (length before) ≡ Some x
 got_at [] x xs = refl
@@ -101,6 +102,14 @@ pub heads_linked : (n : ℕ) (steps : List Step) (heads : List ℕ) (k : ℕ) (d
 heads_linked n steps heads k d many there small h =
     heads_after n (marks_of steps) heads (mark_in (get_or steps k d)) k many h small (mark_got steps k (get_or steps k d) (slice_get-get_or steps k d there))
 
+-- where a mark's chain begins
+pub newest_headed : (n mark : ℕ) (steps : List Step) (heads : List ℕ) → n ≡ length heads → (0 < length steps → 0 < n) → HasHeads n (marks_of steps) heads (length steps)
+    → slice_index heads (chain_of n mark) ≡ newest n (chain_of n mark) (marks_of steps) (length steps)
+unfolding chain_of
+newest_headed zero mark [] heads many some h = get_or_past heads (mark % 0) 0 (omega (arith, many))
+newest_headed zero mark (x ∷ steps) heads many some h = let no : 0 < zero = some (omega arith) in absurd (omega arith)
+newest_headed (suc n) mark steps heads many some h = h.head (mark % suc n) (mod_below mark (suc n) (omega arith))
+
 -- nothing is in a chain yet
 pub none_chained : (n : ℕ) (steps : List Step) → IsChained n steps 0
 none_chained n steps = record { before = λ j x below got. absurd (omega arith) }
@@ -179,25 +188,58 @@ found_more q mark (y ∷ marks) (suc k) x got =
       | false ↦ found_more q mark marks k x got
     ]
 
--- of another chain is another mark
-other_found : (n : ℕ) (q : ℕ → Bool) (mark : ℕ) (x : Mark) → nat_eq (chain_of n x.mark) (chain_of n mark) ≡ false → found_at q mark x ≡ None
-other_found n q mark x other =
-    rw (ne_eqb x.mark mark (λ same. eqb-false (chain_of n x.mark) (chain_of n mark) other (ap (chain_of n) same))) refl
+-- those of this mark
+abbrev of_mark : ℕ → List Mark → List Mark
+of_mark mark marks = filter (λ m. nat_eq m.mark mark) marks
 
--- what is found is found up to the newest of the chain
-pub found_newest : (n : ℕ) (q : ℕ → Bool) (mark : ℕ) (marks : List Mark) (k : ℕ) → found_in q mark marks k ≡ found_in q mark marks (newest n (chain_of n mark) marks k)
-found_newest n q mark marks zero = refl
-found_newest n q mark marks (suc k) =
+-- those of this mark among the first k
+abbrev same_in : ℕ → List Mark → ℕ → List Mark
+same_in mark marks k = of_mark mark (take k marks)
+
+same_more : (mark : ℕ) (marks : List Mark) (k : ℕ) (x : Mark) → slice_get marks k ≡ Some x
+    → same_in mark marks (suc k) ≡ same_in mark marks k ++ (if nat_eq x.mark mark then x ∷ [] else [])
+same_more mark [] k x got = absurd cc
+same_more mark (y ∷ marks) zero x got = let same : y ≡ x = cc in rw same refl
+same_more mark (y ∷ marks) (suc k) x got =
+    elim (nat_eq y.mark mark) as (λ b. (if b then y ∷ same_in mark marks (suc k) else same_in mark marks (suc k))
+    ≡ (if b then y ∷ same_in mark marks k else same_in mark marks k) ++ (if nat_eq x.mark mark then x ∷ [] else [])) [
+      | true ↦ ap (λ (ms : List Mark). y ∷ ms) (same_more mark marks k x got)
+      | false ↦ same_more mark marks k x got
+    ]
+
+-- of another chain is another mark
+other_mark : (n mark : ℕ) (x : Mark) → nat_eq (chain_of n x.mark) (chain_of n mark) ≡ false → nat_eq x.mark mark ≡ false
+other_mark n mark x other = ne_eqb x.mark mark (λ same. eqb-false (chain_of n x.mark) (chain_of n mark) other (ap (chain_of n) same))
+
+-- those of this mark are those up to the newest of the chain
+same_newest : (n mark : ℕ) (marks : List Mark) (k : ℕ) → same_in mark marks k ≡ same_in mark marks (newest n (chain_of n mark) marks k)
+same_newest n mark marks zero = refl
+same_newest n mark marks (suc k) =
     elim (slice_get marks k) as (λ o. slice_get marks k ≡ o
-    → found_in q mark marks (suc k) ≡ found_in q mark marks (if is_of n (chain_of n mark) o then suc k else newest n (chain_of n mark) marks k)) [
-      | None ↦ λ past. ap (λ (front : List Mark). first_place q mark front) (take_past marks k past) ∙ found_newest n q mark marks k
+    → same_in mark marks (suc k) ≡ same_in mark marks (if is_of n (chain_of n mark) o then suc k else newest n (chain_of n mark) marks k)) [
+      | None ↦ λ past. ap (λ (front : List Mark). of_mark mark front) (take_past marks k past) ∙ same_newest n mark marks k
       | Some x ↦ λ got. elim (nat_eq (chain_of n x.mark) (chain_of n mark)) as (λ b. nat_eq (chain_of n x.mark) (chain_of n mark) ≡ b
-          → found_in q mark marks (suc k) ≡ found_in q mark marks (if b then suc k else newest n (chain_of n mark) marks k)) [
+          → same_in mark marks (suc k) ≡ same_in mark marks (if b then suc k else newest n (chain_of n mark) marks k)) [
             | true ↦ λ _. refl
-            | false ↦ λ other. found_more q mark marks k x got ∙ ap (λ (o : Option ℕ). option_or (found_in q mark marks k) o) (other_found n q mark x other)
-                ∙ or_nothing (found_in q mark marks k) ∙ found_newest n q mark marks k
+            | false ↦ λ other. same_more mark marks k x got ∙ (rw (other_mark n mark x other, append-nil) refl) ∙ same_newest n mark marks k
           ] refl
     ] refl
+
+-- what is found is found among those of this mark
+first-same : (q : ℕ → Bool) (mark : ℕ) (marks : List Mark) → first_place q mark marks ≡ first_place q mark (of_mark mark marks)
+first-same q mark [] = refl
+first-same q mark (m ∷ marks) =
+    elim (nat_eq m.mark mark) as (λ b. nat_eq m.mark mark ≡ b → (if b && q m.place then Some m.place else first_place q mark marks)
+    ≡ first_place q mark (if b then m ∷ of_mark mark marks else of_mark mark marks)) [
+      | true ↦ λ is. rw (is, first-same q mark marks) refl
+      | false ↦ λ _. first-same q mark marks
+    ] refl
+
+-- what is found is found up to the newest of the chain
+found_newest : (n : ℕ) (q : ℕ → Bool) (mark : ℕ) (marks : List Mark) (k : ℕ) → found_in q mark marks k ≡ found_in q mark marks (newest n (chain_of n mark) marks k)
+found_newest n q mark marks k =
+    first-same q mark (take k marks) ∙ ap (λ (ms : List Mark). first_place q mark ms) (same_newest n mark marks k)
+    ∙ sym (first-same q mark (take (newest n (chain_of n mark) marks k) marks))
 
 -- along a chain: the step that comes next is of the chain, and what is found among all is found from it on or was found
 pub record IsAlong (n : ℕ) (says : ℕ → Bool → Type 0) (steps : List Step) (mark next : ℕ) (found : Option ℕ) : Type 0 where
@@ -243,9 +285,79 @@ before_less n steps zero x chained got = absurd cc
 before_less n steps (suc k) x chained got =
     omega (arith, chained.before k x (slice_get_within steps k x (sym got)) (sym got), newest_within n (chain_of n x.mark) (marks_of steps) k)
 
+-- a step of the chain is there
+ends : (n : ℕ) (steps : List Step) (mark k : ℕ) → is_of n (chain_of n mark) (slice_get (marks_of steps) k) ≡ true → slice_get steps k ≡ None → ⊥
+ends n steps mark k own none =
+    let past : slice_get (marks_of steps) k ≡ None = slice_get-map mark_in steps k ∙ ap (λ (o : Option Step). option_map mark_in o) none in
+    let wrong = subst (λ (o : Option Mark). is_of n (chain_of n mark) o ≡ true) past own in cc
+
 pub along_last : (n : ℕ) (says : ℕ → Bool → Type 0) (steps : List Step) (mark next : ℕ) (found : Option ℕ) → IsAlong n says steps mark next found → step_before steps next ≡ None
     → (q : ℕ → Bool) → Decides says q → found ≡ first_place q mark (marks_of steps)
 along_last n says steps mark zero found h none q decides = sym (h.rest q decides)
-along_last n says steps mark (suc k) found h none q decides =
-    let past : slice_get (marks_of steps) k ≡ None = slice_get-map mark_in steps k ∙ ap (λ (o : Option Step). option_map mark_in o) none in
-    let own = subst (λ (o : Option Mark). is_of n (chain_of n mark) o ≡ true) past (h.own k refl) in absurd cc
+along_last n says steps mark (suc k) found h none q decides = absurd (ends n steps mark k (h.own k refl) none)
+
+-- one of this mark that passes was found, and none before
+some_later : (o : Option ℕ) (place : ℕ) → is_some (option_or o (Some place)) ≡ true
+some_later None place = refl
+some_later (Some earlier) place = refl
+
+pub along_hit : (n : ℕ) (says : ℕ → Bool → Type 0) (steps : List Step) (mark next : ℕ) (x : Step) → IsAlong n says steps mark next None → Some x ≡ step_before steps next
+    → (q : ℕ → Bool) → Decides says q → (nat_eq x.mark mark && q x.place) ≡ true → is_some (first_place q mark (marks_of steps)) ≡ true
+along_hit n says steps mark zero x h got q decides hit = absurd cc
+along_hit n says steps mark (suc k) x h got q decides hit =
+    let marks : List Mark = marks_of steps in
+    let at : found_at q mark (mark_in x) ≡ Some x.place = rw hit refl in
+    ap is_some (h.rest q decides ∙ or_nothing (found_in q mark marks (suc k)) ∙ found_more q mark marks k (mark_in x) (mark_got steps k x (sym got))
+    ∙ ap (λ (o : Option ℕ). option_or (found_in q mark marks k) o) at)
+    ∙ some_later (found_in q mark marks k) x.place
+
+-- ---- all of a mark
+
+-- the places of these
+abbrev places_in : List Mark → List ℕ
+places_in marks = map (λ m. m.place) marks
+
+-- along a chain: the step that comes next is of the chain, and the places of the mark are those from it on, and before them those that were found, which are the newest first
+pub record IsGathering (n : ℕ) (steps : List Step) (mark next : ℕ) (found : List ℕ) : Type 0 where
+  pub own : (k : ℕ) → next ≡ suc k → is_of n (chain_of n mark) (slice_get (marks_of steps) k) ≡ true
+  pub rest : places_of mark (marks_of steps) ≡ places_in (same_in mark (marks_of steps) next) ++ reverse found
+
+pub gathering_first : (n : ℕ) (steps : List Step) (mark next : ℕ) → next ≡ newest n (chain_of n mark) (marks_of steps) (length steps) → IsGathering n steps mark next []
+gathering_first n steps mark next first =
+    let marks : List Mark = marks_of steps in
+    let long : length marks ≡ length steps = length-map steps mark_in in
+    let all : take (length steps) marks ≡ marks = subst (λ (k : ℕ). take k marks ≡ marks) long (take-length marks) in record {
+      own = λ k is. newest_is_own n (chain_of n mark) marks (length steps) k (sym first ∙ is);
+      rest = ap (λ (front : List Mark). places_of mark front) (sym all)
+          ∙ ap (λ (ms : List Mark). places_in ms) (same_newest n mark marks (length steps))
+          ∙ ap (λ (k : ℕ). places_in (same_in mark marks k)) (sym first)
+          ∙ sym (append-nil (places_in (same_in mark marks next)));
+    }
+
+gathered_one : (mark : ℕ) (x : Mark) (marks : List Mark) (found found' : List ℕ) → found' ≡ (if nat_eq x.mark mark then found ++ x.place ∷ [] else found)
+    → places_in (marks ++ (if nat_eq x.mark mark then x ∷ [] else [])) ++ reverse found ≡ places_in marks ++ reverse found'
+gathered_one mark x marks found found' =
+    elim (nat_eq x.mark mark) as (λ b. found' ≡ (if b then found ++ x.place ∷ [] else found)
+    → places_in (marks ++ (if b then x ∷ [] else [])) ++ reverse found ≡ places_in marks ++ reverse found') [
+      | true ↦ λ is. rw (is, map-append, reverse-append) (append_assoc (places_in marks) (x.place ∷ []) (reverse found))
+      | false ↦ λ is. rw (is, append-nil) refl
+    ]
+
+pub gathering_more : (n : ℕ) (steps : List Step) (mark next : ℕ) (found found' : List ℕ) (x : Step) → IsChained n steps (length steps) → IsGathering n steps mark next found
+    → Some x ≡ step_before steps next → found' ≡ (if nat_eq x.mark mark then found ++ x.place ∷ [] else found) → IsGathering n steps mark x.before found'
+gathering_more n steps mark zero found found' x chained h got gathered = absurd cc
+gathering_more n steps mark (suc k) found found' x chained h got gathered =
+    let marks : List Mark = marks_of steps in
+    let leads = leads_on n steps mark k x chained (h.own k refl) (sym got) in record {
+      own = λ j is. newest_is_own n (chain_of n mark) marks k j (sym leads ∙ is);
+      rest = h.rest
+          ∙ ap (λ (ms : List Mark). places_in ms ++ reverse found) (same_more mark marks k (mark_in x) (mark_got steps k x (sym got)))
+          ∙ gathered_one mark (mark_in x) (same_in mark marks k) found found' gathered
+          ∙ ap (λ (ms : List Mark). places_in ms ++ reverse found') (same_newest n mark marks k)
+          ∙ ap (λ (j : ℕ). places_in (same_in mark marks j) ++ reverse found') (sym leads);
+    }
+
+pub gathering_last : (n : ℕ) (steps : List Step) (mark next : ℕ) (found : List ℕ) → IsGathering n steps mark next found → step_before steps next ≡ None
+    → reverse found ≡ places_of mark (marks_of steps)
+gathering_last n steps mark zero found h none = sym h.rest
+gathering_last n steps mark (suc k) found h none = absurd (ends n steps mark k (h.own k refl) none)

@@ -8,6 +8,7 @@ use Rattle.fedi_address.specs.Recipients.{is_among}
 use Rattle.fedi_town.specs.declared.act.Act.{Act}
 use Rattle.fedi_town.specs.Towns.{is_by}
 use Rattle.fedi_register.specs.declared.authors.Author.{Author}
+use Rattle.fedi_register.specs.declared.seeds.Seed.{Seed}
 use Rattle.fedi_register.specs.Authors.{CountsOne, SameCounts, author_mark, count_found, count_in, ids_of, is_author}
 use Rattle.fedi_register.specs.Marks.{Mark, every, marks_from}
 use Rattle.fedi_register.specs.Registers.{IsIndexed, count_by}
@@ -15,9 +16,9 @@ use Rattle.fedi_register.proofs.Once.{place_any}
 
 -- ---- among activities
 
-pub counted : (id : List ℕ) (acts : List Act) (follows : List ℕ) (keyed made ids pairs : List Mark) (authors : List Author) → IsIndexed acts follows keyed made ids pairs authors
+pub counted : (id : List ℕ) (seed : Seed) (acts : List Act) (keyed made ids pairs followed : List Mark) (authors : List Author) → IsIndexed seed acts keyed made ids pairs followed authors
     → count_in authors id ≡ count_by acts id
-counted id acts follows keyed made ids pairs authors h = h.count id
+counted id seed acts keyed made ids pairs followed authors h = h.count id
 
 pub fewer : (p : Act → Bool) (acts : List Act) → length (filter p acts) ≤ length acts
 fewer p [] = omega arith
@@ -28,9 +29,9 @@ fewer p (x ∷ acts) =
 pub few : (id : List ℕ) (acts : List Act) (n : ℕ) → n ≡ count_by acts id → length acts < 2 ^ 63 → n < 2 ^ 63
 few id acts n is short = let h = fewer (is_by id) acts in omega (arith, h, is)
 
-pub nothing_indexed : IsIndexed [] [] [] [] [] [] []
+pub nothing_indexed : (seed : Seed) → IsIndexed seed [] [] [] [] [] [] []
 unfolding count_in
-nothing_indexed = record { follow = refl; key = refl; object = refl; id = refl; pair = refl; count = λ id. refl }
+nothing_indexed seed = record { key = refl; object = refl; id = refl; pair = refl; follow = refl; count = λ id. refl }
 
 -- ---- authors who are known
 
@@ -164,11 +165,11 @@ one_counted author authors i d b first is = record {
 pub ids_stay : (authors : List Author) (i : ℕ) (d b : Author) → b ≡ one_more (get_or authors i d) → ids_of (set authors i b) ≡ ids_of authors
 ids_stay authors i d b is = rw is (ids-at authors i d)
 
-marks-at : (authors : List Author) (i n : ℕ) (d : Author) → marks_from every author_mark n (set authors i (one_more (get_or authors i d))) ≡ marks_from every author_mark n authors
+marks-at : (seed : Seed) (authors : List Author) (i n : ℕ) (d : Author) → marks_from every (author_mark seed) n (set authors i (one_more (get_or authors i d))) ≡ marks_from every (author_mark seed) n authors
 unfolding author_mark
-marks-at [] i n d = refl
-marks-at (a ∷ authors) zero n d = refl
-marks-at (a ∷ authors) (suc i) n d = ap (λ (marks : List Mark). record { mark = author_mark a; place = n } ∷ marks) (marks-at authors i (suc n) d)
+marks-at seed [] i n d = refl
+marks-at seed (a ∷ authors) zero n d = refl
+marks-at seed (a ∷ authors) (suc i) n d = ap (λ (marks : List Mark). record { mark = author_mark seed a; place = n } ∷ marks) (marks-at seed authors i (suc n) d)
 
-pub marks_stay : (authors : List Author) (i : ℕ) (d b : Author) → b ≡ one_more (get_or authors i d) → marks_from every author_mark 0 (set authors i b) ≡ marks_from every author_mark 0 authors
-marks_stay authors i d b is = rw is (marks-at authors i 0 d)
+pub marks_stay : (seed : Seed) (authors : List Author) (i : ℕ) (d b : Author) → b ≡ one_more (get_or authors i d) → marks_from every (author_mark seed) 0 (set authors i b) ≡ marks_from every (author_mark seed) 0 authors
+marks_stay seed authors i d b is = rw is (marks-at seed authors i 0 d)

@@ -10,9 +10,10 @@ use Rattle.fedi_town.specs.Deeds.{is_follow, is_pending, is_standing}
 use Rattle.fedi_town.specs.Effects.{end_follow, in_state, is_pending_follow, is_standing_activity, where_passes}
 use Rattle.fedi_town.specs.Relations.{has_activity_id, is_open_follow}
 use Rattle.fedi_town.specs.Towns.{deed}
-use Rattle.fedi_register.specs.Changes.{accept_one, end_both, is_state, is_unended, place_where, undo_one}
+use Rattle.fedi_register.specs.Changes.{end_both, is_state, is_unended, place_where}
 use Rattle.fedi_register.specs.Marks.{Mark, marks_from}
-use Rattle.fedi_register.specs.Registers.{has_own_id, own_mark, relates, relates_to, relation_mark}
+use Rattle.fedi_register.specs.declared.seeds.Seed.{Seed}
+use Rattle.fedi_register.specs.Registers.{has_own_id, own_mark, relates, relates_by_key, relation_mark}
 use Rattle.fedi_register.proofs.Found.{and_none}
 use Rattle.fedi_register.proofs.Once.{lt_step}
 use Rattle.fedi_register.proofs.Places.{open_narrower}
@@ -130,13 +131,13 @@ pub editing_over : (p : Act → Bool) (f : Act → Act) (q : Act → Bool) (mark
     → IsEditing p f q mark marks first now → None ≡ place_where p now → now ≡ map (where_passes p f) first
 editing_over p f q mark marks first now h none = sym (all_edited p f now (none_there p now none)) ∙ h.edits
 
-pub relations_steady : (s : State) → IsSteady (in_state s) relates relation_mark
+pub relations_steady : (seed : Seed) (s : State) → IsSteady (in_state s) relates (relation_mark seed)
 unfolding relates relation_mark
-relations_steady s y = (refl, refl)
+relations_steady seed s y = (refl, refl)
 
-pub ids_steady : (s : State) → IsSteady (in_state s) has_own_id own_mark
+pub ids_steady : (seed : Seed) (s : State) → IsSteady (in_state s) has_own_id (own_mark seed)
 unfolding has_own_id own_mark
-ids_steady s y = (refl, refl)
+ids_steady seed s y = (refl, refl)
 
 -- ---- states
 
@@ -202,6 +203,6 @@ pub standing_named : (id : List ℕ) (y : Act) → is_standing_activity id y ≡
 unfolding is_standing_activity
 standing_named id y is = (and_parts (has_activity_id id y) (is_standing y.state) is).0
 
-pub unended_relates : (a b : List ℕ) (s : State) (y : Act) → is_unended a b s y ≡ true → relates_to a b y ≡ true
+pub unended_relates : (a b : List ℕ) (s : State) (y : Act) → is_unended a b s y ≡ true → relates_by_key a b y ≡ true
 unfolding is_unended
 unended_relates a b s y is = open_narrower a b y (and_parts (is_open_follow a b y) (not (is_state y.state s)) is).0

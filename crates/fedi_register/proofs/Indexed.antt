@@ -19,30 +19,12 @@ use Rattle.fedi_objects.specs.declared.activity.ObjectRef.{ObjectRef}
 use Rattle.fedi_objects.specs.declared.activity.ObjectRef.TheVariants.{Nothing, Id, Whole, Changed}
 use Rattle.fedi_objects.specs.declared.object.Object.{Object}
 use Rattle.fedi_register.specs.declared.authors.Author.{Author}
+use Rattle.fedi_register.specs.declared.seeds.Seed.{Seed}
 use Rattle.fedi_register.specs.Authors.{CountsOne, SameCounts, count_in}
 use Rattle.fedi_register.specs.Marks.{Mark, marks_from}
-use Rattle.fedi_register.specs.Registers.{IsIndexed, asks_to_follow, count_by, has_own_id, is_keyed, is_making, is_relation, key_mark, object_mark, own_mark, places_from, ref_mark, relates, relation_mark}
+use Rattle.fedi_register.specs.Registers.{IsIndexed, asks_to_follow, count_by, has_own_id, is_keyed, is_making, is_relation, key_mark, object_mark, own_mark, ref_mark, relates, relation_mark}
 
 -- ---- one more activity
-
-places-push : (p : Act → Bool) (n : ℕ) (acts : List Act) (x : Act)
-    → places_from p n (acts ++ x ∷ []) ≡ places_from p n acts ++ (if p x then (n + length acts) ∷ [] else [])
-places-push p n [] x = let here : n + 0 ≡ n = omega arith in rw here refl
-places-push p n (y ∷ acts) x =
-    let further : suc n + length acts ≡ n + length (y ∷ acts) = omega arith in
-    let rest : places_from p (suc n) (acts ++ x ∷ []) ≡ places_from p (suc n) acts ++ (if p x then (n + length (y ∷ acts)) ∷ [] else []) =
-    places-push p (suc n) acts x ∙ ap (λ (k : ℕ). places_from p (suc n) acts ++ (if p x then k ∷ [] else [])) further in
-    elim (p y) as (λ b. (if b then n ∷ places_from p (suc n) (acts ++ x ∷ []) else places_from p (suc n) (acts ++ x ∷ []))
-    ≡ (if b then n ∷ places_from p (suc n) acts else places_from p (suc n) acts) ++ (if p x then (n + length (y ∷ acts)) ∷ [] else [])) [
-      | true ↦ ap (λ (places : List ℕ). n ∷ places) rest
-      | false ↦ rest
-    ]
-
-pub places_pushed : (p : Act → Bool) (acts : List Act) (x : Act) (old new : List ℕ) (place : ℕ) (passes : Bool) → place ≡ length acts → passes ≡ p x
-    → old ≡ places_from p 0 acts → new ≡ old ++ (if passes then place ∷ [] else []) → new ≡ places_from p 0 (acts ++ x ∷ [])
-places_pushed p acts x old new place passes at is before after =
-    let from_none : 0 + length acts ≡ length acts = omega arith in
-    rw (after, before, is, at) (sym (places-push p 0 acts x ∙ ap (λ (k : ℕ). places_from p 0 acts ++ (if p x then k ∷ [] else [])) from_none))
 
 marks-push : {A : Type 0} (p : A → Bool) (mark : A → ℕ) (n : ℕ) (xs : List A) (x : A)
     → marks_from p mark n (xs ++ x ∷ []) ≡ marks_from p mark n xs ++ (if p x then record { mark = mark x; place = n + length xs } ∷ [] else [])
@@ -135,10 +117,6 @@ affected-alike (effects.EndFollows a b s) y = end-alike a b s y
 affected-alike (effects.EndBoth a b) y = then-alike y (end_follow b a Undone y) (end_follow a b Undone (end_follow b a Undone y)) (end-alike b a Undone y) (end-alike a b Undone (end_follow b a Undone y))
 affected-alike (effects.Undo id) y = where-alike (is_standing_activity id) (in_state Undone) y (record { author = refl; deed = refl; repeat = refl; id = refl; about = refl })
 
-places-mapped : (p : Act → Bool) (f : Act → Act) → ((x : Act) → p (f x) ≡ p x) → (n : ℕ) (acts : List Act) → places_from p n (map f acts) ≡ places_from p n acts
-places-mapped p f same n [] = refl
-places-mapped p f same n (x ∷ acts) = rw (same x, places-mapped p f same (suc n) acts) refl
-
 count-mapped : (p : Act → Bool) (f : Act → Act) → ((x : Act) → p (f x) ≡ p x) → (acts : List Act) → length (filter p (map f acts)) ≡ length (filter p acts)
 count-mapped p f same [] = refl
 count-mapped p f same (x ∷ acts) =
@@ -152,17 +130,17 @@ marks-mapped : (p : Act → Bool) (mark : Act → ℕ) (f : Act → Act) → ((x
 marks-mapped p mark f passes same n [] = refl
 marks-mapped p mark f passes same n (x ∷ acts) = rw (passes x, same x, marks-mapped p mark f passes same (suc n) acts) refl
 
-key-alike : (e : Effect) (x : Act) → key_mark (affect e x) ≡ key_mark x
+key-alike : (seed : Seed) (e : Effect) (x : Act) → key_mark seed (affect e x) ≡ key_mark seed x
 unfolding key_mark
-key-alike e x = ap (λ (r : Option (List ℕ × List ℕ)). ref_mark (option_map (λ pair. pair.0) r)) (affected-alike e x).repeat
+key-alike seed e x = ap (λ (r : Option (List ℕ × List ℕ)). ref_mark seed (option_map (λ pair. pair.0) r)) (affected-alike e x).repeat
 
 making-alike : (e : Effect) (x : Act) → is_making (affect e x) ≡ is_making x
 unfolding is_making
 making-alike e x = ap (λ (d : Deed). is_create d) (affected-alike e x).deed
 
-mark-alike : (e : Effect) (x : Act) → object_mark (affect e x) ≡ object_mark x
+mark-alike : (seed : Seed) (e : Effect) (x : Act) → object_mark seed (affect e x) ≡ object_mark seed x
 unfolding object_mark
-mark-alike e x = ap (λ (o : Option (List ℕ)). ref_mark o) (affected-alike e x).about
+mark-alike seed e x = ap (λ (o : Option (List ℕ)). ref_mark seed o) (affected-alike e x).about
 
 follows-alike : (e : Effect) (x : Act) → asks_to_follow (affect e x) ≡ asks_to_follow x
 unfolding asks_to_follow
@@ -172,17 +150,17 @@ own-alike : (e : Effect) (x : Act) → has_own_id (affect e x) ≡ has_own_id x
 unfolding has_own_id
 own-alike e x = ap (λ (o : Option (List ℕ)). is_some o) (affected-alike e x).id
 
-own_mark-alike : (e : Effect) (x : Act) → own_mark (affect e x) ≡ own_mark x
+own_mark-alike : (seed : Seed) (e : Effect) (x : Act) → own_mark seed (affect e x) ≡ own_mark seed x
 unfolding own_mark
-own_mark-alike e x = ap (λ (o : Option (List ℕ)). ref_mark o) (affected-alike e x).id
+own_mark-alike seed e x = ap (λ (o : Option (List ℕ)). ref_mark seed o) (affected-alike e x).id
 
 relates-alike : (e : Effect) (x : Act) → relates (affect e x) ≡ relates x
 unfolding relates
 relates-alike e x = ap (λ (d : Deed). is_relation d) (affected-alike e x).deed
 
-relation-alike : (e : Effect) (x : Act) → relation_mark (affect e x) ≡ relation_mark x
+relation-alike : (seed : Seed) (e : Effect) (x : Act) → relation_mark seed (affect e x) ≡ relation_mark seed x
 unfolding relation_mark
-relation-alike e x = rw ((affected-alike e x).author, (affected-alike e x).about) refl
+relation-alike seed e x = rw ((affected-alike e x).author, (affected-alike e x).about) refl
 
 keyed-alike : (e : Effect) (x : Act) → is_keyed (affect e x) ≡ is_keyed x
 unfolding is_keyed
@@ -192,19 +170,19 @@ by-alike : (id : List ℕ) (e : Effect) (x : Act) → is_by id (affect e x) ≡ 
 unfolding is_by
 by-alike id e x = ap (λ (author : List ℕ). bytes_eq author id) (affected-alike e x).author
 
-pub indexed_affected : (e : Effect) (acts : List Act) (f : List ℕ) (k m i p : List Mark) (authors : List Author) → IsIndexed acts f k m i p authors
-    → IsIndexed (map (affect e) acts) f k m i p authors
-indexed_affected e acts f k m i p authors h = record {
-  follow = h.follow ∙ sym (places-mapped asks_to_follow (affect e) (follows-alike e) 0 acts);
-  key = h.key ∙ sym (marks-mapped is_keyed key_mark (affect e) (keyed-alike e) (key-alike e) 0 acts);
-  object = h.object ∙ sym (marks-mapped is_making object_mark (affect e) (making-alike e) (mark-alike e) 0 acts);
-  id = h.id ∙ sym (marks-mapped has_own_id own_mark (affect e) (own-alike e) (own_mark-alike e) 0 acts);
-  pair = h.pair ∙ sym (marks-mapped relates relation_mark (affect e) (relates-alike e) (relation-alike e) 0 acts);
+pub indexed_affected : (seed : Seed) (e : Effect) (acts : List Act) (k m i p f : List Mark) (authors : List Author) → IsIndexed seed acts k m i p f authors
+    → IsIndexed seed (map (affect e) acts) k m i p f authors
+indexed_affected seed e acts k m i p f authors h = record {
+  key = h.key ∙ sym (marks-mapped is_keyed (key_mark seed) (affect e) (keyed-alike e) (key-alike seed e) 0 acts);
+  object = h.object ∙ sym (marks-mapped is_making (object_mark seed) (affect e) (making-alike e) (mark-alike seed e) 0 acts);
+  id = h.id ∙ sym (marks-mapped has_own_id (own_mark seed) (affect e) (own-alike e) (own_mark-alike seed e) 0 acts);
+  pair = h.pair ∙ sym (marks-mapped relates (relation_mark seed) (affect e) (relates-alike e) (relation-alike seed e) 0 acts);
+  follow = h.follow ∙ sym (marks-mapped asks_to_follow (object_mark seed) (affect e) (follows-alike e) (mark-alike seed e) 0 acts);
   count = λ id. h.count id ∙ sym (count-mapped (is_by id) (affect e) (by-alike id e) acts);
 }
 
 -- where the authors count the same
-pub indexed_known : (acts : List Act) (f : List ℕ) (k m i p : List Mark) (old new : List Author) → IsIndexed acts f k m i p old → SameCounts old new
-    → IsIndexed acts f k m i p new
-indexed_known acts f k m i p old new h same =
-    record { follow = h.follow; key = h.key; object = h.object; id = h.id; pair = h.pair; count = λ id. same.count id ∙ h.count id }
+pub indexed_known : (seed : Seed) (acts : List Act) (k m i p f : List Mark) (old new : List Author) → IsIndexed seed acts k m i p f old → SameCounts old new
+    → IsIndexed seed acts k m i p f new
+indexed_known seed acts k m i p f old new h same =
+    record { key = h.key; object = h.object; id = h.id; pair = h.pair; follow = h.follow; count = λ id. same.count id ∙ h.count id }

@@ -4,15 +4,17 @@ use Rattle.std.specs.List.{find}
 use Rattle.std.specs.Str.{bytes_eq}
 use Rattle.fedi_register.specs.declared.authors.Author.{Author}
 use Rattle.fedi_register.specs.declared.authors.Authors.TheInside.{Inside}
-use Rattle.fedi_register.specs.Marks.{every, mark_of, marks_from}
+use Rattle.fedi_register.specs.declared.seeds.Seed.{Seed}
+use Rattle.fedi_register.specs.Marks.{every, marks_from}
+use Rattle.fedi_register.specs.Seeds.{mark_of}
 
 -- the author of this id
 unfoldable pub is_author : List ℕ → Author → Bool
 is_author id a = bytes_eq a.id id
 
 -- the number for the author's id
-unfoldable pub author_mark : Author → ℕ
-author_mark a = mark_of a.id
+unfoldable pub author_mark : Seed → Author → ℕ
+author_mark seed a = mark_of seed a.id
 
 -- what was counted, where something was
 abbrev pub count_found : Option Author → ℕ
@@ -41,4 +43,4 @@ authors_in a = a.list.items
 
 -- each author is looked up by the id
 abbrev pub AreAuthors : Inside → Type 0
-AreAuthors a = a.ids.marks ≡ marks_from every author_mark 0 a.list.items
+AreAuthors a = a.ids.marks ≡ marks_from every (author_mark a.seed) 0 a.list.items

@@ -1,4 +1,4 @@
--- The chains in which marks stand.
+-- The chains in which marks are kept.
 use Rattle.std.specs.Prelude.{◌≡◌, ℕ, zero, suc, ◌+◌, ◌%◌, ◌<◌, ◌≤◌, ◌^◌, Bool, false, nat_eq, List, map, length, Option, None, Some, slice_get, slice_index, vec_len, vec_capacity, if◌then◌else◌}
 use Rattle.fedi_register.specs.declared.marks.Step.{Step}
 use Rattle.fedi_register.specs.declared.marks.Marks.TheInside.{Inside}
@@ -43,7 +43,7 @@ pub record HasHeads (n : ℕ) (marks : List Mark) (heads : List ℕ) (k : ℕ) :
 abbrev pub marked_in : Inside → Marked
 marked_in m = record { marks = marks_of m.steps.items; room = m.room }
 
--- the steps stand in chains, there is at least one chain where there is a step or room for one, and a number of a step fits its field
+-- the steps are kept in chains, there is at least one chain where there is a step or room for one, and a number of a step fits its field
 abbrev pub AreMarks : Inside → Type 0
 AreMarks m =
     IsChained (length m.heads.items) m.steps.items (length m.steps.items)

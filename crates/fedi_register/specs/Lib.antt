@@ -5,3 +5,4 @@ pub mod Following
 pub mod Keys
 pub mod Marks
 pub mod Registers
+pub mod Seeds

@@ -1,16 +1,20 @@
 -- The accepted activities, with what is looked up among them.
-use Rattle.std.specs.Prelude.{◌≡◌, ℕ, suc, ◌+◌, ◌<◌, ◌≤◌, ◌^◌, Bool, true, false, ◌&&◌, List, [], ◌∷◌, filter, length, Option, Some, None, is_some, option_map, slice_get, vec_len, vec_capacity, if◌then◌else◌}
+use Rattle.std.specs.Prelude.{◌≡◌, ℕ, ◌+◌, ◌<◌, ◌≤◌, ◌^◌, Bool, true, false, ◌&&◌, List, filter, length, Option, Some, None, is_some, option_map, slice_get, vec_len, vec_capacity}
+use Rattle.std.specs.Str.{bytes_eq}
 use Rattle.fedi_town.specs.declared.act.Act.{Act}
 use Rattle.fedi_town.specs.declared.deed.Deed.{Deed}
 use Rattle.fedi_town.specs.declared.deed.Deed.TheVariants.{Follow, Like, Announce, Block}
+use Rattle.fedi_town.specs.Collections.{object_key}
 use Rattle.fedi_town.specs.Deeds.{is_create, is_follow}
-use Rattle.fedi_town.specs.Relations.{is_about, ref_id}
+use Rattle.fedi_town.specs.Relations.{ref_id}
 use Rattle.fedi_town.specs.Towns.{deed, is_by}
 use Rattle.fedi_register.specs.declared.authors.Author.{Author}
 use Rattle.fedi_register.specs.declared.register.Register.TheInside.{Inside}
+use Rattle.fedi_register.specs.declared.seeds.Seed.{Seed}
 use Rattle.fedi_register.specs.Authors.{count_in, ids_of}
 use Rattle.fedi_register.specs.Following.{with_follower}
-use Rattle.fedi_register.specs.Marks.{Mark, mark_of, mark_of_pair, marks_from}
+use Rattle.fedi_register.specs.Marks.{Mark, marks_from}
+use Rattle.fedi_register.specs.Seeds.{mark_of, mark_of_pair}
 
 -- the activities, the authors who are known, and how many more activities there is room for
 pub record Registered : Type 0 where
@@ -18,7 +22,7 @@ pub record Registered : Type 0 where
   pub known : List (List ℕ)
   pub room : ℕ
 
--- ---- places
+-- ---- what is looked up
 
 -- it asks to follow
 unfoldable pub asks_to_follow : Act → Bool
@@ -28,11 +32,6 @@ asks_to_follow x = is_follow (deed x)
 unfoldable pub is_keyed : Act → Bool
 is_keyed x = is_some x.repeat
 
--- the places of those that pass, where the first has this place
-abbrev pub places_from : (Act → Bool) → ℕ → List Act → List ℕ
-places_from p n [] = []
-places_from p n (x ∷ xs) = if p x then n ∷ places_from p (suc n) xs else places_from p (suc n) xs
-
 -- ---- what was made
 
 -- it makes something
@@ -40,17 +39,17 @@ unfoldable pub is_making : Act → Bool
 is_making x = is_create (deed x)
 
 -- the number for the id of what the activity is about
-abbrev pub ref_mark : Option (List ℕ) → ℕ
-ref_mark None = 0
-ref_mark (Some id) = mark_of id
+abbrev pub ref_mark : Seed → Option (List ℕ) → ℕ
+ref_mark seed None = 0
+ref_mark seed (Some id) = mark_of seed id
 
 -- the number for the id of the object that the activity is about
-unfoldable pub object_mark : Act → ℕ
-object_mark x = ref_mark (ref_id x.activity.object)
+unfoldable pub object_mark : Seed → Act → ℕ
+object_mark seed x = ref_mark seed (ref_id x.activity.object)
 
 -- the number for the key under which the activity was posted
-unfoldable pub key_mark : Act → ℕ
-key_mark x = ref_mark (option_map (λ r. r.0) x.repeat)
+unfoldable pub key_mark : Seed → Act → ℕ
+key_mark seed x = ref_mark seed (option_map (λ r. r.0) x.repeat)
 
 -- ---- what has an id
 
@@ -59,8 +58,8 @@ unfoldable pub has_own_id : Act → Bool
 has_own_id x = is_some x.activity.id
 
 -- the number for its own id
-unfoldable pub own_mark : Act → ℕ
-own_mark x = ref_mark x.activity.id
+unfoldable pub own_mark : Seed → Act → ℕ
+own_mark seed x = ref_mark seed x.activity.id
 
 -- ---- relations
 
@@ -76,18 +75,13 @@ is_relation _ = false
 unfoldable pub relates : Act → Bool
 relates x = is_relation (deed x)
 
--- the number for an author and what something is about
-abbrev pub pair_mark : List ℕ → Option (List ℕ) → ℕ
-pair_mark author None = 0
-pair_mark author (Some id) = mark_of_pair author id
+-- the number for the author of the activity and the id of what it is about
+unfoldable pub relation_mark : Seed → Act → ℕ
+relation_mark seed x = mark_of_pair seed x.author (object_key x)
 
--- the number for the author of the activity and what it is about
-unfoldable pub relation_mark : Act → ℕ
-relation_mark x = pair_mark x.author (ref_id x.activity.object)
-
--- it relates this author to this
-unfoldable pub relates_to : List ℕ → List ℕ → Act → Bool
-relates_to author id x = relates x && (is_by author x && is_about id x)
+-- it relates this author to what has this id, or to what has none where the text is empty
+unfoldable pub relates_by_key : List ℕ → List ℕ → Act → Bool
+relates_by_key author key x = relates x && (is_by author x && bytes_eq (object_key x) key)
 
 -- what passes the one test passes the other
 abbrev pub IsNarrower : (Act → Bool) → (Act → Bool) → Type 0
@@ -117,22 +111,22 @@ abbrev pub registered_in : Inside → Registered
 registered_in r = record { acts = r.acts.items; known = ids_of r.authors; room = r.room }
 
 -- each look-up finds what stands among the activities
-pub record IsIndexed (acts : List Act) (follows : List ℕ) (keyed made ids pairs : List Mark) (authors : List Author) : Type 0 where
-  pub follow : follows ≡ places_from asks_to_follow 0 acts
-  pub key : keyed ≡ marks_from is_keyed key_mark 0 acts
-  pub object : made ≡ marks_from is_making object_mark 0 acts
-  pub id : ids ≡ marks_from has_own_id own_mark 0 acts
-  pub pair : pairs ≡ marks_from relates relation_mark 0 acts
+pub record IsIndexed (seed : Seed) (acts : List Act) (keyed made ids pairs followed : List Mark) (authors : List Author) : Type 0 where
+  pub key : keyed ≡ marks_from is_keyed (key_mark seed) 0 acts
+  pub object : made ≡ marks_from is_making (object_mark seed) 0 acts
+  pub id : ids ≡ marks_from has_own_id (own_mark seed) 0 acts
+  pub pair : pairs ≡ marks_from relates (relation_mark seed) 0 acts
+  pub follow : followed ≡ marks_from asks_to_follow (object_mark seed) 0 acts
   pub count : (id : List ℕ) → count_in authors id ≡ count_by acts id
 
 -- and there is room in each list, and a place fits its field
 abbrev pub IsRegister : Inside → Type 0
 IsRegister r =
-    IsIndexed r.acts.items r.follows.items r.keyed.marks r.made.marks r.ids.marks r.pairs.marks r.authors
+    IsIndexed r.seed r.acts.items r.keyed.marks r.made.marks r.ids.marks r.pairs.marks r.followed.marks r.authors
     × (vec_len r.acts + r.room ≤ vec_capacity r.acts)
     × (vec_len r.acts + r.room < 2 ^ 32)
-    × (vec_len r.follows + r.room ≤ vec_capacity r.follows)
     × (r.room ≤ r.keyed.room)
     × (r.room ≤ r.made.room)
     × (r.room ≤ r.ids.room)
     × (r.room ≤ r.pairs.room)
+    × (r.room ≤ r.followed.room)

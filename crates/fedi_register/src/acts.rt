@@ -1,6 +1,7 @@
 //! What is asked of one activity.
 
 ghost use Rattle.std.specs.Prelude.{◌≡◌, option_copied};
+ghost use Rattle.fedi_town.specs.Collections.{object_key};
 ghost use Rattle.fedi_town.specs.Deeds.{deed_of, is_accepted, is_announce, is_block, is_create, is_done, is_follow, is_like, is_open, is_pending, is_standing};
 ghost use Rattle.fedi_town.specs.Objects.{makes};
 ghost use Rattle.fedi_town.specs.Relations.{has_activity_id, is_about, is_block_of, is_follow_of, is_following, is_id, is_open_follow};
@@ -94,6 +95,16 @@ pub fn is_about(act: &Kept, id: &Iri) -> bool
     ensures { result ≡ is_about id.now act.now }
 {
     is_id(act.object_id(), id)
+}
+
+/// The id of what the activity is about, or an empty text where that has none.
+pub fn object_key(act: &Kept) -> &str
+    ensures { result.now ≡ object_key act.now }
+{
+    match act.object_id() {
+        Some(id) => id.text(),
+        None => "",
+    }
 }
 
 /// Whether it makes an object.

@@ -11,7 +11,8 @@ ghost use Rattle.fedi_register.specs.Marks.{marks_from};
 ghost use Rattle.fedi_register.specs.Registers.{has_own_id, is_making, object_mark, own_mark, relates, relation_mark};
 
 use crate::acts::{has_activity_id, is_follow, is_open_follow, is_pending, is_standing, makes};
-use crate::marks::{Marks, mark_of_iri, mark_of_iris};
+use crate::marks::Marks;
+use crate::seeds::Seed;
 use fedi_address::Iri;
 use fedi_kept::Kept;
 use fedi_objects::{ObjectRef, State};
@@ -53,37 +54,44 @@ fn is_unended(act: &Kept, follower: &Iri, followee: &Iri, state: State) -> bool
 // The place of the first Follow of the one by the other that waits or was accepted, and has not ended so.
 fn unended_follow(
     acts: &[Kept],
+    seed: &Seed,
     pairs: &Marks,
     follower: &Iri,
     followee: &Iri,
     state: State,
 ) -> Option<usize>
-    requires { pairs.now.marks ≡ marks_from relates relation_mark 0 acts.now }
+    requires { pairs.now.marks ≡ marks_from relates (relation_mark seed.now) 0 acts.now }
     ensures { result ≡ place_where (is_unended follower.now followee.now state) acts.now }
 {
-    pairs.place_of(acts, mark_of_iris(follower, followee), |act| {
-        is_unended(act, follower, followee, state)
-    })
+    let mark = seed.mark_of_pair(follower, followee.text());
+    pairs.place_of(acts, mark, |act| is_unended(act, follower, followee, state))
 }
 
 // Each Follow of the one by the other that waits or was accepted ends so.
-fn end_follows(acts: &mut [Kept], pairs: &Marks, follower: &Iri, followee: &Iri, state: State)
-    requires { pairs.now.marks ≡ marks_from relates relation_mark 0 acts.old }
+fn end_follows(
+    acts: &mut [Kept],
+    seed: &Seed,
+    pairs: &Marks,
+    follower: &Iri,
+    followee: &Iri,
+    state: State,
+)
+    requires { pairs.now.marks ≡ marks_from relates (relation_mark seed.now) 0 acts.old }
     ensures acts { acts.new ≡ map (end_follow follower.now followee.now state) acts.old }
-    ensures marks { pairs.now.marks ≡ marks_from relates relation_mark 0 acts.new }
+    ensures marks { pairs.now.marks ≡ marks_from relates (relation_mark seed.now) 0 acts.new }
 {
-    while let Some(place) = unended_follow(acts, pairs, follower, followee, state) {
+    while let Some(place) = unended_follow(acts, seed, pairs, follower, followee, state) {
         set_state_at(acts, place, state);
     }
 }
 
 // Each Follow between the two ends, in either direction.
-fn end_both(acts: &mut [Kept], pairs: &Marks, author: &Iri, other: &Iri)
-    requires { pairs.now.marks ≡ marks_from relates relation_mark 0 acts.old }
+fn end_both(acts: &mut [Kept], seed: &Seed, pairs: &Marks, author: &Iri, other: &Iri)
+    requires { pairs.now.marks ≡ marks_from relates (relation_mark seed.now) 0 acts.old }
     ensures { acts.new ≡ map (end_both author.now other.now) acts.old }
 {
-    end_follows(acts, pairs, other, author, State::Undone);
-    end_follows(acts, pairs, author, other, State::Undone);
+    end_follows(acts, seed, pairs, other, author, State::Undone);
+    end_follows(acts, seed, pairs, author, other, State::Undone);
 }
 
 // ---- answers
@@ -95,19 +103,19 @@ fn is_pending_follow(act: &Kept, id: &Iri) -> bool
     has_activity_id(act, id) && is_follow(act) && is_pending(act.state())
 }
 
-fn pending_follow(acts: &[Kept], ids: &Marks, id: &Iri) -> Option<usize>
-    requires { ids.now.marks ≡ marks_from has_own_id own_mark 0 acts.now }
+fn pending_follow(acts: &[Kept], seed: &Seed, ids: &Marks, id: &Iri) -> Option<usize>
+    requires { ids.now.marks ≡ marks_from has_own_id (own_mark seed.now) 0 acts.now }
     ensures { result ≡ place_where (is_pending_follow id.now) acts.now }
 {
-    ids.place_of(acts, mark_of_iri(id), |act| is_pending_follow(act, id))
+    ids.place_of(acts, seed.mark_of_iri(id), |act| is_pending_follow(act, id))
 }
 
 // The Follow of this id is accepted, if it waits.
-fn accept(acts: &mut [Kept], ids: &Marks, follow: &Iri)
-    requires { ids.now.marks ≡ marks_from has_own_id own_mark 0 acts.old }
+fn accept(acts: &mut [Kept], seed: &Seed, ids: &Marks, follow: &Iri)
+    requires { ids.now.marks ≡ marks_from has_own_id (own_mark seed.now) 0 acts.old }
     ensures { acts.new ≡ map (accept_one follow.now) acts.old }
 {
-    while let Some(place) = pending_follow(acts, ids, follow) {
+    while let Some(place) = pending_follow(acts, seed, ids, follow) {
         set_state_at(acts, place, State::Accepted);
     }
 }
@@ -119,19 +127,23 @@ fn is_standing_activity(act: &Kept, id: &Iri) -> bool
     has_activity_id(act, id) && is_standing(act.state())
 }
 
-fn standing_activity(acts: &[Kept], ids: &Marks, id: &Iri) -> Option<usize>
-    requires { ids.now.marks ≡ marks_from has_own_id own_mark 0 acts.now }
+fn standing_activity(acts: &[Kept], seed: &Seed, ids: &Marks, id: &Iri) -> Option<usize>
+    requires { ids.now.marks ≡ marks_from has_own_id (own_mark seed.now) 0 acts.now }
     ensures { result ≡ place_where (is_standing_activity id.now) acts.now }
 {
-    ids.place_of(acts, mark_of_iri(id), |act| is_standing_activity(act, id))
+    ids.place_of(
+        acts,
+        seed.mark_of_iri(id),
+        |act| is_standing_activity(act, id),
+    )
 }
 
 // The activity of this id is taken back, if it stands.
-fn undo(acts: &mut [Kept], ids: &Marks, activity: &Iri)
-    requires { ids.now.marks ≡ marks_from has_own_id own_mark 0 acts.old }
+fn undo(acts: &mut [Kept], seed: &Seed, ids: &Marks, activity: &Iri)
+    requires { ids.now.marks ≡ marks_from has_own_id (own_mark seed.now) 0 acts.old }
     ensures { acts.new ≡ map (undo_one activity.now) acts.old }
 {
-    while let Some(place) = standing_activity(acts, ids, activity) {
+    while let Some(place) = standing_activity(acts, seed, ids, activity) {
         set_state_at(acts, place, State::Undone);
     }
 }
@@ -139,33 +151,33 @@ fn undo(acts: &mut [Kept], ids: &Marks, activity: &Iri)
 // ---- objects
 
 // Where the activity is that made the object.
-fn place_of(acts: &[Kept], made: &Marks, object: &Iri) -> Option<usize>
-    requires { made.now.marks ≡ marks_from is_making object_mark 0 acts.now }
+fn place_of(acts: &[Kept], seed: &Seed, made: &Marks, object: &Iri) -> Option<usize>
+    requires { made.now.marks ≡ marks_from is_making (object_mark seed.now) 0 acts.now }
     ensures { result ≡ place_where (makes object.now) acts.now }
 {
-    made.place_of(acts, mark_of_iri(object), |act| makes(act, object))
+    made.place_of(acts, seed.mark_of_iri(object), |act| makes(act, object))
 }
 
 // The object is changed by what an Update carries.
-fn update(acts: &mut [Kept], made: &Marks, object: &Iri, by: ObjectRef, stamp: Text)
+fn update(acts: &mut [Kept], seed: &Seed, made: &Marks, object: &Iri, by: ObjectRef, stamp: Text)
     requires once { PassesOnce (makes object.now) acts.old }
-    requires marks { made.now.marks ≡ marks_from is_making object_mark 0 acts.old }
+    requires marks { made.now.marks ≡ marks_from is_making (object_mark seed.now) 0 acts.old }
     ensures { acts.new
         ≡ map (where_passes (makes object.now) (rewrite_act (update_object by stamp))) acts.old }
 {
-    if let Some(place) = place_of(acts, made, object) {
+    if let Some(place) = place_of(acts, seed, made, object) {
         acts[place].update_object(by, stamp);
     }
 }
 
 // A Tombstone is left of the object.
-fn bury(acts: &mut [Kept], made: &Marks, object: &Iri, kind: Text, stamp: Text)
+fn bury(acts: &mut [Kept], seed: &Seed, made: &Marks, object: &Iri, kind: Text, stamp: Text)
     requires once { PassesOnce (makes object.now) acts.old }
-    requires marks { made.now.marks ≡ marks_from is_making object_mark 0 acts.old }
+    requires marks { made.now.marks ≡ marks_from is_making (object_mark seed.now) 0 acts.old }
     ensures { acts.new
         ≡ map (where_passes (makes object.now) (rewrite_act (tombstone_of kind stamp))) acts.old }
 {
-    if let Some(place) = place_of(acts, made, object) {
+    if let Some(place) = place_of(acts, seed, made, object) {
         acts[place].bury(kind, stamp);
     }
 }
@@ -174,32 +186,33 @@ fn bury(acts: &mut [Kept], made: &Marks, object: &Iri, kind: Text, stamp: Text)
 #[tactic(auto, using(crate::proofs::Once::nothing_changes), unfolding(crate::specs::Changes::accept_one, crate::specs::Changes::undo_one, crate::specs::Changes::end_both))]
 pub(crate) fn apply_effect(
     acts: &mut [Kept],
+    seed: &Seed,
     made: &Marks,
     ids: &Marks,
     pairs: &Marks,
     effect: Effect,
 )
     requires once { AreMadeOnce acts.old }
-    requires made { made.now.marks ≡ marks_from is_making object_mark 0 acts.old }
-    requires ids { ids.now.marks ≡ marks_from has_own_id own_mark 0 acts.old }
-    requires pairs { pairs.now.marks ≡ marks_from relates relation_mark 0 acts.old }
+    requires made { made.now.marks ≡ marks_from is_making (object_mark seed.now) 0 acts.old }
+    requires ids { ids.now.marks ≡ marks_from has_own_id (own_mark seed.now) 0 acts.old }
+    requires pairs { pairs.now.marks ≡ marks_from relates (relation_mark seed.now) 0 acts.old }
     ensures { acts.new ≡ map (affect effect) acts.old }
 {
     match effect {
         Effect::Nothing => {}
-        Effect::Update { object, by, stamp } => update(acts, made, &object, by, stamp),
+        Effect::Update { object, by, stamp } => update(acts, seed, made, &object, by, stamp),
         Effect::Delete {
             object,
             kind,
             stamp,
-        } => bury(acts, made, &object, kind, stamp),
-        Effect::Accept { follow } => accept(acts, ids, &follow),
+        } => bury(acts, seed, made, &object, kind, stamp),
+        Effect::Accept { follow } => accept(acts, seed, ids, &follow),
         Effect::EndFollows {
             follower,
             followee,
             state,
-        } => end_follows(acts, pairs, &follower, &followee, state),
-        Effect::EndBoth { author, other } => end_both(acts, pairs, &author, &other),
-        Effect::Undo { activity } => undo(acts, ids, &activity),
+        } => end_follows(acts, seed, pairs, &follower, &followee, state),
+        Effect::EndBoth { author, other } => end_both(acts, seed, pairs, &author, &other),
+        Effect::Undo { activity } => undo(acts, seed, ids, &activity),
     }
 }

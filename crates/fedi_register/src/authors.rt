@@ -6,7 +6,8 @@ ghost use Rattle.fedi_address.specs.Recipients.{add_new, is_among};
 ghost use Rattle.fedi_register.specs.Authors.{CountsOne, SameCounts, count_in, ids_of, is_author};
 ghost use Rattle.fedi_register.specs.Changes.{place_where};
 
-use crate::marks::{MOST_ITEMS, Marks, mark_of_iri};
+use crate::marks::{MOST_ITEMS, Marks};
+use crate::seeds::Seed;
 use fedi_address::Iri;
 use std::alloc::{AllocError, Global};
 use std::marker::Model;
@@ -21,6 +22,7 @@ pub(crate) struct Author {
 /// The authors in the order in which they became known, looked up by their ids.
 #[derive(Drop)]
 pub(crate) struct Authors {
+    seed: Seed,
     list: Vec<Author>,
     ids: Marks,
 }
@@ -54,10 +56,11 @@ fn count_more(author: &mut Author)
 
 impl Authors {
     /// No authors.
-    pub(crate) fn empty(alloc: Global) -> Authors
+    pub(crate) fn empty(alloc: Global, seed: Seed) -> Authors
         ensures { result ≡ [] }
     {
         Authors {
+            seed,
             list: Vec::new(alloc),
             ids: Marks::empty(alloc),
         }
@@ -66,13 +69,21 @@ impl Authors {
     fn find(&self, id: &Iri) -> Option<&Author>
         ensures { option_copied result ≡ find (is_author id.now) self.now }
     {
-        self.ids.first_of(&self.list, mark_of_iri(id), |author| is_author(author, id))
+        self.ids.first_of(
+            &self.list,
+            self.seed.mark_of_iri(id),
+            |author| is_author(author, id),
+        )
     }
 
     fn place_of(&self, id: &Iri) -> Option<usize>
         ensures { result ≡ place_where (is_author id.now) self.now }
     {
-        self.ids.place_of(&self.list, mark_of_iri(id), |author| is_author(author, id))
+        self.ids.place_of(
+            &self.list,
+            self.seed.mark_of_iri(id),
+            |author| is_author(author, id),
+        )
     }
 
     /// How many activities were counted of the author.
@@ -107,7 +118,7 @@ impl Authors {
         }
         self.ids.reserve()?;
         let id = id.clone()?;
-        let mark = mark_of_iri(&id);
+        let mark = self.seed.mark_of_iri(&id);
         self.list.push(Author { id, count: 0 })?;
         self.ids.push(mark, place as u32);
         Ok(())

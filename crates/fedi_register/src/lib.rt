@@ -5,14 +5,17 @@ mod acts;
 mod applying;
 mod authors;
 mod followers;
+mod marking;
 mod marks;
 mod register;
 mod repeats;
+mod seeds;
 
 pub use acts::{
     can_be_undone, has_activity_id, is_about, is_accepted, is_announce, is_announce_of, is_block,
     is_block_of, is_by, is_create, is_done, is_follow, is_following, is_like, is_like_of, is_open,
-    is_open_follow, is_pending, is_standing, makes,
+    is_open_follow, is_pending, is_standing, makes, object_key,
 };
-pub use marks::{MOST_ITEMS, Marks, mark_of, mark_of_iri};
+pub use marks::{MOST_ITEMS, Marks};
 pub use register::Register;
+pub use seeds::Seed;

@@ -1,13 +1,12 @@
 //! Marks of the items of a list, by which they are looked up: a mark is a number for what is looked up
-//! of an item. Marks stand in chains, about as many as there are marks, so that a look-up goes only
+//! of an item. Marks are kept in chains, about as many as there are marks, so that a look-up goes only
 //! through the few marks that are like the one it looks for.
 
-ghost use Rattle.std.specs.Prelude.{◌≡◌, ℕ, Bool, ◌∷◌, [], ◌+◌, ◌-◌, ◌^◌, ◌<◌, ◌≤◌, ◌++◌, OnErr, OnOk, length, option_copied, set, slice_index, vec_capacity, vec_len};
+ghost use Rattle.std.specs.Prelude.{◌≡◌, ℕ, Bool, ◌∷◌, [], ◌+◌, ◌-◌, ◌^◌, ◌<◌, ◌≤◌, ◌++◌, OnErr, OnOk, IfOk, is_some, length, option_copied, set, slice_index, vec_capacity, vec_len};
 ghost use Rattle.std.specs.Fn.{FnReturnsAt};
 ghost use Rattle.fedi_register.specs.Chains.{HasHeads, IsChained, chain_of, marks_of, newest, step_before};
-ghost use Rattle.fedi_register.specs.Marks.{Decides, first_place, item_at, mark_after, mark_of, mark_of_pair, mark_step, passes_at};
+ghost use Rattle.fedi_register.specs.Marks.{Decides, first_place, item_at, passes_at, places_of};
 
-use fedi_address::Iri;
 use std::alloc::{AllocError, Global};
 use std::marker::Model;
 
@@ -16,57 +15,6 @@ const FEWEST_CHAINS: usize = 16;
 
 /// A list of more items than this gets no room for one more, so that the place of each fits a `u32`.
 pub const MOST_ITEMS: usize = 4_294_967_290;
-
-#[tactic(auto, unfolding(crate::specs::Marks::mark_step))]
-fn mark_step(mark: u64, byte: u8) -> u64
-    requires { mark < 2 ^ 32 }
-    ensures value { result ≡ mark_step mark byte }
-    ensures small { result < 2 ^ 32 }
-{
-    (mark * 31 + byte as u64) % 4294967296
-}
-
-#[tactic(auto, unfolding(crate::specs::Marks::mark_after))]
-fn mark_after(mark: u32, text: &[u8]) -> u32
-    ensures { result ≡ mark_after mark text.now }
-{
-    let mut mark = mark as u64;
-    for byte in text {
-        mark = mark_step(mark, *byte);
-    }
-    mark as u32
-}
-
-/// A number for a text, by which most other texts are told apart. Who chooses texts can choose many of
-/// one number.
-#[tactic(auto, unfolding(crate::specs::Marks::mark_of))]
-pub fn mark_of(text: &[u8]) -> u32
-    ensures { result ≡ mark_of text.now }
-{
-    mark_after(7, text)
-}
-
-/// The number for the text of an IRI.
-pub fn mark_of_iri(iri: &Iri) -> u32
-    ensures { result ≡ mark_of iri.now }
-{
-    mark_of(iri.text().as_bytes())
-}
-
-// A number for two texts, by which most other pairs are told apart.
-#[tactic(auto, unfolding(crate::specs::Marks::mark_of_pair))]
-fn mark_of_pair(a: &[u8], b: &[u8]) -> u32
-    ensures { result ≡ mark_of_pair a.now b.now }
-{
-    mark_after(mark_of(a), b)
-}
-
-/// The number for the texts of two IRIs.
-pub(crate) fn mark_of_iris(a: &Iri, b: &Iri) -> u32
-    ensures { result ≡ mark_of_pair a.now b.now }
-{
-    mark_of_pair(a.text().as_bytes(), b.text().as_bytes())
-}
 
 // A mark with its place, and one more than the number of the newest step before it in its chain, or 0
 // where it is the chain's first.
@@ -116,6 +64,16 @@ fn head_of(heads: &[u32], chain: usize) -> u32
         Some(head) => *head,
         None => 0,
     }
+}
+
+// One more than the number of the newest step of the mark's chain, or 0 where there is none.
+fn newest_of(heads: &[u32], mark: u32) -> u32
+    ensures { result ≡ slice_index heads.now (chain_of (length heads.now) mark) }
+{
+    if heads.is_empty() {
+        return 0;
+    }
+    head_of(heads, chain_of(mark, heads.len()))
 }
 
 fn set_head(heads: &mut Vec<u32>, chain: usize, number: usize)
@@ -239,6 +197,56 @@ fn first_in_chain<F: Fn(usize) -> bool>(
     found
 }
 
+// Whether a place of this mark passes. The walk along the chain ends at the first that does.
+fn any_in_chain<F: Fn(usize) -> bool>(
+    steps: &[Step],
+    chains: usize,
+    head: u32,
+    mark: u32,
+    passes: F,
+) -> bool
+    requires callable { F.IsAlwaysCallable passes }
+    requires chained { IsChained chains steps.now (length steps.now) }
+    requires head { head
+        ≡ newest chains (chain_of chains mark) (marks_of steps.now) (length steps.now) }
+    ensures { (q : ℕ → Bool) → Decides (F.post passes) q
+        → result ≡ is_some (first_place q mark (marks_of steps.now)) }
+{
+    let mut next = head;
+    while let Some(step) = step_before(steps, next) {
+        if step.mark == mark && passes(step.place as usize) {
+            return true;
+        }
+        next = step.before;
+    }
+    false
+}
+
+// The places of this mark, in order. The error is out of memory.
+fn places_in_chain(
+    alloc: Global,
+    steps: &[Step],
+    chains: usize,
+    head: u32,
+    mark: u32,
+) -> Result<Vec<usize>, AllocError>
+    requires chained { IsChained chains steps.now (length steps.now) }
+    requires head { head
+        ≡ newest chains (chain_of chains mark) (marks_of steps.now) (length steps.now) }
+    ensures { IfOk result (λ places. places.items ≡ places_of mark (marks_of steps.now)) }
+{
+    let mut places = Vec::new(alloc);
+    let mut next = head;
+    while let Some(step) = step_before(steps, next) {
+        if step.mark == mark {
+            places.push(step.place as usize)?;
+        }
+        next = step.before;
+    }
+    places.as_mut_slice().reverse();
+    Ok(places)
+}
+
 // Whether there is an item at the place, and it passes.
 #[tactic(auto, unfolding(crate::specs::Marks::passes_at))]
 fn passes_at<T, F: Fn(&T) -> bool>(items: &[T], place: usize, passes: &F) -> bool
@@ -306,12 +314,36 @@ impl Marks {
         ensures { (q : ℕ → Bool) → Decides (F.post passes) q
             → result ≡ first_place q mark self.now.marks }
     {
-        let chains = self.heads.len();
-        if chains == 0 {
-            return None;
-        }
-        let head = head_of(&self.heads, chain_of(mark, chains));
-        first_in_chain(&self.steps, chains, head, mark, passes)
+        let head = newest_of(&self.heads, mark);
+        first_in_chain(&self.steps, self.heads.len(), head, mark, passes)
+    }
+
+    // Whether a place of this mark passes.
+    fn any<F: Fn(usize) -> bool>(&self, mark: u32, passes: F) -> bool
+        requires { F.IsAlwaysCallable passes }
+        ensures { (q : ℕ → Bool) → Decides (F.post passes) q
+            → result ≡ is_some (first_place q mark self.now.marks) }
+    {
+        let head = newest_of(&self.heads, mark);
+        any_in_chain(&self.steps, self.heads.len(), head, mark, passes)
+    }
+
+    /// The places of this mark, in order. The error is out of memory.
+    pub fn places_of(&self, alloc: Global, mark: u32) -> Result<Vec<usize>, AllocError>
+        ensures { IfOk result (λ places. places.items ≡ places_of mark self.now.marks) }
+    {
+        let head = newest_of(&self.heads, mark);
+        places_in_chain(alloc, &self.steps, self.heads.len(), head, mark)
+    }
+
+    /// Whether one of these items has this mark and passes the test. The items may end before those that
+    /// are marked.
+    pub fn any_of<T, F: Fn(&T) -> bool>(&self, items: &[T], mark: u32, passes: F) -> bool
+        requires { F.IsAlwaysCallable passes }
+        ensures { (p : T → Bool) → Decides (FnReturnsAt F.Fn passes) p
+            → result ≡ is_some (first_place (passes_at p items.now) mark self.now.marks) }
+    {
+        self.any(mark, |place| passes_at(items, place, &passes))
     }
 
     /// The place of the first of these items that has this mark and passes the test.

@@ -1,48 +1,51 @@
 //! The accepted activities, with what is looked up among them.
 
-ghost use Rattle.std.specs.Prelude.{◌≡◌, ◌∷◌, Bool, [], ◌+◌, ◌-◌, ◌&&◌, ◌^◌, ◌<◌, ◌≤◌, ◌++◌, IsTrue, OnOk, map, vec_len, vec_capacity, option_copied, option_map, if◌then◌else◌};
+ghost use Rattle.std.specs.Prelude.{◌≡◌, ◌∷◌, Bool, [], ◌+◌, ◌-◌, ◌&&◌, ◌^◌, ◌<◌, ◌≤◌, ◌++◌, IsTrue, OnOk, map, take, vec_len, vec_capacity, option_copied, option_map, if◌then◌else◌};
 ghost use Rattle.std.specs.Fn.{FnReturnsAt};
 ghost use Rattle.std.specs.List.{find, fold, list_any};
 ghost use Rattle.fedi_address.specs.Recipients.{add_new, is_among};
 ghost use Rattle.fedi_town.specs.declared.act.Act.{Act};
 ghost use Rattle.fedi_town.specs.Effects.{affect};
 ghost use Rattle.fedi_town.specs.Objects.{makes};
-ghost use Rattle.fedi_town.specs.Relations.{has_activity_id, is_block_of, is_follow_of};
+ghost use Rattle.fedi_town.specs.Relations.{has_activity_id, is_block_of, is_follow_of, is_following};
 ghost use Rattle.fedi_town.specs.States.{is_announce_of, is_like_of};
 ghost use Rattle.fedi_register.specs.Changes.{AreMadeOnce};
 ghost use Rattle.fedi_register.specs.Following.{with_follower};
 ghost use Rattle.fedi_register.specs.Keys.{is_repeat};
 ghost use Rattle.fedi_register.specs.Marks.{Decides, marks_from};
-ghost use Rattle.fedi_register.specs.Registers.{IsNarrower, asks_to_follow, count_by, has_own_id, is_keyed, is_making, key_mark, object_mark, own_mark, pair_mark, ref_mark, relates, relates_to, relation_mark, with_follower_at};
+ghost use Rattle.fedi_register.specs.Registers.{IsNarrower, asks_to_follow, count_by, has_own_id, is_keyed, is_making, key_mark, object_mark, own_mark, ref_mark, relates, relates_by_key, relation_mark, with_follower_at};
 
-use crate::acts::{
-    has_activity_id, is_announce_of, is_block_of, is_create, is_follow, is_follow_of, is_like_of,
-    makes,
-};
+use crate::acts::{has_activity_id, is_announce_of, is_block_of, is_follow_of, is_like_of, makes};
 use crate::applying::apply_effect;
 use crate::authors::Authors;
 use crate::followers::add_follower;
-use crate::marks::{MOST_ITEMS, Marks, mark_of, mark_of_iri, mark_of_iris};
+use crate::marking::{
+    asks_to_follow, has_own_id, is_keyed, is_making, key_mark, object_mark, own_mark, relates,
+    relation_mark,
+};
+use crate::marks::{MOST_ITEMS, Marks};
 use crate::repeats::is_repeat;
+use crate::seeds::Seed;
 use fedi_address::Iri;
 use fedi_kept::Kept;
 use fedi_objects::RepeatKey;
-use fedi_town::{Deed, Effect};
+use fedi_town::Effect;
 use std::alloc::{AllocError, Global};
 use std::marker::Model;
 
 /// The accepted activities in order, with what is looked up for each post, so that it is not sought
-/// among all of them: the places of the Follows, and marks of the keys under which posts were made, of
-/// the objects that were made, of the activities' own ids, and of who follows, likes, shares or blocks
-/// what; and how many activities each author has.
+/// among all of them: marks of the keys under which posts were made, of the objects that were made, of the
+/// activities' own ids, of who follows, likes, shares or blocks what, and of whom somebody follows; and how
+/// many activities each author has.
 #[derive(Drop)]
 pub struct Register {
+    seed: Seed,
     acts: Vec<Kept>,
-    follows: Vec<usize>,
     keyed: Marks,
     made: Marks,
     ids: Marks,
     pairs: Marks,
+    followed: Marks,
     authors: Authors,
     // How many more activities there is room for in each of the lists.
     room: usize,
@@ -58,18 +61,6 @@ impl Model for Register {
     ghost invariant = { IsRegister };
 }
 
-// Appends a place where the test was passed, to a list that has room for one more.
-fn push_if(list: &mut Vec<usize>, passes: bool, place: usize)
-    requires { vec_len list.old + 1 ≤ vec_capacity list.old }
-    ensures items { list.new.items ≡ list.old.items ++ (if passes then place ∷ [] else []) }
-    ensures len { vec_len list.new ≤ vec_len list.old + 1 }
-    ensures capacity { vec_capacity list.new ≡ vec_capacity list.old }
-{
-    if passes {
-        list.push_reserved(place);
-    }
-}
-
 // Appends a mark where the test was passed, to marks that have room for one more.
 fn mark_if(list: &mut Marks, passes: bool, mark: u32, place: u32)
     requires { 1 ≤ list.old.room }
@@ -79,99 +70,6 @@ fn mark_if(list: &mut Marks, passes: bool, mark: u32, place: u32)
 {
     if passes {
         list.push(mark, place);
-    }
-}
-
-fn id_mark(id: Option<&Iri>) -> u32
-    ensures { result ≡ ref_mark (option_copied id.entry) }
-{
-    match id {
-        Some(id) => mark_of_iri(id),
-        None => 0,
-    }
-}
-
-fn repeat_mark(pair: Option<&(RepeatKey, [u8; 32])>) -> u32
-    ensures { result ≡ ref_mark (option_map (λ r. r.0) (option_copied pair.entry)) }
-{
-    match pair {
-        Some(pair) => mark_of(pair.0.bytes()),
-        None => 0,
-    }
-}
-
-fn pair_mark(author: &Iri, about: Option<&Iri>) -> u32
-    ensures { result ≡ pair_mark author.now (option_copied about.entry) }
-{
-    match about {
-        Some(id) => mark_of_iris(author, id),
-        None => 0,
-    }
-}
-
-#[tactic(auto, unfolding(crate::specs::Registers::key_mark))]
-fn key_mark(act: &Kept) -> u32
-    ensures { result ≡ key_mark act.now }
-{
-    repeat_mark(act.repeat())
-}
-
-#[tactic(auto, unfolding(crate::specs::Registers::object_mark))]
-fn object_mark(act: &Kept) -> u32
-    ensures { result ≡ object_mark act.now }
-{
-    id_mark(act.object_id())
-}
-
-#[tactic(auto, unfolding(crate::specs::Registers::own_mark))]
-fn own_mark(act: &Kept) -> u32
-    ensures { result ≡ own_mark act.now }
-{
-    id_mark(act.id())
-}
-
-#[tactic(auto, unfolding(crate::specs::Registers::relation_mark))]
-fn relation_mark(act: &Kept) -> u32
-    ensures { result ≡ relation_mark act.now }
-{
-    pair_mark(act.author(), act.object_id())
-}
-
-#[tactic(auto, unfolding(crate::specs::Registers::is_making))]
-fn is_making(act: &Kept) -> bool
-    ensures { result ≡ is_making act.now }
-{
-    is_create(act)
-}
-
-#[tactic(auto, unfolding(crate::specs::Registers::asks_to_follow))]
-fn asks_to_follow(act: &Kept) -> bool
-    ensures { result ≡ asks_to_follow act.now }
-{
-    is_follow(act)
-}
-
-#[tactic(auto, unfolding(crate::specs::Registers::is_keyed))]
-fn is_keyed(act: &Kept) -> bool
-    ensures { result ≡ is_keyed act.now }
-{
-    act.repeat().is_some()
-}
-
-#[tactic(auto, unfolding(crate::specs::Registers::has_own_id))]
-fn has_own_id(act: &Kept) -> bool
-    ensures { result ≡ has_own_id act.now }
-{
-    act.id().is_some()
-}
-
-#[tactic(auto, unfolding(crate::specs::Registers::relates))]
-fn relates(act: &Kept) -> bool
-    ensures { result ≡ relates act.now }
-{
-    match act.deed() {
-        Deed::Follow | Deed::Like | Deed::Announce | Deed::Block => true,
-        _ => false,
     }
 }
 
@@ -224,31 +122,39 @@ fn add_followers(
     Ok(())
 }
 
-fn apply_in_place(acts: &mut Vec<Kept>, made: &Marks, ids: &Marks, pairs: &Marks, effect: Effect)
+fn apply_in_place(
+    acts: &mut Vec<Kept>,
+    seed: &Seed,
+    made: &Marks,
+    ids: &Marks,
+    pairs: &Marks,
+    effect: Effect,
+)
     requires once { AreMadeOnce acts.old.items }
-    requires made { made.now.marks ≡ marks_from is_making object_mark 0 acts.old.items }
-    requires ids { ids.now.marks ≡ marks_from has_own_id own_mark 0 acts.old.items }
-    requires pairs { pairs.now.marks ≡ marks_from relates relation_mark 0 acts.old.items }
+    requires made { made.now.marks ≡ marks_from is_making (object_mark seed.now) 0 acts.old.items }
+    requires ids { ids.now.marks ≡ marks_from has_own_id (own_mark seed.now) 0 acts.old.items }
+    requires pairs { pairs.now.marks ≡ marks_from relates (relation_mark seed.now) 0 acts.old.items }
     ensures items { acts.new.items ≡ map (affect effect) acts.old.items }
     ensures len { vec_len acts.new ≡ vec_len acts.old }
     ensures capacity { vec_capacity acts.new ≡ vec_capacity acts.old }
 {
-    apply_effect(acts.as_mut_slice(), made, ids, pairs, effect);
+    apply_effect(acts.as_mut_slice(), seed, made, ids, pairs, effect);
 }
 
 impl Register {
-    /// No activities.
-    pub fn empty(alloc: Global) -> Register
+    /// No activities. The seed is for the numbers by which they are looked up.
+    pub fn empty(alloc: Global, seed: Seed) -> Register
         ensures { result ≡ record { acts = []; known = []; room = 0 } }
     {
         Register {
+            seed,
             acts: Vec::new(alloc),
-            follows: Vec::new(alloc),
             keyed: Marks::empty(alloc),
             made: Marks::empty(alloc),
             ids: Marks::empty(alloc),
             pairs: Marks::empty(alloc),
-            authors: Authors::empty(alloc),
+            followed: Marks::empty(alloc),
+            authors: Authors::empty(alloc, seed),
             room: 0,
         }
     }
@@ -260,16 +166,33 @@ impl Register {
         self.acts.as_slice()
     }
 
-    // Whether an activity of the author about this passes the test, which only Follows, Likes, Announces
-    // and Blocks of theirs pass.
+    /// Whether an activity before this place passes the test: a Follow, a Like, an Announce or a Block by the
+    /// author about this. What has no object counts as about the empty text. The test must let nothing
+    /// else pass.
+    pub fn is_related_before<F: Fn(&Kept) -> bool>(
+        &self,
+        place: usize,
+        author: &Iri,
+        about: &str,
+        passes: F,
+    ) -> bool
+        requires { F.IsAlwaysCallable passes }
+        ensures { (p : Act → Bool) → Decides (FnReturnsAt F.Fn passes) p
+            → IsNarrower p (relates_by_key author.now about.now)
+            → result ≡ list_any p (take place self.now.acts) }
+    {
+        let earlier = &self.acts[..place.min(self.acts.len())];
+        self.pairs
+            .any_of(earlier, self.seed.mark_of_pair(author, about), passes)
+    }
+
+    // Whether one of all activities does.
     fn relates<F: Fn(&Kept) -> bool>(&self, author: &Iri, id: &Iri, passes: F) -> bool
         requires { F.IsAlwaysCallable passes }
         ensures { (p : Act → Bool) → Decides (FnReturnsAt F.Fn passes) p
-            → IsNarrower p (relates_to author.now id.now) → result ≡ list_any p self.now.acts }
+            → IsNarrower p (relates_by_key author.now id.now) → result ≡ list_any p self.now.acts }
     {
-        self.pairs
-            .first_of(&self.acts, mark_of_iris(author, id), passes)
-            .is_some()
+        self.is_related_before(self.acts.len(), author, id.text(), passes)
     }
 
     /// Whether a blocks b.
@@ -304,7 +227,11 @@ impl Register {
     pub fn activity(&self, id: &Iri) -> Option<&Kept>
         ensures { option_copied result ≡ find (has_activity_id id.now) self.now.acts }
     {
-        self.ids.first_of(&self.acts, mark_of_iri(id), |act| has_activity_id(act, id))
+        self.ids.first_of(
+            &self.acts,
+            self.seed.mark_of_iri(id),
+            |act| has_activity_id(act, id),
+        )
     }
 
     /// The first activity of this id that passes the test.
@@ -316,7 +243,7 @@ impl Register {
     {
         self.ids.first_of(
             &self.acts,
-            mark_of_iri(id),
+            self.seed.mark_of_iri(id),
             |act| has_id_where(act, id, &passes),
         )
     }
@@ -325,8 +252,7 @@ impl Register {
     pub fn maker(&self, id: &Iri) -> Option<&Kept>
         ensures { option_copied result ≡ find (makes id.now) self.now.acts }
     {
-        self.made
-            .first_of(&self.acts, mark_of_iri(id), |act| makes(act, id))
+        self.made.first_of(&self.acts, self.seed.mark_of_iri(id), |act| makes(act, id))
     }
 
     /// The first activity that made the object of this id and passes the test.
@@ -337,7 +263,7 @@ impl Register {
     {
         self.made.first_of(
             &self.acts,
-            mark_of_iri(id),
+            self.seed.mark_of_iri(id),
             |act| makes_where(act, id, &passes),
         )
     }
@@ -346,7 +272,7 @@ impl Register {
     pub fn first_under(&self, author: &Iri, key: &RepeatKey) -> Option<&Kept>
         ensures { option_copied result ≡ find (is_repeat author.now key.now) self.now.acts }
     {
-        let mark = mark_of(key.bytes());
+        let mark = self.seed.mark_of(key.bytes());
         self.keyed
             .first_of(&self.acts, mark, |act| is_repeat(act, author, key))
     }
@@ -356,7 +282,20 @@ impl Register {
         ensures { OnOk result (found.new.items
             ≡ fold (with_follower b.now) found.old.items self.now.acts) }
     {
-        add_followers(found, &self.acts, &self.follows, b)
+        let places = self
+            .followed
+            .places_of(*found.allocator(), self.seed.mark_of_iri(b))?;
+        add_followers(found, &self.acts, &places, b)
+    }
+
+    /// Whether one of the accepted Follows of b passes the test. It must let nothing else pass.
+    pub fn is_followed_by<F: Fn(&Kept) -> bool>(&self, b: &Iri, passes: F) -> bool
+        requires { F.IsAlwaysCallable passes }
+        ensures { (p : Act → Bool) → Decides (FnReturnsAt F.Fn passes) p
+            → IsNarrower p (is_following b.now) → result ≡ list_any p self.now.acts }
+    {
+        self.followed
+            .any_of(&self.acts, self.seed.mark_of_iri(b), passes)
     }
 
     /// How many activities the author has.
@@ -380,11 +319,11 @@ impl Register {
             return Err(AllocError);
         }
         self.acts.reserve(2)?;
-        self.follows.reserve(2)?;
         self.keyed.reserve()?;
         self.made.reserve()?;
         self.ids.reserve()?;
         self.pairs.reserve()?;
+        self.followed.reserve()?;
         self.room = 2;
         Ok(())
     }
@@ -404,7 +343,14 @@ impl Register {
         requires { AreMadeOnce self.old.acts }
         ensures { self.new ≡ record self.old { acts = map (affect effect) self.old.acts } }
     {
-        apply_in_place(&mut self.acts, &self.made, &self.ids, &self.pairs, effect);
+        apply_in_place(
+            &mut self.acts,
+            &self.seed,
+            &self.made,
+            &self.ids,
+            &self.pairs,
+            effect,
+        );
     }
 
     /// Adds an activity of a known author, where there is room for it. It takes no memory.
@@ -416,13 +362,37 @@ impl Register {
           room = self.old.room - 1;
         } }
     {
-        let place = self.acts.len();
-        let at = place as u32;
-        push_if(&mut self.follows, asks_to_follow(&act), place);
-        mark_if(&mut self.keyed, is_keyed(&act), key_mark(&act), at);
-        mark_if(&mut self.made, is_making(&act), object_mark(&act), at);
-        mark_if(&mut self.ids, has_own_id(&act), own_mark(&act), at);
-        mark_if(&mut self.pairs, relates(&act), relation_mark(&act), at);
+        let at = self.acts.len() as u32;
+        mark_if(
+            &mut self.keyed,
+            is_keyed(&act),
+            key_mark(&self.seed, &act),
+            at,
+        );
+        mark_if(
+            &mut self.made,
+            is_making(&act),
+            object_mark(&self.seed, &act),
+            at,
+        );
+        mark_if(
+            &mut self.ids,
+            has_own_id(&act),
+            own_mark(&self.seed, &act),
+            at,
+        );
+        mark_if(
+            &mut self.pairs,
+            relates(&act),
+            relation_mark(&self.seed, &act),
+            at,
+        );
+        mark_if(
+            &mut self.followed,
+            asks_to_follow(&act),
+            object_mark(&self.seed, &act),
+            at,
+        );
         self.authors.count_one(act.author());
         self.acts.push_reserved(act);
         self.room -= 1;

@@ -35,7 +35,7 @@ pub fn check_line<S: Shelf + Drop, P: Keeper>(
     let mut line = Vec::with_capacity(alloc, LINE)?;
     push_count(&mut line, b"entries ", core.count())?;
     push_count(&mut line, b" actors ", facts.actors().len() as u64)?;
-    push_count(&mut line, b" activities ", facts.acts().len() as u64)?;
+    push_count(&mut line, b" activities ", facts.activities() as u64)?;
     line.push(b'\n')?;
     Ok(line)
 }

@@ -11,17 +11,22 @@ ghost use Rattle.fedi_startup.specs.Stores.{ComesBack, IsOpened, LeavesFiles, di
 
 use crate::faults::StoreFault;
 use fedi_core::Core;
+use fedi_effects::Seed;
+use fedi_index::IndexedShelf;
 use fedi_journal::Journal;
 use fedi_opening::OpenFault;
 use fedi_outside::{Disk, Keeper};
-use fedi_store::PlainShelf;
 use std::alloc::{AllocError, Global};
 
 /// The machine over the store of a disk.
-pub type StoreCore<D> = Core<PlainShelf, Journal<D>>;
+pub type StoreCore<D> = Core<IndexedShelf, Journal<D>>;
 
 // Opens the machine over the records of a keeper.
-fn open_core<P: Keeper>(alloc: Global, keeper: P) -> Result<Core<PlainShelf, P>, (OpenFault, P)>
+fn open_core<P: Keeper>(
+    alloc: Global,
+    seed: Seed,
+    keeper: P,
+) -> Result<Core<IndexedShelf, P>, (OpenFault, P)>
     requires settled { (P.shown keeper).doubt ≡ None }
     ensures opened { IfOk result (λ core.
         IsRead (P.shown keeper).records (P.shown keeper).held core.history) }
@@ -34,7 +39,7 @@ fn open_core<P: Keeper>(alloc: Global, keeper: P) -> Result<Core<PlainShelf, P>,
     ensures time { PassesTime (P.shown keeper).records (P.shown keeper).doubt
         (P.crashes keeper) (P.crashes (keeper_after result)) }
 {
-    match PlainShelf::empty(alloc) {
+    match IndexedShelf::empty(alloc, seed) {
         Ok(shelf) => Core::open(alloc, shelf, keeper),
         Err(AllocError) => Err((OpenFault::Memory, keeper)),
     }
@@ -42,14 +47,18 @@ fn open_core<P: Keeper>(alloc: Global, keeper: P) -> Result<Core<PlainShelf, P>,
 
 /// Opens the machine over the store of a disk: finds the records of its file, and the history that they
 /// are the codes of. The disk is synced, and the gates that are found are written again, so that a crash
-/// leaves what is found. Whatever the answer, reads give the same bytes, and a crash leaves nothing new.
+/// leaves what is found. The seed is what texts are looked up by. Whatever the answer, reads give the same bytes, and a crash leaves nothing new.
 ///
 /// Each error hands the disk back. It is `NotAStore`, if the disk has fewer
 /// than 9 bytes, or does not begin with the magic, or has no record; `DamagedByte`, with the place of the
 /// first gate that is not as it should be; `DamagedRecord`, with the place of the first record that is the
 /// code of no entry that may stand there; `Failed`, if the disk failed, which it counts once; and `Memory`,
 /// if out of memory, and only if the disk begins with the magic.
-pub fn open_store<D: Disk>(alloc: Global, disk: D) -> Result<StoreCore<D>, (StoreFault, D)>
+pub fn open_store<D: Disk>(
+    alloc: Global,
+    seed: Seed,
+    disk: D,
+) -> Result<StoreCore<D>, (StoreFault, D)>
     ensures opened { IfOk result (λ core. IsOpened (D.shown disk)
         (state_of core.history (⟦<Journal<D> as Keeper>⟧.shown core.keeper))) }
     ensures leaves { IfOk result (λ core. IfSome (D.shown disk).reads (λ _.
@@ -62,7 +71,7 @@ pub fn open_store<D: Disk>(alloc: Global, disk: D) -> Result<StoreCore<D>, (Stor
         Ok(journal) => journal,
         Err((fault, disk)) => return Err((fault.into(), disk)),
     };
-    match open_core(alloc, journal) {
+    match open_core(alloc, seed, journal) {
         Ok(core) => Ok(core),
         Err((fault, journal)) => Err((fault.into(), journal.into_disk())),
     }

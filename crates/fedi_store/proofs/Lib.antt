@@ -1,3 +1,5 @@
-mod Firsts
-mod Listed
-mod Pages
+mod Again
+mod Costs
+pub mod Firsts
+pub mod Listed
+pub mod Pages

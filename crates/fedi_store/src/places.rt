@@ -1,17 +1,16 @@
 //! Where the items of a collection stand among the activities of the facts. The owner of a collection
 //! is the member or the object with this id. Nothing here takes memory.
 
-ghost use Rattle.std.specs.Prelude.{◌≡◌, ◌+◌, ◌*◌, ◌/◌, ◌<◌, ◌^◌, ◌++◌, ◌∷◌, [], drop, filter, length, nat_eq, take, if◌then◌else◌};
-ghost use Rattle.std.specs.List.{list_any, slice_get};
-ghost use Rattle.arrayvec.specs.ArrayVec.{array_vec_len};
+ghost use Rattle.std.specs.Prelude.{◌≡◌, ◌+◌, ◌*◌, ◌<◌, ◌≤◌, drop, length, take};
+ghost use Rattle.std.specs.List.{list_any};
 ghost use Rattle.fedi_store.specs.Places.{can_come_again, is_first, is_listed, is_same_seen, is_seen_item, places};
 
-use arrayvec::ArrayVec;
 use fedi_address::Iri;
-use fedi_effects::Facts;
+use fedi_effects::{Facts, Steps};
 use fedi_kept::Kept;
 use fedi_town::{Caller, Which};
-use fedi_visible::{PAGE, VisiblePage, is_item, is_same_item, sees};
+use fedi_visible::{VisiblePage, is_item, is_same_item, sees};
+use std::sync::ledger::Ledger;
 
 #[tactic(auto, unfolding(crate::specs::Places::is_seen_item))]
 fn is_seen_item(facts: &Facts, caller: &Caller, which: &Which, owner: &Iri, act: &Kept) -> bool
@@ -37,18 +36,29 @@ fn is_same_seen(
         && (is_same_item(which, earlier, act) && sees(facts, caller, earlier))
 }
 
-fn is_any_same_seen(
+// Whether one of the first so many activities is the same item, and the caller sees it.
+fn is_any_same_seen<L: Ledger>(
     facts: &Facts,
     caller: &Caller,
     which: &Which,
     owner: &Iri,
     act: &Kept,
-    before: &[Kept],
+    count: usize,
+    steps: &mut Steps<L>,
 ) -> bool
-    ensures { result ≡ list_any
-        (is_same_seen facts.now.town caller.now which.now owner.now act.now) before.now }
+    requires { count ≤ length facts.now.town.acts }
+    ensures value { result ≡ list_any
+        (is_same_seen facts.now.town caller.now which.now owner.now act.now)
+        (take count facts.now.town.acts) }
+    ensures cost { steps.new ≤ steps.old + count }
 {
-    before.iter().any(|earlier| is_same_seen(facts, caller, which, owner, act, earlier))
+    for place in 0..count {
+        let earlier = facts.shown(place, steps);
+        if is_same_seen(facts, caller, which, owner, act, earlier) {
+            return true;
+        }
+    }
+    false
 }
 
 // Whether an item can come again: the same follower, and the same one who is followed. The items of
@@ -59,104 +69,84 @@ fn can_come_again(which: &Which) -> bool
     matches!(which, Which::Followers(_) | Which::Following(_))
 }
 
-// Whether an earlier activity is the same item, and the caller sees it.
+// Whether one of the first so many activities is the same item, and the caller sees it: only where an
+// item can come again, they are gone through.
 #[tactic(auto, using(crate::proofs::Listed::none_again))]
-fn comes_again(
+fn comes_again<L: Ledger>(
     facts: &Facts,
     caller: &Caller,
     which: &Which,
     owner: &Iri,
     act: &Kept,
-    before: &[Kept],
+    count: usize,
+    steps: &mut Steps<L>,
 ) -> bool
-    ensures { result ≡ list_any
-        (is_same_seen facts.now.town caller.now which.now owner.now act.now) before.now }
+    requires { count ≤ length facts.now.town.acts }
+    ensures value { result ≡ list_any
+        (is_same_seen facts.now.town caller.now which.now owner.now act.now)
+        (take count facts.now.town.acts) }
+    ensures cost { steps.new ≤ steps.old + count }
 {
-    can_come_again(which) && is_any_same_seen(facts, caller, which, owner, act, before)
+    can_come_again(which) && is_any_same_seen(facts, caller, which, owner, act, count, steps)
 }
 
+// Whether the activity is an item that the caller sees, and none of the first so many is the same.
 #[tactic(auto, unfolding(crate::specs::Places::is_first))]
-fn is_first(
+fn is_first<L: Ledger>(
     facts: &Facts,
     caller: &Caller,
     which: &Which,
     owner: &Iri,
-    before: &[Kept],
     act: &Kept,
+    count: usize,
+    steps: &mut Steps<L>,
 ) -> bool
-    ensures { result
-        ≡ is_first facts.now.town caller.now which.now owner.now before.now act.now }
+    requires { count ≤ length facts.now.town.acts }
+    ensures value { result ≡ is_first facts.now.town caller.now which.now owner.now
+        (take count facts.now.town.acts) act.now }
+    ensures cost { steps.new ≤ steps.old + count }
 {
     is_seen_item(facts, caller, which, owner, act)
-        && !comes_again(facts, caller, which, owner, act, before)
+        && !comes_again(facts, caller, which, owner, act, count, steps)
 }
 
 // Whether the activity at this place is the first by which the caller sees its item.
-#[tactic(auto, unfolding(crate::specs::Places::is_listed))]
-fn is_listed(facts: &Facts, caller: &Caller, which: &Which, owner: &Iri, place: usize) -> bool
-    ensures { result ≡ is_listed facts.now.town caller.now which.now owner.now place }
-{
-    let acts = facts.acts();
-    match acts.get(place) {
-        Some(act) => is_first(facts, caller, which, owner, &acts[..place], act),
-        None => false,
-    }
-}
-
-/// How many items the caller sees in the owner's collection.
-pub fn count(facts: &Facts, caller: &Caller, which: &Which, owner: &Iri) -> usize
-    ensures { result ≡ length (places facts.now.town caller.now which.now owner.now) }
-{
-    (0..facts.acts().len())
-        .filter(|place| is_listed(facts, caller, which, owner, *place))
-        .count()
-}
-
-/// The place of the item of this number, counted from the oldest, from 0, or none if there are not so
-/// many.
-pub fn place_of(
+fn is_listed<L: Ledger>(
     facts: &Facts,
     caller: &Caller,
     which: &Which,
     owner: &Iri,
-    number: usize,
-) -> Option<usize>
-    ensures { result
-        ≡ slice_get (places facts.now.town caller.now which.now owner.now) number }
+    place: usize,
+    steps: &mut Steps<L>,
+) -> bool
+    requires { place < length facts.now.town.acts }
+    ensures value { result ≡ is_listed facts.now.town caller.now which.now owner.now place }
+    ensures cost { steps.new ≤ steps.old + (place + 1) }
 {
-    (0..facts.acts().len())
-        .filter(|place| is_listed(facts, caller, which, owner, *place))
-        .nth(number)
+    let act = facts.shown(place, steps);
+    is_first(facts, caller, which, owner, act, place, steps)
 }
 
-// Counts the place of one item more, and keeps it if it stands on the page of this number.
-fn add_place(page: &mut VisiblePage, number: u64, place: usize)
-    requires total { page.old.total < 2 ^ 63 }
-    requires room { page.old.total / 20 ≡ number → array_vec_len page.old.places < 20 }
-    ensures total { page.new.total ≡ page.old.total + 1 }
-    ensures places { page.new.places.items ≡ (if nat_eq (page.old.total / 20) number
-        then page.old.places.items ++ place ∷ [] else page.old.places.items) }
-{
-    if page.total / PAGE as u64 == number {
-        page.places.push(place);
-    }
-    page.total += 1;
-}
-
-/// The places of the items on the page of this number, and how many items there are on all pages.
-pub fn page(facts: &Facts, caller: &Caller, which: &Which, owner: &Iri, number: u64) -> VisiblePage
+/// The places of the items on the page of this number, and how many items there are on all pages. For each
+/// activity it reads those before it at most.
+pub fn page<L: Ledger>(
+    facts: &Facts,
+    caller: &Caller,
+    which: &Which,
+    owner: &Iri,
+    number: u64,
+    steps: &mut Steps<L>,
+) -> VisiblePage
     ensures total { result.total
         ≡ length (places facts.now.town caller.now which.now owner.now) }
     ensures places { result.places.items ≡ take 20 (drop (20 * number)
         (places facts.now.town caller.now which.now owner.now)) }
+    ensures cost { let n = length facts.now.town.acts in steps.new ≤ steps.old + n * (n + 1) }
 {
-    let mut page = VisiblePage {
-        total: 0,
-        places: ArrayVec::new(),
-    };
-    for place in 0..facts.acts().len() {
-        if is_listed(facts, caller, which, owner, place) {
-            add_place(&mut page, number, place);
+    let mut page = VisiblePage::empty();
+    for place in 0..facts.activities() {
+        if is_listed(facts, caller, which, owner, place, steps) {
+            page.add(number, place);
         }
     }
     page

@@ -1,24 +1,26 @@
 //! A shelf that keeps nothing beside the facts.
 
-ghost use Rattle.std.specs.Prelude.{◌≡◌, ◌++◌, ◌∷◌, [], ◌*◌, IfOk, IsTrue, None, OnErr, OnOk, Some, drop, is_some, length, map, nat_lt, option_and_then, slice_get, take};
+ghost use Rattle.std.specs.Prelude.{◌≡◌, ◌≤◌, ◌++◌, ◌∷◌, [], ◌+◌, ◌*◌, IfOk, IsTrue, None, OnErr, OnOk, Some, drop, length, map, slice_get, take};
 ghost use Rattle.fedi_effects.specs.Holdings.{Holding};
 ghost use Rattle.fedi_town.specs.Built.{is_built};
-ghost use Rattle.fedi_town.specs.Collections.{items};
+ghost use Rattle.fedi_town.specs.Collections.{items, owner_of};
 ghost use Rattle.fedi_town.specs.Histories.{town};
+ghost use Rattle.fedi_town.specs.Legal.{is_admissible};
 ghost use Rattle.fedi_town.specs.Towns.{empty_town};
 
-use crate::places::{count, page, place_of};
+use crate::places::page;
 use fedi_address::Iri;
-use fedi_effects::Facts;
+use fedi_effects::{Facts, Seed, Steps};
 use fedi_objects::Entry;
 use fedi_town::{Caller, Which};
 use fedi_visible::{Shelf, VisiblePage};
 use std::alloc::{AllocError, Global};
 use std::marker::Model;
+use std::sync::ledger::Ledger;
 
-/// The facts of a history, whose activities are gone through for each collection, once for a count, an
-/// item or a page. For each Follow in the collections of followers and of those who are followed, the
-/// activities before it are gone through too.
+/// The facts of a history, whose activities are gone through for each page of a collection. For each Follow
+/// in the collections of followers and of those who are followed, the activities before it are gone through
+/// too.
 #[derive(Drop)]
 pub struct PlainShelf {
     facts: Facts,
@@ -33,18 +35,21 @@ impl Model for PlainShelf {
 }
 
 impl PlainShelf {
-    /// The shelf of no entry. The error is out of memory.
-    pub fn empty(alloc: Global) -> Result<PlainShelf, AllocError>
+    /// The shelf of no entry, which looks texts up by the seed. The error is out of memory.
+    pub fn empty(alloc: Global, seed: Seed) -> Result<PlainShelf, AllocError>
         ensures { IfOk result (λ shelf.
             shelf ≡ record { history = []; town = empty_town; room = None }) }
     {
-        let facts = Facts::empty(alloc)?;
+        let facts = Facts::empty(alloc, seed)?;
         Ok(PlainShelf { facts })
     }
 }
 
 impl Shelf for PlainShelf {
     ghost holding = { λ shelf. shelf };
+
+    ghost page_cost = { λ shelf which owner.
+        length shelf.town.acts * (length shelf.town.acts + 1) };
 
     fn facts(&self) -> &Facts {
         &self.facts
@@ -58,30 +63,15 @@ impl Shelf for PlainShelf {
         self.facts.apply(entry);
     }
 
-    #[tactic(auto, using(crate::proofs::Pages::places_counted))]
-    fn visible_count(&self, caller: &Caller, which: &Which, owner: &Iri) -> u64 {
-        count(&self.facts, caller, which, owner) as u64
-    }
-
-    #[tactic(auto, using(crate::proofs::Pages::place_got, crate::proofs::Pages::place_there))]
-    fn visible_at(
-        &self,
-        caller: &Caller,
-        which: &Which,
-        owner: &Iri,
-        number: u64,
-    ) -> Option<usize> {
-        place_of(&self.facts, caller, which, owner, number as usize)
-    }
-
     #[tactic(auto, using(crate::proofs::Pages::places_counted, crate::proofs::Pages::page_placed))]
-    fn visible_page(
+    fn visible_page<L: Ledger>(
         &self,
         caller: &Caller,
         which: &Which,
         owner: &Iri,
         number: u64,
+        steps: &mut Steps<L>,
     ) -> VisiblePage {
-        page(&self.facts, caller, which, owner, number)
+        page(&self.facts, caller, which, owner, number, steps)
     }
 }

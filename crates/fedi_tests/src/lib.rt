@@ -56,6 +56,8 @@ mod machine;
 mod opening;
 #[cfg(test)]
 mod records;
+#[cfg(test)]
+mod shelves;
 
 // Whole runs over what lies in memory.
 #[cfg(test)]

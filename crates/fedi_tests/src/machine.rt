@@ -3,23 +3,23 @@
 use crate::cases::SECONDS;
 use crate::example::{MEMBERS, TOWN};
 use crate::program::{FIRST, NOTE};
-use crate::rows::expect;
+use crate::rows::{expect, seed};
 use crate::runs::are_texts;
 use fedi_address::{Host, LocalName};
 use fedi_core::{Core, Decision};
+use fedi_index::IndexedShelf;
 use fedi_model::{Ask, Caller};
 use fedi_objects::Entry;
 use fedi_opening::OpenFault;
 use fedi_outside::{FixedClock, Keeper, MemoryKeeper, MemorySink, MemorySource};
 use fedi_program::{Connection, session};
 use fedi_routes::Routes;
-use fedi_store::PlainShelf;
 use fedi_text::Moment;
 use fedi_town::{CommandFault, next_number};
 use std::alloc::{AllocError, Global};
 use std::test::Fail;
 
-type Machine = Core<PlainShelf, MemoryKeeper>;
+type Machine = Core<IndexedShelf, MemoryKeeper>;
 
 /// The bodies of the replies to readings of ana's first object and of her second, and of nothing.
 const HELLO: &str =
@@ -88,7 +88,7 @@ fn expect_opened(
 fn expect_over(alloc: Global, mut keeper: MemoryKeeper, wanted: Wanted) -> Result<(), Fail> {
     // Nothing may be in doubt when the machine is opened.
     keeper.settle()?;
-    let shelf = PlainShelf::empty(alloc)?;
+    let shelf = IndexedShelf::empty(alloc, seed())?;
     let mut opened = Core::open(alloc, shelf, keeper);
     expect_opened(alloc, &mut opened, wanted)
 }

@@ -2,20 +2,23 @@
 //!
 //! A keeper is made in one function, and lent, and a test fails with the text of the row that does
 //! not hold.
-ghost use Rattle.std.specs.Prelude.{◌≡◌, []};
+ghost use Rattle.std.specs.Prelude.{◌≡◌, ◌<◌, []};
 
 use crate::records::{
     ANA, BEN, CREATE, FOLLOW, HISTORY, HOSTED, LIKE, OWN_FOLLOW, PEER_SET, SAME_KEY, TWICE_TO,
     WITH_ID,
 };
-use crate::rows::expect;
-use fedi_address::{Iri, LocalName};
+use crate::rows::{expect, seed};
+use fedi_address::LocalName;
+use fedi_effects::Steps;
 use fedi_opening::{OpenFault, open_history};
 use fedi_outside::{Keeper, MemoryKeeper};
 use fedi_store::PlainShelf;
 use fedi_town::{Caller, Which};
 use fedi_visible::Shelf;
 use std::alloc::Global;
+use std::marker::Brand;
+use std::sync::ledger::{Blank, Ledger};
 use std::test::Fail;
 
 // A rule, records that break it, and the place of the first that is damaged.
@@ -49,14 +52,16 @@ const DAMAGED: [(&str, &[&[u8]], u64); 15] = [
     ("no record is empty", &[b""], 0),
 ];
 
-fn add<K: Keeper>(keeper: &mut K, record: &[u8]) -> Result<(), Fail> {
+/// Appends a record.
+pub(crate) fn add<K: Keeper>(keeper: &mut K, record: &[u8]) -> Result<(), Fail> {
     keeper.reserve(record.len())?;
     keeper.settle()?;
     keeper.append(record)?;
     Ok(())
 }
 
-fn add_all<K: Keeper>(keeper: &mut K, records: &[&[u8]]) -> Result<(), Fail> {
+/// Appends the records.
+pub(crate) fn add_all<K: Keeper>(keeper: &mut K, records: &[&[u8]]) -> Result<(), Fail> {
     for record in records {
         add(keeper, record)?;
     }
@@ -78,15 +83,26 @@ fn has_history(shelf: &PlainShelf) -> bool {
     let is_hosted = facts
         .host()
         .is_some_and(|host| host.text() == "club.example");
-    is_hosted && facts.actors().len() == 2 && facts.acts().len() == 4
+    is_hosted && facts.actors().len() == 2 && facts.activities() == 4
+}
+
+// The place of the first item of ana's outbox that everybody sees.
+fn first_place<L: Ledger>(shelf: &PlainShelf, blank: Blank) -> Option<usize>
+    requires name { blank.name ≡ L.name }
+    requires parts { blank.parts ≡ L.parts }
+    requires some { 0 < blank.parts }
+{
+    let ana = LocalName::parse("ana")?;
+    let owner = shelf.facts().id_of(&ana)?;
+    let which = Which::Outbox(ana.copy());
+    let mut steps = Steps::<L>::new(blank);
+    let page = shelf.visible_page(&Caller::Nobody, &which, owner, 0, &mut steps);
+    page.places.as_slice().first().copied()
 }
 
 // Whether the first item of ana's outbox is the first activity, her Create.
-fn has_first_item(alloc: Global, shelf: &PlainShelf) -> Result<bool, Fail> {
-    let ana = LocalName::parse("ana").ok_or("no name")?;
-    let id = Iri::parse(alloc, "https://club.example/users/ana")?;
-    let first = shelf.visible_at(&Caller::Nobody, &Which::Outbox(ana), &id, 0);
-    Ok(first == Some(0))
+fn has_first_item(shelf: &PlainShelf) -> bool {
+    first_place::<Brand>(shelf, Blank::new(1)) == Some(0)
 }
 
 fn answers<K: Keeper>(
@@ -99,9 +115,7 @@ fn answers<K: Keeper>(
 {
     let fault = open_history(alloc, keeper, shelf).err();
     match wanted {
-        Wanted::History => {
-            Ok(fault.is_none() && has_history(shelf) && has_first_item(alloc, shelf)?)
-        }
+        Wanted::History => Ok(fault.is_none() && has_history(shelf) && has_first_item(shelf)),
         Wanted::Fault(other) => Ok(fault == Some(other)),
     }
 }
@@ -114,7 +128,7 @@ fn expect_open<K: Keeper>(
     keeper: &mut K,
     wanted: Wanted,
 ) -> Result<(), Fail> {
-    let mut made = PlainShelf::empty(alloc);
+    let mut made = PlainShelf::empty(alloc, seed());
     let holds = match &mut made {
         Ok(shelf) => answers(alloc, keeper, shelf, wanted)?,
         Err(_) => false,

@@ -1,6 +1,7 @@
 //! Runs, and what they leave.
 
 use crate::cases::{Case, arguments_of, calm, connection_of, disk_in, entropy_of};
+use crate::rows::seed;
 use crate::store_files::has_records;
 use fedi_outside::{FixedClock, MemoryDisk, MemoryEntropy, MemorySink, MemorySource};
 use fedi_program::{Connection, run};
@@ -38,7 +39,7 @@ fn left_in(
     disk: MemoryDisk,
     entropy: &mut MemoryEntropy,
 ) -> Result<Left, AllocError> {
-    let ended = run(alloc, arguments, connection, disk, entropy);
+    let ended = run(alloc, seed(), arguments, connection, disk, entropy);
     left_of(alloc, ended.status, &connection.out, &ended.disk)
 }
 

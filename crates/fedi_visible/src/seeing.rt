@@ -45,10 +45,7 @@ fn is_follower_from(facts: &Facts, host: &Host, author: &Iri, act: &Kept) -> boo
 fn is_followed_from(facts: &Facts, host: &Host, author: &Iri) -> bool
     ensures { result ≡ is_followed_from facts.now.town host.now author.now }
 {
-    facts
-        .acts()
-        .iter()
-        .any(|act| is_follower_from(facts, host, author, act))
+    facts.is_followed_by(author, |act| is_follower_from(facts, host, author, act))
 }
 
 /// Whether the caller sees the activity (ActivityPub, sections 5, 6 and 6.9): a member sees what the

@@ -1,17 +1,21 @@
 //! Where a history stands, with what its readers see of its collections.
 
-ghost use Rattle.std.specs.Prelude.{◌≡◌, ◌++◌, ◌∷◌, [], ◌*◌, IsTrue, None, OnErr, OnOk, Some, drop, is_some, length, map, nat_lt, option_and_then, slice_get, take};
+ghost use Rattle.std.specs.Prelude.{◌≡◌, ◌≤◌, ◌<◌, ◌+◌, ◌*◌, ◌/◌, ◌^◌, ◌++◌, ◌∷◌, [], ℕ, IsTrue, List, None, OnErr, OnOk, Some, drop, if◌then◌else◌, length, map, nat_eq, slice_get, take};
+ghost use Rattle.arrayvec.specs.ArrayVec.{array_vec_len};
 ghost use Rattle.fedi_effects.specs.Holdings.{Holding};
 ghost use Rattle.fedi_town.specs.Built.{is_built};
-ghost use Rattle.fedi_town.specs.Collections.{items};
+ghost use Rattle.fedi_town.specs.declared.caller.Which.{Which};
+ghost use Rattle.fedi_town.specs.Collections.{items, owner_of};
 ghost use Rattle.fedi_town.specs.Histories.{town};
+ghost use Rattle.fedi_town.specs.Legal.{is_admissible};
 
 use arrayvec::ArrayVec;
 use fedi_address::Iri;
-use fedi_effects::Facts;
+use fedi_effects::{Facts, Steps};
 use fedi_objects::Entry;
 use fedi_town::{Caller, Which};
 use std::alloc::{AllocError, Global};
+use std::sync::ledger::Ledger;
 
 /// How many items a page of a collection has at most (ActivityStreams 2.0 Core, section 5.2).
 pub const PAGE: usize = 20;
@@ -26,6 +30,34 @@ pub struct VisiblePage {
     pub places: ArrayVec<usize, 20>,
 }
 
+impl VisiblePage {
+    /// A page without items, of a collection without items.
+    pub fn empty() -> VisiblePage
+        ensures total { result.total ≡ 0 }
+        ensures places { result.places.items ≡ [] }
+    {
+        VisiblePage {
+            total: 0,
+            places: ArrayVec::new(),
+        }
+    }
+
+    /// Counts the item at this place, which comes after those that were counted, and keeps the place if it
+    /// stands on the page of this number.
+    pub fn add(&mut self, number: u64, place: usize)
+        requires total { self.old.total < 2 ^ 63 }
+        requires room { self.old.total / 20 ≡ number → array_vec_len self.old.places < 20 }
+        ensures total { self.new.total ≡ self.old.total + 1 }
+        ensures places { self.new.places.items ≡ (if nat_eq (self.old.total / 20) number
+            then self.old.places.items ++ place ∷ [] else self.old.places.items) }
+    {
+        if self.total / PAGE as u64 == number {
+            self.places.push(place);
+        }
+        self.total += 1;
+    }
+}
+
 /// What stands for a history: its facts, and the collections of those whom it made (ActivityPub, section
 /// 5). The items of a collection are those that its reader sees, the first of each, in the order of
 /// acceptance; an item is told by its place among the activities of the facts. The owner of a collection
@@ -34,14 +66,18 @@ pub trait Shelf {
     /// The history that is held, the town that it has made, and the entry that room was made for.
     ghost holding: { Self → Holding };
 
+    /// The most steps that a page of the owner's collection takes: how often an activity is read.
+    ghost page_cost: { Self → Which → List ℕ → ℕ };
+
     /// The facts of the history.
     fn facts(&self) -> &Facts
         ensures { result.now ≡ holding self.now };
 
-    /// Makes room for an entry, with all that it adds. After an error, out of memory, there is room for
-    /// none, and all else is as before.
+    /// Makes room for an entry that may come next, with all that it adds. After an error, out of memory,
+    /// there is room for none, and all else is as before.
     fn reserve(&mut self, alloc: Global, entry: &Entry) -> Result<(), AllocError>
-        requires { IsTrue (is_built entry.now) }
+        requires built { IsTrue (is_built entry.now) }
+        requires admissible { IsTrue (is_admissible (holding self.old).town entry.now) }
         ensures ok { OnOk result
             (holding self.new ≡ record (holding self.old) { room = Some entry.now }) }
         ensures err { OnErr result (holding self.new ≡ record (holding self.old) { room = None }) };
@@ -55,24 +91,21 @@ pub trait Shelf {
           room = None;
         } };
 
-    /// How many items the reader sees in the owner's collection. It takes no memory.
-    fn visible_count(&self, caller: &Caller, which: &Which, owner: &Iri) -> u64
-        ensures { result
-            ≡ length (items (holding self.now).town caller.now which.now owner.now) };
-
-    /// The place of the item of this number, counted from the oldest, from 0, or none if there are not so
-    /// many. It takes no memory.
-    fn visible_at(&self, caller: &Caller, which: &Which, owner: &Iri, number: u64) -> Option<usize>
-        ensures item { option_and_then (slice_get (holding self.now).town.acts) result
-            ≡ slice_get (items (holding self.now).town caller.now which.now owner.now) number }
-        ensures some { is_some result ≡ nat_lt number
-            (length (items (holding self.now).town caller.now which.now owner.now)) };
-
-    /// The items of a page of the owner's collection, in one go. It takes no memory.
-    fn visible_page(&self, caller: &Caller, which: &Which, owner: &Iri, number: u64) -> VisiblePage
+    /// How many items the reader sees in the owner's collection, and those on the page of this number: page
+    /// 0 has the oldest. It takes no memory, and counts the activities that it reads.
+    fn visible_page<L: Ledger>(
+        &self,
+        caller: &Caller,
+        which: &Which,
+        owner: &Iri,
+        number: u64,
+        steps: &mut Steps<L>,
+    ) -> VisiblePage
+        requires owner { owner_of (holding self.now).town which.now ≡ Some owner.now }
         ensures total { result.total
             ≡ length (items (holding self.now).town caller.now which.now owner.now) }
         ensures places { map (slice_get (holding self.now).town.acts) result.places.items
             ≡ map Some (take 20 (drop (20 * number)
-            (items (holding self.now).town caller.now which.now owner.now))) };
+            (items (holding self.now).town caller.now which.now owner.now))) }
+        ensures cost { steps.new ≤ steps.old + page_cost self.now which.now owner.now };
 }

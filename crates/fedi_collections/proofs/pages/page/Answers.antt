@@ -7,4 +7,4 @@ returns-clause-text g c =
     page_found (g.S.Shelf.holding c.args.shelf.now).town c.facts.result.now.town c.args.caller.now c.args.which.now c.args.owner.now c.args.number
     c.visible_page-page.result.total c.visible_page-page.result.places.items _ (ap (λ h. h.town) c.facts.ensures)
     c.visible_page-page.ensures.total (subst (λ top. c.args.number ≤ top) c.highest_page.ensures c.if-number-highest_page.false)
-    c.visible_page-page.ensures.places c.in_ok-text.ensures
+    c.visible_page-page.ensures.places c.in_ok-text.ensures.text

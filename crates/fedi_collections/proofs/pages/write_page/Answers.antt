@@ -8,8 +8,8 @@ use Rattle.fedi_objects.proofs.Additions.{then}
 use Rattle.fedi_objects.specs.Writing.{Adds}
 use Rattle.fedi_collections.proofs.pages.write_page.Goals as goal
 
-pub returns : goal.returns
-returns c =
+pub returns-clause-written : goal.returns-clause-written
+returns-clause-written g c =
     let id = c.args.address.now in
     let k = c.args.number in
     let t = c.args.facts.now.town in
@@ -18,6 +18,6 @@ returns c =
     (λ ended xs same. let ds = map (item_form t c.args.which.now) (reverse xs) in
     subst (λ ts. Adds ts c.args.out.now c.end_page.new.out) (page_parts id k total ds)
     (then c.in_ok-begin_page.ensures.written
-    (then (c.in_ok-write_items.ensures xs (ap (map (slice_get t.acts)) c.as_slice.ensures.value ∙ same))
+    (then (c.in_ok-write_items.ensures.written xs (ap (map (slice_get t.acts)) c.as_slice.ensures.value ∙ same))
     (added_as (λ i. page_end i k total) _ id c.in_ok-begin_page.ensures.same ended))))
     c.end_page.ensures

@@ -1,7 +1,7 @@
 use Rattle.std.proofs.Common.{ap, ◌∙◌}
 use Rattle.std.specs.Prelude.{is_some}
 use Rattle.fedi_town.specs.Objects.{makes}
-use Rattle.fedi_effects.proofs.Found.{some_copied, some_found}
+use Rattle.fedi_register.proofs.Found.{some_copied, some_found}
 use Rattle.fedi_effects.proofs.states.is_made.Goals as goal
 
 pub returns : goal.returns

@@ -1,5 +1,6 @@
 use Rattle.std.proofs.Common.{length, inl, refl}
 use Rattle.fedi_startup.specs.declared.faults.StoreFault.TheVariants as faults
+use Rattle.fedi_program.proofs.RunLemmas.{has_causes}
 use Rattle.fedi_program.proofs.StoreLemmas.{given_up, serves}
 use Rattle.fedi_program.proofs.running.inetd.Goals as goal
 
@@ -27,3 +28,6 @@ returns-in-Err-new-clause-session g c =
       refl,
       refl,
     )
+
+pub returns-in-Ok-new-clause-causes : goal.returns-in-Ok-new-clause-causes
+returns-in-Ok-new-clause-causes g c = has_causes _ _ c.session-end.result _ c.status_of.ensures c.session-end.ensures.causes

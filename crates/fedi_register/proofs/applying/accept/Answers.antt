@@ -12,7 +12,7 @@ loop-place-init c = editing _ _ _ _ _ _ c.requires
 pub loop-place-preserved : goal.loop-place-preserved
 loop-place-preserved c =
     let id = c.args.follow.now in
-    editing_on (is_pending_follow id) (in_state Accepted) has_own_id own_mark _ _ _ _ c.in-Some.place (accept_ends id) (ids_steady Accepted) c.loop-place.invariant c.in-Some.ensures
+    editing_on (is_pending_follow id) (in_state Accepted) has_own_id (own_mark c.args.seed.now) _ _ _ _ c.in-Some.place (accept_ends id) (ids_steady c.args.seed.now Accepted) c.loop-place.invariant c.in-Some.ensures
     c.set_state_at.ensures
 
 pub loop-place-smaller : goal.loop-place-smaller
@@ -23,4 +23,4 @@ pub returns : goal.returns
 unfolding accept_one
 returns c =
     let id = c.args.follow.now in
-    editing_over (is_pending_follow id) (in_state Accepted) has_own_id own_mark _ _ _ c.loop-place.invariant (rw (← c.pending_follow.ensures, c.in_default.is) refl)
+    editing_over (is_pending_follow id) (in_state Accepted) has_own_id (own_mark c.args.seed.now) _ _ _ c.loop-place.invariant (rw (← c.pending_follow.ensures, c.in_default.is) refl)

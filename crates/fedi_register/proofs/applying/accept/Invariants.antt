@@ -7,7 +7,7 @@ use Rattle.fedi_register.proofs.Edited.{IsEditing}
 use Rattle.fedi_register.proofs.applying.accept.Given as goal
 
 abbrev pub invariant-loop-place : goal.invariant-loop-place
-invariant-loop-place l = IsEditing (is_pending_follow l.follow) (in_state Accepted) has_own_id own_mark l.ids.marks l.fn.acts l.acts
+invariant-loop-place l = IsEditing (is_pending_follow l.follow) (in_state Accepted) has_own_id (own_mark l.seed) l.ids.marks l.fn.acts l.acts
 
 abbrev pub decreases-loop-place : goal.decreases-loop-place
 decreases-loop-place l = length (filter (is_pending_follow l.follow) l.acts)

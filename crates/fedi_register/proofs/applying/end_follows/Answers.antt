@@ -13,7 +13,7 @@ loop-place-preserved c =
     let a = c.args.follower.now in
     let b = c.args.followee.now in
     let s = c.args.state in
-    editing_on (is_unended a b s) (in_state s) relates relation_mark _ _ _ _ c.in-Some.place (follows_end a b s) (relations_steady s) c.loop-place.invariant c.in-Some.ensures
+    editing_on (is_unended a b s) (in_state s) relates (relation_mark c.args.seed.now) _ _ _ _ c.in-Some.place (follows_end a b s) (relations_steady c.args.seed.now s) c.loop-place.invariant c.in-Some.ensures
     c.set_state_at.ensures
 
 pub loop-place-smaller : goal.loop-place-smaller
@@ -28,7 +28,7 @@ returns-clause-acts c =
     let a = c.args.follower.now in
     let b = c.args.followee.now in
     let s = c.args.state in
-    editing_over (is_unended a b s) (in_state s) relates relation_mark _ _ _ c.loop-place.invariant (rw (← c.unended_follow.ensures, c.in_default.is) refl)
+    editing_over (is_unended a b s) (in_state s) relates (relation_mark c.args.seed.now) _ _ _ c.loop-place.invariant (rw (← c.unended_follow.ensures, c.in_default.is) refl)
     ∙ all_ended a b s c.args.acts.now
 
 pub returns-clause-marks : goal.returns-clause-marks

@@ -8,4 +8,4 @@ use Rattle.fedi_register.proofs.applying.place_of.Goals as goal
 pub returns : goal.returns
 returns c =
     let id = c.args.object.now in
-    placed is_making (makes id) object_mark _ _ _ _ _ _ (c.place_of.ensures (makes id) (search rules)) refl c.mark_of_iri.ensures c.requires (made_marked id)
+    placed is_making (makes id) (object_mark c.args.seed.now) _ _ _ _ _ _ (c.place_of.ensures (makes id) (search rules)) refl c.mark_of_iri.ensures c.requires (made_marked c.args.seed.now id)

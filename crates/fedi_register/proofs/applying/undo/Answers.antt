@@ -12,7 +12,7 @@ loop-place-init c = editing _ _ _ _ _ _ c.requires
 pub loop-place-preserved : goal.loop-place-preserved
 loop-place-preserved c =
     let id = c.args.activity.now in
-    editing_on (is_standing_activity id) (in_state Undone) has_own_id own_mark _ _ _ _ c.in-Some.place (undo_ends id) (ids_steady Undone) c.loop-place.invariant c.in-Some.ensures
+    editing_on (is_standing_activity id) (in_state Undone) has_own_id (own_mark c.args.seed.now) _ _ _ _ c.in-Some.place (undo_ends id) (ids_steady c.args.seed.now Undone) c.loop-place.invariant c.in-Some.ensures
     c.set_state_at.ensures
 
 pub loop-place-smaller : goal.loop-place-smaller
@@ -23,4 +23,4 @@ pub returns : goal.returns
 unfolding undo_one
 returns c =
     let id = c.args.activity.now in
-    editing_over (is_standing_activity id) (in_state Undone) has_own_id own_mark _ _ _ c.loop-place.invariant (rw (← c.standing_activity.ensures, c.in_default.is) refl)
+    editing_over (is_standing_activity id) (in_state Undone) has_own_id (own_mark c.args.seed.now) _ _ _ c.loop-place.invariant (rw (← c.standing_activity.ensures, c.in_default.is) refl)

@@ -1,9 +1,14 @@
-use Rattle.std.proofs.Common.{ap, subst, sym}
+use Rattle.std.proofs.Common.{◌≡◌, ap, subst, sym, true}
 use Rattle.fedi_town.specs.Histories.{town}
-use Rattle.fedi_town.specs.Legal.{IsLegal}
+use Rattle.fedi_town.specs.Legal.{IsLegal, is_admissible}
 use Rattle.fedi_core.specs.Keeping.{MayAdd}
 use Rattle.fedi_core.proofs.Growing.{posts_hidden, stays}
 use Rattle.fedi_core.proofs.machine.Core.keep.Goals as goal
+
+pub store_entry-requires-clause-admissible : goal.store_entry-requires-clause-admissible
+store_entry-requires-clause-admissible g c =
+    let may = subst (λ m. MayAdd (town m.history) c.args.entry) (sym c.self.view_is) c.requires in
+    subst (λ t. is_admissible t c.args.entry ≡ true) (sym c.self.invariant.made) may.admissible
 
 pub invariant_of-self : goal.invariant_of-self
 invariant_of-self g c =

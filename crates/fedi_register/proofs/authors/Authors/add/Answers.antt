@@ -15,7 +15,7 @@ pub invariant_of-self-2 : goal.invariant_of-self-2
 unfolding author_mark
 invariant_of-self-2 c =
     rw c.in_ok-push.ensures.items
-    (marks_pushed every author_mark c.self.inside.list.items _ _ _ c.len-place.result c.mark_of_iri-mark.result true (c.len-place.ensures ∙ c.self.inside.list.ok.0) refl
+    (marks_pushed every (author_mark c.self.inside.seed) c.self.inside.list.items _ _ _ c.len-place.result c.mark_of_iri-mark.result true (c.len-place.ensures ∙ c.self.inside.list.ok.0) refl
     c.mark_of_iri-mark.ensures (c.reserve.ensures.marks ∙ c.self.invariant) (ap (λ m. m.marks) c.push-2.ensures))
 
 pub returns-clause-known : goal.returns-clause-known

@@ -20,7 +20,7 @@ unreachable-requires c = not_known c.args.id.now c.args.self.now c.in-None.ensur
 pub invariant_of-self : goal.invariant_of-self
 invariant_of-self c =
     c.self.invariant
-    ∙ sym (marks_stay c.self.inside.list.items c.in-Some.place _ _ (c.count_more.ensures ∙ ap (λ (a : Author). one_more a) c.index_mut.ensures.value))
+    ∙ sym (marks_stay c.self.inside.seed c.self.inside.list.items c.in-Some.place _ _ (c.count_more.ensures ∙ ap (λ (a : Author). one_more a) c.index_mut.ensures.value))
 
 pub returns-clause-known : goal.returns-clause-known
 returns-clause-known c =

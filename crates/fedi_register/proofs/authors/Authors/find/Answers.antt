@@ -9,4 +9,4 @@ pub returns : goal.returns
 returns c =
     let id = c.args.id.now in
     rw (← c.self.view_is)
-    (found every (is_author id) author_mark _ _ _ _ _ _ (c.first_of.ensures (is_author id) (search rules)) c.deref.ensures.value c.mark_of_iri.ensures c.self.invariant (author_marked id))
+    (found every (is_author id) (author_mark c.self.inside.seed) _ _ _ _ _ _ (c.first_of.ensures (is_author id) (search rules)) c.deref.ensures.value c.mark_of_iri.ensures c.self.invariant (author_marked c.self.inside.seed id))

@@ -7,6 +7,7 @@ use Rattle.fedi_register.proofs.register.Register.maker.Goals as goal
 
 pub returns : goal.returns
 returns c =
+    let seed = c.self.inside.seed in
     let id = c.args.id.now in
     rw (← c.self.view_is)
-    (found is_making (makes id) object_mark _ _ _ _ _ _ (c.first_of.ensures (makes id) (search rules)) c.deref.ensures.value c.mark_of_iri.ensures c.self.invariant.0.object (made_marked id))
+    (found is_making (makes id) (object_mark seed) _ _ _ _ _ _ (c.first_of.ensures (makes id) (search rules)) c.deref.ensures.value c.mark_of_iri.ensures c.self.invariant.0.object (made_marked seed id))

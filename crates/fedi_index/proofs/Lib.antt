@@ -1,0 +1,10 @@
+mod Added
+mod Again
+mod Found
+mod Listed
+mod NextEntry
+mod Owners
+mod Positions
+mod Rooms
+mod SameKind
+mod Shelved

@@ -1,0 +1,141 @@
+-- The lists of candidates after one more entry.
+use Rattle.std.proofs.Common.{◌≡◌, ℕ, ◌+◌, Bool, true, false, List, [], ◌∷◌, ◌++◌, Option, Some, None, length, refl, sym, ap, subst, ◌∙◌}
+use Rattle.std.specs.Prelude.{is_none, map, option_to_list, if◌then◌else◌}
+use Rattle.std.specs.List.{fold}
+use Rattle.std.proofs.lemmas.Bool.{and_parts}
+use Rattle.std.proofs.lemmas.List.{append-nil, length-map}
+use Rattle.fedi_address.specs.Hosts.{is_host_text}
+use Rattle.fedi_index.specs.declared.collection.Collection.{Collection}
+use Rattle.fedi_index.specs.declared.collection.Collection.TheVariants as kinds
+use Rattle.fedi_index.specs.Candidates.{belongs, places_from}
+use Rattle.fedi_index.specs.Growing.{AreCandidates, is_kept}
+use Rattle.fedi_index.specs.Lists.{Listing}
+use Rattle.fedi_index.proofs.Positions.{places-mapped, places-more}
+use Rattle.fedi_effects.specs.Additions.{acts_in}
+use Rattle.fedi_laws.proofs.Due.{affected_on}
+use Rattle.fedi_laws.proofs.IdsTown.{HasIds, step_by}
+use Rattle.fedi_laws.proofs.Sound.{IsHosted, not_hosted, step_sound}
+use Rattle.fedi_objects.specs.declared.activity.Activity.{Activity}
+use Rattle.fedi_objects.specs.declared.entry.Entry.{Entry}
+use Rattle.fedi_objects.specs.declared.entry.Entry.TheVariants.{Hosted, Made, PeerSet, Local, Remote, Tried}
+use Rattle.fedi_objects.specs.declared.kind.State.{State}
+use Rattle.fedi_objects.specs.declared.kind.State.TheVariants.{Accepted, Undone}
+use Rattle.fedi_town.specs.Activities.{local_act}
+use Rattle.fedi_town.specs.declared.act.Act.{Act}
+use Rattle.fedi_town.specs.declared.effect.Effect.{Effect}
+use Rattle.fedi_town.specs.declared.effect.Effect.TheVariants as effects
+use Rattle.fedi_town.specs.Built.{is_built}
+use Rattle.fedi_town.specs.Effects.{affect, answer_to, effect_of, end_follow, in_state, is_pending_follow, is_standing_activity, where_passes}
+use Rattle.fedi_town.specs.Histories.{addition_of, member_addition, post_addition, step, town, with_addition}
+use Rattle.fedi_town.specs.Legal.{broken_command, is_admissible, is_legal_from, IsLegal}
+use Rattle.fedi_town.specs.Objects.{makes, rewrite_act, tombstone_of, update_object}
+use Rattle.fedi_town.specs.Relations.{is_about, is_open_follow}
+use Rattle.fedi_town.specs.Towns.{Town, empty_town, is_by}
+use Rattle.fedi_town.proofs.Kept.{IsKept, changed-kept}
+
+-- ---- what becomes of an activity leaves it in its lists
+
+where-sent : (p : Act → Bool) (f : Act → Act) (y : Act) → (f y).recipients ≡ y.recipients → (where_passes p f y).recipients ≡ y.recipients
+where-sent p f y same = elim (p y) as (λ b. (if b then f y else y).recipients ≡ y.recipients) [ true ↦ same | false ↦ refl ]
+
+ended-sent : (a b : List ℕ) (s : State) (y : Act) → (end_follow a b s y).recipients ≡ y.recipients
+unfolding end_follow
+ended-sent a b s y = where-sent (is_open_follow a b) (in_state s) y refl
+
+-- it goes to the same
+affected-sent : (e : Effect) (y : Act) → (affect e y).recipients ≡ y.recipients
+unfolding rewrite_act
+affected-sent effects.Nothing y = refl
+affected-sent (effects.Update id by stamp) y = where-sent (makes id) (rewrite_act (update_object by stamp)) y refl
+affected-sent (effects.Delete id kind stamp) y = where-sent (makes id) (rewrite_act (tombstone_of kind stamp)) y refl
+affected-sent (effects.Accept id) y = where-sent (is_pending_follow id) (in_state Accepted) y refl
+affected-sent (effects.EndFollows a b s) y = ended-sent a b s y
+affected-sent (effects.EndBoth a b) y = ended-sent a b Undone (end_follow b a Undone y) ∙ ended-sent b a Undone y
+affected-sent (effects.Undo id) y = where-sent (is_standing_activity id) (in_state Undone) y refl
+
+belongs-kept : (k : Collection) (o : List ℕ) (y z : Act) → IsKept y z → z.author ≡ y.author → z.recipients ≡ y.recipients → belongs k o z ≡ belongs k o y
+unfolding belongs is_by is_about
+belongs-kept kinds.Inbox o y z same author to = rw to refl
+belongs-kept kinds.Outbox o y z same author to = rw author refl
+belongs-kept kinds.Followers o y z same author to = rw (same.kind, same.about) refl
+belongs-kept kinds.Following o y z same author to = rw (same.kind, author) refl
+belongs-kept kinds.Liked o y z same author to = rw (same.kind, author) refl
+belongs-kept kinds.Likes o y z same author to = rw (same.kind, same.about) refl
+belongs-kept kinds.Shares o y z same author to = rw (same.kind, same.about) refl
+
+kept-after : (t : Town) (x : Act) (host : Option (List ℕ)) (k : Collection) (o : List ℕ) (y : Act) → is_kept host k o (affect (effect_of t x) y) ≡ is_kept host k o y
+unfolding is_kept
+kept-after t x host k o y = rw (belongs-kept k o y (affect (effect_of t x) y) (changed-kept t x y) (affected_on (effect_of t x) y).author (affected-sent (effect_of t x) y)) refl
+
+-- ---- one more entry
+
+-- an activity that was added to the lists, and did to those before it what it does
+accepted : (t : Town) (x : Act) (host : Option (List ℕ)) (lists : List Listing) → AreCandidates host (t.acts ++ x ∷ option_to_list (answer_to t x)) lists
+    → AreCandidates host (map (affect (effect_of t x)) t.acts ++ x ∷ option_to_list (answer_to t x)) lists
+accepted t x host lists are = record {
+  places = λ k o.
+      let own : Act → Bool = is_kept host k o in
+      let new : List Act = x ∷ option_to_list (answer_to t x) in
+      let f : Act → Act = affect (effect_of t x) in
+      are.places k o ∙ places-more own 0 t.acts new
+      ∙ ap (λ (ps : List ℕ). ps ++ places_from own (0 + length t.acts) new) (sym (places-mapped own f (kept-after t x host k o) 0 t.acts))
+      ∙ ap (λ (n : ℕ). places_from own 0 (map f t.acts) ++ places_from own (0 + n) new) (sym (length-map t.acts f))
+      ∙ sym (places-more own 0 (map f t.acts) new);
+}
+
+none_new : (host : Option (List ℕ)) (acts : List Act) (lists : List Listing) → AreCandidates host (acts ++ []) lists → AreCandidates host acts lists
+none_new host acts lists are = subst (λ (xs : List Act). AreCandidates host xs lists) (append-nil acts) are
+
+made : (t : Town) (host : Option (List ℕ)) (name digest : List ℕ) (locked : Bool) (lists : List Listing)
+    → AreCandidates t.host (t.acts ++ acts_in (member_addition host name digest locked)) lists
+    → AreCandidates (with_addition t (member_addition host name digest locked)).host (with_addition t (member_addition host name digest locked)).acts lists
+made t None name digest locked lists are = none_new t.host t.acts lists are
+made t (Some host) name digest locked lists are = none_new t.host t.acts lists are
+
+posted : (t : Town) (host : Option (List ℕ)) (name : List ℕ) (repeat : Option (List ℕ × List ℕ)) (a : Activity) (moment : ℕ) (lists : List Listing)
+    → AreCandidates t.host (t.acts ++ acts_in (post_addition host t name repeat a moment)) lists
+    → AreCandidates (with_addition t (post_addition host t name repeat a moment)).host (with_addition t (post_addition host t name repeat a moment)).acts lists
+posted t None name repeat a moment lists are = none_new t.host t.acts lists are
+posted t (Some host) name repeat a moment lists are = accepted t (local_act t host name repeat a moment) t.host lists are
+
+-- before the server is set up there are no activities
+hosted : (host : Option (List ℕ)) (own : List ℕ) (acts : List Act) (lists : List Listing) → is_none host ≡ true → HasIds host acts → AreCandidates host (acts ++ []) lists
+    → AreCandidates (Some own) acts lists
+hosted None own acts lists unset none are =
+    let no : AreCandidates None [] lists = rw none at are in
+    rw none (record { places = no.places })
+hosted (Some host) own acts lists unset ids are = absurd cc
+
+-- the lists to which all was added that the entry brings are those of the town after it
+pub candidates_after : (t : Town) (e : Entry) (lists : List Listing) → is_built e ≡ true → is_admissible t e ≡ true → HasIds t.host t.acts
+    → AreCandidates t.host (t.acts ++ acts_in (addition_of t e)) lists → AreCandidates (step t e).host (step t e).acts lists
+candidates_after t (Hosted host moment) lists built ok ids are =
+    hosted t.host host t.acts lists (not_hosted t host moment (and_parts (is_none (broken_command t (Hosted host moment))) (is_host_text host) ok).0) ids are
+candidates_after t (Made name digest locked moment) lists built ok ids are = made t t.host name digest locked lists are
+candidates_after t (PeerSet host key address relay moment) lists built ok ids are = absurd cc
+candidates_after t (Local name repeat a moment) lists built ok ids are = posted t t.host name repeat a moment lists are
+candidates_after t (Remote peer inbox a moment) lists built ok ids are = absurd cc
+candidates_after t (Tried activity recipient came moment) lists built ok ids are = absurd cc
+
+-- ---- legal histories
+
+legal_from : (history : List Entry) (t : Town) (e : Entry) → is_legal_from t history ≡ true → is_admissible (fold step t history) e ≡ true → is_legal_from t (history ++ e ∷ []) ≡ true
+legal_from [] t e legal ok = rw ok refl
+legal_from (d ∷ history) t e legal ok =
+    let parts = and_parts (is_admissible t d) (is_legal_from (step t d) history) legal in
+    rw (parts.0, legal_from history (step t d) e parts.1 ok) refl
+
+-- after an entry that may come next the history is legal
+pub legal_after : (history : List Entry) (t : Town) (e : Entry) → t ≡ town history → IsLegal history → is_admissible t e ≡ true → IsLegal (history ++ e ∷ [])
+legal_after history t e is legal ok = record { admissible = legal_from history empty_town e legal.admissible (rw is at ok) }
+
+-- in a legal history there are no activities before the server is set up
+ids_from : (history : List Entry) (t : Town) → IsHosted t → HasIds t.host t.acts → is_legal_from t history ≡ true → HasIds (fold step t history).host (fold step t history).acts
+ids_from [] t sound ids legal = ids
+ids_from (e ∷ history) t sound ids legal =
+    let parts = and_parts (is_admissible t e) (is_legal_from (step t e) history) legal in
+    ids_from history (step t e) (step_sound t e parts.0 sound) (step_by t t.host e refl sound parts.0 ids) parts.1
+
+pub ids_of_town : (history : List Entry) → IsLegal history → HasIds (town history).host (town history).acts
+ids_of_town history legal =
+    ids_from history empty_town (record { sound = record { members = refl; peers = refl }; host = refl }) refl legal.admissible

@@ -1,0 +1,52 @@
+-- The candidates of a collection: the activities that match its rule, whatever their state and whoever sees them.
+use Rattle.std.specs.Prelude.{ℕ, suc, Bool, true, false, ◌&&◌, List, [], ◌∷◌, if◌then◌else◌}
+use Rattle.fedi_address.specs.Recipients.{is_among}
+use Rattle.fedi_index.specs.declared.collection.Collection.{Collection}
+use Rattle.fedi_index.specs.declared.collection.Collection.TheVariants as kinds
+use Rattle.fedi_town.specs.declared.act.Act.{Act}
+use Rattle.fedi_town.specs.declared.caller.Which.{Which}
+use Rattle.fedi_town.specs.declared.caller.Which.TheVariants.{Inbox, Outbox, Followers, Following, Liked, Likes, Shares}
+use Rattle.fedi_town.specs.Deeds.{is_announce, is_follow, is_like}
+use Rattle.fedi_town.specs.Relations.{is_about}
+use Rattle.fedi_town.specs.Towns.{deed, is_by}
+
+-- the kind of a collection
+abbrev pub collection_of : Which → Collection
+collection_of (Inbox name) = kinds.Inbox
+collection_of (Outbox name) = kinds.Outbox
+collection_of (Followers name) = kinds.Followers
+collection_of (Following name) = kinds.Following
+collection_of (Liked name) = kinds.Liked
+collection_of (Likes name number) = kinds.Likes
+collection_of (Shares name number) = kinds.Shares
+
+-- the two are of one kind
+abbrev pub is_same : Collection → Collection → Bool
+is_same kinds.Inbox kinds.Inbox = true
+is_same kinds.Outbox kinds.Outbox = true
+is_same kinds.Followers kinds.Followers = true
+is_same kinds.Following kinds.Following = true
+is_same kinds.Liked kinds.Liked = true
+is_same kinds.Likes kinds.Likes = true
+is_same kinds.Shares kinds.Shares = true
+is_same _ _ = false
+
+-- The activity may stand in this collection of the owner: what the owner got or posted, the Follows of and by the owner, the
+-- Likes by the owner, and the Likes and Announces of the owner, in whatever state.
+unfoldable pub belongs : Collection → List ℕ → Act → Bool
+belongs kinds.Inbox id x = is_among id x.recipients
+belongs kinds.Outbox id x = is_by id x
+belongs kinds.Followers id x = is_follow (deed x) && is_about id x
+belongs kinds.Following id x = is_follow (deed x) && is_by id x
+belongs kinds.Liked id x = is_like (deed x) && is_by id x
+belongs kinds.Likes id x = is_like (deed x) && is_about id x
+belongs kinds.Shares id x = is_announce (deed x) && is_about id x
+
+-- the activity is a candidate of the owner's collection
+abbrev pub is_candidate : Which → List ℕ → Act → Bool
+is_candidate which id x = belongs (collection_of which) id x
+
+-- the positions of those that pass, where the first has this position
+abbrev pub places_from : (Act → Bool) → ℕ → List Act → List ℕ
+places_from p n [] = []
+places_from p n (x ∷ xs) = if p x then n ∷ places_from p (suc n) xs else places_from p (suc n) xs

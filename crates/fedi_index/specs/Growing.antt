@@ -1,0 +1,84 @@
+-- The lists in which an activity stands, and what becomes of them when it comes.
+use Rattle.std.specs.Prelude.{◌≡◌, ℕ, ◌+◌, ◌≤◌, Bool, true, false, not, ◌&&◌, nat_eq, List, [], ◌∷◌, ◌++◌, Option, Some, None, if◌then◌else◌}
+use Rattle.fedi_address.specs.Recipients.{is_among}
+use Rattle.fedi_index.specs.declared.collection.Collection.{Collection}
+use Rattle.fedi_index.specs.declared.collection.Collection.TheVariants as kinds
+use Rattle.fedi_index.specs.Candidates.{belongs, is_same, places_from}
+use Rattle.fedi_index.specs.Lists.{Listing, places_of, room_of}
+use Rattle.fedi_town.specs.declared.act.Act.{Act}
+use Rattle.fedi_town.specs.declared.deed.Deed.{Deed}
+use Rattle.fedi_town.specs.declared.deed.Deed.TheVariants.{Follow, Like, Announce}
+use Rattle.fedi_town.specs.Addressing.{is_of_town}
+use Rattle.fedi_town.specs.Relations.{is_id}
+
+-- the activity may stand in this collection of the owner, who is of this host
+unfoldable pub is_kept : Option (List ℕ) → Collection → List ℕ → Act → Bool
+is_kept host k o x = is_of_town host o && belongs k o x
+
+-- the lists are those of the candidates of all collections whose owners are of this host
+pub record AreCandidates (host : Option (List ℕ)) (acts : List Act) (lists : List Listing) : Type 0 where
+  pub places : (k : Collection) (o : List ℕ) → places_of k o lists ≡ places_from (is_kept host k o) 0 acts
+
+-- ---- which lists
+
+-- besides the outbox, the collection of its author in which an activity that does this may stand
+abbrev pub list_of_author : Deed → Option Collection
+list_of_author Follow = Some kinds.Following
+list_of_author Like = Some kinds.Liked
+list_of_author _ = None
+
+-- the collection of what it is about in which an activity that does this may stand
+abbrev pub list_of_object : Deed → Option Collection
+list_of_object Follow = Some kinds.Followers
+list_of_object Like = Some kinds.Likes
+list_of_object Announce = Some kinds.Shares
+list_of_object _ = None
+
+-- there is a kind, and it is this
+abbrev pub is_kind : Collection → Option Collection → Bool
+is_kind k None = false
+is_kind k (Some kind) = is_same kind k
+
+-- the list of this collection of the owner, where there are both, and the owner is of this host
+unfoldable pub is_one : Option (List ℕ) → Option Collection → Option (List ℕ) → Collection → List ℕ → Bool
+is_one host kind owner k o = is_of_town host o && (is_kind k kind && is_id o owner)
+
+-- the inbox of one of these, who is of this host
+unfoldable pub is_inbox : Option (List ℕ) → List (List ℕ) → Collection → List ℕ → Bool
+is_inbox host owners k o = is_of_town host o && (is_same kinds.Inbox k && is_among o owners)
+
+-- ---- one position more
+
+-- the list ends in this position
+abbrev pub ends_in : ℕ → List ℕ → Bool
+ends_in place [] = false
+ends_in place (p ∷ []) = nat_eq p place
+ends_in place (p ∷ q ∷ ps) = ends_in place (q ∷ ps)
+
+-- the position is to be added
+abbrev pub is_lacking : ℕ → List ℕ → Bool → Bool
+is_lacking place places listed = listed && not (ends_in place places)
+
+-- these lists have this position, if not already, and the others are as they were
+pub record AddsOnce (listed : Collection → List ℕ → Bool) (place : ℕ) (old new : List Listing) : Type 0 where
+  pub places : (k : Collection) (o : List ℕ) → places_of k o new ≡ places_of k o old ++ (if is_lacking place (places_of k o old) (listed k o) then place ∷ [] else [])
+  pub room : (k : Collection) (o : List ℕ) → room_of k o old ≤ room_of k o new + (if is_lacking place (places_of k o old) (listed k o) then 1 else 0)
+
+-- there is room for this position in these lists, unless they have it already
+pub record CanAdd (listed : Collection → List ℕ → Bool) (place : ℕ) (lists : List Listing) : Type 0 where
+  pub room : (k : Collection) (o : List ℕ) → is_lacking place (places_of k o lists) (listed k o) ≡ true → 1 ≤ room_of k o lists
+
+-- ---- room
+
+-- there is room for so many more in these lists
+pub record HasRoom (listed : Collection → List ℕ → Bool) (n : ℕ) (lists : List Listing) : Type 0 where
+  pub room : (k : Collection) (o : List ℕ) → listed k o ≡ true → n ≤ room_of k o lists
+
+-- there is room for so many more in each list in which one of these activities may stand
+abbrev pub HasRooms : Option (List ℕ) → ℕ → List Act → List Listing → Type 0
+HasRooms host n [] lists = Unit {0}
+HasRooms host n (x ∷ xs) lists = HasRoom (λ k o. is_kept host k o x) n lists × HasRooms host n xs lists
+
+-- each list has room for one less, at worst
+pub record UsesOne (old new : List Listing) : Type 0 where
+  pub room : (k : Collection) (o : List ℕ) → room_of k o old ≤ room_of k o new + 1

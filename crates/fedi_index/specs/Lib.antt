@@ -1,0 +1,4 @@
+pub mod Candidates
+pub mod Growing
+pub mod Lists
+pub mod Shelves

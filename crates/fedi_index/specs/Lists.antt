@@ -1,0 +1,120 @@
+-- Lists of positions, each of a collection and an owner.
+use Rattle.std.specs.Prelude.{◌≡◌, ℕ, zero, suc, ◌+◌, ◌-◌, ◌≤◌, Bool, ◌&&◌, List, [], ◌∷◌, ◌++◌, map, Option, None, Some, slice_get, vec_len, vec_capacity, if◌then◌else◌}
+use Rattle.std.specs.List.{find}
+use Rattle.std.specs.Str.{bytes_eq}
+use Rattle.fedi_index.specs.declared.collection.Collection.{Collection}
+use Rattle.fedi_index.specs.declared.lists.Lists.TheInside.{Inside}
+use Rattle.fedi_index.specs.declared.lists.Row.{Row}
+use Rattle.fedi_index.specs.Candidates.{is_same}
+use Rattle.fedi_register.specs.declared.seeds.Seed.{Seed}
+use Rattle.fedi_register.specs.Marks.{every, marks_from}
+use Rattle.fedi_register.specs.Seeds.{mark_of}
+
+-- a list of positions, of this collection of this owner, and how many more there is room for
+pub record Listing : Type 0 where
+  pub collection : Collection
+  pub owner : List ℕ
+  pub places : List ℕ
+  pub room : ℕ
+
+-- the list of this collection of this owner
+unfoldable pub is_list : Collection → List ℕ → Listing → Bool
+is_list kind owner l = is_same l.collection kind && bytes_eq l.owner owner
+
+-- the positions in the list that was found
+abbrev pub places_found : Option Listing → List ℕ
+places_found None = []
+places_found (Some l) = l.places
+
+-- and its room
+abbrev pub room_found : Option Listing → ℕ
+room_found None = 0
+room_found (Some l) = l.room
+
+-- the positions of this collection of this owner
+unfoldable pub places_of : Collection → List ℕ → List Listing → List ℕ
+places_of kind owner lists = places_found (find (is_list kind owner) lists)
+
+-- how many more there is room for
+unfoldable pub room_of : Collection → List ℕ → List Listing → ℕ
+room_of kind owner lists = room_found (find (is_list kind owner) lists)
+
+-- the second is the first's collection, and its owner
+abbrev pub is_same_list : Collection → List ℕ → Collection → List ℕ → Bool
+is_same_list k o kind owner = is_same kind k && bytes_eq owner o
+
+-- ---- what a call does to the lists
+
+-- no list has other positions, and none has less room
+pub record IsRoomier (old new : List Listing) : Type 0 where
+  pub same : (k : Collection) (o : List ℕ) → places_of k o new ≡ places_of k o old
+  pub room : (k : Collection) (o : List ℕ) → room_of k o old ≤ room_of k o new
+
+-- this one list has one position more, and room for one less
+pub record HasOneMore (kind : Collection) (owner : List ℕ) (place : ℕ) (old new : List Listing) : Type 0 where
+  pub places : (k : Collection) (o : List ℕ) → places_of k o new ≡ places_of k o old ++ (if is_same_list k o kind owner then place ∷ [] else [])
+  pub room : (k : Collection) (o : List ℕ) → room_of k o old ≤ room_of k o new + (if is_same_list k o kind owner then 1 else 0)
+
+-- ---- where they are
+
+-- the number by which a list is looked up
+unfoldable pub list_mark : Seed → Listing → ℕ
+list_mark seed l = mark_of seed l.owner
+
+-- the place of the first that passes, where the first has this place
+abbrev pub first_from : (Listing → Bool) → ℕ → List Listing → Option ℕ
+first_from p n [] = None
+first_from p n (l ∷ ls) = if p l then Some n else first_from p (suc n) ls
+
+-- the list at the place that was found
+abbrev pub list_found : List Listing → Option ℕ → Option Listing
+list_found lists None = None
+list_found lists (Some place) = slice_get lists place
+
+-- the list with one position more
+abbrev pub pushed : ℕ → Listing → Listing
+pushed place l = record l { places = l.places ++ place ∷ []; room = l.room - 1 }
+
+-- the lists, of which the one at this place has one position more
+abbrev pub pushed_at : ℕ → ℕ → List Listing → List Listing
+pushed_at at place [] = []
+pushed_at zero place (l ∷ ls) = pushed place l ∷ ls
+pushed_at (suc n) place (l ∷ ls) = l ∷ pushed_at n place ls
+
+-- each list is the same, and has no less room
+abbrev pub AreRoomier : List Listing → List Listing → Type 0
+AreRoomier [] [] = Unit {0}
+AreRoomier [] (y ∷ ys) = ⊥
+AreRoomier (x ∷ xs) [] = ⊥
+AreRoomier (x ∷ xs) (y ∷ ys) =
+    (x.collection ≡ y.collection) × (x.owner ≡ y.owner) × (x.places ≡ y.places) × (x.room ≤ y.room) × AreRoomier xs ys
+
+-- a list without positions and room
+abbrev pub new_list : Collection → List ℕ → Listing
+new_list kind owner = record { collection = kind; owner = owner; places = []; room = 0 }
+
+-- ---- the rows
+
+-- the list of a row
+abbrev pub listing_in : Row → Listing
+listing_in r = record { collection = r.collection; owner = r.owner; places = r.places.items; room = vec_capacity r.places - vec_len r.places }
+
+-- the lists of the rows
+abbrev pub listings : List Row → List Listing
+listings rows = map listing_in rows
+
+-- the list of a row is this one
+unfoldable pub is_row : Collection → List ℕ → Row → Bool
+is_row kind owner r = is_list kind owner (listing_in r)
+
+-- the number by which a row is looked up
+unfoldable pub row_mark : Seed → Row → ℕ
+row_mark seed r = mark_of seed r.owner
+
+-- the lists, as those see them who look up
+abbrev pub lists_in : Inside → List Listing
+lists_in l = listings l.rows.items
+
+-- each list is looked up by its owner
+abbrev pub AreIndexed : Inside → Type 0
+AreIndexed l = l.index.marks ≡ marks_from every (list_mark l.seed) 0 (listings l.rows.items)

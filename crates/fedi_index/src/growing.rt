@@ -1,0 +1,291 @@
+//! The lists in which an activity stands: that of its author's outbox, those of the inboxes of its
+//! recipients, and where it is a Follow, a Like or an Announce those of its author and of what it is
+//! about. There are lists of owners of this host alone.
+
+ghost use Rattle.std.specs.Prelude.{◌≡◌, List, ◌+◌, ◌++◌, ◌<◌, ◌^◌, ◌&&◌, not, OnOk, Some, length, option_copied, option_to_list};
+ghost use Rattle.fedi_town.specs.declared.act.Act.{Act};
+ghost use Rattle.fedi_town.specs.Addressing.{is_of_town};
+ghost use Rattle.fedi_effects.specs.Holdings.{coming_in};
+ghost use Rattle.fedi_index.specs.Growing.{AddsOnce, AreCandidates, CanAdd, HasRoom, HasRooms, UsesOne, ends_in, is_inbox, is_kept, is_one, list_of_author, list_of_object};
+ghost use Rattle.fedi_index.specs.Lists.{IsRoomier, places_of};
+
+use crate::collection::Collection;
+use crate::lists::Lists;
+use fedi_address::Iri;
+use fedi_effects::{Facts, is_of_town};
+use fedi_kept::Kept;
+use fedi_town::Deed;
+use std::alloc::{AllocError, Global};
+
+// Besides the outbox, the collection of its author in which an activity that does this may stand.
+fn list_of_author(deed: Deed) -> Option<Collection>
+    ensures { result ≡ list_of_author deed }
+{
+    match deed {
+        Deed::Follow => Some(Collection::Following),
+        Deed::Like => Some(Collection::Liked),
+        _ => None,
+    }
+}
+
+// The collection of what it is about in which an activity that does this may stand.
+fn list_of_object(deed: Deed) -> Option<Collection>
+    ensures { result ≡ list_of_object deed }
+{
+    match deed {
+        Deed::Follow => Some(Collection::Followers),
+        Deed::Like => Some(Collection::Likes),
+        Deed::Announce => Some(Collection::Shares),
+        _ => None,
+    }
+}
+
+fn ends_in(place: usize, places: &[usize]) -> bool
+    ensures { result ≡ ends_in place places.now }
+{
+    match places.last() {
+        Some(last) => *last == place,
+        None => false,
+    }
+}
+
+// ---- room
+
+#[tactic(auto, using(crate::proofs::Found::roomier_itself, crate::proofs::Rooms::room_of_one, crate::proofs::Rooms::room_elsewhere))]
+fn reserve_one(
+    lists: &mut Lists,
+    alloc: Global,
+    facts: &Facts,
+    collection: Collection,
+    owner: &Iri,
+) -> Result<(), AllocError>
+    ensures roomier { IsRoomier lists.old lists.new }
+    ensures room { OnOk result (HasRoom
+        (is_one facts.now.town.host (Some collection) (Some owner.now)) 2 lists.new) }
+{
+    if is_of_town(facts, owner) {
+        lists.reserve(alloc, collection, owner, 2)?;
+    }
+    Ok(())
+}
+
+// Makes room in a list, where there are a collection and an owner.
+#[tactic(auto, using(crate::proofs::Found::roomier_itself, crate::proofs::Rooms::room_of_no_kind, crate::proofs::Rooms::room_of_no_owner))]
+fn reserve_some(
+    lists: &mut Lists,
+    alloc: Global,
+    facts: &Facts,
+    collection: Option<Collection>,
+    owner: Option<&Iri>,
+) -> Result<(), AllocError>
+    ensures roomier { IsRoomier lists.old lists.new }
+    ensures room { OnOk result (HasRoom
+        (is_one facts.now.town.host collection (option_copied owner.entry)) 2 lists.new) }
+{
+    match (collection, owner) {
+        (Some(collection), Some(owner)) => reserve_one(lists, alloc, facts, collection, owner),
+        _ => Ok(()),
+    }
+}
+
+fn reserve_inboxes(
+    lists: &mut Lists,
+    alloc: Global,
+    facts: &Facts,
+    recipients: &[Iri],
+) -> Result<(), AllocError>
+    ensures roomier { IsRoomier lists.old lists.new }
+    ensures room { OnOk result (HasRoom (is_inbox facts.now.town.host recipients.now) 2 lists.new) }
+{
+    for recipient in recipients {
+        reserve_one(lists, alloc, facts, Collection::Inbox, recipient)?;
+    }
+    Ok(())
+}
+
+// Makes room for two positions in each list in which the activity may stand. The error is out of memory.
+fn reserve_each(
+    lists: &mut Lists,
+    alloc: Global,
+    facts: &Facts,
+    act: &Kept,
+) -> Result<(), AllocError>
+    ensures roomier { IsRoomier lists.old lists.new }
+    ensures room { OnOk result
+        (HasRoom (λ k o. is_kept facts.now.town.host k o act.now) 2 lists.new) }
+{
+    let author = act.author();
+    reserve_one(lists, alloc, facts, Collection::Outbox, author)?;
+    reserve_some(
+        lists,
+        alloc,
+        facts,
+        list_of_author(act.deed()),
+        Some(author),
+    )?;
+    reserve_some(
+        lists,
+        alloc,
+        facts,
+        list_of_object(act.deed()),
+        act.object_id(),
+    )?;
+    reserve_inboxes(lists, alloc, facts, act.recipients())?;
+    Ok(())
+}
+
+// Likewise for an activity, if there is one.
+#[tactic(auto, using(crate::proofs::Found::roomier_itself))]
+fn reserve_for(
+    lists: &mut Lists,
+    alloc: Global,
+    facts: &Facts,
+    act: Option<&Kept>,
+) -> Result<(), AllocError>
+    ensures roomier { IsRoomier lists.old lists.new }
+    ensures room { OnOk result (HasRooms facts.now.town.host 2
+        (option_to_list (option_copied act.entry)) lists.new) }
+{
+    match act {
+        Some(act) => reserve_each(lists, alloc, facts, act),
+        None => Ok(()),
+    }
+}
+
+/// Makes room in each list for the activities that the entry for which the facts have room will add. The
+/// error is out of memory.
+pub(crate) fn reserve_coming(
+    lists: &mut Lists,
+    alloc: Global,
+    facts: &Facts,
+) -> Result<(), AllocError>
+    ensures roomier { IsRoomier lists.old lists.new }
+    ensures room { OnOk result (HasRooms facts.now.town.host 2 (coming_in facts.now) lists.new) }
+{
+    let (act, answer) = facts.coming();
+    reserve_for(lists, alloc, facts, act)?;
+    reserve_for(lists, alloc, facts, answer)?;
+    Ok(())
+}
+
+// ---- one position more
+
+// Whether the list is to get this position: its owner is of this host, and it does not end in it already.
+fn is_lacking(
+    lists: &Lists,
+    facts: &Facts,
+    collection: Collection,
+    owner: &Iri,
+    place: usize,
+) -> bool
+    ensures { result ≡ (is_of_town facts.now.town.host owner.now
+        && not (ends_in place (places_of collection owner.now lists.now))) }
+{
+    is_of_town(facts, owner) && !ends_in(place, lists.places(collection, owner))
+}
+
+#[tactic(auto, using(crate::proofs::Added::one_room, crate::proofs::Added::one_pushed, crate::proofs::Added::one_there))]
+fn add_one(lists: &mut Lists, facts: &Facts, collection: Collection, owner: &Iri, place: usize)
+    requires { CanAdd (is_one facts.now.town.host (Some collection) (Some owner.now))
+        place lists.old }
+    ensures { AddsOnce (is_one facts.now.town.host (Some collection) (Some owner.now))
+        place lists.old lists.new }
+{
+    if is_lacking(lists, facts, collection, owner, place) {
+        lists.push(collection, owner, place);
+    }
+}
+
+#[tactic(auto, using(crate::proofs::Added::no_kind_added, crate::proofs::Added::no_owner_added))]
+fn add_some(
+    lists: &mut Lists,
+    facts: &Facts,
+    collection: Option<Collection>,
+    owner: Option<&Iri>,
+    place: usize,
+)
+    requires { CanAdd (is_one facts.now.town.host collection (option_copied owner))
+        place lists.old }
+    ensures { AddsOnce (is_one facts.now.town.host collection (option_copied owner.entry))
+        place lists.old lists.new }
+{
+    match (collection, owner) {
+        (Some(collection), Some(owner)) => add_one(lists, facts, collection, owner, place),
+        _ => {}
+    }
+}
+
+fn add_to_inboxes(lists: &mut Lists, facts: &Facts, recipients: &[Iri], place: usize)
+    requires { CanAdd (is_inbox facts.now.town.host recipients.now) place lists.old }
+    ensures { AddsOnce (is_inbox facts.now.town.host recipients.now) place lists.old lists.new }
+{
+    for recipient in recipients {
+        add_one(lists, facts, Collection::Inbox, recipient, place);
+    }
+}
+
+// Adds the position of the activity to each list in which it may stand.
+fn add_to_each(lists: &mut Lists, facts: &Facts, act: &Kept, place: usize)
+    requires { CanAdd (λ k o. is_kept facts.now.town.host k o act.now) place lists.old }
+    ensures { AddsOnce (λ k o. is_kept facts.now.town.host k o act.now)
+        place lists.old lists.new }
+{
+    let author = act.author();
+    add_one(lists, facts, Collection::Outbox, author, place);
+    add_some(
+        lists,
+        facts,
+        list_of_author(act.deed()),
+        Some(author),
+        place,
+    );
+    add_some(
+        lists,
+        facts,
+        list_of_object(act.deed()),
+        act.object_id(),
+        place,
+    );
+    add_to_inboxes(lists, facts, act.recipients(), place);
+}
+
+// Adds the activity, if there is one, to each list in which it may stand. Its position is the next after
+// those of the activities before it.
+#[tactic(auto, using(crate::proofs::Positions::can_add, crate::proofs::Positions::none_added, crate::proofs::Positions::one_used, crate::proofs::Positions::none_used))]
+fn add_for(lists: &mut Lists, facts: &Facts, act: Option<&Kept>, place: usize)
+    requires { HasRooms facts.now.town.host 1 (option_to_list (option_copied act)) lists.old }
+    ensures added { (acts : List Act) → place ≡ length acts
+        → AreCandidates facts.now.town.host acts lists.old
+        → AreCandidates facts.now.town.host
+        (acts ++ option_to_list (option_copied act.entry)) lists.new }
+    ensures room { UsesOne lists.old lists.new }
+{
+    if let Some(act) = act {
+        add_to_each(lists, facts, act, place);
+    }
+}
+
+// The position after that of the activity, if there is one.
+fn place_after(place: usize, act: Option<&Kept>) -> usize
+    requires { place < 2 ^ 63 }
+    ensures { result ≡ place + length (option_to_list (option_copied act.entry)) }
+{
+    match act {
+        Some(_) => place + 1,
+        None => place,
+    }
+}
+
+/// Adds the activities to the lists that the entry will add for which the facts have room. It takes no
+/// memory.
+pub(crate) fn add_coming(lists: &mut Lists, facts: &Facts)
+    requires room { HasRooms facts.now.town.host 2 (coming_in facts.now) lists.old }
+    requires candidates { AreCandidates facts.now.town.host facts.now.town.acts lists.old }
+    ensures { AreCandidates facts.now.town.host
+        (facts.now.town.acts ++ coming_in facts.now) lists.new }
+{
+    let place = facts.activities();
+    let (act, answer) = facts.coming();
+    add_for(lists, facts, act, place);
+    add_for(lists, facts, answer, place_after(place, act));
+}

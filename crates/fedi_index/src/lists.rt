@@ -1,0 +1,206 @@
+//! Lists of positions, each of a collection and an owner.
+
+ghost use Rattle.std.specs.Prelude.{◌≡◌, ◌∷◌, ◌++◌, [], ◌+◌, ◌-◌, ◌<◌, ◌≤◌, IfOk, OnErr, OnOk, Some, length, map, option_copied, set, slice_get, vec_capacity, vec_len};
+ghost use Rattle.std.specs.List.{find};
+ghost use Rattle.fedi_register.specs.Changes.{place_where};
+ghost use Rattle.fedi_register.specs.Marks.{every, marks_from};
+ghost use Rattle.fedi_register.specs.Seeds.{mark_of};
+ghost use Rattle.fedi_index.specs.Lists.{AreRoomier, HasOneMore, IsRoomier, first_from, is_list, is_row, list_mark, listing_in, listings, new_list, places_found, places_of, pushed_at, room_found, room_of, row_mark};
+
+use crate::collection::{Collection, is_same};
+use fedi_address::Iri;
+use fedi_register::{MOST_ITEMS, Marks, Seed};
+use std::alloc::{AllocError, Global};
+use std::marker::Model;
+
+#[derive(Drop)]
+struct Row {
+    collection: Collection,
+    owner: Iri,
+    places: Vec<usize>,
+}
+
+/// Lists of positions, each of a collection and an owner. A list that is empty takes no memory, unless
+/// room was made in it.
+#[derive(Drop)]
+pub(crate) struct Lists {
+    seed: Seed,
+    rows: Vec<Row>,
+    index: Marks,
+}
+
+impl Model for Lists {
+    ghost use Rattle.std.specs.Prelude.{List};
+    ghost use Rattle.fedi_index.specs.Lists.{AreIndexed, Listing, lists_in};
+
+    ghost Value = { List Listing };
+
+    ghost view = { lists_in };
+
+    ghost invariant = { AreIndexed };
+}
+
+#[tactic(auto, unfolding(crate::specs::Lists::is_row, crate::specs::Lists::is_list))]
+fn is_row(row: &Row, collection: Collection, owner: &Iri) -> bool
+    ensures { result ≡ is_row collection owner.now row.now }
+{
+    is_same(row.collection, collection) && row.owner == *owner
+}
+
+// The number by which lists are looked up.
+fn mark_of_list(seed: &Seed, owner: &Iri) -> u32
+    ensures { result ≡ mark_of seed.now owner.now }
+{
+    seed.mark_of_iri(owner)
+}
+
+// The list of this collection and this owner.
+fn row_of<'a>(
+    seed: &Seed,
+    rows: &'a [Row],
+    index: &Marks,
+    collection: Collection,
+    owner: &Iri,
+) -> Option<&'a Row>
+    requires { index.now.marks ≡ marks_from every (list_mark seed.now) 0 (listings rows.now) }
+    ensures { option_copied result ≡ find (is_row collection owner.now) rows.now }
+{
+    index.first_of(
+        rows,
+        mark_of_list(seed, owner),
+        |row| is_row(row, collection, owner),
+    )
+}
+
+// Where this list is.
+fn place_of(
+    seed: &Seed,
+    rows: &[Row],
+    index: &Marks,
+    collection: Collection,
+    owner: &Iri,
+) -> Option<usize>
+    requires { index.now.marks ≡ marks_from every (list_mark seed.now) 0 (listings rows.now) }
+    ensures { result ≡ first_from (is_list collection owner.now) 0 (listings rows.now) }
+{
+    index.place_of(
+        rows,
+        mark_of_list(seed, owner),
+        |row| is_row(row, collection, owner),
+    )
+}
+
+// One position more in the list at this place, which has room for it.
+fn push_at(rows: &mut Vec<Row>, at: usize, place: usize)
+    requires there { at < length rows.old.items }
+    requires room { 1 ≤ room_found (slice_get (listings rows.old.items) at) }
+    ensures { listings rows.new.items ≡ pushed_at at place (listings rows.old.items) }
+{
+    rows[at].places.push_reserved(place);
+}
+
+// Makes room for so many more in the list at this place. The error is out of memory.
+fn reserve_at(rows: &mut Vec<Row>, at: usize, more: usize) -> Result<(), AllocError>
+    requires there { at < length rows.old.items }
+    ensures roomier { AreRoomier (listings rows.old.items) (listings rows.new.items) }
+    ensures room { OnOk result (more ≤ room_found (slice_get (listings rows.new.items) at)) }
+{
+    rows[at].places.reserve(more)
+}
+
+impl Lists {
+    /// No lists. The seed is for the numbers by which they are looked up.
+    pub(crate) fn empty(alloc: Global, seed: Seed) -> Lists
+        ensures { result ≡ [] }
+    {
+        Lists {
+            seed,
+            rows: Vec::new(alloc),
+            index: Marks::empty(alloc),
+        }
+    }
+
+    /// The positions of this collection of this owner.
+    pub(crate) fn places(&self, collection: Collection, owner: &Iri) -> &[usize]
+        ensures { result.now ≡ places_of collection owner.now self.now }
+    {
+        match row_of(&self.seed, &self.rows, &self.index, collection, owner) {
+            Some(row) => row.places.as_slice(),
+            None => &[],
+        }
+    }
+
+    /// Adds a position to a list that has room for it. It takes no memory.
+    pub(crate) fn push(&mut self, collection: Collection, owner: &Iri, place: usize)
+        requires { 1 ≤ room_of collection owner.now self.old }
+        ensures { HasOneMore collection owner.now place self.old self.new }
+    {
+        match place_of(&self.seed, &self.rows, &self.index, collection, owner) {
+            None => unreachable!(),
+            Some(at) => push_at(&mut self.rows, at, place),
+        }
+    }
+
+    // Makes a list without room, where there is none, and tells its place.
+    fn add(
+        &mut self,
+        alloc: Global,
+        collection: Collection,
+        owner: &Iri,
+    ) -> Result<usize, AllocError>
+        ensures added { IfOk result (λ at.
+            (self.new ≡ self.old ++ new_list collection owner.now ∷ []) × (at ≡ length self.old)) }
+        ensures err { OnErr result (self.new ≡ self.old) }
+    {
+        let at = self.rows.len();
+        if at > MOST_ITEMS {
+            return Err(AllocError);
+        }
+        self.index.reserve()?;
+        let owner = owner.copy()?;
+        let mark = mark_of_list(&self.seed, &owner);
+        self.rows.push(Row {
+            collection,
+            owner,
+            places: Vec::new(alloc),
+        })?;
+        self.index.push(mark, at as u32);
+        Ok(at)
+    }
+
+    // The place of this list, which is made where there is none.
+    fn know(
+        &mut self,
+        alloc: Global,
+        collection: Collection,
+        owner: &Iri,
+    ) -> Result<usize, AllocError>
+        ensures roomier { IsRoomier self.old self.new }
+        ensures known { IfOk result (λ at.
+            first_from (is_list collection owner.now) 0 self.new ≡ Some at) }
+    {
+        match place_of(&self.seed, &self.rows, &self.index, collection, owner) {
+            Some(at) => Ok(at),
+            None => {
+                let at = self.add(alloc, collection, owner)?;
+                Ok(at)
+            }
+        }
+    }
+
+    /// Makes room for so many more positions of this collection of this owner. The error is out of memory.
+    pub(crate) fn reserve(
+        &mut self,
+        alloc: Global,
+        collection: Collection,
+        owner: &Iri,
+        more: usize,
+    ) -> Result<(), AllocError>
+        ensures roomier { IsRoomier self.old self.new }
+        ensures room { OnOk result (more ≤ room_of collection owner.now self.new) }
+    {
+        let at = self.know(alloc, collection, owner)?;
+        reserve_at(&mut self.rows, at, more)?;
+        Ok(())
+    }
+}

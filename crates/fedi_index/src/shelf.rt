@@ -1,0 +1,122 @@
+//! A shelf that keeps the positions of the candidates of each collection.
+
+ghost use Rattle.std.specs.Prelude.{◌≡◌, ◌≤◌, ◌++◌, ◌∷◌, [], ◌+◌, ◌*◌, IfOk, IsTrue, None, OnErr, OnOk, Some, drop, length, map, slice_get, take};
+ghost use Rattle.fedi_effects.specs.Holdings.{Holding};
+ghost use Rattle.fedi_index.specs.Candidates.{is_candidate, places_from};
+ghost use Rattle.fedi_index.specs.Shelves.{IsNamed};
+ghost use Rattle.fedi_town.specs.Built.{is_built};
+ghost use Rattle.fedi_town.specs.Collections.{items, owner_of};
+ghost use Rattle.fedi_town.specs.Histories.{town};
+ghost use Rattle.fedi_town.specs.Legal.{is_admissible};
+ghost use Rattle.fedi_town.specs.Towns.{empty_town};
+
+use crate::collection::Collection;
+use crate::growing::{add_coming, reserve_coming};
+use crate::lists::Lists;
+use crate::pages::page;
+use fedi_address::Iri;
+use fedi_effects::{Facts, Seed, Steps};
+use fedi_objects::Entry;
+use fedi_town::{Caller, Which};
+use fedi_visible::{Shelf, VisiblePage};
+use std::alloc::{AllocError, Global};
+use std::marker::Model;
+use std::sync::ledger::Ledger;
+
+/// The facts of a legal history, and for each collection of this host the positions of its candidates, so
+/// that a page reads each of these once and no other activity.
+#[derive(Drop)]
+pub struct IndexedShelf {
+    facts: Facts,
+    lists: Lists,
+}
+
+impl Model for IndexedShelf {
+    ghost use Rattle.fedi_effects.specs.Holdings.{Holding};
+    ghost use Rattle.fedi_index.specs.Shelves.{IsShelf};
+
+    ghost Value = { Holding };
+
+    ghost view = { λ shelf. shelf.facts };
+
+    ghost invariant = { λ shelf. IsShelf shelf.facts shelf.lists };
+}
+
+// A collection of an object has the name of a member and a number.
+fn is_named(which: &Which)
+    ensures { IsNamed which.now }
+{
+    match which {
+        Which::Likes(name, number) | Which::Shares(name, number) => {
+            let _name = name.text();
+            let _number = *number;
+        }
+        _ => {}
+    }
+}
+
+impl IndexedShelf {
+    /// The shelf of no entry. The seed is for the numbers by which all is looked up. The error is out of
+    /// memory.
+    pub fn empty(alloc: Global, seed: Seed) -> Result<IndexedShelf, AllocError>
+        ensures { IfOk result (λ shelf.
+            shelf ≡ record { history = []; town = empty_town; room = None }) }
+    {
+        let facts = Facts::empty(alloc, seed)?;
+        Ok(IndexedShelf {
+            facts,
+            lists: Lists::empty(alloc, seed),
+        })
+    }
+
+    /// The positions, among the activities, of the candidates of the owner's collection, in order: of those
+    /// that match its rule (ActivityPub, section 5), in whatever state and whoever sees them. The owner is
+    /// the member or the object whose collection it is. It takes no memory.
+    pub fn candidates(&self, which: &Which, owner: &Iri) -> &[usize]
+        requires { owner_of self.now.town which.now ≡ Some owner.now }
+        ensures { result.now
+            ≡ places_from (is_candidate which.now owner.now) 0 self.now.town.acts }
+    {
+        is_named(which);
+        self.lists.places(Collection::of(which), owner)
+    }
+}
+
+impl Shelf for IndexedShelf {
+    ghost holding = { λ shelf. shelf };
+
+    ghost page_cost = { λ shelf which owner.
+        length (places_from (is_candidate which owner) 0 shelf.town.acts) };
+
+    fn facts(&self) -> &Facts {
+        &self.facts
+    }
+
+    fn reserve(&mut self, alloc: Global, entry: &Entry) -> Result<(), AllocError> {
+        self.facts.reserve(alloc, entry)?;
+        match reserve_coming(&mut self.lists, alloc, &self.facts) {
+            Ok(()) => Ok(()),
+            Err(error) => {
+                self.facts.release();
+                Err(error)
+            }
+        }
+    }
+
+    fn push(&mut self, entry: &Entry) {
+        add_coming(&mut self.lists, &self.facts);
+        self.facts.apply(entry);
+    }
+
+    fn visible_page<L: Ledger>(
+        &self,
+        caller: &Caller,
+        which: &Which,
+        owner: &Iri,
+        number: u64,
+        steps: &mut Steps<L>,
+    ) -> VisiblePage {
+        let candidates = self.candidates(which, owner);
+        page(&self.facts, candidates, caller, which, owner, number, steps)
+    }
+}
