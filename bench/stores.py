@@ -1,0 +1,95 @@
+"""Stores for measurements, written in the format of the journal and of entries (docs/FORMAT.md)."""
+import struct
+
+HOST = "club.example"
+MOMENT = 784111777
+PUBLIC = "https://www.w3.org/ns/activitystreams#Public"
+ANNOUNCE, BLOCK, CREATE, DELETE, FOLLOW, LIKE, UNDO, UPDATE = 3, 5, 6, 7, 10, 15, 26, 27
+
+
+# ---- entries in their format
+
+
+def number(n):
+    return struct.pack(">I", n)
+
+
+def text(value):
+    return number(len(value)) + value.encode()
+
+
+def optional(value):
+    return b"\0" if value is None else b"\1" + text(value)
+
+
+def texts(values):
+    return number(len(values)) + b"".join(text(value) for value in values)
+
+
+def moment(seconds):
+    return struct.pack(">Q", seconds)
+
+
+def hosted(at=MOMENT):
+    return b"\1" + text(HOST) + moment(at)
+
+
+def made(name, digest, at=MOMENT):
+    return b"\2" + text(name) + digest + b"\0" + moment(at)
+
+
+def local(name, activity, repeat=None, at=MOMENT):
+    key = b"\0" if repeat is None else b"\1" + text(repeat) + bytes(32)
+    return b"\4" + text(name) + key + activity + moment(at)
+
+
+def note(to, cc, content):
+    """A Create of a note."""
+    fields = texts(to) + texts(cc) + 3 * number(0)
+    whole = b"\0" + text("Note") + b"\0" + fields + b"\0" + optional(content) + 3 * b"\0" + 4 * b"\0" + number(0)
+    return b"\0" + bytes([CREATE]) + b"\0\2" + whole + b"\0" + fields + 5 * b"\0" + number(0)
+
+
+def about(kind, object):
+    """An activity about this to nobody."""
+    return b"\0" + bytes([kind]) + b"\0" + object + b"\0" + 5 * number(0) + 5 * b"\0" + number(0)
+
+
+def of(kind, id):
+    """An activity of this type about the object of this id, to nobody."""
+    return about(kind, b"\1" + text(id))
+
+
+def change(id, content):
+    """An Update of the content."""
+    return about(UPDATE, b"\3" + text(id) + b"\2" + text(content) + 5 * b"\0")
+
+
+# ---- members and their posts
+
+
+def name_of(member):
+    return f"m{member:06d}"
+
+
+def id_of(member):
+    return f"https://{HOST}/users/{name_of(member)}"
+
+
+def post(member, place, length, repeat=None):
+    """The entry of a post, which is of this length, with another content at each place."""
+    of = lambda content: local(name_of(member), note([PUBLIC], [id_of(member) + "/followers"], content), repeat)
+    return of(f"{place:010d}" + "x" * (length - len(of("")) - 10))
+
+
+# ---- files
+
+
+def write(path, entries):
+    """Writes a journal of these entries."""
+    with open(path, "wb") as file:
+        file.write(b"FEDIJRN1")
+        for entry in entries:
+            file.write(b"\1" + struct.pack(">Q", len(entry)))
+            file.write(entry)
+        file.write(b"\0")
