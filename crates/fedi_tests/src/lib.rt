@@ -56,8 +56,6 @@ mod machine;
 mod opening;
 #[cfg(test)]
 mod records;
-#[cfg(test)]
-mod shelves;
 
 // Whole runs over what lies in memory.
 #[cfg(test)]

@@ -52,16 +52,14 @@ const DAMAGED: [(&str, &[&[u8]], u64); 15] = [
     ("no record is empty", &[b""], 0),
 ];
 
-/// Appends a record.
-pub(crate) fn add<K: Keeper>(keeper: &mut K, record: &[u8]) -> Result<(), Fail> {
+fn add<K: Keeper>(keeper: &mut K, record: &[u8]) -> Result<(), Fail> {
     keeper.reserve(record.len())?;
     keeper.settle()?;
     keeper.append(record)?;
     Ok(())
 }
 
-/// Appends the records.
-pub(crate) fn add_all<K: Keeper>(keeper: &mut K, records: &[&[u8]]) -> Result<(), Fail> {
+fn add_all<K: Keeper>(keeper: &mut K, records: &[&[u8]]) -> Result<(), Fail> {
     for record in records {
         add(keeper, record)?;
     }

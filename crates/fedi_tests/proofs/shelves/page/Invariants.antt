@@ -1,4 +1,0 @@
-use Rattle.fedi_tests.proofs.shelves.page.Given as goal
-
-abbrev pub ghosts-counted_page : goal.ghosts-counted_page
-ghosts-counted_page a = record { name = a.blank.name; parts = a.blank.parts }
