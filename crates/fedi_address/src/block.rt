@@ -7,11 +7,11 @@ use arrayvec::ArrayString;
 use std::alloc::{AllocError, Global};
 use std::sync::Arc;
 
-// Where a text lies, once for all its owners. Most texts have at most 40 bytes, and these lie in the
+// Where a text lies, once for all its owners. Most texts have at most 48 bytes, and these lie in the
 // block itself.
 #[derive(Drop)]
 pub(crate) enum Block {
-    Short(ArrayString<40>),
+    Short(ArrayString<48>),
     Long(String),
 }
 

@@ -7,4 +7,5 @@ pub mod KeptKeys
 pub mod MemberMarks
 pub mod Originals
 pub mod Prefixes
+pub mod Sent
 pub mod Towns

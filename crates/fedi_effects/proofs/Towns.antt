@@ -83,8 +83,8 @@ authors_with : (known : List (List ℕ)) (r : Ready) → HasAuthors (with_author
 authors_with known ready.Nothing = tt
 authors_with known (ready.Host host) = tt
 authors_with known (ready.Member member) = tt
-authors_with known (ready.Activity act effect None) = (known_now known act.author, tt)
-authors_with known (ready.Activity act effect (Some answer)) =
+authors_with known (ready.Activity act effect spare None) = (known_now known act.author, tt)
+authors_with known (ready.Activity act effect spare (Some answer)) =
     (known_still (add_new known act.author) act.author answer.author (known_now known act.author), known_now (add_new known act.author) answer.author)
 
 pub authors_known : (before known : List (List ℕ)) (r : Ready) → known ≡ with_authors before r → HasAuthors known r

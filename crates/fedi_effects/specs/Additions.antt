@@ -12,7 +12,7 @@ abbrev pub addition_in : Ready → Addition
 addition_in ready.Nothing = additions.Nothing
 addition_in (ready.Host host) = additions.Host host
 addition_in (ready.Member member) = additions.Member member
-addition_in (ready.Activity act effect answer) = additions.Activity (record { act = act; effect = effect; answer = answer })
+addition_in (ready.Activity act effect spare answer) = additions.Activity (record { act = act; effect = effect; answer = answer })
 
 -- the activities that it brings
 abbrev pub acts_in : Addition → List Act
@@ -44,7 +44,7 @@ abbrev pub HasAuthors : List (List ℕ) → Ready → Type 0
 HasAuthors known ready.Nothing = ⊤
 HasAuthors known (ready.Host host) = ⊤
 HasAuthors known (ready.Member member) = ⊤
-HasAuthors known (ready.Activity act effect answer) = IsTrue (is_among act.author known) × HasAnswerer known answer
+HasAuthors known (ready.Activity act effect spare answer) = IsTrue (is_among act.author known) × HasAnswerer known answer
 
 -- the answer's author becomes known
 abbrev pub with_answerer : List (List ℕ) → Option Act → List (List ℕ)
@@ -56,4 +56,4 @@ abbrev pub with_authors : List (List ℕ) → Ready → List (List ℕ)
 with_authors known ready.Nothing = known
 with_authors known (ready.Host host) = known
 with_authors known (ready.Member member) = known
-with_authors known (ready.Activity act effect answer) = with_answerer (add_new known act.author) answer
+with_authors known (ready.Activity act effect spare answer) = with_answerer (add_new known act.author) answer

@@ -19,6 +19,7 @@ abbrev pub coming : Town → Option Entry → List Act
 coming t None = []
 coming t (Some e) = acts_in (addition_of t e)
 
+-- the activities for which what is held has room
 abbrev pub coming_in : Holding → List Act
 coming_in h = coming h.town h.room
 

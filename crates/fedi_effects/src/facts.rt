@@ -21,7 +21,7 @@ use crate::members::Members;
 use crate::ready::{Ready, know_authors, make_ready};
 use crate::steps::Steps;
 use fedi_address::{Host, Iri, LocalName};
-use fedi_kept::{Kept, Pool, Trace};
+use fedi_kept::{Kept, Pool, Spare, Trace};
 use fedi_objects::Entry;
 use fedi_register::{Register, Seed};
 use fedi_town::{Actor, Effect};
@@ -114,7 +114,13 @@ fn keep_room(
 }
 
 // Adds an activity and its answer, after its effect.
-fn add_activity(register: &mut Register, act: Kept, effect: Effect, answer: Option<Kept>)
+fn add_activity(
+    register: &mut Register,
+    act: Kept,
+    effect: Effect,
+    spare: Spare,
+    answer: Option<Kept>,
+)
     requires once { AreMadeOnce register.old.acts }
     requires room { register.old.room ≡ 2 }
     requires known { IsTrue (is_among act.author register.old.known) }
@@ -122,7 +128,7 @@ fn add_activity(register: &mut Register, act: Kept, effect: Effect, answer: Opti
     ensures { register.new.acts
         ≡ map (affect effect) register.old.acts ++ act ∷ option_to_list answer }
 {
-    register.apply(effect);
+    register.apply(effect, spare);
     register.push(act);
     if let Some(answer) = answer {
         register.push(answer);
@@ -156,8 +162,9 @@ fn add(host: &mut Option<Host>, actors: &mut Members, register: &mut Register, r
         Ready::Activity {
             act,
             effect,
+            spare,
             answer,
-        } => add_activity(register, act, effect, answer),
+        } => add_activity(register, act, effect, spare, answer),
     }
 }
 

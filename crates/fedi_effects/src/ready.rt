@@ -6,7 +6,7 @@ ghost use Rattle.fedi_town.specs.declared.addition.Addition.TheVariants as addit
 ghost use Rattle.fedi_address.specs.Recipients.{add_new};
 
 use fedi_address::Host;
-use fedi_kept::{Kept, Pool};
+use fedi_kept::{Kept, Pool, Spare};
 use fedi_register::Register;
 use fedi_town::{Acceptance, Act, Actor, Addition, Effect};
 use std::alloc::{AllocError, Global};
@@ -26,6 +26,8 @@ pub(crate) enum Ready {
         act: Kept,
         /// What it does to earlier ones.
         effect: Effect,
+        /// Memory for that.
+        spare: Spare,
         /// The Accept that follows it.
         answer: Option<Kept>,
     },
@@ -64,7 +66,7 @@ fn keep_both(
     }
 }
 
-fn keep_all(alloc: Global, acceptance: Acceptance) -> Result<Ready, AllocError>
+fn keep_all(alloc: Global, acceptance: Acceptance, spare: Spare) -> Result<Ready, AllocError>
     ensures { IfOk result (λ ready. addition_in ready ≡ additions.Activity acceptance) }
 {
     let Acceptance {
@@ -76,10 +78,23 @@ fn keep_all(alloc: Global, acceptance: Acceptance) -> Result<Ready, AllocError>
         Ok((act, answer)) => Ok(Ready::Activity {
             act,
             effect,
+            spare,
             answer,
         }),
         Err(error) => {
             drop(effect);
+            Err(error)
+        }
+    }
+}
+
+fn keep_with_spare(alloc: Global, acceptance: Acceptance) -> Result<Ready, AllocError>
+    ensures { IfOk result (λ ready. addition_in ready ≡ additions.Activity acceptance) }
+{
+    match Spare::new(alloc) {
+        Ok(spare) => keep_all(alloc, acceptance, spare),
+        Err(error) => {
+            drop(acceptance);
             Err(error)
         }
     }
@@ -104,6 +119,7 @@ impl Ready {
             Ready::Activity {
                 act,
                 effect: _,
+                spare: _,
                 answer,
             } => (Some(act), answer.as_ref()),
             Ready::Nothing | Ready::Host(_) | Ready::Member(_) => (None, None),
@@ -118,6 +134,7 @@ impl Ready {
             Ready::Activity {
                 act,
                 effect: _,
+                spare: _,
                 answer,
             } => {
                 act.share(pool);
@@ -137,7 +154,7 @@ pub(crate) fn make_ready(alloc: Global, addition: Addition) -> Result<Ready, All
         Addition::Nothing => Ok(Ready::Nothing),
         Addition::Host(host) => Ok(Ready::Host(host)),
         Addition::Member(member) => Ok(Ready::Member(member)),
-        Addition::Activity(acceptance) => keep_all(alloc, acceptance),
+        Addition::Activity(acceptance) => keep_with_spare(alloc, acceptance),
         Addition::Peer(_) => unreachable!(),
         Addition::Inbox { .. } => unreachable!(),
         Addition::Attempt(_) => unreachable!(),

@@ -7,4 +7,5 @@ mod Owners
 mod Positions
 mod Rooms
 mod SameKind
+pub mod Sent
 mod Shelved

@@ -3,38 +3,15 @@
 ghost use Rattle.std.specs.Prelude.{◌≡◌, ◌+◌, ◌*◌, ◌<◌, ◌≤◌, drop, filter, length, take};
 ghost use Rattle.std.specs.List.{list_any};
 ghost use Rattle.fedi_index.specs.Candidates.{is_candidate, places_from};
-ghost use Rattle.fedi_store.specs.Places.{is_first, is_listed, is_same_seen, is_seen_item};
+ghost use Rattle.fedi_store.specs.Places.{is_first, is_listed, is_same_seen};
 
 use fedi_address::Iri;
 use fedi_effects::{Facts, Steps, object_key};
 use fedi_kept::Kept;
+use fedi_store::{is_same_seen, is_seen_item};
 use fedi_town::{Caller, Which};
-use fedi_visible::{VisiblePage, is_item, is_same_item, sees};
+use fedi_visible::VisiblePage;
 use std::sync::ledger::Ledger;
-
-#[tactic(auto, unfolding(fedi_store::specs::Places::is_seen_item))]
-fn is_seen_item(facts: &Facts, caller: &Caller, which: &Which, owner: &Iri, act: &Kept) -> bool
-    ensures { result ≡ is_seen_item facts.now.town caller.now which.now owner.now act.now }
-{
-    is_item(act, which, owner) && sees(facts, caller, act)
-}
-
-// Whether the earlier activity is an item that the caller sees, and the same item as this one.
-#[tactic(auto, unfolding(fedi_store::specs::Places::is_same_seen))]
-fn is_same_seen(
-    facts: &Facts,
-    caller: &Caller,
-    which: &Which,
-    owner: &Iri,
-    act: &Kept,
-    earlier: &Kept,
-) -> bool
-    ensures { result
-        ≡ is_same_seen facts.now.town caller.now which.now owner.now act.now earlier.now }
-{
-    is_item(earlier, which, owner)
-        && (is_same_item(which, earlier, act) && sees(facts, caller, earlier))
-}
 
 // Whether an activity before this place is the same item, and the caller sees it: an earlier Follow of
 // the same two. The items of all other collections are different ones.

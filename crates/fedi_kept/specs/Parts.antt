@@ -6,6 +6,7 @@ use Rattle.fedi_objects.specs.declared.activity.ObjectRef.TheVariants as refs
 use Rattle.fedi_objects.specs.declared.object.Object.{Object}
 use Rattle.fedi_kept.specs.declared.about.About.{About}
 use Rattle.fedi_kept.specs.declared.about.About.TheVariants as abouts
+use Rattle.fedi_kept.specs.declared.extras.Extras.{Extras}
 use Rattle.fedi_kept.specs.declared.object.KeptObject.{KeptObject}
 use Rattle.fedi_kept.specs.declared.parts.Beside.{Beside}
 use Rattle.fedi_kept.specs.declared.parts.Beside.TheVariants as besides
@@ -15,9 +16,31 @@ use Rattle.fedi_kept.specs.declared.parts.Rare.{Rare}
 
 -- ---- the object
 
+-- nothing that few objects have
+abbrev pub no_extras : Extras
+no_extras = record {
+  in_reply_to = None;
+  summary = None;
+  name = None;
+  url = None;
+  updated = None;
+  former_kind = None;
+  deleted = None;
+  tags = [];
+}
+
+-- what few objects have, where there is any
+abbrev pub extras_in : {A : Type 0} → Option (Box Extras A) → Extras
+extras_in None = no_extras
+extras_in (Some e) = e.value
+
+-- without what an Update may set
+abbrev pub emptied_extras : Extras → Extras
+emptied_extras e = record e { in_reply_to = None; summary = None; name = None; url = None; tags = [] }
+
 -- the object, with whom it hides
 abbrev pub whole : KeptObject → Object
-whole k = record {
+whole k = let e : Extras = extras_in k.extras in record {
   id = k.id;
   kind = k.kind;
   attributed_to = k.common.value.attributed_to;
@@ -28,16 +51,16 @@ whole k = record {
     bcc = k.hidden.bcc.value;
     audience = k.common.value.lists.audience;
   };
-  in_reply_to = k.in_reply_to;
+  in_reply_to = e.in_reply_to;
   content = k.content;
-  summary = k.summary;
-  name = k.name;
-  url = k.url;
+  summary = e.summary;
+  name = e.name;
+  url = e.url;
   published = k.published;
-  updated = k.updated;
-  former_kind = k.former_kind;
-  deleted = k.deleted;
-  tags = k.tags;
+  updated = e.updated;
+  former_kind = e.former_kind;
+  deleted = e.deleted;
+  tags = e.tags;
 }
 
 -- what an activity is about

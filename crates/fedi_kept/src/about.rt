@@ -6,6 +6,7 @@ ghost use Rattle.fedi_town.specs.Relations.{ref_id};
 ghost use Rattle.fedi_town.specs.Showing.{shown_object};
 ghost use Rattle.fedi_kept.specs.Parts.{object_names, referred};
 
+use crate::extras::Spare;
 use crate::object::KeptObject;
 use crate::pool::Pool;
 use fedi_address::Iri;
@@ -81,26 +82,27 @@ impl About {
         }
     }
 
-    /// Changes the object, where it is carried, by what an Update carries. It takes no memory.
-    pub(crate) fn update(&mut self, by: ObjectRef, stamp: Text)
+    /// Changes the object, where it is carried, by what an Update carries. It takes no memory
+    /// but what is spare.
+    pub(crate) fn update(&mut self, by: ObjectRef, stamp: Text, spare: Spare)
         ensures updated { referred self.new
             ≡ rewrite_ref (update_object by stamp) (referred self.old) }
         ensures named { object_names self.new ≡ object_names self.old }
     {
         match self {
-            About::Whole(object) => object.update(by, stamp),
+            About::Whole(object) => object.update(by, stamp, spare),
             About::Nothing | About::Id(_) | About::Changed(_) => {}
         }
     }
 
-    /// Leaves a Tombstone of the object, where it is carried. It takes no memory.
-    pub(crate) fn bury(&mut self, kind: Text, stamp: Text)
+    /// Leaves a Tombstone of the object, where it is carried. It takes no memory but what is spare.
+    pub(crate) fn bury(&mut self, kind: Text, stamp: Text, spare: Spare)
         ensures buried { referred self.new
             ≡ rewrite_ref (tombstone_of kind stamp) (referred self.old) }
         ensures named { object_names self.new ≡ object_names self.old }
     {
         match self {
-            About::Whole(object) => object.bury(kind, stamp),
+            About::Whole(object) => object.bury(kind, stamp, spare),
             About::Nothing | About::Id(_) | About::Changed(_) => {}
         }
     }

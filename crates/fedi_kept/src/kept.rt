@@ -7,6 +7,7 @@ ghost use Rattle.fedi_town.specs.Objects.{is_deleted, rewrite_act, tombstone_of,
 ghost use Rattle.fedi_town.specs.Relations.{ref_id};
 
 use crate::about::About;
+use crate::extras::Spare;
 use crate::iris::{Iris, shrunk};
 use crate::object::{Hidden, hidden_of};
 use crate::parts::{Beside, Named, Rare, beside_of, content_of};
@@ -314,21 +315,22 @@ impl Kept {
     }
 
     /// Changes the object that it carries by what an Update carries, which was accepted at the moment
-    /// `stamp` (ActivityPub, sections 6.3 and 7.3). It takes no memory.
+    /// `stamp` (ActivityPub, sections 6.3 and 7.3). It takes no memory but what is spare.
     #[tactic(auto, unfolding(fedi_town::specs::Objects::rewrite_act))]
-    pub fn update_object(&mut self, by: ObjectRef, stamp: Text)
+    pub fn update_object(&mut self, by: ObjectRef, stamp: Text, spare: Spare)
         ensures { self.new ≡ rewrite_act (update_object by stamp) self.old }
     {
-        self.about.update(by, stamp);
+        self.about.update(by, stamp, spare);
     }
 
     /// Leaves a Tombstone of the object that it carries: `kind` is the type of a Tombstone, and `stamp`
-    /// the moment of the Delete (ActivityPub, sections 6.4 and 7.4). It takes no memory.
+    /// the moment of the Delete (ActivityPub, sections 6.4 and 7.4). It takes no memory but what is
+    /// spare.
     #[tactic(auto, unfolding(fedi_town::specs::Objects::rewrite_act))]
-    pub fn bury(&mut self, kind: Text, stamp: Text)
+    pub fn bury(&mut self, kind: Text, stamp: Text, spare: Spare)
         ensures { self.new ≡ rewrite_act (tombstone_of kind stamp) self.old }
     {
-        self.about.bury(kind, stamp);
+        self.about.bury(kind, stamp, spare);
     }
 
     /// Lets the IRIs that come again and again, as the author's, share the texts of equal ones. Nothing

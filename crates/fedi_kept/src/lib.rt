@@ -4,6 +4,7 @@
 
 mod about;
 mod common;
+mod extras;
 mod iris;
 mod kept;
 mod object;
@@ -11,6 +12,7 @@ mod parts;
 mod pool;
 mod trace;
 
+pub use extras::Spare;
 pub use kept::Kept;
 pub use pool::Pool;
 pub use trace::Trace;

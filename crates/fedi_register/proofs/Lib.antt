@@ -5,3 +5,4 @@ pub mod Found
 pub mod Indexed
 pub mod Once
 pub mod Places
+pub mod Sent

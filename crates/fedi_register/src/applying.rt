@@ -1,5 +1,6 @@
 //! What an accepted activity does to earlier ones: to those alone that it concerns, which are found by
-//! their marks. Nothing here takes memory, so that a change which was made ready cannot fail.
+//! their marks. Nothing here takes memory but what is spare, so that a change which was made ready cannot
+//! fail.
 
 ghost use Rattle.std.specs.Prelude.{◌≡◌, ◌<◌, Some, length, map, set, slice_get};
 ghost use Rattle.fedi_town.specs.declared.act.Act.{Act};
@@ -14,7 +15,7 @@ use crate::acts::{has_activity_id, is_follow, is_open_follow, is_pending, is_sta
 use crate::marks::Marks;
 use crate::seeds::Seed;
 use fedi_address::Iri;
-use fedi_kept::Kept;
+use fedi_kept::{Kept, Spare};
 use fedi_objects::{ObjectRef, State};
 use fedi_text::Text;
 use fedi_town::Effect;
@@ -159,26 +160,42 @@ fn place_of(acts: &[Kept], seed: &Seed, made: &Marks, object: &Iri) -> Option<us
 }
 
 // The object is changed by what an Update carries.
-fn update(acts: &mut [Kept], seed: &Seed, made: &Marks, object: &Iri, by: ObjectRef, stamp: Text)
+fn update(
+    acts: &mut [Kept],
+    seed: &Seed,
+    made: &Marks,
+    object: &Iri,
+    by: ObjectRef,
+    stamp: Text,
+    spare: Spare,
+)
     requires once { PassesOnce (makes object.now) acts.old }
     requires marks { made.now.marks ≡ marks_from is_making (object_mark seed.now) 0 acts.old }
     ensures { acts.new
         ≡ map (where_passes (makes object.now) (rewrite_act (update_object by stamp))) acts.old }
 {
     if let Some(place) = place_of(acts, seed, made, object) {
-        acts[place].update_object(by, stamp);
+        acts[place].update_object(by, stamp, spare);
     }
 }
 
 // A Tombstone is left of the object.
-fn bury(acts: &mut [Kept], seed: &Seed, made: &Marks, object: &Iri, kind: Text, stamp: Text)
+fn bury(
+    acts: &mut [Kept],
+    seed: &Seed,
+    made: &Marks,
+    object: &Iri,
+    kind: Text,
+    stamp: Text,
+    spare: Spare,
+)
     requires once { PassesOnce (makes object.now) acts.old }
     requires marks { made.now.marks ≡ marks_from is_making (object_mark seed.now) 0 acts.old }
     ensures { acts.new
         ≡ map (where_passes (makes object.now) (rewrite_act (tombstone_of kind stamp))) acts.old }
 {
     if let Some(place) = place_of(acts, seed, made, object) {
-        acts[place].bury(kind, stamp);
+        acts[place].bury(kind, stamp, spare);
     }
 }
 
@@ -191,6 +208,7 @@ pub(crate) fn apply_effect(
     ids: &Marks,
     pairs: &Marks,
     effect: Effect,
+    spare: Spare,
 )
     requires once { AreMadeOnce acts.old }
     requires made { made.now.marks ≡ marks_from is_making (object_mark seed.now) 0 acts.old }
@@ -200,12 +218,12 @@ pub(crate) fn apply_effect(
 {
     match effect {
         Effect::Nothing => {}
-        Effect::Update { object, by, stamp } => update(acts, seed, made, &object, by, stamp),
+        Effect::Update { object, by, stamp } => update(acts, seed, made, &object, by, stamp, spare),
         Effect::Delete {
             object,
             kind,
             stamp,
-        } => bury(acts, seed, made, &object, kind, stamp),
+        } => bury(acts, seed, made, &object, kind, stamp, spare),
         Effect::Accept { follow } => accept(acts, seed, ids, &follow),
         Effect::EndFollows {
             follower,

@@ -27,7 +27,7 @@ use crate::marks::{MOST_ITEMS, Marks};
 use crate::repeats::is_repeat;
 use crate::seeds::Seed;
 use fedi_address::Iri;
-use fedi_kept::Kept;
+use fedi_kept::{Kept, Spare};
 use fedi_objects::RepeatKey;
 use fedi_town::Effect;
 use std::alloc::{AllocError, Global};
@@ -129,6 +129,7 @@ fn apply_in_place(
     ids: &Marks,
     pairs: &Marks,
     effect: Effect,
+    spare: Spare,
 )
     requires once { AreMadeOnce acts.old.items }
     requires made { made.now.marks ≡ marks_from is_making (object_mark seed.now) 0 acts.old.items }
@@ -138,7 +139,7 @@ fn apply_in_place(
     ensures len { vec_len acts.new ≡ vec_len acts.old }
     ensures capacity { vec_capacity acts.new ≡ vec_capacity acts.old }
 {
-    apply_effect(acts.as_mut_slice(), seed, made, ids, pairs, effect);
+    apply_effect(acts.as_mut_slice(), seed, made, ids, pairs, effect, spare);
 }
 
 impl Register {
@@ -338,8 +339,9 @@ impl Register {
         self.authors.add(author)
     }
 
-    /// Does to the activities what an accepted one does to those before it. It takes no memory.
-    pub fn apply(&mut self, effect: Effect)
+    /// Does to the activities what an accepted one does to those before it. It takes no memory but
+    /// what is spare.
+    pub fn apply(&mut self, effect: Effect, spare: Spare)
         requires { AreMadeOnce self.old.acts }
         ensures { self.new ≡ record self.old { acts = map (affect effect) self.old.acts } }
     {
@@ -350,6 +352,7 @@ impl Register {
             &self.ids,
             &self.pairs,
             effect,
+            spare,
         );
     }
 

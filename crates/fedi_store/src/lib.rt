@@ -4,4 +4,5 @@
 mod places;
 mod plain_shelf;
 
+pub use places::{is_same_seen, is_seen_item};
 pub use plain_shelf::PlainShelf;

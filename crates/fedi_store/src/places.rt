@@ -12,16 +12,17 @@ use fedi_town::{Caller, Which};
 use fedi_visible::{VisiblePage, is_item, is_same_item, sees};
 use std::sync::ledger::Ledger;
 
+/// Whether the activity stands in the owner's collection, and the caller sees it.
 #[tactic(auto, unfolding(crate::specs::Places::is_seen_item))]
-fn is_seen_item(facts: &Facts, caller: &Caller, which: &Which, owner: &Iri, act: &Kept) -> bool
+pub fn is_seen_item(facts: &Facts, caller: &Caller, which: &Which, owner: &Iri, act: &Kept) -> bool
     ensures { result ≡ is_seen_item facts.now.town caller.now which.now owner.now act.now }
 {
     is_item(act, which, owner) && sees(facts, caller, act)
 }
 
-// Whether the earlier activity is an item that the caller sees, and the same item as this one.
+/// Whether the earlier activity is an item that the caller sees, and the same item as this one.
 #[tactic(auto, unfolding(crate::specs::Places::is_same_seen))]
-fn is_same_seen(
+pub fn is_same_seen(
     facts: &Facts,
     caller: &Caller,
     which: &Which,

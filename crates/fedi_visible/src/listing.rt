@@ -1,11 +1,12 @@
 //! What stands in a collection (ActivityPub, section 5).
 
-ghost use Rattle.std.specs.Prelude.{◌≡◌, option_copied};
-ghost use Rattle.fedi_town.specs.Collections.{is_item, is_same_item, text_of};
+ghost use Rattle.std.specs.Prelude.{◌≡◌};
+ghost use Rattle.fedi_town.specs.Collections.{is_item, is_same_item};
 
 use fedi_address::{Iri, is_among};
 use fedi_effects::{
     is_about, is_accepted, is_announce, is_by, is_follow, is_following, is_like, is_standing,
+    object_key,
 };
 use fedi_kept::Kept;
 use fedi_town::Which;
@@ -30,16 +31,6 @@ pub fn is_item(act: &Kept, which: &Which, owner: &Iri) -> bool
     }
 }
 
-// The text of an id, or an empty one.
-fn text_of(id: Option<&Iri>) -> &str
-    ensures { result.now ≡ text_of (option_copied id.entry) }
-{
-    match id {
-        Some(id) => id.text(),
-        None => "",
-    }
-}
-
 /// Whether two activities of the collection stand for the same item: in that of the followers those by
 /// the same author, in that of the followed those about the same (ActivityPub, sections 5.3 and 5.4).
 #[tactic(auto, unfolding(fedi_town::specs::Collections::is_same_item))]
@@ -48,7 +39,7 @@ pub fn is_same_item(which: &Which, a: &Kept, b: &Kept) -> bool
 {
     match which {
         Which::Followers(_) => a.author() == b.author(),
-        Which::Following(_) => text_of(a.object_id()) == text_of(b.object_id()),
+        Which::Following(_) => object_key(a) == object_key(b),
         _ => false,
     }
 }
