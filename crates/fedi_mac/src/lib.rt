@@ -1,4 +1,5 @@
-//! What the authentication of messages rests on: keys, their digests and their texts. Nothing here takes memory.
+//! What the authentication of messages rests on: keys, their digests and their texts, and the codes of
+//! messages. Nothing here takes memory.
 #![tactic(auto)]
 
 ghost use Rattle.std.specs.Prelude.{◌≡◌, ◌↔◌, length, IsTrue, IsSome, IfSome};
@@ -7,7 +8,10 @@ ghost use Rattle.hex.specs.Hex.{decode_of, encode_lower, is_hex_digit};
 ghost use Rattle.sha2.specs.Sha256.{sha256};
 ghost use Rattle.fedi_mac.specs.Keys.{key_of};
 
+mod mac;
+
 use hex::FromHex;
+pub use mac::Mac;
 use sha2::{Digest, Sha256};
 
 /// The SHA-256 digest of the bytes (FIPS 180-4, section 6.2).
@@ -19,8 +23,8 @@ pub fn digest(bytes: &[u8]) -> [u8; 32]
 
 /// Whether the two are equal. Each byte is compared whatever the bytes before it were, so that the time
 /// does not tell where a wrong code first differs. It is for codes that a caller shows and the server
-/// computes (RFC 2104), of which none are built yet. A key is found by its SHA-256 digest, of which the
-/// time tells nothing that helps to guess the key, so digests are compared by `==`. No clause speaks of time.
+/// computes by `Mac`. A key is found by its SHA-256 digest, of which the time tells nothing that helps to
+/// guess the key, so digests are compared by `==`. No clause speaks of time.
 pub fn matches(a: &[u8; 32], b: &[u8; 32]) -> bool
     ensures { IsTrue result ↔ (a.now ≡ b.now) }
 {

@@ -1,4 +1,5 @@
 pub mod Clean
+pub mod Delivered
 pub mod Posted
 pub mod PostedActivity
 pub mod Private

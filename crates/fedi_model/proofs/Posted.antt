@@ -1,22 +1,21 @@
 -- What is read of an object that a client posts alone has the shape of a post.
-use Rattle.std.proofs.Common.{◌≡◌, ℕ, ◌≤◌, List, [], ◌∷◌, ◌++◌, length, true, false, cond, not, Option, Some, None, codes, refl, sym, subst, ◌∙◌}
+use Rattle.std.proofs.Common.{◌≡◌, ℕ, ◌≤◌, List, [], length, true, false, Option, Some, None, codes, refl, sym, subst}
 use Rattle.std.specs.Prelude.{Ok, IsTrue}
 use Rattle.std.specs.Cmp.Lexicographic.{pointwise}
-use Rattle.std.specs.List.{fold, filter_map}
+use Rattle.std.specs.List.{filter_map}
 use Rattle.std.specs.Str.{bytes_eq}
-use Rattle.std.proofs.lemmas.Bool.{and_parts, or_parts, not-true, ltb-false, le-leb}
+use Rattle.std.proofs.lemmas.Bool.{ltb-false, le-leb}
 use Rattle.std.proofs.lemmas.Cmp.{nat_list_eq_equiv, lists_equiv}
-use Rattle.std.proofs.lemmas.List.Folds.{list_any-append}
 use Rattle.serde_json.specs.Data.{Data}
-use Rattle.fedi_address.specs.Recipients.{add_new, all_of, distinct, is_among}
+use Rattle.fedi_address.specs.Recipients.{all_of, distinct}
 use Rattle.fedi_address.specs.declared.recipients.Recipients.{Recipients}
 use Rattle.fedi_objects.specs.declared.activity.Activity.{Activity}
 use Rattle.fedi_objects.specs.declared.object.Object.{Object}
 use Rattle.fedi_reading.specs.Faults.{is_long}
-use Rattle.fedi_reading.specs.Properties.{entries_at, reads_type}
+use Rattle.fedi_reading.specs.Properties.{entries_at}
 use Rattle.fedi_reading.specs.Reading.{recipient_of, tags_of, wrapped, reads_posted}
 use Rattle.fedi_reading.proofs.KeptLemmas.{named_by, AreNamed, IsMadeOf, type_kept, words_kept, people_kept, tags_kept, object_parts, posted_object}
-use Rattle.fedi_objects.specs.Limits.{is_text, is_type}
+use Rattle.fedi_objects.specs.Limits.{is_text}
 use Rattle.fedi_town.proofs.Once.{once_folded}
 use Rattle.fedi_town.specs.Shapes.{is_none_or, is_each_once, are_addressed, are_same, are_tags, is_posted}
 
@@ -34,15 +33,15 @@ same_names names = (lists_equiv nat_list_eq_equiv).refl names
 pub same_people : (r : Recipients) → are_same r r ≡ true
 same_people r = rw (same_names r.to, same_names r.cc, same_names r.bto, same_names r.bcc, same_names r.audience) refl
 
--- the recipients that are read are at most 500, and none is there twice in a field
-pub addressed : (d : Data) (r : Recipients) → AreNamed d r → length (all_of r) ≤ 500 → are_addressed 500 r ≡ true
-addressed d r named few =
+-- the recipients that are read are at most so many, and none is there twice in a field
+pub addressed : (most : ℕ) (d : Data) (r : Recipients) → AreNamed d r → length (all_of r) ≤ most → are_addressed most r ≡ true
+addressed most d r named few =
     let to : is_each_once r.to ≡ true = rw named.to (named_once (codes "to") d) in
     let copied : is_each_once r.cc ≡ true = rw named.cc (named_once (codes "cc") d) in
     let bto : is_each_once r.bto ≡ true = rw named.bto (named_once (codes "bto") d) in
     let bcc : is_each_once r.bcc ≡ true = rw named.bcc (named_once (codes "bcc") d) in
     let audience : is_each_once r.audience ≡ true = rw named.audience (named_once (codes "audience") d) in
-    rw (le-leb (length (all_of r)) 500 few, to, copied, bto, bcc, audience) refl
+    rw (le-leb (length (all_of r)) most few, to, copied, bto, bcc, audience) refl
 
 -- ---- the whole
 
@@ -51,10 +50,6 @@ unfolding is_text
 not_long None h = refl
 not_long (Some text) h = le-leb (length text) 65536 (ltb-false 65536 (length text) h)
 
-a_type : (d : Data) (kind : List ℕ) → reads_type d ≡ Ok kind → is_type kind ≡ true
-unfolding is_type
-a_type d kind h = (type_kept d kind h).0
-
 pub named_shortly : (d : Data) → are_tags (tags_of d) ≡ true
 unfolding is_text
 named_shortly d = tags_kept d
@@ -62,18 +57,17 @@ named_shortly d = tags_kept d
 -- the Create of an object that is read keeps each limit
 object_kept : (author : List ℕ) (d : Data) (o : Object) → IsMadeOf d o → is_posted author (wrapped o) ≡ true
 object_kept author d o h =
-    let type = a_type d h.kind h.kind_read in
-    let living = (type_kept d h.kind h.kind_read).1 in
+    let type = type_kept d h.kind h.kind_read in
     let words = words_kept d h.words h.words_read in
     let content = not_long h.words.0 words.0 in
     let summary = not_long h.words.1 words.1 in
     let name = not_long h.words.2 words.2 in
     let people = people_kept d h.people h.people_read in
-    let reached = addressed d h.people.1 people.0 people.1 in
+    let reached = addressed 500 d h.people.1 people.0 people.1 in
     let same = same_people h.people.1 in
     let tags = named_shortly d in
     subst (λ (x : Object). is_posted author (wrapped x) ≡ true) (sym h.whole)
-    (rw (type, living, content, summary, name, tags, reached, same) refl)
+    (rw (type.0, type.1, content, summary, name, tags, reached, same) refl)
 
 pub read_is_posted : (d : Data) (a : Activity) (author : List ℕ) → reads_posted d ≡ Ok a → IsTrue (is_posted author a)
 read_is_posted d a author h =

@@ -24,7 +24,7 @@ use Rattle.fedi_reading.specs.declared.need.Need.{Need}
 use Rattle.fedi_town.specs.declared.deed.Deed.{Deed}
 use Rattle.fedi_town.specs.Deeds.{deed_of, is_create, is_update, is_follow, is_block, is_other}
 use Rattle.fedi_town.specs.Relations.{ref_id, is_id}
-use Rattle.fedi_objects.specs.Limits.{is_text, is_type}
+use Rattle.fedi_objects.specs.Limits.{is_text}
 use Rattle.fedi_town.specs.Shapes.{is_none_or, is_each_once, are_addressed, are_tags, is_text_edit, is_tags_edit, is_posted_ref, is_posted}
 use Rattle.fedi_town.proofs.Once.{once_folded}
 use Rattle.fedi_model.proofs.Posted.{same_people, addressed, not_long, named_shortly, read_is_posted}
@@ -47,7 +47,6 @@ all_addressed d o r same few =
     rw (count, to, copied, bto, bcc, audience) refl
 
 creation_kept : (author : List ℕ) (d o : Data) (a : Activity) → IsCreation d o a → is_posted author a ≡ true
-unfolding is_type
 creation_kept author d o a h =
     let kind = new_type_kept o h.kind h.kind_read in
     let words = words_kept d h.words h.words_read in
@@ -96,7 +95,7 @@ update_kept author d o a h =
     let object_name = edit_kept (codes "name") o h.object_words.2 (not_long h.object_words.2 object_words.2) in
     let object_tags = tags_edit_kept (codes "tag") o (given_tags o) (given_kept o) in
     let people = people_kept d h.people h.people_read in
-    let reached = addressed d h.people.1 people.0 people.1 in
+    let reached = addressed 500 d h.people.1 people.0 people.1 in
     let tags = named_shortly d in
     subst (λ (x : Activity). is_posted author x ≡ true) (sym h.whole)
     (rw (content, summary, name, object_content, object_summary, object_name, object_tags, reached, tags) refl)
@@ -104,7 +103,7 @@ update_kept author d o a h =
 -- ---- every other activity
 
 -- the address that is read is there if there is a text for it
-read_there : (reference id : Option (List ℕ)) → reads_iri reference ≡ Ok id → is_none id ≡ is_none reference
+pub read_there : (reference id : Option (List ℕ)) → reads_iri reference ≡ Ok id → is_none id ≡ is_none reference
 read_there None id h = let same : None ≡ id = cc in rw (← same) refl
 read_there (Some text) id h =
     elim (iri text) as (λ o. cond (is_some o) (Ok o) (Err BadIri) ≡ Ok id → is_none id ≡ false)
@@ -118,11 +117,11 @@ id_there need reference id =
     [ true ↦ λ same h. absurd cc | false ↦ λ same h. rw (read_there reference id h) same ] refl
 
 -- what needs no `id` has no effect
-needs_same : (kind : Kind) → needs_id (need_of kind) ≡ not (is_other (deed_of kind))
+pub needs_same : (kind : Kind) → needs_id (need_of kind) ≡ not (is_other (deed_of kind))
 needs_same kinds.Accept = refl
 needs_same kind = refl
 
-other_there : (b c : Bool) → (not b && c) ≡ false → (b || not c) ≡ true
+pub other_there : (b c : Bool) → (not b && c) ≡ false → (b || not c) ≡ true
 other_there true c h = refl
 other_there false true h = absurd cc
 other_there false false h = refl
@@ -132,7 +131,7 @@ ref_kept d r None h k l = elim (is_other d) as (λ b. (b || false) ≡ true → 
 ref_kept d r (Some id) h k l = rw (h, k) refl
 
 -- a Follow or a Block is of another
-self_same : (author : List ℕ) (kind : Kind) (id : Option (List ℕ)) → ((is_follow (deed_of kind) || is_block (deed_of kind)) && is_id author (ref_id (object_ref id))) ≡ is_oneself author (need_of kind) id
+pub self_same : (author : List ℕ) (kind : Kind) (id : Option (List ℕ)) → ((is_follow (deed_of kind) || is_block (deed_of kind)) && is_id author (ref_id (object_ref id))) ≡ is_oneself author (need_of kind) id
 self_same author kinds.Follow None = refl
 self_same author kinds.Follow (Some id) = refl
 self_same author kinds.Block None = refl
@@ -146,7 +145,7 @@ other_kept author kind d a no_create no_update h =
     let summary = not_long h.words.1 words.1 in
     let name = not_long h.words.2 words.2 in
     let people = people_kept d h.people h.people_read in
-    let reached = addressed d h.people.1 people.0 people.1 in
+    let reached = addressed 500 d h.people.1 people.0 people.1 in
     let tags = named_shortly d in
     let needed : (not (is_other (deed_of kind)) && is_none h.id) ≡ false = rw (← needs_same kind) (id_there (need_of kind) (object_id d) h.id h.id_read) in
     let about : is_posted_ref (deed_of kind) h.people.1 (object_ref h.id) ≡ true = ref_kept (deed_of kind) h.people.1 h.id no_create no_update (other_there (is_other (deed_of kind)) (is_none h.id) needed) in

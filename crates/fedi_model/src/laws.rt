@@ -6,10 +6,11 @@ ghost use Rattle.fedi_asks.specs.declared.ask.Ask.{Ask};
 ghost use Rattle.fedi_objects.specs.declared.activity.Activity.{Activity};
 ghost use Rattle.fedi_objects.specs.declared.entry.Entry.{Entry};
 ghost use Rattle.fedi_reading.specs.Activities.{reads_activity};
+ghost use Rattle.fedi_reading.specs.Deliveries.{reads_delivered};
 ghost use Rattle.fedi_town.specs.Agreement.{Agree};
 ghost use Rattle.fedi_town.specs.Histories.{town};
 ghost use Rattle.fedi_town.specs.Legal.{IsLegal};
-ghost use Rattle.fedi_town.specs.Shapes.{is_posted};
+ghost use Rattle.fedi_town.specs.Shapes.{is_delivered, is_posted};
 ghost use Rattle.fedi_town.specs.Towns.{Town};
 ghost use Rattle.fedi_town.specs.declared.caller.Caller.{Caller};
 ghost use Rattle.fedi_town.specs.declared.refusal.Refusal.{Refusal};
@@ -42,4 +43,10 @@ pub fn refusals_are_clean()
 pub fn what_is_read_may_be_posted()
     ensures { (d : Data) (a : Activity) (author : List ℕ)
         → reads_activity author d ≡ Ok a → IsTrue (is_posted author a) }
+{}
+
+/// What is read of another server's delivery has the shape of a delivery.
+#[tactic(auto, using(crate::proofs::Delivered::delivery_is_delivered))]
+pub fn what_is_read_may_be_delivered()
+    ensures { (d : Data) (a : Activity) → reads_delivered d ≡ Ok a → IsTrue (is_delivered a) }
 {}

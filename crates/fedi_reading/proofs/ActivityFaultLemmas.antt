@@ -1,6 +1,6 @@
 -- Reading an activity stops at the fault with the least number.
 use Rattle.std.proofs.Common.{◌≡◌, ℕ, List, [], ◌∷◌, ◌++◌, find, length, Bool, true, false, not, cond, ◌||◌, ◌&&◌, nat_lt, Option, Some, None, codes, bytes_eq, refl, ap, sym, ◌∙◌}
-use Rattle.std.specs.Prelude.{◌≢◌, Result, Ok, Err, IfErr, OnOk, is_some, is_none, option_and_then}
+use Rattle.std.specs.Prelude.{Result, Ok, Err, is_some, is_none, option_and_then}
 use Rattle.std.specs.Option.{option_or, option_map_or}
 use Rattle.std.specs.Result.{result_err}
 use Rattle.std.specs.List.{filter_map}
@@ -9,22 +9,21 @@ use Rattle.serde_json.specs.Data.{Data, null, boolean, number, string, array, ob
 use Rattle.serde_json.specs.Find.{as_object}
 use Rattle.fedi_address.specs.Recipients.{all_of, distinct, union as joined}
 use Rattle.fedi_address.specs.declared.recipients.Recipients.{Recipients}
-use Rattle.fedi_objects.specs.declared.activity.Activity.{Activity}
 use Rattle.fedi_objects.specs.declared.kind.Kind.{Kind}
 use Rattle.fedi_reading.specs.Properties.{entries_at, property, reference_at, has_context, type_of, iri}
-use Rattle.fedi_reading.specs.Reading.{recipient_of, reads_recipients, reads_iri, reads_reply, reads_people, reads_words, reads_posted}
-use Rattle.fedi_reading.specs.Shapes.{◌>>=◌, Gives}
+use Rattle.fedi_reading.specs.Reading.{recipient_of, reads_iri, reads_reply, reads_both, reads_people, reads_words, reads_posted}
+use Rattle.fedi_reading.specs.Shapes.{◌>>=◌}
 use Rattle.fedi_reading.specs.Faults.{is_bad_reference, is_bad_reply, has_fault, faults, first_fault}
 use Rattle.fedi_address.proofs.Unions.{distinct_twice}
-use Rattle.fedi_reading.specs.Activities.{kind_of, need_of, object_at, itself, embedded, id_of, object_id, or_no_object, reads_address, reads_target, new_type, reads_new_type, reads_all_recipients, is_crowd, reads_audience, reads_creation, reads_own_id, reads_changes, needs_id, reads_id, is_oneself, reads_other, reads_by_need, reads_kind, reads_activity}
+use Rattle.fedi_reading.specs.Activities.{kind_of, need_of, object_at, itself, embedded, id_of, object_id, or_no_object, reads_address, reads_target, new_type, reads_new_type, reads_audience, reads_creation, reads_own_id, reads_changes, needs_id, reads_id, is_oneself, reads_other, reads_by_need, reads_kind, reads_activity}
 use Rattle.fedi_reading.specs.ActivityFaults.{has_wrong_type, has_bad_entry, named_by_both, union, has_crowd, is_self, has_activity_fault, first_post_fault}
 use Rattle.fedi_reading.specs.declared.need.Need.{Need}
 use Rattle.fedi_reading.specs.declared.need.Need.TheVariants.{Whole, Change, Another, Anything}
 use Rattle.fedi_reading.specs.declared.need.Need.TheVariants as needs
 use Rattle.fedi_reading.specs.declared.shape_fault.ShapeFault.{ShapeFault}
-use Rattle.fedi_reading.specs.declared.shape_fault.ShapeFault.TheVariants.{NotObject, BadContext, NoType, NoId, NoActor, NoObject, BadIri, TooManyRecipients, BadText, SelfTarget, Memory}
-use Rattle.fedi_reading.proofs.FaultLemmas.{only, then_fault, or_none, or_cond, or_both, ended_fault, named_fault, recipients_fault, reply_fault, people_fault, words_fault, posted_fault, fault_of}
-use Rattle.fedi_reading.proofs.KeptLemmas.{AreNamed, named_by, recipients_named, then_ok}
+use Rattle.fedi_reading.specs.declared.shape_fault.ShapeFault.TheVariants.{NotObject, BadContext, NoType, NoId, NoActor, NoObject, BadIri, TooManyRecipients, BadText, SelfTarget}
+use Rattle.fedi_reading.proofs.FaultLemmas.{only, then_fault, or_none, ended_fault, named_fault, test_fault, reply_fault, both_fault, people_fault, words_fault, posted_fault}
+use Rattle.fedi_reading.proofs.KeptLemmas.{AreNamed, named_by, both_kept}
 
 -- ---- tests
 
@@ -36,20 +35,13 @@ new_type_fault o =
     elim (type_of o) as (λ t. result_err (new_type t) ≡ only (option_map_or (λ text. bytes_eq text (codes "Tombstone")) t true) NoType)
     [ None ↦ refl | Some text ↦ ended_fault (bytes_eq text (codes "Tombstone")) NoType text ]
 
-target_fault : (d : Data) → result_err (reads_target d) ≡ only (is_bad_reference (reference_at (codes "target") d)) BadIri
+pub target_fault : (d : Data) → result_err (reads_target d) ≡ only (is_bad_reference (reference_at (codes "target") d)) BadIri
 unfolding reads_target
 target_fault d = named_fault (reference_at (codes "target") d)
 
 address_fault : (text : List ℕ) → result_err (reads_address text) ≡ only (is_bad_reference (Some text)) BadIri
 unfolding reads_address
 address_fault text = elim (iri text) as (λ o. result_err (option_map_or Ok o (Err BadIri)) ≡ only (is_none o) BadIri) [ None ↦ refl | Some i ↦ refl ]
-
-all_recipients_fault : (d o : Data) → result_err (reads_all_recipients d o) ≡ only (has_bad_entry d || has_bad_entry o) BadIri
-unfolding reads_all_recipients
-all_recipients_fault d o =
-    then_fault (reads_recipients d) _ _ _ (recipients_fault d)
-    (λ a. then_fault (reads_recipients o) (λ b. Ok (joined a b)) _ None (recipients_fault o) (λ b. refl) ∙ or_none (has_bad_entry o) BadIri)
-    ∙ or_both (has_bad_entry d) (has_bad_entry o) BadIri
 
 -- the texts of a field of the one and of the other, each once
 named_twice : (key : List ℕ) (d o : Data) → distinct (named_by key d ++ named_by key o) ≡ named_by_both key d o
@@ -58,7 +50,8 @@ named_twice key d o =
     distinct_twice (filter_map recipient_of (entries_at key d)) (filter_map recipient_of (entries_at key o))
     ∙ ap distinct (sym (filter_map-append recipient_of (entries_at key d) (entries_at key o)))
 
-joined_named : (d o : Data) (a b : Recipients) → AreNamed d a → AreNamed o b → joined a b ≡ union d o
+-- those of both are those that either names
+pub joined_named : (d o : Data) (a b : Recipients) → AreNamed d a → AreNamed o b → joined a b ≡ union d o
 joined_named d o a b h k =
     rw (
       h.to,
@@ -78,41 +71,28 @@ joined_named d o a b h k =
       named_twice (codes "audience") d o,
     ) refl
 
--- the recipients that are read are those that either names
-pub all_recipients : (d o : Data) (r : Recipients) → reads_all_recipients d o ≡ Ok r → r ≡ union d o
-unfolding reads_all_recipients
-all_recipients d o r h =
-    let first = then_ok (reads_recipients d) _ r h in
-    let second = then_ok (reads_recipients o) _ r first.2 in
-    let whole : joined first.0 second.0 ≡ r = cc in
-    sym whole ∙ joined_named d o first.0 second.0 (recipients_named d first.0 first.1) (recipients_named o second.0 second.1)
-
 -- what comes next counts where the first has no fault, and knows what the first gave
-then_known : {A B : Type 0} (r : Result A ShapeFault) (f : A → Result B ShapeFault) (first rest : Option ShapeFault) → result_err r ≡ first → ((x : A) → r ≡ Ok x → result_err (f x) ≡ rest) → result_err (r >>= f) ≡ option_or first rest
+pub then_known : {A B : Type 0} (r : Result A ShapeFault) (f : A → Result B ShapeFault) (first rest : Option ShapeFault) → result_err r ≡ first → ((x : A) → r ≡ Ok x → result_err (f x) ≡ rest) → result_err (r >>= f) ≡ option_or first rest
 then_known (Ok x) f first rest h k = rw (← h) (k x refl)
 then_known (Err e) f first rest h k = rw (← h) refl
+
+-- too many entries, or too many recipients of both
+or_crowd : (bad first second both : Bool) → option_or (cond bad (Some BadIri) (only (first || second) TooManyRecipients)) (only both TooManyRecipients)
+    ≡ cond bad (Some BadIri) (only (first || (second || both)) TooManyRecipients)
+or_crowd true first second both = refl
+or_crowd false true second both = refl
+or_crowd false false true both = refl
+or_crowd false false false both = refl
 
 audience_fault : (d o : Data) → result_err (reads_audience d o) ≡ cond (has_bad_entry d || has_bad_entry o) (Some BadIri) (only (has_fault d TooManyRecipients || has_crowd d o) TooManyRecipients)
 unfolding reads_audience
 audience_fault d o =
-    then_known (reads_all_recipients d o) _ _ (only (is_crowd d o (union d o)) TooManyRecipients) (all_recipients_fault d o)
-    (λ r h. ended_fault (is_crowd d o r) TooManyRecipients r ∙ ap (λ x. only (is_crowd d o x) TooManyRecipients) (all_recipients d o r h))
-    ∙ or_cond (has_bad_entry d || has_bad_entry o) BadIri _
-
--- one of either's entries is bad
-pub bad_audience : (d o : Data) → (has_bad_entry d || has_bad_entry o) ≡ true → reads_audience d o ≡ Err BadIri
-bad_audience d o h = fault_of (reads_audience d o) BadIri (audience_fault d o ∙ rw h refl)
-
-or_front : (a b c : Bool) → (a || b) ≡ true → (a || (b || c)) ≡ true
-or_front true b c h = refl
-or_front false true c h = refl
-or_front false false c h = absurd cc
-
--- one of the two has too many entries, and none is bad
-pub crowded_audience : (d o : Data) → has_bad_entry d ≡ false → has_bad_entry o ≡ false → (has_fault d TooManyRecipients || has_fault o TooManyRecipients) ≡ true → reads_audience d o ≡ Err TooManyRecipients
-crowded_audience d o h k crowd =
-    fault_of (reads_audience d o) TooManyRecipients (audience_fault d o
-    ∙ rw (h, k, or_front (has_fault d TooManyRecipients) (has_fault o TooManyRecipients) (nat_lt 500 (length (all_of (union d o)))) crowd) refl)
+    then_known (reads_both 500 d o) _ _ (only (nat_lt 500 (length (all_of (union d o)))) TooManyRecipients) (both_fault 500 d o)
+    (λ both h.
+    let kept = both_kept 500 d o both h in
+    ended_fault (nat_lt 500 (length (all_of (joined both.0 both.1)))) TooManyRecipients (joined both.0 both.1)
+    ∙ ap (λ (r : Recipients). only (nat_lt 500 (length (all_of r))) TooManyRecipients) (joined_named d o both.0 both.1 kept.0.0 kept.1.0))
+    ∙ or_crowd (has_bad_entry d || has_bad_entry o) (has_fault d TooManyRecipients) (has_fault o TooManyRecipients) _
 
 -- ---- the faults of an activity, in their order
 
@@ -140,7 +120,7 @@ creation_fault d o =
     (λ object_reply. then_fault (reads_reply d) _ _ _ (reply_fault d)
     (λ reply. then_fault (reads_audience d o) _ _ _ (audience_fault d o)
     (λ recipients. then_fault (reads_words d) _ _ _ (words_fault d)
-    (λ words. then_fault (reads_words o) _ _ None (words_fault o) (λ object_words. refl) ∙ or_none (has_fault o BadText) BadText)))))))
+    (λ words. then_fault (reads_words o) _ _ None (words_fault o) (λ object_words. refl) ∙ or_none _)))))))
     ∙ in_order_create (has_wrong_type o) _ _ (is_bad_reply o) (is_bad_reply d) (has_bad_entry d || has_bad_entry o) (has_fault d TooManyRecipients || has_crowd d o) (has_fault d BadText) (has_fault o BadText)
 
 -- the tests of an Update: object, address, target, replies and entries, crowd, words
@@ -171,7 +151,7 @@ changes_fault d o =
     (λ target. then_fault (reads_reply o) _ _ _ (reply_fault o)
     (λ object_reply. then_fault (reads_people d) _ _ _ (people_fault d)
     (λ people. then_fault (reads_words d) _ _ _ (words_fault d)
-    (λ words. then_fault (reads_words o) _ _ None (words_fault o) (λ object_words. refl) ∙ or_none (has_fault o BadText) BadText)))))
+    (λ words. then_fault (reads_words o) _ _ None (words_fault o) (λ object_words. refl) ∙ or_none _)))))
     ∙ in_order_update (is_none (reference_at (codes "id") o)) _ _ (is_bad_reply o) (is_bad_reply d) (has_bad_entry d) (has_fault d TooManyRecipients) (has_fault d BadText) (has_fault o BadText)
 
 -- the tests of another activity: object, address, target, reply and entries, crowd, words, the author
@@ -188,11 +168,9 @@ in_order_other false false false false false false false self = refl
 
 id_fault : (need : Need) (reference : Option (List ℕ)) → result_err (reads_id need reference) ≡ cond (needs_id need && is_none reference) (Some NoObject) (only (is_bad_reference reference) BadIri)
 unfolding reads_id
-id_fault need reference =
-    elim (needs_id need && is_none reference) as (λ b. result_err (cond b (Err NoObject) (reads_iri reference)) ≡ cond b (Some NoObject) (only (is_bad_reference reference) BadIri))
-    [ true ↦ refl | false ↦ named_fault reference ]
+id_fault need reference = test_fault (needs_id need && is_none reference) NoObject _ _ (named_fault reference)
 
-read_is : (reference id : Option (List ℕ)) → reads_iri reference ≡ Ok id → id ≡ option_and_then iri reference
+pub read_is : (reference id : Option (List ℕ)) → reads_iri reference ≡ Ok id → id ≡ option_and_then iri reference
 read_is None id h = let same : None ≡ id = cc in sym same
 read_is (Some text) id h =
     elim (iri text) as (λ o. cond (is_some o) (Ok o) (Err BadIri) ≡ Ok id → id ≡ o) [ None ↦ λ h. absurd cc | Some i ↦ λ h. cc ] h
@@ -207,10 +185,10 @@ another_is : (author : List ℕ) (id : Option (List ℕ)) → is_oneself author 
 another_is author None = refl
 another_is author (Some i) = refl
 
-self_is : (author : List ℕ) (need : Need) (d : Data) (id : Option (List ℕ)) → reads_id need (object_id d) ≡ Ok id → is_oneself author need id ≡ is_self author need d
+pub self_is : (author : List ℕ) (need : Need) (d : Data) (id : Option (List ℕ)) → id ≡ option_and_then iri (object_id d) → is_oneself author need id ≡ is_self author need d
 self_is author Whole d id h = refl
 self_is author Change d id h = refl
-self_is author Another d id h = rw (← id_is Another (object_id d) id h) (another_is author id)
+self_is author Another d id h = rw (← h) (another_is author id)
 self_is author needs.Id d id h = refl
 self_is author Anything d id h = refl
 
@@ -222,7 +200,7 @@ other_fault author kind need d =
     (λ id given. then_fault (reads_target d) _ _ _ (target_fault d)
     (λ target. then_fault (reads_people d) _ _ _ (people_fault d)
     (λ people. then_fault (reads_words d) _ _ (only (is_self author need d) SelfTarget) (words_fault d)
-    (λ words. ended_fault (is_oneself author need id) SelfTarget _ ∙ ap (λ b. only b SelfTarget) (self_is author need d id given)))))
+    (λ words. ended_fault (is_oneself author need id) SelfTarget _ ∙ ap (λ b. only b SelfTarget) (self_is author need d id (id_is need (object_id d) id given))))))
     ∙ in_order_other (needs_id need && is_none (object_id d)) _ _ (is_bad_reply d) (has_bad_entry d) (has_fault d TooManyRecipients) (has_fault d BadText) _
 
 -- ---- the whole
@@ -282,16 +260,6 @@ post_fault author d None h = posted_fault d
 post_fault author d (Some kind) h = in_context (is_some (as_object d)) (has_context d) _ _ (typed_object d kind h) (need_fault author kind (need_of kind) d)
 
 -- the fault of what is read is the first that holds
-activity_fault : (author : List ℕ) (d : Data) → result_err (reads_activity author d) ≡ first_post_fault author d
+pub activity_fault : (author : List ℕ) (d : Data) → result_err (reads_activity author d) ≡ first_post_fault author d
 unfolding reads_activity first_post_fault
 activity_fault author d = post_fault author d (kind_of d) refl
-
--- what is refused is refused for the first fault
-pub least_post_fault : (author : List ℕ) (d : Data) (r : Result Activity ShapeFault) → Gives r (reads_activity author d) → IfErr r (λ e. e ≢ Memory → first_post_fault author d ≡ Some e)
-least_post_fault author d (Ok a) h = tt
-least_post_fault author d (Err e) h = λ other. sym (activity_fault author d) ∙ ap result_err (h other)
-
--- what is read has no fault
-pub no_post_fault : (author : List ℕ) (d : Data) (r : Result Activity ShapeFault) → Gives r (reads_activity author d) → OnOk r (first_post_fault author d ≡ None)
-no_post_fault author d (Ok a) h = sym (activity_fault author d) ∙ ap result_err h
-no_post_fault author d (Err e) h = tt

@@ -1,23 +1,24 @@
 -- What holds of the parts of an activity that is read.
-use Rattle.std.proofs.Common.{◌≡◌, ℕ, ◌≤◌, List, length, true, false, ◌&&◌, nat_le, nat_lt, Option, Some, None, codes, bytes_eq, sym, ap, subst}
+use Rattle.std.proofs.Common.{◌≡◌, ℕ, ◌≤◌, List, length, true, false, nat_lt, Option, Some, None, codes, bytes_eq, sym, ap, subst}
 use Rattle.std.specs.Prelude.{Result, Ok}
-use Rattle.std.proofs.lemmas.Bool.{or_parts, ltb-false}
+use Rattle.std.proofs.lemmas.Bool.{ltb-false}
 use Rattle.serde_json.specs.Data.{Data}
-use Rattle.fedi_address.specs.Recipients.{all_of}
+use Rattle.fedi_address.specs.Recipients.{all_of, union as joined}
 use Rattle.fedi_address.specs.declared.recipients.Recipients.{Recipients}
+use Rattle.fedi_objects.specs.Limits.{is_type}
 use Rattle.fedi_objects.specs.declared.activity.Activity.{Activity}
 use Rattle.fedi_objects.specs.declared.activity.ObjectRef.TheVariants.{Whole, Changed}
 use Rattle.fedi_objects.specs.declared.kind.Kind.{Kind}
 use Rattle.fedi_objects.specs.declared.kind.Kind.TheVariants as kinds
 use Rattle.fedi_reading.specs.ActivityFaults.{union}
-use Rattle.fedi_reading.specs.Activities.{object_id, reads_target, new_type, reads_new_type, reads_all_recipients, is_crowd, reads_audience, reads_creation, reads_own_id, change, reads_changes, reads_id, is_oneself, object_ref, posted_activity, reads_other}
-use Rattle.fedi_reading.specs.Properties.{type_text, type_of, reference_at}
-use Rattle.fedi_reading.specs.Reading.{all_entries, reads_iri, reads_reply, reads_people, reads_words, url_of, tags_of, made}
+use Rattle.fedi_reading.specs.Activities.{object_id, reads_target, new_type, reads_new_type, reads_audience, reads_creation, reads_own_id, change, reads_changes, reads_id, is_oneself, object_ref, posted_activity, reads_other}
+use Rattle.fedi_reading.specs.Properties.{type_of, reference_at}
+use Rattle.fedi_reading.specs.Reading.{reads_iri, reads_reply, reads_both, reads_people, reads_words, url_of, tags_of, made}
 use Rattle.fedi_reading.specs.declared.need.Need.{Need}
 use Rattle.fedi_reading.specs.declared.shape_fault.ShapeFault.{ShapeFault}
 use Rattle.fedi_reading.specs.declared.shape_fault.ShapeFault.TheVariants.{NoType, TooManyRecipients, SelfTarget}
-use Rattle.fedi_reading.proofs.ActivityFaultLemmas.{all_recipients}
-use Rattle.fedi_reading.proofs.KeptLemmas.{then_ok, if_ok, then_some, measured}
+use Rattle.fedi_reading.proofs.ActivityFaultLemmas.{joined_named}
+use Rattle.fedi_reading.proofs.KeptLemmas.{then_ok, if_ok, typed_kept, both_kept}
 
 new_type_ok : (found : Option (List ℕ)) (kind : List ℕ) → new_type found ≡ Ok kind → (found ≡ Some kind) × (bytes_eq kind (codes "Tombstone") ≡ false)
 new_type_ok None kind h = absurd cc
@@ -26,28 +27,26 @@ new_type_ok (Some text) kind h =
     (ap Some passed.1, subst (λ (t : List ℕ). bytes_eq t (codes "Tombstone") ≡ false) passed.1 passed.0)
 
 -- the type of an object to be made has 1 to 64 bytes, and is not that of what is deleted
-pub new_type_kept : (o : Data) (kind : List ℕ) → reads_new_type o ≡ Ok kind
-    → ((nat_le 1 (length kind) && nat_le (length kind) 64) ≡ true) × (bytes_eq kind (codes "Tombstone") ≡ false)
-unfolding reads_new_type type_of
+pub new_type_kept : (o : Data) (kind : List ℕ) → reads_new_type o ≡ Ok kind → (is_type kind ≡ true) × (bytes_eq kind (codes "Tombstone") ≡ false)
+unfolding reads_new_type
 new_type_kept o kind h =
     let passed = new_type_ok (type_of o) kind h in
-    let text = then_some type_text _ kind passed.0 in
-    (measured text.0 kind text.1, passed.1)
+    (typed_kept o kind passed.0, passed.1)
 
 -- the recipients of a Create and its object are those that either names, and at most 500
 pub audience_kept : (d o : Data) (r : Recipients) → reads_audience d o ≡ Ok r → (r ≡ union d o) × (length (all_of r) ≤ 500)
 unfolding reads_audience
 audience_kept d o r h =
-    let found = then_ok (reads_all_recipients d o) _ r h in
-    let passed = if_ok (is_crowd d o found.0) TooManyRecipients found.0 r found.2 in
-    let first = or_parts (nat_lt 500 (length (all_entries d))) _ passed.0 in
-    let second = or_parts (nat_lt 500 (length (all_entries o))) (nat_lt 500 (length (all_of found.0))) first.1 in
+    let found = then_ok (reads_both 500 d o) _ r h in
+    let all : Recipients = joined found.0.0 found.0.1 in
+    let passed = if_ok (nat_lt 500 (length (all_of all))) TooManyRecipients all r found.2 in
+    let both = both_kept 500 d o found.0 found.1 in
     subst (λ (x : Recipients). (x ≡ union d o) × (length (all_of x) ≤ 500)) passed.1
-    (all_recipients d o found.0 found.1, ltb-false 500 (length (all_of found.0)) second.1)
+    (joined_named d o found.0.0 found.0.1 both.0.0 both.1.0, ltb-false 500 (length (all_of all)) passed.0)
 
 -- ---- the parts of which an activity is made
 
-same_ok : {A : Type 0} (x y : A) → ◌≡◌ {A = Result A ShapeFault} (Ok x) (Ok y) → y ≡ x
+pub same_ok : {A : Type 0} (x y : A) → ◌≡◌ {A = Result A ShapeFault} (Ok x) (Ok y) → y ≡ x
 same_ok x y h = cc
 
 -- of a Create

@@ -5,16 +5,15 @@ use Rattle.std.specs.Option.{option_or, option_map_or}
 use Rattle.std.specs.Result.{result_err}
 use Rattle.std.specs.List.{list_any, filter_map}
 use Rattle.std.proofs.lemmas.List.Folds.{list_any-append}
-use Rattle.serde_json.specs.Data.{Data, Members}
+use Rattle.serde_json.specs.Data.{Data}
 use Rattle.serde_json.specs.Find.{as_object}
 use Rattle.fedi_reading.specs.Properties.{text_at, entries_at, reference_at, has_context, type_of, makes_nothing, iri, reads_type, made_type, reads_text, kept_text}
 use Rattle.fedi_address.specs.Recipients.{distinct}
-use Rattle.fedi_reading.specs.Reading.{is_bad, recipient_of, reads_entries, reads_fields, reads_recipients, all_entries, reads_iri, reads_reply, reads_people, reads_words, reads_object, wrapped, reads_posted}
+use Rattle.fedi_reading.specs.Reading.{is_bad, recipient_of, reads_entries, reads_fields, reads_recipients, all_entries, reads_iri, reads_reply, is_crowded, reads_few, reads_both, reads_people, reads_words, reads_object, wrapped, reads_posted}
 use Rattle.fedi_reading.specs.Shapes.{◌>>=◌, Gives}
 use Rattle.fedi_reading.specs.Faults.{is_bad_reply, is_long, has_fault, first_fault}
 use Rattle.fedi_reading.specs.declared.shape_fault.ShapeFault.{ShapeFault}
 use Rattle.fedi_reading.specs.declared.shape_fault.ShapeFault.TheVariants.{NotObject, BadContext, NoType, BadIri, TooManyRecipients, BadText, Memory}
-use Rattle.fedi_objects.specs.declared.activity.Activity.{Activity}
 
 -- the fault, where the test holds
 abbrev pub only : Bool → ShapeFault → Option ShapeFault
@@ -25,9 +24,9 @@ pub then_fault : {A B : Type 0} (r : Result A ShapeFault) (f : A → Result B Sh
 then_fault (Ok x) f first rest h k = rw (← h) (k x)
 then_fault (Err e) f first rest h k = rw (← h) refl
 
-pub or_none : (b : Bool) (e : ShapeFault) → option_or (only b e) None ≡ only b e
-or_none true e = refl
-or_none false e = refl
+pub or_none : (fault : Option ShapeFault) → option_or fault None ≡ fault
+or_none None = refl
+or_none (Some e) = refl
 
 pub or_cond : (b : Bool) (e : ShapeFault) (rest : Option ShapeFault) → option_or (only b e) rest ≡ cond b (Some e) rest
 or_cond true e rest = refl
@@ -69,11 +68,10 @@ made_fault : (text : Option (List ℕ)) → result_err (made_type text) ≡ only
 made_fault None = refl
 made_fault (Some text) = ended_fault (makes_nothing text) NoType text
 
-top_fault : {A B : Type 0} (o : Option Members) (b : Bool) (r : Result A ShapeFault) (f : A → B) (rest : Option ShapeFault) → result_err r ≡ rest → result_err (cond (not (is_some o)) (Err NotObject) (cond (not b) (Err BadContext) (r >>= λ x. Ok (f x)))) ≡ cond (not (is_some o)) (Some NotObject) (cond (not b) (Some BadContext) rest)
-top_fault None b r f rest h = refl
-top_fault (Some ms) false r f rest h = refl
-top_fault (Some ms) true (Ok x) f rest h = h
-top_fault (Some ms) true (Err e) f rest h = h
+-- a test that fails first
+pub test_fault : {A : Type 0} (b : Bool) (e : ShapeFault) (r : Result A ShapeFault) (rest : Option ShapeFault) → result_err r ≡ rest → result_err (cond b (Err e) r) ≡ cond b (Some e) rest
+test_fault true e r rest h = refl
+test_fault false e r rest h = h
 
 pub entries_fault : (ds : List Data) → result_err (reads_entries ds) ≡ only (list_any is_bad ds) BadIri
 unfolding reads_entries
@@ -87,7 +85,7 @@ both_bad r f xs ys h k = then_fault r f _ _ h k ∙ or_both _ _ BadIri ∙ ap (�
 
 -- a part after which nothing can be bad
 pub last_bad : {A B : Type 0} (r : Result A ShapeFault) (f : A → B) (xs : List Data) → result_err r ≡ only (list_any is_bad xs) BadIri → result_err (r >>= λ x. Ok (f x)) ≡ only (list_any is_bad xs) BadIri
-last_bad r f xs h = then_fault r (λ x. Ok (f x)) _ None h (λ x. refl) ∙ or_none _ BadIri
+last_bad r f xs h = then_fault r (λ x. Ok (f x)) _ None h (λ x. refl) ∙ or_none _
 
 fields_fault : (first second : List ℕ) (d : Data) → result_err (reads_fields first second d) ≡ only (list_any is_bad (entries_at first d ++ entries_at second d)) BadIri
 unfolding reads_fields
@@ -108,32 +106,48 @@ pub reply_fault : (d : Data) → result_err (reads_reply d) ≡ only (is_bad_rep
 unfolding reads_reply
 reply_fault d = named_fault (reference_at (codes "inReplyTo") d)
 
+pub few_fault : (most : ℕ) (d : Data) → result_err (reads_few most d) ≡ cond (list_any is_bad (all_entries d)) (Some BadIri) (only (is_crowded most d) TooManyRecipients)
+unfolding reads_few
+few_fault most d =
+    then_fault (reads_recipients d) _ _ _ (recipients_fault d) (λ r. ended_fault (is_crowded most d) TooManyRecipients r)
+    ∙ or_cond (list_any is_bad (all_entries d)) BadIri (only (is_crowded most d) TooManyRecipients)
+
+pub both_fault : (most : ℕ) (d o : Data) → result_err (reads_both most d o)
+    ≡ cond (list_any is_bad (all_entries d) || list_any is_bad (all_entries o)) (Some BadIri) (only (is_crowded most d || is_crowded most o) TooManyRecipients)
+unfolding reads_both
+both_fault most d o =
+    let crowd : Bool = is_crowded most d || is_crowded most o in
+    then_fault (reads_recipients d) _ _ (cond (list_any is_bad (all_entries o)) (Some BadIri) (only crowd TooManyRecipients)) (recipients_fault d)
+    (λ a. then_fault (reads_recipients o) _ _ (only crowd TooManyRecipients) (recipients_fault o) (λ b. ended_fault crowd TooManyRecipients (a, b))
+    ∙ or_cond (list_any is_bad (all_entries o)) BadIri (only crowd TooManyRecipients))
+    ∙ either_first (list_any is_bad (all_entries d)) (list_any is_bad (all_entries o)) BadIri (only crowd TooManyRecipients)
+
 pub people_fault : (d : Data) → result_err (reads_people d) ≡ cond (has_fault d BadIri) (Some BadIri) (only (has_fault d TooManyRecipients) TooManyRecipients)
 unfolding reads_people
 people_fault d =
     then_fault (reads_reply d) _ (only (is_bad_reply d) BadIri) (cond (list_any is_bad (all_entries d)) (Some BadIri) (only (has_fault d TooManyRecipients) TooManyRecipients)) (reply_fault d)
-    (λ reply. then_fault (reads_recipients d) _ _ _ (recipients_fault d) (λ people. ended_fault _ TooManyRecipients (reply, people)) ∙ or_cond (list_any is_bad (all_entries d)) BadIri (only (nat_lt 500 (length (all_entries d))) TooManyRecipients))
+    (λ reply. then_fault (reads_few 500 d) (λ r. Ok (reply, r)) _ None (few_fault 500 d) (λ r. refl) ∙ or_none _)
     ∙ either_first (is_bad_reply d) (list_any is_bad (all_entries d)) BadIri _
 
 pub fault_of : {A : Type 0} (r : Result A ShapeFault) (e : ShapeFault) → result_err r ≡ Some e → r ≡ Err e
 fault_of (Ok x) e h = absurd cc
 fault_of (Err e) f h = cc
 
-pub good_of : {A : Type 0} (r : Result A ShapeFault) → result_err r ≡ None → (x : A) × (r ≡ Ok x)
-good_of (Ok x) h = (x, refl)
-good_of (Err e) h = absurd cc
+-- one of the entries is bad, however many they are
+pub bad_few : (most : ℕ) (d : Data) → list_any is_bad (all_entries d) ≡ true → reads_few most d ≡ Err BadIri
+bad_few most d h = fault_of (reads_few most d) BadIri (few_fault most d ∙ rw h refl)
 
--- of too many entries one is bad
-pub bad_crowd : (d : Data) (reply : Option (List ℕ)) → reads_reply d ≡ Ok reply → list_any is_bad (all_entries d) ≡ true → reads_people d ≡ Err BadIri
-unfolding reads_people
-bad_crowd d reply h k = rw (h, fault_of (reads_recipients d) BadIri (recipients_fault d ∙ ap (λ b. only b BadIri) k)) refl
+-- none of too many entries is bad
+pub crowded_few : (most : ℕ) (d : Data) → list_any is_bad (all_entries d) ≡ false → is_crowded most d ≡ true → reads_few most d ≡ Err TooManyRecipients
+crowded_few most d h crowd = fault_of (reads_few most d) TooManyRecipients (few_fault most d ∙ rw (h, crowd) refl)
 
--- of too many entries none is bad
-pub good_crowd : (d : Data) (reply : Option (List ℕ)) → reads_reply d ≡ Ok reply → list_any is_bad (all_entries d) ≡ false → nat_lt 500 (length (all_entries d)) ≡ true → reads_people d ≡ Err TooManyRecipients
-unfolding reads_people
-good_crowd d reply h k n =
-    let good = good_of (reads_recipients d) (recipients_fault d ∙ ap (λ b. only b BadIri) k) in
-    rw (h, good.1, n) refl
+-- one of either's entries is bad
+pub bad_both : (most : ℕ) (d o : Data) → (list_any is_bad (all_entries d) || list_any is_bad (all_entries o)) ≡ true → reads_both most d o ≡ Err BadIri
+bad_both most d o h = fault_of (reads_both most d o) BadIri (both_fault most d o ∙ rw h refl)
+
+-- one of the two has too many entries, and none is bad
+pub crowded_both : (most : ℕ) (d o : Data) → list_any is_bad (all_entries d) ≡ false → list_any is_bad (all_entries o) ≡ false → (is_crowded most d || is_crowded most o) ≡ true → reads_both most d o ≡ Err TooManyRecipients
+crowded_both most d o h k crowd = fault_of (reads_both most d o) TooManyRecipients (both_fault most d o ∙ rw (h, k, crowd) refl)
 
 text_fault : (key : List ℕ) (d : Data) → result_err (reads_text key d) ≡ only (is_long (text_at key d)) BadText
 unfolding reads_text
@@ -156,21 +170,23 @@ unfolding reads_object
 object_fault d =
     then_fault (reads_type d) _ _ (cond (has_fault d BadIri) (Some BadIri) (cond (has_fault d TooManyRecipients) (Some TooManyRecipients) (only (has_fault d BadText) BadText))) (type_fault d)
     (λ kind. then_fault (reads_people d) _ _ (only (has_fault d BadText) BadText) (people_fault d)
-    (λ people. then_fault (reads_words d) _ _ None (words_fault d) (λ words. refl) ∙ or_none (has_fault d BadText) BadText)
+    (λ people. then_fault (reads_words d) _ _ None (words_fault d) (λ words. refl) ∙ or_none _)
     ∙ or_two (has_fault d BadIri) (has_fault d TooManyRecipients) BadIri TooManyRecipients (only (has_fault d BadText) BadText))
     ∙ or_cond (has_fault d NoType) NoType (cond (has_fault d BadIri) (Some BadIri) (cond (has_fault d TooManyRecipients) (Some TooManyRecipients) (only (has_fault d BadText) BadText)))
 
 -- the fault of what is read is the first that holds
 pub posted_fault : (d : Data) → result_err (reads_posted d) ≡ first_fault d
 unfolding reads_posted first_fault
-posted_fault d = top_fault (as_object d) (has_context d) (reads_object d) (λ o. wrapped o) _ (object_fault d)
+posted_fault d =
+    test_fault (not (is_some (as_object d))) NotObject _ _ (test_fault (not (has_context d)) BadContext _ _
+    (then_fault (reads_object d) (λ o. Ok (wrapped o)) _ None (object_fault d) (λ o. refl) ∙ or_none _))
 
 -- what is refused is refused for the first fault
-pub least_fault : (d : Data) (r : Result Activity ShapeFault) → Gives r (reads_posted d) → IfErr r (λ e. e ≢ Memory → first_fault d ≡ Some e)
-least_fault d (Ok a) h = tt
-least_fault d (Err e) h = λ other. sym (posted_fault d) ∙ ap result_err (h other)
+pub least_of : {A : Type 0} (read r : Result A ShapeFault) (first : Option ShapeFault) → result_err read ≡ first → Gives r read → IfErr r (λ e. e ≢ Memory → first ≡ Some e)
+least_of read (Ok a) first h given = tt
+least_of read (Err e) first h given = λ other. sym h ∙ ap result_err (given other)
 
 -- what is read has no fault
-pub no_fault : (d : Data) (r : Result Activity ShapeFault) → Gives r (reads_posted d) → OnOk r (first_fault d ≡ None)
-no_fault d (Ok a) h = sym (posted_fault d) ∙ ap result_err h
-no_fault d (Err e) h = tt
+pub none_of : {A : Type 0} (read r : Result A ShapeFault) (first : Option ShapeFault) → result_err read ≡ first → Gives r read → OnOk r (first ≡ None)
+none_of read (Ok a) first h given = sym h ∙ ap result_err given
+none_of read (Err e) first h given = tt

@@ -1,18 +1,20 @@
 -- What holds of the parts of an object that is read.
-use Rattle.std.proofs.Common.{◌≡◌, ℕ, ◌+◌, ◌≤◌, List, [], ◌∷◌, ◌++◌, length, length-append, Bool, true, false, cond, ◌&&◌, nat_le, nat_lt, Option, Some, None, codes, bytes_eq, refl, ap, sym, subst, arith}
-use Rattle.std.specs.Prelude.{Result, Ok, Err, option_and_then, option_map, not, is_some}
+use Rattle.std.proofs.Common.{◌≡◌, ℕ, ◌+◌, ◌≤◌, List, [], ◌∷◌, ◌++◌, length, length-append, Bool, true, false, cond, ◌||◌, nat_le, nat_lt, Option, Some, None, codes, bytes_eq, refl, ap, sym, subst, arith}
+use Rattle.std.specs.Prelude.{Result, Ok, Err, option_map, not, is_some}
+use Rattle.std.specs.Option.{option_map_or}
 use Rattle.std.specs.List.{fold, filter_map, list_all, list_any, cons_option}
 use Rattle.std.proofs.lemmas.Bool.{or_parts, ltb-false}
 use Rattle.serde_json.specs.Data.{Data, Members}
 use Rattle.serde_json.specs.Find.{as_object}
 use Rattle.fedi_address.specs.Recipients.{all_of, add_new, distinct, is_among}
 use Rattle.fedi_address.specs.declared.recipients.Recipients.{Recipients}
+use Rattle.fedi_objects.specs.Limits.{is_type}
 use Rattle.fedi_objects.specs.declared.activity.Activity.{Activity}
 use Rattle.fedi_objects.specs.declared.object.Object.{Object}
 use Rattle.fedi_objects.specs.declared.object.Tag.{Tag}
 use Rattle.fedi_reading.specs.Faults.{is_long}
-use Rattle.fedi_reading.specs.Properties.{text_at, entries_at, has_context, type_text, type_of, makes_nothing, is_activity_type, made_type, reads_type, kept_text, reads_text}
-use Rattle.fedi_reading.specs.Reading.{is_bad, recipient_of, reads_entries, reads_fields, reads_recipients, all_entries, reads_reply, reads_people, reads_words, url_of, iri_at, short_text, mention, is_mention, tag_of, tags_of, made, reads_object, wrapped, reads_posted}
+use Rattle.fedi_reading.specs.Properties.{formed, text_at, entries_at, has_context, type_of, makes_nothing, is_activity_type, made_type, reads_type, kept_text, reads_text}
+use Rattle.fedi_reading.specs.Reading.{is_bad, recipient_of, reads_entries, reads_fields, reads_recipients, all_entries, is_crowded, reads_reply, reads_few, reads_both, reads_people, reads_words, url_of, iri_at, short_text, mention, is_mention, tag_of, tags_of, made, reads_object, wrapped, reads_posted}
 use Rattle.fedi_reading.specs.Shapes.{◌>>=◌}
 use Rattle.fedi_reading.specs.declared.shape_fault.ShapeFault.{ShapeFault}
 use Rattle.fedi_reading.specs.declared.shape_fault.ShapeFault.TheVariants.{NotObject, BadContext, NoType, BadIri, TooManyRecipients, BadText}
@@ -23,17 +25,22 @@ pub then_ok : {A B : Type 0} (r : Result A ShapeFault) (f : A → Result B Shape
 then_ok (Ok x) f y h = (x, refl, h)
 then_ok (Err e) f y h = absurd cc
 
+pub test_ok : {A : Type 0} (b : Bool) (e : ShapeFault) (r : Result A ShapeFault) (y : A) → cond b (Err e) r ≡ Ok y → (b ≡ false) × (r ≡ Ok y)
+test_ok true e r y h = absurd cc
+test_ok false e r y h = (refl, h)
+
 pub if_ok : {A : Type 0} (b : Bool) (e : ShapeFault) (x y : A) → cond b (Err e) (Ok x) ≡ Ok y → (b ≡ false) × (x ≡ y)
 if_ok true e x y h = absurd cc
 if_ok false e x y h = (refl, cc)
 
-if_some : {A : Type 0} (b : Bool) (x y : A) → cond b (Some x) None ≡ Some y → (b ≡ true) × (x ≡ y)
-if_some true x y h = (refl, cc)
-if_some false x y h = absurd cc
+-- ---- texts of a form
 
-pub then_some : {A B : Type 0} (f : A → Option B) (o : Option A) (y : B) → option_and_then f o ≡ Some y → (x : A) × (f x ≡ Some y)
-then_some f None y h = absurd cc
-then_some f (Some x) y h = (x, h)
+-- what is kept has the form
+pub formed_kept : (test : List ℕ → Bool) (found kept : Option (List ℕ)) → formed test found ≡ kept → option_map_or test kept true ≡ true
+formed_kept test None kept h = rw (← h) refl
+formed_kept test (Some text) kept h =
+    rw (← h)
+    (elim (test text) as (λ b. test text ≡ b → option_map_or test (cond b (Some text) None) true ≡ true) [ true ↦ λ k. k | false ↦ λ k. refl ] refl)
 
 -- ---- the type
 
@@ -43,20 +50,17 @@ made_ok (Some text) kind h =
     let passed = if_ok (makes_nothing text) NoType text kind h in
     (ap Some passed.1, subst (λ (t : List ℕ). makes_nothing t ≡ false) passed.1 passed.0)
 
-pub measured : (text kind : List ℕ) → type_text text ≡ Some kind → (nat_le 1 (length kind) && nat_le (length kind) 64) ≡ true
-unfolding type_text
-measured text kind h =
-    let passed = if_some (nat_le 1 (length text) && nat_le (length text) 64) text kind h in
-    subst (λ (t : List ℕ). (nat_le 1 (length t) && nat_le (length t) 64) ≡ true) passed.1 passed.0
+-- a type that is read has 1 to 64 bytes
+pub typed_kept : (d : Data) (kind : List ℕ) → type_of d ≡ Some kind → is_type kind ≡ true
+unfolding type_of
+typed_kept d kind h = formed_kept is_type _ (Some kind) h
 
--- a type that is read has 1 to 64 bytes, and is not that of what is deleted
-pub type_kept : (d : Data) (kind : List ℕ) → reads_type d ≡ Ok kind
-    → ((nat_le 1 (length kind) && nat_le (length kind) 64) ≡ true) × (bytes_eq kind (codes "Tombstone") ≡ false)
-unfolding reads_type type_of makes_nothing
+-- the type of an object to be made has 1 to 64 bytes, and is not that of what is deleted
+pub type_kept : (d : Data) (kind : List ℕ) → reads_type d ≡ Ok kind → (is_type kind ≡ true) × (bytes_eq kind (codes "Tombstone") ≡ false)
+unfolding reads_type makes_nothing
 type_kept d kind h =
     let passed = made_ok (type_of d) kind h in
-    let text = then_some type_text _ kind passed.0 in
-    (measured text.0 kind text.1, (or_parts (is_activity_type kind) (bytes_eq kind (codes "Tombstone")) passed.1).1)
+    (typed_kept d kind passed.0, (or_parts (is_activity_type kind) (bytes_eq kind (codes "Tombstone")) passed.1).1)
 
 -- ---- texts
 
@@ -164,19 +168,42 @@ named_total d r h =
     let audience = named_few (codes "audience") d in
     rw (h.to, h.cc, h.bto, h.bcc, h.audience) (simp length-append (omega arith))
 
+-- the recipients are those that the entries name, and at most so many
+abbrev pub IsFew : ℕ → Data → Recipients → Type 0
+IsFew most d r = AreNamed d r × (length (all_of r) ≤ most)
+
+few_named : (most : ℕ) (d : Data) (r : Recipients) → reads_recipients d ≡ Ok r → is_crowded most d ≡ false → IsFew most d r
+few_named most d r h few =
+    let named = recipients_named d r h in
+    let total = named_total d r named in
+    let short = ltb-false most (length (all_entries d)) few in
+    (named, omega arith)
+
+pub few_kept : (most : ℕ) (d : Data) (r : Recipients) → reads_few most d ≡ Ok r → IsFew most d r
+unfolding reads_few
+few_kept most d r h =
+    let found = then_ok (reads_recipients d) _ r h in
+    let passed = if_ok (is_crowded most d) TooManyRecipients found.0 r found.2 in
+    subst (λ (x : Recipients). IsFew most d x) passed.1 (few_named most d found.0 found.1 passed.0)
+
+pub both_kept : (most : ℕ) (d o : Data) (both : Recipients × Recipients) → reads_both most d o ≡ Ok both → IsFew most d both.0 × IsFew most o both.1
+unfolding reads_both
+both_kept most d o both h =
+    let one = then_ok (reads_recipients d) _ both h in
+    let other = then_ok (reads_recipients o) _ both one.2 in
+    let passed = if_ok (is_crowded most d || is_crowded most o) TooManyRecipients (one.0, other.0) both other.2 in
+    let few = or_parts (is_crowded most d) (is_crowded most o) passed.0 in
+    subst (λ (b : Recipients × Recipients). IsFew most d b.0 × IsFew most o b.1) passed.1
+    (few_named most d one.0 one.1 few.0, few_named most o other.0 other.1 few.1)
+
 -- the recipients that are read are those that the entries name, and at most 500
-pub people_kept : (d : Data) (people : Option (List ℕ) × Recipients) → reads_people d ≡ Ok people
-    → AreNamed d people.1 × (length (all_of people.1) ≤ 500)
+pub people_kept : (d : Data) (people : Option (List ℕ) × Recipients) → reads_people d ≡ Ok people → IsFew 500 d people.1
 unfolding reads_people
 people_kept d people h =
     let reply = then_ok (reads_reply d) _ people h in
-    let recipients = then_ok (reads_recipients d) _ people reply.2 in
-    let passed = if_ok (nat_lt 500 (length (all_entries d))) TooManyRecipients (reply.0, recipients.0) people recipients.2 in
-    let named = recipients_named d recipients.0 recipients.1 in
-    let total = named_total d recipients.0 named in
-    let few = ltb-false 500 (length (all_entries d)) passed.0 in
-    subst (λ (p : Option (List ℕ) × Recipients). AreNamed d p.1 × (length (all_of p.1) ≤ 500)) passed.1
-    (named, omega arith)
+    let recipients = then_ok (reads_few 500 d) _ people reply.2 in
+    let whole : (reply.0, recipients.0) ≡ people = cc in
+    subst (λ (p : Option (List ℕ) × Recipients). IsFew 500 d p.1) whole (few_kept 500 d recipients.0 recipients.1)
 
 -- ---- mentions
 

@@ -1,5 +1,5 @@
 -- What is read of an activity that a client posts (ActivityStreams 2.0 Vocabulary, sections 3 and 4; ActivityPub, section 6).
-use Rattle.std.specs.Prelude.{ℕ, List, length, find, Bool, true, false, ◌&&◌, ◌||◌, nat_lt, Option, Some, None, is_none, is_some, option_and_then, if◌then◌else◌, codes, bytes_eq, Result, Ok, Err}
+use Rattle.std.specs.Prelude.{ℕ, List, length, find, Bool, true, false, ◌&&◌, nat_lt, Option, Some, None, is_none, is_some, option_and_then, if◌then◌else◌, codes, bytes_eq, Result, Ok, Err}
 use Rattle.std.specs.Option.{option_map_or}
 use Rattle.serde_json.specs.Data.{Data, null, boolean, number, string, array, object, Items, no_items, item}
 use Rattle.serde_json.specs.Find.{get, as_object}
@@ -16,7 +16,7 @@ use Rattle.fedi_objects.specs.declared.object.Edit.{Edit}
 use Rattle.fedi_objects.specs.declared.object.Edit.TheVariants.{Keep, Remove, Give}
 use Rattle.fedi_objects.specs.declared.object.Tag.{Tag}
 use Rattle.fedi_reading.specs.Properties.{property, reference_at, has_context, type_of, iri}
-use Rattle.fedi_reading.specs.Reading.{reads_iri, reads_recipients, reads_reply, reads_people, reads_words, all_entries, url_of, tags_of, made, reads_posted}
+use Rattle.fedi_reading.specs.Reading.{reads_iri, reads_reply, reads_both, reads_people, reads_words, url_of, tags_of, made, reads_posted}
 use Rattle.fedi_reading.specs.Shapes.{◌>>=◌}
 use Rattle.fedi_reading.specs.declared.need.Need.{Need}
 use Rattle.fedi_reading.specs.declared.need.Need.TheVariants as needs
@@ -76,6 +76,12 @@ itself d = if is_some (as_object d) then Some d else None
 unfoldable pub embedded : Data → Option Data
 embedded d = option_and_then itself (object_at d)
 
+-- the object that a Create or an Update carries, if one stands in it
+abbrev pub carried : Need → Data → Option Data
+carried needs.Whole d = embedded d
+carried needs.Change d = embedded d
+carried need d = None
+
 -- the `id` of a thing, or the address that stands for it
 unfoldable pub id_of : Data → Option (List ℕ)
 id_of (string text) = Some text
@@ -129,22 +135,11 @@ new_type (Some text) = if bytes_eq text (codes "Tombstone") then Err NoType else
 unfoldable pub reads_new_type : Data → Result (List ℕ) ShapeFault
 reads_new_type o = new_type (type_of o)
 
--- The recipients of a Create and its object: each of the two names all that either names (ActivityPub, section 6.2).
-unfoldable pub reads_all_recipients : Data → Data → Result Recipients ShapeFault
-reads_all_recipients d o = do
-  recipients ← reads_recipients d
-  others ← reads_recipients o
-  Ok (joined recipients others)
-
--- one of the two has too many entries, or both together have too many recipients
-abbrev pub is_crowd : Data → Data → Recipients → Bool
-is_crowd d o r = nat_lt 500 (length (all_entries d)) || (nat_lt 500 (length (all_entries o)) || nat_lt 500 (length (all_of r)))
-
--- whom a Create and its object are for
+-- Whom a Create and its object are for: each of the two names all that either names (ActivityPub, section 6.2).
 unfoldable pub reads_audience : Data → Data → Result Recipients ShapeFault
 reads_audience d o = do
-  recipients ← reads_all_recipients d o
-  if is_crowd d o recipients then Err TooManyRecipients else Ok recipients
+  both ← reads_both 500 d o
+  if nat_lt 500 (length (all_of (joined both.0 both.1))) then Err TooManyRecipients else Ok (joined both.0 both.1)
 
 -- A Create of this object. The object's `id` must be an address, and is not kept.
 unfoldable pub reads_creation : Data → Data → Result Activity ShapeFault

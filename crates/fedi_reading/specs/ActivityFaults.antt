@@ -7,7 +7,7 @@ use Rattle.fedi_address.specs.Recipients.{all_of, distinct}
 use Rattle.fedi_address.specs.declared.recipients.Recipients.{Recipients}
 use Rattle.fedi_reading.specs.Properties.{entries_at, reference_at, type_of, iri}
 use Rattle.fedi_reading.specs.Reading.{is_bad, all_entries, recipient_of}
-use Rattle.fedi_reading.specs.Activities.{kind_of, need_of, embedded, object_id, needs_id}
+use Rattle.fedi_reading.specs.Activities.{kind_of, need_of, embedded, carried, object_id, needs_id}
 use Rattle.fedi_reading.specs.Faults.{is_bad_reference, is_bad_reply, has_fault, faults}
 use Rattle.fedi_reading.specs.declared.need.Need.{Need}
 use Rattle.fedi_reading.specs.declared.need.Need.TheVariants.{Whole, Change, Another}
@@ -21,9 +21,7 @@ has_made test need d = false
 
 -- the activity makes or changes the object that stands in it, and that is so
 abbrev pub has_read : (Data → Bool) → Need → Data → Bool
-has_read test Whole d = option_map_or test (embedded d) false
-has_read test Change d = option_map_or test (embedded d) false
-has_read test need d = false
+has_read test need d = option_map_or test (carried need d) false
 
 -- an object of this type cannot be made
 abbrev pub has_wrong_type : Data → Bool

@@ -5,7 +5,7 @@ use Rattle.std.specs.List.{list_any}
 use Rattle.serde_json.specs.Data.{Data}
 use Rattle.serde_json.specs.Find.{as_object}
 use Rattle.fedi_reading.specs.Properties.{text_at, reference_at, has_context, type_of, makes_nothing, iri}
-use Rattle.fedi_reading.specs.Reading.{is_bad, all_entries}
+use Rattle.fedi_reading.specs.Reading.{is_bad, all_entries, is_crowded}
 use Rattle.fedi_reading.specs.declared.shape_fault.ShapeFault.{ShapeFault}
 use Rattle.fedi_reading.specs.declared.shape_fault.ShapeFault.TheVariants.{NotObject, BadContext, NoType, NoId, NoActor, NoObject, BadIri, TooManyRecipients, BadText, SelfTarget, Memory}
 
@@ -30,7 +30,7 @@ has_fault d NoId = false
 has_fault d NoActor = false
 has_fault d NoObject = false
 has_fault d BadIri = is_bad_reply d || list_any is_bad (all_entries d)
-has_fault d TooManyRecipients = nat_lt 500 (length (all_entries d))
+has_fault d TooManyRecipients = is_crowded 500 d
 has_fault d BadText = list_any is_long (text_at (codes "content") d ∷ text_at (codes "summary") d ∷ text_at (codes "name") d ∷ [])
 has_fault d SelfTarget = false
 has_fault d Memory = false

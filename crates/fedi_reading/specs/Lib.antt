@@ -1,6 +1,8 @@
 pub mod Activities
 pub mod ActivityFaults
 pub mod Bodies
+pub mod Deliveries
+pub mod DeliveryFaults
 pub mod Faults
 pub mod Properties
 pub mod Reading

@@ -1,11 +1,12 @@
 -- How the properties of ActivityStreams stand in JSON (ActivityStreams 2.0 Core, sections 2 and 4).
-use Rattle.std.specs.Prelude.{ℕ, List, [], ◌∷◌, length, Bool, true, false, ◌&&◌, ◌||◌, nat_le, nat_lt, Option, Some, None, unwrap_or, option_and_then, if◌then◌else◌, codes, bytes_eq, Result, Ok, Err}
+use Rattle.std.specs.Prelude.{ℕ, List, [], ◌∷◌, length, Bool, true, false, ◌||◌, nat_le, nat_lt, Option, Some, None, unwrap_or, option_and_then, if◌then◌else◌, codes, bytes_eq, Result, Ok, Err}
 use Rattle.std.specs.Option.{option_map_or}
 use Rattle.std.specs.List.{list_any}
 use Rattle.serde_json.specs.Data.{Data, null, string, Items, no_items, item}
 use Rattle.serde_json.specs.Find.{get, at, as_str, as_array}
 use Rattle.fedi_address.specs.Iris.{normal}
 use Rattle.fedi_objects.specs.Kinds.{kind_name, kinds}
+use Rattle.fedi_objects.specs.Limits.{is_type}
 use Rattle.fedi_reading.specs.declared.shape_fault.ShapeFault.{ShapeFault}
 use Rattle.fedi_reading.specs.declared.shape_fault.ShapeFault.TheVariants.{NoType, BadText}
 
@@ -57,13 +58,14 @@ is_context d = false
 unfoldable pub has_context : Data → Bool
 has_context d = option_map_or (λ value. list_any is_context (entries value)) (property (codes "@context") d) true
 
--- a type has 1 to 64 bytes
-unfoldable pub type_text : List ℕ → Option (List ℕ)
-type_text text = if nat_le 1 (length text) && nat_le (length text) 64 then Some text else None
+-- a text of this form: another one is skipped
+abbrev pub formed : (List ℕ → Bool) → Option (List ℕ) → Option (List ℕ)
+formed test None = None
+formed test (Some text) = if test text then Some text else None
 
--- the type of a thing: the first, if it has many (Core, section 4.1)
+-- the type of a thing: the first, if it has many, of 1 to 64 bytes (Core, section 4.1)
 unfoldable pub type_of : Data → Option (List ℕ)
-type_of d = option_and_then type_text (option_and_then (λ value. as_str (first_of value)) (property (codes "type") d))
+type_of d = formed is_type (option_and_then (λ value. as_str (first_of value)) (property (codes "type") d))
 
 -- the text is one of these types
 unfoldable pub is_activity_type : List ℕ → Bool

@@ -79,12 +79,29 @@ reads_iri (Some text) = if is_some (iri text) then Ok (iri text) else Err BadIri
 unfoldable pub reads_reply : Data → Result (Option (List ℕ)) ShapeFault
 reads_reply d = reads_iri (reference_at (codes "inReplyTo") d)
 
+-- more entries than so many, as they are written
+abbrev pub is_crowded : ℕ → Data → Bool
+is_crowded most d = nat_lt most (length (all_entries d))
+
+-- the five fields of recipients, which have at most so many entries
+unfoldable pub reads_few : ℕ → Data → Result Recipients ShapeFault
+reads_few most d = do
+  recipients ← reads_recipients d
+  if is_crowded most d then Err TooManyRecipients else Ok recipients
+
+-- those of an activity and those of its object, each of at most so many entries
+unfoldable pub reads_both : ℕ → Data → Data → Result (Recipients × Recipients) ShapeFault
+reads_both most d o = do
+  recipients ← reads_recipients d
+  others ← reads_recipients o
+  if is_crowded most d || is_crowded most o then Err TooManyRecipients else Ok (recipients, others)
+
 -- what an object replies to, and whom it is for
 unfoldable pub reads_people : Data → Result (Option (List ℕ) × Recipients) ShapeFault
 reads_people d = do
   in_reply_to ← reads_reply d
-  recipients ← reads_recipients d
-  if nat_lt 500 (length (all_entries d)) then Err TooManyRecipients else Ok (in_reply_to, recipients)
+  recipients ← reads_few 500 d
+  Ok (in_reply_to, recipients)
 
 -- the content, the summary and the name (Vocabulary, section 4; Core, section 4.7)
 unfoldable pub reads_words : Data → Result (Option (List ℕ) × Option (List ℕ) × Option (List ℕ)) ShapeFault

@@ -47,7 +47,7 @@ fn object_at(value: &Value) -> Option<&Value>
 
 // The object that stands in the activity.
 #[tactic(auto, unfolding(crate::specs::Activities::embedded))]
-fn embedded(value: &Value) -> Option<&Value>
+pub(crate) fn embedded(value: &Value) -> Option<&Value>
     ensures { option_map (λ v. view v.now) result ≡ activities.embedded (view value.now) }
 {
     let object = object_at(value)?;
@@ -71,7 +71,7 @@ fn id_of(value: &Value) -> Option<&str>
 
 // The `id` of what the activity is about.
 #[tactic(auto, unfolding(crate::specs::Activities::object_id))]
-fn object_id(value: &Value) -> Option<&str>
+pub(crate) fn object_id(value: &Value) -> Option<&str>
     ensures { option_copied result ≡ activities.object_id (view value.now) }
 {
     id_of(object_at(value)?)
@@ -79,7 +79,7 @@ fn object_id(value: &Value) -> Option<&str>
 
 // To whom or to what an activity is directed.
 #[tactic(auto, unfolding(crate::specs::Activities::reads_target))]
-fn read_target(alloc: Global, value: &Value) -> Result<Option<Iri>, ShapeFault>
+pub(crate) fn read_target(alloc: Global, value: &Value) -> Result<Option<Iri>, ShapeFault>
     ensures { Gives result (activities.reads_target (view value.now)) }
 {
     read_iri(alloc, reference_at(value, "target"))
@@ -97,7 +97,7 @@ fn read_id(alloc: Global, need: Need, reference: Option<&str>) -> Result<Option<
 }
 
 // Whether an actor other than the author is needed, and the author is named.
-fn is_oneself(author: &Iri, need: Need, id: &Option<Iri>) -> bool
+pub(crate) fn is_oneself(author: &Iri, need: Need, id: &Option<Iri>) -> bool
     ensures { result ≡ activities.is_oneself author.now need id.now }
 {
     match (need, id) {
@@ -107,7 +107,7 @@ fn is_oneself(author: &Iri, need: Need, id: &Option<Iri>) -> bool
 }
 
 // A thing by its `id`, if there is one.
-fn object_ref(id: Option<Iri>) -> ObjectRef
+pub(crate) fn object_ref(id: Option<Iri>) -> ObjectRef
     ensures { result ≡ activities.object_ref id }
 {
     match id {

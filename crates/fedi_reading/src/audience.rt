@@ -1,4 +1,4 @@
-//! Whom a posted object is for.
+//! Whom an activity or an object is for.
 
 ghost use Rattle.std.specs.Prelude.{◌≡◌, length, map, IfOk, OnOk};
 ghost use Rattle.serde_json.specs.View.{view};
@@ -66,7 +66,7 @@ fn check_entries(alloc: Global, entries: &[Value]) -> Result<(), ShapeFault>
 // Refuses such an entry of any of the five fields. Its time grows with the entries alone, while
 // `read_recipients` looks for each among all before it.
 #[tactic(auto, unfolding(crate::specs::Reading::all_entries))]
-pub(crate) fn check_recipients(alloc: Global, value: &Value) -> Result<(), ShapeFault>
+fn check_recipients(alloc: Global, value: &Value) -> Result<(), ShapeFault>
     ensures { Checks result (reading.all_entries (view value.now)) }
 {
     check_entries(alloc, entries_at(value, "to"))?;
@@ -101,7 +101,7 @@ fn read_entries(alloc: Global, entries: &[Value]) -> Result<Items<Iri>, ShapeFau
 
 // The five fields of recipients.
 #[tactic(auto, unfolding(crate::specs::Reading::reads_recipients, crate::specs::Reading::reads_fields))]
-pub(crate) fn read_recipients(alloc: Global, value: &Value) -> Result<Recipients, ShapeFault>
+fn read_recipients(alloc: Global, value: &Value) -> Result<Recipients, ShapeFault>
     ensures { Gives result (reading.reads_recipients (view value.now)) }
 {
     Ok(Recipients {
@@ -115,7 +115,7 @@ pub(crate) fn read_recipients(alloc: Global, value: &Value) -> Result<Recipients
 
 // How many entries the five fields have, as they are written.
 #[tactic(auto, unfolding(crate::specs::Reading::all_entries))]
-pub(crate) fn entry_count(value: &Value) -> usize
+fn entry_count(value: &Value) -> usize
     ensures { result ≡ length (reading.all_entries (view value.now)) }
 {
     entries_at(value, "to").len()
@@ -125,23 +125,42 @@ pub(crate) fn entry_count(value: &Value) -> usize
         + entries_at(value, "audience").len()
 }
 
-// Whom a Create and its object name: each field has what the Create says and then the rest of what
-// its object says.
-#[tactic(auto, unfolding(crate::specs::Activities::reads_all_recipients))]
-fn read_all_recipients(
+// The five fields of recipients, if they have at most so many entries. The time grows with the entries
+// alone, however many they are.
+#[tactic(auto, unfolding(crate::specs::Reading::reads_few))]
+pub(crate) fn read_few(alloc: Global, value: &Value, most: usize) -> Result<Recipients, ShapeFault>
+    ensures { Gives result (reading.reads_few most (view value.now)) }
+{
+    if entry_count(value) > most {
+        check_recipients(alloc, value)?;
+        return Err(ShapeFault::TooManyRecipients);
+    }
+    read_recipients(alloc, value)
+}
+
+// Those of an activity and those of its object, if each have at most so many entries. The time grows
+// with the entries alone, however many they are.
+#[tactic(auto, unfolding(crate::specs::Reading::reads_both))]
+pub(crate) fn read_both(
     alloc: Global,
     value: &Value,
     object: &Value,
-) -> Result<Recipients, ShapeFault>
-    ensures { Gives result
-        (activities.reads_all_recipients (view value.now) (view object.now)) }
+    most: usize,
+) -> Result<(Recipients, Recipients), ShapeFault>
+    ensures { Gives result (reading.reads_both most (view value.now) (view object.now)) }
 {
-    let mut recipients = read_recipients(alloc, value)?;
-    recipients.merge(&read_recipients(alloc, object)?)?;
-    Ok(recipients)
+    if entry_count(value) > most || entry_count(object) > most {
+        check_recipients(alloc, value)?;
+        check_recipients(alloc, object)?;
+        return Err(ShapeFault::TooManyRecipients);
+    }
+    let recipients = read_recipients(alloc, value)?;
+    let others = read_recipients(alloc, object)?;
+    Ok((recipients, others))
 }
 
-// Whom a Create and its object are for.
+// Whom a Create and its object are for: each field has what the Create says and then the rest of what
+// its object says.
 #[tactic(auto, unfolding(crate::specs::Activities::reads_audience))]
 pub(crate) fn read_audience(
     alloc: Global,
@@ -150,12 +169,8 @@ pub(crate) fn read_audience(
 ) -> Result<Recipients, ShapeFault>
     ensures { Gives result (activities.reads_audience (view value.now) (view object.now)) }
 {
-    if entry_count(value) > MOST_ENTRIES || entry_count(object) > MOST_ENTRIES {
-        check_recipients(alloc, value)?;
-        check_recipients(alloc, object)?;
-        return Err(ShapeFault::TooManyRecipients);
-    }
-    let recipients = read_all_recipients(alloc, value, object)?;
+    let (mut recipients, others) = read_both(alloc, value, object, MOST_ENTRIES)?;
+    recipients.merge(&others)?;
     if recipients.count() > MOST_ENTRIES {
         return Err(ShapeFault::TooManyRecipients);
     }

@@ -10,7 +10,7 @@ ghost use Rattle.fedi_reading.specs.Reading as reading;
 ghost use Rattle.fedi_objects.specs.Objects.{object_of_kind};
 ghost use Rattle.fedi_reading.specs.Shapes.{Gives, Fills};
 
-use crate::audience::{MOST_ENTRIES, check_recipients, entry_count, read_recipients};
+use crate::audience::{MOST_ENTRIES, read_few};
 use crate::properties::{
     LONGEST_TEXT, entries_at, has_context, iri_of, read_iri, read_text, read_type, reference_at,
     text_at,
@@ -39,11 +39,7 @@ pub(crate) fn read_people(
     ensures { Gives result (reading.reads_people (view value.now)) }
 {
     let in_reply_to = read_reply(alloc, value)?;
-    if entry_count(value) > MOST_ENTRIES {
-        check_recipients(alloc, value)?;
-        return Err(ShapeFault::TooManyRecipients);
-    }
-    let recipients = read_recipients(alloc, value)?;
+    let recipients = read_few(alloc, value, MOST_ENTRIES)?;
     Ok((in_reply_to, recipients))
 }
 

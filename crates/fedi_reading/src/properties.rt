@@ -5,6 +5,7 @@ ghost use Rattle.std.specs.Option.{option_copied};
 ghost use Rattle.std.specs.List.{list_any};
 ghost use Rattle.serde_json.specs.View.{view};
 ghost use Rattle.fedi_objects.specs.Kinds.{kind_name};
+ghost use Rattle.fedi_objects.specs.Limits as limits;
 ghost use Rattle.fedi_reading.specs.Activities as activities;
 ghost use Rattle.fedi_reading.specs.Properties as properties;
 ghost use Rattle.fedi_reading.specs.Reading as reading;
@@ -126,18 +127,22 @@ pub(crate) fn has_context(value: &Value) -> bool
     }
 }
 
+// Whether the text may be a type.
+#[tactic(auto, unfolding(fedi_objects::specs::Limits::is_type))]
+pub(crate) fn is_type(text: &str) -> bool
+    ensures { result ≡ limits.is_type text.now }
+{
+    1 <= text.len() && text.len() <= LONGEST_TYPE
+}
+
 // The type of a thing: the first, if it has many.
-#[tactic(auto, unfolding(crate::specs::Properties::type_of, crate::specs::Properties::type_text))]
+#[tactic(auto, unfolding(crate::specs::Properties::type_of))]
 pub(crate) fn type_of(value: &Value) -> Option<&str>
     ensures { option_copied result ≡ properties.type_of (view value.now) }
 {
     let found = property(value, "type")?;
     let text = first_of(found).as_str()?;
-    if 1 <= text.len() && text.len() <= LONGEST_TYPE {
-        Some(text)
-    } else {
-        None
-    }
+    if is_type(text) { Some(text) } else { None }
 }
 
 // The first of these types that has this name.

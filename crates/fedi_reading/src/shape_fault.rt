@@ -1,4 +1,4 @@
-//! Why a posted thing is refused for its shape.
+//! Why a thing is refused for its shape.
 
 ghost use Rattle.std.specs.Prelude.{◌≡◌};
 ghost use Rattle.fedi_reading.specs.declared.shape_fault.ShapeFault.TheVariants.{Memory};
@@ -6,8 +6,8 @@ ghost use Rattle.fedi_reading.specs.declared.shape_fault.ShapeFault.TheVariants.
 use std::alloc::AllocError;
 use thiserror::Error;
 
-/// Why a thing that was posted is refused for its shape. If several faults hold, the answer is the
-/// first of them in this order.
+/// Why a thing that was posted or delivered is refused for its shape. If several faults hold, the answer
+/// is the first of them in this order.
 #[derive(Clone, Copy, Debug, PartialEq, Eq, Error)]
 pub enum ShapeFault {
     /// It is no JSON object.
@@ -31,7 +31,8 @@ pub enum ShapeFault {
     /// An address that is read is no web address of at most 2,048 bytes.
     #[error("an address is no web address of at most 2,048 bytes")]
     BadIri,
-    /// The five fields of recipients have more than 500 entries as written.
+    /// The five fields of recipients have more than 500 entries as written, or more than 501 in a
+    /// delivery.
     #[error("there are more than 500 recipients")]
     TooManyRecipients,
     /// The content, the summary or the name has more than 65,536 bytes.
