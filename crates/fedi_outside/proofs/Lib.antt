@@ -1,3 +1,4 @@
 pub mod DiskSteps
 pub mod MemoryDiskSteps
+pub mod MemoryDoorSteps
 pub mod Untouched

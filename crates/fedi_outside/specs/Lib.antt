@@ -1,9 +1,11 @@
 pub mod Causes
 pub mod Disks
+pub mod Doors
 pub mod Entropies
 pub mod Keepers
 pub mod MemoryDiskLaws
 pub mod MemoryDisks
+pub mod MemoryDoors
 pub mod MemoryKeepers
 pub mod Plans
 pub mod Sinks

@@ -1,0 +1,30 @@
+//! Benches with doors on a listener.
+ghost use Rattle.std.specs.Prelude.{◌≡◌, All, IfOk, None, false, vec_len};
+
+use crate::listeners::Listening;
+use crate::tcp_doors::TcpDoor;
+use fedi_outside::{Bench, Door};
+use std::alloc::{AllocError, Global};
+use std::net::{Net, TcpListener, TcpStream};
+use std::sync::Wait;
+use std::time::Clock;
+
+/// So many benches, each with a door on this listener, of which nothing was asked yet. The error is out of memory.
+pub fn benches<'a, R: Net<Listener = TcpListener, Stream = TcpStream> + Clock + Wait + Sync>(
+    rt: &'a R,
+    alloc: Global,
+    listening: &'a Listening<'a, R>,
+    count: usize,
+) -> Result<Vec<Bench<TcpDoor<'a, R>>>, AllocError>
+    ensures count { IfOk result (λ benches. vec_len benches ≡ count) }
+    ensures waiting { IfOk result (λ benches.
+        All (λ bench. (⟦<TcpDoor<'a, R> as Door>⟧.out bench.door ≡ None)
+        × (⟦<TcpDoor<'a, R> as Door>⟧.idle bench.door ≡ false)) benches.items) }
+{
+    let mut benches = Vec::with_capacity(alloc, count)?;
+    for _ in 0..count {
+        let door = TcpDoor::new(rt, listening);
+        benches.push(Bench { door })?;
+    }
+    Ok(benches)
+}
