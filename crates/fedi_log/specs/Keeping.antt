@@ -98,6 +98,12 @@ pub record Follows (growth : ℕ → ℕ) (before after : State) (outcome : Outc
 
 -- ---- many turns
 
+-- the machine stands for a log that goes on from what was seen, whoever added to it
+pub record HoldsFrom (b : Base) (seen : Log) (now : State) (log : Log) : Type 0 where
+  pub past : Log
+  pub is : log ≡ seen ++ past
+  pub holds : Holds b now log
+
 -- the log goes on from what was seen, by one's own items alone
 pub record GoesAlone (by : Option ℕ) (seen log : Log) : Type 0 where
   pub past : Log

@@ -1,0 +1,4 @@
+pub mod Ending
+pub mod Seating
+pub mod Turning
+pub mod Working

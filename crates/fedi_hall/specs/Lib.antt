@@ -1,0 +1,4 @@
+pub mod Halves
+pub mod Serving
+pub mod Stations
+pub mod Works

@@ -1,0 +1,43 @@
+-- Workers side by side, each at a station.
+use Rattle.std.specs.Prelude.{◌≡◌, ℕ, Bool, List, Option, Some}
+use Rattle.std.specs.List.{fold}
+use Rattle.fedi_log.specs.Keeping.{State}
+use Rattle.fedi_log.specs.Log.{Log}
+use Rattle.fedi_log.specs.declared.items.Item.{Item}
+use Rattle.fedi_outside.specs.Doors.{Coming, Row}
+use Rattle.fedi_outside.specs.declared.doors.Bench.{Bench}
+use Rattle.fedi_talk.specs.Turning.{setting_by}
+use Rattle.fedi_turn.specs.declared.lock.Pass.{Pass}
+use Rattle.fedi_turn.specs.declared.lock.TurnLock.{TurnLock}
+use Rattle.fedi_turn.specs.Turn.{number_of, seen_of}
+use Rattle.fedi_hall.specs.Halves.{IsIdleBy}
+use Rattle.fedi_hall.specs.Works.{EndsWork, HasWorked, IsWaiting, both}
+use Rattle.fedi_hall.specs.declared.stations.Station.{Station}
+use Rattle.fedi_hall.specs.declared.workers.WorkerEnd.{WorkerEnd}
+use Rattle.fedi_hall.specs.declared.workers.WorkerEnd.TheVariants.{Closed}
+
+-- the pass of a station
+abbrev pub pass_of : {W : Type 0} → Station W → Pass Item
+pass_of s = s.pass
+
+-- its bench
+abbrev pub bench_of : {W : Type 0} → Station W → Bench W
+bench_of s = s.bench
+
+-- how its worker ended
+abbrev pub end_of : {W : Type 0} → Station W → WorkerEnd
+end_of s = s.end
+
+-- how these workers ended: the door of one failed, or all closed
+abbrev pub ends_of : List WorkerEnd → WorkerEnd
+ends_of ends = fold both Closed ends
+
+-- a worker may begin at the station: its pass is idle, and its door waits to be asked
+abbrev pub IsReady : {V W : Type 0} → (V → Log) → (W → Option Coming) → (W → Bool) → TurnLock V Item → Station W → Type 0
+IsReady log out idle lock s = IsIdleBy log lock s.pass × IsWaiting out idle s.bench.door
+
+-- what a worker did at a station, over the machine that was opened so
+pub record IsLabor {W : Type 0} (growth room : ℕ → ℕ) (told : Option ℕ) (opened : State) (served : W → Option (List Row)) (closed : W → Bool) (faults : W → ℕ) (s t : Station W) : Type 0 where
+  pub same : number_of t.pass ≡ number_of s.pass
+  pub worked : HasWorked (setting_by growth room told (Some (number_of s.pass)) opened) (seen_of s.pass) (seen_of t.pass) (served s.bench.door) (served t.bench.door)
+  pub ends : EndsWork (closed t.bench.door) (faults s.bench.door) (faults t.bench.door) t.end

@@ -1,0 +1,153 @@
+//! Workers side by side.
+ghost use Rattle.std.specs.Prelude.{◌≡◌, ◌<◌, ◌≤◌, ℕ, All, Some, [], length, map, reverse, slice_index_or, vec_capacity, vec_len};
+ghost use denote.Param.Send.{IsSend, IsSync};
+ghost use Rattle.fedi_town.specs.Histories.{town};
+ghost use Rattle.fedi_hall.specs.Halves.{IsIdleBy};
+ghost use Rattle.fedi_hall.specs.Stations.{IsLabor, IsReady, bench_of, end_of, ends_of, pass_of};
+ghost use Rattle.fedi_hall.specs.declared.stations.Station.{Station};
+
+use crate::shared::Shared;
+use crate::workers::{WorkerEnd, worker};
+use fedi_address::Host;
+use fedi_log::Item;
+use fedi_logged::{Logged, Opened};
+use fedi_outside::{Bench, Clock, Door, Keeper};
+use fedi_routes::Routes;
+use fedi_turn::{Pass, TurnLock};
+use fedi_visible::Shelf;
+use std::alloc::Global;
+use std::sync::Wait;
+use std::thread;
+use std::thread::Threads;
+
+/// A pass at a bench, and how its worker ended.
+#[derive(Drop)]
+pub struct Station<W> {
+    pub pass: Pass<Item>,
+    pub bench: Bench<W>,
+    pub end: WorkerEnd,
+}
+
+/// Puts each pass at a bench, the last ones first, in stations for which there is room.
+pub(crate) fn seat<W: Drop>(
+    room: Vec<Station<W>>,
+    passes: Vec<Pass<Item>>,
+    benches: Vec<Bench<W>>,
+) -> Vec<Station<W>>
+    requires empty { room.items ≡ [] }
+    requires same { vec_len passes ≡ vec_len benches }
+    requires room { vec_len benches ≤ vec_capacity room }
+    ensures passes { map pass_of result.items ≡ reverse passes.items }
+    ensures benches { map bench_of result.items ≡ reverse benches.items }
+    ensures len { vec_len result ≡ vec_len benches }
+{
+    let (mut stations, mut passes, mut benches) = (room, passes, benches);
+    while let Some(bench) = benches.pop() {
+        let Some(pass) = passes.pop() else {
+            unreachable!()
+        };
+        stations.push_reserved(Station {
+            pass,
+            bench,
+            end: WorkerEnd::Closed,
+        });
+    }
+    stations
+}
+
+/// Takes the passes and the benches back, for which there is room, and says how the workers ended.
+pub(crate) fn leave<W: Drop>(
+    stations: Vec<Station<W>>,
+    passes: &mut Vec<Pass<Item>>,
+    benches: &mut Vec<Bench<W>>,
+) -> WorkerEnd
+    requires no_passes { passes.old.items ≡ [] }
+    requires no_benches { benches.old.items ≡ [] }
+    requires room_for_passes { vec_len stations ≤ vec_capacity passes.old }
+    requires room_for_benches { vec_len stations ≤ vec_capacity benches.old }
+    ensures passes { passes.new.items ≡ reverse (map pass_of stations.items) }
+    ensures benches { benches.new.items ≡ reverse (map bench_of stations.items) }
+    ensures ends { result ≡ ends_of (reverse (map end_of stations.items)) }
+    ensures len { vec_len passes.new ≡ vec_len stations }
+{
+    let mut stations = stations;
+    let mut all = WorkerEnd::Closed;
+    while let Some(Station { pass, bench, end }) = stations.pop() {
+        passes.push_reserved(pass);
+        benches.push_reserved(bench);
+        all = all.and(end);
+    }
+    all
+}
+
+/// Has one worker for each station, each in a thread of its own, until all have ended.
+pub fn serve_stations<
+    R: Threads + Wait + Sync,
+    S: Shelf + Drop + Send,
+    P: Keeper + Drop + Send,
+    O: Opened + Send,
+    W: Door + Send + Drop,
+    C: Clock + Sync,
+>(
+    rt: &R,
+    alloc: Global,
+    lock: &TurnLock<Logged<S, P, O>>,
+    host: &Host,
+    routes: &Routes,
+    stations: Vec<Station<W>>,
+    clock: &C,
+) -> Vec<Station<W>>
+    requires some { 0 < vec_len stations }
+    requires host { (town O.state.history).host ≡ Some host.now }
+    requires ready { All (IsReady (λ l. l.log) W.out W.idle lock.now) stations.items }
+    ensures ready { All (IsReady (λ l. l.log) W.out W.idle lock.now) result.items }
+    ensures len { vec_len result ≡ vec_len stations }
+    ensures same { length result.items ≡ length stations.items }
+    ensures each { (k : ℕ) (d : Station W) → k < length stations.items
+        → IsLabor P.growth P.room (C.told clock.now) O.state W.served W.closed W.faults
+        (slice_index_or stations.items k d) (slice_index_or result.items k d) }
+{
+    let mut stations = stations;
+    let count = stations.len();
+    thread::for_each_mut(
+        rt,
+        stations.as_mut_slice(),
+        count,
+        &|_, station|
+            requires { IsSend W.row × IsSend W.L.row
+                × ((town O.state.history).host ≡ Some host.now)
+                × IsReady (λ l. l.log) W.out W.idle lock.now station.old }
+            ensures { IsReady (λ l. l.log) W.out W.idle lock.entry.now station.new
+                × IsLabor P.growth P.room (C.told clock.entry.now) O.state
+                W.served W.closed W.faults station.old station.new }
+        { labor(rt, alloc, lock, host, routes, station, clock) },
+    );
+    stations
+}
+
+/// Has a worker at the station until it has ended.
+fn labor<R: Wait, S: Shelf + Drop, P: Keeper + Drop, O: Opened, W: Door, C: Clock>(
+    rt: &R,
+    alloc: Global,
+    lock: &TurnLock<Logged<S, P, O>>,
+    host: &Host,
+    routes: &Routes,
+    station: &mut Station<W>,
+    clock: &C,
+)
+    requires host { (town O.state.history).host ≡ Some host.now }
+    requires ready { IsReady (λ l. l.log) W.out W.idle lock.now station.old }
+    ensures ready { IsReady (λ l. l.log) W.out W.idle lock.now station.new }
+    ensures labor { IsLabor P.growth P.room (C.told clock.now) O.state W.served W.closed W.faults
+        station.old station.new }
+{
+    let Station { pass, bench, end } = station;
+    let mut shared = Shared {
+        rt,
+        lock,
+        host,
+        routes,
+        pass,
+    };
+    *end = worker(rt, alloc, &mut shared, &mut bench.door, clock);
+}

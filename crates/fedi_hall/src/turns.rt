@@ -1,0 +1,55 @@
+//! One turn of a worker.
+ghost use Rattle.std.specs.Prelude.{◌≡◌, IfOk, IsTrue, OnErr, Some, is_some};
+ghost use Rattle.fedi_asks.specs.Built.{is_built_ask};
+ghost use Rattle.fedi_log.specs.Keeping.{base_of};
+ghost use Rattle.fedi_log.specs.Log.{Goes};
+ghost use Rattle.fedi_model.specs.Routes.{Asks, IsPostableAt};
+ghost use Rattle.fedi_talk.specs.Turning.{TurnTells};
+ghost use Rattle.fedi_town.specs.Histories.{town};
+ghost use Rattle.fedi_turn.specs.Turn.{IsIdle, number_of, seen_of};
+
+use fedi_log::Item;
+use fedi_logged::{Logged, Opened};
+use fedi_model::{Ask, Request};
+use fedi_outside::Keeper;
+use fedi_text::Moment;
+use fedi_turn::{Grows, Pass, TurnLock};
+use fedi_visible::Shelf;
+use std::alloc::{AllocError, Global};
+use std::sync::Wait;
+
+/// Answers a request that has this body and asks this, in one turn of the pass: who asks, what becomes of a post and keeping it.
+/// It hands back the text of the reply, which has no body if the method is HEAD; the connection is told to close if `closing`. The
+/// error is out of memory, and then nothing was kept, and the keeper did not fail.
+pub fn answer_in_turn<R: Wait, S: Shelf + Drop, P: Keeper + Drop, O: Opened>(
+    rt: &R,
+    alloc: Global,
+    lock: &TurnLock<Logged<S, P, O>>,
+    pass: &mut Pass<Item>,
+    request: &Request,
+    body: &[u8],
+    ask: Ask,
+    moment: Moment,
+    closing: bool,
+) -> Result<Vec<u8>, AllocError>
+    requires idle { IsIdle ⟦<Logged<S, P, O> as Grows>⟧ lock.now pass.old }
+    requires hosted { IsTrue (is_some (town O.state.history).host) }
+    requires asks { Asks (town O.state.history).host request.now body.now ask }
+    requires postable { IsPostableAt (town O.state.history).host ask }
+    requires built { IsTrue (is_built_ask ask) }
+    ensures idle { IsIdle ⟦<Logged<S, P, O> as Grows>⟧ lock.now pass.new }
+    ensures same { number_of pass.new ≡ number_of pass.old }
+    ensures text { IfOk result (λ text. TurnTells (base_of P.growth P.room O.state)
+        (Some (number_of pass.old)) (seen_of pass.old) (seen_of pass.new)
+        moment request.now body.now closing text.items) }
+    ensures lacking { OnErr result
+        (Goes (Some (number_of pass.old)) (seen_of pass.old) (seen_of pass.new)) }
+{
+    let by = pass.number();
+    let mut held = lock.take(rt, pass);
+    let text = held
+        .value
+        .answer(alloc, Some(by), request, body, ask, moment, closing);
+    lock.give(pass, held);
+    text
+}

@@ -1,0 +1,10 @@
+pub mod Crashing
+pub mod Hosted
+pub mod Hosts
+pub mod Marks
+pub mod Noting
+pub mod Own
+pub mod Replying
+pub mod Standing
+pub mod Telling
+pub mod Turning

@@ -1,0 +1,36 @@
+-- A log to which nobody else adds.
+use Rattle.std.proofs.Common.{◌≡◌, ℕ, ◌∷◌, [], ◌++◌, All, Option, Result, Ok, Err, OnErr, refl, sym, ap, subst, ◌∙◌, append_assoc}
+use Rattle.std.proofs.lemmas.List.Elements.{All-append, All-cons, All-nil}
+use Rattle.fedi_log.specs.Keeping.{GoesAlone}
+use Rattle.fedi_log.specs.Log.{Failed, Full, Goes, Kept, Log, NoEntry, Outcome, items_of, made_by}
+use Rattle.fedi_log.specs.declared.items.Item.{Item}
+use Rattle.fedi_log.specs.declared.items.What.{What}
+use Rattle.fedi_log.specs.declared.items.What.TheVariants.{Entered, Marked}
+use Rattle.fedi_log.proofs.Growing.{goes_here}
+use Rattle.fedi_logged.specs.Logs.{TurnsOn}
+use Rattle.fedi_logged.specs.Turns.{Standing}
+
+-- ---- its items are one's own
+
+one : (by : Option ℕ) (what : What) → All (λ (i : Item). i.pass ≡ by) (made_by by what ∷ [])
+one by what = All-cons (λ (i : Item). i.pass ≡ by) (made_by by what) [] refl (All-nil (λ (i : Item). i.pass ≡ by))
+
+pub own_items : (by : Option ℕ) (o : Outcome) → All (λ (i : Item). i.pass ≡ by) (items_of by o)
+own_items by NoEntry = All-nil (λ (i : Item). i.pass ≡ by)
+own_items by (Kept e) = one by (Entered e)
+own_items by (Full e) = All-nil (λ (i : Item). i.pass ≡ by)
+own_items by (Failed e) = one by (Marked e)
+
+pub alone_more : (growth : ℕ → ℕ) (by : Option ℕ) (before after : Standing) (seen log now : Log) → GoesAlone by seen log → TurnsOn growth by before after log now
+    → GoesAlone by seen now
+alone_more growth by before after seen log now g turn = record {
+  past = g.past ++ items_of by turn.0;
+  is = turn.2 ∙ ap (λ (l : Log). l ++ items_of by turn.0) g.is ∙ append_assoc seen g.past (items_of by turn.0);
+  own = All-append (λ (i : Item). i.pass ≡ by) g.past (items_of by turn.0) g.own (own_items by turn.0);
+}
+
+-- ---- what a turn leaves
+
+pub alone_lacks : {T E : Type 0} (by : Option ℕ) (log now : Log) (r : Result T E) → OnErr r (now ≡ log) → OnErr r (Goes by log now)
+alone_lacks by log now (Ok t) same = tt
+alone_lacks by log now (Err e) same = subst (λ (l : Log). Goes by log l) (sym same) (goes_here by log)

@@ -1,0 +1,8 @@
+use Rattle.fedi_log.specs.Keeping.{state_of}
+use Rattle.fedi_logged.proofs.alone.serve_alone.Given as goal
+
+abbrev pub ghosts-serve_opened : goal.ghosts-serve_opened
+ghosts-serve_opened g a = record {
+  state = state_of a.core.history (g.P.Keeper.shown a.core.keeper);
+  crashes = g.P.Keeper.crashes a.core.keeper;
+}

@@ -1,0 +1,4 @@
+pub mod Logs
+pub mod Marks
+pub mod Sessions
+pub mod Turns

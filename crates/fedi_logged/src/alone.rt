@@ -1,0 +1,139 @@
+//! A machine that nobody else takes turns with.
+ghost use Rattle.std.specs.Prelude.{◌≡◌, ℕ, IfOk, IsTrue, None, OnErr, is_some};
+ghost use Rattle.std.proofs.Common.{refl};
+ghost use Rattle.fedi_log.specs.Keeping.{GoesAlone, base_of, state_of};
+ghost use Rattle.fedi_log.specs.Log.{Goes, given};
+ghost use Rattle.fedi_talk.specs.Endings.{IsCaused, faults_on, scene_on};
+ghost use Rattle.fedi_talk.specs.Turning.{TurnTells, setting_by};
+ghost use Rattle.fedi_town.specs.Histories.{town};
+ghost use Rattle.fedi_town.specs.Legal.{IsLegal};
+ghost use Rattle.fedi_logged.specs.Logs.{AreSame};
+ghost use Rattle.fedi_logged.specs.Marks.{Survives};
+ghost use Rattle.fedi_logged.specs.Sessions.{EndsSession};
+
+use crate::logged::Logged;
+use crate::opened::Opened;
+use fedi_core::Core;
+use fedi_model::Request;
+use fedi_outside::{Clock, Keeper};
+use fedi_routes::{Routes, route};
+use fedi_talk::{Channel, SessionEnd, Turns, session};
+use fedi_text::Moment;
+use fedi_visible::Shelf;
+use std::alloc::{AllocError, Global};
+use std::marker::Brand;
+
+/// A machine with its log, to which nobody else adds: each item since the opening is by no pass.
+#[derive(Drop)]
+pub struct Alone<S: Shelf, P: Keeper, O: Opened> {
+    logged: Logged<S, P, O>,
+    routes: Routes,
+}
+
+impl<S: Shelf + Drop, P: Keeper, O: Opened> Alone<S, P, O> {
+    /// The machine that was opened so.
+    pub fn of(core: Core<S, P>, routes: Routes) -> Self
+        requires opened { O.state ≡ state_of core.history (P.shown core.keeper) }
+        requires crashes { AreSame O.crashes (P.crashes core.keeper) }
+        requires legal { IsLegal core.history }
+        ensures core { result.logged.core ≡ core }
+        ensures log { result.logged.log ≡ given core.history }
+    {
+        Alone {
+            logged: Logged::of(core),
+            routes,
+        }
+    }
+
+    /// The machine. It survived along the log.
+    pub fn into_core(self) -> Core<S, P>
+        requires alone { GoesAlone None (given O.state.history) self.logged.log }
+        ensures core { result ≡ self.logged.core }
+        ensures survives { Survives (base_of P.growth P.room O.state) None (given O.state.history)
+            self.logged.log (state_of result.history (P.shown result.keeper)) O.crashes
+            (P.crashes result.keeper) }
+    {
+        self.logged.into_core()
+    }
+}
+
+impl<S: Shelf + Drop, P: Keeper, O: Opened> Turns for Alone<S, P, O> {
+    ghost by = { λ _. None };
+
+    ghost base = { base_of P.growth P.room O.state };
+
+    ghost seen = { λ a. a.logged.log };
+
+    ghost ready = { λ a. IsTrue (is_some (town O.state.history).host)
+        × GoesAlone None (given O.state.history) a.logged.log };
+
+    ghost same = { λ _ _. Unit {0} };
+
+    ghost same_none = { λ _. tt };
+
+    ghost same_both = { λ _ _ _ _ _. tt };
+
+    ghost same_by = { λ _ _ _. refl };
+
+    fn answer(
+        &mut self,
+        alloc: Global,
+        request: &Request,
+        body: &[u8],
+        moment: Moment,
+        closing: bool,
+    ) -> Result<Vec<u8>, AllocError> {
+        let ask = route(alloc, request, body, self.logged.host(), &self.routes)?;
+        self.logged
+            .answer(alloc, None, request, body, ask, moment, closing)
+    }
+}
+
+fn serve_opened<S: Shelf + Drop, P: Keeper, O: Opened, H: Channel, C: Clock>(
+    alloc: Global,
+    core: Core<S, P>,
+    routes: Routes,
+    channel: &mut H,
+    clock: &C,
+) -> (SessionEnd, Core<S, P>)
+    requires opened { O.state ≡ state_of core.history (P.shown core.keeper) }
+    requires crashes { AreSame O.crashes (P.crashes core.keeper) }
+    requires hosted { IsTrue (is_some (town core.history).host) }
+    requires legal { IsLegal core.history }
+    ensures ends { EndsSession (setting_by P.growth P.room (C.told clock.now) None O.state)
+        (given O.state.history) (scene_on H.left H.sent H.write_faults channel.old)
+        (scene_on H.left H.sent H.write_faults channel.new) O.crashes
+        (state_of result.1.history (P.shown result.1.keeper)) (P.crashes result.1.keeper) result.0 }
+    ensures causes { IsCaused (faults_on H.read_faults H.write_faults channel.old)
+        (faults_on H.read_faults H.write_faults channel.new) result.0 }
+    ensures channel { H.same channel.old channel.new }
+{
+    let mut alone = Alone::<S, P, O>::of(core, routes);
+    let end = session(alloc, &mut alone, channel, clock);
+    (end, alone.into_core())
+}
+
+/// Serves one connection by a machine that nobody else takes turns with, and hands the machine back with how the session ended.
+pub fn serve_alone<S: Shelf + Drop, P: Keeper, H: Channel, C: Clock>(
+    alloc: Global,
+    core: Core<S, P>,
+    routes: Routes,
+    channel: &mut H,
+    clock: &C,
+) -> (SessionEnd, Core<S, P>)
+    requires hosted { IsTrue (is_some (town core.history).host) }
+    requires legal { IsLegal core.history }
+    // From the history that the machine has, the log goes on by what is kept and what the keeper fails to keep. If the input is
+    // told, what was read and written is one conversation over this log. A crash at any moment leaves the records, then the first
+    // of those that were kept since, and then at most one that was in doubt at that moment of the log.
+    ensures ends { let opened = state_of core.history (P.shown core.keeper) in EndsSession
+        (setting_by P.growth P.room (C.told clock.now) None opened) (given core.history)
+        (scene_on H.left H.sent H.write_faults channel.old)
+        (scene_on H.left H.sent H.write_faults channel.new) (P.crashes core.keeper)
+        (state_of result.1.history (P.shown result.1.keeper)) (P.crashes result.1.keeper) result.0 }
+    ensures causes { IsCaused (faults_on H.read_faults H.write_faults channel.old)
+        (faults_on H.read_faults H.write_faults channel.new) result.0 }
+    ensures channel { H.same channel.old channel.new }
+{
+    serve_opened::<S, P, Brand, H, C>(alloc, core, routes, channel, clock)
+}

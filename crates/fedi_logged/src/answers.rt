@@ -1,0 +1,151 @@
+//! A turn of a machine with its log.
+ghost use Rattle.std.specs.Prelude.{◌≡◌, [], IfOk, IsTrue, OnErr, is_some, option_copied};
+ghost use Rattle.fedi_asks.specs.Built.{is_built_ask};
+ghost use Rattle.fedi_log.specs.Keeping.{base_of, state_of};
+ghost use Rattle.fedi_log.specs.Log.{given};
+ghost use Rattle.fedi_model.specs.Routes.{Asks, IsPostableAt};
+ghost use Rattle.fedi_talk.specs.Turning.{Tells};
+ghost use Rattle.fedi_town.specs.Histories.{town};
+ghost use Rattle.fedi_town.specs.Legal.{IsLegal};
+ghost use Rattle.fedi_logged.specs.Logs.{AreSame, StandsFor, TurnsOn};
+ghost use Rattle.fedi_logged.specs.Turns.{standing_by};
+
+use crate::logged::Logged;
+use crate::noted::Noted;
+use crate::opened::Opened;
+use fedi_address::Host;
+use fedi_core::{Core, Decision, KeepError, KeepFault};
+use fedi_http::reply_bytes;
+use fedi_kept::Trace;
+use fedi_log::Item;
+use fedi_model::{Ask, Refusal, Request};
+use fedi_outside::Keeper;
+use fedi_routes::credentials;
+use fedi_talk::refusal_text;
+use fedi_text::Moment;
+use fedi_turn::Grows;
+use fedi_visible::Shelf;
+use std::alloc::{AllocError, Global};
+use std::marker::PhantomData;
+use std::snapshot::Snapshot;
+
+impl<S: Shelf + Drop, P: Keeper + Drop, O: Opened> Grows for Logged<S, P, O> {
+    type Item = Item;
+
+    ghost list = { λ l. l.log };
+
+    ghost base = { λ _. [] };
+
+    ghost name = { λ i. i.pass };
+
+    fn front(&self) -> u64 {
+        self.front
+    }
+}
+
+impl<S: Shelf + Drop, P: Keeper, O: Opened> Logged<S, P, O> {
+    /// The machine that was opened so, with the log of its history.
+    pub fn of(core: Core<S, P>) -> Self
+        requires opened { O.state ≡ state_of core.history (P.shown core.keeper) }
+        requires crashes { AreSame O.crashes (P.crashes core.keeper) }
+        requires legal { IsLegal core.history }
+        ensures core { result.core ≡ core }
+        ensures log { result.log ≡ given core.history }
+    {
+        let front = core.count();
+        Logged {
+            core,
+            noted: Trace::new(),
+            front,
+            of: PhantomData,
+        }
+    }
+
+    /// The machine, which stands for the log.
+    pub fn into_core(self) -> Core<S, P>
+        ensures core { result ≡ self.core }
+        ensures stands { StandsFor P.growth P.room O.state O.crashes
+            (state_of result.history (P.shown result.keeper)) (P.crashes result.keeper) self.log }
+    {
+        self.core
+    }
+
+    /// The host, which no turn changes.
+    pub fn host(&self) -> Option<&Host>
+        requires hosted { IsTrue (is_some (town O.state.history).host) }
+        ensures { option_copied result ≡ (town O.state.history).host }
+    {
+        self.core.host()
+    }
+
+    /// Answers a request that has this body and asks this, in one turn of the machine by the pass of this number, or by none if
+    /// nobody else adds to the log. It hands back the text of the reply, which has no body if the method is HEAD; the connection is
+    /// told to close if `closing`. The reply to a post is made before the post is kept, and so is the one that reports a keeper that
+    /// failed.
+    ///
+    /// The error is out of memory, and then nothing was kept, and the keeper did not fail. It also comes once the log has 2^64 - 1
+    /// items.
+    pub fn answer(
+        &mut self,
+        alloc: Global,
+        by: Option<u64>,
+        request: &Request,
+        body: &[u8],
+        ask: Ask,
+        moment: Moment,
+        closing: bool,
+    ) -> Result<Vec<u8>, AllocError>
+        requires hosted { IsTrue (is_some (town O.state.history).host) }
+        requires asks { Asks (town O.state.history).host request.now body.now ask }
+        requires postable { IsPostableAt (town O.state.history).host ask }
+        requires built { IsTrue (is_built_ask ask) }
+        ensures text { IfOk result (λ text. Tells (base_of P.growth P.room O.state) by
+            self.old.log self.new.log moment request.now body.now closing text.items) }
+        ensures lacking { OnErr result (self.new.log ≡ self.old.log) }
+        // A crash on the way leaves the records, with at most one more: the one in doubt, or the post's.
+        ensures turn { TurnsOn P.growth by (standing_by P.shown P.crashes self.old.core)
+            (standing_by P.shown P.crashes self.new.core) self.old.log self.new.log }
+    {
+        if self.front == u64::MAX {
+            return Err(AllocError);
+        }
+        let head_only = request.head_only;
+        let caller = match self.core.caller_of(&credentials(request, body)) {
+            Ok(caller) => caller,
+            Err(refusal) => return refusal_text(alloc, refusal, moment, head_only, closing),
+        };
+        let Decision { reply, entry } = self.core.decide(alloc, &caller, ask, moment)?;
+        let text = reply_bytes(alloc, &reply, moment, head_only, closing)?;
+        let Some(entry) = entry else {
+            return Ok(text);
+        };
+        let fault_text = refusal_text(alloc, Refusal::KeeperFault, moment, head_only, closing)?;
+        let made = Snapshot::of(&entry);
+        match self.core.keep(alloc, entry) {
+            Ok(()) => {
+                self.noted.push(&Noted {
+                    entry: made,
+                    kept: true,
+                    by,
+                });
+                self.front += 1;
+                Ok(text)
+            }
+            Err(KeepError { fault, .. }) => match fault {
+                KeepFault::Full => {
+                    refusal_text(alloc, Refusal::JournalFull, moment, head_only, closing)
+                }
+                KeepFault::Failed => {
+                    self.noted.push(&Noted {
+                        entry: made,
+                        kept: false,
+                        by,
+                    });
+                    self.front += 1;
+                    Ok(fault_text)
+                }
+                KeepFault::Memory => Err(AllocError),
+            },
+        }
+    }
+}

@@ -1,0 +1,4 @@
+pub mod Conversing
+pub mod Determined
+pub mod SessionLemmas
+pub mod Talks

@@ -1,0 +1,4 @@
+pub mod Channels
+pub mod Conversations
+pub mod Endings
+pub mod Turning
