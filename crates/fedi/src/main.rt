@@ -2,8 +2,10 @@
 #![tactic(auto)]
 
 use fedi_file::FileDisk;
+use fedi_net::{Listening, benches};
 use fedi_program::{
-    Connection, OUT_OF_MEMORY, Reading, Seed, SystemClock, SystemEntropy, Writing, run, store_of,
+    Connection, OUT_OF_MEMORY, Reading, Seed, SystemClock, SystemEntropy, Writing, address_of, run,
+    store_of,
 };
 use std::alloc::AllocError;
 use std::io::ErrorKind;
@@ -34,6 +36,10 @@ fn seed(rt: &HostRuntime) -> Seed {
     Seed::new(&secret)
 }
 
+/// How many connections are served at once. A bench is a few words until `serve` gives it a thread, and each
+/// connection has a buffer of its own from its first request on.
+const BENCHES: usize = 64;
+
 fn main(rt: HostRuntime) -> ExitCode {
     let Ok(arguments) = arguments(&rt) else {
         return ExitCode::from(OUT_OF_MEMORY);
@@ -45,13 +51,20 @@ fn main(rt: HostRuntime) -> ExitCode {
     };
     // Arguments that name no store never ask the disk, and so open nothing.
     let disk = FileDisk::new(&rt, store_of(&arguments).unwrap_or_default());
+    // Likewise, only `serve` asks its doors, and the address is bound when one is first asked.
+    let listening = Listening::new(&rt, address_of(&arguments).unwrap_or_default());
+    let Ok(benches) = benches(&rt, rt.alloc(), &listening, BENCHES) else {
+        return ExitCode::from(OUT_OF_MEMORY);
+    };
     let mut entropy = SystemEntropy::new(&rt);
     let ended = run(
+        &rt,
         rt.alloc(),
         seed(&rt),
         &arguments,
         &mut connection,
         disk,
+        benches,
         &mut entropy,
     );
     ExitCode::from(ended.status)

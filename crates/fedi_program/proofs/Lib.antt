@@ -1,12 +1,4 @@
-pub mod AnswerLemmas
-pub mod Conversing
-pub mod CrashLemmas
-pub mod Determined
-pub mod Hosted
 pub mod MemberLemmas
 pub mod RunLemmas
-pub mod SessionLemmas
 pub mod StoreLemmas
-pub mod Turning
-pub mod Talks
 pub mod WordLemmas

@@ -17,17 +17,18 @@ use Rattle.fedi_town.specs.declared.command_fault.CommandFault.TheVariants as fa
 use Rattle.fedi_town.specs.Histories.{town}
 use Rattle.fedi_town.specs.Legal.{broken_command}
 use Rattle.fedi_town.specs.Towns.{has_digest, has_name}
-use Rattle.fedi_startup.specs.Marks.{SurvivesMarked}
+use Rattle.fedi_logged.specs.Marks.{SurvivesMarked}
 use Rattle.fedi_startup.specs.Surviving.{growth, room}
 use Rattle.fedi_program.specs.Commands.{AddActor, Init, Task}
-use Rattle.fedi_program.specs.Crashing.{Standing, Turns}
-use Rattle.fedi_program.specs.Endings.{Output, Prints}
+use Rattle.fedi_logged.specs.Turns.{Standing, Turns}
+use Rattle.fedi_talk.specs.Endings.{Output}
+use Rattle.fedi_program.specs.Endings.{Prints}
 use Rattle.fedi_program.specs.Members.{Chance, EndsWith, IsSettled, IsUnmade, MakesMember, TellsFault, key_line, member_entry}
 use Rattle.fedi_program.specs.Runs.{is_status_of}
 use Rattle.fedi_program.specs.Stores.{AddsMember, Medium}
-use Rattle.fedi_program.proofs.CrashLemmas.{survives_more, survives_turn}
+use Rattle.fedi_logged.proofs.Crashing.{survives_more, survives_turn}
 use Rattle.fedi_program.proofs.RunLemmas.{known_status, told_status}
-use Rattle.fedi_program.proofs.Turning.{IsUnkept, failed_turn}
+use Rattle.fedi_logged.proofs.Turning.{IsUnkept, failed_turn}
 
 -- ---- the status
 

@@ -5,11 +5,18 @@ use Rattle.fedi_startup.specs.Surviving.{growth, room}
 use Rattle.fedi_startup.specs.declared.faults.StoreFault.{StoreFault}
 use Rattle.fedi_startup.specs.declared.faults.StoreFault.TheVariants as faults
 use Rattle.fedi_log.specs.Keeping.{State}
-use Rattle.fedi_program.specs.declared.sessions.SessionEnd.{SessionEnd}
-use Rattle.fedi_program.specs.declared.sessions.SessionEnd.TheVariants.{End, CutShort, Closed, ReadFault, WriteFault, Memory}
-use Rattle.fedi_program.specs.Commands.{Inetd, Task}
-use Rattle.fedi_program.specs.Conversations.{Setting}
-use Rattle.fedi_program.specs.Endings.{Faults, HasCauses, IsCaused, Output, RunsTo, Scene, Serves, Talks, TalksIfTold, setting_of, status_of}
+use Rattle.fedi_talk.specs.declared.sessions.SessionEnd.{SessionEnd}
+use Rattle.fedi_talk.specs.declared.sessions.SessionEnd.TheVariants.{End, CutShort, Closed, ReadFault, WriteFault, Memory}
+use Rattle.fedi_hall.specs.declared.serving.ServeEnd.{ServeEnd}
+use Rattle.fedi_hall.specs.declared.serving.ServeEnd.TheVariants as serves
+use Rattle.fedi_outside.specs.Doors.{Row}
+use Rattle.fedi_outside.specs.declared.doors.Bench.{Bench}
+use Rattle.fedi_program.specs.Commands.{Inetd, Serve, Task}
+use Rattle.fedi_program.specs.Serving.{ServesDoors, status_after}
+use Rattle.fedi_talk.specs.Conversations.{Setting}
+use Rattle.fedi_talk.specs.Endings.{Faults, IsCaused, Output, Scene, Serves, Talks}
+use Rattle.fedi_program.specs.Endings.{HasCauses, RunsTo, TalksIfTold, status_of}
+use Rattle.fedi_talk.specs.Turning.{setting_by}
 use Rattle.fedi_program.specs.Members.{Chance}
 use Rattle.fedi_program.specs.Runs.{is_status_of}
 use Rattle.fedi_program.specs.Stores.{AddsMember, ChecksStore, IsKeptSafe, Medium, ServesStore, TalksOverStore, TellsOfStore, status_by}
@@ -44,22 +51,27 @@ pub store_talks : (told : Option ℕ) (before after : Medium) (first now : Scene
     → ServesStore told before after first now status → TalksOverStore told before after first now
 store_talks told before after first now status done (inl (fault, _, _, is)) = absurd (not_done fault (sym done ∙ is))
 store_talks told before after first now status done (inr (opened, closed, log, served, ran)) =
-    (opened, closed, log, served, session_talks (setting_of growth room told opened) opened log first now status done ran)
+    (opened, closed, log, served, session_talks (setting_by growth room told None opened) opened log first now status done ran)
 
 -- ---- what becomes of the store
 
 pub served_safe : (told : Option ℕ) (before after : Medium) (first now : Scene) (status : ℕ) → ServesStore told before after first now status → IsKeptSafe before after
 served_safe told before after first now status (inl (fault, refused, _, _)) = inl (fault, refused)
-served_safe told before after first now status (inr (opened, closed, log, served, _)) = inr (opened, closed, (log, served))
+served_safe told before after first now status (inr (opened, closed, log, served, _)) = inr (opened, closed, log, served.0)
 
 pub added_safe : (told : Option ℕ) (before after : Medium) (chance left : Chance) (first now : Output) (name : List ℕ) (locked : Bool) (status : ℕ)
     → AddsMember told before after chance left first now name locked status → IsKeptSafe before after
 added_safe told before after chance left first now name locked status (inl (fault, refused, _, _)) = inl (fault, refused)
-added_safe told before after chance left first now name locked status (inr (opened, closed, served, _)) = inr (opened, closed, served)
+added_safe told before after chance left first now name locked status (inr (opened, closed, run, _)) = inr (opened, closed, run.0, run.1.0)
 
 pub checked_safe : (before after : Medium) (first now : Output) (status : ℕ) → ChecksStore before after first now status → IsKeptSafe before after
 checked_safe before after first now status (inl (fault, refused, _)) = inl (fault, refused)
-checked_safe before after first now status (inr (opened, served, _, _)) = inr (opened, opened, (given opened.history, served))
+checked_safe before after first now status (inr (opened, served, _, _)) = inr (opened, opened, given opened.history, served)
+
+pub doors_safe : {W : Type 0} (told : Option ℕ) (before after : Medium) (served : W → Option (List Row)) (closed : W → Bool) (faults : W → ℕ)
+    (first now : List (Bench W)) (status : ℕ) → ServesDoors told before after served closed faults first now status → IsKeptSafe before after
+doors_safe told before after served closed faults first now status (inl (fault, refused, _, _)) = inl (fault, refused)
+doors_safe told before after served closed faults first now status (inr (opened, last, log, is, _, _)) = inr (opened, last, log, is)
 
 -- ---- the status
 
@@ -83,6 +95,25 @@ told_status task (faults.DamagedByte place) first now status three four five twe
 told_status task (faults.DamagedRecord place) first now status three four five twelve told = known_status task status 4 four told.0
 told_status task faults.Failed first now status three four five twelve told = known_status task status 5 five told.0
 told_status task faults.Memory first now status three four five twelve told = known_status task status 12 twelve told.0
+
+-- the connections of doors were served, or not
+of_fault : (address : List ℕ) (fault : StoreFault) → is_status_of (Some (Serve address)) (status_by fault) ≡ true
+of_fault address faults.NotAStore = refl
+of_fault address (faults.DamagedByte place) = refl
+of_fault address (faults.DamagedRecord place) = refl
+of_fault address faults.Failed = refl
+of_fault address faults.Memory = refl
+
+of_ending : (address : List ℕ) (ending : ServeEnd) → is_status_of (Some (Serve address)) (status_after ending) ≡ true
+of_ending address serves.Closed = refl
+of_ending address serves.DoorFault = refl
+of_ending address serves.Memory = refl
+
+pub doors_status : {W : Type 0} (told : Option ℕ) (before after : Medium) (served : W → Option (List Row)) (closed : W → Bool) (faults : W → ℕ)
+    (first now : List (Bench W)) (status : ℕ) → ServesDoors told before after served closed faults first now status
+    → (address : List ℕ) → is_status_of (Some (Serve address)) status ≡ true
+doors_status told before after served closed faults first now status (inl (fault, _, _, is)) address = rw is (of_fault address fault)
+doors_status told before after served closed faults first now status (inr (opened, last, log, _, _, (ending, is, _))) address = rw is (of_ending address ending)
 
 -- ---- causes
 

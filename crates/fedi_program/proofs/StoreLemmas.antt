@@ -1,5 +1,5 @@
 -- A machine that was opened over a disk, and closed.
-use Rattle.std.proofs.Common.{◌≡◌, ℕ, Bool, Option, Some, None, List, inl, inr, refl, sym, subst, ◌∙◌}
+use Rattle.std.proofs.Common.{◌≡◌, ℕ, Bool, Option, Some, None, List, [], inl, inr, refl, sym, subst, ◌∙◌}
 use Rattle.std.specs.Prelude.{IfSome}
 use Rattle.fedi_address.specs.Hosts.{IsHost}
 use Rattle.fedi_entry.specs.Codes.{code_of}
@@ -7,7 +7,8 @@ use Rattle.fedi_images.specs.Images.{plain}
 use Rattle.fedi_images.proofs.Steps.{of_some}
 use Rattle.fedi_images.specs.Known.{record_crashes, records_told}
 use Rattle.fedi_journal.specs.Making.{KeepsOther}
-use Rattle.fedi_log.specs.Keeping.{State, since}
+use Rattle.fedi_log.specs.Keeping.{HoldsFrom, State, since}
+use Rattle.fedi_log.specs.Leaving.{CrashesAlong}
 use Rattle.fedi_log.specs.Log.{Log, given}
 use Rattle.fedi_objects.specs.declared.entry.Entry.TheVariants.{Hosted}
 use Rattle.fedi_outside.proofs.Untouched.{untouched_now}
@@ -17,45 +18,67 @@ use Rattle.fedi_startup.proofs.Stored.{leaves_stores, stores_along, stores_found
 use Rattle.fedi_startup.proofs.Surviving.{survives_on_disk}
 use Rattle.fedi_startup.proofs.Told.{each_some}
 use Rattle.fedi_startup.specs.Making.{LeavesAtMost}
-use Rattle.fedi_startup.specs.Marks.{Survives}
+use Rattle.fedi_logged.specs.Marks.{MarksMayCome, Survives}
 use Rattle.fedi_startup.specs.Stores.{IsClosed, IsOpened, IsStoreOf, LeavesFiles, records_of}
 use Rattle.fedi_startup.specs.Surviving.{LeavesStoresAlong, LeavesStoresFound, SurvivesOnDisk, growth, opened_base, room}
 use Rattle.fedi_startup.specs.declared.faults.StoreFault.TheVariants as faults
-use Rattle.fedi_program.specs.Conversations.{IsNow}
-use Rattle.fedi_program.specs.Endings.{Output, RunsTo, Scene, setting_of}
+use Rattle.fedi_talk.specs.Conversations.{IsNow}
+use Rattle.fedi_talk.specs.Endings.{Output, Scene}
+use Rattle.fedi_program.specs.Endings.{RunsTo}
+use Rattle.fedi_talk.specs.Turning.{setting_by}
+use Rattle.fedi_hall.specs.Serving.{EndsServing, ServesAll}
+use Rattle.fedi_hall.specs.declared.serving.ServeEnd.{ServeEnd}
+use Rattle.fedi_outside.specs.Doors.{Row}
+use Rattle.fedi_outside.specs.declared.doors.Bench.{Bench}
 use Rattle.fedi_program.specs.Members.{Chance, MakesMember}
-use Rattle.fedi_program.specs.Stores.{AddsMember, ChecksStore, Counts, EndsMaking, IsRefused, IsServed, MakesStore, ServesStore}
+use Rattle.fedi_program.specs.Serving.{ServesDoors, status_after}
+use Rattle.fedi_program.specs.Stores.{AddsMember, ChecksStore, Counts, EndsMaking, IsRefused, IsServed, IsServedAlone, MakesStore, ServesStore}
 
+-- A machine was opened over a disk, and its keeper then survived along a log.
 pub served : (start found later : DiskState) (before middle after : DiskCrashes) (opened closed : State) (log : Log) (count : ℕ)
     → IsOpened start opened → opened.keeper.records ≡ records_told plain count found → IsUntouched start found before middle
     → ((image : List ℕ) → before.left_since before.clock image → before.may_leave image)
     → IfSome start.reads (λ _. LeavesFiles middle (records_of opened.history) None) → ((image : List ℕ) → middle.left_since middle.clock image → middle.may_leave image)
-    → Survives (opened_base opened) None (given opened.history) log closed (record_crashes plain found middle) (record_crashes plain later after)
+    → HoldsFrom (opened_base opened) (given opened.history) closed log
+    → CrashesAlong (opened_base opened) log (record_crashes plain found middle) (record_crashes plain later after) → MarksMayCome [] log
     → IsClosed later after closed
     → IsServed (record { shown = start; crashes = before }) (record { shown = later; crashes = after }) opened closed log
-served start found later before middle after opened closed log count opens told same first left only survives closes = record {
+served start found later before middle after opened closed log count opens told same first left only holds crashes marks closes = record {
   opens = opens;
   closes = closes;
-  holds = survives.holds;
-  marks = survives.marks;
-  leaves = leaves_stores later after opened closed log opens.some survives.holds closes;
+  holds = holds;
+  marks = marks;
+  leaves = leaves_stores later after opened closed log opens.some holds closes;
   files = files;
   stores = with_all start.reads files;
   found = with_found start.reads files;
 }
   where
     files : IfSome start.reads (λ _. SurvivesOnDisk before after opened log)
-    files = survives_on_disk start found later before middle after opened closed log count opens told same first left only survives
+    files = survives_on_disk start found later before middle after opened log count opens told same first left only crashes
 
     with_all : (reads : Option (List ℕ)) → IfSome reads (λ _. SurvivesOnDisk before after opened log)
         → IfSome reads (λ _. LeavesStoresAlong before after opened.history (since (opened_base opened) log))
     with_all None all = tt
-    with_all (Some bytes) all = stores_along before after opened closed log opens.some opens.doubt closes.sound survives.holds survives.marks all
+    with_all (Some bytes) all = stores_along before after opened closed log opens.some opens.doubt closes.sound holds marks all
 
     with_found : (reads : Option (List ℕ)) → IfSome reads (λ _. SurvivesOnDisk before after opened log)
         → IfSome reads (λ _. LeavesStoresFound before after opened.history (since (opened_base opened) log))
     with_found None all = tt
-    with_found (Some bytes) all = stores_found before after opened closed log opens.some opens.doubt closes.sound survives.holds survives.marks all
+    with_found (Some bytes) all = stores_found before after opened closed log opens.some opens.doubt closes.sound holds marks all
+
+-- and nobody else added to the log
+served_alone : (start found later : DiskState) (before middle after : DiskCrashes) (opened closed : State) (log : Log) (count : ℕ)
+    → IsOpened start opened → opened.keeper.records ≡ records_told plain count found → IsUntouched start found before middle
+    → ((image : List ℕ) → before.left_since before.clock image → before.may_leave image)
+    → IfSome start.reads (λ _. LeavesFiles middle (records_of opened.history) None) → ((image : List ℕ) → middle.left_since middle.clock image → middle.may_leave image)
+    → Survives (opened_base opened) None (given opened.history) log closed (record_crashes plain found middle) (record_crashes plain later after)
+    → IsClosed later after closed
+    → IsServedAlone (record { shown = start; crashes = before }) (record { shown = later; crashes = after }) opened closed log
+served_alone start found later before middle after opened closed log count opens told same first left only survives closes =
+    let alone = survives.holds.grown in
+    let holds : HoldsFrom (opened_base opened) (given opened.history) closed log = record { past = alone.past; is = alone.is; holds = survives.holds.holds } in
+    (served start found later before middle after opened closed log count opens told same first left only holds survives.crashes survives.marks closes, alone)
 
 -- and served a connection in between
 pub serves : (told : Option ℕ) (start found later : DiskState) (before middle after : DiskCrashes) (opened closed : State) (log : Log) (count : ℕ) (first now : Scene) (status : ℕ)
@@ -64,10 +87,32 @@ pub serves : (told : Option ℕ) (start found later : DiskState) (before middle 
     → IfSome start.reads (λ _. LeavesFiles middle (records_of opened.history) None) → ((image : List ℕ) → middle.left_since middle.clock image → middle.may_leave image)
     → Survives (opened_base opened) None (given opened.history) log closed (record_crashes plain found middle) (record_crashes plain later after)
     → IsClosed later after closed
-    → RunsTo (setting_of growth room told opened) opened log first now status
+    → RunsTo (setting_by growth room told None opened) opened log first now status
     → ServesStore told (record { shown = start; crashes = before }) (record { shown = later; crashes = after }) first now status
 serves told start found later before middle after opened closed log count first now status opens records same before_now left only survives closes runs =
-    inr (opened, closed, log, served start found later before middle after opened closed log count opens records same before_now left only survives closes, runs)
+    inr (opened, closed, log, served_alone start found later before middle after opened closed log count opens records same before_now left only survives closes, runs)
+
+-- or served those of many doors
+pub serves_doors : {W : Type 0} (told : Option ℕ) (start found later : DiskState) (before middle after : DiskCrashes) (opened closed : State) (count : ℕ)
+    (rows : W → Option (List Row)) (shut : W → Bool) (faults : W → ℕ) (first now : List (Bench W)) (status : ℕ)
+    → IsOpened start opened → opened.keeper.records ≡ records_told plain count found → IsUntouched start found before middle
+    → ((image : List ℕ) → before.left_since before.clock image → before.may_leave image)
+    → IfSome start.reads (λ _. LeavesFiles middle (records_of opened.history) None) → ((image : List ℕ) → middle.left_since middle.clock image → middle.may_leave image)
+    → ServesAll growth room told opened (record_crashes plain found middle) closed (record_crashes plain later after) rows first now
+    → IsClosed later after closed
+    → (ending : ServeEnd) × (status ≡ status_after ending) × EndsServing shut faults first now ending
+    → ServesDoors told (record { shown = start; crashes = before }) (record { shown = later; crashes = after }) rows shut faults first now status
+serves_doors told start found later before middle after opened closed count rows shut faults first now status opens records same before_now left only all closes ends =
+    let stands = all.stands in
+    let holds : HoldsFrom (opened_base opened) (given opened.history) closed all.log = record { past = stands.past; is = stands.begins; holds = stands.holds } in
+    inr (
+      opened,
+      closed,
+      all.log,
+      served start found later before middle after opened closed all.log count opens records same before_now left only holds stands.crashed stands.marked closes,
+      record { named = all.named; same = all.same; each = all.each },
+      ends,
+    )
 
 -- or made a member
 pub adds : (told : Option ℕ) (start found later : DiskState) (before middle after : DiskCrashes) (opened closed : State) (log : Log) (count : ℕ) (chance spent : Chance) (first now : Output)
@@ -80,7 +125,7 @@ pub adds : (told : Option ℕ) (start found later : DiskState) (before middle af
     → MakesMember growth room told chance spent opened closed first now name locked status
     → AddsMember told (record { shown = start; crashes = before }) (record { shown = later; crashes = after }) chance spent first now name locked status
 adds told start found later before middle after opened closed log count chance spent first now name locked status opens records same before_now left only survives closes made =
-    inr (opened, closed, (log, served start found later before middle after opened closed log count opens records same before_now left only survives closes), made)
+    inr (opened, closed, (log, served_alone start found later before middle after opened closed log count opens records same before_now left only survives closes), made)
 
 -- a machine that was opened, and closed before it did anything, for want of memory
 pub given_up : (start found : DiskState) (before middle : DiskCrashes) (opened : State) → IsOpened start opened → IsClosed found middle opened → IsUntouched start found before middle
@@ -121,4 +166,4 @@ pub checks : (start found : DiskState) (before middle : DiskCrashes) (opened : S
     → IsClosed found middle opened → Counts first now opened.history status
     → ChecksStore (record { shown = start; crashes = before }) (record { shown = found; crashes = middle }) first now status
 checks start found before middle opened count first now status opens told same before_now left only survives closes counts =
-    inr (opened, served start found found before middle middle opened opened (given opened.history) count opens told same before_now left only survives closes, same, counts)
+    inr (opened, (served_alone start found found before middle middle opened opened (given opened.history) count opens told same before_now left only survives closes).0, same, counts)

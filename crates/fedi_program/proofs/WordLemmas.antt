@@ -2,7 +2,7 @@
 use Rattle.std.proofs.Common.{◌≡◌, ℕ, Bool, true, false, ◌&&◌, suc, ◌≤◌, ◌<◌, List, [], ◌∷◌, length, map, Option, None, Some, is_some, option_map, bytes_eq, codes, refl, sym, ap, ◌∙◌, arith, if◌then◌else◌}
 use Rattle.std.proofs.lemmas.List.{length-map}
 use Rattle.std.specs.List.{list_any, find}
-use Rattle.fedi_program.specs.Commands.{Task, Init, Inetd, AddActor, Check, is_locked_flag, is_position, without_flag, add_actor_at, add_actor_with, init_with, on_store, usage_with, task_in, names_store, store_in}
+use Rattle.fedi_program.specs.Commands.{Task, Init, Inetd, Serve, AddActor, Check, is_locked_flag, is_position, without_flag, add_actor_at, add_actor_with, on_store, on_store_with, usage_with, task_in, names_store, store_in}
 
 -- one flag at most is taken out
 length-without_flag : (xs : List (List ℕ)) → length xs ≤ suc (length (without_flag xs))
@@ -57,11 +57,11 @@ on_store_has task [] = λ e. absurd (cc e)
 on_store_has task (store ∷ []) = first_is_position store [] (λ b. if b then Some task else None) refl
 on_store_has task (store ∷ x ∷ xs) = λ e. absurd (cc e)
 
-init_has : (xs : List (List ℕ)) → HasPosition xs (init_with xs)
-init_has [] = λ e. absurd (cc e)
-init_has (store ∷ []) = λ e. absurd (cc e)
-init_has (store ∷ host ∷ []) = first_is_position store (host ∷ []) (λ b. if b && is_position host then Some (Init host) else None) refl
-init_has (store ∷ host ∷ x ∷ xs) = λ e. absurd (cc e)
+on_store_with_has : (task : List ℕ → Task) (xs : List (List ℕ)) → HasPosition xs (on_store_with task xs)
+on_store_with_has task [] = λ e. absurd (cc e)
+on_store_with_has task (store ∷ []) = λ e. absurd (cc e)
+on_store_with_has task (store ∷ word ∷ []) = first_is_position store (word ∷ []) (λ b. if b && is_position word then Some (task word) else None) refl
+on_store_with_has task (store ∷ word ∷ x ∷ xs) = λ e. absurd (cc e)
 
 add_actor_at_has : (xs : List (List ℕ)) (locked : Bool) → HasPosition xs (add_actor_at xs locked)
 add_actor_at_has [] locked = λ e. absurd (cc e)
@@ -80,10 +80,11 @@ either false xs task other has had = had
 accepted_has : (name : List ℕ) (xs : List (List ℕ)) → HasPosition xs (task_in (name ∷ xs))
 accepted_has name xs =
     either (bytes_eq name (codes "usage")) xs _ _ (usage_has xs) (
-    either (bytes_eq name (codes "init")) xs _ _ (init_has xs) (
+    either (bytes_eq name (codes "init")) xs _ _ (on_store_with_has Init xs) (
     either (bytes_eq name (codes "inetd")) xs _ _ (on_store_has Inetd xs) (
+    either (bytes_eq name (codes "serve")) xs _ _ (on_store_with_has Serve xs) (
     either (bytes_eq name (codes "add-actor")) xs _ _ (λ e. with_flag xs (add_actor_at_has (without_flag xs) (list_any is_locked_flag xs) e)) (
-    either (bytes_eq name (codes "check")) xs _ _ (on_store_has Check xs) (λ e. absurd (cc e))))))
+    either (bytes_eq name (codes "check")) xs _ _ (on_store_has Check xs) (λ e. absurd (cc e)))))))
 
 named_in : (words : List (List ℕ)) → is_some (store_in words) ≡ names_store (task_in words)
 named_in [] = refl

@@ -4,12 +4,13 @@ use Rattle.std.specs.List.{starts_with, list_any, find}
 use Rattle.fedi_program.specs.declared.commands.Command.{Command}
 use Rattle.fedi_program.specs.declared.commands.Command.TheVariants as commands
 
--- What the program is asked to do: to print its usage, to begin a store for this host, to serve one connection, to make a
--- member of this name, who is locked or not, or to count what a store holds.
+-- What the program is asked to do: to print its usage, to begin a store for this host, to serve one connection, to serve those
+-- that come to this address, to make a member of this name, who is locked or not, or to count what a store holds.
 pub data Task : Type 0 where
   Usage : Task
   Init : List ℕ → Task
   Inetd : Task
+  Serve : List ℕ → Task
   AddActor : List ℕ → Bool → Task
   Check : Task
 
@@ -18,6 +19,7 @@ abbrev pub task_of : Command → Task
 task_of commands.Usage = Usage
 task_of (commands.Init host) = Init host.now
 task_of commands.Inetd = Inetd
+task_of (commands.Serve address) = Serve address.now
 task_of (commands.AddActor name locked) = AddActor name.now locked
 task_of commands.Check = Check
 
@@ -46,12 +48,12 @@ add_actor_at (store ∷ name ∷ other ∷ others) locked = None
 abbrev pub add_actor_with : List (List ℕ) → Option Task
 add_actor_with arguments = add_actor_at (without_flag arguments) (list_any is_locked_flag arguments)
 
--- what `init` is to do with these arguments, a store and a host
-abbrev pub init_with : List (List ℕ) → Option Task
-init_with [] = None
-init_with (store ∷ []) = None
-init_with (store ∷ host ∷ []) = if is_position store && is_position host then Some (Init host) else None
-init_with (store ∷ host ∷ other ∷ others) = None
+-- the task of this word, if the arguments are a store and that word alone
+abbrev pub on_store_with : (List ℕ → Task) → List (List ℕ) → Option Task
+on_store_with task [] = None
+on_store_with task (store ∷ []) = None
+on_store_with task (store ∷ word ∷ []) = if is_position store && is_position word then Some (task word) else None
+on_store_with task (store ∷ word ∷ other ∷ others) = None
 
 -- this task, if the arguments are a store alone
 abbrev pub on_store : Task → List (List ℕ) → Option Task
@@ -69,10 +71,11 @@ abbrev pub task_in : List (List ℕ) → Option Task
 task_in [] = None
 task_in (name ∷ arguments) =
     if bytes_eq name (codes "usage") then usage_with arguments else (
-    if bytes_eq name (codes "init") then init_with arguments else (
+    if bytes_eq name (codes "init") then on_store_with Init arguments else (
     if bytes_eq name (codes "inetd") then on_store Inetd arguments else (
+    if bytes_eq name (codes "serve") then on_store_with Serve arguments else (
     if bytes_eq name (codes "add-actor") then add_actor_with arguments else (
-    if bytes_eq name (codes "check") then on_store Check arguments else None))))
+    if bytes_eq name (codes "check") then on_store Check arguments else None)))))
 
 -- whether arguments that ask for this name a store
 abbrev pub names_store : Option Task → Bool
@@ -80,6 +83,7 @@ names_store None = false
 names_store (Some Usage) = false
 names_store (Some (Init host)) = true
 names_store (Some Inetd) = true
+names_store (Some (Serve address)) = true
 names_store (Some (AddActor name locked)) = true
 names_store (Some Check) = true
 
@@ -87,3 +91,13 @@ names_store (Some Check) = true
 abbrev pub store_in : List (List ℕ) → Option (List ℕ)
 store_in [] = None
 store_in (name ∷ arguments) = if names_store (task_in (name ∷ arguments)) then find is_position arguments else None
+
+-- the address at which connections are served, if that is the task
+abbrev pub address_of : Option Task → Option (List ℕ)
+address_of None = None
+address_of (Some Usage) = None
+address_of (Some (Init host)) = None
+address_of (Some Inetd) = None
+address_of (Some (Serve address)) = Some address
+address_of (Some (AddActor name locked)) = None
+address_of (Some Check) = None

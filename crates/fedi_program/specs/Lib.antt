@@ -1,9 +1,8 @@
 pub mod Adapters
 pub mod Commands
-pub mod Conversations
-pub mod Crashing
 pub mod Endings
 pub mod Members
 pub mod Runs
+pub mod Serving
 pub mod Stores
 pub mod Usage

@@ -15,8 +15,9 @@ use Rattle.fedi_outside.specs.Keepers.{after_fault}
 use Rattle.fedi_log.specs.Keeping.{State}
 use Rattle.fedi_core.specs.Commands.{RefusesCommand}
 use Rattle.fedi_core.specs.Keeping.{IsKept}
-use Rattle.fedi_program.specs.Conversations.{IsNow}
-use Rattle.fedi_program.specs.Endings.{Output, Writes, WritesUnlessFailed, Prints}
+use Rattle.fedi_talk.specs.Conversations.{IsNow}
+use Rattle.fedi_talk.specs.Endings.{Output, Writes, WritesUnlessFailed}
+use Rattle.fedi_program.specs.Endings.{Prints}
 
 -- ---- keys
 

@@ -1,7 +1,7 @@
 -- What a run may do, by what it is asked.
 use Rattle.std.specs.Prelude.{ℕ, ◌==◌, Bool, true, false, List, [], ◌∷◌, Option, None, Some}
 use Rattle.std.specs.List.{list_any}
-use Rattle.fedi_program.specs.Commands.{Task, Usage, Init, Inetd, AddActor, Check}
+use Rattle.fedi_program.specs.Commands.{Task, Usage, Init, Inetd, Serve, AddActor, Check}
 
 -- the statuses with which it may end
 abbrev pub statuses_of : Option Task → List ℕ
@@ -9,6 +9,7 @@ statuses_of None = 2 ∷ []
 statuses_of (Some Usage) = 0 ∷ 7 ∷ []
 statuses_of (Some (Init host)) = 0 ∷ 5 ∷ 7 ∷ 9 ∷ 10 ∷ 12 ∷ []
 statuses_of (Some Inetd) = 0 ∷ 3 ∷ 4 ∷ 5 ∷ 6 ∷ 7 ∷ 8 ∷ 12 ∷ []
+statuses_of (Some (Serve address)) = 0 ∷ 3 ∷ 4 ∷ 5 ∷ 11 ∷ 12 ∷ []
 statuses_of (Some (AddActor name locked)) = 0 ∷ 3 ∷ 4 ∷ 5 ∷ 6 ∷ 7 ∷ 10 ∷ 12 ∷ 13 ∷ []
 statuses_of (Some Check) = 0 ∷ 3 ∷ 4 ∷ 5 ∷ 7 ∷ 12 ∷ []
 
@@ -22,6 +23,7 @@ opens_store None = false
 opens_store (Some Usage) = false
 opens_store (Some (Init host)) = false
 opens_store (Some Inetd) = true
+opens_store (Some (Serve address)) = true
 opens_store (Some (AddActor name locked)) = true
 opens_store (Some Check) = true
 
@@ -31,5 +33,6 @@ may_draw None = false
 may_draw (Some Usage) = false
 may_draw (Some (Init host)) = false
 may_draw (Some Inetd) = false
+may_draw (Some (Serve address)) = false
 may_draw (Some (AddActor name locked)) = true
 may_draw (Some Check) = false

@@ -1,17 +1,19 @@
 -- What a run does with the store of a disk, and what it prints of it.
 use Rattle.std.specs.Prelude.{◌≡◌, ◌⊎◌, ℕ, Bool, List, [], ◌∷◌, ◌++◌, codes, decimal, Option, None, IfSome}
 use Rattle.fedi_address.specs.Hosts.{IsHost}
-use Rattle.fedi_log.specs.Keeping.{HoldsSince, State, since}
+use Rattle.fedi_log.specs.Keeping.{GoesAlone, HoldsFrom, State, since}
 use Rattle.fedi_log.specs.Log.{Log, given}
 use Rattle.fedi_entry.specs.Codes.{code_of}
 use Rattle.fedi_objects.specs.declared.entry.Entry.{Entry}
 use Rattle.fedi_objects.specs.declared.entry.Entry.TheVariants.{Hosted}
 use Rattle.fedi_outside.specs.Disks.{DiskCrashes, DiskState, IsUntouched}
-use Rattle.fedi_program.specs.Conversations.{IsNow}
-use Rattle.fedi_program.specs.Endings.{Output, Prints, RunsTo, Scene, TalksIfTold, Writes, setting_of}
+use Rattle.fedi_talk.specs.Conversations.{IsNow}
+use Rattle.fedi_talk.specs.Endings.{Output, Scene, Writes}
+use Rattle.fedi_program.specs.Endings.{Prints, RunsTo, TalksIfTold}
+use Rattle.fedi_talk.specs.Turning.{setting_by}
 use Rattle.fedi_program.specs.Members.{Chance, MakesMember, Tells, refusal_line}
 use Rattle.fedi_report.specs.Reports.{check_text}
-use Rattle.fedi_startup.specs.Marks.{MarksMayCome}
+use Rattle.fedi_logged.specs.Marks.{MarksMayCome}
 use Rattle.fedi_startup.specs.Making.{IsMade, IsNotMade, LeavesAtMost}
 use Rattle.fedi_startup.specs.Stores.{ComesBack, IsClosed, IsOpened, LeavesStores}
 use Rattle.fedi_startup.specs.Surviving.{LeavesStoresAlong, LeavesStoresFound, SurvivesOnDisk, growth, opened_base, room}
@@ -40,28 +42,33 @@ pub record IsRefused (before after : Medium) (fault : StoreFault) : Type 0 where
   pub back : ComesBack fault before.shown after.shown
   pub same : IsSame before after
 
--- A machine was opened over the disk, in the first of these states, and closed in the second, and stands for this log. The disk's
--- file has the records of its history. If its bytes are told, a crash after the run leaves a store of that history, or of it with
+-- A machine was opened over the disk, in the first of these states, and closed in the second, and stands for this log, which begins
+-- with the history of the opening. The disk's file has the records of its history. If its bytes are told, a crash after the run leaves a store of that history, or of it with
 -- the entry in doubt; a crash on the way left files of the records along the log, if one before did, and these are stores; and
 -- from some moment of the run on it left such stores whatever one before did.
 pub record IsServed (before after : Medium) (opened closed : State) (log : Log) : Type 0 where
   pub opens : IsOpened before.shown opened
   pub closes : IsClosed after.shown after.crashes closed
-  pub holds : HoldsSince (opened_base opened) None (given opened.history) closed log
+  pub holds : HoldsFrom (opened_base opened) (given opened.history) closed log
   pub marks : MarksMayCome [] log
   pub leaves : IfSome after.shown.reads (λ _. LeavesStores after.crashes closed.history closed.keeper.doubt)
   pub files : IfSome before.shown.reads (λ _. SurvivesOnDisk before.crashes after.crashes opened log)
   pub stores : IfSome before.shown.reads (λ _. LeavesStoresAlong before.crashes after.crashes opened.history (since (opened_base opened) log))
   pub found : IfSome before.shown.reads (λ _. LeavesStoresFound before.crashes after.crashes opened.history (since (opened_base opened) log))
 
--- a machine was opened over the disk and closed, with some log
-abbrev pub IsRun : Medium → Medium → State → State → Type 0
-IsRun before after opened closed = (log : Log) × IsServed before after opened closed log
+-- and nobody else added to the log
+abbrev pub IsServedAlone : Medium → Medium → State → State → Log → Type 0
+IsServedAlone before after opened closed log = IsServed before after opened closed log × GoesAlone None (given opened.history) log
 
--- one of the two
+-- so with some log
+abbrev pub IsRunAlone : Medium → Medium → State → State → Type 0
+IsRunAlone before after opened closed = (log : Log) × IsServedAlone before after opened closed log
+
+-- no machine was opened over the disk, or one was, and closed
 abbrev pub IsKeptSafe : Medium → Medium → Type 0
 IsKeptSafe before after =
-    ((fault : StoreFault) × IsRefused before after fault) ⊎ ((opened : State) × (closed : State) × IsRun before after opened closed)
+    ((fault : StoreFault) × IsRefused before after fault)
+    ⊎ ((opened : State) × (closed : State) × (log : Log) × IsServed before after opened closed log)
 
 -- ---- what is printed of a store that is not opened
 
@@ -92,20 +99,20 @@ TellsOfStore Memory before now status = (status ≡ 12) × Writes before now []
 abbrev pub ServesStore : Option ℕ → Medium → Medium → Scene → Scene → ℕ → Type 0
 ServesStore told before after first now status =
     ((fault : StoreFault) × IsRefused before after fault × (now ≡ first) × (status ≡ status_by fault))
-    ⊎ ((opened : State) × (closed : State) × (log : Log) × IsServed before after opened closed log
-    × RunsTo (setting_of growth room told opened) opened log first now status)
+    ⊎ ((opened : State) × (closed : State) × (log : Log) × IsServedAlone before after opened closed log
+    × RunsTo (setting_by growth room told None opened) opened log first now status)
 
 -- the whole conversation over the input was held, over the store of a disk
 abbrev pub TalksOverStore : Option ℕ → Medium → Medium → Scene → Scene → Type 0
 TalksOverStore told before after first now =
-    (opened : State) × (closed : State) × (log : Log) × IsServed before after opened closed log
-    × TalksIfTold (setting_of growth room told opened) opened log first now
+    (opened : State) × (closed : State) × (log : Log) × IsServedAlone before after opened closed log
+    × TalksIfTold (setting_by growth room told None opened) opened log first now
 
 -- how a run makes a member of the store of a disk
 abbrev pub AddsMember : Option ℕ → Medium → Medium → Chance → Chance → Output → Output → List ℕ → Bool → ℕ → Type 0
 AddsMember told before after chance left first now name locked status =
     ((fault : StoreFault) × IsRefused before after fault × (left ≡ chance) × TellsOfStore fault first now status)
-    ⊎ ((opened : State) × (closed : State) × IsRun before after opened closed
+    ⊎ ((opened : State) × (closed : State) × IsRunAlone before after opened closed
     × MakesMember growth room told chance left opened closed first now name locked status)
 
 -- it is printed how much this history has, unless there is no memory for the line (12) or a write failed (7)

@@ -2,7 +2,7 @@
 
 ghost use Rattle.std.specs.Prelude.{◌≡◌, ◌∷◌, [], map, is_some, option_map, string_bytes};
 ghost use Rattle.std.specs.List.{find};
-ghost use Rattle.fedi_program.specs.Commands.{add_actor_at, add_actor_with, init_with, is_locked_flag, is_position, names_store, on_store, store_in, task_in, task_of, usage_with};
+ghost use Rattle.fedi_program.specs.Commands.{Init, Serve, add_actor_at, add_actor_with, address_of, is_locked_flag, is_position, names_store, on_store, on_store_with, store_in, task_in, task_of, usage_with};
 
 /// What the program is asked to do.
 #[derive(Clone, Copy, Debug, PartialEq, Eq)]
@@ -16,6 +16,11 @@ pub enum Command<'a> {
     },
     /// To serve one connection on the input.
     Inetd,
+    /// To serve the connections that come to this address.
+    Serve {
+        /// The address.
+        address: &'a str,
+    },
     /// To make a member of this name.
     AddActor {
         /// The name.
@@ -98,10 +103,21 @@ fn add_actor(arguments: &[String]) -> Option<Command<'_>>
 }
 
 fn init(arguments: &[String]) -> Option<Command<'_>>
-    ensures { option_map task_of result ≡ init_with (map string_bytes arguments.now) }
+    ensures { option_map task_of result ≡ on_store_with Init (map string_bytes arguments.now) }
 {
     match arguments {
         [store, host] if is_position(store) && is_position(host) => Some(Command::Init { host }),
+        _ => None,
+    }
+}
+
+fn serve(arguments: &[String]) -> Option<Command<'_>>
+    ensures { option_map task_of result ≡ on_store_with Serve (map string_bytes arguments.now) }
+{
+    match arguments {
+        [store, address] if is_position(store) && is_position(address) => {
+            Some(Command::Serve { address })
+        }
         _ => None,
     }
 }
@@ -138,6 +154,7 @@ pub fn command_of(arguments: &[String]) -> Option<Command<'_>>
         "usage" => usage(arguments),
         "init" => init(arguments),
         "inetd" => on_store(Command::Inetd, arguments),
+        "serve" => serve(arguments),
         "add-actor" => add_actor(arguments),
         "check" => on_store(Command::Check, arguments),
         _ => None,
@@ -157,5 +174,16 @@ pub fn store_of(arguments: &[String]) -> Option<&str>
     match command_of(arguments) {
         None | Some(Command::Usage) => None,
         Some(_) => first_position(others),
+    }
+}
+
+/// The address at which connections are to be served, if that is what the arguments ask for.
+pub fn address_of(arguments: &[String]) -> Option<&str>
+    ensures { option_map (λ address. address.now) result
+        ≡ address_of (task_in (map string_bytes arguments.now)) }
+{
+    match command_of(arguments) {
+        Some(Command::Serve { address }) => Some(address),
+        _ => None,
     }
 }

@@ -3,28 +3,19 @@
 #![tactic(auto)]
 
 mod adapters;
-mod answers;
 mod commands;
 mod connection;
-mod laws;
 mod members;
 mod printing;
 mod running;
-mod sessions;
+mod serving;
 mod statuses;
 mod stores;
 mod usage;
 
 pub use adapters::{Reading, SystemClock, SystemEntropy, Writing};
-pub use answers::answer;
-pub use commands::{Command, command_of, store_of};
-pub use connection::Connection;
+pub use commands::{Command, address_of, command_of, store_of};
+pub use connection::{Connection, serve_connection};
 pub use fedi_effects::Seed;
-pub use laws::{
-    acknowledged_entries_survive, conversations_are_determined, conversations_have_no_gaps,
-    conversations_own_their_items, conversations_stand_in_the_log, conversations_stay,
-    failures_are_marked,
-};
-pub use running::{Ended, run};
-pub use sessions::{SessionEnd, exchange, session};
+pub use running::{Ended, run, run_alone};
 pub use statuses::OUT_OF_MEMORY;

@@ -1,6 +1,7 @@
 //! What a run prints, and the status that it then ends with.
 
-ghost use Rattle.fedi_program.specs.Endings.{Prints, output_by};
+ghost use Rattle.fedi_talk.specs.Endings.{output_by};
+ghost use Rattle.fedi_program.specs.Endings.{Prints};
 ghost use Rattle.fedi_program.specs.Members.{Tells};
 
 use crate::statuses::{DONE, WRITE_FAULT};

@@ -30,6 +30,9 @@ pub const EXISTS: u8 = 9;
 /// A command breaks a rule.
 pub const REFUSED: u8 = 10;
 
+/// A door failed.
+pub const DOOR_FAULT: u8 = 11;
+
 /// Out of memory.
 pub const OUT_OF_MEMORY: u8 = 12;
 

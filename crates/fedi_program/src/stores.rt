@@ -2,7 +2,7 @@
 
 ghost use Rattle.std.specs.Prelude.{◌≡◌, ◌≤◌, IfOk, length};
 ghost use Rattle.fedi_journal.specs.Making.{KeepsOther};
-ghost use Rattle.fedi_program.specs.Endings.{output_by};
+ghost use Rattle.fedi_talk.specs.Endings.{output_by};
 ghost use Rattle.fedi_program.specs.Members.{Tells};
 ghost use Rattle.fedi_program.specs.Stores.{MakesStore, TellsOfMaking, TellsOfStore, damage_line, made_line, status_by};
 

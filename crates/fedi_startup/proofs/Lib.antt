@@ -1,6 +1,5 @@
 pub mod ClosingSteps
 pub mod MakingSteps
-pub mod Marks
 pub mod OneAnswer
 pub mod OpeningSteps
 pub mod Stored

@@ -13,7 +13,8 @@ use Rattle.fedi_entry.specs.Fields.{IsFormed}
 use Rattle.fedi_images.specs.Images.{IsImage, plain}
 use Rattle.fedi_images.specs.Known.{record_crashes, records_told}
 use Rattle.fedi_log.proofs.Growing.{given_history, history_append}
-use Rattle.fedi_log.specs.Keeping.{HoldsSince, State, since}
+use Rattle.fedi_log.specs.Keeping.{HoldsFrom, State, since}
+use Rattle.fedi_log.specs.Leaving.{CrashesAlong}
 use Rattle.fedi_log.specs.Leaving.{IsLeft}
 use Rattle.fedi_log.specs.Log.{Log, doubts_of, entry_in, given, history_of}
 use Rattle.fedi_objects.specs.declared.entry.Entry.{Entry}
@@ -26,10 +27,10 @@ use Rattle.fedi_town.specs.Built.{is_built}
 use Rattle.fedi_town.specs.Histories.{step, town}
 use Rattle.fedi_town.specs.Legal.{is_admissible, is_legal_from}
 use Rattle.fedi_town.specs.Towns.{Town, empty_town}
-use Rattle.fedi_startup.specs.Marks.{MarksMayCome, Survives}
+use Rattle.fedi_logged.specs.Marks.{MarksMayCome}
 use Rattle.fedi_startup.specs.Stores.{IsAround, IsClosed, IsOpened, IsSound, IsStoreOf, LeavesFiles, LeavesStores, records_of}
 use Rattle.fedi_startup.specs.Surviving.{IsFirstPart, LeavesFoundFrom, LeavesStoresAlong, LeavesStoresFound, LeavesStoresFrom, SurvivesOnDisk, opened_base}
-use Rattle.fedi_startup.proofs.Marks.{doubts_come}
+use Rattle.fedi_logged.proofs.Marks.{doubts_come}
 use Rattle.fedi_startup.proofs.Surviving.{found_since, records_held}
 use Rattle.fedi_startup.proofs.Told.{each_some}
 
@@ -155,16 +156,16 @@ since_given opened log past is =
     ∙ (ap (λ (l : Log). drop (length (given opened.history)) l) is ∙ drop-append_seam (given opened.history) past)
 
 -- the history is the one that was opened, with what came to it
-pub now_grown : (opened now : State) (log : Log) → HoldsSince (opened_base opened) None (given opened.history) now log
+pub now_grown : (opened now : State) (log : Log) → HoldsFrom (opened_base opened) (given opened.history) now log
     → now.history ≡ opened.history ++ history_of (since (opened_base opened) log)
 now_grown opened now log holds =
-    holds.holds.history ∙ (ap history_of holds.grown.is ∙ (history_append (given opened.history) holds.grown.past
-    ∙ (ap (λ (es : List Entry). es ++ history_of holds.grown.past) (given_history opened.history)
-    ∙ ap (λ (l : Log). opened.history ++ history_of l) (sym (since_given opened log holds.grown.past holds.grown.is)))))
+    holds.holds.history ∙ (ap history_of holds.is ∙ (history_append (given opened.history) holds.past
+    ∙ (ap (λ (es : List Entry). es ++ history_of holds.past) (given_history opened.history)
+    ∙ ap (λ (l : Log). opened.history ++ history_of l) (sym (since_given opened log holds.past holds.is)))))
 
 -- What a closed machine leaves of a disk that tells its bytes are stores.
 pub leaves_stores : (disk : DiskState) (crashes : DiskCrashes) (opened now : State) (log : Log) → opened.history ≢ []
-    → HoldsSince (opened_base opened) None (given opened.history) now log → IsClosed disk crashes now
+    → HoldsFrom (opened_base opened) (given opened.history) now log → IsClosed disk crashes now
     → IfSome disk.reads (λ _. LeavesStores crashes now.history now.keeper.doubt)
 leaves_stores disk crashes opened now log some holds closed =
     each_some disk.reads (λ bytes is. record {
@@ -175,17 +176,17 @@ leaves_stores disk crashes opened now log some holds closed =
     })
 
 -- each mark since the opening may come where it is
-marks_since : (opened now : State) (log : Log) → HoldsSince (opened_base opened) None (given opened.history) now log → MarksMayCome [] log
+marks_since : (opened now : State) (log : Log) → HoldsFrom (opened_base opened) (given opened.history) now log → MarksMayCome [] log
     → MarksMayCome opened.history (since (opened_base opened) log)
 marks_since opened now log holds marks =
-    let goes = holds.grown in
+    let goes = holds in
     subst (λ (l : Log). MarksMayCome opened.history l) (sym (since_given opened log goes.past goes.is))
     (subst (λ (h : List Entry). MarksMayCome h goes.past) (given_history opened.history)
     (marks_back [] (given opened.history) goes.past (subst (λ (l : Log). MarksMayCome [] l) goes.is marks)))
 
 -- Files of lists of records are stores: of what was there before the run, or of the first part of what the run made.
 pub stores_along : (before after : DiskCrashes) (opened now : State) (log : Log) → opened.history ≢ [] → opened.keeper.doubt ≡ None → IsSound now.history
-    → HoldsSince (opened_base opened) None (given opened.history) now log → MarksMayCome [] log → SurvivesOnDisk before after opened log
+    → HoldsFrom (opened_base opened) (given opened.history) now log → MarksMayCome [] log → SurvivesOnDisk before after opened log
     → LeavesStoresAlong before after opened.history (since (opened_base opened) log)
 stores_along before after opened now log some settled sound holds marks survives history doubt leaves image moment =
     let added : Log = since (opened_base opened) log in
@@ -199,14 +200,14 @@ stores_along before after opened now log some settled sound holds marks survives
 
 -- and from a moment at which the files were found, of the first part alone
 pub stores_from : (moment : ℕ) (after : DiskCrashes) (opened now : State) (log : Log) → opened.history ≢ [] → opened.keeper.doubt ≡ None → IsSound now.history
-    → HoldsSince (opened_base opened) None (given opened.history) now log → MarksMayCome [] log → LeavesFoundFrom moment after opened log
+    → HoldsFrom (opened_base opened) (given opened.history) now log → MarksMayCome [] log → LeavesFoundFrom moment after opened log
     → LeavesStoresFrom moment after opened.history (since (opened_base opened) log)
 stores_from moment after opened now log some settled sound holds marks found image since_then =
     let file = found image since_then in
     first_part opened now log image file.0 some settled sound (now_grown opened now log holds) (marks_since opened now log holds marks) file.1 file.2
 
 pub stores_found : (before after : DiskCrashes) (opened now : State) (log : Log) → opened.history ≢ [] → opened.keeper.doubt ≡ None → IsSound now.history
-    → HoldsSince (opened_base opened) None (given opened.history) now log → MarksMayCome [] log → SurvivesOnDisk before after opened log
+    → HoldsFrom (opened_base opened) (given opened.history) now log → MarksMayCome [] log → SurvivesOnDisk before after opened log
     → LeavesStoresFound before after opened.history (since (opened_base opened) log)
 stores_found before after opened now log some settled sound holds marks survives =
     (survives.moment, survives.during, stores_from survives.moment after opened now log some settled sound holds marks survives.found)
@@ -215,8 +216,9 @@ stores_found before after opened now log some settled sound holds marks survives
 pub stores_since_opening : (start found later : DiskState) (middle after : DiskCrashes) (opened now : State) (log : Log) (count : ℕ) (bytes : List ℕ)
     → start.reads ≡ Some bytes → IsOpened start opened → opened.keeper.records ≡ records_told plain count found
     → LeavesFiles middle (records_of opened.history) None → ((image : List ℕ) → middle.left_since middle.clock image → middle.may_leave image)
-    → Survives (opened_base opened) None (given opened.history) log now (record_crashes plain found middle) (record_crashes plain later after)
+    → HoldsFrom (opened_base opened) (given opened.history) now log
+    → CrashesAlong (opened_base opened) log (record_crashes plain found middle) (record_crashes plain later after) → MarksMayCome [] log
     → IsSound now.history → LeavesStoresFrom middle.clock after opened.history (since (opened_base opened) log)
-stores_since_opening start found later middle after opened now log count bytes is opening told files only survives sound =
-    stores_from middle.clock after opened now log opening.some opening.doubt sound survives.holds survives.marks
-    (found_since found later middle after opened now log count told (records_held start opened bytes opening is) survives files only)
+stores_since_opening start found later middle after opened now log count bytes is opening told files only holds crashes marks sound =
+    stores_from middle.clock after opened now log opening.some opening.doubt sound holds marks
+    (found_since found later middle after opened log count told (records_held start opened bytes opening is) crashes files only)

@@ -9,9 +9,8 @@ use Rattle.fedi_images.specs.Images.{IsImage, kept_in, plain}
 use Rattle.fedi_images.specs.Known.{record_crashes, records_told}
 use Rattle.fedi_log.proofs.Leaving.{few_kept, few_left}
 use Rattle.fedi_log.specs.Keeping.{Base, State, since}
-use Rattle.fedi_log.specs.Leaving.{IsLeft}
-use Rattle.fedi_startup.specs.Marks.{Survives}
-use Rattle.fedi_log.specs.Log.{Log, given}
+use Rattle.fedi_log.specs.Leaving.{CrashesAlong, IsLeft}
+use Rattle.fedi_log.specs.Log.{Log}
 use Rattle.fedi_outside.specs.Disks.{DiskCrashes, DiskState, IsUntouched}
 use Rattle.fedi_outside.specs.Keepers.{Adds, MayLeave}
 use Rattle.fedi_startup.specs.Stores.{IsOpened, LeavesFiles, records_of}
@@ -24,15 +23,15 @@ none_left : (b : Base) (log : Log) (kept left : List (List ℕ)) → left ≡ ke
 none_left b log kept left is = record { past = []; rest = since b log; is = refl; leaves = inl (is ∙ sym (append-nil kept)) }
 
 -- A machine was opened over a disk that tells its bytes, and then its keeper survived: the crashes since the opening.
-module _ (found later : DiskState) (middle after : DiskCrashes) (opened now : State) (log : Log) (count : ℕ)
+module _ (found later : DiskState) (middle after : DiskCrashes) (opened : State) (log : Log) (count : ℕ)
     (told : opened.keeper.records ≡ records_told plain count found)
     (held : opened.keeper.records ≡ Some (records_of opened.history))
-    (survives : Survives (opened_base opened) None (given opened.history) log now (record_crashes plain found middle) (record_crashes plain later after)) where
+    (crashes : CrashesAlong (opened_base opened) log (record_crashes plain found middle) (record_crashes plain later after)) where
   adds_since : Adds middle.clock (record_crashes plain found middle).left_since (record_crashes plain later after).left_since
       (IsLeft (opened_base opened) log (records_of opened.history))
   adds_since = of_told (is_some found.reads) opened.keeper.records (records_of opened.history)
       (λ kept. Adds middle.clock (record_crashes plain found middle).left_since (record_crashes plain later after).left_since (IsLeft (opened_base opened) log kept))
-      (is_told (kept_in plain count) found.reads (records_of opened.history) (sym told ∙ held)) held survives.crashes.crash
+      (is_told (kept_in plain count) found.reads (records_of opened.history) (sym told ∙ held)) held crashes.crash
 
   pub found_since : LeavesFiles middle (records_of opened.history) None → ((image : List ℕ) → middle.left_since middle.clock image → middle.may_leave image)
       → LeavesFoundFrom middle.clock after opened log
@@ -54,20 +53,20 @@ records_held start opened bytes opening is = opening.records ∙ ap (option_map 
 
 -- What is known of the records that a machine's keeper has on its disk holds of the disk, if it tells its bytes. The disk was so
 -- before the opening, the keeper found it so, and left it so.
-pub survives_on_disk : (start found later : DiskState) (before middle after : DiskCrashes) (opened now : State) (log : Log) (count : ℕ)
+pub survives_on_disk : (start found later : DiskState) (before middle after : DiskCrashes) (opened : State) (log : Log) (count : ℕ)
     → IsOpened start opened → opened.keeper.records ≡ records_told plain count found → IsUntouched start found before middle
     → ((image : List ℕ) → before.left_since before.clock image → before.may_leave image)
     → IfSome start.reads (λ _. LeavesFiles middle (records_of opened.history) None) → ((image : List ℕ) → middle.left_since middle.clock image → middle.may_leave image)
-    → Survives (opened_base opened) None (given opened.history) log now (record_crashes plain found middle) (record_crashes plain later after)
+    → CrashesAlong (opened_base opened) log (record_crashes plain found middle) (record_crashes plain later after)
     → IfSome start.reads (λ _. SurvivesOnDisk before after opened log)
-survives_on_disk start found later before middle after opened now log count opening told untouched first leaves only survives = each_some start.reads at
+survives_on_disk start found later before middle after opened log count opening told untouched first leaves only crashes = each_some start.reads at
   where
     at : (bytes : List ℕ) → start.reads ≡ Some bytes → SurvivesOnDisk before after opened log
     at bytes is = record {
       along = along;
       moment = middle.clock;
-      during = (untouched.clock, survives.crashes.clock);
-      found = found_since found later middle after opened now log count told held survives
+      during = (untouched.clock, crashes.clock);
+      found = found_since found later middle after opened log count told held crashes
           (of_some start.reads (λ _. LeavesFiles middle (records_of opened.history) None) leaves bytes is) only;
     }
       where
@@ -79,6 +78,6 @@ survives_on_disk start found later before middle after opened now log count open
             images_left plain plain_ok found later middle after (MayLeave records doubt) (IsLeft (opened_base opened) log (records_of opened.history))
             (length records + length (records_of opened.history) + length log + 1) before.clock untouched.clock
             (untouched_files start found before middle bytes records doubt untouched is first files)
-            (adds_since found later middle after opened now log count told held survives)
+            (adds_since found later middle after opened log count told held crashes)
             (λ left kept. omega (arith, few_kept records doubt left kept))
             (λ left kept. omega (arith, few_left (opened_base opened) log (records_of opened.history) left kept)) image since

@@ -1,5 +1,4 @@
 pub mod Faults
 pub mod Making
-pub mod Marks
 pub mod Stores
 pub mod Surviving

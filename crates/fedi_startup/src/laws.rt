@@ -1,14 +1,15 @@
 //! What an opening may answer excludes all else, and what was opened stays.
-ghost use Rattle.std.specs.Prelude.{◌≡◌, ℕ, List, None, Some};
+ghost use Rattle.std.specs.Prelude.{◌≡◌, [], ℕ, List, None, Some};
 ghost use Rattle.fedi_images.specs.Images.{plain};
 ghost use Rattle.fedi_images.specs.Opening.{IsDamagedAt};
 ghost use Rattle.fedi_journal.specs.Making.{IsOther};
 ghost use Rattle.fedi_journal.specs.Opening.{disk_of};
-ghost use Rattle.fedi_log.specs.Keeping.{since, state_of};
+ghost use Rattle.fedi_log.specs.Keeping.{HoldsFrom, since, state_of};
+ghost use Rattle.fedi_log.specs.Leaving.{CrashesAlong};
 ghost use Rattle.fedi_log.specs.Log.{Log, given};
 ghost use Rattle.fedi_objects.specs.declared.entry.Entry.{Entry};
 ghost use Rattle.fedi_outside.specs.Disks.{DiskState};
-ghost use Rattle.fedi_startup.specs.Marks.{Survives};
+ghost use Rattle.fedi_logged.specs.Marks.{MarksMayCome};
 ghost use Rattle.fedi_startup.specs.Stores.{HasBadRecord, HasNoRecord, IsOpened, IsSound, IsStoreOf, LeavesFiles, records_of};
 ghost use Rattle.fedi_startup.specs.Surviving.{LeavesStoresFrom, opened_base};
 
@@ -48,7 +49,7 @@ pub fn stores_are_not_made_anew()
 /// bytes, whatever a crash before may have left, a crash leaves a store of the history that was opened, with
 /// the first of the entries that were kept since, none or more, and at most the one that was in doubt then.
 /// The premises on the first machine are what `open_store` says of it, and those on the last are what is
-/// said of it where its session ended.
+/// said of it where its session ended, or those of all workers.
 pub fn what_was_opened_stays<D: Disk>(opened: &StoreCore<D>, closed: &StoreCore<D>)
     ensures { (start : DiskState) (bytes : List ℕ) (log : Log)
         → let first = state_of opened.now.history
@@ -57,10 +58,11 @@ pub fn what_was_opened_stays<D: Disk>(opened: &StoreCore<D>, closed: &StoreCore<
         (⟦<Journal<D> as Keeper>⟧.shown closed.now.keeper) in
         start.reads ≡ Some bytes → IsOpened start first
         → LeavesFiles (D.crashes (disk_of opened.now.keeper)) (records_of first.history) None
-        → Survives (opened_base first) None (given first.history) log last
+        → HoldsFrom (opened_base first) (given first.history) last log
+        → CrashesAlong (opened_base first) log
         (⟦<Journal<D> as Keeper>⟧.crashes opened.now.keeper)
         (⟦<Journal<D> as Keeper>⟧.crashes closed.now.keeper)
-        → IsSound last.history
+        → MarksMayCome [] log → IsSound last.history
         → LeavesStoresFrom (D.crashes (disk_of opened.now.keeper)).clock
         (D.crashes (disk_of closed.now.keeper)) first.history
         (since (opened_base first) log) }

@@ -19,9 +19,11 @@ mod outside;
 #[cfg(test)]
 mod real_files;
 
-// Words: moments, addresses, keys, posts and entries.
+// Words: moments, addresses, keys and codes, posts, deliveries and entries.
 #[cfg(test)]
 mod address;
+#[cfg(test)]
+mod deliveries;
 #[cfg(test)]
 mod entries;
 #[cfg(test)]
@@ -56,6 +58,8 @@ mod machine;
 mod opening;
 #[cfg(test)]
 mod records;
+#[cfg(test)]
+mod shelves;
 
 // Whole runs over what lies in memory.
 #[cfg(test)]

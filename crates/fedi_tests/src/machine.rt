@@ -1,4 +1,6 @@
 //! The machine over a keeper in memory: callers that no request has, and a keeper that is full.
+ghost use Rattle.std.specs.Prelude.{IfOk};
+ghost use Rattle.fedi_town.specs.Legal.{IsLegal};
 
 use crate::cases::SECONDS;
 use crate::example::{MEMBERS, TOWN};
@@ -12,7 +14,7 @@ use fedi_model::{Ask, Caller};
 use fedi_objects::Entry;
 use fedi_opening::OpenFault;
 use fedi_outside::{FixedClock, Keeper, MemoryKeeper, MemorySink, MemorySource};
-use fedi_program::{Connection, session};
+use fedi_program::{Connection, serve_connection};
 use fedi_routes::Routes;
 use fedi_text::Moment;
 use fedi_town::{CommandFault, next_number};
@@ -20,6 +22,8 @@ use std::alloc::{AllocError, Global};
 use std::test::Fail;
 
 type Machine = Core<IndexedShelf, MemoryKeeper>;
+
+type Posts = Connection<MemorySource, MemorySink, FixedClock>;
 
 /// The bodies of the replies to readings of ana's first object and of her second, and of nothing.
 const HELLO: &str =
@@ -57,11 +61,9 @@ fn keep_all<K: Keeper>(keeper: &mut K, records: &[&[u8]]) -> Result<(), Fail> {
 
 /// What is wanted of a machine.
 #[derive(Clone, Copy)]
-enum Wanted<'a> {
+enum Wanted {
     /// That the callers see what they may.
     Sights,
-    /// These replies to two posts.
-    Replies(&'a [&'a str]),
     /// Why the making of eva is refused, if it is.
     Eva(Option<CommandFault>),
 }
@@ -69,7 +71,6 @@ enum Wanted<'a> {
 fn expect_of(alloc: Global, core: &mut Machine, wanted: Wanted) -> Result<(), Fail> {
     match wanted {
         Wanted::Sights => expect_sights(alloc, core),
-        Wanted::Replies(texts) => expect(replies(alloc, core, texts)?, "replies to two posts"),
         Wanted::Eva(fault) => expect(make_eva(alloc, core).err() == fault, "eva"),
     }
 }
@@ -149,36 +150,73 @@ fn end_below(room: u64) -> u64 {
     (1 << 62) - 267 - room.min(1_000)
 }
 
-fn two_notes(alloc: Global) -> Result<Vec<u8>, AllocError> {
+/// A connection with two posts.
+fn two_posts(alloc: Global) -> Result<Posts, AllocError> {
     let mut input = NOTE.as_bytes().to_vec(alloc)?;
     input.extend_from_slice(NOTE.as_bytes())?;
-    Ok(input)
-}
-
-/// Whether a connection with two posts has these replies.
-fn replies(alloc: Global, core: &mut Machine, wanted: &[&str]) -> Result<bool, AllocError> {
-    let routes = Routes::new(alloc)?;
-    let mut connection = Connection {
-        input: MemorySource::new(alloc, two_notes(alloc)?),
+    Ok(Connection {
+        input: MemorySource::new(alloc, input),
         out: MemorySink::new(alloc),
         clock: FixedClock::new(SECONDS),
-    };
-    session(alloc, core, &routes, &mut connection);
-    Ok(are_texts(connection.out.bytes(), wanted))
+    })
+}
+
+/// Has the machine that was opened answer the posts.
+fn serve_posts(
+    alloc: Global,
+    opened: Result<Machine, (OpenFault, MemoryKeeper)>,
+    routes: Routes,
+    posts: &mut Posts,
+) -> Result<(), OpenFault>
+    requires legal { IfOk opened (λ core. IsLegal core.history) }
+{
+    match opened {
+        Ok(core) => {
+            if core.host().is_some() {
+                serve_connection(alloc, core, routes, posts);
+            }
+            Ok(())
+        }
+        Err((fault, _)) => Err(fault),
+    }
+}
+
+fn expect_served(
+    alloc: Global,
+    mut keeper: MemoryKeeper,
+    posts: &mut Posts,
+    wanted: &[&str],
+) -> Result<(), Fail> {
+    // Nothing may be in doubt when the machine is opened.
+    keeper.settle()?;
+    let routes = Routes::new(alloc)?;
+    let shelf = IndexedShelf::empty(alloc, seed())?;
+    serve_posts(alloc, Core::open(alloc, shelf, keeper), routes, posts)?;
+    expect(are_texts(posts.out.bytes(), wanted), "replies to two posts")
+}
+
+/// Fails unless the machine over a keeper of the records of the example town without posts, whose end was
+/// this before it kept them, gives these replies to two posts.
+fn expect_replies(alloc: Global, end: u64, wanted: &[&str]) -> Result<(), Fail> {
+    let mut keeper = MemoryKeeper::at(alloc, end);
+    keep_all(&mut keeper, &MEMBERS)?;
+    let mut posts = two_posts(alloc)?;
+    expect_served(alloc, keeper, &mut posts, wanted)
 }
 
 const FULL: &str =
     "HTTP/1.1 500 Internal Server Error\r\nDate: Sun, 06 Nov 1994 08:49:37 GMT\r\nContent-Type: application/json\r\nContent-Length: 23\r\n\r\n{\"error\":\"JournalFull\"}";
 
-/// How far below its limit the end of a keeper is, and what is then wanted. The record of a post
-/// has 199 bytes and that of eva's making 49, which need ten more.
-const ROOMS: [(u64, Wanted<'static>); 5] = [
-    (10, Wanted::Replies(&[FULL, FULL])),
-    (208, Wanted::Replies(&[FULL, FULL])),
-    (209, Wanted::Replies(&[FIRST, FULL])),
-    (58, Wanted::Eva(Some(CommandFault::Full))),
-    (59, Wanted::Eva(None)),
+/// How far below its limit the end of a keeper is, and the replies to two posts. The record of a post
+/// has 199 bytes, which need ten more.
+const POSTED: [(u64, [&str; 2]); 3] = [
+    (10, [FULL, FULL]),
+    (208, [FULL, FULL]),
+    (209, [FIRST, FULL]),
 ];
+
+/// The same, and why eva is then not made, if so. The record of her making has 49 bytes.
+const MADE: [(u64, Option<CommandFault>); 2] = [(58, Some(CommandFault::Full)), (59, None)];
 
 /// Makes a member named eva.
 fn make_eva(alloc: Global, core: &mut Machine) -> Result<(), CommandFault> {
@@ -200,8 +238,11 @@ fn make_eva(alloc: Global, core: &mut Machine) -> Result<(), CommandFault> {
 #[test]
 fn servers_see_what_they_may_and_a_keeper_may_be_full(rt: HostRuntime) -> Result<(), Fail> {
     expect_machine(rt.alloc(), 0, &TOWN, Wanted::Sights)?;
-    for (room, wanted) in &ROOMS {
-        expect_machine(rt.alloc(), end_below(*room), &MEMBERS, *wanted)?;
+    for (room, fault) in &MADE {
+        expect_machine(rt.alloc(), end_below(*room), &MEMBERS, Wanted::Eva(*fault))?;
+    }
+    for (room, wanted) in &POSTED {
+        expect_replies(rt.alloc(), end_below(*room), wanted)?;
     }
     Ok(())
 }

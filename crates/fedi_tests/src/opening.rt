@@ -52,14 +52,16 @@ const DAMAGED: [(&str, &[&[u8]], u64); 15] = [
     ("no record is empty", &[b""], 0),
 ];
 
-fn add<K: Keeper>(keeper: &mut K, record: &[u8]) -> Result<(), Fail> {
+/// Appends a record.
+pub(crate) fn add<K: Keeper>(keeper: &mut K, record: &[u8]) -> Result<(), Fail> {
     keeper.reserve(record.len())?;
     keeper.settle()?;
     keeper.append(record)?;
     Ok(())
 }
 
-fn add_all<K: Keeper>(keeper: &mut K, records: &[&[u8]]) -> Result<(), Fail> {
+/// Appends the records.
+pub(crate) fn add_all<K: Keeper>(keeper: &mut K, records: &[&[u8]]) -> Result<(), Fail> {
     for record in records {
         add(keeper, record)?;
     }

@@ -42,6 +42,24 @@ pub const CREATE: &[u8] = b"\
     \0\0\0\0\0\0\0\0\
     \0\0\0\0.\xbc\x98\xa1";
 
+/// A note to everyone.
+pub const NOTE: &[u8] = b"\
+    \x04\
+    \0\0\0\x03ana\
+    \0\
+    \0\x06\0\x02\0\
+    \0\0\0\x04Note\
+    \0\0\0\0\x01\
+    \0\0\0,https://www.w3.org/ns/activitystreams#Public\
+    \0\0\0\0\0\0\0\0\0\0\0\0\0\0\0\0\0\
+    \x01\0\0\0\x0cGood morning\
+    \0\0\0\0\0\0\0\0\0\0\0\0\
+    \0\0\0\x01\
+    \0\0\0,https://www.w3.org/ns/activitystreams#Public\
+    \0\0\0\0\0\0\0\0\0\0\0\0\0\0\0\0\0\
+    \0\0\0\0\0\0\0\0\
+    \0\0\0\0.\xbc\x98\xa1";
+
 /// A Follow of the first member by the other, which is accepted at once.
 pub const FOLLOW: &[u8] = b"\
     \x04\

@@ -3,8 +3,10 @@
 use crate::cases::{Case, arguments_of, calm, connection_of, disk_in, entropy_of};
 use crate::rows::seed;
 use crate::store_files::has_records;
-use fedi_outside::{FixedClock, MemoryDisk, MemoryEntropy, MemorySink, MemorySource};
-use fedi_program::{Connection, run};
+use fedi_outside::{
+    Bench, FixedClock, MemoryDisk, MemoryDoor, MemoryEntropy, MemorySink, MemorySource,
+};
+use fedi_program::{Connection, OUT_OF_MEMORY, address_of, run_alone};
 use std::alloc::{AllocError, Global};
 
 /// What a run left: its status, what it wrote, the bytes of the disk, and how many calls that was
@@ -39,7 +41,11 @@ fn left_in(
     disk: MemoryDisk,
     entropy: &mut MemoryEntropy,
 ) -> Result<Left, AllocError> {
-    let ended = run(alloc, seed(), arguments, connection, disk, entropy);
+    let None = address_of(arguments) else {
+        return left_of(alloc, OUT_OF_MEMORY, &connection.out, &disk);
+    };
+    let none = Vec::<Bench<MemoryDoor>>::new(alloc);
+    let ended = run_alone(alloc, seed(), arguments, connection, disk, none, entropy);
     left_of(alloc, ended.status, &connection.out, &ended.disk)
 }
 

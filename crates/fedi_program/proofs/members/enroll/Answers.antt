@@ -2,10 +2,10 @@ use Rattle.std.proofs.Common.{None, refl}
 use Rattle.fedi_core.specs.declared.keeping.KeepFault.TheVariants as faults
 use Rattle.fedi_log.specs.Keeping.{base_of, state_of}
 use Rattle.fedi_log.specs.Log.{Full, Kept, NoEntry, given}
-use Rattle.fedi_program.specs.Crashing.{standing_by}
-use Rattle.fedi_program.proofs.CrashLemmas.{survives_first, survives_turn}
+use Rattle.fedi_logged.specs.Turns.{standing_by}
+use Rattle.fedi_logged.proofs.Crashing.{survives_first, survives_turn}
 use Rattle.fedi_program.proofs.MemberLemmas.{broken_unmade, settles, settling_survives}
-use Rattle.fedi_program.proofs.Turning.{full_turn_by, kept_turn, memory_turn_by, unkept_by}
+use Rattle.fedi_logged.proofs.Turning.{full_turn_by, kept_turn, memory_turn_by, unkept_by}
 use Rattle.fedi_program.proofs.members.enroll.Goals as goal
 
 pub returns-in-Err-clause-unmade : goal.returns-in-Err-clause-unmade

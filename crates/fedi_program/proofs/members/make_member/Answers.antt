@@ -2,8 +2,8 @@ use Rattle.std.proofs.Common.{◌≡◌, true, false, None, inl, inr, refl}
 use Rattle.fedi_log.specs.Keeping.{base_of, state_of}
 use Rattle.fedi_log.specs.Log.{given}
 use Rattle.std.proofs.lemmas.Bool.{false_from_ne_true}
-use Rattle.fedi_program.proofs.SessionLemmas.{now_of}
-use Rattle.fedi_program.proofs.CrashLemmas.{survives_first}
+use Rattle.fedi_talk.proofs.SessionLemmas.{now_of}
+use Rattle.fedi_logged.proofs.Crashing.{survives_first}
 use Rattle.fedi_program.proofs.members.make_member.Goals as goal
 
 pub returns-in_default-parse-clause-made : goal.returns-in_default-parse-clause-made

@@ -1,5 +1,5 @@
 use Rattle.std.proofs.Common.{length, refl}
-use Rattle.fedi_program.proofs.Hosted.{hosted}
+use Rattle.fedi_logged.proofs.Hosted.{hosted}
 use Rattle.fedi_program.proofs.StoreLemmas.{adds}
 use Rattle.fedi_program.proofs.running.add_actor.Goals as goal
 

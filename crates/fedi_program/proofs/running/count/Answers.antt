@@ -1,6 +1,6 @@
 use Rattle.std.proofs.Common.{None, refl}
 use Rattle.fedi_log.specs.Keeping.{base_of, state_of}
-use Rattle.fedi_program.proofs.CrashLemmas.{survives_first}
+use Rattle.fedi_logged.proofs.Crashing.{survives_first}
 use Rattle.fedi_program.proofs.running.count.Goals as goal
 
 pub returns-in-Ok-clause-crashes : goal.returns-in-Ok-clause-crashes

@@ -1,4 +1,5 @@
 use Rattle.std.proofs.Common.{length, inl, refl}
+use Rattle.fedi_logged.proofs.Hosted.{hosted}
 use Rattle.fedi_startup.specs.declared.faults.StoreFault.TheVariants as faults
 use Rattle.fedi_program.proofs.RunLemmas.{has_causes}
 use Rattle.fedi_program.proofs.StoreLemmas.{given_up, serves}
@@ -7,15 +8,15 @@ use Rattle.fedi_program.proofs.running.inetd.Goals as goal
 pub returns-in-Ok-new-clause-session : goal.returns-in-Ok-new-clause-session
 returns-in-Ok-new-clause-session g c =
     let core = c.in-Ok.core in
-    let now = c.session-end.new.core in
+    let now = c.serve_connection-end.result.1 in
     let start = g.D.Disk.shown c.args.disk in
     let last = now.keeper.disk in
     let closed = rw c.close_store.ensures.disk at c.close_store.ensures.closed in
-    let ends = c.session-end.ensures.ends in
+    let ends = c.serve_connection-end.ensures.ends in
     rw c.close_store.ensures.disk (serves _ start (g.D.Disk.shown core.keeper.disk) (g.D.Disk.shown last) (g.D.Disk.crashes c.args.disk)
     (g.D.Disk.crashes core.keeper.disk) (g.D.Disk.crashes last) _ _ ends.0 (length core.keeper.gates.items) _ _ _
     c.in-Ok.ensures.opened refl c.in-Ok.ensures.untouched (g.met.D.Disk.only_now c.args.disk) c.in-Ok.ensures.leaves (g.met.D.Disk.only_now core.keeper.disk) ends.1 closed
-    (c.session-end.result, c.status_of.ensures, ends.2))
+    (c.serve_connection-end.result.0, c.status_of.ensures, ends.2))
 
 pub returns-in-Err-new-clause-session : goal.returns-in-Err-new-clause-session
 returns-in-Err-new-clause-session g c =
@@ -30,4 +31,9 @@ returns-in-Err-new-clause-session g c =
     )
 
 pub returns-in-Ok-new-clause-causes : goal.returns-in-Ok-new-clause-causes
-returns-in-Ok-new-clause-causes g c = has_causes _ _ c.session-end.result _ c.status_of.ensures c.session-end.ensures.causes
+returns-in-Ok-new-clause-causes g c = has_causes _ _ c.serve_connection-end.result.0 _ c.status_of.ensures c.serve_connection-end.ensures.causes
+
+pub serve_connection-end-requires-clause-hosted : goal.serve_connection-end-requires-clause-hosted
+serve_connection-end-requires-clause-hosted g c =
+    let opens = c.in-Ok.ensures.opened in
+    hosted c.in-Ok.core.history opens.some opens.sound.legal opens.sound.built

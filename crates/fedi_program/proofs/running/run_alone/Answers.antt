@@ -1,32 +1,32 @@
 use Rattle.std.proofs.Common.{ℕ, List, Bool}
-use Rattle.fedi_program.specs.Endings.{output_by}
+use Rattle.fedi_talk.specs.Endings.{output_by}
 use Rattle.fedi_program.specs.Members.{chance_by}
 use Rattle.fedi_program.specs.Stores.{AddsMember, MakesStore, medium_by}
 use Rattle.fedi_program.proofs.MemberLemmas.{of_host, of_task}
 use Rattle.fedi_program.proofs.RunLemmas.{added_safe, checked_safe, served_safe, store_talks}
-use Rattle.fedi_program.proofs.running.run.Goals as goal
+use Rattle.fedi_program.proofs.running.run_alone.Goals as goal
 
 pub returns-in-Some-Inetd-clause-talk : goal.returns-in-Some-Inetd-clause-talk
-returns-in-Some-Inetd-clause-talk g c = λ asked done. store_talks _ _ _ _ _ _ done c.inetd.ensures.session
+returns-in-Some-Inetd-clause-talk g c = λ asked done. store_talks _ _ _ _ _ _ done c.inetd-status.ensures.session
 
 pub returns-in-Some-Inetd-clause-crashes : goal.returns-in-Some-Inetd-clause-crashes
-returns-in-Some-Inetd-clause-crashes g c = λ opens. served_safe _ _ _ _ _ _ c.inetd.ensures.session
+returns-in-Some-Inetd-clause-crashes g c = λ opens. served_safe _ _ _ _ _ _ c.inetd-status.ensures.session
 
 pub returns-in-Some-AddActor-clause-crashes : goal.returns-in-Some-AddActor-clause-crashes
-returns-in-Some-AddActor-clause-crashes g c = λ opens. added_safe _ _ _ _ _ _ _ _ _ _ c.add_actor.ensures.added
+returns-in-Some-AddActor-clause-crashes g c = λ opens. added_safe _ _ _ _ _ _ _ _ _ _ c.add_actor-status.ensures.added
 
 pub returns-in-Some-Check-clause-crashes : goal.returns-in-Some-Check-clause-crashes
-returns-in-Some-Check-clause-crashes g c = λ opens. checked_safe _ _ _ _ _ c.check.ensures.checked
+returns-in-Some-Check-clause-crashes g c = λ opens. checked_safe _ _ _ _ _ c.check-status.ensures.checked
 
 pub returns-in-Some-AddActor-clause-added : goal.returns-in-Some-AddActor-clause-added
 returns-in-Some-AddActor-clause-added g c =
     let asked = rw c.in-Some-AddActor.field-0-is at c.in-Some-AddActor.ensures in
     λ name locked. of_task
     (λ (n : List ℕ) (l : Bool). AddsMember (g.C.Clock.told c.args.connection.now.clock)
-    (medium_by g.D.Disk.shown g.D.Disk.crashes c.args.disk) (medium_by g.D.Disk.shown g.D.Disk.crashes c.add_actor.result.disk)
-    (chance_by g.E.Entropy.next g.E.Entropy.faults c.args.entropy.now) (chance_by g.E.Entropy.next g.E.Entropy.faults c.add_actor.new.entropy)
-    (output_by g.O.Sink.sent g.O.Sink.write_faults c.args.connection.now.out) (output_by g.O.Sink.sent g.O.Sink.write_faults c.add_actor.new.connection.out)
-    n l c.add_actor.result.status) _ _ _ _ _ asked c.add_actor.ensures.added
+    (medium_by g.D.Disk.shown g.D.Disk.crashes c.args.disk) (medium_by g.D.Disk.shown g.D.Disk.crashes c.add_actor-status.result.1)
+    (chance_by g.E.Entropy.next g.E.Entropy.faults c.args.entropy.now) (chance_by g.E.Entropy.next g.E.Entropy.faults c.add_actor-status.new.entropy)
+    (output_by g.O.Sink.sent g.O.Sink.write_faults c.args.connection.now.out) (output_by g.O.Sink.sent g.O.Sink.write_faults c.add_actor-status.new.connection.out)
+    n l c.add_actor-status.result.0) _ _ _ _ _ asked c.add_actor-status.ensures.added
 
 pub returns-in-Some-Init-clause-made : goal.returns-in-Some-Init-clause-made
 returns-in-Some-Init-clause-made g c =

@@ -1,0 +1,31 @@
+use Rattle.std.proofs.Common.{length, inr, refl}
+use denote.Param.Send.{sendable}
+use Rattle.fedi_index.proofs.Sent.{shelf_send}
+use Rattle.fedi_logged.proofs.Hosted.{hosted}
+use Rattle.fedi_program.proofs.RunLemmas.{doors_safe, doors_status}
+use Rattle.fedi_program.proofs.StoreLemmas.{serves_doors}
+use Rattle.fedi_program.proofs.serving.serve.Goals as goal
+
+pub serve_core-end-requires-send-S : goal.serve_core-end-requires-send-S
+serve_core-end-requires-send-S g c κs = search (shelf_send, sendable)
+
+pub serve_core-end-requires-clause-hosted : goal.serve_core-end-requires-clause-hosted
+serve_core-end-requires-clause-hosted g c κs lives =
+    let opens = c.in-Ok.ensures.opened in
+    hosted c.in-Ok.core.history opens.some opens.sound.legal opens.sound.built
+
+pub returns-in-Ok : goal.returns-in-Ok
+returns-in-Ok g c =
+    let met = g.met.D.Disk g.world.𝓛 g.world.𝓜 g.world.𝓡 ((λ s x. x), (λ x. x), (λ x. x), λ x. x) in
+    let core = c.in-Ok.core in
+    let last = c.serve_core-end.result.core.keeper.disk in
+    let closed = rw c.close_store.ensures.disk at c.close_store.ensures.closed in
+    let served = serves_doors _ (g.D.Disk.shown c.args.disk) (g.D.Disk.shown core.keeper.disk) (g.D.Disk.shown last) (g.D.Disk.crashes c.args.disk)
+    (g.D.Disk.crashes core.keeper.disk) (g.D.Disk.crashes last) _ _ (length core.keeper.gates.items) g.W.Door.served g.W.Door.closed g.W.Door.faults _ _ _
+    c.in-Ok.ensures.opened refl c.in-Ok.ensures.untouched (met.only_now c.args.disk) c.in-Ok.ensures.leaves (met.only_now core.keeper.disk)
+    c.serve_core-end.ensures.served closed (c.serve_core-end.result.end, c.status_after.ensures, c.serve_core-end.ensures.ends) in
+    record {
+      served = rw c.close_store.ensures.disk served;
+      safe = rw c.close_store.ensures.disk (doors_safe _ _ _ g.W.Door.served g.W.Door.closed g.W.Door.faults _ _ _ served);
+      statuses = doors_status _ _ _ g.W.Door.served g.W.Door.closed g.W.Door.faults _ _ _ served;
+    }
