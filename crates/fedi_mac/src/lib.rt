@@ -8,11 +8,15 @@ ghost use Rattle.hex.specs.Hex.{decode_of, encode_lower, is_hex_digit};
 ghost use Rattle.sha2.specs.Sha256.{sha256};
 ghost use Rattle.fedi_mac.specs.Keys.{key_of};
 
+mod laws;
 mod mac;
+mod signing;
 
 use hex::FromHex;
+pub use laws::codes_are_standard;
 pub use mac::Mac;
 use sha2::{Digest, Sha256};
+pub use signing::sign;
 
 /// The SHA-256 digest of the bytes (FIPS 180-4, section 6.2).
 pub fn digest(bytes: &[u8]) -> [u8; 32]
