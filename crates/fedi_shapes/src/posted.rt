@@ -73,8 +73,8 @@ fn is_id(id: &Iri, own: Option<&Iri>) -> bool
     }
 }
 
-// Whether the author follows or blocks the author.
-fn is_self_target(author: &Iri, activity: &Activity) -> bool
+/// Whether the author follows or blocks the author.
+pub(crate) fn is_self_target(author: &Iri, activity: &Activity) -> bool
     ensures { result ≡ shapes.is_self_target author.now activity.now }
 {
     match Deed::of(activity.kind) {
