@@ -80,7 +80,7 @@ public_profiles g h c d ask of_g of_h host names is =
 
 -- ---- the second clause, of posts
 
-town-push : (history : List Entry) (e : Entry) → town (history ++ e ∷ []) ≡ step (town history) e
+pub town-push : (history : List Entry) (e : Entry) → town (history ++ e ∷ []) ≡ step (town history) e
 town-push history e = fold-append step empty_town history (e ∷ [])
 
 posted_agrees : (t : Town) (host : Option (List ℕ)) (at name : List ℕ) (repeat : Option (List ℕ × List ℕ)) (a : Activity) (moment : ℕ) (c : Caller)

@@ -1,6 +1,7 @@
 pub mod Alike
 pub mod Answered
 pub mod Bare
+pub mod Beside
 pub mod Burial
 pub mod Changes
 pub mod Clean

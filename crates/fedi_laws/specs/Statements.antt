@@ -1,9 +1,11 @@
 -- The laws of what a history means.
 use Rattle.std.specs.Prelude.{◌≡◌, ℕ, ◌+◌, ◌≤◌, Bool, true, false, ◌||◌, if◌then◌else◌, List, [], ◌∷◌, ◌++◌, map, IsTrue, Option, Some}
 use Rattle.std.specs.List.{list_any}
+use Rattle.std.specs.Str.{bytes_eq}
 use Rattle.fedi_address.specs.Names.{is_name}
 use Rattle.fedi_objects.specs.declared.activity.Activity.{Activity}
 use Rattle.fedi_objects.specs.declared.activity.ObjectRef.TheVariants.{Id, Whole}
+use Rattle.fedi_objects.specs.declared.entry.Came.{Came}
 use Rattle.fedi_objects.specs.declared.entry.Entry.{Entry}
 use Rattle.fedi_objects.specs.declared.entry.Entry.TheVariants.{Hosted, Made, PeerSet, Local, Remote, Tried}
 use Rattle.fedi_objects.specs.declared.kind.Kind.TheVariants as kinds
@@ -63,6 +65,11 @@ PostsOfNobodyAreUnread =
     (t : Town) (name : List ℕ) (post other : Post) → is_bad_key post.key ≡ is_bad_key other.key
     → answer_of t callers.Nobody (asks.Outbox name post) ≡ answer_of t callers.Nobody (asks.Outbox name other)
 
+-- What is answered to nobody for a delivery depends on nothing of it.
+abbrev pub DeliveriesOfNobodyAreUnread : Type 0
+DeliveriesOfNobodyAreUnread =
+    (t : Town) (name : List ℕ) (post other : Post) → answer_of t callers.Nobody (asks.Inbox name post) ≡ answer_of t callers.Nobody (asks.Inbox name other)
+
 -- A member's post that changes nothing earlier changes nothing that a caller knows who does not see it. So the agreement is
 -- no empty one: a private post changes no answer to a stranger.
 abbrev pub UnseenPostsTellNothing : Type 0
@@ -90,6 +97,24 @@ AddedInboxesTellTheirOwners =
     → a.actor ≡ Some author → a.id ≡ Some id → is_known (town history) id ≡ true
     → is_caller (town history) c ≡ true → is_self c inbox ≡ false
     → Agree (town (history ++ Remote peer inbox a moment ∷ [])) (town history) c
+
+-- the caller is the peer of this host
+abbrev pub is_peer_of : List ℕ → Caller → Bool
+is_peer_of host callers.Nobody = false
+is_peer_of host (callers.Actor name) = false
+is_peer_of host (callers.Peer own) = bytes_eq host own
+
+-- A peer that is added changes nothing that any caller knows but the peer itself.
+abbrev pub AddedPeersTellThemselves : Type 0
+AddedPeersTellThemselves =
+    (history : List Entry) (host key address : List ℕ) (relay : Bool) (moment : ℕ) (c : Caller) → is_peer_of host c ≡ false
+    → Agree (town (history ++ PeerSet host key address relay moment ∷ [])) (town history) c
+
+-- An attempt to deliver changes nothing that any caller knows.
+abbrev pub AttemptsTellNothing : Type 0
+AttemptsTellNothing =
+    (history : List Entry) (activity recipient : List ℕ) (came : Came) (moment : ℕ) (c : Caller)
+    → Agree (town (history ++ Tried activity recipient came moment ∷ [])) (town history) c
 
 -- an object without what lies behind a Tombstone, where it is one
 abbrev pub bare_object : Object → Object

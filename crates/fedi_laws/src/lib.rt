@@ -22,7 +22,8 @@ pub use objects::{
     objects_are_replayed, tombstones_stay,
 };
 pub use privacy::{
-    added_inboxes_tell_their_owners, answers_are_clean, answers_are_private,
-    changes_reach_the_readers, deleted_content_is_told_to_nobody, posts_of_nobody_are_unread,
+    added_inboxes_tell_their_owners, added_peers_tell_themselves, answers_are_clean,
+    answers_are_private, attempts_tell_nothing, changes_reach_the_readers,
+    deleted_content_is_told_to_nobody, deliveries_of_nobody_are_unread, posts_of_nobody_are_unread,
     profiles_tell_names_alone, unseen_deliveries_tell_nothing, unseen_posts_tell_nothing,
 };

@@ -1,6 +1,6 @@
 //! What a caller may learn.
 
-ghost use Rattle.fedi_laws.specs.Statements.{AddedInboxesTellTheirOwners, AnswersAreClean, AnswersArePrivate, ChangesReachTheReaders, DeletedContentIsToldToNobody, PostsOfNobodyAreUnread, ProfilesTellNamesAlone, UnseenDeliveriesTellNothing, UnseenPostsTellNothing};
+ghost use Rattle.fedi_laws.specs.Statements.{AddedInboxesTellTheirOwners, AddedPeersTellThemselves, AnswersAreClean, AnswersArePrivate, AttemptsTellNothing, ChangesReachTheReaders, DeletedContentIsToldToNobody, DeliveriesOfNobodyAreUnread, PostsOfNobodyAreUnread, ProfilesTellNamesAlone, UnseenDeliveriesTellNothing, UnseenPostsTellNothing};
 
 /// Histories that agree for a caller give the caller the same answer, whatever else stands in them.
 #[tactic(auto, using(crate::proofs::Isolation::private_answers))]
@@ -21,6 +21,12 @@ pub fn posts_of_nobody_are_unread()
     ensures { PostsOfNobodyAreUnread }
 {}
 
+/// What is answered to nobody for a delivery depends on nothing of it, so its body need not be read.
+#[tactic(auto, using(crate::proofs::Nobody::nobody_delivers))]
+pub fn deliveries_of_nobody_are_unread()
+    ensures { DeliveriesOfNobodyAreUnread }
+{}
+
 /// A post that changes nothing earlier, as a Create, a Follow or a Like, changes nothing that a caller
 /// knows who does not see it.
 #[tactic(auto, using(crate::proofs::Isolation::unseen_posts))]
@@ -36,6 +42,17 @@ pub fn unseen_deliveries_tell_nothing()
 /// A delivery of what is known tells the owner of its inbox alone.
 pub fn added_inboxes_tell_their_owners()
     ensures { AddedInboxesTellTheirOwners }
+{}
+
+/// A peer that is added changes nothing that any caller knows but the peer itself: neither a member nor
+/// nobody nor another peer is told of it.
+pub fn added_peers_tell_themselves()
+    ensures { AddedPeersTellThemselves }
+{}
+
+/// An attempt to deliver changes nothing that any caller knows.
+pub fn attempts_tell_nothing()
+    ensures { AttemptsTellNothing }
 {}
 
 /// What lies behind a Tombstone is told to nobody: histories that differ in it alone agree for everybody
