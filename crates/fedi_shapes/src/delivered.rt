@@ -47,9 +47,9 @@ fn is_actor_target(actor: &Option<Iri>, activity: &Activity) -> bool
 
 /// Whether the activity has the shape in which reading leaves a delivery (ActivityPub, section 7): it has
 /// an id and an actor; it is about what its type asks for, and not about its actor if it is a Follow or a
-/// Block; its texts have at most 65,536 bytes, and its five fields name at most 501 recipients, none of
-/// them anybody twice. Only a Create and an Update carry an object, which has an id and keeps the same
-/// limits. It takes no memory.
+/// Block; its texts have at most 65,536 bytes, and its five fields name at most 501 recipients in all, and
+/// nobody twice in one field. Only a Create and an Update carry an object, which has an id and keeps the
+/// same limits. It takes no memory.
 pub fn is_delivered(activity: &Activity) -> bool
     ensures { result ≡ shapes.is_delivered activity.now }
 {
