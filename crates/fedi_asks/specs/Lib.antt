@@ -1,6 +1,5 @@
 pub mod Answers
 pub mod Asks
-pub mod Built
 pub mod Cleanness
 pub mod Documents
 pub mod Posting

@@ -32,7 +32,7 @@ pub struct Post {
     pub is_typed: bool,
     /// The key under which the post is repeated.
     pub key: KeyAsk,
-    /// The SHA-256 digest of the body.
+    /// Under a key the SHA-256 digest of the body, and else zeros.
     pub digest: [u8; 32],
     /// What was read of the body.
     pub read: Read,

@@ -1,11 +1,13 @@
 pub mod Apart
 pub mod Finds
 pub mod FirstPlaces
-pub mod Followed
+pub mod Forwards
 pub mod Gathering
 pub mod KeptKeys
+pub mod Longer
 pub mod MemberMarks
 pub mod Originals
 pub mod Prefixes
 pub mod Sent
+pub mod Standings
 pub mod Towns

@@ -4,7 +4,7 @@ use denote.Param.Send.{IsSend, view_send, sendable}
 use denote.Param.SendFields.{declared_send, variants_send}
 use Rattle.std.proofs.Crossing.{crosses}
 use Rattle.fedi_address.specs.contracts.host.Host as Host
-use Rattle.fedi_kept.proofs.Sent.{iri_send, kept_send}
+use Rattle.fedi_kept.proofs.Sent.{iri_send, iris_send, kept_send}
 use Rattle.fedi_kept.proofs.extras.Spare.TheSendSync.{the_send as spare_send}
 use Rattle.fedi_kept.proofs.pool.Pool.TheSendSync.{the_send as pool_send}
 use Rattle.fedi_kept.proofs.trace.Trace.TheLaws.TheKnot.{crosses as traces_cross}
@@ -12,7 +12,11 @@ use Rattle.fedi_kept.specs.contracts.trace.Trace as Trace
 use Rattle.fedi_objects.proofs.entry.Entry.TheSendSync.{the_send as entry_send}
 use Rattle.fedi_register.proofs.Sent.{register_send}
 use Rattle.fedi_town.proofs.effect.Effect.TheSendSync.{the_send as effect_send}
+use Rattle.fedi_text.proofs.moment.Moment.TheSendSync.{the_send as moment_send}
+use Rattle.fedi_text.specs.contracts.text.Text as Text
 use Rattle.fedi_town.specs.contracts.act.Actor as Actor
+use Rattle.fedi_town.specs.contracts.act.Attempt as Attempt
+use Rattle.fedi_town.specs.contracts.act.Peer as Peer
 use Rattle.fedi_effects.proofs.members.Members.TheSendSync.{the_send as members_send}
 use Rattle.fedi_effects.specs.contracts.facts.Facts as Facts
 use Rattle.fedi_effects.specs.contracts.facts.Facts.TheInside as Inside
@@ -25,17 +29,26 @@ host_send = search (crosses, sendable) depth 20
 actor_send : IsSend Actor.the_row
 actor_send = search (iri_send, crosses, sendable) depth 20
 
+text_send : IsSend Text.the_row
+text_send = search (crosses, sendable) depth 20
+
+peer_send : IsSend Peer.the_row
+peer_send = search (host_send, text_send, crosses, sendable) depth 20
+
+attempt_send : IsSend Attempt.the_row
+attempt_send = search (iri_send, moment_send, crosses, sendable) depth 20
+
 trace_send : (T : RattleType) → IsSend T → IsSend (Trace.the_row T)
 trace_send T s = search (traces_cross, crosses, sendable) depth 20
 
 ready_send : IsSend Ready.the_row
-ready_send = variants_send Ready.enum (search (host_send, actor_send, kept_send, effect_send, spare_send, crosses, sendable) depth 30)
+ready_send = variants_send Ready.enum (search (host_send, actor_send, peer_send, attempt_send, iri_send, iris_send, kept_send, effect_send, spare_send, crosses, sendable) depth 30)
 
 room_send : IsSend Room.the_row
 room_send = declared_send Room.the_type (search (ready_send, crosses, sendable) depth 20)
 
 inside_send : IsSend Inside.the_row
-inside_send = declared_send Inside.the_type (search (host_send, members_send, pool_send, register_send, trace_send, room_send, entry_send, crosses, sendable) depth 30)
+inside_send = declared_send Inside.the_type (search (host_send, members_send, peer_send, attempt_send, pool_send, register_send, trace_send, room_send, entry_send, crosses, sendable) depth 30)
 
 pub facts_send : IsSend Facts.the_row
 facts_send = view_send _ _ _ _ _ inside_send

@@ -1,20 +1,28 @@
 -- What an entry adds, and what the history has made then.
 use Rattle.std.proofs.Common.{◌≡◌, ℕ, Bool, true, false, List, [], ◌∷◌, ◌++◌, Option, Some, None, refl, sym, ap, subst, ◌∙◌}
-use Rattle.std.specs.Prelude.{IsTrue, ◌||◌, if◌then◌else◌}
+use Rattle.std.specs.Prelude.{◌||◌, if◌then◌else◌}
 use Rattle.std.specs.Str.{bytes_eq}
 use Rattle.std.proofs.lemmas.List.Sums.{fold_push}
 use Rattle.std.proofs.lemmas.Slice.Eq.{bytes_eq-Decides}
 use Rattle.fedi_address.specs.Recipients.{add_new, is_among}
 use Rattle.fedi_objects.specs.declared.entry.Entry.{Entry}
 use Rattle.fedi_objects.specs.declared.entry.Entry.TheVariants.{Hosted, Made, PeerSet, Local, Remote, Tried}
+use Rattle.fedi_objects.specs.declared.activity.Activity.{Activity}
+use Rattle.fedi_laws.proofs.IdsTown.{town_ids}
+use Rattle.fedi_town.specs.declared.act.Act.{Act}
 use Rattle.fedi_town.specs.declared.addition.Addition.{Addition}
-use Rattle.fedi_town.specs.Built.{is_built}
-use Rattle.fedi_town.specs.Histories.{addition_of, member_addition, post_addition, step, town, with_addition}
-use Rattle.fedi_town.specs.Towns.{Town, empty_town}
+use Rattle.fedi_town.specs.declared.addition.Addition.TheVariants as additions
+use Rattle.fedi_town.specs.Activities.{remote_act}
+use Rattle.fedi_town.specs.Effects.{acceptance}
+use Rattle.fedi_town.specs.Histories.{addition_of, delivery_addition, inbox_addition, is_known, member_addition, post_addition, step, town, with_addition}
+use Rattle.fedi_town.specs.Legal.{IsLegal}
+use Rattle.fedi_town.specs.Lists.{PassesOnce}
+use Rattle.fedi_town.specs.Relations.{has_activity_id}
+use Rattle.fedi_town.specs.Towns.{Town, empty_town, id_of}
 use Rattle.fedi_town.proofs.MadeOnce.{made_once}
 use Rattle.fedi_effects.specs.declared.ready.Ready.{Ready}
 use Rattle.fedi_effects.specs.declared.ready.Ready.TheVariants as ready
-use Rattle.fedi_effects.specs.Additions.{HasAuthors, IsBuiltAddition, with_authors}
+use Rattle.fedi_effects.specs.Additions.{CanAdd, HasAuthors, with_authors}
 use Rattle.fedi_register.specs.Changes.{AreMadeOnce}
 
 -- ---- histories
@@ -29,21 +37,44 @@ town_pushed old new history e a stands adds after =
 pub town_made_once : (t : Town) (history : List Entry) → t ≡ town history → AreMadeOnce t.acts
 town_made_once t history stands = subst (λ (u : Town). AreMadeOnce u.acts) (sym stands) (made_once history)
 
-member_built : (host : Option (List ℕ)) (name digest : List ℕ) (locked : Bool) → IsBuiltAddition (member_addition host name digest locked)
-member_built None name digest locked = tt
-member_built (Some host) name digest locked = tt
+-- ---- what can be added
 
--- what a built entry adds is built
-pub built_adds : (t : Town) (e : Entry) → is_built e ≡ true → IsBuiltAddition (addition_of t e)
-built_adds t (Hosted host moment) built = tt
-built_adds t (Made name digest locked moment) built = member_built t.host name digest locked
-built_adds t (PeerSet host key address relay moment) built = absurd cc
-built_adds t (Local name repeat a moment) built = elim t.host as (λ h. IsBuiltAddition (post_addition h t name repeat a moment)) [ None ↦ tt | Some host ↦ tt ]
-built_adds t (Remote peer inbox a moment) built = absurd cc
-built_adds t (Tried activity recipient came moment) built = absurd cc
+can_member : (acts : List Act) (host : Option (List ℕ)) (name digest : List ℕ) (locked : Bool) → CanAdd acts (member_addition host name digest locked)
+can_member acts None name digest locked = tt
+can_member acts (Some host) name digest locked = tt
 
-pub built_addition : (t : Town) (e : Entry) (a : Addition) → IsTrue (is_built e) → a ≡ addition_of t e → IsBuiltAddition a
-built_addition t e a built is = subst IsBuiltAddition (sym is) (built_adds t e built)
+can_post : (acts : List Act) (h : Option (List ℕ)) (t : Town) (name : List ℕ) (repeat : Option (List ℕ × List ℕ)) (a : Activity) (moment : ℕ)
+    → CanAdd acts (post_addition h t name repeat a moment)
+can_post acts None t name repeat a moment = tt
+can_post acts (Some host) t name repeat a moment = tt
+
+can_inbox : (t : Town) (owner author id : List ℕ) (a : Activity) (moment : ℕ) → PassesOnce (has_activity_id id) t.acts → CanAdd t.acts (inbox_addition t owner author id a moment)
+can_inbox t owner author id a moment once =
+    elim (is_known t id) as (λ b. is_known t id ≡ b → CanAdd t.acts (if b then additions.Inbox id owner else additions.Activity (acceptance t (remote_act t owner author a moment)))) [
+      | true ↦ λ e. (e, once)
+      | false ↦ λ e. tt
+    ] refl
+
+can_deliver : (t : Town) (owner author id : Option (List ℕ)) (a : Activity) (moment : ℕ) → ((i : List ℕ) → PassesOnce (has_activity_id i) t.acts)
+    → CanAdd t.acts (delivery_addition t owner author id a moment)
+can_deliver t None author id a moment once = tt
+can_deliver t (Some owner) None id a moment once = tt
+can_deliver t (Some owner) (Some author) None a moment once = tt
+can_deliver t (Some owner) (Some author) (Some id) a moment once = can_inbox t owner author id a moment (once id)
+
+can_step : (t : Town) (e : Entry) → ((i : List ℕ) → PassesOnce (has_activity_id i) t.acts) → CanAdd t.acts (addition_of t e)
+can_step t (Hosted host moment) once = tt
+can_step t (Made name digest locked moment) once = can_member t.acts t.host name digest locked
+can_step t (PeerSet host key address relay moment) once = tt
+can_step t (Local name repeat a moment) once = can_post t.acts t.host t name repeat a moment
+can_step t (Remote peer inbox a moment) once = can_deliver t (id_of t inbox) a.actor a.id a moment once
+can_step t (Tried activity recipient came moment) once = tt
+
+-- what an entry adds to a legal history can be added, since no two activities have one id there
+pub can_add : (t : Town) (history : List Entry) (e : Entry) (a : Addition) → t ≡ town history → IsLegal history → a ≡ addition_of t e → CanAdd t.acts a
+can_add t history e a stands legal is =
+    let once : (i : List ℕ) → PassesOnce (has_activity_id i) t.acts = subst (λ (u : Town). (i : List ℕ) → PassesOnce (has_activity_id i) u.acts) (sym stands) (town_ids history legal) in
+    subst (λ (b : Addition). CanAdd t.acts b) (sym is) (can_step t e once)
 
 -- ---- authors who are known
 
@@ -83,6 +114,9 @@ authors_with : (known : List (List ℕ)) (r : Ready) → HasAuthors (with_author
 authors_with known ready.Nothing = tt
 authors_with known (ready.Host host) = tt
 authors_with known (ready.Member member) = tt
+authors_with known (ready.Peer peer) = tt
+authors_with known (ready.Inbox id owner recipients) = tt
+authors_with known (ready.Attempt attempt) = tt
 authors_with known (ready.Activity act effect spare None) = (known_now known act.author, tt)
 authors_with known (ready.Activity act effect spare (Some answer)) =
     (known_still (add_new known act.author) act.author answer.author (known_now known act.author), known_now (add_new known act.author) answer.author)

@@ -1,7 +1,9 @@
 pub mod Additions
+pub mod Forwards
 pub mod Gathering
 pub mod Holdings
 pub mod Members
 pub mod Repeats
 pub mod Stamps
+pub mod Standings
 pub mod Subjects

@@ -1,15 +1,37 @@
 //! The rules on an operator's commands.
 
-ghost use Rattle.std.specs.Prelude.{◌≡◌, IsTrue, None, Some, MatchResult};
-ghost use Rattle.std.specs.List.{list_any};
-ghost use Rattle.fedi_town.specs.Built.{is_built};
-ghost use Rattle.fedi_town.specs.Legal.{broken_command};
-ghost use Rattle.fedi_town.specs.Towns.{has_digest, has_name};
+ghost use Rattle.std.specs.Prelude.{◌≡◌, None, Some, MatchResult};
+ghost use Rattle.std.specs.List.{list_all, list_any};
+ghost use Rattle.fedi_objects.specs.Keys.{is_visible};
+ghost use Rattle.fedi_objects.specs.Limits.{is_address};
+ghost use Rattle.fedi_town.specs.Legal.{broken_command, is_taken_host};
+ghost use Rattle.fedi_town.specs.Towns.{has_digest, has_host, has_name};
 
-use crate::facts::Facts;
-use fedi_address::LocalName;
+use crate::facts::{Facts, has_host};
+use fedi_address::{Host, LocalName};
 use fedi_objects::Entry;
+use fedi_text::Text;
 use fedi_town::CommandFault;
+
+fn is_visible(byte: u8) -> bool
+    ensures { result ≡ is_visible byte }
+{
+    33 <= byte && byte <= 126
+}
+
+fn are_visible(text: &[u8]) -> bool
+    ensures { result ≡ list_all is_visible text.now }
+{
+    text.iter().all(|byte| is_visible(*byte))
+}
+
+// Whether a peer may be reached at this text: 1 to 255 bytes of ASCII that show, without a space.
+fn is_address(address: &Text) -> bool
+    ensures { result ≡ is_address address.now }
+{
+    let text = address.text().as_bytes();
+    1 <= text.len() && text.len() <= 255 && are_visible(text)
+}
 
 impl Facts {
     fn has_member(&self, name: &LocalName) -> bool
@@ -24,10 +46,26 @@ impl Facts {
         self.members().with_digest(digest).is_some()
     }
 
-    /// The first rule that an operator's command breaks, if it breaks one: the server is set up once, and
-    /// a member's name and key are new. Other entries are no commands, and break none.
+    fn has_peer(&self, host: &str) -> bool
+        ensures { result ≡ list_any (has_host host.now) self.now.town.peers }
+    {
+        self.peers().iter().any(|peer| has_host(peer, host))
+    }
+
+    /// Whether the host is this server's or a peer's. Before the server is set up, each host is taken.
+    pub fn is_taken_host(&self, host: &Host) -> bool
+        ensures { result ≡ is_taken_host self.now.town host.now }
+    {
+        match self.host() {
+            Some(own) => host == own || self.has_peer(host.text()),
+            None => true,
+        }
+    }
+
+    /// The first rule that an operator's command breaks, if it breaks one: the server is set up once; a
+    /// member's name and key are new; a peer is another host that is new, and is reached at an address of 1
+    /// to 255 bytes of ASCII that show, without a space. Other entries are no commands, and break none.
     pub fn judge_command(&self, entry: &Entry) -> Result<(), CommandFault>
-        requires { IsTrue (is_built entry.now) }
         ensures { MatchResult result
             (λ _. broken_command self.now.town entry.now ≡ None)
             (λ fault. broken_command self.now.town entry.now ≡ Some fault) }
@@ -36,10 +74,14 @@ impl Facts {
             Entry::Hosted { .. } if self.host().is_some() => Err(CommandFault::HostTaken),
             Entry::Made { name, .. } if self.has_member(name) => Err(CommandFault::NameTaken),
             Entry::Made { digest, .. } if self.has_key(digest) => Err(CommandFault::KeyTaken),
-            Entry::Hosted { .. } | Entry::Made { .. } | Entry::Local { .. } => Ok(()),
-            Entry::PeerSet { .. } => unreachable!(),
-            Entry::Remote { .. } => unreachable!(),
-            Entry::Tried { .. } => unreachable!(),
+            Entry::PeerSet { host, .. } if self.is_taken_host(host) => Err(CommandFault::HostTaken),
+            Entry::PeerSet { address, .. } if !is_address(address) => Err(CommandFault::BadAddress),
+            Entry::Hosted { .. }
+            | Entry::Made { .. }
+            | Entry::PeerSet { .. }
+            | Entry::Local { .. }
+            | Entry::Remote { .. }
+            | Entry::Tried { .. } => Ok(()),
         }
     }
 }

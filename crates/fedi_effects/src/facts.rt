@@ -1,19 +1,19 @@
 //! The facts that a history has made.
 
-ghost use Rattle.std.specs.Prelude.{◌≡◌, ◌∷◌, ◌++◌, [], ◌+◌, ◌^◌, ◌<◌, ◌≤◌, ◌&&◌, Bool, IsTrue, IfOk, None, OnErr, OnOk, Some, length, map, option_copied, option_to_list, slice_get};
+ghost use Rattle.std.specs.Prelude.{◌≡◌, ◌∷◌, ◌++◌, [], ◌+◌, ◌^◌, ◌<◌, ◌≤◌, ◌&&◌, Bool, IsTrue, IfOk, None, OnErr, OnOk, Some, length, map, option_copied, option_map, option_to_list, slice_get, vec_len, vec_capacity};
 ghost use Rattle.std.specs.Fn.{FnReturnsAt};
 ghost use Rattle.std.specs.List.{find};
 ghost use Rattle.fedi_town.specs.declared.act.Act.{Act};
-ghost use Rattle.fedi_town.specs.Built.{is_built};
 ghost use Rattle.fedi_town.specs.Effects.{affect};
 ghost use Rattle.fedi_town.specs.Histories.{addition_of, town, with_addition};
+ghost use Rattle.fedi_town.specs.Legal.{IsLegal};
 ghost use Rattle.fedi_town.specs.Objects.{maker, makes};
 ghost use Rattle.fedi_town.specs.Relations.{has_activity_id, is_actor};
-ghost use Rattle.fedi_town.specs.Towns.{count_of, empty_town, has_digest, has_id, has_name, id_of};
+ghost use Rattle.fedi_town.specs.Towns.{count_of, empty_town, has_digest, has_host, has_id, has_name, id_of};
 ghost use Rattle.fedi_address.specs.Recipients.{is_among};
-ghost use Rattle.fedi_effects.specs.Additions.{HasAnswerer, HasAuthors, addition_in};
-ghost use Rattle.fedi_effects.specs.Holdings.{coming_in};
-ghost use Rattle.fedi_register.specs.Changes.{AreMadeOnce};
+ghost use Rattle.fedi_effects.specs.Additions.{FitsActs, HasAnswerer, HasAuthors, addition_in};
+ghost use Rattle.fedi_effects.specs.Holdings.{coming_in, coming_inbox_in};
+ghost use Rattle.fedi_register.specs.Changes.{AreMadeOnce, place_where};
 ghost use Rattle.fedi_register.specs.Marks.{Decides};
 
 use crate::making::prepare;
@@ -24,7 +24,7 @@ use fedi_address::{Host, Iri, LocalName};
 use fedi_kept::{Kept, Pool, Spare, Trace};
 use fedi_objects::Entry;
 use fedi_register::{Register, Seed};
-use fedi_town::{Actor, Effect};
+use fedi_town::{Actor, Attempt, Effect, Peer};
 use std::alloc::{AllocError, Global};
 use std::marker::Model;
 use std::snapshot::Snapshot;
@@ -37,14 +37,15 @@ struct Room {
     ready: Ready,
 }
 
-/// What the entries of a history have made: the host, the members and the activities. The entries
-/// themselves are not kept, but contracts see them. So far there are neither peers nor attempts to
-/// deliver.
+/// What the entries of a history have made: the host, the members, the peers, the activities and the
+/// attempts to deliver. The entries themselves are not kept, but contracts see them.
 #[derive(Drop)]
 pub struct Facts {
     history: Trace<Entry>,
     host: Option<Host>,
     actors: Members,
+    peers: Vec<Peer>,
+    attempts: Vec<Attempt>,
     register: Register,
     room: Option<Room>,
     pool: Pool,
@@ -60,6 +61,14 @@ impl Model for Facts {
     ghost invariant = { IsSound };
 }
 
+/// Whether the peer is of this host.
+#[tactic(auto, unfolding(fedi_town::specs::Towns::has_host))]
+pub(crate) fn has_host(peer: &Peer, host: &str) -> bool
+    ensures { result ≡ has_host host.now peer.now }
+{
+    peer.host.text() == host
+}
+
 #[tactic(auto, using(crate::proofs::Towns::authors_known))]
 fn know(register: &mut Register, ready: &Ready) -> Result<(), AllocError>
     ensures acts { register.new.acts ≡ register.old.acts }
@@ -69,31 +78,49 @@ fn know(register: &mut Register, ready: &Ready) -> Result<(), AllocError>
     know_authors(register, ready)
 }
 
-// The members and the activities get room for one entry more, which was made ready.
-fn make_room(actors: &mut Members, register: &mut Register, ready: &Ready) -> Result<(), AllocError>
+// Each list gets room for one entry more, which was made ready.
+fn make_room(
+    actors: &mut Members,
+    peers: &mut Vec<Peer>,
+    attempts: &mut Vec<Attempt>,
+    register: &mut Register,
+    ready: &Ready,
+) -> Result<(), AllocError>
     ensures actors { actors.new.actors ≡ actors.old.actors }
+    ensures peers { peers.new.items ≡ peers.old.items }
+    ensures attempts { attempts.new.items ≡ attempts.old.items }
     ensures acts { register.new.acts ≡ register.old.acts }
     ensures actors_room { OnOk result (1 ≤ actors.new.room) }
+    ensures peers_room { OnOk result (vec_len peers.new + 1 ≤ vec_capacity peers.new) }
+    ensures attempts_room { OnOk result (vec_len attempts.new + 1 ≤ vec_capacity attempts.new) }
     ensures acts_room { OnOk result (register.new.room ≡ 2) }
     ensures known { OnOk result (HasAuthors register.new.known ready.now) }
 {
     actors.reserve()?;
+    peers.reserve(1)?;
+    attempts.reserve(1)?;
     register.reserve()?;
     know(register, ready)
 }
 
-// The room for an entry is kept, where the members and the activities get theirs. To let go of a room is
-// dear to prove, so it is done by calls.
+// The room for an entry is kept, where each list gets its own. To let go of a room is dear to prove, so
+// it is done by calls.
 fn keep_room(
     kept: &mut Option<Room>,
     actors: &mut Members,
+    peers: &mut Vec<Peer>,
+    attempts: &mut Vec<Attempt>,
     register: &mut Register,
     pool: &mut Pool,
     room: Room,
 ) -> Result<(), AllocError>
     ensures actors { actors.new.actors ≡ actors.old.actors }
+    ensures peers { peers.new.items ≡ peers.old.items }
+    ensures attempts { attempts.new.items ≡ attempts.old.items }
     ensures acts { register.new.acts ≡ register.old.acts }
     ensures actors_room { OnOk result (1 ≤ actors.new.room) }
+    ensures peers_room { OnOk result (vec_len peers.new + 1 ≤ vec_capacity peers.new) }
+    ensures attempts_room { OnOk result (vec_len attempts.new + 1 ≤ vec_capacity attempts.new) }
     ensures acts_room { OnOk result (register.new.room ≡ 2) }
     ensures known { OnOk result (HasAuthors register.new.known room.ready) }
     ensures ok { OnOk result (kept.new ≡ Some room) }
@@ -101,7 +128,7 @@ fn keep_room(
 {
     let mut room = room;
     room.ready.share(pool);
-    match make_room(actors, register, &room.ready) {
+    match make_room(actors, peers, attempts, register, &room.ready) {
         Ok(()) => {
             drop(kept.replace(room));
             Ok(())
@@ -136,35 +163,52 @@ fn add_activity(
 }
 
 // Adds what was made ready.
-fn add(host: &mut Option<Host>, actors: &mut Members, register: &mut Register, ready: Ready)
+fn add(
+    host: &mut Option<Host>,
+    actors: &mut Members,
+    peers: &mut Vec<Peer>,
+    attempts: &mut Vec<Attempt>,
+    register: &mut Register,
+    ready: Ready,
+)
     requires once { AreMadeOnce register.old.acts }
     requires actors { 1 ≤ actors.old.room }
+    requires peers { vec_len peers.old + 1 ≤ vec_capacity peers.old }
+    requires attempts { vec_len attempts.old + 1 ≤ vec_capacity attempts.old }
     requires room { register.old.room ≡ 2 }
     requires known { HasAuthors register.old.known ready }
+    requires fits { FitsActs register.old.acts ready }
     ensures { record {
       host = host.new;
       actors = actors.new.actors;
-      peers = [];
+      peers = peers.new.items;
       acts = register.new.acts;
-      attempts = [];
+      attempts = attempts.new.items;
     } ≡ with_addition (record {
       host = host.old;
       actors = actors.old.actors;
-      peers = [];
+      peers = peers.old.items;
       acts = register.old.acts;
-      attempts = [];
+      attempts = attempts.old.items;
     }) (addition_in ready) }
 {
     match ready {
         Ready::Nothing => {}
         Ready::Host(new) => *host = Some(new),
         Ready::Member(member) => actors.push(member),
+        Ready::Peer(peer) => peers.push_reserved(peer),
         Ready::Activity {
             act,
             effect,
             spare,
             answer,
         } => add_activity(register, act, effect, spare, answer),
+        Ready::Inbox {
+            activity,
+            owner,
+            recipients,
+        } => register.add_inbox(&activity, &Snapshot::of(&owner), recipients),
+        Ready::Attempt(attempt) => attempts.push_reserved(attempt),
     }
 }
 
@@ -180,6 +224,8 @@ impl Facts {
             history: Trace::new(),
             host: None,
             actors: Members::empty(alloc, seed),
+            peers: Vec::new(alloc),
+            attempts: Vec::new(alloc),
             register: Register::empty(alloc, seed),
             room: None,
             pool,
@@ -193,21 +239,25 @@ impl Facts {
         let _ = &self.host;
     }
 
-    #[tactic(auto, using(crate::proofs::Towns::built_addition))]
+    #[tactic(auto, using(crate::proofs::Towns::can_add))]
     fn make(&self, alloc: Global, entry: &Entry) -> Result<Ready, AllocError>
-        requires { IsTrue (is_built entry.now) }
-        ensures { IfOk result (λ ready. addition_in ready ≡ addition_of self.now.town entry.now) }
+        requires { IsLegal self.now.history }
+        ensures ready { IfOk result
+            (λ ready. addition_in ready ≡ addition_of self.now.town entry.now) }
+        ensures fits { IfOk result (λ ready. FitsActs self.now.town.acts ready) }
     {
+        self.stands();
         let addition = prepare(alloc, self, entry)?;
-        make_ready(alloc, addition)
+        make_ready(alloc, self, addition)
     }
 
     // The room for the entry, with all that it adds.
     fn room_for(&self, alloc: Global, entry: &Entry) -> Result<Room, AllocError>
-        requires { IsTrue (is_built entry.now) }
+        requires { IsLegal self.now.history }
         ensures entry { IfOk result (λ room. room.entry.value ≡ entry.now) }
         ensures ready { IfOk result
             (λ room. addition_in room.ready ≡ addition_of self.now.town entry.now) }
+        ensures fits { IfOk result (λ room. FitsActs self.now.town.acts room.ready) }
     {
         let ready = self.make(alloc, entry)?;
         let entry = Snapshot::of(entry);
@@ -217,7 +267,7 @@ impl Facts {
     /// Does for an entry all that takes memory, so that it can be added without. An earlier entry for
     /// which this was done has room no longer. The error is out of memory, and then no entry has room.
     pub fn reserve(&mut self, alloc: Global, entry: &Entry) -> Result<(), AllocError>
-        requires { IsTrue (is_built entry.now) }
+        requires { IsLegal self.old.history }
         ensures ok { OnOk result (self.new ≡ record self.old { room = Some entry.now }) }
         ensures err { OnErr result (self.new ≡ record self.old { room = None }) }
     {
@@ -226,6 +276,8 @@ impl Facts {
         keep_room(
             &mut self.room,
             &mut self.actors,
+            &mut self.peers,
+            &mut self.attempts,
             &mut self.register,
             &mut self.pool,
             room,
@@ -252,7 +304,14 @@ impl Facts {
         match self.room.take() {
             None => unreachable!(),
             Some(Room { entry: _, ready }) => {
-                add(&mut self.host, &mut self.actors, &mut self.register, ready);
+                add(
+                    &mut self.host,
+                    &mut self.actors,
+                    &mut self.peers,
+                    &mut self.attempts,
+                    &mut self.register,
+                    ready,
+                );
                 self.history.push(entry);
             }
         }
@@ -284,6 +343,27 @@ impl Facts {
         self.actors.as_slice()
     }
 
+    /// The peers, in the order in which they were set.
+    pub fn peers(&self) -> &[Peer]
+        ensures { result.now ≡ self.now.town.peers }
+    {
+        self.peers.as_slice()
+    }
+
+    /// The peer of this host, or none if there is no such peer.
+    pub fn peer(&self, host: &str) -> Option<&Peer>
+        ensures { option_copied result ≡ find (has_host host.now) self.now.town.peers }
+    {
+        self.peers.iter().find(|peer| has_host(peer, host))
+    }
+
+    /// The attempts to deliver, in order.
+    pub fn attempts(&self) -> &[Attempt]
+        ensures { result.now ≡ self.now.town.attempts }
+    {
+        self.attempts.as_slice()
+    }
+
     /// How many activities there are.
     pub fn activities(&self) -> usize
         ensures value { result ≡ length self.now.town.acts }
@@ -310,6 +390,17 @@ impl Facts {
         match &self.room {
             Some(room) => room.ready.activities(),
             None => (None, None),
+        }
+    }
+
+    /// The activity that the entry for which there is room will bring to one more inbox, by its id, and the
+    /// inbox's owner.
+    pub fn coming_inbox(&self) -> Option<(&Iri, &Iri)>
+        ensures { option_map (λ pair. (pair.0.now, pair.1.now)) result ≡ coming_inbox_in self.now }
+    {
+        match &self.room {
+            Some(room) => room.ready.inbox(),
+            None => None,
         }
     }
 
@@ -354,6 +445,13 @@ impl Facts {
         ensures { option_copied result ≡ find (has_activity_id id.now) self.now.town.acts }
     {
         self.register.activity(id)
+    }
+
+    /// Where the activity of this id is among the activities, or none if there is no such activity.
+    pub fn position_of(&self, id: &Iri) -> Option<usize>
+        ensures { result ≡ place_where (has_activity_id id.now) self.now.town.acts }
+    {
+        self.register.position_of(id)
     }
 
     /// The first activity of this id that passes the test, or none if there is no such activity.

@@ -1,10 +1,10 @@
 //! What an entry adds to the town.
 
-ghost use Rattle.std.specs.Prelude.{◌≡◌, IsTrue, IfOk, OnOk, Some, option_copied};
+ghost use Rattle.std.specs.Prelude.{◌≡◌, IfOk, OnOk, Some, option_copied};
 ghost use Rattle.fedi_text.specs.Dates.{moment_text};
+ghost use Rattle.fedi_town.specs.declared.addition.Addition.TheVariants as additions;
 ghost use Rattle.fedi_town.specs.Activities.{act_by, complete_activity, complete_ref, local_act};
 ghost use Rattle.fedi_town.specs.Addressing.{complete_recipients, is_original_for_followers, is_original_public, original_recipients};
-ghost use Rattle.fedi_town.specs.Built.{is_built};
 ghost use Rattle.fedi_town.specs.Deeds.{deed_of};
 ghost use Rattle.fedi_town.specs.Effects.{acceptance};
 ghost use Rattle.fedi_town.specs.Histories.{addition_of, member_addition, post_addition};
@@ -18,14 +18,15 @@ use crate::effects::acceptance;
 use crate::facts::Facts;
 use crate::head::Head;
 use crate::implied::complete_recipients;
+use crate::receiving::delivery_addition;
 use crate::states::state_of;
 use crate::subjects::subject_of;
 use fedi_address::{Host, Iri, Items, LocalName};
 use fedi_kept::Kept;
-use fedi_objects::{Activity, Boxed, Entry, Object, ObjectRef, RepeatKey, set};
+use fedi_objects::{Activity, Boxed, Came, Entry, Object, ObjectRef, RepeatKey, set};
 use fedi_register::is_done;
 use fedi_text::{Moment, Text};
-use fedi_town::{Acceptance, Act, Actor, Addition, Deed, actor_iri, object_iri};
+use fedi_town::{Acceptance, Act, Actor, Addition, Attempt, Deed, Peer, actor_iri, object_iri};
 use std::alloc::{AllocError, Global};
 
 // The member that an entry makes, once the server was set up.
@@ -244,7 +245,7 @@ fn act_by(
     let named = &accepted.recipients;
     let deed = Deed::of(accepted.kind);
     let create = original(deed, subject);
-    let state = state_of(facts, &author, deed, &accepted.object, subject);
+    let state = state_of(facts, true, &author, deed, &accepted.object, subject);
     let is_public = named.is_public() || is_original_public(create);
     let for_followers = names_followers(&author, named)
         || (is_done(state) && is_original_for_followers(create));
@@ -309,10 +310,54 @@ fn post_addition(
     Ok(Addition::Activity(accepted))
 }
 
-/// What the entry adds to the town: a host, a member, or a member's activity with all that follows
-/// from it. Nothing changes. The error is out of memory.
+// ---- peers and attempts
+
+fn peer_addition(
+    host: &Host,
+    key: &[u8; 32],
+    address: &Text,
+    relay: bool,
+) -> Result<Addition, AllocError>
+    ensures { IfOk result (λ a. a ≡ additions.Peer (record {
+      host = host.now;
+      key = key.now;
+      address = address.now;
+      relay = relay;
+    })) }
+{
+    Ok(Addition::Peer(Peer {
+        host: host.clone()?,
+        key: *key,
+        address: address.clone()?,
+        relay,
+    }))
+}
+
+fn attempt_addition(
+    activity: &Iri,
+    recipient: &Iri,
+    came: Came,
+    moment: Moment,
+) -> Result<Addition, AllocError>
+    ensures { IfOk result (λ a. a ≡ additions.Attempt (record {
+      activity = activity.now;
+      recipient = recipient.now;
+      came = came;
+      moment = moment;
+    })) }
+{
+    Ok(Addition::Attempt(Attempt {
+        activity: activity.clone()?,
+        recipient: recipient.clone()?,
+        came,
+        moment,
+    }))
+}
+
+/// What the entry adds to the town: a host, a member, a peer, a member's activity or a delivered one with
+/// all that follows from it, one more inbox of an activity that is known, or an attempt. Nothing changes.
+/// The error is out of memory.
 pub fn prepare(alloc: Global, facts: &Facts, entry: &Entry) -> Result<Addition, AllocError>
-    requires { IsTrue (is_built entry.now) }
     ensures { IfOk result (λ a. a ≡ addition_of facts.now.town entry.now) }
 {
     match entry {
@@ -323,14 +368,30 @@ pub fn prepare(alloc: Global, facts: &Facts, entry: &Entry) -> Result<Addition, 
             locked,
             ..
         } => member_addition(alloc, facts, name, digest, *locked),
+        Entry::PeerSet {
+            host,
+            key,
+            address,
+            relay,
+            ..
+        } => peer_addition(host, key, address, *relay),
         Entry::Local {
             name,
             repeat,
             activity,
             moment,
         } => post_addition(alloc, facts, name, repeat, activity, *moment),
-        Entry::PeerSet { .. } => unreachable!(),
-        Entry::Remote { .. } => unreachable!(),
-        Entry::Tried { .. } => unreachable!(),
+        Entry::Remote {
+            inbox,
+            activity,
+            moment,
+            ..
+        } => delivery_addition(alloc, facts, inbox, activity, *moment),
+        Entry::Tried {
+            activity,
+            recipient,
+            came,
+            moment,
+        } => attempt_addition(activity, recipient, *came, *moment),
     }
 }

@@ -42,10 +42,10 @@ fn has_name(actor: &Actor, name: &LocalName) -> bool
 }
 
 #[tactic(auto, unfolding(fedi_town::specs::Towns::has_id))]
-fn has_id(actor: &Actor, id: &Iri) -> bool
+fn has_id(actor: &Actor, id: &[u8]) -> bool
     ensures { result ≡ has_id id.now actor.now }
 {
-    actor.id == *id
+    actor.id.text().as_bytes() == id
 }
 
 #[tactic(auto, unfolding(fedi_town::specs::Towns::has_digest))]
@@ -58,7 +58,7 @@ fn has_digest(actor: &Actor, digest: &[u8; 32]) -> bool
 fn is_locked_one(actor: &Actor, id: &Iri) -> bool
     ensures { result ≡ (has_id id.now actor.now && actor.now.locked) }
 {
-    has_id(actor, id) && actor.locked
+    has_id(actor, id.text().as_bytes()) && actor.locked
 }
 
 fn mark_of_name(seed: &Seed, name: &LocalName) -> u32
@@ -110,11 +110,14 @@ impl Members {
     pub(crate) fn of_id(&self, id: &Iri) -> Option<&Actor>
         ensures { option_copied result ≡ find (has_id id.now) self.now.actors }
     {
-        self.ids.first_of(
-            &self.list,
-            self.seed.mark_of_iri(id),
-            |actor| has_id(actor, id),
-        )
+        self.of_text(id.text().as_bytes())
+    }
+
+    /// The member whose id is this text.
+    pub(crate) fn of_text(&self, id: &[u8]) -> Option<&Actor>
+        ensures { option_copied result ≡ find (has_id id.now) self.now.actors }
+    {
+        self.ids.first_of(&self.list, self.seed.mark_of(id), |actor| has_id(actor, id))
     }
 
     /// The member whose key has this digest.

@@ -1,14 +1,20 @@
 //! What an entry adds, made ready to be added without memory.
 
-ghost use Rattle.std.specs.Prelude.{◌≡◌, ◌++◌, IfOk, OnOk, option_copied, option_to_list};
-ghost use Rattle.fedi_effects.specs.Additions.{IsBuiltAddition, acts_in, addition_in, with_answerer, with_authors};
-ghost use Rattle.fedi_town.specs.declared.addition.Addition.TheVariants as additions;
+ghost use Rattle.std.specs.Prelude.{◌≡◌, ◌++◌, IfOk, IsTrue, List, OnOk, Some, option_copied, option_map, option_to_list};
+ghost use Rattle.std.specs.List.{list_any};
 ghost use Rattle.fedi_address.specs.Recipients.{add_new};
+ghost use Rattle.fedi_town.specs.declared.act.Act.{Act};
+ghost use Rattle.fedi_town.specs.declared.addition.Addition.TheVariants as additions;
+ghost use Rattle.fedi_town.specs.Lists.{PassesOnce};
+ghost use Rattle.fedi_town.specs.Relations.{has_activity_id};
+ghost use Rattle.fedi_register.specs.Changes.{longer_of};
+ghost use Rattle.fedi_effects.specs.Additions.{CanAdd, FitsActs, acts_in, addition_in, inbox_in, with_answerer, with_authors};
 
-use fedi_address::Host;
-use fedi_kept::{Kept, Pool, Spare};
+use crate::facts::Facts;
+use fedi_address::{Host, Iri};
+use fedi_kept::{Iris, Kept, Pool, Spare};
 use fedi_register::Register;
-use fedi_town::{Acceptance, Act, Actor, Addition, Effect};
+use fedi_town::{Acceptance, Act, Actor, Addition, Attempt, Effect, Peer};
 use std::alloc::{AllocError, Global};
 
 /// What an entry adds: each activity is in the form in which it is kept.
@@ -20,6 +26,8 @@ pub(crate) enum Ready {
     Host(Host),
     /// A member.
     Member(Actor),
+    /// Another server.
+    Peer(Peer),
     /// An activity, with all that follows from it.
     Activity {
         /// The activity.
@@ -31,6 +39,17 @@ pub(crate) enum Ready {
         /// The Accept that follows it.
         answer: Option<Kept>,
     },
+    /// One more inbox of an activity that is known.
+    Inbox {
+        /// The id of the activity.
+        activity: Iri,
+        /// The inbox's owner.
+        owner: Iri,
+        /// Those to whom the activity goes then.
+        recipients: Iris,
+    },
+    /// An attempt to deliver.
+    Attempt(Attempt),
 }
 
 fn keep_answer(alloc: Global, answer: Option<Act>) -> Result<Option<Kept>, AllocError>
@@ -67,7 +86,8 @@ fn keep_both(
 }
 
 fn keep_all(alloc: Global, acceptance: Acceptance, spare: Spare) -> Result<Ready, AllocError>
-    ensures { IfOk result (λ ready. addition_in ready ≡ additions.Activity acceptance) }
+    ensures ready { IfOk result (λ ready. addition_in ready ≡ additions.Activity acceptance) }
+    ensures fits { (acts : List Act) → IfOk result (λ ready. FitsActs acts ready) }
 {
     let Acceptance {
         act,
@@ -89,7 +109,8 @@ fn keep_all(alloc: Global, acceptance: Acceptance, spare: Spare) -> Result<Ready
 }
 
 fn keep_with_spare(alloc: Global, acceptance: Acceptance) -> Result<Ready, AllocError>
-    ensures { IfOk result (λ ready. addition_in ready ≡ additions.Activity acceptance) }
+    ensures ready { IfOk result (λ ready. addition_in ready ≡ additions.Activity acceptance) }
+    ensures fits { (acts : List Act) → IfOk result (λ ready. FitsActs acts ready) }
 {
     match Spare::new(alloc) {
         Ok(spare) => keep_all(alloc, acceptance, spare),
@@ -122,7 +143,32 @@ impl Ready {
                 spare: _,
                 answer,
             } => (Some(act), answer.as_ref()),
-            Ready::Nothing | Ready::Host(_) | Ready::Member(_) => (None, None),
+            Ready::Nothing
+            | Ready::Host(_)
+            | Ready::Member(_)
+            | Ready::Peer(_)
+            | Ready::Inbox { .. }
+            | Ready::Attempt(_) => (None, None),
+        }
+    }
+
+    /// The activity that goes to one more inbox, by its id, and the inbox's owner.
+    pub(crate) fn inbox(&self) -> Option<(&Iri, &Iri)>
+        ensures { option_map (λ pair. (pair.0.now, pair.1.now)) result
+            ≡ inbox_in (addition_in self.now) }
+    {
+        match self {
+            Ready::Inbox {
+                activity,
+                owner,
+                recipients: _,
+            } => Some((activity, owner)),
+            Ready::Nothing
+            | Ready::Host(_)
+            | Ready::Member(_)
+            | Ready::Peer(_)
+            | Ready::Activity { .. }
+            | Ready::Attempt(_) => None,
         }
     }
 
@@ -140,24 +186,65 @@ impl Ready {
                 act.share(pool);
                 share_answer(answer, pool);
             }
-            Ready::Nothing | Ready::Host(_) | Ready::Member(_) => {}
+            Ready::Inbox {
+                activity: _,
+                owner: _,
+                recipients,
+            } => recipients.share(pool),
+            Ready::Nothing
+            | Ready::Host(_)
+            | Ready::Member(_)
+            | Ready::Peer(_)
+            | Ready::Attempt(_) => {}
         }
     }
 }
 
-/// Makes an addition ready. The error is out of memory.
-pub(crate) fn make_ready(alloc: Global, addition: Addition) -> Result<Ready, AllocError>
-    requires { IsBuiltAddition addition }
-    ensures { IfOk result (λ ready. addition_in ready ≡ addition) }
+// Those to whom the activity of this id goes, where it goes to one more owner of an inbox.
+#[tactic(auto, using(crate::proofs::Longer::longer_found, crate::proofs::Longer::not_missing))]
+fn longer(alloc: Global, facts: &Facts, id: &Iri, owner: &Iri) -> Result<Iris, AllocError>
+    requires { IsTrue (list_any (has_activity_id id.now) facts.now.town.acts) }
+    ensures { IfOk result (λ recipients.
+        longer_of id.now owner.now facts.now.town.acts ≡ Some recipients) }
+{
+    match facts.activity_of(id) {
+        Some(act) => Iris::with_one(alloc, act.recipients(), owner),
+        None => unreachable!(),
+    }
+}
+
+fn make_inbox(alloc: Global, facts: &Facts, activity: Iri, owner: Iri) -> Result<Ready, AllocError>
+    requires known { IsTrue (list_any (has_activity_id activity) facts.now.town.acts) }
+    requires once { PassesOnce (has_activity_id activity) facts.now.town.acts }
+    ensures ready { IfOk result (λ ready. addition_in ready ≡ additions.Inbox activity owner) }
+    ensures fits { IfOk result (λ ready. FitsActs facts.now.town.acts ready) }
+{
+    let recipients = longer(alloc, facts, &activity, &owner)?;
+    Ok(Ready::Inbox {
+        activity,
+        owner,
+        recipients,
+    })
+}
+
+/// Makes an addition to these facts ready. The error is out of memory.
+pub(crate) fn make_ready(
+    alloc: Global,
+    facts: &Facts,
+    addition: Addition,
+) -> Result<Ready, AllocError>
+    requires { CanAdd facts.now.town.acts addition }
+    ensures ready { IfOk result (λ ready. addition_in ready ≡ addition) }
+    ensures fits { IfOk result (λ ready. FitsActs facts.now.town.acts ready) }
 {
     match addition {
         Addition::Nothing => Ok(Ready::Nothing),
         Addition::Host(host) => Ok(Ready::Host(host)),
         Addition::Member(member) => Ok(Ready::Member(member)),
+        Addition::Peer(peer) => Ok(Ready::Peer(peer)),
         Addition::Activity(acceptance) => keep_with_spare(alloc, acceptance),
-        Addition::Peer(_) => unreachable!(),
-        Addition::Inbox { .. } => unreachable!(),
-        Addition::Attempt(_) => unreachable!(),
+        Addition::Inbox { activity, owner } => make_inbox(alloc, facts, activity, owner),
+        Addition::Attempt(attempt) => Ok(Ready::Attempt(attempt)),
     }
 }
 
@@ -189,7 +276,12 @@ pub(crate) fn know_authors(register: &mut Register, ready: &Ready) -> Result<(),
     ensures known { OnOk result (register.new.known ≡ with_authors register.old.known ready.now) }
 {
     match ready {
-        Ready::Nothing | Ready::Host(_) | Ready::Member(_) => Ok(()),
+        Ready::Nothing
+        | Ready::Host(_)
+        | Ready::Member(_)
+        | Ready::Peer(_)
+        | Ready::Inbox { .. }
+        | Ready::Attempt(_) => Ok(()),
         Ready::Activity { act, answer, .. } => know_both(register, act, answer),
     }
 }

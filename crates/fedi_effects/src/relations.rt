@@ -83,12 +83,10 @@ impl Facts {
 
     /// Those who follow b, in the order of their Follows (ActivityPub, section 5.3). The error is out of
     /// memory.
-    #[tactic(auto, using(crate::proofs::Followed::gathered_follow))]
+    #[tactic(auto, unfolding(fedi_town::specs::Relations::followers, fedi_register::specs::Following::followers_in))]
     pub fn followers_of(&self, alloc: Global, b: &Iri) -> Result<Vec<Iri>, AllocError>
         ensures { IfOk result (λ found. found.items ≡ followers self.now.town b.now) }
     {
-        let mut found = Vec::new(alloc);
-        self.register().add_followers(&mut found, b)?;
-        Ok(found)
+        self.register().followers_of(alloc, b)
     }
 }

@@ -1,6 +1,6 @@
-//! The state in which a member's activity is accepted.
+//! The state in which an activity is accepted.
 
-ghost use Rattle.std.specs.Prelude.{◌≡◌, ◌^◌, ◌≤◌, Some, true, option_copied};
+ghost use Rattle.std.specs.Prelude.{◌≡◌, ◌^◌, ◌≤◌, Some, option_copied};
 ghost use Rattle.std.specs.List.{list_any};
 ghost use Rattle.fedi_town.specs.Deeds.{is_open, is_pending};
 ghost use Rattle.fedi_town.specs.Objects.{makes};
@@ -145,6 +145,7 @@ fn is_own_undoable(author: &Iri, act: Option<&Kept>) -> bool
 
 fn state_about(
     facts: &Facts,
+    is_local: bool,
     author: &Iri,
     deed: Deed,
     is_full: bool,
@@ -152,13 +153,17 @@ fn state_about(
     subject: Option<&Kept>,
 ) -> State
     requires { option_copied subject ≡ subject_of facts.now.town deed (Some id.now) }
-    ensures { result ≡ state_about facts.now.town true author.now deed is_full id.now }
+    ensures { result ≡ state_about facts.now.town is_local author.now deed is_full id.now }
 {
     match deed {
         Deed::Create => only_where(is_full && !is_made(facts, id), State::Done),
-        Deed::Update | Deed::Delete => only_where(is_own_live(author, subject), State::Done),
+        Deed::Update => only_where(
+            (is_local || is_full) && is_own_live(author, subject),
+            State::Done,
+        ),
+        Deed::Delete => only_where(is_own_live(author, subject), State::Done),
         Deed::Follow if facts.is_actor(id) => follow_state(facts, author, id),
-        Deed::Follow => State::Pending,
+        Deed::Follow => only_where(is_local, State::Pending),
         Deed::Like => only_where(
             is_live_to(facts, author, subject) && !facts.likes(author, id),
             State::Standing,
@@ -177,11 +182,12 @@ fn state_about(
     }
 }
 
-/// The state of a member's activity that does this and is about this: whether its side effect happens
-/// (ActivityPub, sections 6 and 7).
+/// The state of an activity that does this and is about this: whether its side effect happens
+/// (ActivityPub, sections 6 and 7). It is a member's, or comes from elsewhere.
 #[tactic(auto, unfolding(fedi_town::specs::States::state_of))]
 pub fn state_of(
     facts: &Facts,
+    is_local: bool,
     author: &Iri,
     deed: Deed,
     object: &ObjectRef,
@@ -189,10 +195,10 @@ pub fn state_of(
 ) -> State
     requires { option_copied subject
         ≡ subject_of facts.now.town deed (ref_id object.now) }
-    ensures { result ≡ state_of facts.now.town true author.now deed object.now }
+    ensures { result ≡ state_of facts.now.town is_local author.now deed object.now }
 {
     match ref_id(object) {
-        Some(id) => state_about(facts, author, deed, is_whole(object), id, subject),
+        Some(id) => state_about(facts, is_local, author, deed, is_whole(object), id, subject),
         None => State::Plain,
     }
 }

@@ -28,7 +28,7 @@ iri_sync = search (crosses, sendable) depth 20
 text_send : IsSend Text.the_row
 text_send = search (crosses, sendable) depth 20
 
-iris_send : IsSend Iris.the_row
+pub iris_send : IsSend Iris.the_row
 iris_send = search (iri_send, iri_sync, crosses, sendable) depth 40
 
 hidden_send : IsSend Hidden.the_row

@@ -1,4 +1,5 @@
 pub mod Lists
+pub mod Mentions
 pub mod Parts
 pub mod Seen
 pub mod Traces

@@ -4,13 +4,14 @@ ghost use Rattle.std.specs.Prelude.{◌≡◌, IfOk, option_copied, option_map};
 ghost use Rattle.fedi_town.specs.Objects.{is_tombstone_in, rewrite_ref, tombstone_of, update_object, whole_of};
 ghost use Rattle.fedi_town.specs.Relations.{ref_id};
 ghost use Rattle.fedi_town.specs.Showing.{shown_object};
+ghost use Rattle.fedi_kept.specs.Mentions.{reply_in, tags_in};
 ghost use Rattle.fedi_kept.specs.Parts.{object_names, referred};
 
-use crate::extras::Spare;
+use crate::extras::{Spare, in_reply_to, tags};
 use crate::object::KeptObject;
 use crate::pool::Pool;
 use fedi_address::Iri;
-use fedi_objects::{Change, ObjectRef, StrippedObject};
+use fedi_objects::{Change, ObjectRef, StrippedObject, Tag};
 use fedi_text::Text;
 use std::alloc::{AllocError, Global};
 use std::snapshot::Snapshot;
@@ -69,6 +70,26 @@ impl About {
         match self {
             About::Whole(object) => Some(object.show()),
             About::Nothing | About::Id(_) | About::Changed(_) => None,
+        }
+    }
+
+    /// What the object replies to, where it is carried.
+    pub(crate) fn reply(&self) -> Option<&Iri>
+        ensures { option_copied result ≡ reply_in (whole_of (referred self.now)) }
+    {
+        match self {
+            About::Whole(object) => in_reply_to(&object.extras),
+            About::Nothing | About::Id(_) | About::Changed(_) => None,
+        }
+    }
+
+    /// Whom the object mentions, where it is carried.
+    pub(crate) fn tags(&self) -> &[Tag]
+        ensures { result.now ≡ tags_in (whole_of (referred self.now)) }
+    {
+        match self {
+            About::Whole(object) => tags(&object.extras),
+            About::Nothing | About::Id(_) | About::Changed(_) => &[],
         }
     }
 

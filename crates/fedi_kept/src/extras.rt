@@ -180,3 +180,23 @@ pub(crate) fn deleted(extras: &Option<Box<Extras>>) -> Option<&Text>
         None => None,
     }
 }
+
+/// What the object replies to.
+pub(crate) fn in_reply_to(extras: &Option<Box<Extras>>) -> Option<&Iri>
+    ensures { option_copied result ≡ (extras_in extras.now).in_reply_to }
+{
+    match extras {
+        Some(extras) => extras.in_reply_to.as_ref(),
+        None => None,
+    }
+}
+
+/// Whom the object mentions.
+pub(crate) fn tags(extras: &Option<Box<Extras>>) -> &[Tag]
+    ensures { result.now ≡ (extras_in extras.now).tags }
+{
+    match extras {
+        Some(extras) => extras.tags.as_slice(),
+        None => &[],
+    }
+}

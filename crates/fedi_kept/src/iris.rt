@@ -1,6 +1,6 @@
 //! Lists of IRIs that take little memory.
 
-ghost use Rattle.std.specs.Prelude.{◌≡◌, true, false, IfOk};
+ghost use Rattle.std.specs.Prelude.{◌≡◌, ◌∷◌, ◌++◌, [], true, false, IfOk};
 
 use crate::pool::Pool;
 use fedi_address::{Iri, Items};
@@ -20,7 +20,7 @@ enum Held {
 /// A list of IRIs that does not change. One IRI lies in place, and several lie once for all owners of
 /// the list.
 #[derive(Drop)]
-pub(crate) struct Iris {
+pub struct Iris {
     held: Held,
 }
 
@@ -73,7 +73,33 @@ fn many_of(alloc: Global, iris: Items<Iri>) -> Result<Arc<Vec<Iri>>, AllocError>
     Ok(many)
 }
 
+fn copies_of(alloc: Global, iris: &[Iri]) -> Result<Vec<Iri>, AllocError>
+    ensures { IfOk result (λ copies. copies.items ≡ iris.now) }
+{
+    let mut copies = Vec::with_capacity(alloc, iris.len())?;
+    for iri in iris {
+        copies.push(iri.copy()?)?;
+    }
+    Ok(copies)
+}
+
+fn longer(alloc: Global, iris: &[Iri], last: &Iri) -> Result<Items<Iri>, AllocError>
+    ensures { IfOk result (λ list. list ≡ iris.now ++ last.now ∷ []) }
+{
+    let mut all = copies_of(alloc, iris)?;
+    all.push(last.copy()?)?;
+    Ok(Items::new(all))
+}
+
 impl Iris {
+    /// These IRIs, and one more at the end. The error is out of memory.
+    pub fn with_one(alloc: Global, iris: &[Iri], last: &Iri) -> Result<Iris, AllocError>
+        ensures { IfOk result (λ list. list ≡ iris.now ++ last.now ∷ []) }
+    {
+        let all = longer(alloc, iris, last)?;
+        Iris::new(alloc, all)
+    }
+
     /// The same IRIs. The error is out of memory.
     pub(crate) fn new(alloc: Global, iris: Items<Iri>) -> Result<Iris, AllocError>
         ensures { IfOk result (λ list. list ≡ iris) }
@@ -97,8 +123,9 @@ impl Iris {
         }
     }
 
-    /// Lets a single IRI share the text of an equal one, and several the memory of an equal list.
-    pub(crate) fn share(&mut self, pool: &mut Pool)
+    /// Lets a single IRI share the text of an equal one, and several the memory of an equal list. Nothing
+    /// of it can be seen, and it takes no memory.
+    pub fn share(&mut self, pool: &mut Pool)
         ensures { self.new ≡ self.old }
     {
         match &mut self.held {

@@ -5,6 +5,7 @@ ghost use Rattle.fedi_town.specs.Showing.{shown_object};
 ghost use Rattle.fedi_town.specs.Deeds.{deed_of};
 ghost use Rattle.fedi_town.specs.Objects.{is_deleted, rewrite_act, tombstone_of, update_object, whole_of};
 ghost use Rattle.fedi_town.specs.Relations.{ref_id};
+ghost use Rattle.fedi_kept.specs.Mentions.{reply_in, tags_in};
 
 use crate::about::About;
 use crate::extras::Spare;
@@ -192,6 +193,20 @@ impl Kept {
         self.about.object()
     }
 
+    /// What the object that it carries replies to, also if it is a Tombstone.
+    pub fn object_reply(&self) -> Option<&Iri>
+        ensures { option_copied result ≡ reply_in (whole_of self.now.activity.object) }
+    {
+        self.about.reply()
+    }
+
+    /// Whom the object that it carries mentions, also if it is a Tombstone.
+    pub fn object_tags(&self) -> &[Tag]
+        ensures { result.now ≡ tags_in (whole_of self.now.activity.object) }
+    {
+        self.about.tags()
+    }
+
     /// What it is about beside the object: another object or actor.
     pub fn target(&self) -> Option<&Iri>
         ensures { option_copied result ≡ self.now.activity.target }
@@ -301,6 +316,13 @@ impl Kept {
         ensures { self.new ≡ record self.old { state = state } }
     {
         self.state = state;
+    }
+
+    /// Gives it other recipients.
+    pub fn set_recipients(&mut self, recipients: Iris)
+        ensures { self.new ≡ record self.old { recipients = recipients } }
+    {
+        self.recipients = recipients;
     }
 
     /// Whether it made an object that was deleted since (ActivityPub, section 6.4).

@@ -13,6 +13,7 @@ mod pool;
 mod trace;
 
 pub use extras::Spare;
+pub use iris::Iris;
 pub use kept::Kept;
 pub use pool::Pool;
 pub use trace::Trace;

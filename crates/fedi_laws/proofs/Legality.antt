@@ -1,26 +1,23 @@
--- A legal history stays legal and built by each ask, and what is due stays due in it.
+-- A legal history stays legal by each ask, and what is due stays due in it.
 use Rattle.std.proofs.Common.{◌≡◌, ℕ, ◌≤◌, true, false, List, [], ◌∷◌, ◌++◌, Option, Some, None, refl, sym, subst, ◌∙◌, arith}
 use Rattle.std.specs.Prelude.{is_none}
 use Rattle.std.specs.List.{list_any, fold}
 use Rattle.std.proofs.lemmas.Bool.{and_parts}
-use Rattle.std.proofs.lemmas.List.Folds.{list_all-append}
 use Rattle.std.proofs.lemmas.List.Sums.{fold-append}
 use Rattle.fedi_address.specs.Hosts.{is_host_text}
 use Rattle.fedi_objects.specs.declared.entry.Entry.{Entry}
 use Rattle.fedi_objects.specs.declared.entry.Entry.TheVariants.{Hosted, Made, PeerSet, Local, Remote, Tried}
 use Rattle.fedi_town.specs.declared.caller.Caller.{Caller}
-use Rattle.fedi_town.specs.Built.{is_built, are_built}
 use Rattle.fedi_town.specs.Histories.{step, town}
 use Rattle.fedi_town.specs.Legal.{broken_command, is_admissible, is_legal_from, IsLegal}
 use Rattle.fedi_town.specs.Queues.{is_due}
 use Rattle.fedi_town.specs.Towns.{Town, empty_town}
 use Rattle.fedi_asks.specs.declared.ask.Ask.{Ask}
 use Rattle.fedi_asks.specs.Asks.{entry_of, IsPostable}
-use Rattle.fedi_asks.specs.Built.{is_built_ask}
 use Rattle.fedi_laws.proofs.Due.{held_on, same_later, stays_due, IsOtherEntry}
 use Rattle.fedi_laws.proofs.IdsTown.{HasIds, step_by}
 use Rattle.fedi_town.proofs.Lists.{first_none, other_none}
-use Rattle.fedi_laws.proofs.Next.{entry_admissible, entry_built}
+use Rattle.fedi_laws.proofs.Next.{entry_admissible}
 use Rattle.fedi_laws.proofs.Sound.{IsHosted, not_hosted, step_sound}
 use Rattle.fedi_laws.specs.Statements.{is_attempt_of}
 
@@ -46,12 +43,6 @@ pub asks_keep_legal : (history : List Entry) (c : Caller) (ask : Ask) (moment : 
     → IsPostable (town history) ask → entry_of (town history) c ask moment ≡ Some e → IsLegal (history ++ e ∷ [])
 asks_keep_legal history c ask moment e legal postable made =
     record { admissible = legal_push history empty_town e legal.admissible (entry_admissible (town history) c ask moment e postable made) }
-
--- The entry that an ask makes is one that is built, where the ask is.
-pub asks_keep_built : (history : List Entry) (c : Caller) (ask : Ask) (moment : ℕ) (e : Entry) → are_built history ≡ true
-    → is_built_ask ask ≡ true → entry_of (town history) c ask moment ≡ Some e → are_built (history ++ e ∷ []) ≡ true
-asks_keep_built history c ask moment e built asked made =
-    list_all-append is_built history (e ∷ []) ∙ rw (built, entry_built (town history) c ask moment e asked made) refl
 
 -- ---- what is due
 

@@ -1,4 +1,4 @@
--- The entry that an ask makes is admissible, so that a legal history stays one, and built where the ask is.
+-- The entry that an ask makes is admissible, so that a legal history stays one.
 use Rattle.std.proofs.Common.{◌≡◌, ℕ, Bool, true, false, List, [], ◌∷◌, Option, Some, None, refl, ap, subst}
 use Rattle.std.specs.Prelude.{filter, if◌then◌else◌, option_map}
 use Rattle.std.specs.List.{list_any, find, filter_map, cons_option}
@@ -10,7 +10,6 @@ use Rattle.fedi_objects.specs.declared.entry.Entry.{Entry}
 use Rattle.fedi_objects.specs.declared.entry.Entry.TheVariants.{Local, Remote}
 use Rattle.fedi_asks.specs.Answers.{Refuse}
 use Rattle.fedi_asks.specs.Asks.{IsRead, IsReadFor, IsPostable, entry_of}
-use Rattle.fedi_asks.specs.Built.{is_built_ask}
 use Rattle.fedi_asks.specs.Posting.{Judgement, Stop, Repeat, Keep, by_steps, judge_read, unless_repeat, judge_activity, unless_broken, judge_post, repeat_under, is_bad_key, is_there, judge_delivery, judge_inbox, repeat_by, post_entry, inbox_entry, entry_at, inbox_entry_at, delivery_of}
 use Rattle.fedi_asks.specs.Reading.{is_nobody, is_self}
 use Rattle.fedi_asks.specs.declared.ask.Ask.{Ask}
@@ -22,7 +21,6 @@ use Rattle.fedi_asks.specs.declared.post.Read.{Read}
 use Rattle.fedi_asks.specs.declared.post.Read.TheVariants.{NotJson, Bad, Ready}
 use Rattle.fedi_laws.proofs.Knowledge.{self_is}
 use Rattle.fedi_town.specs.Agreement.{repeats_of}
-use Rattle.fedi_town.specs.Built.{is_built}
 use Rattle.fedi_town.specs.Origins.{is_foreign, has_inbox}
 use Rattle.fedi_town.specs.Legal.{is_admissible, may_deliver, is_new_key, has_key}
 use Rattle.fedi_town.specs.Rules.{broken_post}
@@ -176,38 +174,3 @@ entry_admissible t c (Activity name number) moment e p made = absurd cc
 entry_admissible t c (Object name number) moment e p made = absurd cc
 entry_admissible t c (Outbox name post) moment e p made = posted_by t c name post moment (id_of t name) e p refl made
 entry_admissible t c (Inbox name post) moment e p made = delivered_by t c name post moment (id_of t name) e p refl made
-
--- ---- what is built
-
--- an activity that is kept was read
-read_ready : (t : Town) (c : Caller) (author : List ℕ) (post : Post) (read : Read) (b : activities.Activity)
-    → judge_read t c author post read ≡ Keep b → read ≡ Ready b
-read_ready t c author post NotJson b e = absurd cc
-read_ready t c author post (Bad fault) b e = absurd cc
-read_ready t c author post (Ready a) b e =
-    let first = new_kept post.digest (repeat_under (repeats_of t author) post.key) (judge_activity t c author a) b e in
-    ap (λ (x : activities.Activity). Ready x) (rule_kept (broken_post t c author a) a b first.1).1
-
-built_by : (t : Town) (c : Caller) (name : List ℕ) (post : Post) (moment : ℕ) (a : Option (List ℕ)) (e : Entry)
-    → entry_at t c name post moment a ≡ Some e → is_built e ≡ true
-built_by t c name post moment None e made = absurd cc
-built_by t c name post moment (Some author) e made = by (judge_post t c name author post) made
-  where
-    by : (v : Judgement) → post_entry name post moment v ≡ Some e → is_built e ≡ true
-    by (Stop r) h = absurd cc
-    by (Repeat id) h = absurd cc
-    by (Keep a) h =
-        let same : Local name (repeat_by post.digest post.key) a moment ≡ e = cc in
-        subst (λ (x : Entry). is_built x ≡ true) same refl
-
--- The entry that an ask makes that is built is built.
-pub entry_built : (t : Town) (c : Caller) (ask : Ask) (moment : ℕ) (e : Entry) → is_built_ask ask ≡ true → entry_of t c ask moment ≡ Some e → is_built e ≡ true
-entry_built t c Nowhere moment e p made = absurd cc
-entry_built t c (WrongMethod allow) moment e p made = absurd cc
-entry_built t c (Webfinger resource) moment e p made = absurd cc
-entry_built t c (Actor name) moment e p made = absurd cc
-entry_built t c (Collection which ask) moment e p made = absurd cc
-entry_built t c (Activity name number) moment e p made = absurd cc
-entry_built t c (Object name number) moment e p made = absurd cc
-entry_built t c (Outbox name post) moment e p made = built_by t c name post moment (id_of t name) e made
-entry_built t c (Inbox name post) moment e p made = absurd cc

@@ -15,7 +15,6 @@ use Rattle.fedi_town.specs.declared.act.Act.{Act}
 use Rattle.fedi_town.specs.declared.caller.Caller.{Caller}
 use Rattle.fedi_town.specs.Activities.{local_act, remote_act}
 use Rattle.fedi_town.specs.Agreement.{Agree, member_names}
-use Rattle.fedi_town.specs.Built.{are_built}
 use Rattle.fedi_town.specs.Deeds.{deed_of, changes_nothing, is_delete, is_follow, is_update}
 use Rattle.fedi_town.specs.Histories.{town, is_known}
 use Rattle.fedi_town.specs.Ids.{actor_id, object_id}
@@ -32,7 +31,6 @@ use Rattle.fedi_town.specs.declared.caller.Caller.TheVariants as callers
 use Rattle.fedi_asks.specs.declared.ask.Ask.{Ask}
 use Rattle.fedi_asks.specs.declared.ask.Ask.TheVariants as asks
 use Rattle.fedi_asks.specs.Asks.{answer_of, entry_of, IsPostable}
-use Rattle.fedi_asks.specs.Built.{is_built_ask}
 use Rattle.fedi_asks.specs.Cleanness.{is_clean_answer}
 use Rattle.fedi_asks.specs.declared.post.Post.{Post}
 use Rattle.fedi_asks.specs.Posting.{is_bad_key}
@@ -196,12 +194,6 @@ abbrev pub AsksKeepHistoriesLegal : Type 0
 AsksKeepHistoriesLegal =
     (history : List Entry) (c : Caller) (ask : Ask) (moment : ℕ) (e : Entry) → IsLegal history
     → IsPostable (town history) ask → entry_of (town history) c ask moment ≡ Some e → IsLegal (history ++ e ∷ [])
-
--- What an ask makes that is built is built.
-abbrev pub AsksKeepHistoriesBuilt : Type 0
-AsksKeepHistoriesBuilt =
-    (history : List Entry) (c : Caller) (ask : Ask) (moment : ℕ) (e : Entry) → IsTrue (are_built history)
-    → IsTrue (is_built_ask ask) → entry_of (town history) c ask moment ≡ Some e → IsTrue (are_built (history ++ e ∷ []))
 
 -- the entry is an attempt to deliver this activity to this recipient
 abbrev pub is_attempt_of : List ℕ → List ℕ → Entry → Bool

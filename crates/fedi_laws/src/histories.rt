@@ -1,17 +1,11 @@
 //! What stays true of a history that grows.
 
-ghost use Rattle.fedi_laws.specs.Statements.{AsksKeepHistoriesBuilt, AsksKeepHistoriesLegal, DueDeliveriesAreQueued, DueDeliveriesStayDue, MembersHaveTheirIds};
+ghost use Rattle.fedi_laws.specs.Statements.{AsksKeepHistoriesLegal, DueDeliveriesAreQueued, DueDeliveriesStayDue, MembersHaveTheirIds};
 
 /// The entry that an ask makes may come next, so a legal history stays legal.
 #[tactic(auto, using(crate::proofs::Legality::asks_keep_legal))]
 pub fn asks_keep_histories_legal()
     ensures { AsksKeepHistoriesLegal }
-{}
-
-/// What an ask makes that this server answers so far is an entry that it takes so far.
-#[tactic(auto, using(crate::proofs::Legality::asks_keep_built))]
-pub fn asks_keep_histories_built()
-    ensures { AsksKeepHistoriesBuilt }
 {}
 
 /// A delivery that is due stays due until it is tried.

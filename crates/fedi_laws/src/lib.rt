@@ -14,8 +14,8 @@ pub use club::{
     peers_deliver_their_own,
 };
 pub use histories::{
-    asks_keep_histories_built, asks_keep_histories_legal, due_deliveries_are_queued,
-    due_deliveries_stay_due, members_have_their_ids,
+    asks_keep_histories_legal, due_deliveries_are_queued, due_deliveries_stay_due,
+    members_have_their_ids,
 };
 pub use objects::{
     activities_are_there_once, deleted_content_leaves_no_trace, objects_are_made_once,

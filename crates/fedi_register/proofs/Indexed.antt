@@ -12,8 +12,9 @@ use Rattle.fedi_town.specs.Deeds.{is_create, is_follow}
 use Rattle.fedi_town.specs.Effects.{affect, end_follow, in_state, is_pending_follow, is_standing_activity, where_passes}
 use Rattle.fedi_objects.specs.declared.kind.State.{State}
 use Rattle.fedi_objects.specs.declared.kind.State.TheVariants.{Accepted, Undone}
+use Rattle.fedi_town.specs.Histories.{with_recipient}
 use Rattle.fedi_town.specs.Objects.{change_object, makes, replace_object, rewrite_act, rewrite_ref, tombstone_of, update_object}
-use Rattle.fedi_town.specs.Relations.{is_open_follow, ref_id}
+use Rattle.fedi_town.specs.Relations.{has_activity_id, is_open_follow, ref_id}
 use Rattle.fedi_town.specs.Towns.{deed, is_by}
 use Rattle.fedi_objects.specs.declared.activity.ObjectRef.{ObjectRef}
 use Rattle.fedi_objects.specs.declared.activity.ObjectRef.TheVariants.{Nothing, Id, Whole, Changed}
@@ -130,56 +131,72 @@ marks-mapped : (p : Act → Bool) (mark : Act → ℕ) (f : Act → Act) → ((x
 marks-mapped p mark f passes same n [] = refl
 marks-mapped p mark f passes same n (x ∷ acts) = rw (passes x, same x, marks-mapped p mark f passes same (suc n) acts) refl
 
-key-alike : (seed : Seed) (e : Effect) (x : Act) → key_mark seed (affect e x) ≡ key_mark seed x
+key-alike : (seed : Seed) (x y : Act) → IsAlike x y → key_mark seed y ≡ key_mark seed x
 unfolding key_mark
-key-alike seed e x = ap (λ (r : Option (List ℕ × List ℕ)). ref_mark seed (option_map (λ pair. pair.0) r)) (affected-alike e x).repeat
+key-alike seed x y h = ap (λ (r : Option (List ℕ × List ℕ)). ref_mark seed (option_map (λ pair. pair.0) r)) h.repeat
 
-making-alike : (e : Effect) (x : Act) → is_making (affect e x) ≡ is_making x
+making-alike : (x y : Act) → IsAlike x y → is_making y ≡ is_making x
 unfolding is_making
-making-alike e x = ap (λ (d : Deed). is_create d) (affected-alike e x).deed
+making-alike x y h = ap (λ (d : Deed). is_create d) h.deed
 
-mark-alike : (seed : Seed) (e : Effect) (x : Act) → object_mark seed (affect e x) ≡ object_mark seed x
+mark-alike : (seed : Seed) (x y : Act) → IsAlike x y → object_mark seed y ≡ object_mark seed x
 unfolding object_mark
-mark-alike seed e x = ap (λ (o : Option (List ℕ)). ref_mark seed o) (affected-alike e x).about
+mark-alike seed x y h = ap (λ (o : Option (List ℕ)). ref_mark seed o) h.about
 
-follows-alike : (e : Effect) (x : Act) → asks_to_follow (affect e x) ≡ asks_to_follow x
+follows-alike : (x y : Act) → IsAlike x y → asks_to_follow y ≡ asks_to_follow x
 unfolding asks_to_follow
-follows-alike e x = ap (λ (d : Deed). is_follow d) (affected-alike e x).deed
+follows-alike x y h = ap (λ (d : Deed). is_follow d) h.deed
 
-own-alike : (e : Effect) (x : Act) → has_own_id (affect e x) ≡ has_own_id x
+own-alike : (x y : Act) → IsAlike x y → has_own_id y ≡ has_own_id x
 unfolding has_own_id
-own-alike e x = ap (λ (o : Option (List ℕ)). is_some o) (affected-alike e x).id
+own-alike x y h = ap (λ (o : Option (List ℕ)). is_some o) h.id
 
-own_mark-alike : (seed : Seed) (e : Effect) (x : Act) → own_mark seed (affect e x) ≡ own_mark seed x
+own_mark-alike : (seed : Seed) (x y : Act) → IsAlike x y → own_mark seed y ≡ own_mark seed x
 unfolding own_mark
-own_mark-alike seed e x = ap (λ (o : Option (List ℕ)). ref_mark seed o) (affected-alike e x).id
+own_mark-alike seed x y h = ap (λ (o : Option (List ℕ)). ref_mark seed o) h.id
 
-relates-alike : (e : Effect) (x : Act) → relates (affect e x) ≡ relates x
+relates-alike : (x y : Act) → IsAlike x y → relates y ≡ relates x
 unfolding relates
-relates-alike e x = ap (λ (d : Deed). is_relation d) (affected-alike e x).deed
+relates-alike x y h = ap (λ (d : Deed). is_relation d) h.deed
 
-relation-alike : (seed : Seed) (e : Effect) (x : Act) → relation_mark seed (affect e x) ≡ relation_mark seed x
+relation-alike : (seed : Seed) (x y : Act) → IsAlike x y → relation_mark seed y ≡ relation_mark seed x
 unfolding relation_mark
-relation-alike seed e x = rw ((affected-alike e x).author, (affected-alike e x).about) refl
+relation-alike seed x y h = rw (h.author, h.about) refl
 
-keyed-alike : (e : Effect) (x : Act) → is_keyed (affect e x) ≡ is_keyed x
+keyed-alike : (x y : Act) → IsAlike x y → is_keyed y ≡ is_keyed x
 unfolding is_keyed
-keyed-alike e x = ap (λ (r : Option (List ℕ × List ℕ)). is_some r) (affected-alike e x).repeat
+keyed-alike x y h = ap (λ (r : Option (List ℕ × List ℕ)). is_some r) h.repeat
 
-by-alike : (id : List ℕ) (e : Effect) (x : Act) → is_by id (affect e x) ≡ is_by id x
+by-alike : (id : List ℕ) (x y : Act) → IsAlike x y → is_by id y ≡ is_by id x
 unfolding is_by
-by-alike id e x = ap (λ (author : List ℕ). bytes_eq author id) (affected-alike e x).author
+by-alike id x y h = ap (λ (author : List ℕ). bytes_eq author id) h.author
+
+-- where all that is looked up of each activity stays
+indexed_alike : (f : Act → Act) → ((y : Act) → IsAlike y (f y)) → (seed : Seed) (acts : List Act) (k m i p w : List Mark) (authors : List Author)
+    → IsIndexed seed acts k m i p w authors → IsIndexed seed (map f acts) k m i p w authors
+indexed_alike f like seed acts k m i p w authors h = record {
+  key = h.key ∙ sym (marks-mapped is_keyed (key_mark seed) f (λ x. keyed-alike x (f x) (like x)) (λ x. key-alike seed x (f x) (like x)) 0 acts);
+  object = h.object ∙ sym (marks-mapped is_making (object_mark seed) f (λ x. making-alike x (f x) (like x)) (λ x. mark-alike seed x (f x) (like x)) 0 acts);
+  id = h.id ∙ sym (marks-mapped has_own_id (own_mark seed) f (λ x. own-alike x (f x) (like x)) (λ x. own_mark-alike seed x (f x) (like x)) 0 acts);
+  pair = h.pair ∙ sym (marks-mapped relates (relation_mark seed) f (λ x. relates-alike x (f x) (like x)) (λ x. relation-alike seed x (f x) (like x)) 0 acts);
+  follow = h.follow ∙ sym (marks-mapped asks_to_follow (object_mark seed) f (λ x. follows-alike x (f x) (like x)) (λ x. mark-alike seed x (f x) (like x)) 0 acts);
+  count = λ id. h.count id ∙ sym (count-mapped (is_by id) f (λ x. by-alike id x (f x) (like x)) acts);
+}
 
 pub indexed_affected : (seed : Seed) (e : Effect) (acts : List Act) (k m i p f : List Mark) (authors : List Author) → IsIndexed seed acts k m i p f authors
     → IsIndexed seed (map (affect e) acts) k m i p f authors
-indexed_affected seed e acts k m i p f authors h = record {
-  key = h.key ∙ sym (marks-mapped is_keyed (key_mark seed) (affect e) (keyed-alike e) (key-alike seed e) 0 acts);
-  object = h.object ∙ sym (marks-mapped is_making (object_mark seed) (affect e) (making-alike e) (mark-alike seed e) 0 acts);
-  id = h.id ∙ sym (marks-mapped has_own_id (own_mark seed) (affect e) (own-alike e) (own_mark-alike seed e) 0 acts);
-  pair = h.pair ∙ sym (marks-mapped relates (relation_mark seed) (affect e) (relates-alike e) (relation-alike seed e) 0 acts);
-  follow = h.follow ∙ sym (marks-mapped asks_to_follow (object_mark seed) (affect e) (follows-alike e) (mark-alike seed e) 0 acts);
-  count = λ id. h.count id ∙ sym (count-mapped (is_by id) (affect e) (by-alike id e) acts);
-}
+indexed_affected seed e = indexed_alike (affect e) (affected-alike e) seed
+
+inbox-alike : (id owner : List ℕ) (y : Act) → IsAlike y (with_recipient id owner y)
+inbox-alike id owner y =
+    elim (has_activity_id id y) as (λ b. IsAlike y (if b then record y { recipients = y.recipients ++ owner ∷ [] } else y)) [
+      | true ↦ record { author = refl; deed = refl; repeat = refl; id = refl; about = refl }
+      | false ↦ alike y
+    ]
+
+pub indexed_inbox : (seed : Seed) (id owner : List ℕ) (acts : List Act) (k m i p f : List Mark) (authors : List Author) → IsIndexed seed acts k m i p f authors
+    → IsIndexed seed (map (with_recipient id owner) acts) k m i p f authors
+indexed_inbox seed id owner = indexed_alike (with_recipient id owner) (inbox-alike id owner) seed
 
 -- where the authors count the same
 pub indexed_known : (seed : Seed) (acts : List Act) (k m i p f : List Mark) (old new : List Author) → IsIndexed seed acts k m i p f old → SameCounts old new

@@ -2,6 +2,7 @@ pub mod Chains
 pub mod Counts
 pub mod Edited
 pub mod Found
+pub mod Inboxes
 pub mod Indexed
 pub mod Once
 pub mod Places

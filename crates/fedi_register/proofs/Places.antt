@@ -1,10 +1,16 @@
 -- What is looked up is marked so that it is found, and what is gathered at places is what is gathered among all.
-use Rattle.std.proofs.Common.{◌≡◌, ℕ, suc, Bool, true, false, List, [], ◌∷◌, ◌++◌, Option, Some, None, refl, ap, subst, ◌∙◌, append_assoc, eq-eqb, length}
-use Rattle.std.specs.Prelude.{◌&&◌, filter, is_some, map, nat_eq, option_map, slice_get, if◌then◌else◌}
-use Rattle.std.specs.List.{fold}
+use Rattle.std.proofs.Common.{◌≡◌, ℕ, suc, Bool, true, false, List, [], ◌∷◌, ◌++◌, Option, Some, None, refl, sym, ap, subst, ◌∙◌, append_assoc, eq-eqb, length}
+use Rattle.std.specs.Prelude.{not, ◌&&◌, ◌||◌, filter, is_some, map, nat_eq, option_map, slice_get, if◌then◌else◌}
+use Rattle.std.specs.List.{fold, list_any}
 use Rattle.std.specs.Str.{bytes_eq}
+use Rattle.std.proofs.Math.Seq.{take-append_seam}
 use Rattle.std.proofs.lemmas.Bool.{and_parts}
+use Rattle.std.proofs.lemmas.List.{append-nil, map-append}
+use Rattle.std.proofs.lemmas.List.Elements.{filter-append}
 use Rattle.std.proofs.lemmas.Slice.Eq.{bytes_eq-Decides}
+use Rattle.fedi_address.specs.Recipients.{add_new, distinct, is_among}
+use Rattle.fedi_town.proofs.Lists.{list_any-agree, list_any-through}
+use Rattle.fedi_town.proofs.Once.{once-among, once-push}
 use Rattle.fedi_town.specs.declared.act.Act.{Act}
 use Rattle.fedi_town.specs.declared.deed.Deed.{Deed}
 use Rattle.fedi_town.specs.declared.deed.Deed.TheVariants.{Follow, Like, Announce, Block}
@@ -16,12 +22,12 @@ use Rattle.fedi_town.specs.Relations.{has_activity_id, is_about, is_block_of, is
 use Rattle.fedi_town.specs.States.{is_announce_of, is_like_of}
 use Rattle.fedi_town.specs.Towns.{deed, is_by}
 use Rattle.fedi_register.specs.Authors.{author_mark, is_author}
-use Rattle.fedi_register.specs.Following.{with_follower}
+use Rattle.fedi_register.specs.Following.{followers_in, is_first_follow, with_first_follow, with_follower_at}
 use Rattle.fedi_register.specs.Keys.{is_repeat}
 use Rattle.fedi_register.specs.Marks.{Mark, every, marks_from, places_of}
 use Rattle.fedi_register.specs.Seeds.{mark_of, mark_of_pair}
 use Rattle.fedi_register.specs.declared.seeds.Seed.{Seed}
-use Rattle.fedi_register.specs.Registers.{IsNarrower, asks_to_follow, follower_in, has_own_id, is_keyed, is_making, is_relation, key_mark, object_mark, own_mark, ref_mark, relates, relates_by_key, relation_mark, with_follower_at}
+use Rattle.fedi_register.specs.Registers.{IsNarrower, asks_to_follow, has_own_id, is_keyed, is_making, is_relation, key_mark, object_mark, own_mark, ref_mark, relates, relates_by_key, relation_mark}
 use Rattle.fedi_register.proofs.Chains.{got_at, longer}
 use Rattle.fedi_register.proofs.Found.{IsMarkedSo}
 
@@ -135,37 +141,93 @@ unmarked p q mark n so x other =
       | false ↦ λ _. refl
     ] refl
 
-not_followed : (seed : Seed) (b : List ℕ) (found : List (List ℕ)) (x : Act) → (asks_to_follow x && nat_eq (object_mark seed x) (mark_of seed b)) ≡ false → with_follower b found x ≡ found
-unfolding with_follower
-not_followed seed b found x other = rw (unmarked asks_to_follow (is_following b) (object_mark seed) (mark_of seed b) (followed_marked seed b) x other) refl
+-- the author follows by one of these where one is a Follow by the author
+and_parted : (a b c : Bool) → ((a && b) && c) ≡ (a && (c && b))
+and_parted true true true = refl
+and_parted true true false = refl
+and_parted true false true = refl
+and_parted true false false = refl
+and_parted false b c = refl
+
+any-kept : {A : Type 0} (q p : A → Bool) (xs : List A) → list_any q (filter p xs) ≡ list_any (λ x. p x && q x) xs
+any-kept q p [] = refl
+any-kept q p (x ∷ xs) =
+    elim (p x) as (λ b. list_any q (if b then x ∷ filter p xs else filter p xs) ≡ ((b && q x) || list_any (λ y. p y && q y) xs)) [
+      | true ↦ ap (λ (b : Bool). q x || b) (any-kept q p xs)
+      | false ↦ any-kept q p xs
+    ]
+
+among_before : (b a : List ℕ) (before : List Act) → is_among a (followers_in b before) ≡ list_any (is_follow_of a b) before
+unfolding followers_in is_among is_follow_of is_following is_by
+among_before b a before =
+    once-among a (map (λ x. x.author) (filter (is_following b) before))
+    ∙ list_any-through (λ (x : Act). x.author) (λ u. bytes_eq u a) (is_by a) (λ x. refl) (filter (is_following b) before)
+    ∙ any-kept (is_by a) (is_following b) before
+    ∙ list_any-agree (λ x. is_following b x && is_by a x) (is_follow_of a b) (λ x. and_parted (is_follow (deed x) && is_accepted x.state) (is_about b x) (is_by a x)) before
+
+-- those who follow by these activities and one more
+following-push : (b : List ℕ) (acts : List Act) (x : Act)
+    → map (λ y. y.author) (filter (is_following b) (acts ++ x ∷ [])) ≡ map (λ y. y.author) (filter (is_following b) acts) ++ (if is_following b x then x.author ∷ [] else [])
+following-push b acts x =
+    ap (λ (xs : List Act). map (λ (y : Act). y.author) xs) (filter-append (is_following b) acts (x ∷ []))
+    ∙ map-append (λ (y : Act). y.author) (filter (is_following b) acts) (filter (is_following b) (x ∷ []))
+    ∙ elim (is_following b x) as (λ c. map (λ (y : Act). y.author) (filter (is_following b) acts) ++ map (λ (y : Act). y.author) (if c then x ∷ [] else [])
+    ≡ map (λ (y : Act). y.author) (filter (is_following b) acts) ++ (if c then x.author ∷ [] else [])) [ true ↦ refl | false ↦ refl ]
+
+more_followers : (b : List ℕ) (acts : List Act) (x : Act) → is_following b x ≡ true → followers_in b (acts ++ x ∷ []) ≡ add_new (followers_in b acts) x.author
+unfolding followers_in
+more_followers b acts x follows =
+    ap (λ (all : List (List ℕ)). distinct all) (following-push b acts x ∙ rw follows refl) ∙ once-push (map (λ y. y.author) (filter (is_following b) acts)) x.author
+
+same_followers : (b : List ℕ) (acts : List Act) (x : Act) → is_following b x ≡ false → followers_in b (acts ++ x ∷ []) ≡ followers_in b acts
+unfolding followers_in
+same_followers b acts x other = ap (λ (all : List (List ℕ)). distinct all) (following-push b acts x ∙ rw (other, append-nil) refl)
+
+-- the author of an activity follows first where nobody found before it is the author
+add-first : (a : List ℕ) (found : List (List ℕ)) → (if not (is_among a found) then found ++ a ∷ [] else found) ≡ add_new found a
+add-first a found = elim (is_among a found) as (λ c. (if not c then found ++ a ∷ [] else found) ≡ (if c then found else found ++ a ∷ [])) [ true ↦ refl | false ↦ refl ]
+
+found_here : (b : List ℕ) (before : List Act) (x : Act) (xs : List Act)
+    → with_first_follow (before ++ x ∷ xs) b (length before) (followers_in b before) (Some x) ≡ followers_in b (before ++ x ∷ [])
+unfolding is_first_follow
+found_here b before x xs =
+    let found : List (List ℕ) = followers_in b before in
+    rw (take-append_seam before (x ∷ xs), ← among_before b x.author before)
+    (elim (is_following b x) as (λ c. is_following b x ≡ c → (if c && not (is_among x.author found) then found ++ x.author ∷ [] else found) ≡ followers_in b (before ++ x ∷ [])) [
+      | true ↦ λ follows. add-first x.author found ∙ sym (more_followers b before x follows)
+      | false ↦ λ other. sym (same_followers b before x other)
+    ] refl)
 
 -- what is gathered at places
 abbrev gathered : List ℕ → List Act → List (List ℕ) → List ℕ → List (List ℕ)
-gathered b all found places = fold (λ f place. follower_in b f (slice_get all place)) found places
+gathered b all found places = fold (λ f place. with_first_follow all b place f (slice_get all place)) found places
 
-fold-after : (seed : Seed) (b : List ℕ) (found : List (List ℕ)) (before xs : List Act)
-    → gathered b (before ++ xs) found (places_of (mark_of seed b) (marks_from asks_to_follow (object_mark seed) (length before) xs)) ≡ fold (with_follower b) found xs
-fold-after seed b found before [] = refl
-fold-after seed b found before (x ∷ xs) =
+fold-after : (seed : Seed) (b : List ℕ) (before xs : List Act)
+    → gathered b (before ++ xs) (followers_in b before) (places_of (mark_of seed b) (marks_from asks_to_follow (object_mark seed) (length before) xs)) ≡ followers_in b (before ++ xs)
+fold-after seed b before [] = rw append-nil refl
+fold-after seed b before (x ∷ xs) =
     let all : List Act = before ++ x ∷ xs in
     let m : ℕ = mark_of seed b in
+    let found : List (List ℕ) = followers_in b before in
     let own : Mark = record { mark = object_mark seed x; place = length before } in
     let later : List Mark = marks_from asks_to_follow (object_mark seed) (suc (length before)) xs in
-    let rest : (start : List (List ℕ)) → gathered b all start (places_of m later) ≡ fold (with_follower b) start xs = λ start.
-    subst (λ (ys : List Act). gathered b ys start (places_of m later) ≡ fold (with_follower b) start xs) (append_assoc before (x ∷ []) xs)
-    (subst (λ (n : ℕ). gathered b ((before ++ x ∷ []) ++ xs) start (places_of m (marks_from asks_to_follow (object_mark seed) n xs)) ≡ fold (with_follower b) start xs) (longer before x)
-    (fold-after seed b start (before ++ x ∷ []) xs)) in
-    elim (asks_to_follow x) as (λ c. asks_to_follow x ≡ c → gathered b all found (places_of m (if c then own ∷ later else later)) ≡ fold (with_follower b) (with_follower b found x) xs) [
+    let rest : gathered b all (followers_in b (before ++ x ∷ [])) (places_of m later) ≡ followers_in b all =
+    subst (λ (ys : List Act). gathered b ys (followers_in b (before ++ x ∷ [])) (places_of m later) ≡ followers_in b ys) (append_assoc before (x ∷ []) xs)
+    (subst (λ (n : ℕ). gathered b ((before ++ x ∷ []) ++ xs) (followers_in b (before ++ x ∷ [])) (places_of m (marks_from asks_to_follow (object_mark seed) n xs)) ≡ followers_in b ((before ++ x ∷ []) ++ xs))
+    (longer before x) (fold-after seed b (before ++ x ∷ []) xs)) in
+    let skipped : (asks_to_follow x && nat_eq (object_mark seed x) m) ≡ false → gathered b all found (places_of m later) ≡ followers_in b all = λ other.
+    ap (λ (f : List (List ℕ)). gathered b all f (places_of m later)) (sym (same_followers b before x (unmarked asks_to_follow (is_following b) (object_mark seed) m (followed_marked seed b) x other))) ∙ rest in
+    elim (asks_to_follow x) as (λ c. asks_to_follow x ≡ c → gathered b all found (places_of m (if c then own ∷ later else later)) ≡ followers_in b all) [
       | true ↦ λ asks. elim (nat_eq (object_mark seed x) m) as (λ d. nat_eq (object_mark seed x) m ≡ d
-          → gathered b all found (map (λ (y : Mark). y.place) (if d then own ∷ filter (λ (y : Mark). nat_eq y.mark m) later else filter (λ (y : Mark). nat_eq y.mark m) later))
-          ≡ fold (with_follower b) (with_follower b found x) xs) [
-            | true ↦ λ _. ap (λ (o : Option Act). gathered b all (follower_in b found o) (places_of m later)) (got_at before x xs) ∙ rest (with_follower b found x)
-            | false ↦ λ other. rw (not_followed seed b found x (rw (asks, other) refl)) (rest found)
+          → gathered b all found (map (λ (y : Mark). y.place) (if d then own ∷ filter (λ (y : Mark). nat_eq y.mark m) later else filter (λ (y : Mark). nat_eq y.mark m) later)) ≡ followers_in b all) [
+            | true ↦ λ _. ap (λ (o : Option Act). gathered b all (with_first_follow all b (length before) found o) (places_of m later)) (got_at before x xs)
+                ∙ ap (λ (f : List (List ℕ)). gathered b all f (places_of m later)) (found_here b before x xs) ∙ rest
+            | false ↦ λ other. skipped (rw (asks, other) refl)
           ] refl
-      | false ↦ λ none. rw (not_followed seed b found x (rw none refl)) (rest found)
+      | false ↦ λ none. skipped (rw none refl)
     ] refl
 
-pub followers_found : (seed : Seed) (b : List ℕ) (found : List (List ℕ)) (acts : List Act) (marks : List Mark) (places : List ℕ) → places ≡ places_of (mark_of seed b) marks
-    → marks ≡ marks_from asks_to_follow (object_mark seed) 0 acts → fold (with_follower_at acts b) found places ≡ fold (with_follower b) found acts
-unfolding with_follower_at
-followers_found seed b found acts marks places are by = rw (are, by) (fold-after seed b found [] acts)
+pub followers_found : (seed : Seed) (b : List ℕ) (acts : List Act) (marks : List Mark) (places : List ℕ) → places ≡ places_of (mark_of seed b) marks
+    → marks ≡ marks_from asks_to_follow (object_mark seed) 0 acts → fold (with_follower_at acts b) [] places ≡ followers_in b acts
+unfolding with_follower_at followers_in distinct
+followers_found seed b acts marks places are by = rw (are, by) (fold-after seed b [] acts)

@@ -1,6 +1,6 @@
 -- What becomes of one earlier activity, effect by effect.
-use Rattle.std.specs.Prelude.{ℕ, Bool, true, false, not, ◌&&◌, nat_lt, List, length, Option, Some, None, if◌then◌else◌}
-use Rattle.std.specs.List.{position_or_len}
+use Rattle.std.specs.Prelude.{ℕ, Bool, true, false, not, ◌&&◌, nat_lt, List, [], ◌∷◌, ◌++◌, length, Option, Some, None, option_map, if◌then◌else◌}
+use Rattle.std.specs.List.{find, position_or_len}
 use Rattle.fedi_objects.specs.declared.kind.State.{State}
 use Rattle.fedi_objects.specs.declared.kind.State.TheVariants.{Plain, Done, Pending, Accepted, Rejected, Standing, Undone}
 use Rattle.fedi_town.specs.declared.act.Act.{Act}
@@ -8,7 +8,7 @@ use Rattle.fedi_town.specs.declared.effect.Effect.TheVariants as effects
 use Rattle.fedi_town.specs.Effects.{affect}
 use Rattle.fedi_town.specs.Lists.{PassesOnce}
 use Rattle.fedi_town.specs.Objects.{makes}
-use Rattle.fedi_town.specs.Relations.{is_open_follow}
+use Rattle.fedi_town.specs.Relations.{has_activity_id, is_open_follow}
 
 -- after a Block
 unfoldable pub end_both : List ℕ → List ℕ → Act → Act
@@ -46,3 +46,9 @@ is_state _ _ = false
 -- it is a Follow of b by a that waits or was accepted, and is in another state than this
 unfoldable pub is_unended : List ℕ → List ℕ → State → Act → Bool
 is_unended a b s y = is_open_follow a b y && not (is_state y.state s)
+
+-- ---- inboxes
+
+-- to whom the activity of this id goes, where it goes to one more
+abbrev pub longer_of : List ℕ → List ℕ → List Act → Option (List (List ℕ))
+longer_of id owner acts = option_map (λ x. x.recipients ++ owner ∷ []) (find (has_activity_id id) acts)

@@ -1,5 +1,5 @@
 -- The accepted activities, with what is looked up among them.
-use Rattle.std.specs.Prelude.{◌≡◌, ℕ, ◌+◌, ◌<◌, ◌≤◌, ◌^◌, Bool, true, false, ◌&&◌, List, filter, length, Option, Some, None, is_some, option_map, slice_get, vec_len, vec_capacity}
+use Rattle.std.specs.Prelude.{◌≡◌, ℕ, ◌+◌, ◌<◌, ◌≤◌, ◌^◌, Bool, true, false, ◌&&◌, List, filter, length, Option, Some, None, is_some, option_map, vec_len, vec_capacity}
 use Rattle.std.specs.Str.{bytes_eq}
 use Rattle.fedi_town.specs.declared.act.Act.{Act}
 use Rattle.fedi_town.specs.declared.deed.Deed.{Deed}
@@ -12,7 +12,6 @@ use Rattle.fedi_register.specs.declared.authors.Author.{Author}
 use Rattle.fedi_register.specs.declared.register.Register.TheInside.{Inside}
 use Rattle.fedi_register.specs.declared.seeds.Seed.{Seed}
 use Rattle.fedi_register.specs.Authors.{count_in, ids_of}
-use Rattle.fedi_register.specs.Following.{with_follower}
 use Rattle.fedi_register.specs.Marks.{Mark, marks_from}
 use Rattle.fedi_register.specs.Seeds.{mark_of, mark_of_pair}
 
@@ -86,17 +85,6 @@ relates_by_key author key x = relates x && (is_by author x && bytes_eq (object_k
 -- what passes the one test passes the other
 abbrev pub IsNarrower : (Act → Bool) → (Act → Bool) → Type 0
 IsNarrower p q = (x : Act) → p x ≡ true → q x ≡ true
-
--- ---- followers
-
--- one more follower, where there is one
-abbrev pub follower_in : List ℕ → List (List ℕ) → Option Act → List (List ℕ)
-follower_in b found None = found
-follower_in b found (Some x) = with_follower b found x
-
--- one more follower of b, where a Follow of b that was accepted is at this place
-unfoldable pub with_follower_at : List Act → List ℕ → List (List ℕ) → ℕ → List (List ℕ)
-with_follower_at acts b found place = follower_in b found (slice_get acts place)
 
 -- ---- authors
 

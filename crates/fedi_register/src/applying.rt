@@ -5,9 +5,11 @@
 ghost use Rattle.std.specs.Prelude.{◌≡◌, ◌<◌, Some, length, map, set, slice_get};
 ghost use Rattle.fedi_town.specs.declared.act.Act.{Act};
 ghost use Rattle.fedi_town.specs.Effects.{affect, end_follow, in_state, is_pending_follow, is_standing_activity, where_passes};
+ghost use Rattle.fedi_town.specs.Histories.{with_recipient};
 ghost use Rattle.fedi_town.specs.Lists.{PassesOnce};
 ghost use Rattle.fedi_town.specs.Objects.{makes, rewrite_act, tombstone_of, update_object};
-ghost use Rattle.fedi_register.specs.Changes.{AreMadeOnce, accept_one, end_both, is_state, is_unended, place_where, undo_one};
+ghost use Rattle.fedi_town.specs.Relations.{has_activity_id};
+ghost use Rattle.fedi_register.specs.Changes.{AreMadeOnce, accept_one, end_both, is_state, is_unended, longer_of, place_where, undo_one};
 ghost use Rattle.fedi_register.specs.Marks.{marks_from};
 ghost use Rattle.fedi_register.specs.Registers.{has_own_id, is_making, object_mark, own_mark, relates, relation_mark};
 
@@ -15,10 +17,11 @@ use crate::acts::{has_activity_id, is_follow, is_open_follow, is_pending, is_sta
 use crate::marks::Marks;
 use crate::seeds::Seed;
 use fedi_address::Iri;
-use fedi_kept::{Kept, Spare};
+use fedi_kept::{Iris, Kept, Spare};
 use fedi_objects::{ObjectRef, State};
 use fedi_text::Text;
 use fedi_town::Effect;
+use std::snapshot::Snapshot;
 
 fn set_state_at(acts: &mut [Kept], place: usize, state: State)
     requires { place < length acts.old }
@@ -232,5 +235,35 @@ pub(crate) fn apply_effect(
         } => end_follows(acts, seed, pairs, &follower, &followee, state),
         Effect::EndBoth { author, other } => end_both(acts, seed, pairs, &author, &other),
         Effect::Undo { activity } => undo(acts, seed, ids, &activity),
+    }
+}
+
+// ---- inboxes
+
+/// Where the activity of this id is.
+pub(crate) fn place_of_id(acts: &[Kept], seed: &Seed, ids: &Marks, id: &Iri) -> Option<usize>
+    requires { ids.now.marks ≡ marks_from has_own_id (own_mark seed.now) 0 acts.now }
+    ensures { result ≡ place_where (has_activity_id id.now) acts.now }
+{
+    ids.place_of(acts, seed.mark_of_iri(id), |act| has_activity_id(act, id))
+}
+
+/// The activity of this id goes to one more owner of an inbox: `recipients` are those to whom it goes
+/// then.
+pub(crate) fn add_inbox(
+    acts: &mut [Kept],
+    seed: &Seed,
+    ids: &Marks,
+    id: &Iri,
+    owner: &Snapshot<Iri>,
+    recipients: Iris,
+)
+    requires once { PassesOnce (has_activity_id id.now) acts.old }
+    requires longer { longer_of id.now owner.now.value acts.old ≡ Some recipients }
+    requires ids { ids.now.marks ≡ marks_from has_own_id (own_mark seed.now) 0 acts.old }
+    ensures { acts.new ≡ map (with_recipient id.now owner.now.value) acts.old }
+{
+    if let Some(place) = place_of_id(acts, seed, ids, id) {
+        acts[place].set_recipients(recipients);
     }
 }

@@ -4,7 +4,6 @@
 mod acts;
 mod applying;
 mod authors;
-mod followers;
 mod marking;
 mod marks;
 mod register;

@@ -1,24 +1,27 @@
 //! The accepted activities, with what is looked up among them.
 
-ghost use Rattle.std.specs.Prelude.{◌≡◌, ◌∷◌, Bool, [], ◌+◌, ◌-◌, ◌&&◌, ◌^◌, ◌<◌, ◌≤◌, ◌++◌, IsTrue, OnOk, map, take, vec_len, vec_capacity, option_copied, option_map, if◌then◌else◌};
+ghost use Rattle.std.specs.Prelude.{◌≡◌, ◌∷◌, Bool, [], ◌+◌, ◌-◌, ◌&&◌, ◌^◌, ◌<◌, ◌≤◌, ◌++◌, IfOk, IsTrue, OnOk, Some, map, take, vec_len, vec_capacity, option_copied, option_map, if◌then◌else◌};
 ghost use Rattle.std.specs.Fn.{FnReturnsAt};
 ghost use Rattle.std.specs.List.{find, fold, list_any};
 ghost use Rattle.fedi_address.specs.Recipients.{add_new, is_among};
 ghost use Rattle.fedi_town.specs.declared.act.Act.{Act};
 ghost use Rattle.fedi_town.specs.Effects.{affect};
+ghost use Rattle.fedi_town.specs.Histories.{with_recipient};
+ghost use Rattle.fedi_town.specs.Lists.{PassesOnce};
 ghost use Rattle.fedi_town.specs.Objects.{makes};
 ghost use Rattle.fedi_town.specs.Relations.{has_activity_id, is_block_of, is_follow_of, is_following};
 ghost use Rattle.fedi_town.specs.States.{is_announce_of, is_like_of};
-ghost use Rattle.fedi_register.specs.Changes.{AreMadeOnce};
-ghost use Rattle.fedi_register.specs.Following.{with_follower};
+ghost use Rattle.fedi_register.specs.Changes.{AreMadeOnce, longer_of, place_where};
+ghost use Rattle.fedi_register.specs.Following.{followers_in, is_first_follow, with_follower_at};
 ghost use Rattle.fedi_register.specs.Keys.{is_repeat};
 ghost use Rattle.fedi_register.specs.Marks.{Decides, marks_from};
-ghost use Rattle.fedi_register.specs.Registers.{IsNarrower, asks_to_follow, count_by, has_own_id, is_keyed, is_making, key_mark, object_mark, own_mark, ref_mark, relates, relates_by_key, relation_mark, with_follower_at};
+ghost use Rattle.fedi_register.specs.Registers.{IsNarrower, asks_to_follow, count_by, has_own_id, is_keyed, is_making, key_mark, object_mark, own_mark, ref_mark, relates, relates_by_key, relation_mark};
 
-use crate::acts::{has_activity_id, is_announce_of, is_block_of, is_follow_of, is_like_of, makes};
-use crate::applying::apply_effect;
+use crate::acts::{
+    has_activity_id, is_announce_of, is_block_of, is_follow_of, is_following, is_like_of, makes,
+};
+use crate::applying::{add_inbox, apply_effect, place_of_id};
 use crate::authors::Authors;
-use crate::followers::add_follower;
 use crate::marking::{
     asks_to_follow, has_own_id, is_keyed, is_making, key_mark, object_mark, own_mark, relates,
     relation_mark,
@@ -27,11 +30,12 @@ use crate::marks::{MOST_ITEMS, Marks};
 use crate::repeats::is_repeat;
 use crate::seeds::Seed;
 use fedi_address::Iri;
-use fedi_kept::{Kept, Spare};
+use fedi_kept::{Iris, Kept, Spare};
 use fedi_objects::RepeatKey;
 use fedi_town::Effect;
 use std::alloc::{AllocError, Global};
 use std::marker::Model;
+use std::snapshot::Snapshot;
 
 /// The accepted activities in order, with what is looked up for each post, so that it is not sought
 /// among all of them: marks of the keys under which posts were made, of the objects that were made, of the
@@ -91,37 +95,6 @@ fn makes_where<F: Fn(&Kept) -> bool>(act: &Kept, id: &Iri, passes: &F) -> bool
     makes(act, id) && passes(act)
 }
 
-#[tactic(auto, unfolding(crate::specs::Registers::with_follower_at))]
-fn add_follower_at(
-    found: &mut Vec<Iri>,
-    acts: &[Kept],
-    b: &Iri,
-    place: usize,
-) -> Result<(), AllocError>
-    ensures { OnOk result (found.new.items
-        ≡ with_follower_at acts.now b.now found.old.items place) }
-{
-    match acts.get(place) {
-        Some(act) => add_follower(found, act, b),
-        None => Ok(()),
-    }
-}
-
-fn add_followers(
-    found: &mut Vec<Iri>,
-    acts: &[Kept],
-    places: &[usize],
-    b: &Iri,
-) -> Result<(), AllocError>
-    ensures { OnOk result (found.new.items
-        ≡ fold (with_follower_at acts.now b.now) found.old.items places.now) }
-{
-    for place in places {
-        add_follower_at(found, acts, b, *place)?;
-    }
-    Ok(())
-}
-
 fn apply_in_place(
     acts: &mut Vec<Kept>,
     seed: &Seed,
@@ -140,6 +113,24 @@ fn apply_in_place(
     ensures capacity { vec_capacity acts.new ≡ vec_capacity acts.old }
 {
     apply_effect(acts.as_mut_slice(), seed, made, ids, pairs, effect, spare);
+}
+
+fn add_inbox_in_place(
+    acts: &mut Vec<Kept>,
+    seed: &Seed,
+    ids: &Marks,
+    id: &Iri,
+    owner: &Snapshot<Iri>,
+    recipients: Iris,
+)
+    requires once { PassesOnce (has_activity_id id.now) acts.old.items }
+    requires longer { longer_of id.now owner.now.value acts.old.items ≡ Some recipients }
+    requires ids { ids.now.marks ≡ marks_from has_own_id (own_mark seed.now) 0 acts.old.items }
+    ensures items { acts.new.items ≡ map (with_recipient id.now owner.now.value) acts.old.items }
+    ensures len { vec_len acts.new ≡ vec_len acts.old }
+    ensures capacity { vec_capacity acts.new ≡ vec_capacity acts.old }
+{
+    add_inbox(acts.as_mut_slice(), seed, ids, id, owner, recipients);
 }
 
 impl Register {
@@ -235,6 +226,13 @@ impl Register {
         )
     }
 
+    /// Where the activity of this id is.
+    pub fn position_of(&self, id: &Iri) -> Option<usize>
+        ensures { result ≡ place_where (has_activity_id id.now) self.now.acts }
+    {
+        place_of_id(&self.acts, &self.seed, &self.ids, id)
+    }
+
     /// The first activity of this id that passes the test.
     pub fn first_by_id<F: Fn(&Kept) -> bool>(&self, id: &Iri, passes: F) -> Option<&Kept>
         requires { F.IsAlwaysCallable passes }
@@ -278,15 +276,59 @@ impl Register {
             .first_of(&self.acts, mark, |act| is_repeat(act, author, key))
     }
 
-    /// Adds those who follow b, each once. The error is out of memory.
-    pub fn add_followers(&self, found: &mut Vec<Iri>, b: &Iri) -> Result<(), AllocError>
-        ensures { OnOk result (found.new.items
-            ≡ fold (with_follower b.now) found.old.items self.now.acts) }
+    // Whether a followed b by a Follow before this place, which was accepted.
+    fn follows_before(&self, place: usize, a: &Iri, b: &Iri) -> bool
+        ensures { result ≡ list_any (is_follow_of a.now b.now) (take place self.now.acts) }
     {
-        let places = self
-            .followed
-            .places_of(*found.allocator(), self.seed.mark_of_iri(b))?;
-        add_followers(found, &self.acts, &places, b)
+        self.is_related_before(place, a, b.text(), |act| is_follow_of(act, a, b))
+    }
+
+    // Whether the activity at this place is a Follow of b that was accepted, and its author's first.
+    #[tactic(auto, unfolding(crate::specs::Following::is_first_follow))]
+    fn is_first_follow(&self, place: usize, act: &Kept, b: &Iri) -> bool
+        ensures { result ≡ is_first_follow self.now.acts b.now place act.now }
+    {
+        is_following(act, b) && !self.follows_before(place, act.author(), b)
+    }
+
+    #[tactic(auto, unfolding(crate::specs::Following::with_follower_at))]
+    fn add_follower_at(&self, found: &mut Vec<Iri>, b: &Iri, place: usize) -> Result<(), AllocError>
+        ensures { OnOk result (found.new.items
+            ≡ with_follower_at self.now.acts b.now found.old.items place) }
+    {
+        let Some(act) = self.acts().get(place) else {
+            return Ok(());
+        };
+        if self.is_first_follow(place, act, b) {
+            found.push(act.author().clone()?)?;
+        }
+        Ok(())
+    }
+
+    fn add_followers(
+        &self,
+        found: &mut Vec<Iri>,
+        b: &Iri,
+        places: &[usize],
+    ) -> Result<(), AllocError>
+        ensures { OnOk result (found.new.items
+            ≡ fold (with_follower_at self.now.acts b.now) found.old.items places.now) }
+    {
+        for place in places {
+            self.add_follower_at(found, b, *place)?;
+        }
+        Ok(())
+    }
+
+    /// Those who follow b, in the order of their Follows (ActivityPub, section 5.3). The error is out of
+    /// memory.
+    pub fn followers_of(&self, alloc: Global, b: &Iri) -> Result<Vec<Iri>, AllocError>
+        ensures { IfOk result (λ found. found.items ≡ followers_in b.now self.now.acts) }
+    {
+        let places = self.followed.places_of(alloc, self.seed.mark_of_iri(b))?;
+        let mut found = Vec::new(alloc);
+        self.add_followers(&mut found, b, &places)?;
+        Ok(found)
     }
 
     /// Whether one of the accepted Follows of b passes the test. It must let nothing else pass.
@@ -354,6 +396,18 @@ impl Register {
             effect,
             spare,
         );
+    }
+
+    /// The activity of this id goes to one more owner of an inbox (ActivityPub, section 7.1): `recipients`
+    /// are those to whom it goes then. The owner is for contracts alone. It takes no memory.
+    pub fn add_inbox(&mut self, id: &Iri, owner: &Snapshot<Iri>, recipients: Iris)
+        requires once { PassesOnce (has_activity_id id.now) self.old.acts }
+        requires longer { longer_of id.now owner.now.value self.old.acts ≡ Some recipients }
+        ensures { self.new ≡ record self.old {
+          acts = map (with_recipient id.now owner.now.value) self.old.acts;
+        } }
+    {
+        add_inbox_in_place(&mut self.acts, &self.seed, &self.ids, id, owner, recipients);
     }
 
     /// Adds an activity of a known author, where there is room for it. It takes no memory.

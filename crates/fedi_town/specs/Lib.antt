@@ -1,7 +1,6 @@
 pub mod Activities
 pub mod Addressing
 pub mod Agreement
-pub mod Built
 pub mod Collections
 pub mod Deeds
 pub mod Effects

@@ -1,0 +1,2 @@
+pub mod Receptions
+pub mod Verdicts

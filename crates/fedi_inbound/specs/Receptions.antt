@@ -1,0 +1,13 @@
+-- What becomes of a post to an inbox, as the judgement on it is told.
+use Rattle.std.specs.Prelude.{None}
+use Rattle.fedi_asks.specs.Answers.{Refuse, Misshape}
+use Rattle.fedi_asks.specs.Posting.{Judgement, Stop, Repeat, Keep}
+use Rattle.fedi_inbound.specs.declared.receiving.Received.{Received}
+use Rattle.fedi_inbound.specs.declared.receiving.Received.TheVariants.{Refused, Misshapen, Repeated, Kept}
+
+-- the judgement
+abbrev pub judgement_in : Received → Judgement
+judgement_in (Refused r) = Stop (Refuse r)
+judgement_in (Misshapen fault) = Stop (Misshape fault)
+judgement_in Repeated = Repeat None
+judgement_in (Kept a) = Keep a
