@@ -11,7 +11,7 @@ use Rattle.fedi_address.specs.Recipients.{is_among}
 use Rattle.fedi_index.specs.declared.collection.Collection.{Collection}
 use Rattle.fedi_index.specs.declared.collection.Collection.TheVariants.{Inbox, Outbox, Followers, Following, Liked, Likes, Shares}
 use Rattle.fedi_index.specs.Candidates.{belongs, is_same}
-use Rattle.fedi_index.specs.Lists.{HasOneMore, Listing, is_same_list, places_of, room_of}
+use Rattle.fedi_index.specs.Lists.{HasOneMore, Listing, at_end, is_same_list, places_of, room_of}
 use Rattle.fedi_index.specs.Growing.{AddsOnce, CanAdd, ends_in, is_inbox, is_kept, is_kind, is_lacking, is_one, list_of_author, list_of_object}
 use Rattle.fedi_index.proofs.SameKind.{kind_itself, same_kind}
 use Rattle.fedi_town.specs.declared.act.Act.{Act}
@@ -44,15 +44,21 @@ lacking-one host kind owner place l k o =
     without_true false b = refl
 
 pub one_pushed : (host : Option (List ℕ)) (kind : Collection) (owner : List ℕ) (place : ℕ) (old new : List Listing)
-    → (is_of_town host owner && not (ends_in place (places_of kind owner old))) ≡ true → HasOneMore kind owner place old new
+    → (is_of_town host owner && not (ends_in place (places_of kind owner old))) ≡ true → HasOneMore kind owner (at_end place) old new
     → AddsOnce (is_one host (Some kind) (Some owner)) place old new
 one_pushed host kind owner place old new here h =
     let same : (k : Collection) (o : List ℕ) → is_same_list k o kind owner ≡ is_lacking place (places_of k o old) (is_one host (Some kind) (Some owner) k o) =
     λ k o. sym (lacking-one host kind owner place old k o ∙ rw here (with_true (is_same_list k o kind owner))) in record {
-      places = λ k o. h.places k o ∙ ap (λ (b : Bool). places_of k o old ++ (if b then place ∷ [] else [])) (same k o);
+      places = λ k o.
+          h.places k o ∙ put_last (is_same_list k o kind owner) (places_of k o old)
+          ∙ ap (λ (b : Bool). places_of k o old ++ (if b then place ∷ [] else [])) (same k o);
       room = λ k o. rw (← same k o) (h.room k o);
     }
   where
+    put_last : (b : Bool) (ps : List ℕ) → (if b then at_end place ps else ps) ≡ ps ++ (if b then place ∷ [] else [])
+    put_last true ps = refl
+    put_last false ps = sym (append-nil ps)
+
     with_true : (a : Bool) → (a && true) ≡ a
     with_true true = refl
     with_true false = refl

@@ -19,7 +19,7 @@ use Rattle.fedi_index.specs.declared.collection.Collection.{Collection}
 use Rattle.fedi_index.specs.declared.lists.Row.{Row}
 use Rattle.fedi_index.specs.Candidates.{is_same}
 use Rattle.fedi_index.proofs.SameKind.{kind_itself, same_kind}
-use Rattle.fedi_index.specs.Lists.{AreRoomier, HasOneMore, IsRoomier, Listing, first_from, is_list, is_row, is_same_list, list_found, list_mark, listing_in, listings, new_list, places_found, places_of, pushed, pushed_at, room_found, room_of, row_mark}
+use Rattle.fedi_index.specs.Lists.{AreRoomier, HasOneMore, IsRoomier, Listing, first_from, grown, grown_at, is_list, is_row, is_same_list, list_found, list_mark, listing_in, listings, new_list, places_found, places_of, room_found, room_of, row_mark}
 
 -- ---- rows
 
@@ -112,33 +112,33 @@ other_key kind owner l is k o here =
           cc)
     ] refl
 
-pushed_key : (place : ℕ) (k : Collection) (o : List ℕ) (l : Listing) → is_list k o (pushed place l) ≡ is_list k o l
+grown_key : (put : List ℕ → List ℕ) (k : Collection) (o : List ℕ) (l : Listing) → is_list k o (grown put l) ≡ is_list k o l
 unfolding is_list
-pushed_key place k o l = refl
+grown_key put k o l = refl
 
-chosen : (same : Bool) (place : ℕ) (l : Listing) (rest : Option Listing)
-    → (if same then Some (pushed place l) else rest) ≡ (if same then option_map (pushed place) (if same then Some l else rest) else (if same then Some l else rest))
-chosen true place l rest = refl
-chosen false place l rest = refl
+chosen : (same : Bool) (put : List ℕ → List ℕ) (l : Listing) (rest : Option Listing)
+    → (if same then Some (grown put l) else rest) ≡ (if same then option_map (grown put) (if same then Some l else rest) else (if same then Some l else rest))
+chosen true put l rest = refl
+chosen false put l rest = refl
 
-pub find_pushed : (kind : Collection) (owner : List ℕ) (place n at : ℕ) (ls : List Listing) → first_from (is_list kind owner) n ls ≡ Some (n + at) → (k : Collection) (o : List ℕ)
-    → find (is_list k o) (pushed_at at place ls) ≡ (if is_same_list k o kind owner then option_map (pushed place) (find (is_list k o) ls) else find (is_list k o) ls)
-find_pushed kind owner place n at [] is k o = absurd cc
-find_pushed kind owner place n zero (l ∷ ls) is k o =
+pub find_grown : (kind : Collection) (owner : List ℕ) (put : List ℕ → List ℕ) (n at : ℕ) (ls : List Listing) → first_from (is_list kind owner) n ls ≡ Some (n + at) → (k : Collection) (o : List ℕ)
+    → find (is_list k o) (grown_at at put ls) ≡ (if is_same_list k o kind owner then option_map (grown put) (find (is_list k o) ls) else find (is_list k o) ls)
+find_grown kind owner put n at [] is k o = absurd cc
+find_grown kind owner put n zero (l ∷ ls) is k o =
     elim (is_list kind owner l) as (λ b. is_list kind owner l ≡ b → (if b then Some n else first_from (is_list kind owner) (suc n) ls) ≡ Some (n + 0)
-    → find (is_list k o) (pushed place l ∷ ls) ≡ (if is_same_list k o kind owner then option_map (pushed place) (find (is_list k o) (l ∷ ls)) else find (is_list k o) (l ∷ ls))) [
-      | true ↦ λ e _. rw (pushed_key place k o l, same_key kind owner l e k o) (chosen (is_same_list k o kind owner) place l (find (is_list k o) ls))
+    → find (is_list k o) (grown put l ∷ ls) ≡ (if is_same_list k o kind owner then option_map (grown put) (find (is_list k o) (l ∷ ls)) else find (is_list k o) (l ∷ ls))) [
+      | true ↦ λ e _. rw (grown_key put k o l, same_key kind owner l e k o) (chosen (is_same_list k o kind owner) put l (find (is_list k o) ls))
       | false ↦ λ e later. absurd (let h = first-within (is_list kind owner) (suc n) (n + 0) ls later in omega (arith, h.0))
     ] refl is
-find_pushed kind owner place n (suc at) (l ∷ ls) is k o =
+find_grown kind owner put n (suc at) (l ∷ ls) is k o =
     elim (is_list kind owner l) as (λ b. is_list kind owner l ≡ b → (if b then Some n else first_from (is_list kind owner) (suc n) ls) ≡ Some (n + suc at)
-    → find (is_list k o) (l ∷ pushed_at at place ls) ≡ (if is_same_list k o kind owner then option_map (pushed place) (find (is_list k o) (l ∷ ls)) else find (is_list k o) (l ∷ ls))) [
+    → find (is_list k o) (l ∷ grown_at at put ls) ≡ (if is_same_list k o kind owner then option_map (grown put) (find (is_list k o) (l ∷ ls)) else find (is_list k o) (l ∷ ls))) [
       | true ↦ λ e now. absurd (let same : n ≡ n + suc at = cc in omega (arith, same))
       | false ↦ λ e later.
           let further : n + suc at ≡ suc n + at = omega arith in
-          let rest = find_pushed kind owner place (suc n) at ls (rw further at later) k o in
-          elim (is_list k o l) as (λ b. is_list k o l ≡ b → (if b then Some l else find (is_list k o) (pushed_at at place ls))
-          ≡ (if is_same_list k o kind owner then option_map (pushed place) (if b then Some l else find (is_list k o) ls) else (if b then Some l else find (is_list k o) ls))) [
+          let rest = find_grown kind owner put (suc n) at ls (rw further at later) k o in
+          elim (is_list k o l) as (λ b. is_list k o l ≡ b → (if b then Some l else find (is_list k o) (grown_at at put ls))
+          ≡ (if is_same_list k o kind owner then option_map (grown put) (if b then Some l else find (is_list k o) ls) else (if b then Some l else find (is_list k o) ls))) [
             | true ↦ λ here. rw (other_key kind owner l e k o here) refl
             | false ↦ λ _. rest
           ] refl
@@ -147,39 +147,39 @@ find_pushed kind owner place n (suc at) (l ∷ ls) is k o =
 there : (p : Listing → Bool) (ls : List Listing) (i : ℕ) → first_from p 0 ls ≡ Some i → is_some (find p ls) ≡ true
 there p ls i is = some_found p 0 ls ∙ rw is refl
 
-one_more : (same : Bool) (place : ℕ) (o : Option Listing) → (same ≡ true → is_some o ≡ true)
-    → places_found (if same then option_map (pushed place) o else o) ≡ places_found o ++ (if same then place ∷ [] else [])
-one_more true place None h = absurd (let no = h refl in cc)
-one_more true place (Some l) h = refl
-one_more false place None h = refl
-one_more false place (Some l) h = sym (append-nil l.places)
+one_more : (same : Bool) (put : List ℕ → List ℕ) (o : Option Listing) → (same ≡ true → is_some o ≡ true)
+    → places_found (if same then option_map (grown put) o else o) ≡ (if same then put (places_found o) else places_found o)
+one_more true put None h = absurd (let no = h refl in cc)
+one_more true put (Some l) h = refl
+one_more false put None h = refl
+one_more false put (Some l) h = refl
 
-one_less : (same : Bool) (place : ℕ) (o : Option Listing) → room_found o ≤ room_found (if same then option_map (pushed place) o else o) + (if same then 1 else 0)
-one_less true place None = omega arith
-one_less true place (Some l) = omega arith
-one_less false place None = omega arith
-one_less false place (Some l) = omega arith
+one_less : (same : Bool) (put : List ℕ → List ℕ) (o : Option Listing) → room_found o ≤ room_found (if same then option_map (grown put) o else o) + (if same then 1 else 0)
+one_less true put None = omega arith
+one_less true put (Some l) = omega arith
+one_less false put None = omega arith
+one_less false put (Some l) = omega arith
 
 same_there : (kind : Collection) (owner : List ℕ) (ls : List Listing) (at : ℕ) (k : Collection) (o : List ℕ) → first_from (is_list kind owner) 0 ls ≡ Some at → is_same_list k o kind owner ≡ true → is_some (find (is_list k o) ls) ≡ true
 same_there kind owner ls at k o is same =
     let parts = and_parts (is_same kind k) (bytes_eq owner o) same in
     rw (← same_kind kind k parts.0, ← (bytes_eq-Decides owner o).0 parts.1) (there (is_list kind owner) ls at is)
 
-pub one_added : (kind : Collection) (owner : List ℕ) (place at : ℕ) (ls : List Listing) → first_from (is_list kind owner) 0 ls ≡ Some at → HasOneMore kind owner place ls (pushed_at at place ls)
+pub one_added : (kind : Collection) (owner : List ℕ) (put : List ℕ → List ℕ) (at : ℕ) (ls : List Listing) → first_from (is_list kind owner) 0 ls ≡ Some at → HasOneMore kind owner put ls (grown_at at put ls)
 unfolding places_of room_of
-one_added kind owner place at ls is =
+one_added kind owner put at ls is =
     let none : 0 + at ≡ at = omega arith in
-    let after : (k : Collection) (o : List ℕ) → find (is_list k o) (pushed_at at place ls) ≡ (if is_same_list k o kind owner then option_map (pushed place) (find (is_list k o) ls) else find (is_list k o) ls) =
-    find_pushed kind owner place 0 at ls (rw none is) in record {
-      places = λ k o. ap places_found (after k o) ∙ one_more (is_same_list k o kind owner) place (find (is_list k o) ls) (same_there kind owner ls at k o is);
-      room = λ k o. rw (after k o) (one_less (is_same_list k o kind owner) place (find (is_list k o) ls));
+    let after : (k : Collection) (o : List ℕ) → find (is_list k o) (grown_at at put ls) ≡ (if is_same_list k o kind owner then option_map (grown put) (find (is_list k o) ls) else find (is_list k o) ls) =
+    find_grown kind owner put 0 at ls (rw none is) in record {
+      places = λ k o. ap places_found (after k o) ∙ one_more (is_same_list k o kind owner) put (find (is_list k o) ls) (same_there kind owner ls at k o is);
+      room = λ k o. rw (after k o) (one_less (is_same_list k o kind owner) put (find (is_list k o) ls));
     }
 
-pub pushed_marks : (seed : Seed) (at place n : ℕ) (ls : List Listing) → marks_from every (list_mark seed) n (pushed_at at place ls) ≡ marks_from every (list_mark seed) n ls
+pub grown_marks : (seed : Seed) (at : ℕ) (put : List ℕ → List ℕ) (n : ℕ) (ls : List Listing) → marks_from every (list_mark seed) n (grown_at at put ls) ≡ marks_from every (list_mark seed) n ls
 unfolding list_mark
-pushed_marks seed at place n [] = refl
-pushed_marks seed zero place n (l ∷ ls) = refl
-pushed_marks seed (suc at) place n (l ∷ ls) = ap (λ (ms : List Mark). record { mark = mark_of seed l.owner; place = n } ∷ ms) (pushed_marks seed at place (suc n) ls)
+grown_marks seed at put n [] = refl
+grown_marks seed zero put n (l ∷ ls) = refl
+grown_marks seed (suc at) put n (l ∷ ls) = ap (λ (ms : List Mark). record { mark = mark_of seed l.owner; place = n } ∷ ms) (grown_marks seed at put (suc n) ls)
 
 -- ---- more room
 
@@ -268,6 +268,13 @@ room_there kind owner ls at room is =
     let same : find (is_list kind owner) ls ≡ slice_get ls at = list_at (is_list kind owner) ls ∙ ap (list_found ls) is in
     rw same at room
 
+pub index_there : (kind : Collection) (owner : List ℕ) (ls : List Listing) (at index : ℕ) → index ≤ length (places_of kind owner ls) → first_from (is_list kind owner) 0 ls ≡ Some at
+    → index ≤ length (places_found (slice_get ls at))
+unfolding places_of
+index_there kind owner ls at index within is =
+    let same : find (is_list kind owner) ls ≡ slice_get ls at = list_at (is_list kind owner) ls ∙ ap (list_found ls) is in
+    rw same at within
+
 pub room_given : (kind : Collection) (owner : List ℕ) (ls : List Listing) (at more : ℕ) → first_from (is_list kind owner) 0 ls ≡ Some at → more ≤ room_found (slice_get ls at) → more ≤ room_of kind owner ls
 unfolding room_of
 room_given kind owner ls at more is room =
@@ -282,17 +289,23 @@ roomier_then ls ks js p q = record { same = λ k o. q.same k o ∙ p.same k o; r
 
 -- ---- one row
 
-pub listing_pushed : (kind : Collection) (place : ℕ) (owner : List ℕ) (v w : Vec ℕ Global) → w.items ≡ v.items ++ place ∷ [] → vec_len w ≡ vec_len v + 1 → vec_capacity w ≡ vec_capacity v
-    → listing_in (record { collection = kind; owner = owner; places = w }) ≡ pushed place (listing_in (record { collection = kind; owner = owner; places = v }))
-listing_pushed kind place owner v w items more wide =
+pub listing_grown : (kind : Collection) (put : List ℕ → List ℕ) (owner : List ℕ) (v w : Vec ℕ Global) → w.items ≡ put v.items → vec_len w ≡ vec_len v + 1 → vec_capacity w ≡ vec_capacity v
+    → listing_in (record { collection = kind; owner = owner; places = w }) ≡ grown put (listing_in (record { collection = kind; owner = owner; places = v }))
+listing_grown kind put owner v w items more wide =
     let room : vec_capacity w - vec_len w ≡ vec_capacity v - vec_len v - 1 = omega (arith, more, wide) in
     ap (λ (xs : List ℕ). record { collection = kind; owner = owner; places = xs; room = vec_capacity w - vec_len w }) items
-    ∙ ap (λ (n : ℕ). record { collection = kind; owner = owner; places = v.items ++ place ∷ []; room = n }) room
+    ∙ ap (λ (n : ℕ). record { collection = kind; owner = owner; places = put v.items; room = n }) room
 
-pub rows_pushed : (rows : List Row) (at place : ℕ) (r r' : Row) → slice_get rows at ≡ Some r → listing_in r' ≡ pushed place (listing_in r) → listings (set rows at r') ≡ pushed_at at place (listings rows)
-rows_pushed [] at place r r' got is = absurd cc
-rows_pushed (x ∷ rows) zero place r r' got is = let same : x ≡ r = cc in ap (λ (l : Listing). l ∷ listings rows) (is ∙ rw same refl)
-rows_pushed (x ∷ rows) (suc at) place r r' got is = ap (λ (ls : List Listing). listing_in x ∷ ls) (rows_pushed rows at place r r' got is)
+pub listing_there : (rows : List Row) (at : ℕ) (r : Row) → slice_get rows at ≡ Some r → slice_get (listings rows) at ≡ Some (listing_in r)
+listing_there [] at r got = absurd cc
+listing_there (x ∷ rows) zero r got = let same : x ≡ r = cc in rw same refl
+listing_there (x ∷ rows) (suc at) r got = listing_there rows at r got
+
+pub rows_grown : (rows : List Row) (at : ℕ) (put : List ℕ → List ℕ) (r r' : Row) → slice_get rows at ≡ Some r → listing_in r' ≡ grown put (listing_in r)
+    → listings (set rows at r') ≡ grown_at at put (listings rows)
+rows_grown [] at put r r' got is = absurd cc
+rows_grown (x ∷ rows) zero put r r' got is = let same : x ≡ r = cc in ap (λ (l : Listing). l ∷ listings rows) (is ∙ rw same refl)
+rows_grown (x ∷ rows) (suc at) put r r' got is = ap (λ (ls : List Listing). listing_in x ∷ ls) (rows_grown rows at put r r' got is)
 
 pub rows_roomier : (rows : List Row) (at : ℕ) (r r' : Row) → slice_get rows at ≡ Some r → r.collection ≡ r'.collection → r.owner ≡ r'.owner → r.places.items ≡ r'.places.items
     → vec_capacity r.places - vec_len r.places ≤ vec_capacity r'.places - vec_len r'.places → AreRoomier (listings rows) (listings (set rows at r'))

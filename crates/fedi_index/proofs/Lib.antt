@@ -1,6 +1,8 @@
 mod Added
 mod Again
+mod Coming
 mod Found
+mod Inboxes
 mod Listed
 mod NextEntry
 mod Owners

@@ -43,7 +43,7 @@ no_members : (p : Actor → Bool) (xs : List Actor) → list_all (is_member None
 no_members p [] all any = absurd cc
 no_members p (x ∷ xs) all any = absurd cc
 
-member_here : (history : List Entry) (host : Option (List ℕ)) (name id : List ℕ) → IsLegal history → (town history).host ≡ host → id_of (town history) name ≡ Some id
+pub member_here : (history : List Entry) (host : Option (List ℕ)) (name id : List ℕ) → IsLegal history → (town history).host ≡ host → id_of (town history) name ≡ Some id
     → is_of_town host id ≡ true
 member_here history None name id legal own known =
     let t : Town = town history in

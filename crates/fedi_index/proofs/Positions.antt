@@ -14,6 +14,10 @@ pub places-mapped : (p : Act → Bool) (f : Act → Act) → ((x : Act) → p (f
 places-mapped p f same n [] = refl
 places-mapped p f same n (x ∷ acts) = rw (same x, places-mapped p f same (suc n) acts) refl
 
+pub places-same : (p q : Act → Bool) → ((x : Act) → p x ≡ q x) → (n : ℕ) (acts : List Act) → places_from p n acts ≡ places_from q n acts
+places-same p q same n [] = refl
+places-same p q same n (x ∷ acts) = rw (same x, places-same p q same (suc n) acts) refl
+
 pub places-more : (p : Act → Bool) (n : ℕ) (acts ys : List Act) → places_from p n (acts ++ ys) ≡ places_from p n acts ++ places_from p (n + length acts) ys
 places-more p n [] ys = let here : n + 0 ≡ n = omega arith in rw here refl
 places-more p n (x ∷ acts) ys =

@@ -1,21 +1,23 @@
 -- What stays true of a shelf.
 use Rattle.std.proofs.Common.{◌≡◌, ℕ, suc, Bool, true, List, [], ◌∷◌, ◌++◌, Option, Some, None, refl, sym, ap, subst, ◌∙◌}
 use Rattle.std.proofs.lemmas.List.Sums.{fold_push}
-use Rattle.fedi_effects.specs.Holdings.{Holding, coming_in}
+use Rattle.fedi_effects.specs.Additions.{inbox_in}
+use Rattle.fedi_effects.specs.Holdings.{Holding, coming_in, coming_inbox, coming_inbox_in}
 use Rattle.fedi_index.specs.declared.collection.Collection.{Collection}
 use Rattle.fedi_index.specs.Candidates.{belongs, collection_of, is_candidate, places_from}
-use Rattle.fedi_index.specs.Growing.{AreCandidates, is_kept}
+use Rattle.fedi_index.specs.Growing.{AreCandidates, MayComeIn, is_kept, sent_on}
 use Rattle.fedi_index.specs.Lists.{Listing, places_of}
 use Rattle.fedi_index.specs.Shelves.{IsNamed, IsShelf, MayCome}
-use Rattle.fedi_index.proofs.NextEntry.{candidates_after, ids_of_town, legal_after}
+use Rattle.fedi_index.proofs.NextEntry.{candidates_after, ids_of_town, legal_after, may_go_in}
 use Rattle.fedi_index.proofs.Owners.{owner_here}
+use Rattle.fedi_index.proofs.Positions.{places-same}
 use Rattle.fedi_laws.proofs.IdsTown.{HasIds}
 use Rattle.fedi_objects.specs.declared.entry.Entry.{Entry}
 use Rattle.fedi_town.specs.declared.act.Act.{Act}
 use Rattle.fedi_town.specs.declared.caller.Which.{Which}
 use Rattle.fedi_town.specs.Addressing.{is_of_town}
 use Rattle.fedi_town.specs.Collections.{owner_of}
-use Rattle.fedi_town.specs.Histories.{step, town}
+use Rattle.fedi_town.specs.Histories.{addition_of, step, town}
 use Rattle.fedi_town.specs.Towns.{Town, empty_town}
 
 pub nothing_shelved : IsShelf (record { history = []; town = empty_town; room = None }) []
@@ -26,31 +28,39 @@ nothing_shelved = record {
   next = tt;
   candidates = record { places = λ k o. refl };
   room = tt;
+  inbox_room = tt;
 }
 
 -- ---- one more entry
 
+-- what the entry brings for which there is room, and its one inbox more, may come
+pub may_come_in : (h : Holding) (lists : List Listing) → IsShelf h lists → MayComeIn h.town (coming_inbox_in h)
+may_come_in h lists s = from h.room s.next
+  where
+    from : (room : Option Entry) → MayCome h.town room → MayComeIn h.town (coming_inbox h.town room)
+    from None may = tt
+    from (Some e) may =
+        subst (λ (t : Town). MayComeIn t (inbox_in (addition_of t e))) (sym s.stands)
+        (may_go_in h.history e s.legal (rw s.stands at may))
+
 pub entry_pushed : (h after : Holding) (e : Entry) (old new : List Listing) → IsShelf h old → h.room ≡ Some e
     → after ≡ record { history = h.history ++ e ∷ []; town = town (h.history ++ e ∷ []); room = None }
-    → AreCandidates h.town.host (h.town.acts ++ coming_in h) new → IsShelf after new
+    → AreCandidates h.town.host (sent_on (coming_inbox_in h) h.town.acts ++ coming_in h) new → IsShelf after new
 entry_pushed h after e old new s room is are =
     let may : MayCome h.town (Some e) = rw room at s.next in
     let ids : HasIds h.town.host h.town.acts = subst (λ (t : Town). HasIds t.host t.acts) (sym s.stands) (ids_of_town h.history s.legal) in
     let next : step h.town e ≡ town (h.history ++ e ∷ []) = ap (λ (t : Town). step t e) s.stands ∙ sym (fold_push step empty_town h.history e) in
-    let added : AreCandidates (step h.town e).host (step h.town e).acts new = candidates_after h.town e new may.0 may.1 ids (rw room at are) in
+    let added : AreCandidates (step h.town e).host (step h.town e).acts new = candidates_after h.town e new may ids (rw room at are) in
     subst (λ (x : Holding). IsShelf x new) (sym is) (record {
       stands = refl;
-      legal = legal_after h.history h.town e s.stands s.legal may.1;
+      legal = legal_after h.history h.town e s.stands s.legal may;
       next = tt;
       candidates = subst (λ (t : Town). AreCandidates t.host t.acts new) next added;
       room = tt;
+      inbox_room = tt;
     })
 
 -- ---- the candidates of a collection
-
-places-same : (p q : Act → Bool) → ((x : Act) → p x ≡ q x) → (n : ℕ) (acts : List Act) → places_from p n acts ≡ places_from q n acts
-places-same p q same n [] = refl
-places-same p q same n (x ∷ acts) = rw (same x, places-same p q same (suc n) acts) refl
 
 kept-here : (host : Option (List ℕ)) (k : Collection) (o : List ℕ) → is_of_town host o ≡ true → (x : Act) → is_kept host k o x ≡ belongs k o x
 unfolding is_kept

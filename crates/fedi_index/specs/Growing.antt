@@ -1,5 +1,5 @@
 -- The lists in which an activity stands, and what becomes of them when it comes.
-use Rattle.std.specs.Prelude.{◌≡◌, ℕ, ◌+◌, ◌≤◌, Bool, true, false, not, ◌&&◌, nat_eq, List, [], ◌∷◌, ◌++◌, Option, Some, None, if◌then◌else◌}
+use Rattle.std.specs.Prelude.{◌≡◌, ℕ, ◌+◌, ◌≤◌, ⊤, IsTrue, Bool, true, false, not, ◌&&◌, nat_eq, nat_lt, List, [], ◌∷◌, ◌++◌, map, Option, Some, None, if◌then◌else◌}
 use Rattle.fedi_address.specs.Recipients.{is_among}
 use Rattle.fedi_index.specs.declared.collection.Collection.{Collection}
 use Rattle.fedi_index.specs.declared.collection.Collection.TheVariants as kinds
@@ -9,7 +9,11 @@ use Rattle.fedi_town.specs.declared.act.Act.{Act}
 use Rattle.fedi_town.specs.declared.deed.Deed.{Deed}
 use Rattle.fedi_town.specs.declared.deed.Deed.TheVariants.{Follow, Like, Announce}
 use Rattle.fedi_town.specs.Addressing.{is_of_town}
-use Rattle.fedi_town.specs.Relations.{is_id}
+use Rattle.fedi_town.specs.Histories.{with_recipient}
+use Rattle.fedi_town.specs.Legal.{lacks}
+use Rattle.fedi_town.specs.Lists.{PassesOnce}
+use Rattle.fedi_town.specs.Relations.{has_activity_id, is_id}
+use Rattle.fedi_town.specs.Towns.{Town}
 
 -- the activity may stand in this collection of the owner, who is of this host
 unfoldable pub is_kept : Option (List ℕ) → Collection → List ℕ → Act → Bool
@@ -78,6 +82,37 @@ pub record HasRoom (listed : Collection → List ℕ → Bool) (n : ℕ) (lists 
 abbrev pub HasRooms : Option (List ℕ) → ℕ → List Act → List Listing → Type 0
 HasRooms host n [] lists = Unit {0}
 HasRooms host n (x ∷ xs) lists = HasRoom (λ k o. is_kept host k o x) n lists × HasRooms host n xs lists
+
+-- ---- one inbox more
+
+-- The activity of this id may go to this owner's inbox too: it is the only one of this id, it does not go there yet, and the
+-- owner is of this host.
+pub record MayGo (t : Town) (id owner : List ℕ) : Type 0 where
+  pub once : PassesOnce (has_activity_id id) t.acts
+  pub lacking : IsTrue (lacks t (Some id) (Some owner))
+  pub here : IsTrue (is_of_town t.host owner)
+
+-- likewise for the activity that goes to one more inbox, if there is one, and the inbox's owner
+abbrev pub MayComeIn : Town → Option (List ℕ × List ℕ) → Type 0
+MayComeIn t None = ⊤
+MayComeIn t (Some pair) = MayGo t pair.0 pair.1
+
+-- there is room for one more in the list of that inbox
+abbrev pub HasInboxRoom : Option (List ℕ × List ℕ) → List Listing → Type 0
+HasInboxRoom None lists = ⊤
+HasInboxRoom (Some pair) lists = 1 ≤ room_of kinds.Inbox pair.1 lists
+
+-- the activities, of which that one goes to one more inbox
+abbrev pub sent_on : Option (List ℕ × List ℕ) → List Act → List Act
+sent_on None acts = acts
+sent_on (Some pair) acts = map (with_recipient pair.0 pair.1) acts
+
+-- the positions, which are in order, with one more in its order
+abbrev pub in_order : ℕ → List ℕ → List ℕ
+in_order place [] = place ∷ []
+in_order place (p ∷ ps) = if nat_lt p place then p ∷ in_order place ps else place ∷ p ∷ ps
+
+-- ---- what is left of the room
 
 -- each list has room for one less, at worst
 pub record UsesOne (old new : List Listing) : Type 0 where

@@ -1,6 +1,6 @@
 -- Lists of positions, each of a collection and an owner.
 use Rattle.std.specs.Prelude.{◌≡◌, ℕ, zero, suc, ◌+◌, ◌-◌, ◌≤◌, Bool, ◌&&◌, List, [], ◌∷◌, ◌++◌, map, Option, None, Some, slice_get, vec_len, vec_capacity, if◌then◌else◌}
-use Rattle.std.specs.List.{find}
+use Rattle.std.specs.List.{find, insert}
 use Rattle.std.specs.Str.{bytes_eq}
 use Rattle.fedi_index.specs.declared.collection.Collection.{Collection}
 use Rattle.fedi_index.specs.declared.lists.Lists.TheInside.{Inside}
@@ -50,9 +50,17 @@ pub record IsRoomier (old new : List Listing) : Type 0 where
   pub same : (k : Collection) (o : List ℕ) → places_of k o new ≡ places_of k o old
   pub room : (k : Collection) (o : List ℕ) → room_of k o old ≤ room_of k o new
 
--- this one list has one position more, and room for one less
-pub record HasOneMore (kind : Collection) (owner : List ℕ) (place : ℕ) (old new : List Listing) : Type 0 where
-  pub places : (k : Collection) (o : List ℕ) → places_of k o new ≡ places_of k o old ++ (if is_same_list k o kind owner then place ∷ [] else [])
+-- the positions with one more at the end
+abbrev pub at_end : ℕ → List ℕ → List ℕ
+at_end place places = places ++ place ∷ []
+
+-- the positions with one more before the one at this index
+abbrev pub at_index : ℕ → ℕ → List ℕ → List ℕ
+at_index index place places = insert places index place
+
+-- this one list has one position more, which was put where this says, and room for one less
+pub record HasOneMore (kind : Collection) (owner : List ℕ) (put : List ℕ → List ℕ) (old new : List Listing) : Type 0 where
+  pub places : (k : Collection) (o : List ℕ) → places_of k o new ≡ (if is_same_list k o kind owner then put (places_of k o old) else places_of k o old)
   pub room : (k : Collection) (o : List ℕ) → room_of k o old ≤ room_of k o new + (if is_same_list k o kind owner then 1 else 0)
 
 -- ---- where they are
@@ -71,15 +79,15 @@ abbrev pub list_found : List Listing → Option ℕ → Option Listing
 list_found lists None = None
 list_found lists (Some place) = slice_get lists place
 
--- the list with one position more
-abbrev pub pushed : ℕ → Listing → Listing
-pushed place l = record l { places = l.places ++ place ∷ []; room = l.room - 1 }
+-- the list with one position more, which was put where this says
+abbrev pub grown : (List ℕ → List ℕ) → Listing → Listing
+grown put l = record l { places = put l.places; room = l.room - 1 }
 
 -- the lists, of which the one at this place has one position more
-abbrev pub pushed_at : ℕ → ℕ → List Listing → List Listing
-pushed_at at place [] = []
-pushed_at zero place (l ∷ ls) = pushed place l ∷ ls
-pushed_at (suc n) place (l ∷ ls) = l ∷ pushed_at n place ls
+abbrev pub grown_at : ℕ → (List ℕ → List ℕ) → List Listing → List Listing
+grown_at at put [] = []
+grown_at zero put (l ∷ ls) = grown put l ∷ ls
+grown_at (suc n) put (l ∷ ls) = l ∷ grown_at n put ls
 
 -- each list is the same, and has no less room
 abbrev pub AreRoomier : List Listing → List Listing → Type 0

@@ -1,13 +1,12 @@
 -- A history with the lists of its collections.
 use Rattle.std.specs.Prelude.{◌≡◌, ◌<◌, ◌^◌, ⊤, IsTrue, List, Option, Some, None}
 use Rattle.fedi_address.specs.Names.{is_name}
-use Rattle.fedi_effects.specs.Holdings.{Holding, coming_in}
-use Rattle.fedi_index.specs.Growing.{AreCandidates, HasRooms}
+use Rattle.fedi_effects.specs.Holdings.{Holding, coming_in, coming_inbox_in}
+use Rattle.fedi_index.specs.Growing.{AreCandidates, HasInboxRoom, HasRooms}
 use Rattle.fedi_index.specs.Lists.{Listing}
 use Rattle.fedi_objects.specs.declared.entry.Entry.{Entry}
 use Rattle.fedi_town.specs.declared.caller.Which.{Which}
 use Rattle.fedi_town.specs.declared.caller.Which.TheVariants.{Inbox, Outbox, Followers, Following, Liked, Likes, Shares}
-use Rattle.fedi_town.specs.Built.{is_built}
 use Rattle.fedi_town.specs.Histories.{town}
 use Rattle.fedi_town.specs.Legal.{IsLegal, is_admissible}
 use Rattle.fedi_town.specs.Towns.{Town}
@@ -22,10 +21,10 @@ IsNamed (Followers name) = ⊤
 IsNamed (Following name) = ⊤
 IsNamed (Liked name) = ⊤
 
--- the entry for which there is room is one that this server takes, and may come next
+-- the entry for which there is room may come next
 abbrev pub MayCome : Town → Option Entry → Type 0
 MayCome t None = ⊤
-MayCome t (Some e) = IsTrue (is_built e) × IsTrue (is_admissible t e)
+MayCome t (Some e) = IsTrue (is_admissible t e)
 
 -- The history is legal, and the town what it has made; the entry for which there is room may come next; the lists are those of
 -- the candidates of all collections of this host; and they have room for what the entry will add.
@@ -35,3 +34,4 @@ pub record IsShelf (h : Holding) (lists : List Listing) : Type 0 where
   pub next : MayCome h.town h.room
   pub candidates : AreCandidates h.town.host h.town.acts lists
   pub room : HasRooms h.town.host 2 (coming_in h) lists
+  pub inbox_room : HasInboxRoom (coming_inbox_in h) lists

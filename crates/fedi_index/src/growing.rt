@@ -1,13 +1,17 @@
 //! The lists in which an activity stands: that of its author's outbox, those of the inboxes of its
 //! recipients, and where it is a Follow, a Like or an Announce those of its author and of what it is
-//! about. There are lists of owners of this host alone.
+//! about. There are lists of owners of this host alone. An activity that comes again, to one more inbox,
+//! changes the list of that inbox alone.
 
-ghost use Rattle.std.specs.Prelude.{◌≡◌, List, ◌+◌, ◌++◌, ◌<◌, ◌^◌, ◌&&◌, not, OnOk, Some, length, option_copied, option_to_list};
+ghost use Rattle.std.specs.Prelude.{◌≡◌, List, ◌+◌, ◌++◌, ◌<◌, ◌≤◌, ◌^◌, ◌&&◌, not, OnOk, Some, length, map, option_copied, option_map, option_to_list};
+ghost use Rattle.std.specs.List.Sorted.{IsNonDecreasing};
 ghost use Rattle.fedi_town.specs.declared.act.Act.{Act};
 ghost use Rattle.fedi_town.specs.Addressing.{is_of_town};
-ghost use Rattle.fedi_effects.specs.Holdings.{coming_in};
-ghost use Rattle.fedi_index.specs.Growing.{AddsOnce, AreCandidates, CanAdd, HasRoom, HasRooms, UsesOne, ends_in, is_inbox, is_kept, is_one, list_of_author, list_of_object};
-ghost use Rattle.fedi_index.specs.Lists.{IsRoomier, places_of};
+ghost use Rattle.fedi_town.specs.Histories.{with_recipient};
+ghost use Rattle.fedi_effects.specs.Holdings.{coming_in, coming_inbox_in};
+ghost use Rattle.fedi_index.specs.declared.collection.Collection.TheVariants.{Inbox};
+ghost use Rattle.fedi_index.specs.Growing.{AddsOnce, AreCandidates, CanAdd, HasInboxRoom, HasRoom, HasRooms, MayComeIn, MayGo, UsesOne, ends_in, in_order, is_inbox, is_kept, is_one, list_of_author, list_of_object, sent_on};
+ghost use Rattle.fedi_index.specs.Lists.{IsRoomier, at_index, places_of, room_of};
 
 use crate::collection::Collection;
 use crate::lists::Lists;
@@ -152,13 +156,9 @@ fn reserve_for(
     }
 }
 
-/// Makes room in each list for the activities that the entry for which the facts have room will add. The
-/// error is out of memory.
-pub(crate) fn reserve_coming(
-    lists: &mut Lists,
-    alloc: Global,
-    facts: &Facts,
-) -> Result<(), AllocError>
+// Makes room in each list for the activities that the entry will add for which the facts have room. The
+// error is out of memory.
+fn reserve_acts(lists: &mut Lists, alloc: Global, facts: &Facts) -> Result<(), AllocError>
     ensures roomier { IsRoomier lists.old lists.new }
     ensures room { OnOk result (HasRooms facts.now.town.host 2 (coming_in facts.now) lists.new) }
 {
@@ -166,6 +166,23 @@ pub(crate) fn reserve_coming(
     reserve_for(lists, alloc, facts, act)?;
     reserve_for(lists, alloc, facts, answer)?;
     Ok(())
+}
+
+/// Makes room in each list for what the entry will add for which the facts have room: for its activities,
+/// or for one that goes to one more inbox. The error is out of memory.
+pub(crate) fn reserve_coming(
+    lists: &mut Lists,
+    alloc: Global,
+    facts: &Facts,
+) -> Result<(), AllocError>
+    ensures roomier { IsRoomier lists.old lists.new }
+    ensures room { OnOk result (HasRooms facts.now.town.host 2 (coming_in facts.now) lists.new) }
+    ensures inbox_room { OnOk result (HasInboxRoom (coming_inbox_in facts.now) lists.new) }
+{
+    match facts.coming_inbox() {
+        Some((_, owner)) => lists.reserve(alloc, Collection::Inbox, owner, 1),
+        None => reserve_acts(lists, alloc, facts),
+    }
 }
 
 // ---- one position more
@@ -276,9 +293,8 @@ fn place_after(place: usize, act: Option<&Kept>) -> usize
     }
 }
 
-/// Adds the activities to the lists that the entry will add for which the facts have room. It takes no
-/// memory.
-pub(crate) fn add_coming(lists: &mut Lists, facts: &Facts)
+// Adds the activities to the lists that the entry will add for which the facts have room.
+fn add_acts(lists: &mut Lists, facts: &Facts)
     requires room { HasRooms facts.now.town.host 2 (coming_in facts.now) lists.old }
     requires candidates { AreCandidates facts.now.town.host facts.now.town.acts lists.old }
     ensures { AreCandidates facts.now.town.host
@@ -288,4 +304,47 @@ pub(crate) fn add_coming(lists: &mut Lists, facts: &Facts)
     let (act, answer) = facts.coming();
     add_for(lists, facts, act, place);
     add_for(lists, facts, answer, place_after(place, act));
+}
+
+// How many of the positions, which are in order, are below this one.
+fn count_below(places: &[usize], place: usize) -> usize
+    requires { IsNonDecreasing places.now }
+    ensures few { result ≤ length places.now }
+    ensures ordered { at_index result place places.now ≡ in_order place places.now }
+{
+    places.partition_point(|p| *p < place)
+}
+
+// Adds the position of the activity of this id to the list of the owner's inbox, in order: an activity that
+// is known goes to one more inbox.
+fn add_to_inbox(lists: &mut Lists, facts: &Facts, id: &Iri, owner: &Iri)
+    requires room { 1 ≤ room_of Inbox owner.now lists.old }
+    requires may_go { MayGo facts.now.town id.now owner.now }
+    requires candidates { AreCandidates facts.now.town.host facts.now.town.acts lists.old }
+    ensures { AreCandidates facts.now.town.host
+        (map (with_recipient id.now owner.now) facts.now.town.acts) lists.new }
+{
+    match facts.position_of(id) {
+        Some(place) => {
+            let index = count_below(lists.places(Collection::Inbox, owner), place);
+            lists.insert(Collection::Inbox, owner, index, place);
+        }
+        None => {}
+    }
+}
+
+/// Adds to the lists what the entry will add for which the facts have room: its activities, or one inbox
+/// more of an activity that is known. It takes no memory.
+pub(crate) fn add_coming(lists: &mut Lists, facts: &Facts)
+    requires room { HasRooms facts.now.town.host 2 (coming_in facts.now) lists.old }
+    requires inbox_room { HasInboxRoom (coming_inbox_in facts.now) lists.old }
+    requires may_come { MayComeIn facts.now.town (coming_inbox_in facts.now) }
+    requires candidates { AreCandidates facts.now.town.host facts.now.town.acts lists.old }
+    ensures { AreCandidates facts.now.town.host (sent_on (coming_inbox_in facts.now)
+        facts.now.town.acts ++ coming_in facts.now) lists.new }
+{
+    match facts.coming_inbox() {
+        Some((id, owner)) => add_to_inbox(lists, facts, id, owner),
+        None => add_acts(lists, facts),
+    }
 }

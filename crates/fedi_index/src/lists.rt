@@ -5,7 +5,7 @@ ghost use Rattle.std.specs.List.{find};
 ghost use Rattle.fedi_register.specs.Changes.{place_where};
 ghost use Rattle.fedi_register.specs.Marks.{every, marks_from};
 ghost use Rattle.fedi_register.specs.Seeds.{mark_of};
-ghost use Rattle.fedi_index.specs.Lists.{AreRoomier, HasOneMore, IsRoomier, first_from, is_list, is_row, list_mark, listing_in, listings, new_list, places_found, places_of, pushed_at, room_found, room_of, row_mark};
+ghost use Rattle.fedi_index.specs.Lists.{AreRoomier, HasOneMore, IsRoomier, at_end, at_index, first_from, grown_at, is_list, is_row, list_mark, listing_in, listings, new_list, places_found, places_of, room_found, room_of, row_mark};
 
 use crate::collection::{Collection, is_same};
 use fedi_address::Iri;
@@ -90,13 +90,24 @@ fn place_of(
     )
 }
 
-// One position more in the list at this place, which has room for it.
+// One position more at the end of the list at this place, which has room for it.
 fn push_at(rows: &mut Vec<Row>, at: usize, place: usize)
     requires there { at < length rows.old.items }
     requires room { 1 ≤ room_found (slice_get (listings rows.old.items) at) }
-    ensures { listings rows.new.items ≡ pushed_at at place (listings rows.old.items) }
+    ensures { listings rows.new.items ≡ grown_at at (at_end place) (listings rows.old.items) }
 {
     rows[at].places.push_reserved(place);
+}
+
+// One position more in the list at this place, which has room for it, before the position at this index.
+fn insert_at(rows: &mut Vec<Row>, at: usize, index: usize, place: usize)
+    requires there { at < length rows.old.items }
+    requires room { 1 ≤ room_found (slice_get (listings rows.old.items) at) }
+    requires index { index ≤ length (places_found (slice_get (listings rows.old.items) at)) }
+    ensures { listings rows.new.items
+        ≡ grown_at at (at_index index place) (listings rows.old.items) }
+{
+    let _ = rows[at].places.insert(index, place);
 }
 
 // Makes room for so many more in the list at this place. The error is out of memory.
@@ -130,14 +141,27 @@ impl Lists {
         }
     }
 
-    /// Adds a position to a list that has room for it. It takes no memory.
+    /// Adds a position at the end of a list that has room for it. It takes no memory.
     pub(crate) fn push(&mut self, collection: Collection, owner: &Iri, place: usize)
         requires { 1 ≤ room_of collection owner.now self.old }
-        ensures { HasOneMore collection owner.now place self.old self.new }
+        ensures { HasOneMore collection owner.now (at_end place) self.old self.new }
     {
         match place_of(&self.seed, &self.rows, &self.index, collection, owner) {
             None => unreachable!(),
             Some(at) => push_at(&mut self.rows, at, place),
+        }
+    }
+
+    /// Adds a position to a list that has room for it, before the position at this index. It takes no
+    /// memory.
+    pub(crate) fn insert(&mut self, collection: Collection, owner: &Iri, index: usize, place: usize)
+        requires room { 1 ≤ room_of collection owner.now self.old }
+        requires index { index ≤ length (places_of collection owner.now self.old) }
+        ensures { HasOneMore collection owner.now (at_index index place) self.old self.new }
+    {
+        match place_of(&self.seed, &self.rows, &self.index, collection, owner) {
+            None => unreachable!(),
+            Some(at) => insert_at(&mut self.rows, at, index, place),
         }
     }
 

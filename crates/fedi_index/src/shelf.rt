@@ -4,10 +4,9 @@ ghost use Rattle.std.specs.Prelude.{◌≡◌, ◌≤◌, ◌++◌, ◌∷◌, [
 ghost use Rattle.fedi_effects.specs.Holdings.{Holding};
 ghost use Rattle.fedi_index.specs.Candidates.{is_candidate, places_from};
 ghost use Rattle.fedi_index.specs.Shelves.{IsNamed};
-ghost use Rattle.fedi_town.specs.Built.{is_built};
 ghost use Rattle.fedi_town.specs.Collections.{items, owner_of};
 ghost use Rattle.fedi_town.specs.Histories.{town};
-ghost use Rattle.fedi_town.specs.Legal.{is_admissible};
+ghost use Rattle.fedi_town.specs.Legal.{IsLegal, is_admissible};
 ghost use Rattle.fedi_town.specs.Towns.{empty_town};
 
 use crate::collection::Collection;

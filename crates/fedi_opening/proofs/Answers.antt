@@ -8,7 +8,6 @@ use Rattle.fedi_entry.specs.Codes.{code_of}
 use Rattle.fedi_entry.specs.Fields.{IsFormed}
 use Rattle.fedi_entry.specs.Reading.{read_entry}
 use Rattle.fedi_objects.specs.declared.entry.Entry.{Entry}
-use Rattle.fedi_town.specs.Built.{are_built, is_built}
 use Rattle.fedi_town.specs.Histories.{step, town}
 use Rattle.fedi_town.specs.Legal.{is_admissible, is_legal_from}
 use Rattle.fedi_town.specs.Towns.{Town, empty_town}
@@ -31,19 +30,18 @@ one_history (x ∷ a) (y ∷ b) formed_a formed_b same =
 
 -- behind the history of a front of the records there comes the entry of the next record, if the records are those of more
 further : (t : Town) (records : List (List ℕ)) (a b : List Entry) → AllByRecursion IsFormed a → AllByRecursion IsFormed b
-    → is_legal_from t b ≡ true → are_built b ≡ true → map code_of a ≡ take (length a) records → map code_of b ≡ take (length b) records
+    → is_legal_from t b ≡ true → map code_of a ≡ take (length a) records → map code_of b ≡ take (length b) records
     → length a < length b → (e : Entry) × IsNext (fold step t a) e × (slice_get records (length a) ≡ Some (code_of e))
-further t records a [] formed_a formed_b legal built is_a is_b lt = absurd (omega (arith, lt))
-further t [] a (y ∷ b) formed_a formed_b legal built is_a is_b lt = absurd (cc is_b)
-further t (r ∷ records) [] (y ∷ b) formed_a formed_b legal built is_a is_b lt =
+further t records a [] formed_a formed_b legal is_a is_b lt = absurd (omega (arith, lt))
+further t [] a (y ∷ b) formed_a formed_b legal is_a is_b lt = absurd (cc is_b)
+further t (r ∷ records) [] (y ∷ b) formed_a formed_b legal is_a is_b lt =
     let here : r ≡ code_of y = cc is_b in
     let next : IsNext t y = record {
       formed = formed_b.0;
       admissible = (and_parts (is_admissible t y) (is_legal_from (step t y) b) legal).0;
-      built = (and_parts (is_built y) (are_built b) built).0;
     } in
     (y, next, ap (λ (c : List ℕ). Some c) here)
-further t (r ∷ records) (x ∷ a) (y ∷ b) formed_a formed_b legal built is_a is_b lt =
+further t (r ∷ records) (x ∷ a) (y ∷ b) formed_a formed_b legal is_a is_b lt =
     let first_a : code_of x ≡ r = cc is_a in
     let first_b : code_of y ≡ r = cc is_b in
     let rest_a : map code_of a ≡ take (length a) records = cc is_a in
@@ -51,15 +49,14 @@ further t (r ∷ records) (x ∷ a) (y ∷ b) formed_a formed_b legal built is_a
     let same : y ≡ x = one_entry y x formed_b.0 formed_a.0 (first_b ∙ sym first_a) in
     let legal_b = (and_parts (is_admissible t y) (is_legal_from (step t y) b) legal).1 in
     further (step t x) records a b formed_a.1 formed_b.1
-    (subst (λ (z : Entry). is_legal_from (step t z) b ≡ true) same legal_b)
-    ((and_parts (is_built y) (are_built b) built).1) rest_a rest_b (omega (arith, lt))
+    (subst (λ (z : Entry). is_legal_from (step t z) b ≡ true) same legal_b) rest_a rest_b (omega (arith, lt))
 
 -- no history goes past a place that is damaged
 no_further : (records : List (List ℕ)) (held p n : ℕ) (a b : List Entry) → IsDamaged (Some records) held p a → IsRead (Some records) n b → p < n → ⊥
 no_further records held p n a b damaged read lt =
     let spelled_a : map code_of a ≡ take (length a) records = subst (λ (k : ℕ). map code_of a ≡ take k records) (sym damaged.read.counted) damaged.read.spelled in
     let spelled_b : map code_of b ≡ take (length b) records = subst (λ (k : ℕ). map code_of b ≡ take k records) (sym read.counted) read.spelled in
-    let more = further empty_town records a b damaged.read.formed read.formed read.legal.admissible read.built spelled_a spelled_b (omega (arith, lt, damaged.read.counted, read.counted)) in
+    let more = further empty_town records a b damaged.read.formed read.formed read.legal.admissible spelled_a spelled_b (omega (arith, lt, damaged.read.counted, read.counted)) in
     let here : slice_get records p ≡ Some (code_of more.0) = subst (λ (k : ℕ). slice_get records k ≡ Some (code_of more.0)) damaged.read.counted more.2 in
     damaged.damaged more.0 more.1 here
 

@@ -10,7 +10,6 @@ use Rattle.std.proofs.lemmas.Option.{get_or_from_slice_get, slice_get_within}
 use Rattle.fedi_entry.specs.Codes.{code_of}
 use Rattle.fedi_entry.specs.Fields.{IsFormed}
 use Rattle.fedi_objects.specs.declared.entry.Entry.{Entry}
-use Rattle.fedi_town.specs.Built.{is_built}
 use Rattle.fedi_town.specs.Histories.{step, town}
 use Rattle.fedi_town.specs.Legal.{is_admissible, is_legal_from}
 use Rattle.fedi_town.specs.Towns.{Town, empty_town}
@@ -21,18 +20,15 @@ use Rattle.fedi_outside.specs.Keepers.{KeeperState}
 
 -- ---- the entry of a record
 
-pub next_by : (t : Town) (e : Entry) → IsFormed e → (is_admissible t e && is_built e) ≡ true → IsNext t e
-next_by t e formed may =
-    let parts = and_parts (is_admissible t e) (is_built e) may in
-    record { formed = formed; admissible = parts.0; built = parts.1 }
+pub next_by : (t : Town) (e : Entry) → IsFormed e → is_admissible t e ≡ true → IsNext t e
+next_by t e formed may = record { formed = formed; admissible = may }
 
 -- the only entry with this code may not come next
 pub none_by : (t : Town) (e : Entry) (bytes : List ℕ) → ((other : Entry) → IsFormed other → code_of other ≡ bytes → other ≡ e)
-    → (is_admissible t e && is_built e) ≡ false → (other : Entry) → IsNext t other → code_of other ≢ bytes
+    → is_admissible t e ≡ false → (other : Entry) → IsNext t other → code_of other ≢ bytes
 none_by t e bytes only may other next is =
     let own : IsNext t e = subst (λ (x : Entry). IsNext t x) (only other next.formed is) next in
-    let both : (is_admissible t e && is_built e) ≡ true = both_true own.admissible own.built in
-    let wrong : true ≡ false = sym both ∙ may in
+    let wrong : true ≡ false = sym own.admissible ∙ may in
     absurd cc
 
 -- ---- one entry more
@@ -65,7 +61,6 @@ pub read_more : (records : Option (List (List ℕ))) (n : ℕ) (h : List Entry) 
     → IfSome records (λ told. slice_get told n ≡ Some (code_of e)) → IsRead records (n + 1) (h ++ e ∷ [])
 read_more records n h e read next is = record {
   legal = record { admissible = legal_more empty_town h e read.legal.admissible next.admissible };
-  built = list_all-append is_built h (e ∷ []) ∙ both_true read.built (both_true next.built refl);
   formed = formed_more h e read.formed next.formed;
   counted = length-append h (e ∷ []) ∙ ap (λ (k : ℕ). k + 1) read.counted;
   spelled = if_spelled records n h e read.spelled is;
@@ -91,7 +86,6 @@ of_none (Some told) place bytes t is none = λ e next spelled.
 pub read_none : (records : Option (List (List ℕ))) (h : List Entry) → h ≡ [] → IsRead records 0 h
 read_none records h is = subst (λ (x : List Entry). IsRead records 0 x) (sym is) (record {
   legal = record { admissible = refl };
-  built = refl;
   formed = tt;
   counted = refl;
   spelled = none_spelled records;

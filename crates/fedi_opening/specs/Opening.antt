@@ -5,24 +5,21 @@ use Rattle.fedi_entry.specs.Codes.{code_of}
 use Rattle.fedi_entry.specs.Fields.{IsFormed}
 use Rattle.fedi_objects.specs.declared.entry.Entry.{Entry}
 use Rattle.fedi_outside.specs.Keepers.{KeeperState, after_fault}
-use Rattle.fedi_town.specs.Built.{are_built, is_built}
 use Rattle.fedi_town.specs.Histories.{town}
 use Rattle.fedi_town.specs.Legal.{IsLegal, is_admissible}
 use Rattle.fedi_town.specs.Towns.{Town}
 use Rattle.fedi_opening.specs.declared.fault.OpenFault.{OpenFault}
 use Rattle.fedi_opening.specs.declared.fault.OpenFault.TheVariants.{Failed, Damaged, Empty, Memory}
 
--- the entry may come next, this server takes it so far, and its fields have their forms
+-- the entry may come next, and its fields have their forms
 pub record IsNext (t : Town) (e : Entry) : Type 0 where
   pub formed : IsFormed e
   pub admissible : IsTrue (is_admissible t e)
-  pub built : IsTrue (is_built e)
 
--- The history is that of the first so many records: it is legal, this server takes its entries so far, their fields have their
--- forms, and if the records are told, they are the codes of its entries in order.
+-- The history is that of the first so many records: it is legal, the fields of its entries have their forms, and if the records
+-- are told, they are the codes of its entries in order.
 pub record IsRead (records : Option (List (List ℕ))) (count : ℕ) (history : List Entry) : Type 0 where
   pub legal : IsLegal history
-  pub built : IsTrue (are_built history)
   pub formed : AllByRecursion IsFormed history
   pub counted : length history ≡ count
   pub spelled : IfSome records (λ told. map code_of history ≡ take count told)

@@ -1,18 +1,20 @@
 //! Which entry may come next.
 
 ghost use Rattle.std.specs.Prelude.{◌≡◌, ◌&&◌, IsTrue, Some, filter, is_none};
+ghost use Rattle.std.specs.List.{find};
 ghost use Rattle.fedi_address.specs.Hosts.{is_host_text};
 ghost use Rattle.fedi_address.specs.Names.{is_name};
 ghost use Rattle.fedi_town.specs.declared.caller.Caller.TheVariants.{Actor};
-ghost use Rattle.fedi_town.specs.Built.{is_built};
-ghost use Rattle.fedi_town.specs.Legal.{broken_command, is_admissible, is_new_key, may_post};
+ghost use Rattle.fedi_town.specs.Legal.{broken_command, is_admissible, is_new_key, lacks, may_deliver, may_post};
 ghost use Rattle.fedi_town.specs.Rules.{broken_post};
-ghost use Rattle.fedi_town.specs.Towns.{id_of, is_by};
+ghost use Rattle.fedi_town.specs.Shapes.{is_delivered};
+ghost use Rattle.fedi_town.specs.Towns.{has_host, id_of, is_by};
 
 use fedi_address::{Host, Iri, LocalName};
-use fedi_effects::{Facts, judge_local};
+use fedi_effects::{Facts, judge_local, judge_tried};
+use fedi_inbound::{lacks, may_deliver};
 use fedi_objects::{Activity, Entry, RepeatKey};
-use fedi_shapes::is_posted;
+use fedi_shapes::{is_delivered, is_posted};
 
 // Whether the server may be set up for the host. A `Host` has no other text than that of one.
 fn may_be_set_up(facts: &Facts, host: &Host) -> bool
@@ -24,7 +26,6 @@ fn may_be_set_up(facts: &Facts, host: &Host) -> bool
 
 // Whether an operator's command breaks no rule.
 fn is_allowed(facts: &Facts, command: &Entry) -> bool
-    requires { IsTrue (is_built command.now) }
     ensures { result ≡ is_none (broken_command facts.now.town command.now) }
 {
     facts.judge_command(command).is_ok()
@@ -69,12 +70,25 @@ fn may_post(
     }
 }
 
-/// Whether an entry may come next in the history of these facts, as one that this server takes so far.
-/// It is set up once and first. A member has a name and a key that no member had before. A post is a
-/// member's, has the shape of one, breaks no rule (ActivityPub, section 6; that its author has fewer than
-/// 4,294,967,295 activities is the last), and comes under a key that is new.
+// Whether the peer of this host may deliver the activity to the inbox of the member of this name.
+fn may_be_delivered(facts: &Facts, peer: &Host, inbox: &LocalName, activity: &Activity) -> bool
+    ensures { result ≡ (is_delivered activity.now
+        && (may_deliver facts.now.town (find (has_host peer.now) facts.now.town.peers) activity.now
+        && lacks facts.now.town activity.now.id (id_of facts.now.town inbox.now))) }
+{
+    is_delivered(activity)
+        && may_deliver(facts, facts.peer(peer.text()), activity)
+        && lacks(facts, activity.id.as_ref(), facts.id_of(inbox))
+}
+
+/// Whether an entry may come next in the history of these facts. The server is set up once and first. A
+/// member has a name and a key that no member had before, and a peer another host than the server and any
+/// peer before, and an address. A post is a member's, has the shape of one, breaks no rule (ActivityPub,
+/// section 6; that its author has fewer than 4,294,967,295 activities is the last), and comes under a key
+/// that is new. A delivery has the shape of one, its peer may deliver it (section 7), and the member's inbox
+/// lacks it. An attempt is one to deliver what is due.
 pub fn may_come(facts: &Facts, entry: &Entry) -> bool
-    ensures { result ≡ (is_admissible facts.now.town entry.now && is_built entry.now) }
+    ensures { result ≡ is_admissible facts.now.town entry.now }
 {
     match entry {
         Entry::Hosted { host, .. } => {
@@ -85,12 +99,27 @@ pub fn may_come(facts: &Facts, entry: &Entry) -> bool
             let _ = name.text();
             facts.host().is_some() && is_allowed(facts, entry)
         }
+        Entry::PeerSet { host, .. } => {
+            let _ = host.text();
+            facts.host().is_some() && is_allowed(facts, entry)
+        }
         Entry::Local {
             name,
             repeat,
             activity,
             ..
         } => may_post(facts, name, repeat, activity.get()),
-        Entry::PeerSet { .. } | Entry::Remote { .. } | Entry::Tried { .. } => false,
+        Entry::Remote {
+            peer,
+            inbox,
+            activity,
+            ..
+        } => may_be_delivered(facts, peer, inbox, activity.get()),
+        Entry::Tried {
+            activity,
+            recipient,
+            moment,
+            ..
+        } => judge_tried(facts, activity, recipient, *moment),
     }
 }

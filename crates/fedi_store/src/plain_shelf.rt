@@ -2,10 +2,9 @@
 
 ghost use Rattle.std.specs.Prelude.{◌≡◌, ◌≤◌, ◌++◌, ◌∷◌, [], ◌+◌, ◌*◌, IfOk, IsTrue, None, OnErr, OnOk, Some, drop, length, map, slice_get, take};
 ghost use Rattle.fedi_effects.specs.Holdings.{Holding};
-ghost use Rattle.fedi_town.specs.Built.{is_built};
 ghost use Rattle.fedi_town.specs.Collections.{items, owner_of};
 ghost use Rattle.fedi_town.specs.Histories.{town};
-ghost use Rattle.fedi_town.specs.Legal.{is_admissible};
+ghost use Rattle.fedi_town.specs.Legal.{IsLegal, is_admissible};
 ghost use Rattle.fedi_town.specs.Towns.{empty_town};
 
 use crate::places::page;

@@ -3,11 +3,10 @@
 ghost use Rattle.std.specs.Prelude.{◌≡◌, ◌≤◌, ◌<◌, ◌+◌, ◌*◌, ◌/◌, ◌^◌, ◌++◌, ◌∷◌, [], ℕ, IsTrue, List, None, OnErr, OnOk, Some, drop, if◌then◌else◌, length, map, nat_eq, slice_get, take};
 ghost use Rattle.arrayvec.specs.ArrayVec.{array_vec_len};
 ghost use Rattle.fedi_effects.specs.Holdings.{Holding};
-ghost use Rattle.fedi_town.specs.Built.{is_built};
 ghost use Rattle.fedi_town.specs.declared.caller.Which.{Which};
 ghost use Rattle.fedi_town.specs.Collections.{items, owner_of};
 ghost use Rattle.fedi_town.specs.Histories.{town};
-ghost use Rattle.fedi_town.specs.Legal.{is_admissible};
+ghost use Rattle.fedi_town.specs.Legal.{IsLegal, is_admissible};
 
 use arrayvec::ArrayVec;
 use fedi_address::Iri;
@@ -76,7 +75,7 @@ pub trait Shelf {
     /// Makes room for an entry that may come next, with all that it adds. After an error, out of memory,
     /// there is room for none, and all else is as before.
     fn reserve(&mut self, alloc: Global, entry: &Entry) -> Result<(), AllocError>
-        requires built { IsTrue (is_built entry.now) }
+        requires legal { IsLegal (holding self.old).history }
         requires admissible { IsTrue (is_admissible (holding self.old).town entry.now) }
         ensures ok { OnOk result
             (holding self.new ≡ record (holding self.old) { room = Some entry.now }) }

@@ -1,7 +1,7 @@
 use Rattle.std.proofs.Common.{◌≡◌, Some, arith, sym, ◌∙◌}
 use Rattle.std.proofs.lemmas.List.{length-map}
-use Rattle.fedi_index.specs.Lists.{first_from, is_list, listing_in, listings}
-use Rattle.fedi_index.proofs.Found.{first-within, none_room, one_added, pushed_marks, room_there}
+use Rattle.fedi_index.specs.Lists.{at_end, first_from, is_list, listing_in, listings}
+use Rattle.fedi_index.proofs.Found.{first-within, grown_marks, none_room, one_added, room_there}
 use Rattle.fedi_index.proofs.lists.Lists.push.Goals as goal
 
 pub unreachable-requires : goal.unreachable-requires
@@ -20,9 +20,9 @@ push_at-requires-clause-room c =
     room_there c.args.collection c.args.owner.now (listings c.self.inside.rows.items) c.in-Some.at (rw (← c.self.view_is) at c.requires) (rw (← c.deref.ensures.value, ← c.place_of.ensures) c.in-Some.is)
 
 pub invariant_of-self : goal.invariant_of-self
-invariant_of-self c = c.self.invariant ∙ rw c.push_at.ensures (sym (pushed_marks c.self.inside.seed c.in-Some.at c.args.place 0 (listings c.self.inside.rows.items)))
+invariant_of-self c = c.self.invariant ∙ rw c.push_at.ensures (sym (grown_marks c.self.inside.seed c.in-Some.at (at_end c.args.place) 0 (listings c.self.inside.rows.items)))
 
 pub returns : goal.returns
 returns c =
     rw (← c.self.view_is, c.push_at.ensures)
-    (one_added c.args.collection c.args.owner.now c.args.place c.in-Some.at (listings c.self.inside.rows.items) (rw (← c.deref.ensures.value, ← c.place_of.ensures) c.in-Some.is))
+    (one_added c.args.collection c.args.owner.now (at_end c.args.place) c.in-Some.at (listings c.self.inside.rows.items) (rw (← c.deref.ensures.value, ← c.place_of.ensures) c.in-Some.is))
