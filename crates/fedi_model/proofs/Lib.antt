@@ -3,3 +3,4 @@ pub mod Delivered
 pub mod Posted
 pub mod PostedActivity
 pub mod Private
+pub mod SignedRequests

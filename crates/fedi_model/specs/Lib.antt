@@ -12,4 +12,5 @@ pub mod Replies
 pub mod ReplyText
 pub mod Cleanness
 pub mod Answers
+pub mod SignedRequests
 pub mod Memory

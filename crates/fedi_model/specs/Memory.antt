@@ -1,15 +1,21 @@
--- Which asks take memory to be answered.
-use Rattle.std.specs.Prelude.{Bool, true, false, not, ◌||◌}
+-- Which callers take memory to be found, and which asks to be answered.
+use Rattle.std.specs.Prelude.{Bool, true, false, not, ◌||◌, Result, Ok, Err}
 use Rattle.fedi_asks.specs.declared.ask.Ask.{Ask}
 use Rattle.fedi_asks.specs.declared.ask.Ask.TheVariants.{Nowhere, WrongMethod, Webfinger, Actor, Collection, Activity, Object, Outbox, Inbox}
 use Rattle.fedi_asks.specs.declared.ask.PageAsk.{PageAsk}
 use Rattle.fedi_asks.specs.Answers.{Answer, Refuse, Misshape, Disallow, Document, Profile, Tombstone, Created, Accepted}
 use Rattle.fedi_asks.specs.Asks.{answer_of}
-use Rattle.fedi_asks.specs.Reading.{is_malformed}
+use Rattle.fedi_asks.specs.Reading.{is_malformed, is_peer}
+use Rattle.fedi_town.specs.declared.refusal.Refusal.{Refusal}
 use Rattle.fedi_town.specs.declared.caller.Caller.{Caller}
 use Rattle.fedi_town.specs.declared.caller.Which.{Which}
 use Rattle.fedi_town.specs.declared.caller.Which.TheVariants.{Inbox as inbox, Outbox as outbox, Followers, Following, Liked, Likes, Shares}
 use Rattle.fedi_town.specs.Towns.{Town}
+
+-- the caller is a peer, whose host is copied
+abbrev pub copies_host : Result Caller Refusal → Bool
+copies_host (Ok c) = is_peer c
+copies_host (Err refusal) = false
 
 -- the answer is that what was asked is refused
 abbrev pub is_refused : Answer → Bool

@@ -1,12 +1,12 @@
 -- What a request asks for, by its path and then by its method (RFC 9110, section 9.3; ActivityPub, sections 3.2 and 6).
-use Rattle.std.specs.Prelude.{◌≡◌, ℕ, ◌==◌, Bool, false, ◌&&◌, ◌||◌, ◌⊎◌, is_none, if◌then◌else◌, List, map, replicate, codes, bytes_eq, MatchBool, Option, Some, None, Ok, Err}
+use Rattle.std.specs.Prelude.{◌≡◌, ℕ, ◌==◌, Bool, false, ◌&&◌, ◌||◌, ◌⊎◌, is_none, if◌then◌else◌, List, map, replicate, codes, bytes_eq, MatchBool, Option, Some, None, Result, Ok, Err}
 use Rattle.std.specs.Char.{to_ascii_lowercase}
 use Rattle.std.specs.List.{before_first}
 use Rattle.serde_json.specs.Data.{Data}
 use Rattle.sha2.specs.Sha256.{sha256}
 use Rattle.fedi_asks.specs.Asks.{IsPostable}
 use Rattle.fedi_asks.specs.declared.ask.Ask.{Ask}
-use Rattle.fedi_asks.specs.declared.ask.Ask.TheVariants.{Nowhere, WrongMethod, Webfinger, Actor, Collection, Activity, Object, Outbox}
+use Rattle.fedi_asks.specs.declared.ask.Ask.TheVariants.{Nowhere, WrongMethod, Webfinger, Actor, Collection, Activity, Object, Outbox, Inbox}
 use Rattle.fedi_asks.specs.declared.post.KeyAsk.{KeyAsk}
 use Rattle.fedi_asks.specs.declared.post.KeyAsk.TheVariants.{Absent, Malformed, Given}
 use Rattle.fedi_asks.specs.declared.post.Post.{Post}
@@ -14,7 +14,10 @@ use Rattle.fedi_asks.specs.declared.post.Read.{Read}
 use Rattle.fedi_asks.specs.declared.post.Read.TheVariants.{NotJson, Bad, Ready}
 use Rattle.fedi_reading.specs.Bodies.{IsBodyOf}
 use Rattle.fedi_objects.specs.Keys.{is_repeat_key}
+use Rattle.fedi_objects.specs.declared.activity.Activity as activities
 use Rattle.fedi_reading.specs.Activities.{reads_activity}
+use Rattle.fedi_reading.specs.Deliveries.{reads_delivered}
+use Rattle.fedi_reading.specs.declared.shape_fault.ShapeFault.{ShapeFault}
 use Rattle.fedi_objects.specs.declared.entry.Entry.{Entry}
 use Rattle.fedi_town.specs.Histories.{town}
 use Rattle.fedi_town.specs.Ids.{actor_id}
@@ -50,19 +53,19 @@ abbrev pub is_typed : Option (List ℕ) → Bool
 is_typed None = false
 is_typed (Some value) = is_read_type (media_type value)
 
--- what is read of a body that the author posts
-abbrev pub ReadsBody : List ℕ → List ℕ → Read → Type 0
-ReadsBody author body NotJson = (d : Data) → ¬ (IsBodyOf body d)
-ReadsBody author body (Bad fault) = (d : Data) × IsBodyOf body d × (reads_activity author d ≡ Err fault)
-ReadsBody author body (Ready a) = (d : Data) × IsBodyOf body d × (reads_activity author d ≡ Ok a)
+-- what is read of a body that is no JSON, or whose value this reading gives an activity or a fault of its shape
+abbrev pub ReadsBody : (Data → Result activities.Activity ShapeFault) → List ℕ → Read → Type 0
+ReadsBody reads body NotJson = (d : Data) → ¬ (IsBodyOf body d)
+ReadsBody reads body (Bad fault) = (d : Data) × IsBodyOf body d × (reads d ≡ Err fault)
+ReadsBody reads body (Ready a) = (d : Data) × IsBodyOf body d × (reads d ≡ Ok a)
 
 -- the request shows nothing of who makes it
 abbrev pub is_anonymous : Request → Bool
 is_anonymous q = is_none q.fields.authorization && (is_none q.fields.peer_host && is_none q.fields.peer_mac)
 
--- What is read of the author's post. Of one that shows nothing of who makes it nothing is: nobody may post, whatever it holds.
-abbrev pub ReadsPost : Request → List ℕ → List ℕ → Read → Type 0
-ReadsPost q author body read = MatchBool (is_anonymous q) (read ≡ NotJson) (ReadsBody author body read)
+-- What is read of a post. Of one that shows nothing of who makes it nothing is: nobody may post, whatever it holds.
+abbrev pub ReadsPost : (Data → Result activities.Activity ShapeFault) → Request → List ℕ → Read → Type 0
+ReadsPost reads q body read = MatchBool (is_anonymous q) (read ≡ NotJson) (ReadsBody reads body read)
 
 -- the key under which the post is repeated (the field Idempotency-Key): 1 to 64 bytes 33 to 126
 abbrev pub repeat_key : Option (List ℕ) → KeyAsk
@@ -84,7 +87,15 @@ pub record IsPost (q : Request) (author body : List ℕ) (post : Post) : Type 0 
   pub typed : post.is_typed ≡ is_typed q.fields.content_type
   pub key : post.key ≡ repeat_key q.fields.idempotency_key
   pub digest : post.digest ≡ digest_under post.key body
-  pub read : ReadsPost q author body post.read
+  pub read : ReadsPost (reads_activity author) q body post.read
+
+-- The delivery that a request with this body makes (ActivityPub, section 7). It has no key: the id of its activity tells
+-- whether it is a repeat.
+pub record IsDelivery (q : Request) (body : List ℕ) (post : Post) : Type 0 where
+  pub typed : post.is_typed ≡ is_typed q.fields.content_type
+  pub key : post.key ≡ Absent
+  pub digest : post.digest ≡ no_digest
+  pub read : ReadsPost reads_delivered q body post.read
 
 -- ---- asks
 
@@ -105,11 +116,15 @@ abbrev pub PostsAs : Option (List ℕ) → Request → List ℕ → List ℕ →
 PostsAs None q body name ask = ask ≡ Nowhere
 PostsAs (Some host) q body name ask = (post : Post) × IsPost q (actor_id host name) body post × (ask ≡ Outbox name post)
 
--- What is asked for by posting to what stands there: members post to their outboxes (ActivityPub, section 6). What other
--- servers deliver to inboxes (section 7) is not taken yet.
+-- what is asked for by posting to the inbox of this name
+abbrev pub DeliversTo : Request → List ℕ → List ℕ → Ask → Type 0
+DeliversTo q body name ask = (post : Post) × IsDelivery q body post × (ask ≡ Inbox name post)
+
+-- What is asked for by posting to what stands there: members post to their outboxes (ActivityPub, section 6), and other
+-- servers deliver to inboxes (section 7).
 abbrev pub PostsTo : Option (List ℕ) → Request → List ℕ → Place → Ask → Type 0
 PostsTo host q body (place.Collection (which.Outbox name)) ask = PostsAs host q body name ask
-PostsTo host q body (place.Collection (which.Inbox name)) ask = ask ≡ Nowhere
+PostsTo host q body (place.Collection (which.Inbox name)) ask = DeliversTo q body name ask
 PostsTo host q body there ask = ask ≡ refused_at there
 
 -- what a request for what stands there asks for, by its method
@@ -128,6 +143,6 @@ Asks host q body ask =
 abbrev pub IsAskedOnce : Option (List ℕ) → Request → List ℕ → Type 0
 IsAskedOnce host q body = (a b : Ask) → Asks host q body a → Asks host q body b → a ≡ b
 
--- it holds what the members of a legal history at this host may post
+-- it holds what the members of a legal history at this host may post, or what other servers may deliver
 abbrev pub IsPostableAt : Option (List ℕ) → Ask → Type 0
 IsPostableAt host ask = (history : List Entry) → IsLegal history → (town history).host ≡ host → IsPostable (town history) ask

@@ -17,6 +17,7 @@ ghost use Rattle.fedi_town.specs.declared.refusal.Refusal.{Refusal};
 ghost use Rattle.fedi_model.specs.Cleanness.{IsCleanBody};
 ghost use Rattle.fedi_model.specs.Refusing.{refused};
 ghost use Rattle.fedi_model.specs.Replies.{reply};
+ghost use Rattle.fedi_model.specs.SignedRequests.{SignedDelivery};
 
 /// Legal histories that agree for a caller give the caller the same reply, whatever else stands in them.
 #[tactic(auto, using(crate::proofs::Private::replies_agree))]
@@ -49,4 +50,11 @@ pub fn what_is_read_may_be_posted()
 #[tactic(auto, using(crate::proofs::Delivered::delivery_is_delivered))]
 pub fn what_is_read_may_be_delivered()
     ensures { (d : Data) (a : Activity) → reads_delivered d ≡ Ok a → IsTrue (is_delivered a) }
+{}
+
+/// A peer is the caller of a request that it signed. With another code, another body, another host or
+/// one field less the request is refused.
+#[tactic(auto, using(crate::proofs::SignedRequests::signed_delivery))]
+pub fn a_delivery_is_signed()
+    ensures { SignedDelivery }
 {}

@@ -14,8 +14,8 @@ pub use credentials::{Credentials, Signed};
 pub use fedi_asks::{Allow, Ask, KeyAsk, PageAsk, Post, Read, Resource};
 pub use fedi_town::{Act, Actor, Caller, Refusal, Which};
 pub use laws::{
-    refusals_are_clean, replies_are_clean, replies_are_private, what_is_read_may_be_delivered,
-    what_is_read_may_be_posted,
+    a_delivery_is_signed, refusals_are_clean, replies_are_clean, replies_are_private,
+    what_is_read_may_be_delivered, what_is_read_may_be_posted,
 };
 pub use place::Place;
 pub use refusal::{refusal_body, refusal_status};

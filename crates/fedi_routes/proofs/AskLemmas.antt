@@ -1,81 +1,86 @@
--- What a request asks for is one thing at most, and one that is built.
+-- What a request asks for is one thing at most, and holds what may be posted.
 use Rattle.std.proofs.Common.{◌≡◌, ℕ, List, Bool, true, false, Option, Some, None, Ok, Err, inl, inr, refl, sym, ◌∙◌, ap, subst}
-use Rattle.std.specs.Prelude.{Result, IfOk, IsTrue, MatchBool}
+use Rattle.std.specs.Prelude.{Result, IfOk, MatchBool}
 use Rattle.serde_json.specs.Data.{Data}
 use Rattle.fedi_asks.specs.declared.ask.Ask.{Ask}
-use Rattle.fedi_asks.specs.declared.ask.Ask.TheVariants.{Outbox}
+use Rattle.fedi_asks.specs.declared.ask.Ask.TheVariants.{Outbox, Inbox}
 use Rattle.fedi_asks.specs.declared.post.KeyAsk.{KeyAsk}
 use Rattle.fedi_asks.specs.declared.post.Post.{Post}
 use Rattle.fedi_asks.specs.declared.post.Read.{Read}
 use Rattle.fedi_asks.specs.declared.post.Read.TheVariants.{NotJson, Bad, Ready}
 use Rattle.fedi_asks.specs.Asks.{IsRead, IsReadFor}
-use Rattle.fedi_asks.specs.Built.{is_built_ask}
-use Rattle.fedi_town.specs.Shapes.{is_posted}
+use Rattle.fedi_town.specs.Shapes.{is_posted, is_delivered}
 use Rattle.fedi_town.specs.Histories.{town}
 use Rattle.fedi_town.specs.Ids.{actor_id}
 use Rattle.fedi_town.specs.Towns.{id_of}
 use Rattle.fedi_town.specs.declared.caller.Which.TheVariants as which
-use Rattle.fedi_reading.specs.Bodies.{IsBodyOf}
+use Rattle.fedi_objects.specs.declared.activity.Activity as activities
+use Rattle.fedi_reading.specs.Activities.{reads_activity}
+use Rattle.fedi_reading.specs.Deliveries.{reads_delivered}
+use Rattle.fedi_reading.specs.declared.shape_fault.ShapeFault.{ShapeFault}
 use Rattle.fedi_laws.proofs.Naming.{members_have_ids}
+use Rattle.fedi_model.proofs.Delivered.{delivery_is_delivered}
 use Rattle.fedi_model.proofs.PostedActivity.{activity_is_posted}
 use Rattle.fedi_model.specs.Requests.{is_post, is_reading}
-use Rattle.fedi_model.specs.Routes.{path_of, digest_under, is_anonymous, ReadsBody, ReadsPost, IsPost, read_at, refused_at, PostsAs, PostsTo, AsksAt, IsAskedOnce, IsPostableAt}
+use Rattle.fedi_model.specs.Routes.{path_of, digest_under, is_anonymous, ReadsBody, ReadsPost, IsPost, IsDelivery, read_at, refused_at, PostsAs, DeliversTo, PostsTo, AsksAt, IsAskedOnce, IsPostableAt}
 use Rattle.fedi_model.specs.Queries.{query_of}
 use Rattle.fedi_model.specs.declared.place.Place.{Place}
 use Rattle.fedi_model.specs.declared.place.Place.TheVariants.{Webfinger, Actor, Collection, Activity, Object}
 use Rattle.fedi_model.specs.declared.request.Request.{Request}
-use Rattle.fedi_routes.specs.Posts.{ReadsValue}
 use Rattle.fedi_routes.proofs.PlaceLemmas.{place_once}
 
 -- ---- posts
 
--- what is read of the value of a body is read of the body
-pub reads_body : (author body : List ℕ) (d : Data) (read : Read) → IsBodyOf body d → ReadsValue author d read → ReadsBody author body read
-reads_body author body d NotJson is h = absurd h
-reads_body author body d (Bad fault) is h = (d, is, h)
-reads_body author body d (Ready a) is h = (d, is, h)
+body_once : (reads : Data → Result activities.Activity ShapeFault) (body : List ℕ) (x y : Read) → ReadsBody reads body x → ReadsBody reads body y → x ≡ y
+body_once reads body NotJson NotJson x y = refl
+body_once reads body NotJson (Bad fault) x y = absurd (x y.0 y.1)
+body_once reads body NotJson (Ready a) x y = absurd (x y.0 y.1)
+body_once reads body (Bad fault) NotJson x y = absurd (y x.0 x.1)
+body_once reads body (Ready a) NotJson x y = absurd (y x.0 x.1)
+body_once reads body (Bad fault) (Bad other) x y = cc
+body_once reads body (Bad fault) (Ready a) x y = cc
+body_once reads body (Ready a) (Bad fault) x y = cc
+body_once reads body (Ready a) (Ready other) x y = cc
 
-body_once : (author body : List ℕ) (x y : Read) → ReadsBody author body x → ReadsBody author body y → x ≡ y
-body_once author body NotJson NotJson x y = refl
-body_once author body NotJson (Bad fault) x y = absurd (x y.0 y.1)
-body_once author body NotJson (Ready a) x y = absurd (x y.0 y.1)
-body_once author body (Bad fault) NotJson x y = absurd (y x.0 x.1)
-body_once author body (Ready a) NotJson x y = absurd (y x.0 x.1)
-body_once author body (Bad fault) (Bad other) x y = cc
-body_once author body (Bad fault) (Ready a) x y = cc
-body_once author body (Ready a) (Bad fault) x y = cc
-body_once author body (Ready a) (Ready other) x y = cc
-
-read_once : (q : Request) (author body : List ℕ) (x y : Read) → ReadsPost q author body x → ReadsPost q author body y → x ≡ y
-read_once q author body x y = by (is_anonymous q)
+read_once : (reads : Data → Result activities.Activity ShapeFault) (q : Request) (body : List ℕ) (x y : Read) → ReadsPost reads q body x → ReadsPost reads q body y → x ≡ y
+read_once reads q body x y = by (is_anonymous q)
   where
-    by : (b : Bool) → MatchBool b (x ≡ NotJson) (ReadsBody author body x) → MatchBool b (y ≡ NotJson) (ReadsBody author body y) → x ≡ y
+    by : (b : Bool) → MatchBool b (x ≡ NotJson) (ReadsBody reads body x) → MatchBool b (y ≡ NotJson) (ReadsBody reads body y) → x ≡ y
     by true h k = h ∙ sym k
-    by false h k = body_once author body x y h k
+    by false h k = body_once reads body x y h k
 
 abbrev post_with : Bool → KeyAsk → List ℕ → Read → Post
 post_with typed key digest read = record { is_typed = typed; key = key; digest = digest; read = read }
 
-post_once : (q : Request) (author body : List ℕ) (x y : Post) → IsPost q author body x → IsPost q author body y → x ≡ y
-post_once q author body x y a b =
-    let typed : x.is_typed ≡ y.is_typed = a.typed ∙ sym b.typed in
-    let key : x.key ≡ y.key = a.key ∙ sym b.key in
-    let digest : x.digest ≡ y.digest = a.digest ∙ ap (λ (k : KeyAsk). digest_under k body) key ∙ sym b.digest in
-    let read : x.read ≡ y.read = read_once q author body x.read y.read a.read b.read in
+same_post : (x y : Post) → x.is_typed ≡ y.is_typed → x.key ≡ y.key → x.digest ≡ y.digest → x.read ≡ y.read → x ≡ y
+same_post x y typed key digest read =
     let same : post_with x.is_typed x.key x.digest x.read ≡ post_with y.is_typed y.key y.digest y.read = cc in same
 
--- what is read as an activity is one that its author may post
-body_postable : (author body : List ℕ) (read : Read) → ReadsBody author body read → IsRead (is_posted author) read
-body_postable author body NotJson h = tt
-body_postable author body (Bad fault) h = tt
-body_postable author body (Ready a) h = activity_is_posted h.0 a author h.2
+post_once : (q : Request) (author body : List ℕ) (x y : Post) → IsPost q author body x → IsPost q author body y → x ≡ y
+post_once q author body x y a b =
+    let key : x.key ≡ y.key = a.key ∙ sym b.key in
+    same_post x y (a.typed ∙ sym b.typed) key (a.digest ∙ ap (λ (k : KeyAsk). digest_under k body) key ∙ sym b.digest)
+    (read_once (reads_activity author) q body x.read y.read a.read b.read)
 
-read_postable : (q : Request) (author body : List ℕ) (read : Read) → ReadsPost q author body read → IsRead (is_posted author) read
-read_postable q author body read = by (is_anonymous q)
+delivery_once : (q : Request) (body : List ℕ) (x y : Post) → IsDelivery q body x → IsDelivery q body y → x ≡ y
+delivery_once q body x y a b =
+    same_post x y (a.typed ∙ sym b.typed) (a.key ∙ sym b.key) (a.digest ∙ sym b.digest)
+    (read_once reads_delivered q body x.read y.read a.read b.read)
+
+-- what is read as an activity passes a test that each activity passes which the reading gives
+body_passes : (reads : Data → Result activities.Activity ShapeFault) (test : activities.Activity → Bool) → ((d : Data) (a : activities.Activity) → reads d ≡ Ok a → test a ≡ true)
+    → (body : List ℕ) (read : Read) → ReadsBody reads body read → IsRead test read
+body_passes reads test passes body NotJson h = tt
+body_passes reads test passes body (Bad fault) h = tt
+body_passes reads test passes body (Ready a) h = passes h.0 a h.2
+
+read_passes : (reads : Data → Result activities.Activity ShapeFault) (test : activities.Activity → Bool) → ((d : Data) (a : activities.Activity) → reads d ≡ Ok a → test a ≡ true)
+    → (q : Request) (body : List ℕ) (read : Read) → ReadsPost reads q body read → IsRead test read
+read_passes reads test passes q body read = by (is_anonymous q)
   where
-    by : (b : Bool) → MatchBool b (read ≡ NotJson) (ReadsBody author body read) → IsRead (is_posted author) read
-    by true h = subst (λ (r : Read). IsRead (is_posted author) r) (sym h) tt
-    by false h = body_postable author body read h
+    by : (b : Bool) → MatchBool b (read ≡ NotJson) (ReadsBody reads body read) → IsRead test read
+    by true h = subst (λ (r : Read). IsRead test r) (sym h) tt
+    by false h = body_passes reads test passes body read h
 
 read_for : (author : List ℕ) (id : Option (List ℕ)) (read : Read) → ((own : List ℕ) → id ≡ Some own → own ≡ author)
     → IsRead (is_posted author) read → IsReadFor id read
@@ -85,57 +90,49 @@ read_for author (Some own) read same h = subst (λ (a : List ℕ). IsRead (is_po
 -- ---- asks
 
 -- what is asked for at a place holds nothing but what was read of a post
-pub record IsSound (host : Option (List ℕ)) (ask : Ask) : Type 0 where
-  pub postable : IsPostableAt host ask
-  pub built : is_built_ask ask ≡ true
+read_at_postable : (host : Option (List ℕ)) (query : List ℕ) (there : Place) → IsPostableAt host (read_at host query there)
+read_at_postable host query Webfinger = λ h legal hosted. tt
+read_at_postable host query (Actor name) = λ h legal hosted. tt
+read_at_postable host query (Collection which) = λ h legal hosted. tt
+read_at_postable host query (Activity name number) = λ h legal hosted. tt
+read_at_postable host query (Object name number) = λ h legal hosted. tt
 
-read_sound : (host : Option (List ℕ)) (query : List ℕ) (there : Place) → IsSound host (read_at host query there)
-read_sound host query Webfinger = record { postable = λ h legal hosted. tt; built = refl }
-read_sound host query (Actor name) = record { postable = λ h legal hosted. tt; built = refl }
-read_sound host query (Collection which) = record { postable = λ h legal hosted. tt; built = refl }
-read_sound host query (Activity name number) = record { postable = λ h legal hosted. tt; built = refl }
-read_sound host query (Object name number) = record { postable = λ h legal hosted. tt; built = refl }
+refused_postable : (host : Option (List ℕ)) (there : Place) → IsPostableAt host (refused_at there)
+refused_postable host there = λ h legal hosted. tt
 
-refused_sound : (host : Option (List ℕ)) (there : Place) → IsSound host (refused_at there)
-refused_sound host there = record { postable = λ h legal hosted. tt; built = refl }
+outbox_postable : (host : List ℕ) (q : Request) (body name : List ℕ) (post : Post) → IsPost q (actor_id host name) body post
+    → IsPostableAt (Some host) (Outbox name post)
+outbox_postable host q body name post h = λ history legal hosted.
+    read_for (actor_id host name) (id_of (town history) name) post.read
+    (λ own is. (members_have_ids history host name own legal hosted is).1)
+    (read_passes (reads_activity (actor_id host name)) (is_posted (actor_id host name)) (λ d a is. activity_is_posted d a (actor_id host name) is)
+    q body post.read h.read)
 
-outbox_sound : (host : List ℕ) (q : Request) (body name : List ℕ) (post : Post) → IsPost q (actor_id host name) body post
-    → IsSound (Some host) (Outbox name post)
-outbox_sound host q body name post h = record {
-  postable = λ history legal hosted.
-      read_for (actor_id host name) (id_of (town history) name) post.read
-      (λ own is. (members_have_ids history host name own legal hosted is).1)
-      (read_postable q (actor_id host name) body post.read h.read);
-  built = refl;
-}
+inbox_postable : (host : Option (List ℕ)) (q : Request) (body name : List ℕ) (post : Post) → IsDelivery q body post → IsPostableAt host (Inbox name post)
+inbox_postable host q body name post h = λ history legal hosted. read_passes reads_delivered is_delivered delivery_is_delivered q body post.read h.read
 
-posted_as : (host : Option (List ℕ)) (q : Request) (body name : List ℕ) (ask : Ask) → PostsAs host q body name ask → IsSound host ask
-posted_as None q body name ask h = subst (IsSound None) (sym h) (record { postable = λ h legal hosted. tt; built = refl })
-posted_as (Some host) q body name ask h = subst (IsSound (Some host)) (sym h.2) (outbox_sound host q body name h.0 h.1)
+posted_as : (host : Option (List ℕ)) (q : Request) (body name : List ℕ) (ask : Ask) → PostsAs host q body name ask → IsPostableAt host ask
+posted_as None q body name ask h = subst (IsPostableAt None) (sym h) (λ h legal hosted. tt)
+posted_as (Some host) q body name ask h = subst (IsPostableAt (Some host)) (sym h.2) (outbox_postable host q body name h.0 h.1)
 
-posted_sound : (host : Option (List ℕ)) (q : Request) (body : List ℕ) (there : Place) (ask : Ask) → PostsTo host q body there ask → IsSound host ask
-posted_sound host q body (Collection (which.Outbox name)) ask h = posted_as host q body name ask h
-posted_sound host q body (Collection (which.Inbox name)) ask h = subst (IsSound host) (sym h) (record { postable = λ h legal hosted. tt; built = refl })
-posted_sound host q body there ask h = subst (IsSound host) (sym h) (refused_sound host there)
+posted_postable : (host : Option (List ℕ)) (q : Request) (body : List ℕ) (there : Place) (ask : Ask) → PostsTo host q body there ask → IsPostableAt host ask
+posted_postable host q body (Collection (which.Outbox name)) ask h = posted_as host q body name ask h
+posted_postable host q body (Collection (which.Inbox name)) ask h = subst (IsPostableAt host) (sym h.2) (inbox_postable host q body name h.0 h.1)
+posted_postable host q body there ask h = subst (IsPostableAt host) (sym h) (refused_postable host there)
 
-sound_at : (host : Option (List ℕ)) (q : Request) (body : List ℕ) (there : Place) (ask : Ask) → AsksAt host q body there ask → IsSound host ask
-sound_at host q body there ask = by (is_reading q.method) (is_post q.method)
+postable_at : (host : Option (List ℕ)) (q : Request) (body : List ℕ) (there : Place) (ask : Ask) → AsksAt host q body there ask → IsPostableAt host ask
+postable_at host q body there ask = by (is_reading q.method) (is_post q.method)
   where
     by : (reads posts : Bool) → MatchBool reads (ask ≡ read_at host (query_of q.target) there)
-        (MatchBool posts (PostsTo host q body there ask) (ask ≡ refused_at there)) → IsSound host ask
-    by true posts h = subst (IsSound host) (sym h) (read_sound host (query_of q.target) there)
-    by false true h = posted_sound host q body there ask h
-    by false false h = subst (IsSound host) (sym h) (refused_sound host there)
+        (MatchBool posts (PostsTo host q body there ask) (ask ≡ refused_at there)) → IsPostableAt host ask
+    by true posts h = subst (IsPostableAt host) (sym h) (read_at_postable host (query_of q.target) there)
+    by false true h = posted_postable host q body there ask h
+    by false false h = subst (IsPostableAt host) (sym h) (refused_postable host there)
 
 pub postable : {E : Type 0} (host : Option (List ℕ)) (q : Request) (body : List ℕ) (there : Place) (r : Result Ask E)
     → IfOk r (λ ask. AsksAt host q body there ask) → IfOk r (λ ask. IsPostableAt host ask)
-postable host q body there (Ok ask) h = (sound_at host q body there ask h).postable
+postable host q body there (Ok ask) h = postable_at host q body there ask h
 postable host q body there (Err e) h = tt
-
-pub built : {E : Type 0} (host : Option (List ℕ)) (q : Request) (body : List ℕ) (there : Place) (r : Result Ask E)
-    → IfOk r (λ ask. AsksAt host q body there ask) → IfOk r (λ ask. IsTrue (is_built_ask ask))
-built host q body there (Ok ask) h = (sound_at host q body there ask h).built
-built host q body there (Err e) h = tt
 
 -- ---- one request, one ask
 
@@ -144,9 +141,13 @@ outbox_once None q body name a b x y = x ∙ sym y
 outbox_once (Some host) q body name a b x y =
     x.2 ∙ (ap (λ (p : Post). Outbox name p) (post_once q (actor_id host name) body x.0 y.0 x.1 y.1) ∙ sym y.2)
 
+inbox_once : (q : Request) (body name : List ℕ) (a b : Ask) → DeliversTo q body name a → DeliversTo q body name b → a ≡ b
+inbox_once q body name a b x y = x.2 ∙ (ap (λ (p : Post). Inbox name p) (delivery_once q body x.0 y.0 x.1 y.1) ∙ sym y.2)
+
 posted_once : (host : Option (List ℕ)) (q : Request) (body : List ℕ) (there : Place) (a b : Ask) → PostsTo host q body there a
     → PostsTo host q body there b → a ≡ b
 posted_once host q body (Collection (which.Outbox name)) a b x y = outbox_once host q body name a b x y
+posted_once host q body (Collection (which.Inbox name)) a b x y = inbox_once q body name a b x y
 posted_once host q body there a b x y = x ∙ sym y
 
 once_at : (host : Option (List ℕ)) (q : Request) (body : List ℕ) (there : Place) (a b : Ask) → AsksAt host q body there a → AsksAt host q body there b → a ≡ b

@@ -4,6 +4,7 @@ pub mod Exact
 pub mod NumberLemmas
 pub mod PathTexts
 pub mod PlaceLemmas
+pub mod PostLemmas
 pub mod Rows
 pub mod TextLemmas
 pub mod WebfingerLemmas

@@ -14,12 +14,13 @@ has_query place.Webfinger = true
 has_query (place.Collection which) = true
 has_query there = false
 
--- an outbox is posted to
+-- outboxes and inboxes are posted to
 abbrev pub has_posts : Place → Bool
 has_posts (place.Collection (which.Outbox name)) = true
+has_posts (place.Collection (which.Inbox name)) = true
 has_posts there = false
 
--- a query of WebFinger or of a collection, and a post to an outbox
+-- a query of WebFinger or of a collection, and a post to an outbox or an inbox
 abbrev pub needs_memory : List ℕ → Place → Bool
 needs_memory method there = (is_reading method && has_query there) || (is_post method && has_posts there)
 

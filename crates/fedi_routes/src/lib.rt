@@ -17,4 +17,4 @@ mod webfinger;
 pub use documents::{write_actor, write_jrd};
 pub use router::Routes;
 pub use routes::route;
-pub use shown::credentials;
+pub use shown::{credentials, is_signed};

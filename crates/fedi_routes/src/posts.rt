@@ -1,23 +1,24 @@
-//! What a post holds (ActivityPub, section 6).
+//! What a post holds (ActivityPub, sections 6 and 7).
 
-ghost use Rattle.std.specs.Prelude.{◌≡◌, ◌&&◌, is_none, map, IfOk};
+ghost use Rattle.std.specs.Prelude.{◌≡◌, ◌≢◌, ◌&&◌, is_none, map, option_map, Err, IfOk, OnOk};
 ghost use Rattle.std.specs.Char.{to_ascii_lowercase};
 ghost use Rattle.serde_json.specs.View.{view};
 ghost use Rattle.fedi_model.specs.Routes as model;
-ghost use Rattle.fedi_routes.specs.Posts.{ReadsValue};
+ghost use Rattle.fedi_routes.specs.Posts.{HoldsValue, read_of};
 
 use crate::texts::up_to;
 use fedi_address::Iri;
 use fedi_http::{is_same_name, without_back_blanks};
 use fedi_mac::digest;
 use fedi_model::{Fields, KeyAsk, Post, Read, Request};
-use fedi_objects::{Boxed, RepeatKey};
-use fedi_reading::{BodyFault, ShapeFault, read_activity, read_body};
+use fedi_objects::{Activity, Boxed, RepeatKey};
+use fedi_reading::{BodyFault, ShapeFault, read_activity, read_body, read_delivered};
 use serde_json::Value;
 use std::alloc::{AllocError, Global};
 
 /// The post that the request with this body makes for the author's outbox. The error is that there is
 /// no memory for it.
+#[tactic(auto, using(crate::proofs::PostLemmas::value_read, crate::proofs::PostLemmas::nothing_read))]
 pub(crate) fn post_of(
     alloc: Global,
     request: &Request,
@@ -26,13 +27,34 @@ pub(crate) fn post_of(
 ) -> Result<Post, AllocError>
     ensures { IfOk result (λ post. model.IsPost request.now author.now body.now post) }
 {
-    let read = read_of(alloc, request, body, author)?;
+    let read = match value_of(alloc, request, body)? {
+        Some(value) => read_as(alloc, read_activity(alloc, &value, author))?,
+        None => Read::NotJson,
+    };
     let key = key_of(&request.fields);
     let digest = digest_under(&key, body);
     Ok(Post {
         is_typed: is_typed(&request.fields),
         key,
         digest,
+        read,
+    })
+}
+
+/// The delivery that the request with this body makes to an inbox (ActivityPub, section 7). The error is
+/// that there is no memory for it.
+#[tactic(auto, using(crate::proofs::PostLemmas::value_read, crate::proofs::PostLemmas::nothing_read))]
+pub(crate) fn delivery_of(alloc: Global, request: &Request, body: &[u8]) -> Result<Post, AllocError>
+    ensures { IfOk result (λ post. model.IsDelivery request.now body.now post) }
+{
+    let read = match value_of(alloc, request, body)? {
+        Some(value) => read_as(alloc, read_delivered(alloc, &value))?,
+        None => Read::NotJson,
+    };
+    Ok(Post {
+        is_typed: is_typed(&request.fields),
+        key: KeyAsk::Absent,
+        digest: [0; 32],
         read,
     })
 }
@@ -68,32 +90,26 @@ fn is_anonymous(fields: &Fields) -> bool
     fields.authorization.is_none() && fields.peer_host.is_none() && fields.peer_mac.is_none()
 }
 
-/// What is read of the post: nothing, if nobody shows who posts.
-fn read_of(alloc: Global, request: &Request, body: &[u8], author: &Iri) -> Result<Read, AllocError>
-    ensures { IfOk result (λ read. model.ReadsPost request.now author.now body.now read) }
+/// The value of the body, or none if it is no JSON or nobody shows who posts it.
+fn value_of(alloc: Global, request: &Request, body: &[u8]) -> Result<Option<Value>, AllocError>
+    ensures { IfOk result (λ value. HoldsValue request.now body.now (option_map view value)) }
 {
     if is_anonymous(&request.fields) {
-        return Ok(Read::NotJson);
+        return Ok(None);
     }
-    body_of(alloc, body, author)
-}
-
-/// What is read of the body.
-fn body_of(alloc: Global, body: &[u8], author: &Iri) -> Result<Read, AllocError>
-    ensures { IfOk result (λ read. model.ReadsBody author.now body.now read) }
-{
     match read_body(alloc, body) {
-        Ok(value) => value_of(alloc, &value, author),
-        Err(BodyFault::BadBody) => Ok(Read::NotJson),
+        Ok(value) => Ok(Some(value)),
+        Err(BodyFault::BadBody) => Ok(None),
         Err(BodyFault::Memory) => Err(AllocError),
     }
 }
 
-/// What is read of the value that a body stands for.
-fn value_of(alloc: Global, value: &Value, author: &Iri) -> Result<Read, AllocError>
-    ensures { IfOk result (λ read. ReadsValue author.now (view value.now) read) }
+/// What was read: the activity, or the fault of its shape.
+fn read_as(alloc: Global, outcome: Result<Activity, ShapeFault>) -> Result<Read, AllocError>
+    ensures read { IfOk result (λ read. read ≡ read_of outcome) }
+    ensures in_memory { OnOk result (outcome ≢ Err ShapeFault.Memory) }
 {
-    match read_activity(alloc, value, author) {
+    match outcome {
         Ok(activity) => Ok(Read::Ready(Boxed::new(alloc, activity)?)),
         Err(ShapeFault::Memory) => Err(AllocError),
         Err(fault) => Ok(Read::Bad(fault)),

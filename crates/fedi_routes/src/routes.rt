@@ -1,7 +1,6 @@
 //! What a request asks for, by its path and its method.
 
 ghost use Rattle.std.specs.Prelude.{◌≡◌, IsTrue, IfOk, OnErr, option_copied};
-ghost use Rattle.fedi_asks.specs.Built.{is_built_ask};
 ghost use Rattle.fedi_model.specs.Places as places;
 ghost use Rattle.fedi_model.specs.Queries as queries;
 ghost use Rattle.fedi_model.specs.Requests as requests;
@@ -10,7 +9,7 @@ ghost use Rattle.fedi_routes.specs.Memory.{MayNeedMemory, has_query, needs_memor
 
 use crate::pages::page_in;
 use crate::places::place_of;
-use crate::posts::post_of;
+use crate::posts::{delivery_of, post_of};
 use crate::router::Routes;
 use crate::texts::{behind, up_to};
 use crate::webfinger::resource_in;
@@ -23,13 +22,13 @@ use std::alloc::{AllocError, Global};
 /// What the request with this body asks for, at the server of this host, once that is set: by the
 /// place to which its path leads, and then by its method.
 ///
-/// Members, activities, objects, collections and WebFinger are read by GET and HEAD, and an outbox is
-/// posted to. Another method asks for `Ask::WrongMethod`. A post to an inbox is not taken yet, and asks
-/// for `Ask::Nowhere`, as a path that leads nowhere does. The path is the target up to its first
-/// question mark (RFC 3986, section 3.3). It is compared byte for byte and never decoded.
+/// Members, activities, objects, collections and WebFinger are read by GET and HEAD, and outboxes and
+/// inboxes are posted to. Another method asks for `Ask::WrongMethod`. A path that leads nowhere asks for
+/// `Ask::Nowhere`, and so does a post to an outbox before the host is set. The path is the target up to
+/// its first question mark (RFC 3986, section 3.3). It is compared byte for byte and never decoded.
 ///
 /// The error is out of memory. It comes only of a query of WebFinger or of a collection, and of a post to
-/// an outbox, whose body is read.
+/// an outbox or an inbox, whose body is read unless the request shows nothing of who makes it.
 #[tactic(auto, using(crate::proofs::AskLemmas::asked_once))]
 pub fn route(
     alloc: Global,
@@ -41,9 +40,9 @@ pub fn route(
     ensures asks { IfOk result (λ ask.
         model.Asks (option_copied host.entry) request.now body.now ask) }
     ensures once { model.IsAskedOnce (option_copied host.entry) request.now body.now }
-    // An activity to be posted is one that a history at this host may take from its author.
+    // An activity to be posted is one that a history at this host may take from its author, and one that
+    // is delivered has the shape of a delivery.
     ensures postable { IfOk result (λ ask. model.IsPostableAt (option_copied host.entry) ask) }
-    ensures built { IfOk result (λ ask. IsTrue (is_built_ask ask)) }
     ensures memory { OnErr result (MayNeedMemory request.now) }
 {
     match place_of(routes, path_of(request)) {
@@ -129,7 +128,9 @@ fn post_to(
 {
     match place {
         Place::Collection(Which::Outbox(name)) => outbox_of(alloc, request, body, host, name),
-        Place::Collection(Which::Inbox(_)) => Ok(Ask::Nowhere),
+        Place::Collection(Which::Inbox(name)) => {
+            Ok(Ask::Inbox(name, delivery_of(alloc, request, body)?))
+        }
         place => Ok(refused_at(place)),
     }
 }

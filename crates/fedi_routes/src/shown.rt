@@ -1,10 +1,11 @@
 //! What a request shows of who makes it (RFC 6750, section 2.1; RFC 9110, section 11.6.2).
 
 ghost use Rattle.std.specs.Prelude.{◌≡◌, Some, option_map};
+ghost use Rattle.fedi_model.specs.Callers.{is_signed};
 ghost use Rattle.fedi_model.specs.Credentials as model;
 
 use fedi_http::text_of;
-use fedi_mac::read_key;
+use fedi_mac::{matches, read_key, sign};
 use fedi_model::{Credentials, Request, Signed};
 
 /// The scheme of a bearer key and the one space after it.
@@ -81,4 +82,14 @@ fn signed<'a>(
         target: request.target.bytes(),
         body,
     })
+}
+
+/// Whether the code that a peer shows is that of the request under this key, which is the one that the
+/// peer and this server share. It takes no memory.
+#[tactic(auto, unfolding(fedi_model::specs::Callers::is_signed))]
+pub fn is_signed(key: &[u8; 32], signed: &Signed) -> bool
+    ensures { result ≡ is_signed key.now (model.signature_in signed.now) }
+{
+    let code = sign(key, signed.method, signed.target, signed.host, signed.body);
+    matches(&code, &signed.mac)
 }
