@@ -2,27 +2,26 @@
 use Rattle.std.proofs.Common.{inl, inr, ◌≡◌, ℕ, ◌+◌, true, false, List, [], ◌∷◌, ◌++◌, length, map, Option, None, Some, Result, Ok, Err, refl, sym, ap, subst, ◌∙◌}
 use Rattle.std.specs.Cmp.Derive.{both_true}
 use Rattle.std.specs.Prelude.{◌&&◌, IfErr, IfSome, IsErrOf, OnErr, OnOk, option_map}
-use Rattle.std.specs.List.{AllByRecursion, find, fold, list_all, list_any}
+use Rattle.std.specs.List.{AllByRecursion, find, fold, list_any}
 use Rattle.std.proofs.lemmas.Bool.{and_parts}
 use Rattle.std.proofs.lemmas.List.{length-append, map-append}
-use Rattle.std.proofs.lemmas.List.Folds.{list_all-append}
 use Rattle.fedi_entry.specs.Codes.{code_of}
 use Rattle.fedi_entry.specs.Fields.{IsFormed}
 use Rattle.fedi_opening.specs.Opening.{IsNext}
 use Rattle.fedi_objects.specs.declared.activity.Activity.{Activity}
 use Rattle.fedi_objects.specs.declared.entry.Entry.{Entry}
 use Rattle.fedi_objects.specs.declared.entry.Entry.TheVariants.{Local}
-use Rattle.fedi_laws.proofs.Isolation.{unseen_posts}
+use Rattle.fedi_laws.proofs.Beside.{peers_alone}
+use Rattle.fedi_laws.proofs.Isolation.{known_deliveries, unseen_deliveries, unseen_posts}
 use Rattle.fedi_town.proofs.Lists.{find-none}
 use Rattle.fedi_town.specs.Agreement.{Agree}
-use Rattle.fedi_town.specs.Built.{are_built, is_built}
 use Rattle.fedi_town.specs.Histories.{step, town}
 use Rattle.fedi_town.specs.Legal.{IsLegal, is_admissible, is_legal_from, may_post}
 use Rattle.fedi_town.specs.Towns.{Town, empty_town, has_name, id_of}
 use Rattle.fedi_outside.specs.Keepers.{HasAdded, KeeperState}
 use Rattle.fedi_core.specs.declared.keeping.KeepFault.{KeepFault}
 use Rattle.fedi_core.specs.declared.keeping.KeepFault.TheVariants.{Full, Failed, Memory}
-use Rattle.fedi_core.specs.Keeping.{HidesPosts, MayAdd, Refuses}
+use Rattle.fedi_core.specs.Keeping.{HidesDeliveries, HidesPosts, MayAdd, Refuses, TellsOwners, TellsPeers}
 use Rattle.fedi_core.specs.Machines.{IsGrown, IsKeeping, IsNextCode, IsSame, Stands}
 use Rattle.fedi_effects.specs.Holdings.{Holding}
 
@@ -56,8 +55,6 @@ grown : (growth : ℕ → ℕ) (f f' : Holding) (k k' : KeeperState) (e : Entry)
 grown growth f f' k k' e stands may formed more added = record {
   made = more.made ∙ ap (λ (h : List Entry). town h) (sym more.held);
   legal = subst IsLegal (sym more.held) (record { admissible = legal_from_grown empty_town f.history e stands.legal.admissible may.admissible });
-  built = subst (λ (h : List Entry). are_built h ≡ true) (sym more.held)
-      (list_all-append is_built f.history (e ∷ []) ∙ both_true stands.built (both_true may.built refl));
   formed = subst (AllByRecursion IsFormed) (sym more.held) (formed_more f.history e stands.formed formed);
   kept = subst (λ (h : List Entry). IsKeeping k' h) (sym more.held) (keeps_more growth k k' f.history e stands.kept added);
 }
@@ -71,7 +68,7 @@ refuser_keeps room code Memory k k' refused = (refused.held, refused.records)
 
 -- an entry that may be added, and whose fields have their forms, may come next
 pub comes_next : (t : Town) (e : Entry) → MayAdd t e → IsFormed e → IsNext t e
-comes_next t e may formed = record { formed = formed; admissible = may.admissible; built = may.built }
+comes_next t e may formed = record { formed = formed; admissible = may.admissible }
 
 -- what is in doubt then may come next
 refuser_doubts : (room : ℕ → ℕ) (e : Entry) (fault : KeepFault) (k k' : KeeperState) (h : List Entry) → IfSome k.doubt (IsNextCode h)
@@ -95,7 +92,6 @@ unchanged room e fault f f' k k' stands same next refused =
     record {
       made = same.made ∙ (stands.made ∙ ap (λ (h : List Entry). town h) (sym same.held));
       legal = subst IsLegal (sym same.held) stands.legal;
-      built = subst (λ (h : List Entry). are_built h ≡ true) (sym same.held) stands.built;
       formed = subst (AllByRecursion IsFormed) (sym same.held) stands.formed;
       kept = record {
         held = keeper.0 ∙ (stands.kept.held ∙ ap (λ (h : List Entry). length h) (sym same.held));
@@ -138,3 +134,21 @@ posts_hidden h h' legal also = λ host name repeat a moment c is longer quiet un
     let next : IsLegal (h ++ e ∷ []) = subst IsLegal longer also in
     let member : list_any (has_name name) (town h).actors ≡ true = posting_member (town h) name repeat a (legal_last empty_town h e next.admissible) in
     subst (λ (k : List Entry). Agree (town k) (town h) c) (sym longer) (unseen_posts h host name repeat a moment c legal is member quiet unseen)
+
+-- ---- deliveries that are not seen
+
+pub deliveries_hidden : (h h' : List Entry) → HidesDeliveries h h'
+deliveries_hidden h h' = λ peer inbox owner author id a moment c longer of_inbox of_author of_id new quiet other unseen.
+    subst (λ (k : List Entry). Agree (town k) (town h) c) (sym longer)
+    (unseen_deliveries h peer inbox owner author id a moment c of_inbox of_author of_id new quiet other unseen)
+
+pub owners_told : (h h' : List Entry) → IsLegal h → TellsOwners h h'
+owners_told h h' legal = λ host peer inbox author id a moment c longer hosted member of_author of_id known caller other.
+    subst (λ (k : List Entry). Agree (town k) (town h) c) (sym longer)
+    (known_deliveries h host peer inbox author id a moment c legal hosted member of_author of_id known caller other)
+
+-- ---- peers that are added
+
+pub peers_told : (h h' : List Entry) → TellsPeers h h'
+peers_told h h' = λ host key address relay moment c longer other.
+    subst (λ (k : List Entry). Agree (town k) (town h) c) (sym longer) (peers_alone h host key address relay moment c other)

@@ -1,4 +1,5 @@
 pub mod Commanding
+pub mod Rules
 pub mod Accepting
 pub mod Growing
 pub mod Limits

@@ -1,5 +1,6 @@
 -- What becomes of an operator's command.
 use Rattle.std.specs.Prelude.{◌≡◌, ℕ, None, Some, IsTrue, is_some}
+use Rattle.fedi_address.specs.Hosts.{is_host_text}
 use Rattle.fedi_address.specs.Names.{is_name}
 use Rattle.fedi_entry.specs.Codes.{code_of}
 use Rattle.fedi_objects.specs.declared.entry.Entry.{Entry}
@@ -13,11 +14,11 @@ use Rattle.fedi_core.specs.Keeping.{Refuses}
 use Rattle.fedi_core.specs.declared.keeping.KeepFault.{KeepFault}
 use Rattle.fedi_core.specs.declared.keeping.KeepFault.TheVariants as faults
 
--- the entry is a command at a server that was set up: the making of a member under a name. (That of a peer will stand here.)
+-- the entry is a command at a server that was set up: the making of a member under a name, or of a peer with a host
 abbrev pub IsCommand : Town → Entry → Type 0
 IsCommand t (Hosted host moment) = ⊥
 IsCommand t (Made name digest locked moment) = IsTrue (is_some t.host) × IsTrue (is_name name)
-IsCommand t (PeerSet host key address relay moment) = ⊥
+IsCommand t (PeerSet host key address relay moment) = IsTrue (is_some t.host) × IsTrue (is_host_text host)
 IsCommand t (Local name repeat a moment) = ⊥
 IsCommand t (Remote peer inbox a moment) = ⊥
 IsCommand t (Tried activity recipient came moment) = ⊥

@@ -1,29 +1,32 @@
 -- What becomes of an entry that is to be kept: of the history, and of the keeper of its records.
-use Rattle.std.specs.Prelude.{◌≡◌, ◌⊎◌, ℕ, false, true, List, [], ◌∷◌, ◌++◌, length, IsTrue, Option, None, Some}
+use Rattle.std.specs.Prelude.{◌≡◌, ◌⊎◌, ℕ, Bool, false, true, List, [], ◌∷◌, ◌++◌, length, IsTrue, Option, None, Some}
+use Rattle.std.specs.List.{list_any}
+use Rattle.fedi_asks.specs.Reading.{is_self}
 use Rattle.fedi_entry.specs.Codes.{code_of}
+use Rattle.fedi_entry.specs.Limits.{IsAttemptWithin}
+use Rattle.fedi_laws.specs.Statements.{is_peer_of}
 use Rattle.fedi_objects.specs.declared.activity.Activity.{Activity}
 use Rattle.fedi_objects.specs.declared.entry.Entry.{Entry}
-use Rattle.fedi_objects.specs.declared.entry.Entry.TheVariants.{Local}
+use Rattle.fedi_objects.specs.declared.entry.Entry.TheVariants.{PeerSet, Local, Remote}
 use Rattle.fedi_outside.specs.Causes.{next_count}
 use Rattle.fedi_outside.specs.Keepers.{KeeperState, HasAdded, HasRoom, IsFull, OnlyRoomChanged}
 use Rattle.fedi_town.specs.declared.caller.Caller.{Caller}
-use Rattle.fedi_town.specs.Activities.{local_act}
+use Rattle.fedi_town.specs.Activities.{local_act, remote_act}
 use Rattle.fedi_town.specs.Agreement.{Agree}
-use Rattle.fedi_town.specs.Built.{is_built}
-use Rattle.fedi_town.specs.Deeds.{changes_nothing, deed_of}
-use Rattle.fedi_town.specs.Histories.{town}
-use Rattle.fedi_town.specs.Legal.{is_admissible}
+use Rattle.fedi_town.specs.Deeds.{changes_nothing, deed_of, is_follow}
+use Rattle.fedi_town.specs.Histories.{is_known, town}
+use Rattle.fedi_town.specs.Legal.{is_admissible, is_caller}
 use Rattle.fedi_town.specs.Seeing.{sees}
-use Rattle.fedi_town.specs.Towns.{Town}
+use Rattle.fedi_town.specs.Towns.{Town, has_name, id_of}
 use Rattle.fedi_core.specs.declared.keeping.KeepFault.{KeepFault}
 use Rattle.fedi_core.specs.declared.keeping.KeepFault.TheVariants.{Full, Failed, Memory}
 
 -- ---- which entries may be kept
 
--- the entry may come next, and is one that this server takes so far
+-- the entry may come next, and what came of an attempt, if it is one, keeps its limits
 pub record MayAdd (t : Town) (e : Entry) : Type 0 where
   pub admissible : IsTrue (is_admissible t e)
-  pub built : IsTrue (is_built e)
+  pub attempt : IsAttemptWithin e
 
 -- ---- records
 
@@ -60,3 +63,26 @@ HidesPosts h h' =
     (host name : List ℕ) (repeat : Option (List ℕ × List ℕ)) (a : Activity) (moment : ℕ) (c : Caller)
     → (town h).host ≡ Some host → h' ≡ h ++ Local name repeat a moment ∷ [] → changes_nothing (deed_of a.kind) ≡ true
     → sees (town h) c (local_act (town h) host name repeat a moment) ≡ false → Agree (town h') (town h) c
+
+-- A delivery of a new id that came to the history, changes nothing earlier and is no Follow changed nothing for a caller who does
+-- not see it.
+abbrev pub HidesDeliveries : List Entry → List Entry → Type 0
+HidesDeliveries h h' =
+    (peer inbox owner author id : List ℕ) (a : Activity) (moment : ℕ) (c : Caller)
+    → h' ≡ h ++ Remote peer inbox a moment ∷ [] → id_of (town h) inbox ≡ Some owner → a.actor ≡ Some author → a.id ≡ Some id
+    → is_known (town h) id ≡ false → changes_nothing (deed_of a.kind) ≡ true → is_follow (deed_of a.kind) ≡ false
+    → sees (town h) c (remote_act (town h) owner author a moment) ≡ false → Agree (town h') (town h) c
+
+-- A delivery of a known id, which only adds an inbox, changed nothing for a caller but that inbox's owner.
+abbrev pub TellsOwners : List Entry → List Entry → Type 0
+TellsOwners h h' =
+    (host peer inbox author id : List ℕ) (a : Activity) (moment : ℕ) (c : Caller)
+    → h' ≡ h ++ Remote peer inbox a moment ∷ [] → (town h).host ≡ Some host → list_any (has_name inbox) (town h).actors ≡ true
+    → a.actor ≡ Some author → a.id ≡ Some id → is_known (town h) id ≡ true → is_caller (town h) c ≡ true → is_self c inbox ≡ false
+    → Agree (town h') (town h) c
+
+-- A peer that was added changed nothing for a caller but that peer.
+abbrev pub TellsPeers : List Entry → List Entry → Type 0
+TellsPeers h h' =
+    (host key address : List ℕ) (relay : Bool) (moment : ℕ) (c : Caller) → h' ≡ h ++ PeerSet host key address relay moment ∷ []
+    → is_peer_of host c ≡ false → Agree (town h') (town h) c

@@ -1,12 +1,11 @@
 -- A machine, as its callers see it, and what it keeps true.
-use Rattle.std.specs.Prelude.{◌≡◌, ℕ, IfSome, IsTrue, List, [], ◌∷◌, ◌++◌, length, map}
+use Rattle.std.specs.Prelude.{◌≡◌, ℕ, IfSome, List, [], ◌∷◌, ◌++◌, length, map}
 use Rattle.std.specs.List.{AllByRecursion}
 use Rattle.fedi_entry.specs.Codes.{code_of}
 use Rattle.fedi_entry.specs.Fields.{IsFormed}
 use Rattle.fedi_objects.specs.declared.entry.Entry.{Entry}
 use Rattle.fedi_opening.specs.Opening.{IsNext}
 use Rattle.fedi_outside.specs.Keepers.{KeeperState}
-use Rattle.fedi_town.specs.Built.{are_built}
 use Rattle.fedi_town.specs.Histories.{town}
 use Rattle.fedi_town.specs.Legal.{IsLegal}
 use Rattle.fedi_effects.specs.Holdings.{Holding}
@@ -27,12 +26,10 @@ pub record IsKeeping (k : KeeperState) (history : List Entry) : Type 0 where
   pub spelled : IfSome k.records (λ records. map code_of history ≡ records)
   pub doubted : IfSome k.doubt (IsNextCode history)
 
--- the facts are those of a history that is legal, made of entries that this server takes so far, whose fields have their forms,
--- and kept by the keeper
+-- the facts are those of a history that is legal, whose entries' fields have their forms, and kept by the keeper
 pub record Stands (facts : Holding) (k : KeeperState) : Type 0 where
   pub made : facts.town ≡ town facts.history
   pub legal : IsLegal facts.history
-  pub built : IsTrue (are_built facts.history)
   pub formed : AllByRecursion IsFormed facts.history
   pub kept : IsKeeping k facts.history
 

@@ -1,9 +1,9 @@
 //! What the machine decides on one ask.
 
 ghost use Rattle.std.specs.Prelude.{◌≡◌, ◌<◌, ◌+◌, IfOk, IsTrue, OnErr, false, option_copied, option_map};
+ghost use Rattle.fedi_asks.specs.Answers.{Accepted};
 ghost use Rattle.fedi_asks.specs.Asks.{entry_of};
-ghost use Rattle.fedi_asks.specs.Built.{is_built_ask};
-ghost use Rattle.fedi_asks.specs.Posting.{entry_at, post_answer};
+ghost use Rattle.fedi_asks.specs.Posting.{delivery_answer, delivery_of, entry_at, inbox_entry_at, post_answer};
 ghost use Rattle.fedi_model.specs.Memory.{is_refused, takes_memory};
 ghost use Rattle.fedi_model.specs.Replies.{reply, reply_of, without_body};
 ghost use Rattle.fedi_town.specs.Ids.{activity_id};
@@ -14,8 +14,9 @@ use crate::profiles::{actor_reply, webfinger_reply, wrong_method_reply};
 use fedi_address::{Host, Iri, LocalName};
 use fedi_collections::collection_reply;
 use fedi_effects::Facts;
-use fedi_model::{Ask, Body, Form, Post, Reply, refusal_reply};
-use fedi_objects::Entry;
+use fedi_inbound::{Received, receive};
+use fedi_model::{Ask, Body, Form, Post, Reply, misshapen_reply, refusal_reply};
+use fedi_objects::{Activity, Boxed, Entry};
 use fedi_text::Moment;
 use fedi_town::{Caller, Refusal, activity_iri};
 use fedi_visible::{Shelf, activity_reply, object_reply};
@@ -27,7 +28,7 @@ use std::alloc::{AllocError, Global};
 pub struct Decision {
     /// The reply. If there is an entry it may be sent once the entry is kept.
     pub reply: Reply,
-    /// The entry that the ask makes: that of a post that is accepted.
+    /// The entry that the ask makes: that of a post or a delivery that is accepted and new.
     pub entry: Option<Entry>,
 }
 
@@ -114,6 +115,81 @@ fn decide_post(
     }
 }
 
+// The reply to a delivery that is accepted, now or before (ActivityPub, section 7).
+fn accepted_reply() -> Reply
+    ensures { result ≡ reply_of Accepted }
+{
+    Reply {
+        status: StatusCode::ACCEPTED,
+        form: Form::None,
+        location: None,
+        allow: None,
+        body: Body::empty(),
+    }
+}
+
+// The entry of this caller's delivery, if the caller is a peer.
+fn delivery_of(
+    caller: &Caller,
+    name: LocalName,
+    activity: Boxed<Activity>,
+    moment: Moment,
+) -> Result<Option<Entry>, AllocError>
+    ensures { IfOk result (λ entry. entry ≡ delivery_of caller.now name activity moment) }
+{
+    match caller {
+        Caller::Peer(host) => Ok(Some(Entry::Remote {
+            peer: host.clone()?,
+            inbox: name,
+            activity,
+            moment,
+        })),
+        Caller::Nobody | Caller::Actor(_) => Ok(None),
+    }
+}
+
+// What is decided on a post to the inbox of the member of this name. Only the entry of one that is kept
+// takes memory.
+fn decide_delivery(
+    facts: &Facts,
+    caller: &Caller,
+    name: LocalName,
+    post: Post,
+    moment: Moment,
+) -> Result<Decision, AllocError>
+    ensures reply { IfOk result (λ d. d.reply ≡ reply_of (delivery_answer facts.now.town caller.now
+        post (id_of facts.now.town name))) }
+    ensures entry { IfOk result (λ d. d.entry ≡ inbox_entry_at facts.now.town caller.now
+        name post moment (id_of facts.now.town name)) }
+    ensures memory { OnErr result (is_refused (delivery_answer facts.now.town caller.now
+        post (id_of facts.now.town name)) ≡ false) }
+{
+    let Some(owner) = facts.id_of(&name) else {
+        return Ok(Decision {
+            reply: refusal_reply(Refusal::NotFound),
+            entry: None,
+        });
+    };
+    match receive(facts, caller, owner, post) {
+        Received::Refused(refusal) => Ok(Decision {
+            reply: refusal_reply(refusal),
+            entry: None,
+        }),
+        Received::Misshapen(fault) => Ok(Decision {
+            reply: misshapen_reply(fault),
+            entry: None,
+        }),
+        Received::Repeated => Ok(Decision {
+            reply: accepted_reply(),
+            entry: None,
+        }),
+        Received::Kept(activity) => Ok(Decision {
+            reply: accepted_reply(),
+            entry: delivery_of(caller, name, activity, moment)?,
+        }),
+    }
+}
+
 /// Decides on an ask by the history on a shelf. The only error is out of memory, and what is refused takes
 /// none, but where an id is made to find a thing.
 pub fn decide<S: Shelf>(
@@ -123,7 +199,6 @@ pub fn decide<S: Shelf>(
     ask: Ask,
     moment: Moment,
 ) -> Result<Decision, AllocError>
-    requires { IsTrue (is_built_ask ask) }
     ensures reply { IfOk result (λ d.
         d.reply ≡ reply (S.holding shelf.now).town caller.now ask) }
     ensures entry { IfOk result (λ d.
@@ -143,7 +218,9 @@ pub fn decide<S: Shelf>(
             return decide_post(alloc, facts, caller, name, post, moment);
         }
         Ask::Collection(which, part) => collection_reply(alloc, shelf, caller, &which, &part)?,
-        Ask::Inbox(..) => unreachable!(),
+        Ask::Inbox(name, post) => {
+            return decide_delivery(facts, caller, name, post, moment);
+        }
     };
     Ok(Decision { reply, entry: None })
 }

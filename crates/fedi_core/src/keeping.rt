@@ -4,8 +4,7 @@ ghost use Rattle.std.specs.Prelude.{◌≡◌, IfErr, IsTrue, IsErrOf, OnOk, OnE
 ghost use Rattle.fedi_entry.specs.Codes.{code_of};
 ghost use Rattle.fedi_entry.specs.Fields.{IsFormed};
 ghost use Rattle.fedi_entry.specs.Limits.{KeepsLimits};
-ghost use Rattle.fedi_town.specs.Built.{is_built};
-ghost use Rattle.fedi_town.specs.Legal.{is_admissible};
+ghost use Rattle.fedi_town.specs.Legal.{IsLegal, is_admissible};
 ghost use Rattle.fedi_outside.specs.Keepers.{HasAdded, HasRoom};
 ghost use Rattle.fedi_core.specs.Crashing.{PassesTimeUnkept, PassesTimeWith};
 ghost use Rattle.fedi_core.specs.Keeping.{Refuses};
@@ -93,7 +92,7 @@ pub fn store_entry<S: Shelf, P: Keeper>(
     keeper: &mut P,
     entry: &Entry,
 ) -> Result<(), KeepFault>
-    requires built { IsTrue (is_built entry.now) }
+    requires legal { IsLegal (S.holding shelf.old).history }
     requires admissible { IsTrue (is_admissible (S.holding shelf.old).town entry.now) }
     requires limits { KeepsLimits entry.now }
     ensures formed { OnOk result (IsFormed entry.now) }

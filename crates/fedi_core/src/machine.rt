@@ -5,20 +5,18 @@ ghost use Rattle.std.specs.List.{AllByRecursion, find};
 ghost use Rattle.sha2.specs.Sha256.{sha256};
 ghost use Rattle.fedi_entry.specs.Codes.{code_of};
 ghost use Rattle.fedi_entry.specs.Fields.{IsFormed};
-ghost use Rattle.fedi_town.specs.Built.{are_built};
 ghost use Rattle.fedi_town.specs.Histories.{town};
 ghost use Rattle.fedi_town.specs.Legal.{IsLegal, broken_command};
 ghost use Rattle.fedi_town.specs.Towns.{has_digest};
 ghost use Rattle.fedi_asks.specs.Asks.{entry_of};
-ghost use Rattle.fedi_asks.specs.Built.{is_built_ask};
-ghost use Rattle.fedi_model.specs.Callers.{caller_by, member_or_refused};
-ghost use Rattle.fedi_model.specs.Credentials.{shown_by as credentials_shown_by};
-ghost use Rattle.fedi_model.specs.Memory.{takes_memory};
+ghost use Rattle.fedi_model.specs.Callers.{caller_by, member_or_refused, peer_or_refused};
+ghost use Rattle.fedi_model.specs.Credentials.{shown_by as credentials_shown_by, signature_in};
+ghost use Rattle.fedi_model.specs.Memory.{copies_host, takes_memory};
 ghost use Rattle.fedi_model.specs.Replies.{IsPrivate, reply};
 ghost use Rattle.fedi_model.specs.Routes.{IsPostableAt};
 ghost use Rattle.fedi_core.specs.Commands.{IsCommand, RefusesCommand};
 ghost use Rattle.fedi_core.specs.Crashing.{PassesTimeRefused, PassesTimeUnkept, PassesTimeWith};
-ghost use Rattle.fedi_core.specs.Keeping.{HidesPosts, IsKept, MayAdd, Refuses};
+ghost use Rattle.fedi_core.specs.Keeping.{HidesDeliveries, HidesPosts, IsKept, MayAdd, Refuses, TellsOwners, TellsPeers};
 ghost use Rattle.fedi_core.specs.Opening.{keeper_after, outcome_of};
 ghost use Rattle.fedi_objects.specs.declared.entry.Entry.{Entry};
 ghost use Rattle.fedi_core.specs.Machines.{IsNextCode};
@@ -31,19 +29,19 @@ use crate::keeping::{KeepError, KeepFault, store_entry};
 use fedi_address::Host;
 use fedi_effects::Facts;
 use fedi_mac::digest;
-use fedi_model::{Ask, Credentials};
+use fedi_model::{Ask, Credentials, Signed};
 use fedi_objects::Entry;
 use fedi_opening::{OpenFault, open_history};
 use fedi_outside::{Failed, Keeper};
+use fedi_routes::is_signed;
 use fedi_text::Moment;
-use fedi_town::{Caller, CommandFault, Refusal};
+use fedi_town::{Caller, CommandFault, Peer, Refusal};
 use fedi_visible::Shelf;
 use std::alloc::{AllocError, Global};
 use std::marker::Model;
 
-/// The machine: a shelf with a legal history of entries that this server takes so far, and the keeper of
-/// its records, which are the codes of the entries in order. A contract sees it as the history and the
-/// keeper.
+/// The machine: a shelf with a legal history, and the keeper of its records, which are the codes of the
+/// entries in order. A contract sees it as the history and the keeper.
 #[derive(Drop)]
 pub struct Core<S: Shelf, P: Keeper> {
     shelf: S,
@@ -69,15 +67,35 @@ fn member_with(facts: &Facts, key: &[u8; 32]) -> Result<Caller, Refusal>
     }
 }
 
+// The peer, if it signed the request.
+fn peer_by(peer: Option<&Peer>, signed: &Signed) -> Result<Result<Caller, Refusal>, AllocError>
+    ensures caller { IfOk result (λ caller.
+        caller ≡ peer_or_refused (signature_in signed.now) (option_copied peer.entry)) }
+    ensures memory { OnErr result (IsTrue (copies_host
+        (peer_or_refused (signature_in signed.now) (option_copied peer.entry)))) }
+{
+    match peer {
+        Some(peer) if is_signed(&peer.key, signed) => Ok(Ok(Caller::Peer(peer.host.clone()?))),
+        _ => Ok(Err(Refusal::WrongMac)),
+    }
+}
+
 #[tactic(auto, unfolding(fedi_model::specs::Callers::caller_by))]
-fn caller_of(facts: &Facts, credentials: &Credentials) -> Result<Caller, Refusal>
-    ensures { result ≡ caller_by facts.now.town (credentials_shown_by credentials.now) }
+fn caller_of(
+    facts: &Facts,
+    credentials: &Credentials,
+) -> Result<Result<Caller, Refusal>, AllocError>
+    ensures caller { IfOk result (λ caller.
+        caller ≡ caller_by facts.now.town (credentials_shown_by credentials.now)) }
+    ensures memory { OnErr result (IsTrue (copies_host
+        (caller_by facts.now.town (credentials_shown_by credentials.now)))) }
 {
     match credentials {
-        Credentials::Nothing => Ok(Caller::Nobody),
-        Credentials::Bearer(Some(key)) => member_with(facts, key),
-        Credentials::Bearer(None) => Err(Refusal::WrongKey),
-        Credentials::Mac(_) => Err(Refusal::WrongMac),
+        Credentials::Nothing => Ok(Ok(Caller::Nobody)),
+        Credentials::Bearer(Some(key)) => Ok(member_with(facts, key)),
+        Credentials::Bearer(None) => Ok(Err(Refusal::WrongKey)),
+        Credentials::Mac(Some(signed)) => peer_by(facts.peer(signed.host), signed),
+        Credentials::Mac(None) => Ok(Err(Refusal::WrongMac)),
     }
 }
 
@@ -136,20 +154,27 @@ impl<S: Shelf + Drop, P: Keeper> Core<S, P> {
         self.shelf.facts().host()
     }
 
-    /// Who makes a request with these credentials (RFC 6750, section 2.1): nobody without any, and the
-    /// member whose key they show. `WrongKey` if they show no member's key, `WrongMac` if they are a
-    /// peer's, since there are no peers. It takes no memory.
-    pub fn caller_of(&self, credentials: &Credentials) -> Result<Caller, Refusal>
-        ensures { result
-            ≡ caller_by (town self.now.history) (credentials_shown_by credentials.now) }
+    /// Who makes a request with these credentials (RFC 6750, section 2.1): nobody without any, the member
+    /// whose key they show, or the peer that signed the request by the key that it shares with this server
+    /// (RFC 2104). It is `WrongKey` if a key is shown that is no member's, and `WrongMac` if one of the
+    /// fields of a peer stands and no peer of that host signed the request. The error is out of memory, which
+    /// comes only where the caller is a peer.
+    pub fn caller_of(
+        &self,
+        credentials: &Credentials,
+    ) -> Result<Result<Caller, Refusal>, AllocError>
+        ensures caller { IfOk result (λ caller. caller
+            ≡ caller_by (town self.now.history) (credentials_shown_by credentials.now)) }
+        ensures memory { OnErr result (IsTrue (copies_host
+            (caller_by (town self.now.history) (credentials_shown_by credentials.now)))) }
     {
         caller_of(self.shelf.facts(), credentials)
     }
 
-    /// Decides on an ask at a moment (ActivityPub, sections 3.2, 4.1 and 6; RFC 7033, section 4.2): the
-    /// reply, and for a post that is accepted the entry that `keep` has to keep before the reply is sent.
-    /// It changes nothing. The error is out of memory, which comes only where the answer takes memory: what
-    /// is refused takes none, but where an id is made to find a thing.
+    /// Decides on an ask at a moment (ActivityPub, sections 3.2, 4.1, 6 and 7; RFC 7033, section 4.2): the
+    /// reply, and for a post or a delivery that is accepted and new the entry that `keep` has to keep before
+    /// the reply is sent. It changes nothing. The error is out of memory, which comes only where the answer
+    /// takes memory: what is refused takes none, but where an id is made to find a thing.
     pub fn decide(
         &self,
         alloc: Global,
@@ -158,7 +183,6 @@ impl<S: Shelf + Drop, P: Keeper> Core<S, P> {
         moment: Moment,
     ) -> Result<Decision, AllocError>
         requires postable { IsPostableAt (town self.now.history).host ask }
-        requires built { IsTrue (is_built_ask ask) }
         ensures reply { IfOk result (λ d. d.reply ≡ reply (town self.now.history) caller.now ask) }
         ensures entry { IfOk result (λ d.
             d.entry ≡ entry_of (town self.now.history) caller.now ask moment) }
@@ -171,8 +195,8 @@ impl<S: Shelf + Drop, P: Keeper> Core<S, P> {
         decide(alloc, &self.shelf, caller, ask, moment)
     }
 
-    /// Appends the entry of a post to the history, once the keeper has its bytes. All that takes memory
-    /// comes before the keeper is settled. After an error the history is as before and the entry is
+    /// Appends an entry that may come next to the history, once the keeper has its bytes. All that takes
+    /// memory comes before the keeper is settled. After an error the history is as before and the entry is
     /// handed back: `Full` if the keeper has no room for it, `Failed` if the keeper failed, which it
     /// counts once, and `Memory` if out of memory, which it does not count.
     #[tactic(auto, using(crate::proofs::Limits::added_keeps))]
@@ -188,7 +212,6 @@ impl<S: Shelf + Drop, P: Keeper> Core<S, P> {
             e.fault ≡ KeepFault.Failed → IsNext (town self.old.history) entry) }
         ensures same { OnErr result (self.new.history ≡ self.old.history) }
         ensures legal { IsLegal self.new.history }
-        ensures built { IsTrue (are_built self.new.history) }
         // A crash on the way leaves the keeper's records, with the one in doubt, or with the entry's.
         ensures time { let k = P.shown self.old.keeper in OnOk result
             (PassesTimeWith k.records k.doubt (code_of entry)
@@ -198,6 +221,10 @@ impl<S: Shelf + Drop, P: Keeper> Core<S, P> {
             (P.crashes self.old.keeper) (P.crashes self.new.keeper)) }
         // A post that changes nothing earlier tells nothing to a caller who does not see it.
         ensures unseen { HidesPosts self.old.history self.new.history }
+        // So does a delivery of a new id that is no Follow.
+        ensures unseen_deliveries { HidesDeliveries self.old.history self.new.history }
+        // A delivery of a known id tells nothing but to the owner of its inbox.
+        ensures added_inboxes { TellsOwners self.old.history self.new.history }
     {
         match store_entry(alloc, &mut self.shelf, &mut self.keeper, &entry) {
             Ok(()) => Ok(()),
@@ -207,7 +234,7 @@ impl<S: Shelf + Drop, P: Keeper> Core<S, P> {
 
     /// Does an operator's command: its entry is kept, unless it breaks a rule, of which the first one is
     /// told, or the keeper refuses it, as `keep` says. After an error the history is as before.
-    #[tactic(auto, using(crate::proofs::Commanding::command_may, crate::proofs::Commanding::command_built))]
+    #[tactic(auto, using(crate::proofs::Commanding::command_may, crate::proofs::Rules::rule_refuses))]
     pub fn command(&mut self, alloc: Global, entry: Entry) -> Result<(), CommandFault>
         requires { IsCommand (town self.old.history) entry }
         ensures unbroken { OnOk result (broken_command (town self.old.history) entry ≡ None) }
@@ -220,15 +247,19 @@ impl<S: Shelf + Drop, P: Keeper> Core<S, P> {
             fault ≡ CommandFault.KeeperFault → IsNext (town self.old.history) entry) }
         ensures same { OnErr result (self.new.history ≡ self.old.history) }
         ensures legal { IsLegal self.new.history }
-        ensures built { IsTrue (are_built self.new.history) }
         ensures time { let k = P.shown self.old.keeper in OnOk result
             (PassesTimeWith k.records k.doubt (code_of entry)
             (P.crashes self.old.keeper) (P.crashes self.new.keeper)) }
         ensures time_refused { let k = P.shown self.old.keeper in IfErr result (λ fault.
             PassesTimeRefused fault k.records k.doubt (code_of entry)
             (P.crashes self.old.keeper) (P.crashes self.new.keeper)) }
+        // A peer that is added changes nothing for a caller but that peer.
+        ensures added_peers { TellsPeers self.old.history self.new.history }
     {
-        self.shelf.facts().judge_command(&entry)?;
+        if let Err(fault) = self.shelf.facts().judge_command(&entry) {
+            drop(entry);
+            return Err(fault);
+        }
         match self.keep(alloc, entry) {
             Ok(()) => Ok(()),
             Err(error) => match error.fault {
@@ -261,7 +292,6 @@ impl<S: Shelf + Drop, P: Keeper> Core<S, P> {
         ensures held { (P.shown self.keeper).held ≡ length self.history }
         ensures doubted { IfSome (P.shown self.keeper).doubt (IsNextCode self.history) }
         ensures legal { IsLegal self.history }
-        ensures built { IsTrue (are_built self.history) }
         ensures formed { AllByRecursion IsFormed self.history }
     {
         let Core { shelf: _, keeper } = self;

@@ -18,7 +18,7 @@ use Rattle.fedi_turn.specs.Record.{Continues}
 use Rattle.fedi_turn.specs.Turn.{AreNew, ContinuesEach, NamesOneOf, number_of, seen_of, start_of}
 use Rattle.fedi_turn.specs.declared.lock.Pass.{Pass}
 use Rattle.fedi_turn.specs.declared.lock.TurnLock.{TurnLock}
-use Rattle.fedi_hall.specs.Halves.{growth}
+use Rattle.fedi_hall.specs.Locks.{growth}
 use Rattle.fedi_hall.specs.Serving.{EndsServing, NamesWorkers, ServesAll, end_by}
 use Rattle.fedi_hall.specs.Stations.{IsLabor, bench_of, end_of, ends_of, pass_of}
 use Rattle.fedi_hall.specs.Works.{EndsWork, HasWorked, both}

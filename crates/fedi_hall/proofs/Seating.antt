@@ -8,7 +8,7 @@ use Rattle.fedi_outside.specs.Doors.{Coming}
 use Rattle.fedi_outside.specs.declared.doors.Bench.{Bench}
 use Rattle.fedi_turn.specs.declared.lock.Pass.{Pass}
 use Rattle.fedi_turn.specs.declared.lock.TurnLock.{TurnLock}
-use Rattle.fedi_hall.specs.Halves.{IsIdleBy}
+use Rattle.fedi_hall.specs.Locks.{IsIdleBy}
 use Rattle.fedi_hall.specs.Stations.{IsReady, bench_of, pass_of}
 use Rattle.fedi_hall.specs.Works.{IsWaiting}
 use Rattle.fedi_hall.specs.declared.stations.Station.{Station}

@@ -1,4 +1,4 @@
-pub mod Halves
+pub mod Locks
 pub mod Serving
 pub mod Stations
 pub mod Works

@@ -10,7 +10,7 @@ use Rattle.fedi_talk.specs.Turning.{setting_by}
 use Rattle.fedi_turn.specs.declared.lock.Pass.{Pass}
 use Rattle.fedi_turn.specs.declared.lock.TurnLock.{TurnLock}
 use Rattle.fedi_turn.specs.Turn.{number_of, seen_of}
-use Rattle.fedi_hall.specs.Halves.{IsIdleBy}
+use Rattle.fedi_hall.specs.Locks.{IsIdleBy}
 use Rattle.fedi_hall.specs.Works.{EndsWork, HasWorked, IsWaiting, both}
 use Rattle.fedi_hall.specs.declared.stations.Station.{Station}
 use Rattle.fedi_hall.specs.declared.workers.WorkerEnd.{WorkerEnd}

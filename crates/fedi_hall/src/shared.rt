@@ -4,7 +4,7 @@ ghost use Rattle.std.proofs.Common.{ap, refl, ◌∙◌};
 ghost use Rattle.fedi_log.specs.Keeping.{base_of};
 ghost use Rattle.fedi_town.specs.Histories.{town};
 ghost use Rattle.fedi_turn.specs.Turn.{number_of, seen_of};
-ghost use Rattle.fedi_hall.specs.Halves.{IsIdleBy};
+ghost use Rattle.fedi_hall.specs.Locks.{IsIdleBy};
 
 use crate::turns::answer_in_turn;
 use fedi_address::Host;

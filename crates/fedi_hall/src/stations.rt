@@ -2,7 +2,7 @@
 ghost use Rattle.std.specs.Prelude.{◌≡◌, ◌<◌, ◌≤◌, ℕ, All, Some, [], length, map, reverse, slice_index_or, vec_capacity, vec_len};
 ghost use denote.Param.Send.{IsSend, IsSync};
 ghost use Rattle.fedi_town.specs.Histories.{town};
-ghost use Rattle.fedi_hall.specs.Halves.{IsIdleBy};
+ghost use Rattle.fedi_hall.specs.Locks.{IsIdleBy};
 ghost use Rattle.fedi_hall.specs.Stations.{IsLabor, IsReady, bench_of, end_of, ends_of, pass_of};
 ghost use Rattle.fedi_hall.specs.declared.stations.Station.{Station};
 

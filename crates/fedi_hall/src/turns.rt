@@ -1,6 +1,5 @@
 //! One turn of a worker.
 ghost use Rattle.std.specs.Prelude.{◌≡◌, IfOk, IsTrue, OnErr, Some, is_some};
-ghost use Rattle.fedi_asks.specs.Built.{is_built_ask};
 ghost use Rattle.fedi_log.specs.Keeping.{base_of};
 ghost use Rattle.fedi_log.specs.Log.{Goes};
 ghost use Rattle.fedi_model.specs.Routes.{Asks, IsPostableAt};
@@ -18,7 +17,7 @@ use fedi_visible::Shelf;
 use std::alloc::{AllocError, Global};
 use std::sync::Wait;
 
-/// Answers a request that has this body and asks this, in one turn of the pass: who asks, what becomes of a post and keeping it.
+/// Answers a request that has this body and asks this, in one turn of the pass: who asks, what becomes of a post or a delivery and keeping it.
 /// It hands back the text of the reply, which has no body if the method is HEAD; the connection is told to close if `closing`. The
 /// error is out of memory, and then nothing was kept, and the keeper did not fail.
 pub fn answer_in_turn<R: Wait, S: Shelf + Drop, P: Keeper + Drop, O: Opened>(
@@ -36,7 +35,6 @@ pub fn answer_in_turn<R: Wait, S: Shelf + Drop, P: Keeper + Drop, O: Opened>(
     requires hosted { IsTrue (is_some (town O.state.history).host) }
     requires asks { Asks (town O.state.history).host request.now body.now ask }
     requires postable { IsPostableAt (town O.state.history).host ask }
-    requires built { IsTrue (is_built_ask ask) }
     ensures idle { IsIdle ⟦<Logged<S, P, O> as Grows>⟧ lock.now pass.new }
     ensures same { number_of pass.new ≡ number_of pass.old }
     ensures text { IfOk result (λ text. TurnTells (base_of P.growth P.room O.state)

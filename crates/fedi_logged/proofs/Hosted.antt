@@ -6,9 +6,9 @@ use Rattle.fedi_objects.specs.declared.entry.Entry.{Entry}
 use Rattle.fedi_objects.specs.declared.entry.Entry.TheVariants.{Hosted, Made, PeerSet, Local, Remote, Tried}
 use Rattle.fedi_town.specs.declared.addition.Addition.{Addition}
 use Rattle.fedi_town.specs.declared.addition.Addition.TheVariants as additions
-use Rattle.fedi_town.specs.Built.{are_built, is_built}
 use Rattle.fedi_town.specs.Histories.{step, town, with_addition, addition_of}
 use Rattle.fedi_town.specs.Legal.{IsLegal, is_admissible}
+use Rattle.fedi_town.specs.Shapes.{is_delivered}
 use Rattle.fedi_town.specs.Towns.{Town, empty_town}
 
 -- what is added leaves the host, or sets one
@@ -25,20 +25,23 @@ all_stay : (t : Town) (entries : List Entry) → is_some t.host ≡ true → is_
 all_stay t [] there = there
 all_stay t (e ∷ entries) there = all_stay (step t e) entries (stays t (addition_of t e) there)
 
+not_delivered : (delivered : Bool) → (delivered && false) ≡ true → false ≡ true
+not_delivered true may = may
+not_delivered false may = may
+
 -- the first entry sets it
-first : (e : Entry) → is_admissible empty_town e ≡ true → is_built e ≡ true → is_some (step empty_town e).host ≡ true
-first (Hosted host moment) may built = refl
-first (Made name digest locked moment) may built = let clash : false ≡ true = may in absurd cc
-first (PeerSet host key address relay moment) may built = let clash : false ≡ true = built in absurd cc
-first (Local name repeat a moment) may built = let clash : false ≡ true = may in absurd cc
-first (Remote peer inbox a moment) may built = let clash : false ≡ true = built in absurd cc
-first (Tried activity recipient came moment) may built = let clash : false ≡ true = built in absurd cc
+first : (e : Entry) → is_admissible empty_town e ≡ true → is_some (step empty_town e).host ≡ true
+first (Hosted host moment) may = refl
+first (Made name digest locked moment) may = let clash : false ≡ true = may in absurd cc
+first (PeerSet host key address relay moment) may = let clash : false ≡ true = may in absurd cc
+first (Local name repeat a moment) may = let clash : false ≡ true = may in absurd cc
+first (Remote peer inbox a moment) may = let clash : false ≡ true = not_delivered (is_delivered a) may in absurd cc
+first (Tried activity recipient came moment) may = let clash : false ≡ true = may in absurd cc
 
 front_true : (a b : Bool) → (a && b) ≡ true → a ≡ true
 front_true true b both = refl
 front_true false b both = both
 
-pub hosted : (history : List Entry) → history ≢ [] → IsLegal history → IsTrue (are_built history) → IsTrue (is_some (town history).host)
-hosted [] some legal built = absurd (some refl)
-hosted (e ∷ entries) some legal built =
-    all_stay (step empty_town e) entries (first e (front_true _ _ legal.admissible) (front_true _ _ built))
+pub hosted : (history : List Entry) → history ≢ [] → IsLegal history → IsTrue (is_some (town history).host)
+hosted [] some legal = absurd (some refl)
+hosted (e ∷ entries) some legal = all_stay (step empty_town e) entries (first e (front_true _ _ legal.admissible))

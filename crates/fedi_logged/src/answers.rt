@@ -1,6 +1,5 @@
 //! A turn of a machine with its log.
 ghost use Rattle.std.specs.Prelude.{◌≡◌, [], IfOk, IsTrue, OnErr, is_some, option_copied};
-ghost use Rattle.fedi_asks.specs.Built.{is_built_ask};
 ghost use Rattle.fedi_log.specs.Keeping.{base_of, state_of};
 ghost use Rattle.fedi_log.specs.Log.{given};
 ghost use Rattle.fedi_model.specs.Routes.{Asks, IsPostableAt};
@@ -80,8 +79,8 @@ impl<S: Shelf + Drop, P: Keeper, O: Opened> Logged<S, P, O> {
 
     /// Answers a request that has this body and asks this, in one turn of the machine by the pass of this number, or by none if
     /// nobody else adds to the log. It hands back the text of the reply, which has no body if the method is HEAD; the connection is
-    /// told to close if `closing`. The reply to a post is made before the post is kept, and so is the one that reports a keeper that
-    /// failed.
+    /// told to close if `closing`. The reply to a post or a delivery is made before its entry is kept, and so is the one that reports
+    /// a keeper that failed.
     ///
     /// The error is out of memory, and then nothing was kept, and the keeper did not fail. It also comes once the log has 2^64 - 1
     /// items.
@@ -98,11 +97,10 @@ impl<S: Shelf + Drop, P: Keeper, O: Opened> Logged<S, P, O> {
         requires hosted { IsTrue (is_some (town O.state.history).host) }
         requires asks { Asks (town O.state.history).host request.now body.now ask }
         requires postable { IsPostableAt (town O.state.history).host ask }
-        requires built { IsTrue (is_built_ask ask) }
         ensures text { IfOk result (λ text. Tells (base_of P.growth P.room O.state) by
             self.old.log self.new.log moment request.now body.now closing text.items) }
         ensures lacking { OnErr result (self.new.log ≡ self.old.log) }
-        // A crash on the way leaves the records, with at most one more: the one in doubt, or the post's.
+        // A crash on the way leaves the records, with at most one more: the one in doubt, or the entry's.
         ensures turn { TurnsOn P.growth by (standing_by P.shown P.crashes self.old.core)
             (standing_by P.shown P.crashes self.new.core) self.old.log self.new.log }
     {
@@ -110,7 +108,8 @@ impl<S: Shelf + Drop, P: Keeper, O: Opened> Logged<S, P, O> {
             return Err(AllocError);
         }
         let head_only = request.head_only;
-        let caller = match self.core.caller_of(&credentials(request, body)) {
+        let found = self.core.caller_of(&credentials(request, body))?;
+        let caller = match found {
             Ok(caller) => caller,
             Err(refusal) => return refusal_text(alloc, refusal, moment, head_only, closing),
         };

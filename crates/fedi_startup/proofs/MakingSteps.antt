@@ -34,7 +34,6 @@ pub first_sound : (host : List ℕ) (moment : ℕ) → IsUtf8 host → IsHost ho
 unfolding IsFormed is_host
 first_sound host moment utf8 is_one bound = record {
   legal = record { admissible = both_true is_one.shape refl };
-  built = refl;
   formed = ((record { utf8 = is_utf8-from_IsUtf8 host utf8; passes = both_true is_one.shape own }, bound), tt);
 }
   where

@@ -16,7 +16,6 @@ use Rattle.fedi_startup.specs.Stores.{HasBadRecord, HasNoRecord, IsStoreOf, reco
 is_read : (history : List Entry) (bytes : List ℕ) → IsStoreOf history bytes → IsRead (Some (records_of history)) (length (records_of history)) history
 is_read history bytes store = record {
   legal = store.sound.legal;
-  built = store.sound.built;
   formed = store.sound.formed;
   counted = sym (length-map history code_of);
   spelled = sym (take_all (length (records_of history)) (records_of history) (omega arith));

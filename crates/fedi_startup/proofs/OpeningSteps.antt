@@ -55,7 +55,7 @@ module _ (start found : DiskState) (k : KeeperState) (history : List Entry) (cou
       spells o {rs} all known = subst (λ (r : Option (List (List ℕ))). IfSome r (λ records. map code_of history ≡ records)) known all
 
   sound : IsSound history
-  sound = record { legal = read.legal; built = read.built; formed = read.formed }
+  sound = record { legal = read.legal; formed = read.formed }
 
   pub is_opened : k.doubt ≡ None → found.faults ≡ start.faults → k.faults ≡ found.faults → (k.held ≡ 0 → ⊥) → IsOpened start (state_of history k)
   is_opened settled faults counts filled = record {

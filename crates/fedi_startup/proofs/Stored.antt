@@ -23,7 +23,6 @@ use Rattle.fedi_opening.specs.Opening.{IsNext, IsRead}
 use Rattle.fedi_images.proofs.Steps.{of_some}
 use Rattle.fedi_outside.specs.Disks.{DiskCrashes, DiskState}
 use Rattle.fedi_outside.specs.Keepers.{MayLeave}
-use Rattle.fedi_town.specs.Built.{is_built}
 use Rattle.fedi_town.specs.Histories.{step, town}
 use Rattle.fedi_town.specs.Legal.{is_admissible, is_legal_from}
 use Rattle.fedi_town.specs.Towns.{Town, empty_town}
@@ -39,21 +38,15 @@ use Rattle.fedi_startup.proofs.Told.{each_some}
 -- one entry more, which may come next
 pub sound_more : (history : List Entry) (e : Entry) → IsSound history → IsNext (town history) e → IsSound (history ++ e ∷ [])
 sound_more history e sound next =
-    let read : IsRead None (length history) history = record { legal = sound.legal; built = sound.built; formed = sound.formed; counted = refl; spelled = tt } in
+    let read : IsRead None (length history) history = record { legal = sound.legal; formed = sound.formed; counted = refl; spelled = tt } in
     let more = read_more None (length history) history e read next tt in
-    record { legal = more.legal; built = more.built; formed = more.formed }
+    record { legal = more.legal; formed = more.formed }
 
 legal_front : (t : Town) (a b : List Entry) → is_legal_from t (a ++ b) ≡ true → is_legal_from t a ≡ true
 legal_front t [] b legal = refl
 legal_front t (e ∷ a) b legal =
     let parts = and_parts (is_admissible t e) (is_legal_from (step t e) (a ++ b)) legal in
     both_true parts.0 (legal_front (step t e) a b parts.1)
-
-built_front : (a b : List Entry) → list_all is_built (a ++ b) ≡ true → list_all is_built a ≡ true
-built_front [] b built = refl
-built_front (e ∷ a) b built =
-    let parts = and_parts (is_built e) (list_all is_built (a ++ b)) built in
-    both_true parts.0 (built_front a b parts.1)
 
 formed_front : (a b : List Entry) → AllByRecursion IsFormed (a ++ b) → AllByRecursion IsFormed a
 formed_front [] b formed = tt
@@ -63,7 +56,6 @@ formed_front (e ∷ a) b formed = (formed.0, formed_front a b formed.1)
 sound_front : (a b : List Entry) → IsSound (a ++ b) → IsSound a
 sound_front a b sound = record {
   legal = record { admissible = legal_front empty_town a b sound.legal.admissible };
-  built = built_front a b sound.built;
   formed = formed_front a b sound.formed;
 }
 

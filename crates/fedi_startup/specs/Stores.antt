@@ -17,7 +17,6 @@ use Rattle.fedi_outside.specs.Disks.{DiskCrashes, DiskState}
 use Rattle.fedi_outside.specs.declared.disks.Disk.{Ghosts}
 use Rattle.fedi_startup.specs.declared.faults.StoreFault.{StoreFault}
 use Rattle.fedi_startup.specs.declared.faults.StoreFault.TheVariants.{NotAStore, DamagedByte, DamagedRecord, Failed, Memory}
-use Rattle.fedi_town.specs.Built.{are_built}
 use Rattle.fedi_town.specs.Legal.{IsLegal}
 
 -- ---- files
@@ -30,10 +29,9 @@ records_of history = map code_of history
 abbrev pub end_of : List Entry → ℕ
 end_of history = length (front plain (records_of history))
 
--- a machine may go on from this history: it is legal, this server takes its entries so far, and their fields have their forms
+-- a machine may go on from this history: it is legal, and the fields of its entries have their forms
 pub record IsSound (history : List Entry) : Type 0 where
   pub legal : IsLegal history
-  pub built : IsTrue (are_built history)
   pub formed : AllByRecursion IsFormed history
 
 -- the bytes are a file of the records of this history, which is not empty

@@ -2,8 +2,11 @@ use Rattle.std.proofs.Common.{◌≡◌, ap, subst, sym, true}
 use Rattle.fedi_town.specs.Histories.{town}
 use Rattle.fedi_town.specs.Legal.{IsLegal, is_admissible}
 use Rattle.fedi_core.specs.Keeping.{MayAdd}
-use Rattle.fedi_core.proofs.Growing.{posts_hidden, stays}
+use Rattle.fedi_core.proofs.Growing.{deliveries_hidden, owners_told, posts_hidden, stays}
 use Rattle.fedi_core.proofs.machine.Core.keep.Goals as goal
+
+pub store_entry-requires-clause-legal : goal.store_entry-requires-clause-legal
+store_entry-requires-clause-legal g c = c.self.invariant.legal
 
 pub store_entry-requires-clause-admissible : goal.store_entry-requires-clause-admissible
 store_entry-requires-clause-admissible g c =
@@ -26,3 +29,11 @@ pub returns-clause-unseen : goal.returns-clause-unseen
 returns-clause-unseen g c =
     posts_hidden c.args.self.now.history (g.S.Shelf.holding c.store_entry.new.shelf).history
     (subst IsLegal (ap (λ m. m.history) c.self.view_is) c.self.invariant.legal) (invariant_of-self g c).legal
+
+pub returns-clause-unseen_deliveries : goal.returns-clause-unseen_deliveries
+returns-clause-unseen_deliveries g c = deliveries_hidden c.args.self.now.history (g.S.Shelf.holding c.store_entry.new.shelf).history
+
+pub returns-clause-added_inboxes : goal.returns-clause-added_inboxes
+returns-clause-added_inboxes g c =
+    owners_told c.args.self.now.history (g.S.Shelf.holding c.store_entry.new.shelf).history
+    (subst IsLegal (ap (λ m. m.history) c.self.view_is) c.self.invariant.legal)

@@ -18,20 +18,23 @@ returns-in-Err-clause-text g c =
     let was : Standing = standing_by g.P.Keeper.shown g.P.Keeper.crashes c.self.inside.core in
     let stands = c.self.invariant.1 in
     let same = ap (λ m. m.log) c.self.view_is in
-    let caller = rw c.credentials.ensures at c.in-Err.ensures in
+    let found = rw c.credentials.ensures at c.in_ok-found.ensures.caller in
+    let caller = sym c.in-Err.is ∙ found in
     told g.P.Keeper.growth g.P.Keeper.room g.O.Opened.state was.state c.args.by _ _ _ c.args.moment c.args.request.now c.args.body.now c.args.closing NoEntry (refused c.in-Err.refusal) c.refusal_text.result
     same stands.holds (refused_reply g.P.Keeper.room was.state c.args.moment c.args.request.now c.args.body.now c.in-Err.refusal (sym caller)) (sym same ∙ sym (append-nil _)) c.refusal_text.ensures
 
-pub decide-requires-clause-postable : goal.decide-requires-clause-postable
-decide-requires-clause-postable g c =
-    subst (λ (h : Option (List ℕ)). IsPostableAt h c.args.ask) (sym (stands_host _ _ _ _ _ _ _ c.self.invariant.1 c.requires.hosted)) c.requires.postable
+pub decide-requires : goal.decide-requires
+decide-requires g c = record {
+  postable = subst (λ (h : Option (List ℕ)). IsPostableAt h c.args.ask) (sym (stands_host _ _ _ _ _ _ _ c.self.invariant.1 c.requires.hosted)) c.requires.postable;
+}
 
 pub returns-in_default-clause-text : goal.returns-in_default-clause-text
 returns-in_default-clause-text g c =
     let was : Standing = standing_by g.P.Keeper.shown g.P.Keeper.crashes c.self.inside.core in
     let stands = c.self.invariant.1 in
     let same = ap (λ m. m.log) c.self.view_is in
-    let caller = rw c.credentials.ensures at c.in-Ok.ensures in
+    let found = rw c.credentials.ensures at c.in_ok-found.ensures.caller in
+    let caller = sym c.in-Ok.is ∙ found in
     let e = c.in_ok-reply.ensures in
     let y = c.in_ok-reply.entry-is in
     let z = c.in_default.is in
@@ -58,7 +61,8 @@ returns-in-Ok-keep-clause-text g c =
     let was : Standing = standing_by g.P.Keeper.shown g.P.Keeper.crashes c.self.inside.core in
     let now : Standing = standing_by g.P.Keeper.shown g.P.Keeper.crashes c.keep.new.self in
     let stands = c.self.invariant.1 in
-    let caller = rw c.credentials.ensures at c.in-Ok.ensures in
+    let found = rw c.credentials.ensures at c.in_ok-found.ensures.caller in
+    let caller = sym c.in-Ok.is ∙ found in
     let e = c.in_ok-reply.ensures in
     let y = c.in_ok-reply.entry-is in
     let z = c.in-Some.is in
@@ -95,7 +99,8 @@ returns-in-Full-clause-text g c =
     let now : Standing = standing_by g.P.Keeper.shown g.P.Keeper.crashes c.keep.new.self in
     let stands = c.self.invariant.1 in
     let same = ap (λ m. m.log) c.self.view_is in
-    let caller = rw c.credentials.ensures at c.in-Ok.ensures in
+    let found = rw c.credentials.ensures at c.in_ok-found.ensures.caller in
+    let caller = sym c.in-Ok.is ∙ found in
     let e = c.in_ok-reply.ensures in
     let y = c.in_ok-reply.entry-is in
     let z = c.in-Some.is in
@@ -134,7 +139,8 @@ returns-in-Failed-clause-text g c =
     let was : Standing = standing_by g.P.Keeper.shown g.P.Keeper.crashes c.self.inside.core in
     let now : Standing = standing_by g.P.Keeper.shown g.P.Keeper.crashes c.keep.new.self in
     let stands = c.self.invariant.1 in
-    let caller = rw c.credentials.ensures at c.in-Ok.ensures in
+    let found = rw c.credentials.ensures at c.in_ok-found.ensures.caller in
+    let caller = sym c.in-Ok.is ∙ found in
     let e = c.in_ok-reply.ensures in
     let y = c.in_ok-reply.entry-is in
     let z = c.in-Some.is in
