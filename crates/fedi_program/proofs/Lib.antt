@@ -1,4 +1,5 @@
 pub mod MemberLemmas
+pub mod PeerLemmas
 pub mod RunLemmas
 pub mod StoreLemmas
 pub mod WordLemmas

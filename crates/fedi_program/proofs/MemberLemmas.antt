@@ -1,21 +1,22 @@
--- What the making of a member leaves: a status that it may end with, and a machine that stands for a log.
+-- What the making of a member or a peer leaves: a status that it may end with, and a machine that stands for a log.
 use Rattle.std.proofs.Common.{◌≡◌, ◌⊎◌, ℕ, Bool, true, false, if◌then◌else◌, List, length, ◌++◌, Option, None, Some, Result, Ok, Err, OnOk, OnErr, inl, inr, refl, sym, ap, subst, ◌∙◌}
 use Rattle.std.specs.List.{list_any}
 use Rattle.fedi_core.specs.Commands.{IsCommand}
 use Rattle.fedi_core.specs.declared.keeping.KeepFault.TheVariants as keeps
 use Rattle.fedi_core.proofs.Crashing.{quiet_call, settled_after}
 use Rattle.fedi_entry.specs.Codes.{code_of}
-use Rattle.fedi_log.specs.Keeping.{Base, State}
+use Rattle.fedi_log.specs.Keeping.{Base, State, base_of}
 use Rattle.fedi_log.specs.Log.{Failed, given, items_of}
 use Rattle.fedi_log.proofs.Keeping.{unchanged}
 use Rattle.fedi_objects.specs.declared.entry.Entry.{Entry}
 use Rattle.fedi_objects.specs.declared.entry.Entry.TheVariants.{Hosted, Made, PeerSet, Local, Remote, Tried}
+use Rattle.fedi_objects.specs.Limits.{is_address}
 use Rattle.fedi_opening.specs.Opening.{IsNext}
-use Rattle.fedi_outside.specs.Keepers.{KeeperState, LeavesRecords, PassesTime, after_fault}
+use Rattle.fedi_outside.specs.Keepers.{Crashes, KeeperState, LeavesRecords, PassesTime, after_fault}
 use Rattle.fedi_town.specs.declared.command_fault.CommandFault.{CommandFault}
 use Rattle.fedi_town.specs.declared.command_fault.CommandFault.TheVariants as faults
 use Rattle.fedi_town.specs.Histories.{town}
-use Rattle.fedi_town.specs.Legal.{broken_command}
+use Rattle.fedi_town.specs.Legal.{broken_command, is_taken_host}
 use Rattle.fedi_town.specs.Towns.{has_digest, has_name}
 use Rattle.fedi_logged.specs.Marks.{SurvivesMarked}
 use Rattle.fedi_startup.specs.Surviving.{growth, room}
@@ -26,38 +27,45 @@ use Rattle.fedi_program.specs.Endings.{Prints}
 use Rattle.fedi_program.specs.Members.{Chance, EndsWith, IsSettled, IsUnmade, MakesMember, TellsFault, key_line, member_entry}
 use Rattle.fedi_program.specs.Runs.{is_status_of}
 use Rattle.fedi_program.specs.Stores.{AddsMember, Medium}
-use Rattle.fedi_logged.proofs.Crashing.{survives_more, survives_turn}
+use Rattle.fedi_logged.proofs.Crashing.{survives_first, survives_more, survives_turn}
 use Rattle.fedi_program.proofs.RunLemmas.{known_status, told_status}
 use Rattle.fedi_logged.proofs.Turning.{IsUnkept, failed_turn}
 
 -- ---- the status
 
-fault_status : (fault : CommandFault) (first now : Output) (name : List ℕ) (locked : Bool) (status : ℕ) → TellsFault fault first now status
-    → is_status_of (Some (AddActor name locked)) status ≡ true
-fault_status faults.NameTaken first now name locked status told = known_status (Some (AddActor name locked)) status 10 refl told.0
-fault_status faults.KeyTaken first now name locked status told = known_status (Some (AddActor name locked)) status 10 refl told.0
-fault_status faults.HostTaken first now name locked status told = known_status (Some (AddActor name locked)) status 10 refl told.0
-fault_status faults.BadAddress first now name locked status told = known_status (Some (AddActor name locked)) status 10 refl told.0
-fault_status faults.Full first now name locked status told = known_status (Some (AddActor name locked)) status 13 refl told.0
-fault_status faults.KeeperFault first now name locked status told = known_status (Some (AddActor name locked)) status 5 refl told.0
-fault_status faults.Memory first now name locked status told = known_status (Some (AddActor name locked)) status 12 refl told.0
+-- a command ended so: each status that this may be is one of the task
+fault_status : (task : Option Task) (fault : CommandFault) (first now : Output) (status : ℕ)
+    → is_status_of task 5 ≡ true → is_status_of task 10 ≡ true → is_status_of task 12 ≡ true → is_status_of task 13 ≡ true
+    → TellsFault fault first now status → is_status_of task status ≡ true
+fault_status task faults.NameTaken first now status five ten twelve thirteen told = known_status task status 10 ten told.0
+fault_status task faults.KeyTaken first now status five ten twelve thirteen told = known_status task status 10 ten told.0
+fault_status task faults.HostTaken first now status five ten twelve thirteen told = known_status task status 10 ten told.0
+fault_status task faults.BadAddress first now status five ten twelve thirteen told = known_status task status 10 ten told.0
+fault_status task faults.Full first now status five ten twelve thirteen told = known_status task status 13 thirteen told.0
+fault_status task faults.KeeperFault first now status five ten twelve thirteen told = known_status task status 5 five told.0
+fault_status task faults.Memory first now status five ten twelve thirteen told = known_status task status 12 twelve told.0
 
-print_status : (first now : Output) (line name : List ℕ) (locked : Bool) (status : ℕ) → Prints first now line status
-    → is_status_of (Some (AddActor name locked)) status ≡ true
-print_status first now line name locked status (inl done) = known_status (Some (AddActor name locked)) status 0 refl done.0
-print_status first now line name locked status (inr failed) = known_status (Some (AddActor name locked)) status 7 refl failed.0
+print_status : (task : Option Task) (first now : Output) (line : List ℕ) (status : ℕ) → is_status_of task 0 ≡ true → is_status_of task 7 ≡ true
+    → Prints first now line status → is_status_of task status ≡ true
+print_status task first now line status zero seven (inl done) = known_status task status 0 zero done.0
+print_status task first now line status zero seven (inr failed) = known_status task status 7 seven failed.0
 
-end_status : (growth room : ℕ → ℕ) (before after : State) (first now : Output) (name : List ℕ) (locked : Bool) (e : Entry) (line : List ℕ) (status : ℕ)
-    → EndsWith growth room before after first now name e line status → is_status_of (Some (AddActor name locked)) status ≡ true
-end_status growth room before after first now name locked e line status (inl bad) = known_status (Some (AddActor name locked)) status 10 refl bad.2.0
-end_status growth room before after first now name locked e line status (inr (_, inl unmade)) = fault_status unmade.0 first now name locked status unmade.2
-end_status growth room before after first now name locked e line status (inr (_, inr made)) = print_status first now line name locked status made.2
+pub end_status : (task : Option Task) (growth room : ℕ → ℕ) (before after : State) (first now : Output) (e : Entry) (line : List ℕ) (status : ℕ)
+    → is_status_of task 0 ≡ true → is_status_of task 5 ≡ true → is_status_of task 7 ≡ true → is_status_of task 10 ≡ true → is_status_of task 12 ≡ true
+    → is_status_of task 13 ≡ true → EndsWith growth room before after first now e line status → is_status_of task status ≡ true
+end_status task growth room before after first now e line status zero five seven ten twelve thirteen (inl unmade) =
+    fault_status task unmade.0 first now status five ten twelve thirteen unmade.2
+end_status task growth room before after first now e line status zero five seven ten twelve thirteen (inr made) =
+    print_status task first now line status zero seven made.2
 
-pub member_status : (growth room : ℕ → ℕ) (told : Option ℕ) (chance left : Chance) (before after : State) (first now : Output) (name : List ℕ) (locked : Bool) (status : ℕ)
+member_status : (growth room : ℕ → ℕ) (told : Option ℕ) (chance left : Chance) (before after : State) (first now : Output) (name : List ℕ) (locked : Bool) (status : ℕ)
     → MakesMember growth room told chance left before after first now name locked status → is_status_of (Some (AddActor name locked)) status ≡ true
 member_status growth room told chance left before after first now name locked status (inl failed) = known_status (Some (AddActor name locked)) status 6 refl failed.0
-member_status growth room told chance left before after first now name locked status (inr (key, moment, _, _, ends)) =
-    end_status growth room before after first now name locked (member_entry name key locked moment) (key_line name key) status ends
+member_status growth room told chance left before after first now name locked status (inr (key, moment, _, _, inl bad)) =
+    known_status (Some (AddActor name locked)) status 10 refl bad.1.1.0
+member_status growth room told chance left before after first now name locked status (inr (key, moment, _, _, inr (_, ends))) =
+    end_status (Some (AddActor name locked)) growth room before after first now (member_entry name key locked moment) (key_line name key) status
+    refl refl refl refl refl refl ends
 
 -- how the run ends
 pub adds_status : (told : Option ℕ) (before after : Medium) (chance left : Chance) (first now : Output) (name : List ℕ) (locked : Bool) (status : ℕ)
@@ -129,11 +137,15 @@ pub settles : {T E : Type 0} (refused after : State) (settled : Result T E) → 
 settles refused after (Ok x) still done failed = (still, inl done)
 settles refused after (Err x) still done failed = (still, inr failed)
 
+-- a machine to which nothing was done stands for the log of its history
+pub unmoved : (growth room : ℕ → ℕ) (s : State) (crashes : Crashes) → LeavesRecords s.keeper crashes
+    → SurvivesMarked (base_of growth room s) None (given s.history) s crashes crashes
+unmoved growth room s crashes now = (given s.history, survives_first (base_of growth room s) None s crashes refl refl now)
+
 -- a command that breaks a rule was refused for it
 pub broken_unmade : (room : ℕ → ℕ) (s : State) (e : Entry) (fault : CommandFault) → IsCommand (town s.history) e → broken_command (town s.history) e ≡ Some fault
     → IsUnmade room s s e fault
 broken_unmade room s (Hosted host moment) fault command is = absurd command
-broken_unmade room s (PeerSet host key address relay moment) fault command is = absurd command
 broken_unmade room s (Local name repeat a moment) fault command is = absurd command
 broken_unmade room s (Remote peer inbox a moment) fault command is = absurd command
 broken_unmade room s (Tried activity recipient came moment) fault command is = absurd command
@@ -149,6 +161,20 @@ broken_unmade room s (Made name digest locked moment) fault command is =
     of : (fault ≡ faults.NameTaken) ⊎ (fault ≡ faults.KeyTaken) → IsUnmade room s s (Made name digest locked moment) fault
     of (inl name_is) = subst (IsUnmade room s s (Made name digest locked moment)) (sym name_is) (s, refl, (is ∙ ap (λ (f : CommandFault). Some f) name_is, refl), refl)
     of (inr key_is) = subst (IsUnmade room s s (Made name digest locked moment)) (sym key_is) (s, refl, (is ∙ ap (λ (f : CommandFault). Some f) key_is, refl), refl)
+broken_unmade room s (PeerSet host key address relay moment) fault command is = of (wrong (is_taken_host (town s.history) host) (is_address address) is)
+  where
+    e : Entry
+    e = PeerSet host key address relay moment
+
+    wrong : (a b : Bool) → (if a then Some faults.HostTaken else (if b then None else Some faults.BadAddress)) ≡ Some fault
+        → (fault ≡ faults.HostTaken) ⊎ (fault ≡ faults.BadAddress)
+    wrong true b same = inl cc
+    wrong false false same = inr cc
+    wrong false true same = absurd (cc same)
+
+    of : (fault ≡ faults.HostTaken) ⊎ (fault ≡ faults.BadAddress) → IsUnmade room s s e fault
+    of (inl host_is) = subst (IsUnmade room s s e) (sym host_is) (s, refl, (is ∙ ap (λ (f : CommandFault). Some f) host_is, refl), refl)
+    of (inr address_is) = subst (IsUnmade room s s e) (sym address_is) (s, refl, (is ∙ ap (λ (f : CommandFault). Some f) address_is, refl), refl)
 
 -- ---- the task
 

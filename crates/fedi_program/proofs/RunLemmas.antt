@@ -19,7 +19,7 @@ use Rattle.fedi_program.specs.Endings.{HasCauses, RunsTo, TalksIfTold, status_of
 use Rattle.fedi_talk.specs.Turning.{setting_by}
 use Rattle.fedi_program.specs.Members.{Chance}
 use Rattle.fedi_program.specs.Runs.{is_status_of}
-use Rattle.fedi_program.specs.Stores.{AddsMember, ChecksStore, IsKeptSafe, Medium, ServesStore, TalksOverStore, TellsOfStore, status_by}
+use Rattle.fedi_program.specs.Stores.{AddsMember, AddsPeer, ChecksStore, IsKeptSafe, Medium, ServesStore, TalksOverStore, TellsOfStore, status_by}
 
 -- ---- the end of a session
 
@@ -63,6 +63,11 @@ pub added_safe : (told : Option ℕ) (before after : Medium) (chance left : Chan
     → AddsMember told before after chance left first now name locked status → IsKeptSafe before after
 added_safe told before after chance left first now name locked status (inl (fault, refused, _, _)) = inl (fault, refused)
 added_safe told before after chance left first now name locked status (inr (opened, closed, run, _)) = inr (opened, closed, run.0, run.1.0)
+
+pub peered_safe : (told : Option ℕ) (before after : Medium) (first now : Output) (host key address : List ℕ) (relay : Bool) (status : ℕ)
+    → AddsPeer told before after first now host key address relay status → IsKeptSafe before after
+peered_safe told before after first now host key address relay status (inl (fault, refused, _)) = inl (fault, refused)
+peered_safe told before after first now host key address relay status (inr (opened, closed, run, _)) = inr (opened, closed, run.0, run.1.0)
 
 pub checked_safe : (before after : Medium) (first now : Output) (status : ℕ) → ChecksStore before after first now status → IsKeptSafe before after
 checked_safe before after first now status (inl (fault, refused, _)) = inl (fault, refused)

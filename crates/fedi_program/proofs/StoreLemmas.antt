@@ -30,9 +30,8 @@ use Rattle.fedi_hall.specs.Serving.{EndsServing, ServesAll}
 use Rattle.fedi_hall.specs.declared.serving.ServeEnd.{ServeEnd}
 use Rattle.fedi_outside.specs.Doors.{Row}
 use Rattle.fedi_outside.specs.declared.doors.Bench.{Bench}
-use Rattle.fedi_program.specs.Members.{Chance, MakesMember}
 use Rattle.fedi_program.specs.Serving.{ServesDoors, status_after}
-use Rattle.fedi_program.specs.Stores.{AddsMember, ChecksStore, Counts, EndsMaking, IsRefused, IsServed, IsServedAlone, MakesStore, ServesStore}
+use Rattle.fedi_program.specs.Stores.{ChecksStore, Counts, EndsMaking, IsRefused, IsRunAlone, IsServed, IsServedAlone, MakesStore, ServesStore}
 
 -- A machine was opened over a disk, and its keeper then survived along a log.
 pub served : (start found later : DiskState) (before middle after : DiskCrashes) (opened closed : State) (log : Log) (count : ℕ)
@@ -114,18 +113,16 @@ serves_doors told start found later before middle after opened closed count rows
       ends,
     )
 
--- or made a member
-pub adds : (told : Option ℕ) (start found later : DiskState) (before middle after : DiskCrashes) (opened closed : State) (log : Log) (count : ℕ) (chance spent : Chance) (first now : Output)
-    (name : List ℕ) (locked : Bool) (status : ℕ)
+-- or did what a command asks
+pub ran_alone : (start found later : DiskState) (before middle after : DiskCrashes) (opened closed : State) (log : Log) (count : ℕ)
     → IsOpened start opened → opened.keeper.records ≡ records_told plain count found → IsUntouched start found before middle
     → ((image : List ℕ) → before.left_since before.clock image → before.may_leave image)
     → IfSome start.reads (λ _. LeavesFiles middle (records_of opened.history) None) → ((image : List ℕ) → middle.left_since middle.clock image → middle.may_leave image)
     → Survives (opened_base opened) None (given opened.history) log closed (record_crashes plain found middle) (record_crashes plain later after)
     → IsClosed later after closed
-    → MakesMember growth room told chance spent opened closed first now name locked status
-    → AddsMember told (record { shown = start; crashes = before }) (record { shown = later; crashes = after }) chance spent first now name locked status
-adds told start found later before middle after opened closed log count chance spent first now name locked status opens records same before_now left only survives closes made =
-    inr (opened, closed, (log, served_alone start found later before middle after opened closed log count opens records same before_now left only survives closes), made)
+    → IsRunAlone (record { shown = start; crashes = before }) (record { shown = later; crashes = after }) opened closed
+ran_alone start found later before middle after opened closed log count opens records same before_now left only survives closes =
+    (log, served_alone start found later before middle after opened closed log count opens records same before_now left only survives closes)
 
 -- a machine that was opened, and closed before it did anything, for want of memory
 pub given_up : (start found : DiskState) (before middle : DiskCrashes) (opened : State) → IsOpened start opened → IsClosed found middle opened → IsUntouched start found before middle

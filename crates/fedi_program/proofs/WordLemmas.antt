@@ -1,35 +1,7 @@
--- Arguments that are too few or too many, and the store that accepted ones name.
-use Rattle.std.proofs.Common.{◌≡◌, ℕ, Bool, true, false, ◌&&◌, suc, ◌≤◌, ◌<◌, List, [], ◌∷◌, length, map, Option, None, Some, is_some, option_map, bytes_eq, codes, refl, sym, ap, ◌∙◌, arith, if◌then◌else◌}
-use Rattle.std.proofs.lemmas.List.{length-map}
+-- The store that accepted arguments name.
+use Rattle.std.proofs.Common.{◌≡◌, ℕ, Bool, true, false, ◌&&◌, List, [], ◌∷◌, map, Option, None, Some, is_some, option_map, bytes_eq, codes, refl, sym, ap, ◌∙◌, if◌then◌else◌}
 use Rattle.std.specs.List.{list_any, find}
-use Rattle.fedi_program.specs.Commands.{Task, Init, Inetd, Serve, AddActor, Check, is_locked_flag, is_position, without_flag, add_actor_at, add_actor_with, on_store, on_store_with, usage_with, task_in, names_store, store_in}
-
--- one flag at most is taken out
-length-without_flag : (xs : List (List ℕ)) → length xs ≤ suc (length (without_flag xs))
-length-without_flag [] = omega arith
-length-without_flag (x ∷ xs) =
-    elim (is_locked_flag x) as (λ f. suc (length xs) ≤ suc (length (if f then xs else x ∷ without_flag xs))) [
-      | true ↦ omega arith
-      | false ↦ let rest = length-without_flag xs in omega arith
-    ]
-
--- three positions are too many
-three_positions : (xs : List (List ℕ)) (locked : Bool) → 3 ≤ length xs → add_actor_at xs locked ≡ None
-three_positions [] locked le = absurd (omega arith)
-three_positions (a ∷ []) locked le = absurd (omega arith)
-three_positions (a ∷ b ∷ []) locked le = absurd (omega arith)
-three_positions (a ∷ b ∷ c ∷ xs) locked le = refl
-
-pub too_many : {A : Type 0} (f : A → List ℕ) (ws : List A) → 3 < length ws → None ≡ add_actor_with (map f ws)
-too_many f ws more =
-    sym (three_positions (without_flag (map f ws)) (list_any is_locked_flag (map f ws))
-    (let shorter = length-without_flag (map f ws) in omega (arith, shorter, length-map ws f)))
-
-pub too_few : {A : Type 0} (f : A → List ℕ) (ws : List A) → length ws < 2 → None ≡ add_actor_with (map f ws)
-too_few f [] fewer = refl
-too_few f (w ∷ []) fewer =
-    elim (is_locked_flag (f w)) as (λ b. None ≡ add_actor_at (if b then [] else f w ∷ []) (list_any is_locked_flag (f w ∷ []))) [ true ↦ refl | false ↦ refl ]
-too_few f (v ∷ w ∷ ws) fewer = absurd (omega arith)
+use Rattle.fedi_program.specs.Commands.{Task, Init, Inetd, Serve, AddActor, AddPeer, Check, is_flag, is_position, without_flag, add_actor_at, add_peer_at, flagged_task, on_store, on_store_with, usage_with, task_in, names_store, store_in}
 
 -- the arguments have a position, if this task has a store
 abbrev HasPosition : List (List ℕ) → Option Task → Type 0
@@ -44,12 +16,12 @@ first_is_position store xs task_by none =
     ]
 
 -- a position that is found without the flag is found with it
-with_flag : (xs : List (List ℕ)) → is_some (find is_position (without_flag xs)) ≡ true → is_some (find is_position xs) ≡ true
-with_flag [] = λ e. e
-with_flag (x ∷ xs) =
-    elim (is_locked_flag x) as (λ f. is_some (find is_position (if f then xs else x ∷ without_flag xs)) ≡ true → is_some (find is_position (x ∷ xs)) ≡ true) [
+with_flag : (flag : List ℕ) (xs : List (List ℕ)) → is_some (find is_position (without_flag flag xs)) ≡ true → is_some (find is_position xs) ≡ true
+with_flag flag [] = λ e. e
+with_flag flag (x ∷ xs) =
+    elim (is_flag flag x) as (λ f. is_some (find is_position (if f then xs else x ∷ without_flag flag xs)) ≡ true → is_some (find is_position (x ∷ xs)) ≡ true) [
       | true ↦ elim (is_position x) as (λ b. is_some (find is_position xs) ≡ true → is_some (if b then Some x else find is_position xs) ≡ true) [ true ↦ λ e. refl | false ↦ λ e. e ]
-      | false ↦ elim (is_position x) as (λ b. is_some (if b then Some x else find is_position (without_flag xs)) ≡ true → is_some (if b then Some x else find is_position xs) ≡ true) [ true ↦ λ e. refl | false ↦ with_flag xs ]
+      | false ↦ elim (is_position x) as (λ b. is_some (if b then Some x else find is_position (without_flag flag xs)) ≡ true → is_some (if b then Some x else find is_position xs) ≡ true) [ true ↦ λ e. refl | false ↦ with_flag flag xs ]
     ]
 
 on_store_has : (task : Task) (xs : List (List ℕ)) → HasPosition xs (on_store task xs)
@@ -69,6 +41,21 @@ add_actor_at_has (store ∷ []) locked = λ e. absurd (cc e)
 add_actor_at_has (store ∷ name ∷ []) locked = first_is_position store (name ∷ []) (λ b. if b && is_position name then Some (AddActor name locked) else None) refl
 add_actor_at_has (store ∷ name ∷ x ∷ xs) locked = λ e. absurd (cc e)
 
+add_peer_at_has : (xs : List (List ℕ)) (relay : Bool) → HasPosition xs (add_peer_at xs relay)
+add_peer_at_has [] relay = λ e. absurd (cc e)
+add_peer_at_has (store ∷ []) relay = λ e. absurd (cc e)
+add_peer_at_has (store ∷ host ∷ []) relay = λ e. absurd (cc e)
+add_peer_at_has (store ∷ host ∷ key ∷ []) relay = λ e. absurd (cc e)
+add_peer_at_has (store ∷ host ∷ key ∷ address ∷ []) relay =
+    first_is_position store (host ∷ key ∷ address ∷ [])
+    (λ b. if b && is_position host && is_position key && is_position address then Some (AddPeer host key address relay) else None) refl
+add_peer_at_has (store ∷ host ∷ key ∷ address ∷ x ∷ xs) relay = λ e. absurd (cc e)
+
+-- so have those with a flag, if those without it do
+flagged_has : (flag : List ℕ) (task_at : List (List ℕ) → Bool → Option Task) (xs : List (List ℕ))
+    → ((words : List (List ℕ)) (flagged : Bool) → HasPosition words (task_at words flagged)) → HasPosition xs (flagged_task flag task_at xs)
+flagged_has flag task_at xs has = λ e. with_flag flag xs (has (without_flag flag xs) (list_any (is_flag flag) xs) e)
+
 usage_has : (xs : List (List ℕ)) → HasPosition xs (usage_with xs)
 usage_has [] = λ e. absurd (cc e)
 usage_has (x ∷ xs) = λ e. absurd (cc e)
@@ -83,8 +70,9 @@ accepted_has name xs =
     either (bytes_eq name (codes "init")) xs _ _ (on_store_with_has Init xs) (
     either (bytes_eq name (codes "inetd")) xs _ _ (on_store_has Inetd xs) (
     either (bytes_eq name (codes "serve")) xs _ _ (on_store_with_has Serve xs) (
-    either (bytes_eq name (codes "add-actor")) xs _ _ (λ e. with_flag xs (add_actor_at_has (without_flag xs) (list_any is_locked_flag xs) e)) (
-    either (bytes_eq name (codes "check")) xs _ _ (on_store_has Check xs) (λ e. absurd (cc e)))))))
+    either (bytes_eq name (codes "add-actor")) xs _ _ (flagged_has (codes "--locked") add_actor_at xs add_actor_at_has) (
+    either (bytes_eq name (codes "add-peer")) xs _ _ (flagged_has (codes "--relay") add_peer_at xs add_peer_at_has) (
+    either (bytes_eq name (codes "check")) xs _ _ (on_store_has Check xs) (λ e. absurd (cc e))))))))
 
 named_in : (words : List (List ℕ)) → is_some (store_in words) ≡ names_store (task_in words)
 named_in [] = refl

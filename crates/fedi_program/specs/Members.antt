@@ -95,18 +95,23 @@ IsUnmade room before after e fault =
     (refused : State) × (refused.history ≡ before.history)
     × RefusesCommand room (town before.history) e fault before.keeper refused.keeper × SettlesAfter fault refused after
 
--- How the command ends that is to make a member of this name with this entry and this line: the text is no name, or else the
--- entry is refused or kept.
-abbrev pub EndsWith : (ℕ → ℕ) → (ℕ → ℕ) → State → State → Output → Output → List ℕ → Entry → List ℕ → ℕ → Type 0
-EndsWith growth room before after first now name e line status =
-    ((is_name name ≡ false) × (after ≡ before) × Tells first now 10 (refusal_line (codes "bad name")) status)
-    ⊎ ((is_name name ≡ true)
-    × (((fault : CommandFault) × IsUnmade room before after e fault × TellsFault fault first now status)
-    ⊎ IsMade growth room before after first now e line status))
+-- How the command ends that is to keep this entry and then to print this line: the entry is refused, and it is told why, or
+-- it is kept.
+abbrev pub EndsWith : (ℕ → ℕ) → (ℕ → ℕ) → State → State → Output → Output → Entry → List ℕ → ℕ → Type 0
+EndsWith growth room before after first now e line status =
+    ((fault : CommandFault) × IsUnmade room before after e fault × TellsFault fault first now status)
+    ⊎ IsMade growth room before after first now e line status
 
--- How the making of a member of this name ends: no key could be drawn (6), or one was drawn, and it ended as above.
+-- a command was refused for this reason, before there was an entry to keep: it is told (10), and nothing was done
+abbrev pub IsRefusedFor : List ℕ → State → State → Output → Output → ℕ → Type 0
+IsRefusedFor reason before after first now status = (after ≡ before) × Tells first now 10 (refusal_line reason) status
+
+-- How the making of a member of this name ends: no key could be drawn (6), or one was drawn, and the text is no name, or else
+-- the entry is refused or kept.
 abbrev pub MakesMember : (ℕ → ℕ) → (ℕ → ℕ) → Option ℕ → Chance → Chance → State → State → Output → Output → List ℕ → Bool → ℕ → Type 0
 MakesMember growth room told chance left before after first now name locked status =
     ((status ≡ 6) × FailsToDraw chance left × (after ≡ before) × Writes first now [])
     ⊎ ((key : List ℕ) × (moment : ℕ) × Draws chance left key × IsNow told moment
-    × EndsWith growth room before after first now name (member_entry name key locked moment) (key_line name key) status)
+    × (((is_name name ≡ false) × IsRefusedFor (codes "bad name") before after first now status)
+    ⊎ ((is_name name ≡ true)
+    × EndsWith growth room before after first now (member_entry name key locked moment) (key_line name key) status)))

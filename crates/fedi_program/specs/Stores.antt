@@ -12,6 +12,7 @@ use Rattle.fedi_talk.specs.Endings.{Output, Scene, Writes}
 use Rattle.fedi_program.specs.Endings.{Prints, RunsTo, TalksIfTold}
 use Rattle.fedi_talk.specs.Turning.{setting_by}
 use Rattle.fedi_program.specs.Members.{Chance, MakesMember, Tells, refusal_line}
+use Rattle.fedi_program.specs.Peers.{MakesPeer}
 use Rattle.fedi_report.specs.Reports.{check_text}
 use Rattle.fedi_logged.specs.Marks.{MarksMayCome}
 use Rattle.fedi_startup.specs.Making.{IsMade, IsNotMade, LeavesAtMost}
@@ -114,6 +115,13 @@ AddsMember told before after chance left first now name locked status =
     ((fault : StoreFault) × IsRefused before after fault × (left ≡ chance) × TellsOfStore fault first now status)
     ⊎ ((opened : State) × (closed : State) × IsRunAlone before after opened closed
     × MakesMember growth room told chance left opened closed first now name locked status)
+
+-- how a run makes a peer of the store of a disk
+abbrev pub AddsPeer : Option ℕ → Medium → Medium → Output → Output → List ℕ → List ℕ → List ℕ → Bool → ℕ → Type 0
+AddsPeer told before after first now host key address relay status =
+    ((fault : StoreFault) × IsRefused before after fault × TellsOfStore fault first now status)
+    ⊎ ((opened : State) × (closed : State) × IsRunAlone before after opened closed
+    × MakesPeer growth room told opened closed first now host key address relay status)
 
 -- it is printed how much this history has, unless there is no memory for the line (12) or a write failed (7)
 abbrev pub Counts : Output → Output → List Entry → ℕ → Type 0

@@ -1,8 +1,10 @@
 //! The arguments of the program.
 
-ghost use Rattle.std.specs.Prelude.{◌≡◌, ◌∷◌, [], map, is_some, option_map, string_bytes};
+ghost use Rattle.std.specs.Prelude.{◌≡◌, map, is_some, option_map, string_bytes};
 ghost use Rattle.std.specs.List.{find};
-ghost use Rattle.fedi_program.specs.Commands.{Init, Serve, add_actor_at, add_actor_with, address_of, is_locked_flag, is_position, names_store, on_store, on_store_with, store_in, task_in, task_of, usage_with};
+ghost use Rattle.fedi_program.specs.Commands.{Init, Serve, add_actor_with, add_peer_with, address_of, is_position, names_store, on_store, on_store_with, store_in, task_in, task_of, usage_with};
+
+use crate::words::Words;
 
 /// What the program is asked to do.
 #[derive(Clone, Copy, Debug, PartialEq, Eq)]
@@ -28,20 +30,29 @@ pub enum Command<'a> {
         /// Whether Follows of the member wait for an answer.
         locked: bool,
     },
+    /// To make another server a peer.
+    AddPeer(NewPeer<'a>),
     /// To count what a store holds.
     Check,
+}
+
+/// A server that is to be made a peer, as an operator writes it.
+#[derive(Clone, Copy, Debug, PartialEq, Eq)]
+pub struct NewPeer<'a> {
+    /// The host.
+    pub host: &'a str,
+    /// The key that both servers have, in 64 hexadecimal digits.
+    pub key: &'a str,
+    /// The address at which the server is reached.
+    pub address: &'a str,
+    /// Whether the server may deliver what actors of other hosts did.
+    pub relay: bool,
 }
 
 fn is_position(argument: &str) -> bool
     ensures { result ≡ is_position argument.now }
 {
     !argument.as_bytes().starts_with(b"-")
-}
-
-fn is_locked_flag(argument: &str) -> bool
-    ensures { result ≡ is_locked_flag argument.now }
-{
-    argument == "--locked"
 }
 
 fn first_position(arguments: &[String]) -> Option<&str>
@@ -54,10 +65,15 @@ fn first_position(arguments: &[String]) -> Option<&str>
         .find(|argument| is_position(argument))
 }
 
-// The making of a member of this name, if the store and the name are positions.
-fn member_at<'a>(store: &str, name: &'a str, locked: bool) -> Option<Command<'a>>
-    ensures { option_map task_of result ≡ add_actor_at (store.now ∷ name.now ∷ []) locked }
+// What `add-actor` is to do with these arguments: a store, a name, and its flag once at most, anywhere
+// among them.
+fn add_actor(arguments: &[String]) -> Option<Command<'_>>
+    ensures { option_map task_of result ≡ add_actor_with (map string_bytes arguments.now) }
 {
+    let mut words = Words::new(arguments, "--locked");
+    let store = words.next()?;
+    let name = words.next()?;
+    let locked = words.end()?;
     if is_position(store) && is_position(name) {
         Some(Command::AddActor { name, locked })
     } else {
@@ -65,40 +81,26 @@ fn member_at<'a>(store: &str, name: &'a str, locked: bool) -> Option<Command<'a>
     }
 }
 
-// What `add-actor` is to do with three arguments, one of which has to be its flag.
-fn flagged_member<'a>(first: &'a str, second: &'a str, third: &'a str) -> Option<Command<'a>>
-    ensures { option_map task_of result
-        ≡ add_actor_with (first.now ∷ second.now ∷ third.now ∷ []) }
+// What `add-peer` is to do with these arguments: a store, a host, a key, an address, and its flag once at
+// most, anywhere among them.
+fn add_peer(arguments: &[String]) -> Option<Command<'_>>
+    ensures { option_map task_of result ≡ add_peer_with (map string_bytes arguments.now) }
 {
-    if is_locked_flag(first) {
-        member_at(second, third, true)
-    } else if is_locked_flag(second) {
-        member_at(first, third, true)
-    } else if is_locked_flag(third) {
-        member_at(first, second, true)
+    let mut words = Words::new(arguments, "--relay");
+    let store = words.next()?;
+    let host = words.next()?;
+    let key = words.next()?;
+    let address = words.next()?;
+    let relay = words.end()?;
+    if is_position(store) && is_position(host) && is_position(key) && is_position(address) {
+        Some(Command::AddPeer(NewPeer {
+            host,
+            key,
+            address,
+            relay,
+        }))
     } else {
         None
-    }
-}
-
-// What `add-actor` is to do with these arguments: a store, a name, and its flag once at most,
-// anywhere among them.
-#[tactic(auto, using(crate::proofs::WordLemmas::too_few, crate::proofs::WordLemmas::too_many))]
-fn add_actor(arguments: &[String]) -> Option<Command<'_>>
-    ensures { option_map task_of result ≡ add_actor_with (map string_bytes arguments.now) }
-{
-    let count = arguments.len();
-    if count < 2 {
-        return None;
-    }
-    if count > 3 {
-        return None;
-    }
-    let (first, second) = (&arguments[0], &arguments[1]);
-    if count == 2 {
-        member_at(first, second, false)
-    } else {
-        flagged_member(first, second, &arguments[2])
     }
 }
 
@@ -156,6 +158,7 @@ pub fn command_of(arguments: &[String]) -> Option<Command<'_>>
         "inetd" => on_store(Command::Inetd, arguments),
         "serve" => serve(arguments),
         "add-actor" => add_actor(arguments),
+        "add-peer" => add_peer(arguments),
         "check" => on_store(Command::Check, arguments),
         _ => None,
     }

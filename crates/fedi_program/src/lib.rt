@@ -5,16 +5,19 @@
 mod adapters;
 mod commands;
 mod connection;
+mod enrolling;
 mod members;
+mod peers;
 mod printing;
 mod running;
 mod serving;
 mod statuses;
 mod stores;
 mod usage;
+mod words;
 
 pub use adapters::{Reading, SystemClock, SystemEntropy, Writing};
-pub use commands::{Command, address_of, command_of, store_of};
+pub use commands::{Command, NewPeer, address_of, command_of, store_of};
 pub use connection::{Connection, serve_connection};
 pub use fedi_effects::Seed;
 pub use running::{Ended, run, run_alone};

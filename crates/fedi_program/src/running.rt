@@ -1,7 +1,7 @@
 //! The whole program, over whatever lies outside.
 
 ghost use Rattle.std.specs.Prelude.{◌≡◌, ◌≢◌, ◌↔◌, ◌<◌, ℕ, All, Bool, false, true, List, [], IfSome, IsTrue, Some, None, map, string_bytes, vec_len};
-ghost use Rattle.fedi_program.specs.Commands.{AddActor, Check, Inetd, Init, Serve, Usage, address_of, names_store, task_in};
+ghost use Rattle.fedi_program.specs.Commands.{AddActor, AddPeer, Check, Inetd, Init, Serve, Usage, address_of, names_store, task_in};
 ghost use Rattle.fedi_talk.specs.Endings.{WritesUnlessFailed, faults_by, output_by, scene_by};
 ghost use Rattle.fedi_program.specs.Endings.{HasCauses, Prints, status_of};
 ghost use Rattle.fedi_program.specs.Members.{chance_by};
@@ -12,12 +12,13 @@ ghost use Rattle.fedi_log.specs.Keeping.{base_of, state_of};
 ghost use Rattle.fedi_log.specs.Log.{given};
 ghost use Rattle.fedi_logged.specs.Marks.{Survives};
 ghost use Rattle.fedi_program.specs.Serving.{ServesDoors};
-ghost use Rattle.fedi_program.specs.Stores.{AddsMember, ChecksStore, Counts, IsKeptSafe, MakesStore, ServesStore, TalksOverStore, medium_by};
+ghost use Rattle.fedi_program.specs.Stores.{AddsMember, AddsPeer, ChecksStore, Counts, IsKeptSafe, MakesStore, ServesStore, TalksOverStore, medium_by};
 ghost use Rattle.fedi_program.specs.Usage.{usage_text};
 
-use crate::commands::{Command, command_of};
+use crate::commands::{Command, NewPeer, command_of};
 use crate::connection::{Connection, serve_connection};
 use crate::members::make_member;
+use crate::peers::make_peer;
 use crate::printing::{print, tell};
 use crate::serving::serve;
 use crate::statuses::{CUT_SHORT, DONE, NOT_ACCEPTED, OUT_OF_MEMORY, READ_FAULT, WRITE_FAULT};
@@ -119,6 +120,32 @@ fn add_actor<S, O: Sink, D: Disk, C: Clock, E: Entropy>(
     }
 }
 
+/// Makes a peer of the store of the disk.
+fn add_peer<S, O: Sink, D: Disk, C: Clock>(
+    alloc: Global,
+    seed: Seed,
+    connection: &mut Connection<S, O, C>,
+    disk: D,
+    peer: NewPeer<'_>,
+) -> (u8, D)
+    ensures peered { AddsPeer (C.told connection.old.clock)
+        (medium_by D.shown D.crashes disk) (medium_by D.shown D.crashes result.1)
+        (output_by O.sent O.write_faults connection.old.out)
+        (output_by O.sent O.write_faults connection.new.out)
+        peer.entry.host.now peer.entry.key.now peer.entry.address.now peer.entry.relay result.0 }
+    ensures input { connection.new.input ≡ connection.old.input }
+    ensures clock { connection.new.clock ≡ connection.old.clock }
+{
+    match open_store(alloc, seed, disk) {
+        Ok(mut core) => {
+            let (out, clock) = (&mut connection.out, &connection.clock);
+            let status = make_peer(alloc, &mut core, out, clock, peer);
+            (status, close_store(core))
+        }
+        Err((fault, disk)) => (tell_of_store(&mut connection.out, fault), disk),
+    }
+}
+
 /// Prints how much the machine has. The answer is the exit status.
 fn count<O: Sink, P: Keeper>(alloc: Global, out: &mut O, core: &Core<IndexedShelf, P>) -> u8
     ensures counted { Counts (output_by O.sent O.write_faults out.old)
@@ -197,6 +224,16 @@ pub fn run_alone<S: Source, O: Sink, D: Disk, W, C: Clock, E: Entropy>(
         (output_by O.sent O.write_faults connection.old.out)
         (output_by O.sent O.write_faults connection.new.out) name locked result.status }
 
+    // A peer is made of the host, the key and the address, or the first reason not to is told, and each
+    // reason has its cause: at 7 a write failed, and at 5 the disk.
+    ensures peered { (host key address : List ℕ) (relay : Bool)
+        → task_in (map string_bytes arguments.now) ≡ Some (AddPeer host key address relay)
+        → AddsPeer (C.told connection.old.clock)
+        (medium_by D.shown D.crashes disk) (medium_by D.shown D.crashes result.disk)
+        (output_by O.sent O.write_faults connection.old.out)
+        (output_by O.sent O.write_faults connection.new.out)
+        host key address relay result.status }
+
     // A store is made, or the first reason not to is told.
     ensures made { (host : List ℕ)
         → task_in (map string_bytes arguments.now) ≡ Some (Init host)
@@ -247,7 +284,8 @@ pub fn run_alone<S: Source, O: Sink, D: Disk, W, C: Clock, E: Entropy>(
         → entropy.new ≡ entropy.old }
 
     // A failure has its cause outside: the count of failed reads rose exactly at 6, and that of
-    // failed writes at 7. (Of the making of a member or a store `added` and `made` say so.)
+    // failed writes at 7. (Of the making of a member, a peer or a store `added`, `peered` and `made` say
+    // so.)
     ensures causes { task_in (map string_bytes arguments.now) ≡ Some Inetd → HasCauses
         (faults_by S.read_faults O.write_faults connection.old.input connection.old.out)
         (faults_by S.read_faults O.write_faults connection.new.input connection.new.out)
@@ -266,6 +304,14 @@ pub fn run_alone<S: Source, O: Sink, D: Disk, W, C: Clock, E: Entropy>(
         }
         Some(Command::AddActor { name, locked }) => {
             let (status, disk) = add_actor(alloc, seed, connection, disk, entropy, name, locked);
+            Ended {
+                status,
+                disk,
+                benches,
+            }
+        }
+        Some(Command::AddPeer(peer)) => {
+            let (status, disk) = add_peer(alloc, seed, connection, disk, peer);
             Ended {
                 status,
                 disk,
@@ -308,7 +354,10 @@ pub fn run_alone<S: Source, O: Sink, D: Disk, W, C: Clock, E: Entropy>(
 /// `usage` prints the arguments that the program takes. `init STORE HOST` makes a store for the host,
 /// and prints `made HOST`. `add-actor STORE NAME` makes a member of this name, whose key is drawn from
 /// the entropy, and prints `NAME KEY`, the key in 64 digits; with `--locked`, which may stand anywhere
-/// behind the command, the member answers each Follow. `inetd STORE` serves one connection: it answers
+/// behind the command, the member answers each Follow. `add-peer STORE HOST KEY ADDRESS` makes the server
+/// of this host a peer, which is reached at the address and has the same key, 64 digits, and prints
+/// `peer HOST`; with `--relay`, which may stand anywhere behind the command, the peer may deliver what
+/// actors of other hosts did. `inetd STORE` serves one connection: it answers
 /// the requests on the input one after the other, and keeps what they make. `serve STORE ADDRESS` serves
 /// the connections that the doors of the benches give, each door by a worker in a thread of its own, until
 /// all doors close; binding to the address is the doors' work. `check STORE` opens the
@@ -323,13 +372,13 @@ pub fn run_alone<S: Source, O: Sink, D: Disk, W, C: Clock, E: Entropy>(
 /// | 4 | the store is damaged | `damaged at byte P`, `damaged at record R` |
 /// | 5 | the disk failed | `disk fault` |
 /// | 6 | a read failed, or no key could be drawn | nothing |
-/// | 7 | a write failed; a member or store that was to be made was | |
+/// | 7 | a write failed; a member, peer or store that was to be made was | |
 /// | 8 | the input ended inside a request | |
 /// | 9 | a store was to be made, and the disk has other bytes | `exists` |
-/// | 10 | a rule is broken | `refused: bad name`, `refused: name taken`, `refused: key taken`, `refused: bad host` |
+/// | 10 | a rule is broken | `refused: bad name`, `refused: name taken`, `refused: key taken`, `refused: bad host`, `refused: host taken`, `refused: bad key`, `refused: bad address` |
 /// | 11 | a door failed | nothing |
 /// | 12 | out of memory | nothing |
-/// | 13 | the store has no room for a member | `full` |
+/// | 13 | the store has no room for a member or a peer | `full` |
 ///
 /// A status other than 0 stays if its text cannot be written. The disk comes back with all that was
 /// kept, and the benches come back too. The seed is what texts are looked up by: nothing that can be seen depends on it but time.
@@ -388,6 +437,16 @@ pub fn run<
         (output_by O.sent O.write_faults connection.old.out)
         (output_by O.sent O.write_faults connection.new.out) name locked result.status }
 
+    // A peer is made of the host, the key and the address, or the first reason not to is told, and each
+    // reason has its cause: at 7 a write failed, and at 5 the disk.
+    ensures peered { (host key address : List ℕ) (relay : Bool)
+        → task_in (map string_bytes arguments.now) ≡ Some (AddPeer host key address relay)
+        → AddsPeer (C.told connection.old.clock)
+        (medium_by D.shown D.crashes disk) (medium_by D.shown D.crashes result.disk)
+        (output_by O.sent O.write_faults connection.old.out)
+        (output_by O.sent O.write_faults connection.new.out)
+        host key address relay result.status }
+
     // A store is made, or the first reason not to is told.
     ensures made { (host : List ℕ)
         → task_in (map string_bytes arguments.now) ≡ Some (Init host)
@@ -438,7 +497,8 @@ pub fn run<
         → entropy.new ≡ entropy.old }
 
     // A failure has its cause outside: the count of failed reads rose exactly at 6, and that of
-    // failed writes at 7. (Of the making of a member or a store `added` and `made` say so.)
+    // failed writes at 7. (Of the making of a member, a peer or a store `added`, `peered` and `made` say
+    // so.)
     ensures causes { task_in (map string_bytes arguments.now) ≡ Some Inetd → HasCauses
         (faults_by S.read_faults O.write_faults connection.old.input connection.old.out)
         (faults_by S.read_faults O.write_faults connection.new.input connection.new.out)

@@ -1,9 +1,9 @@
 use Rattle.std.proofs.Common.{◌≡◌, true, false, None, inl, inr, refl}
-use Rattle.fedi_log.specs.Keeping.{base_of, state_of}
-use Rattle.fedi_log.specs.Log.{given}
+use Rattle.fedi_log.specs.Keeping.{state_of}
 use Rattle.std.proofs.lemmas.Bool.{false_from_ne_true}
 use Rattle.fedi_talk.proofs.SessionLemmas.{now_of}
-use Rattle.fedi_logged.proofs.Crashing.{survives_first}
+use Rattle.fedi_program.specs.Members.{key_line}
+use Rattle.fedi_program.proofs.MemberLemmas.{unmoved}
 use Rattle.fedi_program.proofs.members.make_member.Goals as goal
 
 pub returns-in_default-parse-clause-made : goal.returns-in_default-parse-clause-made
@@ -14,15 +14,24 @@ returns-in_default-parse-clause-made g c =
       c.clamped-moment.result,
       record { bytes = c.in-Ok.ensures.bytes; length_is = c.fill.array_long; calm = c.in-Ok.ensures.cause.calm },
       now_of _ c.now.result _ c.now.ensures c.clamped-moment.ensures,
-      inl (bad, refl, c.tell.ensures),
+      inl (bad, (refl, c.tell.ensures)),
+    )
+
+pub returns-clause-made : goal.returns-clause-made
+returns-clause-made g c =
+    let ends = c.enroll.ensures.ends (key_line c.args.name.now c.fill.new.into) c.key_line.ensures in
+    inr (
+      c.fill.new.into,
+      c.clamped-moment.result,
+      record { bytes = c.in-Ok.ensures.bytes; length_is = c.fill.array_long; calm = c.in-Ok.ensures.cause.calm },
+      now_of _ c.now.result _ c.now.ensures c.clamped-moment.ensures,
+      inr (c.in-Some.ensures.name.0 refl, rw (c.in-Some.ensures.same, c.digest.ensures) at ends),
     )
 
 pub returns-in_default-clause-crashes : goal.returns-in_default-clause-crashes
 returns-in_default-clause-crashes g c =
-    let opened = state_of c.args.core.now.history (g.P.Keeper.shown c.args.core.now.keeper) in
-    (given c.args.core.now.history, survives_first (base_of g.P.Keeper.growth g.P.Keeper.room opened) None opened _ refl refl (g.met.P.Keeper.crash_now c.args.core.now.keeper))
+    unmoved g.P.Keeper.growth g.P.Keeper.room (state_of c.args.core.now.history (g.P.Keeper.shown c.args.core.now.keeper)) _ (g.met.P.Keeper.crash_now c.args.core.now.keeper)
 
 pub returns-in_default-parse-clause-crashes : goal.returns-in_default-parse-clause-crashes
 returns-in_default-parse-clause-crashes g c =
-    let opened = state_of c.args.core.now.history (g.P.Keeper.shown c.args.core.now.keeper) in
-    (given c.args.core.now.history, survives_first (base_of g.P.Keeper.growth g.P.Keeper.room opened) None opened _ refl refl (g.met.P.Keeper.crash_now c.args.core.now.keeper))
+    unmoved g.P.Keeper.growth g.P.Keeper.room (state_of c.args.core.now.history (g.P.Keeper.shown c.args.core.now.keeper)) _ (g.met.P.Keeper.crash_now c.args.core.now.keeper)

@@ -36,4 +36,4 @@ returns-in-Ok-new-clause-causes g c = has_causes _ _ c.serve_connection-end.resu
 pub serve_connection-end-requires-clause-hosted : goal.serve_connection-end-requires-clause-hosted
 serve_connection-end-requires-clause-hosted g c =
     let opens = c.in-Ok.ensures.opened in
-    hosted c.in-Ok.core.history opens.some opens.sound.legal opens.sound.built
+    hosted c.in-Ok.core.history opens.some opens.sound.legal

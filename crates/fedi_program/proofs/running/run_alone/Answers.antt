@@ -1,9 +1,10 @@
 use Rattle.std.proofs.Common.{ℕ, List, Bool}
 use Rattle.fedi_talk.specs.Endings.{output_by}
 use Rattle.fedi_program.specs.Members.{chance_by}
-use Rattle.fedi_program.specs.Stores.{AddsMember, MakesStore, medium_by}
+use Rattle.fedi_program.specs.Stores.{AddsMember, AddsPeer, MakesStore, medium_by}
 use Rattle.fedi_program.proofs.MemberLemmas.{of_host, of_task}
-use Rattle.fedi_program.proofs.RunLemmas.{added_safe, checked_safe, served_safe, store_talks}
+use Rattle.fedi_program.proofs.PeerLemmas.{of_peer}
+use Rattle.fedi_program.proofs.RunLemmas.{added_safe, checked_safe, peered_safe, served_safe, store_talks}
 use Rattle.fedi_program.proofs.running.run_alone.Goals as goal
 
 pub returns-in-Some-Inetd-clause-talk : goal.returns-in-Some-Inetd-clause-talk
@@ -14,6 +15,9 @@ returns-in-Some-Inetd-clause-crashes g c = λ opens. served_safe _ _ _ _ _ _ c.i
 
 pub returns-in-Some-AddActor-clause-crashes : goal.returns-in-Some-AddActor-clause-crashes
 returns-in-Some-AddActor-clause-crashes g c = λ opens. added_safe _ _ _ _ _ _ _ _ _ _ c.add_actor-status.ensures.added
+
+pub returns-in-Some-AddPeer-clause-crashes : goal.returns-in-Some-AddPeer-clause-crashes
+returns-in-Some-AddPeer-clause-crashes g c = λ opens. peered_safe _ _ _ _ _ _ _ _ _ _ c.add_peer-status.ensures.peered
 
 pub returns-in-Some-Check-clause-crashes : goal.returns-in-Some-Check-clause-crashes
 returns-in-Some-Check-clause-crashes g c = λ opens. checked_safe _ _ _ _ _ c.check-status.ensures.checked
@@ -27,6 +31,15 @@ returns-in-Some-AddActor-clause-added g c =
     (chance_by g.E.Entropy.next g.E.Entropy.faults c.args.entropy.now) (chance_by g.E.Entropy.next g.E.Entropy.faults c.add_actor-status.new.entropy)
     (output_by g.O.Sink.sent g.O.Sink.write_faults c.args.connection.now.out) (output_by g.O.Sink.sent g.O.Sink.write_faults c.add_actor-status.new.connection.out)
     n l c.add_actor-status.result.0) _ _ _ _ _ asked c.add_actor-status.ensures.added
+
+pub returns-in-Some-AddPeer-clause-peered : goal.returns-in-Some-AddPeer-clause-peered
+returns-in-Some-AddPeer-clause-peered g c =
+    let asked = rw c.in-Some-AddPeer.field-0-is at c.in-Some-AddPeer.ensures in
+    λ host key address relay. of_peer
+    (λ (h k a : List ℕ) (r : Bool). AddsPeer (g.C.Clock.told c.args.connection.now.clock)
+    (medium_by g.D.Disk.shown g.D.Disk.crashes c.args.disk) (medium_by g.D.Disk.shown g.D.Disk.crashes c.add_peer-status.result.1)
+    (output_by g.O.Sink.sent g.O.Sink.write_faults c.args.connection.now.out) (output_by g.O.Sink.sent g.O.Sink.write_faults c.add_peer-status.new.connection.out)
+    h k a r c.add_peer-status.result.0) _ _ _ _ _ _ _ _ _ asked c.add_peer-status.ensures.peered
 
 pub returns-in-Some-Init-clause-made : goal.returns-in-Some-Init-clause-made
 returns-in-Some-Init-clause-made g c =

@@ -12,7 +12,7 @@ serve_core-end-requires-send-S g c κs = search (shelf_send, sendable)
 pub serve_core-end-requires-clause-hosted : goal.serve_core-end-requires-clause-hosted
 serve_core-end-requires-clause-hosted g c κs lives =
     let opens = c.in-Ok.ensures.opened in
-    hosted c.in-Ok.core.history opens.some opens.sound.legal opens.sound.built
+    hosted c.in-Ok.core.history opens.some opens.sound.legal
 
 pub returns-in-Ok : goal.returns-in-Ok
 returns-in-Ok g c =

@@ -1,12 +1,12 @@
 use Rattle.std.proofs.Common.{None, refl}
 use Rattle.fedi_core.specs.declared.keeping.KeepFault.TheVariants as faults
 use Rattle.fedi_log.specs.Keeping.{base_of, state_of}
-use Rattle.fedi_log.specs.Log.{Full, Kept, NoEntry, given}
+use Rattle.fedi_log.specs.Log.{Full, Kept, NoEntry}
 use Rattle.fedi_logged.specs.Turns.{standing_by}
-use Rattle.fedi_logged.proofs.Crashing.{survives_first, survives_turn}
-use Rattle.fedi_program.proofs.MemberLemmas.{broken_unmade, settles, settling_survives}
+use Rattle.fedi_logged.proofs.Crashing.{survives_turn}
+use Rattle.fedi_program.proofs.MemberLemmas.{broken_unmade, settles, settling_survives, unmoved}
 use Rattle.fedi_logged.proofs.Turning.{full_turn_by, kept_turn, memory_turn_by, unkept_by}
-use Rattle.fedi_program.proofs.members.enroll.Goals as goal
+use Rattle.fedi_program.proofs.enrolling.keep_entry.Goals as goal
 
 pub returns-in-Err-clause-unmade : goal.returns-in-Err-clause-unmade
 returns-in-Err-clause-unmade g c =
@@ -15,13 +15,11 @@ returns-in-Err-clause-unmade g c =
 
 pub returns-in-Err-clause-crashes : goal.returns-in-Err-clause-crashes
 returns-in-Err-clause-crashes g c =
-    let opened = state_of c.args.core.now.history (g.P.Keeper.shown c.args.core.now.keeper) in
-    (given c.args.core.now.history, survives_first (base_of g.P.Keeper.growth g.P.Keeper.room opened) None opened _ refl refl (g.met.P.Keeper.crash_now c.args.core.now.keeper))
+    unmoved g.P.Keeper.growth g.P.Keeper.room (state_of c.args.core.now.history (g.P.Keeper.shown c.args.core.now.keeper)) _ (g.met.P.Keeper.crash_now c.args.core.now.keeper)
 
-pub returns-in_default-key_line-clause-crashes : goal.returns-in_default-key_line-clause-crashes
-returns-in_default-key_line-clause-crashes g c =
-    let opened = state_of c.args.core.now.history (g.P.Keeper.shown c.args.core.now.keeper) in
-    (given c.args.core.now.history, survives_first (base_of g.P.Keeper.growth g.P.Keeper.room opened) None opened _ refl refl (g.met.P.Keeper.crash_now c.args.core.now.keeper))
+pub returns-in_default-line-clause-crashes : goal.returns-in_default-line-clause-crashes
+returns-in_default-line-clause-crashes g c =
+    unmoved g.P.Keeper.growth g.P.Keeper.room (state_of c.args.core.now.history (g.P.Keeper.shown c.args.core.now.keeper)) _ (g.met.P.Keeper.crash_now c.args.core.now.keeper)
 
 pub returns-in-Ok-keep-clause-crashes : goal.returns-in-Ok-keep-clause-crashes
 returns-in-Ok-keep-clause-crashes g c =

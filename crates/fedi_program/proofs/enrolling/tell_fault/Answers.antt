@@ -1,4 +1,4 @@
-use Rattle.fedi_program.proofs.members.tell_fault.Goals as goal
+use Rattle.fedi_program.proofs.enrolling.tell_fault.Goals as goal
 
 pub returns-in-NameTaken : goal.returns-in-NameTaken
 returns-in-NameTaken g c = rw c.in-NameTaken.is c.tell.ensures

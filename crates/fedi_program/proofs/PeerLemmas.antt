@@ -1,0 +1,77 @@
+-- How the making of a peer ends, and with which status.
+use Rattle.std.proofs.Common.{◌≡◌, ℕ, Bool, true, false, List, Option, Some, inl, inr, refl, sym, subst, ◌∙◌}
+use Rattle.fedi_address.specs.Hosts.{IsHost}
+use Rattle.fedi_log.specs.Keeping.{State}
+use Rattle.fedi_mac.specs.Keys.{key_of}
+use Rattle.fedi_startup.specs.Surviving.{growth, room}
+use Rattle.fedi_talk.specs.Conversations.{IsNow}
+use Rattle.fedi_talk.specs.Endings.{Output}
+use Rattle.fedi_town.specs.Histories.{town}
+use Rattle.fedi_town.specs.Legal.{is_taken_host}
+use Rattle.fedi_town.specs.Towns.{Town}
+use Rattle.fedi_program.specs.Commands.{AddPeer, Task}
+use Rattle.fedi_program.specs.Members.{EndsWith}
+use Rattle.fedi_program.specs.Peers.{MakesPeer, peer_entry, peer_line}
+use Rattle.fedi_program.specs.Runs.{is_status_of}
+use Rattle.fedi_program.specs.Stores.{AddsPeer, Medium}
+use Rattle.fedi_program.proofs.MemberLemmas.{end_status}
+use Rattle.fedi_program.proofs.RunLemmas.{known_status, told_status}
+
+-- what is known of the host that was read is known of the text that was given
+pub at_host : (t : Town) (host read : List ℕ) (taken : Bool) → read ≡ host → IsHost read → is_taken_host t read ≡ taken → IsHost host × (is_taken_host t host ≡ taken)
+at_host t host read taken same is known = subst (λ (h : List ℕ). IsHost h × (is_taken_host t h ≡ taken)) same (is, known)
+
+-- The host and the address that were read are the texts that were given.
+pub peer_ends : (growth room : ℕ → ℕ) (told : Option ℕ) (before after : State) (first now : Output) (host read key secret address copied : List ℕ) (relay : Bool)
+    (moment status : ℕ) → read ≡ host → copied ≡ address → IsHost read → is_taken_host (town before.history) read ≡ false → key_of key ≡ Some secret → IsNow told moment
+    → EndsWith growth room before after first now (peer_entry read secret copied relay moment) (peer_line host) status
+    → MakesPeer growth room told before after first now host key address relay status
+peer_ends growth room told before after first now host read key secret address copied relay moment status same_host same_address is free read_key moment_is ends =
+    inr (inr (inr (inr (
+      (at_host (town before.history) host read false same_host is free).0,
+      (at_host (town before.history) host read false same_host is free).1,
+      secret,
+      moment,
+      read_key,
+      moment_is,
+      subst (λ (h : List ℕ). EndsWith growth room before after first now (peer_entry h secret address relay moment) (peer_line host) status) same_host
+          (subst (λ (a : List ℕ). EndsWith growth room before after first now (peer_entry read secret a relay moment) (peer_line host) status) same_address ends),
+    ))))
+
+-- ---- the status
+
+peer_status : (growth room : ℕ → ℕ) (told : Option ℕ) (before after : State) (first now : Output) (host key address : List ℕ) (relay : Bool) (status : ℕ)
+    → MakesPeer growth room told before after first now host key address relay status → is_status_of (Some (AddPeer host key address relay)) status ≡ true
+peer_status growth room told before after first now host key address relay status (inl memory) =
+    known_status (Some (AddPeer host key address relay)) status 12 refl memory.0
+peer_status growth room told before after first now host key address relay status (inr (inl bad)) =
+    known_status (Some (AddPeer host key address relay)) status 10 refl bad.1.1.0
+peer_status growth room told before after first now host key address relay status (inr (inr (inl taken))) =
+    known_status (Some (AddPeer host key address relay)) status 10 refl taken.2.1.0
+peer_status growth room told before after first now host key address relay status (inr (inr (inr (inl bad)))) =
+    known_status (Some (AddPeer host key address relay)) status 10 refl bad.3.1.0
+peer_status growth room told before after first now host key address relay status (inr (inr (inr (inr (_, _, secret, moment, _, _, ends))))) =
+    end_status (Some (AddPeer host key address relay)) growth room before after first now (peer_entry host secret address relay moment) (peer_line host) status
+    refl refl refl refl refl refl ends
+
+-- how the run ends
+pub peers_status : (told : Option ℕ) (before after : Medium) (first now : Output) (host key address : List ℕ) (relay : Bool) (status : ℕ)
+    → AddsPeer told before after first now host key address relay status → is_status_of (Some (AddPeer host key address relay)) status ≡ true
+peers_status told before after first now host key address relay status (inl (fault, _, tells)) =
+    told_status (Some (AddPeer host key address relay)) fault first now status refl refl refl refl tells
+peers_status told before after first now host key address relay status (inr (opened, closed, _, made)) =
+    peer_status growth room told opened closed first now host key address relay status made
+
+-- ---- the task
+
+-- what holds of the peer that the command has holds of the one that is asked for
+pub of_peer : (P : List ℕ → List ℕ → List ℕ → Bool → Type 0) (task : Option Task) (host key address : List ℕ) (relay : Bool) (h k a : List ℕ) (r : Bool)
+    → Some (AddPeer host key address relay) ≡ task → P host key address relay → task ≡ Some (AddPeer h k a r) → P h k a r
+of_peer P task host key address relay h k a r is holds asked =
+    let same : Some (AddPeer host key address relay) ≡ Some (AddPeer h k a r) = is ∙ asked in
+    let hosts : host ≡ h = cc in
+    let keys : key ≡ k = cc in
+    let addresses : address ≡ a = cc in
+    let relays : relay ≡ r = cc in
+    subst (λ (x : List ℕ). P x k a r) hosts (subst (λ (x : List ℕ). P host x a r) keys (subst (λ (x : List ℕ). P host key x r) addresses
+    (subst (P host key address) relays holds)))

@@ -1,0 +1,111 @@
+//! Keeping the entry of a new member or peer.
+
+ghost use Rattle.std.specs.Prelude.{◌≡◌, ℕ, List, IfErr, IfOk, None, Ok, OnOk};
+ghost use Rattle.fedi_core.specs.Commands.{IsCommand};
+ghost use Rattle.fedi_core.specs.Keeping.{IsKept};
+ghost use Rattle.fedi_log.specs.Keeping.{base_of, state_of};
+ghost use Rattle.fedi_log.specs.Log.{given};
+ghost use Rattle.fedi_logged.specs.Marks.{SurvivesMarked};
+ghost use Rattle.fedi_talk.specs.Endings.{output_by};
+ghost use Rattle.fedi_program.specs.Members.{EndsWith, IsUnmade, TellsFault};
+ghost use Rattle.fedi_town.specs.Histories.{town};
+ghost use Rattle.fedi_town.specs.Legal.{broken_command};
+
+use crate::printing::{print, tell};
+use crate::statuses::{DISK_FAULT, FULL, OUT_OF_MEMORY, REFUSED};
+use fedi_core::{Core, KeepError, KeepFault};
+use fedi_index::IndexedShelf;
+use fedi_objects::Entry;
+use fedi_outside::{Failed, Keeper, Sink};
+use fedi_town::CommandFault;
+use std::alloc::{AllocError, Global};
+
+/// Tells why a command was refused. The answer is the exit status.
+fn tell_fault<O: Sink>(out: &mut O, fault: CommandFault) -> u8
+    ensures { TellsFault fault (output_by O.sent O.write_faults out.old)
+        (output_by O.sent O.write_faults out.new) result }
+{
+    match fault {
+        CommandFault::NameTaken => tell(out, REFUSED, b"refused: name taken\n"),
+        CommandFault::KeyTaken => tell(out, REFUSED, b"refused: key taken\n"),
+        CommandFault::HostTaken => tell(out, REFUSED, b"refused: host taken\n"),
+        CommandFault::BadAddress => tell(out, REFUSED, b"refused: bad address\n"),
+        CommandFault::Full => tell(out, FULL, b"full\n"),
+        CommandFault::KeeperFault => tell(out, DISK_FAULT, b"disk fault\n"),
+        CommandFault::Memory => OUT_OF_MEMORY,
+    }
+}
+
+/// Keeps the entry of a new member or peer, and hands back the line that tells of it. The first rule that
+/// is broken is reported whatever memory is left, and there is a line before the entry is kept, so that
+/// nobody is kept of whom it cannot be told. A keeper that failed is asked once to settle what it may have
+/// left, so that the entry is not found by the next opening, unless that fails too.
+#[tactic(auto, using(fedi_core::proofs::Commanding::command_may))]
+fn keep_entry<P: Keeper>(
+    alloc: Global,
+    core: &mut Core<IndexedShelf, P>,
+    entry: Entry,
+    line: Result<Vec<u8>, AllocError>,
+) -> Result<Vec<u8>, CommandFault>
+    requires command { IsCommand (town core.old.history) entry }
+    ensures line { IfOk result (λ told. line ≡ Ok told) }
+    ensures unbroken { OnOk result (broken_command (town core.old.history) entry ≡ None) }
+    ensures kept { OnOk result (IsKept P.growth P.room core.old.history entry
+        (P.shown core.old.keeper) (P.shown core.new.keeper) core.new.history) }
+    ensures unmade { IfErr result (λ fault. IsUnmade P.room
+        (state_of core.old.history (P.shown core.old.keeper))
+        (state_of core.new.history (P.shown core.new.keeper)) entry fault) }
+    // A crash on the way leaves the records, with at most one more: the one in doubt, or the entry's.
+    ensures crashes { SurvivesMarked
+        (base_of P.growth P.room (state_of core.old.history (P.shown core.old.keeper)))
+        None (given core.old.history) (state_of core.new.history (P.shown core.new.keeper))
+        (P.crashes core.old.keeper) (P.crashes core.new.keeper) }
+{
+    if let Err(fault) = core.facts().judge_command(&entry) {
+        return Err(fault);
+    }
+    let Ok(line) = line else {
+        return Err(CommandFault::Memory);
+    };
+    match core.keep(alloc, entry) {
+        Ok(()) => Ok(line),
+        Err(KeepError { fault, .. }) => match fault {
+            KeepFault::Full => Err(CommandFault::Full),
+            KeepFault::Failed => {
+                // Whatever becomes of it, the command failed.
+                let _ = core.settle();
+                Err(CommandFault::KeeperFault)
+            }
+            KeepFault::Memory => Err(CommandFault::Memory),
+        },
+    }
+}
+
+/// Keeps the entry of a new member or peer, and prints the line that tells of it, or why it was refused.
+/// Out of memory for the line, nothing is kept. The answer is the exit status: the entry was kept at 0 and
+/// 7. At 5 the disk failed: the entry was not kept, unless the disk failed again when it was to take back
+/// what it had of the entry, and then the next opening may find it.
+pub fn enroll<O: Sink, P: Keeper>(
+    alloc: Global,
+    core: &mut Core<IndexedShelf, P>,
+    out: &mut O,
+    entry: Entry,
+    line: Result<Vec<u8>, AllocError>,
+) -> u8
+    requires command { IsCommand (town core.old.history) entry }
+    ensures ends { (text : List ℕ) → IfOk line (λ told. told.items ≡ text)
+        → EndsWith P.growth P.room
+        (state_of core.old.history (P.shown core.old.keeper))
+        (state_of core.new.history (P.shown core.new.keeper))
+        (output_by O.sent O.write_faults out.old) (output_by O.sent O.write_faults out.new)
+        entry text result }
+    ensures crashes { SurvivesMarked
+        (base_of P.growth P.room (state_of core.old.history (P.shown core.old.keeper)))
+        None (given core.old.history) (state_of core.new.history (P.shown core.new.keeper))
+        (P.crashes core.old.keeper) (P.crashes core.new.keeper) }
+{
+    match keep_entry(alloc, core, entry, line) {
+        Ok(line) => print(out, &line),
+        Err(fault) => tell_fault(out, fault),
+    }
+}
