@@ -43,6 +43,27 @@ def local(name, activity, repeat=None, at=MOMENT):
     return b"\4" + text(name) + key + activity + moment(at)
 
 
+def peer(host, key, address="127.0.0.1:1", at=MOMENT):
+    """A peer that does not relay."""
+    return b"\3" + text(host) + key + text(address) + b"\0" + moment(at)
+
+
+def remote(host, inbox, activity, at=MOMENT):
+    return b"\5" + text(host) + text(inbox) + activity + moment(at)
+
+
+def delivered(kind, id, actor, object):
+    """An activity of another server about the object of this id, which names nobody."""
+    return optional(id) + bytes([kind]) + optional(actor) + b"\1" + text(object) + b"\0" + 5 * number(0) + 5 * b"\0" + number(0)
+
+
+def delivered_note(id, actor, object, to, content):
+    """A Create by another server's actor of a note of this id."""
+    fields = texts(to) + 4 * number(0)
+    whole = optional(object) + text("Note") + b"\0" + fields + b"\0" + optional(content) + 3 * b"\0" + 4 * b"\0" + number(0)
+    return optional(id) + bytes([CREATE]) + optional(actor) + b"\2" + whole + b"\0" + fields + 5 * b"\0" + number(0)
+
+
 def note(to, cc, content):
     """A Create of a note."""
     fields = texts(to) + texts(cc) + 3 * number(0)

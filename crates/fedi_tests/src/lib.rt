@@ -67,6 +67,8 @@ mod cases;
 #[cfg(test)]
 mod members;
 #[cfg(test)]
+mod peers;
+#[cfg(test)]
 mod program;
 #[cfg(test)]
 mod runs;

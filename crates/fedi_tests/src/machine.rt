@@ -4,6 +4,7 @@ ghost use Rattle.fedi_town.specs.Legal.{IsLegal};
 
 use crate::cases::SECONDS;
 use crate::example::{MEMBERS, TOWN};
+use crate::opening::add_all;
 use crate::program::{FIRST, NOTE};
 use crate::rows::{expect, seed};
 use crate::runs::are_texts;
@@ -45,20 +46,6 @@ const CALLERS: [(&str, u32, &str); 6] = [
     ("far.example", 4_294_967_295, NOT_FOUND),
 ];
 
-fn keep<K: Keeper>(keeper: &mut K, record: &[u8]) -> Result<(), Fail> {
-    keeper.reserve(record.len())?;
-    keeper.settle()?;
-    keeper.append(record)?;
-    Ok(())
-}
-
-fn keep_all<K: Keeper>(keeper: &mut K, records: &[&[u8]]) -> Result<(), Fail> {
-    for record in records {
-        keep(keeper, record)?;
-    }
-    Ok(())
-}
-
 /// What is wanted of a machine.
 #[derive(Clone, Copy)]
 enum Wanted {
@@ -98,7 +85,7 @@ fn expect_over(alloc: Global, mut keeper: MemoryKeeper, wanted: Wanted) -> Resul
 /// it kept them. It is made here alone, and lent.
 fn expect_machine(alloc: Global, end: u64, records: &[&[u8]], wanted: Wanted) -> Result<(), Fail> {
     let mut keeper = MemoryKeeper::at(alloc, end);
-    keep_all(&mut keeper, records)?;
+    add_all(&mut keeper, records)?;
     expect_over(alloc, keeper, wanted)
 }
 
@@ -199,7 +186,7 @@ fn expect_served(
 /// this before it kept them, gives these replies to two posts.
 fn expect_replies(alloc: Global, end: u64, wanted: &[&str]) -> Result<(), Fail> {
     let mut keeper = MemoryKeeper::at(alloc, end);
-    keep_all(&mut keeper, &MEMBERS)?;
+    add_all(&mut keeper, &MEMBERS)?;
     let mut posts = two_posts(alloc)?;
     expect_served(alloc, keeper, &mut posts, wanted)
 }

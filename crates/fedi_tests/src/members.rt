@@ -10,7 +10,7 @@ use std::test::Fail;
 
 /// A run of this command line over the example town without posts, whose writes take six bytes at
 /// most.
-fn making(line: &str) -> Case<'_> {
+pub(crate) fn making(line: &str) -> Case<'_> {
     Case {
         write_limit: 6,
         ..calm(line, &MEMBERS)
@@ -29,7 +29,7 @@ const LOCKED: &[u8] =
 pub const EVA: &str = "eva 303132333435363738396162636465666768696a6b6c6d6e6f70717273747576\n";
 
 /// No record.
-const NOTHING: &[u8] = &[];
+pub(crate) const NOTHING: &[u8] = &[];
 
 /// Ana's key, and too few bytes for one.
 const ANAS_KEY: &[u8] = &[0; 32];
@@ -97,7 +97,7 @@ const FAULTS: [(&[u64], &[u64], u8, &str, &[u8]); 10] = [
 ];
 
 /// Whether a run ends with this status, prints this, and keeps this record or none.
-fn ends(
+pub(crate) fn ends(
     alloc: Global,
     case: &Case,
     status: u8,

@@ -5,8 +5,8 @@
 ghost use Rattle.std.specs.Prelude.{◌≡◌, ◌<◌, []};
 
 use crate::records::{
-    ANA, BEN, CREATE, FOLLOW, HISTORY, HOSTED, LIKE, OWN_FOLLOW, PEER_SET, SAME_KEY, TWICE_TO,
-    WITH_ID,
+    ANA, BEN, CREATE, FOLLOW, FOLLOWED, HISTORY, HOSTED, LAKE, LIKE, LIKED, LIKED_TOO, NO_ADDRESS,
+    OF_HILL, OWN_FOLLOW, OWN_PEER, SAME_KEY, TRIED, TWICE_TO, WITH_ID,
 };
 use crate::rows::{expect, seed};
 use fedi_address::LocalName;
@@ -22,7 +22,7 @@ use std::sync::ledger::{Blank, Ledger};
 use std::test::Fail;
 
 // A rule, records that break it, and the place of the first that is damaged.
-const DAMAGED: [(&str, &[&[u8]], u64); 15] = [
+const DAMAGED: [(&str, &[&[u8]], u64); 24] = [
     ("the server is set up first", &[ANA, HOSTED], 0),
     ("the server is set up once", &[HOSTED, HOSTED], 1),
     ("the server is set up once", &[HOSTED, ANA, HOSTED], 2),
@@ -47,7 +47,34 @@ const DAMAGED: [(&str, &[&[u8]], u64); 15] = [
         &[HOSTED, ANA, BEN, TWICE_TO],
         3,
     ),
-    ("a peer is not taken so far", &[HOSTED, PEER_SET], 1),
+    ("the server is set up first", &[LAKE, HOSTED], 0),
+    ("a peer is another server", &[HOSTED, OWN_PEER], 1),
+    ("a peer is one once", &[HOSTED, LAKE, LAKE], 2),
+    ("a peer is reached somewhere", &[HOSTED, NO_ADDRESS], 1),
+    ("who delivers is a peer", &[HOSTED, ANA, LIKED, LAKE], 2),
+    ("an inbox is a member's", &[HOSTED, LAKE, ANA, LIKED_TOO], 3),
+    (
+        "a peer delivers what its own members do",
+        &[HOSTED, ANA, LAKE, OF_HILL],
+        3,
+    ),
+    (
+        "an activity comes to an inbox once",
+        &[HOSTED, ANA, BEN, LAKE, LIKED, LIKED_TOO, LIKED],
+        6,
+    ),
+    (
+        "what is tried is due",
+        &[HOSTED, ANA, BEN, CREATE, FOLLOW, LAKE, TRIED],
+        6,
+    ),
+    (
+        "what is tried is not tried again at once",
+        &[
+            HOSTED, ANA, BEN, CREATE, FOLLOW, LIKE, LAKE, FOLLOWED, TRIED, TRIED,
+        ],
+        9,
+    ),
     ("the first of several", &[HOSTED, b"", ANA, b""], 1),
     ("no record is empty", &[b""], 0),
 ];
@@ -77,13 +104,15 @@ enum Wanted {
     Fault(OpenFault),
 }
 
-// Whether the shelf has the Create, the Follow with its Accept, and the Like.
+// Whether the shelf has the Create, the Follow with its Accept, and the Like, and those of the peer, where the
+// Like that came to two inboxes is there once; and the attempt.
 fn has_history(shelf: &PlainShelf) -> bool {
     let facts = shelf.facts();
     let is_hosted = facts
         .host()
         .is_some_and(|host| host.text() == "club.example");
-    is_hosted && facts.actors().len() == 2 && facts.activities() == 4
+    let has_peer = facts.peers().len() == 1 && facts.attempts().len() == 1;
+    is_hosted && has_peer && facts.actors().len() == 2 && facts.activities() == 7
 }
 
 // The place of the first item of ana's outbox that everybody sees.
@@ -158,7 +187,7 @@ fn expect_failing(alloc: Global, place: u64) -> Result<(), Fail> {
     let mut keeper = MemoryKeeper::new(alloc);
     add_all(&mut keeper, &HISTORY)?;
     // Each record took two calls.
-    let failing = [place.saturating_add(12)].to_vec(alloc)?;
+    let failing = [place.saturating_add(2 * HISTORY.len() as u64)].to_vec(alloc)?;
     expect_one_failure(alloc, &mut keeper.failing(failing))
 }
 

@@ -118,8 +118,8 @@ pub const SAME_KEY: &[u8] = b"\
     \0\
     \0\0\0\0.\xbc\x98\xa1";
 
-/// Another server became a peer, which is not taken so far.
-pub const PEER_SET: &[u8] = b"\
+/// Another server became a peer.
+pub const LAKE: &[u8] = b"\
     \x03\
     \0\0\0\x0clake.example\
     0123456789abcdef0123456789abcdef\
@@ -127,5 +127,85 @@ pub const PEER_SET: &[u8] = b"\
     \0\
     \0\0\0\0.\xbc\x98\xa1";
 
+/// This server became a peer of its own.
+pub const OWN_PEER: &[u8] = b"\
+    \x03\
+    \0\0\0\x0cclub.example\
+    0123456789abcdef0123456789abcdef\
+    \0\0\0\x0e127.0.0.1:8081\
+    \0\
+    \0\0\0\0.\xbc\x98\xa1";
+
+/// A peer that is reached nowhere.
+pub const NO_ADDRESS: &[u8] = b"\
+    \x03\
+    \0\0\0\x0clake.example\
+    0123456789abcdef0123456789abcdef\
+    \0\0\0\0\
+    \0\
+    \0\0\0\0.\xbc\x98\xa1";
+
+/// The peer delivered a Follow of the first member, which is accepted at once.
+pub const FOLLOWED: &[u8] = b"\
+    \x05\
+    \0\0\0\x0clake.example\
+    \0\0\0\x03ana\
+    \x01\0\0\0\x22https://lake.example/users/eve/a/1\
+    \x0a\
+    \x01\0\0\0\x1ehttps://lake.example/users/eve\
+    \x01\
+    \0\0\0\x1ehttps://club.example/users/ana\
+    \0\0\0\0\0\0\0\0\0\0\0\0\0\0\0\0\0\0\0\0\0\0\0\0\0\0\0\0\0\0\
+    \0\0\0\0.\xbc\x98\xa1";
+
+/// It delivered a Like of the note to the first member.
+pub const LIKED: &[u8] = b"\
+    \x05\
+    \0\0\0\x0clake.example\
+    \0\0\0\x03ana\
+    \x01\0\0\0\x22https://lake.example/users/eve/a/2\
+    \x0f\
+    \x01\0\0\0\x1ehttps://lake.example/users/eve\
+    \x01\
+    \0\0\0\x22https://club.example/users/ana/o/1\
+    \0\0\0\0\0\0\0\0\0\0\0\0\0\0\0\0\0\0\0\0\0\0\0\0\0\0\0\0\0\0\
+    \0\0\0\0.\xbc\x98\xa1";
+
+/// It delivered the same Like to the other member.
+pub const LIKED_TOO: &[u8] = b"\
+    \x05\
+    \0\0\0\x0clake.example\
+    \0\0\0\x03ben\
+    \x01\0\0\0\x22https://lake.example/users/eve/a/2\
+    \x0f\
+    \x01\0\0\0\x1ehttps://lake.example/users/eve\
+    \x01\
+    \0\0\0\x22https://club.example/users/ana/o/1\
+    \0\0\0\0\0\0\0\0\0\0\0\0\0\0\0\0\0\0\0\0\0\0\0\0\0\0\0\0\0\0\
+    \0\0\0\0.\xbc\x98\xa1";
+
+/// It delivered what somebody did whose server is another.
+pub const OF_HILL: &[u8] = b"\
+    \x05\
+    \0\0\0\x0clake.example\
+    \0\0\0\x03ana\
+    \x01\0\0\0\x23https://hill.example/users/dora/a/1\
+    \x0f\
+    \x01\0\0\0\x1fhttps://hill.example/users/dora\
+    \x01\
+    \0\0\0\x22https://club.example/users/ana/o/1\
+    \0\0\0\0\0\0\0\0\0\0\0\0\0\0\0\0\0\0\0\0\0\0\0\0\0\0\0\0\0\0\
+    \0\0\0\0.\xbc\x98\xa1";
+
+/// An attempt to deliver the answer to the Follow: nobody answered.
+pub const TRIED: &[u8] = b"\
+    \x06\
+    \0\0\0\x22https://club.example/users/ana/a/3\
+    \0\0\0\x1ehttps://lake.example/users/eve\
+    \0\0\
+    \0\0\0\0.\xbc\x98\xa1";
+
 /// The history.
-pub const HISTORY: [&[u8]; 6] = [HOSTED, ANA, BEN, CREATE, FOLLOW, LIKE];
+pub const HISTORY: [&[u8]; 11] = [
+    HOSTED, ANA, BEN, CREATE, FOLLOW, LIKE, LAKE, FOLLOWED, LIKED, LIKED_TOO, TRIED,
+];

@@ -1,0 +1,128 @@
+//! Runs that make another server a peer of the example town, byte for byte.
+
+use crate::cases::Case;
+use crate::example::{MEMBERS, TOWN};
+use crate::members::{NOTHING, ends, making};
+use crate::rows::expect_at;
+use crate::runs::{calls_after, calls_of_an_opening};
+use std::alloc::{AllocError, Global};
+use std::test::Fail;
+
+/// The record of lake's making: its host, the key, where it is reached, whether it is a relay, and the
+/// moment.
+const LAKE: &[u8] =
+    b"\x03\0\0\0\x0clake.example0123456789abcdefghijklmnopqrstuv\0\0\0\x0e127.0.0.1:8081\0\0\0\0\0\x2e\xbc\x98\xa1";
+
+const RELAY: &[u8] =
+    b"\x03\0\0\0\x0clake.example0123456789abcdefghijklmnopqrstuv\0\0\0\x0e127.0.0.1:8081\x01\0\0\0\0\x2e\xbc\x98\xa1";
+
+const MADE: &str = "peer lake.example\n";
+
+/// The command line that makes it.
+const MAKING: &str =
+    "fedi add-peer s lake.example 303132333435363738396162636465666768696a6b6c6d6e6f70717273747576 127.0.0.1:8081";
+
+/// The command line, how much of the example town there is, and the status, what is printed, and the
+/// record that is kept.
+const ENDS: [(&str, usize, u8, &str, &[u8]); 9] = [
+    (MAKING, 1, 0, MADE, LAKE),
+    (MAKING, 7, 0, MADE, LAKE),
+    (
+        "fedi add-peer s --relay lake.example 303132333435363738396162636465666768696A6B6C6D6E6F70717273747576 127.0.0.1:8081",
+        5,
+        0,
+        MADE,
+        RELAY,
+    ),
+    // The first rule that is broken is reported.
+    (
+        "fedi add-peer s Lake.example 00 \u{e9}",
+        5,
+        10,
+        "refused: bad host\n",
+        NOTHING,
+    ),
+    (
+        "fedi add-peer s club.example 00 \u{e9}",
+        5,
+        10,
+        "refused: host taken\n",
+        NOTHING,
+    ),
+    (
+        "fedi add-peer s lake.example 00 \u{e9}",
+        5,
+        10,
+        "refused: bad key\n",
+        NOTHING,
+    ),
+    (
+        "fedi add-peer s lake.example 303132333435363738396162636465666768696a6b6c6d6e6f70717273747576 \u{e9}",
+        5,
+        10,
+        "refused: bad address\n",
+        NOTHING,
+    ),
+    (
+        "fedi add-peer s lake.example --relay 303132333435363738396162636465666768696a6b6c6d6e6f707172737475767 x",
+        5,
+        10,
+        "refused: bad key\n",
+        NOTHING,
+    ),
+    // There is no host, which comes before all.
+    (
+        "fedi add-peer s Lake.example 00 \u{e9}",
+        0,
+        3,
+        "not a store\n",
+        NOTHING,
+    ),
+];
+
+/// Which calls of the disk fail, counted from the append's first, and which writes, and the status, what is
+/// printed, and the record that is kept.
+const FAULTS: [(&[u64], &[u64], u8, &str, &[u8]); 5] = [
+    (&[0], &[], 5, "disk fault\n", NOTHING),
+    (&[3], &[], 5, "disk fault\n", NOTHING),
+    (&[3, 4], &[], 5, "disk fault\n", LAKE),
+    // A write fails: the peer was made.
+    (&[], &[1], 7, "peer l", LAKE),
+    (&[0], &[0], 5, "", NOTHING),
+];
+
+fn has_end(alloc: Global, row: &(&str, usize, u8, &str, &[u8])) -> Result<bool, AllocError> {
+    let (line, entries, status, printed, kept) = *row;
+    let case = Case {
+        records: &TOWN[..entries.min(7)],
+        ..making(line)
+    };
+    ends(alloc, &case, status, printed, kept)
+}
+
+fn has_fault(
+    alloc: Global,
+    opening: u64,
+    row: &(&[u64], &[u64], u8, &str, &[u8]),
+) -> Result<bool, AllocError> {
+    let (failing, failing_writes, status, printed, kept) = *row;
+    let failing_calls = calls_after(alloc, opening, failing)?;
+    let case = Case {
+        failing_calls: &failing_calls,
+        failing_writes,
+        ..making(MAKING)
+    };
+    ends(alloc, &case, status, printed, kept)
+}
+
+#[test]
+fn a_peer_is_kept_with_its_key_or_the_first_reason_is_named(rt: HostRuntime) -> Result<(), Fail> {
+    for (number, row) in ENDS.iter().enumerate() {
+        expect_at(has_end(rt.alloc(), row)?, row.0, number)?;
+    }
+    let opening = calls_of_an_opening(rt.alloc(), &MEMBERS)?;
+    for (number, row) in FAULTS.iter().enumerate() {
+        expect_at(has_fault(rt.alloc(), opening, row)?, "a fault", number)?;
+    }
+    Ok(())
+}
