@@ -7,11 +7,11 @@ use Rattle.matchit.specs.Rows.{RowsOf}
 use Rattle.matchit.specs.Router.{RouteOf}
 use Rattle.matchit.specs.Seek.{first}
 use Rattle.matchit.specs.Params.{walk, named, AllText}
-use Rattle.fedi_paths.specs.Patterns.{path_by, AreSegments}
-use Rattle.fedi_paths.proofs.Found.{found}
-use Rattle.fedi_paths.proofs.Fitted.{sound, AreBytes}
-use Rattle.fedi_paths.proofs.Taken.{taken, pairs}
-use Rattle.fedi_paths.proofs.Texts.{texts, Texts}
+use Rattle.fedi_routes.specs.Patterns.{path_by, AreSegments}
+use Rattle.fedi_routes.proofs.Found.{found}
+use Rattle.fedi_routes.proofs.Fitted.{sound, AreBytes}
+use Rattle.fedi_routes.proofs.Taken.{taken, pairs}
+use Rattle.fedi_routes.proofs.Segments.{texts, Texts}
 use Rattle.fedi_town.specs.Collections.{text_of}
 use Rattle.fedi_routes.specs.Table.{route_text, pattern_of, names_of, route_of, rows, IsRouted}
 use Rattle.fedi_routes.specs.declared.kinds.Kind.{Kind}

@@ -1,10 +1,14 @@
 pub mod AskLemmas
 pub mod DocumentLemmas
 pub mod Exact
+pub mod Fitted
+pub mod Found
 pub mod NumberLemmas
 pub mod PathTexts
 pub mod PlaceLemmas
 pub mod PostLemmas
 pub mod Rows
+pub mod Segments
+pub mod Taken
 pub mod TextLemmas
 pub mod WebfingerLemmas

@@ -8,7 +8,7 @@ use Rattle.std.proofs.lemmas.Str.Parse.{digit_from_value}
 use Rattle.std.proofs.lemmas.Bool.{and_parts, and_from}
 use Rattle.std.proofs.lemmas.Bool.Decides.{nat_tests}
 use Rattle.fedi_address.specs.Names.{is_name, is_name_byte}
-use Rattle.fedi_paths.specs.Patterns.{is_segment_byte, IsSegment}
+use Rattle.fedi_routes.specs.Patterns.{is_segment_byte, IsSegment}
 use Rattle.fedi_town.specs.declared.caller.Which.TheVariants.{Inbox, Outbox, Followers, Following, Liked, Likes, Shares}
 use Rattle.fedi_model.specs.Places.{IsNumber, IsPlace, LeadsTo, place_path}
 use Rattle.fedi_routes.specs.Table.{IsAt, IsRouted, member_place, numbered_place}

@@ -12,8 +12,8 @@ use Rattle.matchit.specs.Seek.{same_text}
 use Rattle.matchit.specs.declared.error.InsertError.{InsertError}
 use Rattle.matchit.specs.declared.error.InsertError.TheVariants.{Conflict, InvalidParamSegment, InvalidParam, InvalidCatchAll, OutOfMemory}
 use Rattle.matchit.specs.Params.{named}
-use Rattle.fedi_paths.specs.Patterns.{is_plain, are_clear_of}
-use Rattle.fedi_paths.proofs.Taken.{pairs, wilds}
+use Rattle.fedi_routes.specs.Patterns.{is_plain, are_clear_of}
+use Rattle.fedi_routes.proofs.Taken.{pairs, wilds}
 use Rattle.fedi_town.specs.Collections.{text_of}
 use Rattle.fedi_routes.specs.Table.{route_text, pattern_of, names_of, route_of, added, kinds, rows}
 use Rattle.fedi_routes.specs.declared.kinds.Kind.{Kind}

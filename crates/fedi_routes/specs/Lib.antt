@@ -1,3 +1,4 @@
 pub mod Memory
+pub mod Patterns
 pub mod Posts
 pub mod Table

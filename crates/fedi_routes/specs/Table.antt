@@ -4,7 +4,7 @@ use Rattle.matchit.specs.Order.{placed}
 use Rattle.matchit.specs.Router.{RouteOf}
 use Rattle.matchit.specs.Rows.{RowsOf, param_token}
 use Rattle.fedi_address.specs.Names.{is_name}
-use Rattle.fedi_paths.specs.Patterns.{AreSegments, path_by}
+use Rattle.fedi_routes.specs.Patterns.{AreSegments, path_by}
 use Rattle.fedi_town.specs.declared.caller.Which.TheVariants as which
 use Rattle.fedi_model.specs.Places.{IsNumber}
 use Rattle.fedi_routes.specs.declared.kinds.Kind.{Kind}

@@ -9,8 +9,8 @@ use Rattle.matchit.specs.Rows.{RowsOf, param_token, catch_all_token}
 use Rattle.matchit.specs.Seek.{segment, slash, has_slash, same_text, cuts, own, step, or_else, longest_from, with_suffix, param_step, seek}
 use Rattle.matchit.specs.Order.{lookup}
 use Rattle.matchit.proofs.ParamLemmas.{drop-length, one_less}
-use Rattle.fedi_paths.specs.Patterns.{is_segment_byte, IsSegment, path_by, AreSegments, is_plain, are_clear_of}
-use Rattle.fedi_paths.proofs.Found.{segment-before_slash, own-is_lookup, lookup-step, seek-empty, seek-drop, clear_parts, clear_from, plain_rest, clear-with_suffix, step-catch_all, Tails, tails, segment-slash, better-suffix, longest_from-kept, param_step-last, or_else-none}
+use Rattle.fedi_routes.specs.Patterns.{is_segment_byte, IsSegment, path_by, AreSegments, is_plain, are_clear_of}
+use Rattle.fedi_routes.proofs.Found.{segment-before_slash, own-is_lookup, lookup-step, seek-empty, seek-drop, clear_parts, clear_from, plain_rest, clear-with_suffix, step-catch_all, Tails, tails, segment-slash, better-suffix, longest_from-kept, param_step-last, or_else-none}
 
 -- ---- the first segment of a path
 

@@ -7,8 +7,8 @@ use Rattle.std.proofs.Math.Nat.{min-eq_left}
 use Rattle.matchit.specs.Rows.{param_token}
 use Rattle.matchit.specs.Seek.{slash}
 use Rattle.matchit.specs.Params.{wild_stop, part_of, walk}
-use Rattle.fedi_paths.specs.Patterns.{IsSegment, path_by, path_with, AreWith, AreSegments, is_plain}
-use Rattle.fedi_paths.proofs.Found.{segment-before_slash, plain_rest, plain_ends}
+use Rattle.fedi_routes.specs.Patterns.{IsSegment, path_by, path_with, AreWith, AreSegments, is_plain}
+use Rattle.fedi_routes.proofs.Found.{segment-before_slash, plain_rest, plain_ends}
 
 -- ---- places in lists
 

@@ -9,7 +9,7 @@ use Rattle.matchit.specs.Rows.{RowsOf, param_token, catch_all_token}
 use Rattle.matchit.specs.Seek.{segment, slash, has_slash, same_text, cuts, better, own, step, or_else, longest_from, with_suffix, param_step, seek}
 use Rattle.matchit.specs.Order.{lookup}
 use Rattle.matchit.proofs.ParamLemmas.{drop-length, one_less}
-use Rattle.fedi_paths.specs.Patterns.{is_segment_byte, IsSegment, path_by, path_with, AreWith, AreSegments, part_at_bytes, ends_segment, is_plain, are_clear_of}
+use Rattle.fedi_routes.specs.Patterns.{is_segment_byte, IsSegment, path_by, path_with, AreWith, AreSegments, part_at_bytes, ends_segment, is_plain, are_clear_of}
 
 -- ---- segments
 

@@ -7,9 +7,9 @@ use Rattle.std.proofs.lemmas.Str.{IsUtf8-take, IsUtf8-drop, IsCharBoundary-after
 use Rattle.std.specs.Str.{IsUtf8, IsCharBoundary}
 use Rattle.matchit.specs.Rows.{param_token}
 use Rattle.matchit.specs.Seek.{slash}
-use Rattle.fedi_paths.specs.Patterns.{IsSegment, path_by, path_with, AreWith, AreSegments, is_plain}
-use Rattle.fedi_paths.proofs.Found.{plain_rest, plain_ends}
-use Rattle.fedi_paths.proofs.Taken.{after}
+use Rattle.fedi_routes.specs.Patterns.{IsSegment, path_by, path_with, AreWith, AreSegments, is_plain}
+use Rattle.fedi_routes.proofs.Found.{plain_rest, plain_ends}
+use Rattle.fedi_routes.proofs.Taken.{after}
 
 -- the first is in UTF-8, and the rest are as they should be; or all are
 abbrev pub TextsWith : Bool → (List (List ℕ) → Type 0) → List (List ℕ) → Type 0

@@ -1,4 +1,0 @@
-pub mod Fitted
-pub mod Found
-pub mod Taken
-pub mod Texts
