@@ -1,3 +1,5 @@
+pub mod Files
 pub mod Growing
 pub mod Keeping
 pub mod Leaving
+pub mod LifeLemmas

@@ -1,3 +1,4 @@
 pub mod Keeping
 pub mod Leaving
+pub mod Lives
 pub mod Log

@@ -4,8 +4,8 @@ use Rattle.fedi_entry.specs.Fields.{IsFormed}
 use Rattle.fedi_log.proofs.Growing.{history_append}
 use Rattle.fedi_log.specs.Log.{history_of}
 use Rattle.fedi_objects.specs.declared.entry.Entry.{Entry}
-use Rattle.fedi_lives.proofs.Lives.{formed_front}
-use Rattle.fedi_lives.proofs.laws.crashes_end_lives.Goals as goal
+use Rattle.fedi_log.proofs.LifeLemmas.{formed_front}
+use Rattle.fedi_log.proofs.lives.crashes_end_lives.Goals as goal
 
 pub returns : goal.returns
 returns c = λ base opened log left formed crash.

@@ -1,5 +1,5 @@
-use Rattle.fedi_lives.proofs.Lives.{entries_stay, next_finds, places_stay}
-use Rattle.fedi_lives.proofs.laws.kept_entries_stay.Goals as goal
+use Rattle.fedi_log.proofs.LifeLemmas.{entries_stay, next_finds, places_stay}
+use Rattle.fedi_log.proofs.lives.kept_entries_stay.Goals as goal
 
 pub returns-clause-history : goal.returns-clause-history
 returns-clause-history c = entries_stay

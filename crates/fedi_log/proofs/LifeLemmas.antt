@@ -8,7 +8,7 @@ use Rattle.fedi_entry.specs.Fields.{IsFormed}
 use Rattle.fedi_entry.proofs.ReadEntries.{code_is_no_front}
 use Rattle.fedi_objects.specs.declared.entry.Entry.{Entry}
 use Rattle.fedi_log.specs.Log.{history_of}
-use Rattle.fedi_lives.specs.Lives.{AreLives, IsFoundAfter, IsLife, Life, doubts, history_at_end}
+use Rattle.fedi_log.specs.Lives.{AreLives, IsFoundAfter, IsLife, Life, doubts, history_at_end}
 
 -- ---- entries by their codes
 

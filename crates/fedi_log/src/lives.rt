@@ -11,7 +11,7 @@ ghost use Rattle.fedi_outside.specs.Keepers.{Adds, MayLeave};
 ghost use Rattle.fedi_log.specs.Keeping.{Base, since};
 ghost use Rattle.fedi_log.specs.Leaving.{IsLeft, IsLeftAfter};
 ghost use Rattle.fedi_log.specs.Log.{Log, history_of};
-ghost use Rattle.fedi_lives.specs.Lives.{AreLives, IsFollowed, IsFoundAfter, IsLife, Life, history_at_end};
+ghost use Rattle.fedi_log.specs.Lives.{AreLives, IsFollowed, IsFoundAfter, IsLife, Life, history_at_end};
 
 use fedi_outside::Disk;
 

@@ -6,8 +6,8 @@ use Rattle.fedi_log.proofs.Growing.{history_append}
 use Rattle.fedi_log.specs.Keeping.{since}
 use Rattle.fedi_log.specs.Log.{Log, history_of}
 use Rattle.fedi_objects.specs.declared.entry.Entry.{Entry}
-use Rattle.fedi_lives.proofs.Lives.{formed_front}
-use Rattle.fedi_lives.proofs.laws.later_crashes_end_lives.Goals as goal
+use Rattle.fedi_log.proofs.LifeLemmas.{formed_front}
+use Rattle.fedi_log.proofs.lives.later_crashes_end_lives.Goals as goal
 
 pub returns : goal.returns
 returns c = record {

@@ -1,5 +1,5 @@
-use Rattle.fedi_lives.proofs.Files.{files_left}
-use Rattle.fedi_lives.proofs.laws.crashes_leave_files.Goals as goal
+use Rattle.fedi_log.proofs.Files.{files_left}
+use Rattle.fedi_log.proofs.lives.crashes_leave_files.Goals as goal
 
 pub returns : goal.returns
 returns g c = λ f opened now base log kept ok.
