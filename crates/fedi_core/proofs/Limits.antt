@@ -1,7 +1,7 @@
 -- An entry that may be added can be written.
 use Rattle.fedi_entry.specs.Limits.{KeepsLimits}
 use Rattle.fedi_objects.specs.declared.entry.Entry.{Entry}
-use Rattle.fedi_opening.proofs.Limits.{admissible_keeps}
+use Rattle.fedi_opening.proofs.AdmissibleLimits.{admissible_keeps}
 use Rattle.fedi_town.specs.Towns.{Town}
 use Rattle.fedi_core.specs.Keeping.{MayAdd}
 

@@ -1,5 +1,5 @@
+pub mod AdmissibleLimits
 pub mod Answers
 pub mod Keys
-pub mod Limits
 pub mod Records
 pub mod Times

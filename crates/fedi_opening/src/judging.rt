@@ -10,11 +10,12 @@ ghost use Rattle.fedi_town.specs.Rules.{broken_post};
 ghost use Rattle.fedi_town.specs.Shapes.{is_delivered};
 ghost use Rattle.fedi_town.specs.Towns.{has_host, id_of, is_by};
 
+use crate::delivered::is_delivered;
+use crate::posted::is_posted;
 use fedi_address::{Host, Iri, LocalName};
 use fedi_effects::{Facts, judge_local, judge_tried};
 use fedi_inbound::{lacks, may_deliver};
 use fedi_objects::{Activity, Entry, RepeatKey};
-use fedi_shapes::{is_delivered, is_posted};
 
 // Whether the server may be set up for the host. A `Host` has no other text than that of one.
 fn may_be_set_up(facts: &Facts, host: &Host) -> bool

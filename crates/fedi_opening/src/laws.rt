@@ -23,7 +23,7 @@ pub fn records_have_one_answer()
 
 /// An entry that may come next can be written: each of its fields keeps its limit, if what came of an
 /// attempt does. That attempt was due, which says nothing of what came of it.
-#[tactic(auto, using(crate::proofs::Limits::admissible_keeps))]
+#[tactic(auto, using(crate::proofs::AdmissibleLimits::admissible_keeps))]
 pub fn admissible_entries_keep_limits()
     ensures { (t : Town) (e : Entry) → IsTrue (is_admissible t e) → IsAttemptWithin e
         → KeepsLimits e }

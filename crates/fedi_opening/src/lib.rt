@@ -1,10 +1,14 @@
-//! A history opened from the records that a keeper holds.
+//! A history opened from the records that a keeper holds: which entry may come next, and the shape in which
+//! reading leaves what a member posts and what another server delivers.
 #![tactic(auto)]
 
+mod delivered;
 mod fault;
 mod judging;
 mod laws;
+mod limits;
 mod opening;
+mod posted;
 mod reading;
 
 pub use fault::OpenFault;

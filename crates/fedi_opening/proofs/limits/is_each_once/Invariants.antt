@@ -1,7 +1,7 @@
 -- Whether a name stands twice, so far not.
 use Rattle.std.proofs.Common.{◌≡◌, ℕ, length}
 use Rattle.fedi_town.specs.Shapes as shapes
-use Rattle.fedi_shapes.proofs.limits.is_each_once.Given as goal
+use Rattle.fedi_opening.proofs.limits.is_each_once.Given as goal
 
 -- none stands twice exactly if none of those that are left does
 abbrev pub invariant-loop-left : goal.invariant-loop-left
