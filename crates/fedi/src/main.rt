@@ -1,12 +1,8 @@
 //! The program `fedi`, an ActivityPub server for a club or a town.
 #![tactic(auto)]
 
-use fedi_file::FileDisk;
-use fedi_net::{Listening, benches};
-use fedi_program::{
-    Connection, OUT_OF_MEMORY, Reading, Seed, SystemClock, SystemEntropy, Writing, address_of, run,
-    store_of,
-};
+use fedi_adapters::{FileDisk, Listening, Reading, SystemClock, SystemEntropy, Writing, benches};
+use fedi_program::{Connection, OUT_OF_MEMORY, Seed, address_of, run, store_of};
 use std::alloc::AllocError;
 use std::io::ErrorKind;
 use std::process::ExitCode;

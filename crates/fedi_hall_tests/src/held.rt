@@ -1,7 +1,7 @@
 //! Lines in memory of which one waits for another, and doors that give one line each.
 ghost use Rattle.std.specs.Prelude.{◌≡◌, None, false};
 ghost use Rattle.std.proofs.Common.{refl};
-ghost use Rattle.fedi_net.specs.Untold.{untold_if};
+ghost use Rattle.fedi_adapters.specs.Untold.{untold_if};
 
 use fedi_outside::{Door, Failed, Line, MemorySink, MemorySource, Rest, Sink, Source, Turn};
 use std::sync::atomic::{AtomicU64, Ordering};

@@ -1,4 +1,3 @@
-pub mod Adapters
 pub mod Commands
 pub mod Endings
 pub mod Members

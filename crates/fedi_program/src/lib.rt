@@ -1,8 +1,6 @@
-//! The program over whatever lies outside: its commands, the sessions that it serves, and the adapters
-//! to the real input, output and clock.
+//! The program over whatever lies outside: its commands, and the sessions that it serves.
 #![tactic(auto)]
 
-mod adapters;
 mod commands;
 mod connection;
 mod enrolling;
@@ -16,7 +14,6 @@ mod stores;
 mod usage;
 mod words;
 
-pub use adapters::{Reading, SystemClock, SystemEntropy, Writing};
 pub use commands::{Command, NewPeer, address_of, command_of, store_of};
 pub use connection::{Connection, serve_connection};
 pub use fedi_effects::Seed;

@@ -1,6 +1,6 @@
 //! What is at a path and is no file for a store, and a file that takes nothing.
 use crate::rows::expect;
-use fedi_file::{FileDisk, LockedFile};
+use fedi_adapters::{FileDisk, LockedFile};
 use fedi_outside::{Disk, Failed};
 use std::fs::File;
 use std::test::Fail;

@@ -1,7 +1,7 @@
 //! Real files: the calls of a file as a disk, whom it refuses, and journals over files.
 
 use crate::rows::expect;
-use fedi_file::FileDisk;
+use fedi_adapters::FileDisk;
 use fedi_journal::{InitFault, Journal, JournalFault};
 use fedi_outside::{Disk, Failed, Keeper};
 use std::alloc::Global;

@@ -1,6 +1,6 @@
 //! Doors on a listener.
 ghost use Rattle.std.specs.Prelude.{◌≡◌, None, false};
-ghost use Rattle.fedi_net.specs.Untold.{untold_if};
+ghost use Rattle.fedi_adapters.specs.Untold.{untold_if};
 
 use crate::listeners::{Found, Listening};
 use crate::tcp_lines::TcpLine;

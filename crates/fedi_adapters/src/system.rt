@@ -6,7 +6,7 @@ ghost use Rattle.std.specs.Io.KnownBytes.{ReadConsumes, WriteAppends};
 ghost use Rattle.std.specs.Time.{system_time_nanos};
 ghost use Rattle.fedi_outside.specs.Causes.{HasCause};
 ghost use Rattle.fedi_outside.specs.Entropies.{FillConsumes};
-ghost use Rattle.fedi_program.specs.Adapters.{IsReadOf};
+ghost use Rattle.fedi_adapters.specs.System.{IsReadOf};
 
 use fedi_outside::{Clock, Entropy, Failed, Sink, Source};
 use std::fs::File;

@@ -1,6 +1,6 @@
 use Rattle.std.proofs.Common.{◌≡◌, All, None, false, vec_len}
-use Rattle.fedi_net.specs.Untold.{untold_if}
-use Rattle.fedi_net.proofs.tcp_benches.benches.Given as goal
+use Rattle.fedi_adapters.specs.Untold.{untold_if}
+use Rattle.fedi_adapters.proofs.tcp_benches.benches.Given as goal
 
 abbrev pub invariant-loop : goal.invariant-loop
 invariant-loop g l = record {

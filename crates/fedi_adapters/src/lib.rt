@@ -1,0 +1,25 @@
+//! The trusted edge: real streams, files, sockets, the clock and random bytes, each behind the trait
+//! that says what of it is known.
+//!
+//! What a file or a socket holds, gives and takes no contract can say. So disks and lines tell nothing
+//! of their bytes, and doors no rows: what is proved of them is how many bytes a call moved, and that
+//! exactly the calls that fail are counted.
+#![tactic(auto)]
+
+mod file_disk;
+mod listeners;
+mod locked_file;
+mod raw_file;
+mod system;
+mod tcp_benches;
+mod tcp_doors;
+mod tcp_lines;
+
+pub use file_disk::FileDisk;
+pub use listeners::Listening;
+pub use locked_file::LockedFile;
+pub use raw_file::RawFile;
+pub use system::{Reading, SystemClock, SystemEntropy, Writing};
+pub use tcp_benches::benches;
+pub use tcp_doors::TcpDoor;
+pub use tcp_lines::TcpLine;
