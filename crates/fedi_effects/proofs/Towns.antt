@@ -8,7 +8,7 @@ use Rattle.fedi_address.specs.Recipients.{add_new, is_among}
 use Rattle.fedi_objects.specs.declared.entry.Entry.{Entry}
 use Rattle.fedi_objects.specs.declared.entry.Entry.TheVariants.{Hosted, Made, PeerSet, Local, Remote, Tried}
 use Rattle.fedi_objects.specs.declared.activity.Activity.{Activity}
-use Rattle.fedi_laws.proofs.IdsTown.{town_ids}
+use Rattle.fedi_town.proofs.IdsTown.{town_ids}
 use Rattle.fedi_town.specs.declared.act.Act.{Act}
 use Rattle.fedi_town.specs.declared.addition.Addition.{Addition}
 use Rattle.fedi_town.specs.declared.addition.Addition.TheVariants as additions

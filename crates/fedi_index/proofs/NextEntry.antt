@@ -13,9 +13,9 @@ use Rattle.fedi_index.specs.Lists.{Listing}
 use Rattle.fedi_index.proofs.Owners.{member_here}
 use Rattle.fedi_index.proofs.Positions.{places-mapped, places-more}
 use Rattle.fedi_effects.specs.Additions.{acts_in, inbox_in}
-use Rattle.fedi_laws.proofs.Due.{affected_on}
-use Rattle.fedi_laws.proofs.IdsTown.{HasIds, step_by, town_ids}
-use Rattle.fedi_laws.proofs.Sound.{IsHosted, not_hosted, step_sound}
+use Rattle.fedi_town.proofs.Due.{affected_on}
+use Rattle.fedi_town.proofs.IdsTown.{HasIds, step_by, town_ids}
+use Rattle.fedi_town.proofs.Sound.{IsHosted, not_hosted, step_sound}
 use Rattle.fedi_objects.specs.declared.activity.Activity.{Activity}
 use Rattle.fedi_objects.specs.declared.entry.Entry.{Entry}
 use Rattle.fedi_objects.specs.declared.entry.Entry.TheVariants.{Hosted, Made, PeerSet, Local, Remote, Tried}

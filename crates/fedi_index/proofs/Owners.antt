@@ -7,10 +7,10 @@ use Rattle.fedi_address.specs.Iris.{host_of}
 use Rattle.fedi_address.specs.Names.{is_name}
 use Rattle.fedi_address.proofs.Parts.{host_of-address}
 use Rattle.fedi_index.specs.Shelves.{IsNamed}
-use Rattle.fedi_laws.proofs.IdsTown.{found_any}
-use Rattle.fedi_laws.proofs.Members.{is_member}
-use Rattle.fedi_laws.proofs.Naming.{members_have_ids}
-use Rattle.fedi_laws.proofs.Sound.{is_set, town_sound}
+use Rattle.fedi_town.proofs.IdsTown.{found_any}
+use Rattle.fedi_town.proofs.Members.{is_member}
+use Rattle.fedi_town.proofs.Naming.{members_have_ids}
+use Rattle.fedi_town.proofs.Sound.{is_set, town_sound}
 use Rattle.fedi_objects.specs.declared.entry.Entry.{Entry}
 use Rattle.fedi_town.specs.declared.act.Actor.{Actor}
 use Rattle.fedi_town.specs.declared.caller.Which.{Which}

@@ -11,7 +11,7 @@ use Rattle.fedi_index.specs.Shelves.{IsNamed, IsShelf, MayCome}
 use Rattle.fedi_index.proofs.NextEntry.{candidates_after, ids_of_town, legal_after, may_go_in}
 use Rattle.fedi_index.proofs.Owners.{owner_here}
 use Rattle.fedi_index.proofs.Positions.{places-same}
-use Rattle.fedi_laws.proofs.IdsTown.{HasIds}
+use Rattle.fedi_town.proofs.IdsTown.{HasIds}
 use Rattle.fedi_objects.specs.declared.entry.Entry.{Entry}
 use Rattle.fedi_town.specs.declared.act.Act.{Act}
 use Rattle.fedi_town.specs.declared.caller.Which.{Which}

@@ -27,8 +27,8 @@ use Rattle.fedi_town.specs.Shapes.{is_activity_within, is_posted, is_posted_ref}
 use Rattle.fedi_town.specs.States.{is_own_live, state_about, state_of}
 use Rattle.fedi_town.specs.Towns.{Town, id_of, is_by}
 use Rattle.fedi_town.proofs.Finding.{find-seen, seen_or}
-use Rattle.fedi_laws.proofs.People.{id_of-is}
-use Rattle.fedi_laws.proofs.Members.{is_member}
+use Rattle.fedi_town.proofs.People.{id_of-is}
+use Rattle.fedi_town.proofs.Members.{is_member}
 
 -- ---- what breaks no rule
 

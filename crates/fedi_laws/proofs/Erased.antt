@@ -31,8 +31,8 @@ use Rattle.fedi_town.specs.Towns.{Town, count_of, deed, empty_town, is_by}
 use Rattle.fedi_town.proofs.Lists.{filter-none, first_none, map-still, other_none}
 use Rattle.fedi_town.proofs.Steps.{accept}
 use Rattle.fedi_town.proofs.Texts.{bytes_eq-same}
-use Rattle.fedi_laws.proofs.IdsOnce.{count-push}
-use Rattle.fedi_laws.proofs.Quiet.{AreQuiet, is_between-quiet}
+use Rattle.fedi_town.proofs.IdsOnce.{count-push}
+use Rattle.fedi_town.proofs.Quiet.{AreQuiet, is_between-quiet}
 use Rattle.fedi_laws.specs.Statements.{creates, deletes}
 
 -- ---- an activity that made an object

@@ -14,16 +14,16 @@ use Rattle.fedi_objects.specs.declared.entry.Entry.TheVariants.{Local, Remote}
 use Rattle.fedi_asks.specs.Asks.{answer_of}
 use Rattle.fedi_asks.specs.Reading.{is_self}
 use Rattle.fedi_asks.specs.declared.ask.Ask.{Ask}
-use Rattle.fedi_laws.proofs.Grounded.{town_grounded, AreGrounded}
+use Rattle.fedi_town.proofs.Grounded.{town_grounded, AreGrounded}
 use Rattle.fedi_laws.proofs.Inboxes.{IsOther, inbox_agrees}
-use Rattle.fedi_laws.proofs.Members.{is_member, host_of-actor_id}
-use Rattle.fedi_laws.proofs.People.{id_at, member_id, named_is, id_of-is, there_is}
-use Rattle.fedi_laws.proofs.Posted.{post_agrees}
+use Rattle.fedi_town.proofs.Members.{is_member, host_of-actor_id}
+use Rattle.fedi_town.proofs.People.{id_at, member_id, named_is, id_of-is, there_is}
+use Rattle.fedi_town.proofs.Posted.{post_agrees}
 use Rattle.fedi_laws.specs.Statements.{is_of_profiles}
 use Rattle.fedi_laws.proofs.Knowledge.{Knows, answers_agree, members, profiles_agree}
-use Rattle.fedi_laws.proofs.Sound.{IsSound, IsHosted, is_apart, is_set, town_sound}
+use Rattle.fedi_town.proofs.Sound.{IsSound, IsHosted, is_apart, is_set, town_sound}
 use Rattle.fedi_town.proofs.Steps.{accept, after_post, after_delivery, after_inbox}
-use Rattle.fedi_laws.proofs.Told.{plain_agrees}
+use Rattle.fedi_town.proofs.Told.{plain_agrees}
 use Rattle.fedi_town.specs.Activities.{local_act, remote_act}
 use Rattle.fedi_town.specs.Agreement.{Agree, member_names}
 use Rattle.fedi_town.specs.Deeds.{changes_nothing, is_follow, deed_of}

@@ -14,11 +14,11 @@ use Rattle.fedi_town.specs.Queues.{is_due}
 use Rattle.fedi_town.specs.Towns.{Town, empty_town}
 use Rattle.fedi_asks.specs.declared.ask.Ask.{Ask}
 use Rattle.fedi_asks.specs.Asks.{entry_of, IsPostable}
-use Rattle.fedi_laws.proofs.Due.{held_on, same_later, stays_due, IsOtherEntry}
-use Rattle.fedi_laws.proofs.IdsTown.{HasIds, step_by}
+use Rattle.fedi_town.proofs.Due.{held_on, same_later, stays_due, IsOtherEntry}
+use Rattle.fedi_town.proofs.IdsTown.{HasIds, step_by}
 use Rattle.fedi_town.proofs.Lists.{first_none, other_none}
 use Rattle.fedi_laws.proofs.Next.{entry_admissible}
-use Rattle.fedi_laws.proofs.Sound.{IsHosted, not_hosted, step_sound}
+use Rattle.fedi_town.proofs.Sound.{IsHosted, not_hosted, step_sound}
 use Rattle.fedi_laws.specs.Statements.{is_attempt_of}
 
 -- ---- one more entry

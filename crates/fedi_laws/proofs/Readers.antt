@@ -31,11 +31,11 @@ use Rattle.fedi_town.proofs.MadeOnce.{made_once}
 use Rattle.fedi_town.proofs.Once.{filter-among, once-among}
 use Rattle.fedi_town.proofs.Texts.{and_none, bytes_eq-is, bytes_eq-same, is_false, not_both, or_true}
 use Rattle.fedi_laws.proofs.Changes.{change_is_done, posts_as}
-use Rattle.fedi_laws.proofs.IdsTown.{found_any}
+use Rattle.fedi_town.proofs.IdsTown.{found_any}
 use Rattle.fedi_laws.proofs.Legality.{legal_last}
-use Rattle.fedi_laws.proofs.Members.{is_member, not_public}
-use Rattle.fedi_laws.proofs.People.{id_of-is, named_is}
-use Rattle.fedi_laws.proofs.Sound.{IsHosted, is_set, town_sound}
+use Rattle.fedi_town.proofs.Members.{is_member, not_public}
+use Rattle.fedi_town.proofs.People.{id_of-is, named_is}
+use Rattle.fedi_town.proofs.Sound.{IsHosted, is_set, town_sound}
 use Rattle.fedi_laws.specs.Statements.{is_no_peer}
 
 -- ---- who gets what the Create's readers get

@@ -18,7 +18,7 @@ use Rattle.fedi_objects.specs.declared.activity.Activity as activities
 use Rattle.fedi_reading.specs.Activities.{reads_activity}
 use Rattle.fedi_reading.specs.Deliveries.{reads_delivered}
 use Rattle.fedi_reading.specs.declared.shape_fault.ShapeFault.{ShapeFault}
-use Rattle.fedi_laws.proofs.Naming.{members_have_ids}
+use Rattle.fedi_town.proofs.Naming.{members_have_ids}
 use Rattle.fedi_model.proofs.Delivered.{delivery_is_delivered}
 use Rattle.fedi_model.proofs.PostedActivity.{activity_is_posted}
 use Rattle.fedi_model.specs.Requests.{is_post, is_reading}

@@ -1,4 +1,4 @@
-use Rattle.fedi_laws.proofs.IdsTown.{town_ids}
+use Rattle.fedi_town.proofs.IdsTown.{town_ids}
 use Rattle.fedi_laws.proofs.objects.activities_are_there_once.Goals as goal
 
 pub returns : goal.returns

@@ -9,12 +9,12 @@ use Rattle.fedi_address.specs.Iris.{public_iri}
 use Rattle.fedi_address.specs.Names.{is_name}
 use Rattle.fedi_address.specs.Recipients.{is_public, is_among}
 use Rattle.fedi_objects.specs.declared.activity.Activity.{Activity}
-use Rattle.fedi_laws.proofs.Answered.{IsHidden, to_follower, hidden_too}
-use Rattle.fedi_laws.proofs.Grounded.{AreGrounded}
-use Rattle.fedi_laws.proofs.Members.{HasMembers, is_member, IsFound, found, not_public, not_followers}
-use Rattle.fedi_laws.proofs.Reached.{follow_reaches}
+use Rattle.fedi_town.proofs.Answered.{IsHidden, to_follower, hidden_too}
+use Rattle.fedi_town.proofs.Grounded.{AreGrounded}
+use Rattle.fedi_town.proofs.Members.{HasMembers, is_member, IsFound, found, not_public, not_followers}
+use Rattle.fedi_town.proofs.Reached.{follow_reaches}
 use Rattle.fedi_town.proofs.Steps.{accept, accepts_for, answers}
-use Rattle.fedi_laws.proofs.Told.{told_agrees}
+use Rattle.fedi_town.proofs.Told.{told_agrees}
 use Rattle.fedi_town.specs.Activities.{local_act}
 use Rattle.fedi_town.specs.Agreement.{Agree}
 use Rattle.fedi_town.specs.Deeds.{changes_nothing, is_follow, is_accepted, deed_of}

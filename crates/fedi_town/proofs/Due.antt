@@ -13,7 +13,7 @@ use Rattle.fedi_objects.specs.declared.entry.Entry.{Entry}
 use Rattle.fedi_objects.specs.declared.entry.Entry.TheVariants.{Hosted, Made, PeerSet, Local, Remote, Tried}
 use Rattle.fedi_objects.specs.declared.kind.State.{State}
 use Rattle.fedi_objects.specs.declared.kind.State.TheVariants.{Accepted, Undone}
-use Rattle.fedi_laws.proofs.Reached.{is_among-push}
+use Rattle.fedi_town.proofs.Reached.{is_among-push}
 use Rattle.fedi_town.proofs.Steps.{accept, answers, after_post, after_delivery, after_inbox}
 use Rattle.fedi_town.specs.Activities.{local_act, remote_act}
 use Rattle.fedi_town.specs.Addressing.{is_of_town}

@@ -9,7 +9,7 @@ use Rattle.fedi_address.specs.Names.{is_name}
 use Rattle.fedi_objects.specs.declared.activity.Activity.{Activity}
 use Rattle.fedi_objects.specs.declared.entry.Entry.{Entry}
 use Rattle.fedi_objects.specs.declared.entry.Entry.TheVariants.{Hosted, Made, PeerSet, Local, Remote, Tried}
-use Rattle.fedi_laws.proofs.Members.{is_member}
+use Rattle.fedi_town.proofs.Members.{is_member}
 use Rattle.fedi_town.proofs.Steps.{after_post, after_delivery, after_inbox}
 use Rattle.fedi_town.specs.Activities.{remote_act}
 use Rattle.fedi_town.specs.declared.addition.Addition.TheVariants as additions

@@ -9,7 +9,7 @@ use Rattle.fedi_address.specs.Names.{is_name}
 use Rattle.fedi_town.specs.declared.act.Actor.{Actor}
 use Rattle.fedi_town.specs.Ids.{actor_id}
 use Rattle.fedi_town.specs.Towns.{Town, has_name, id_of}
-use Rattle.fedi_laws.proofs.Members.{is_member, IsFound, found}
+use Rattle.fedi_town.proofs.Members.{is_member, IsFound, found}
 use Rattle.fedi_town.proofs.Texts.{bytes_eq-is}
 
 -- the id that a name gives at a host

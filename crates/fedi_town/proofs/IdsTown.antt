@@ -13,15 +13,15 @@ use Rattle.fedi_objects.specs.declared.activity.ObjectRef.{ObjectRef}
 use Rattle.fedi_objects.specs.declared.entry.Entry.{Entry}
 use Rattle.fedi_objects.specs.declared.entry.Entry.TheVariants.{Hosted, Made, PeerSet, Local, Remote, Tried}
 use Rattle.fedi_objects.specs.declared.kind.State.TheVariants.{Accepted, Pending, Rejected}
-use Rattle.fedi_laws.proofs.Due.{affected_on, also_on}
+use Rattle.fedi_town.proofs.Due.{affected_on, also_on}
 use Rattle.fedi_town.proofs.Kept.{ref_id-received}
 use Rattle.fedi_town.specs.Lists.{PassesOnce}
-use Rattle.fedi_laws.proofs.IdsOnce.{AreOnce, next_once, foreign_once, mapped_once, count-push, count-map}
+use Rattle.fedi_town.proofs.IdsOnce.{AreOnce, next_once, foreign_once, mapped_once, count-push, count-map}
 use Rattle.fedi_town.proofs.Lists.{list_any-through}
-use Rattle.fedi_laws.proofs.Members.{is_member, IsFound, found}
-use Rattle.fedi_laws.proofs.Sound.{IsHosted, is_set, not_hosted, step_sound}
+use Rattle.fedi_town.proofs.Members.{is_member, IsFound, found}
+use Rattle.fedi_town.proofs.Sound.{IsHosted, is_set, not_hosted, step_sound}
 use Rattle.fedi_town.proofs.Steps.{accept, accept_in_steps, with_act, accepts_for, after_delivery, after_inbox, after_post}
-use Rattle.fedi_laws.proofs.People.{id_of-is, named_is}
+use Rattle.fedi_town.proofs.People.{id_of-is, named_is}
 use Rattle.fedi_town.specs.Activities.{local_act, remote_act}
 use Rattle.fedi_town.specs.Deeds.{is_follow, is_accepted, deed_of}
 use Rattle.fedi_town.specs.Origins.{is_foreign, is_of_another}
@@ -45,7 +45,7 @@ use Rattle.fedi_town.specs.declared.refusal.Refusal.TheVariants.{ActorFull}
 use Rattle.fedi_town.specs.declared.deed.Deed.{Deed}
 use Rattle.fedi_town.specs.declared.deed.Deed.TheVariants.{Follow}
 use Rattle.fedi_town.proofs.Texts.{bytes_eq-is}
-use Rattle.fedi_laws.proofs.Posted.{follows_is}
+use Rattle.fedi_town.proofs.Posted.{follows_is}
 
 -- nothing before the server was set up, and then each id once
 abbrev pub HasIds : Option (List ℕ) → List Act → Type 0

@@ -4,9 +4,9 @@ use Rattle.std.specs.Prelude.{◌&&◌, ◌||◌, not, filter, if◌then◌else�
 use Rattle.std.specs.List.{list_any, filter_map}
 use Rattle.std.proofs.lemmas.List.{append-nil}
 use Rattle.std.proofs.lemmas.List.Elements.{filter-append, filter_agree}
-use Rattle.fedi_laws.proofs.Grounded.{AreGrounded, is_grounded, is_made}
+use Rattle.fedi_town.proofs.Grounded.{AreGrounded, is_grounded, is_made}
 use Rattle.fedi_town.proofs.Lists.{first_none, other_none, filter-none, find-stays, map-where, list_all-filter}
-use Rattle.fedi_laws.proofs.Quiet.{AreQuiet, with_acts, sees-quiet, blocks-quiet}
+use Rattle.fedi_town.proofs.Quiet.{AreQuiet, with_acts, sees-quiet, blocks-quiet}
 use Rattle.fedi_town.specs.Agreement.{Agree, IsSameOwn, peer_of}
 use Rattle.fedi_town.specs.Deeds.{is_update, is_done}
 use Rattle.fedi_town.specs.Objects.{makes, maker_of, object_of}

@@ -5,7 +5,7 @@ use Rattle.std.specs.List.{list_any}
 use Rattle.std.specs.Str.{bytes_eq}
 use Rattle.fedi_address.specs.Recipients.{distinct, is_among}
 use Rattle.fedi_town.proofs.Lists.{first_none, other_none}
-use Rattle.fedi_laws.proofs.Reached.{Reaches}
+use Rattle.fedi_town.proofs.Reached.{Reaches}
 use Rattle.fedi_town.specs.Addressing.{is_recipient, addressees, recipients_with}
 use Rattle.fedi_town.specs.Effects.{to_one}
 use Rattle.fedi_town.specs.Ids.{followers_id}

@@ -2,11 +2,11 @@
 use Rattle.std.proofs.Common.{◌≡◌, ℕ, Bool, true, false, List, [], ◌∷◌, ◌++◌, Option, Some, None, refl, sym, ap, subst}
 use Rattle.std.specs.Prelude.{◌&&◌, if◌then◌else◌, option_to_list}
 use Rattle.std.specs.List.{list_any}
-use Rattle.fedi_laws.proofs.Grounded.{AreGrounded}
+use Rattle.fedi_town.proofs.Grounded.{AreGrounded}
 use Rattle.fedi_town.proofs.Lists.{map-still}
-use Rattle.fedi_laws.proofs.Quiet.{AreQuiet, with_acts}
+use Rattle.fedi_town.proofs.Quiet.{AreQuiet, with_acts}
 use Rattle.fedi_town.proofs.Steps.{accept, accepts_for, answers}
-use Rattle.fedi_laws.proofs.Unseen.{unseen_agree}
+use Rattle.fedi_town.proofs.Unseen.{unseen_agree}
 use Rattle.fedi_town.specs.Agreement.{Agree}
 use Rattle.fedi_town.specs.Deeds.{changes_nothing, is_block, is_follow, is_accepted}
 use Rattle.fedi_town.specs.Effects.{accept_for, affect, effect_about, effect_with, effect_of, takes_effect, accept_by, followee}

@@ -7,10 +7,10 @@ use Rattle.fedi_town.specs.Histories.{town}
 use Rattle.fedi_town.specs.Ids.{actor_id}
 use Rattle.fedi_town.specs.Legal.{IsLegal}
 use Rattle.fedi_town.specs.Towns.{Town, has_name, id_of}
-use Rattle.fedi_laws.proofs.IdsTown.{found_any}
-use Rattle.fedi_laws.proofs.Members.{is_member}
-use Rattle.fedi_laws.proofs.People.{id_of-is, named_is}
-use Rattle.fedi_laws.proofs.Sound.{town_sound}
+use Rattle.fedi_town.proofs.IdsTown.{found_any}
+use Rattle.fedi_town.proofs.Members.{is_member}
+use Rattle.fedi_town.proofs.People.{id_of-is, named_is}
+use Rattle.fedi_town.proofs.Sound.{town_sound}
 
 pub members_have_ids : (history : List Entry) (host name id : List ℕ) → IsLegal history → (town history).host ≡ Some host
     → id_of (town history) name ≡ Some id → (is_name name ≡ true) × (id ≡ actor_id host name)

@@ -15,7 +15,7 @@ use Rattle.fedi_address.proofs.Parts.{host_of-address}
 use Rattle.fedi_town.proofs.Finding.{PassesOnce-push, PassesOnce-map}
 use Rattle.fedi_town.specs.Lists.{PassesOnce}
 use Rattle.fedi_town.proofs.Lists.{list_any-through, filter-through}
-use Rattle.fedi_laws.proofs.Members.{name_bytes}
+use Rattle.fedi_town.proofs.Members.{name_bytes}
 use Rattle.fedi_town.proofs.Paths.{activity_path_is_plain}
 use Rattle.fedi_town.specs.Ids.{actor_id, activity_id, activity_path}
 use Rattle.fedi_town.specs.Relations.{has_activity_id}
