@@ -8,7 +8,7 @@ use Rattle.serde_json.specs.Data.{Data, string, array, object, Members, no_membe
 use Rattle.serde_json.specs.View.{items_of}
 use Rattle.serde_json.specs.Written.{outline}
 use Rattle.fedi_objects.specs.Forms.{with_context}
-use Rattle.fedi_asks.specs.Documents.{page_form, page_id, summary_form}
+use Rattle.fedi_model.specs.Documents.{page_form, page_id, summary_form}
 use Rattle.fedi_town.specs.Collections.{highest}
 use Rattle.fedi_objects.proofs.Additions.{nothing_added}
 use Rattle.fedi_collections.specs.Members.{document_end, document_start, first_member, last_member, next_member, page_end, page_start, prev_member, text_member, total_member}

@@ -7,7 +7,7 @@ use Rattle.json.specs.Written.{Written}
 use Rattle.serde_json.specs.Data.{Data}
 use Rattle.serde_json.specs.Written.{compact_text, outline}
 use Rattle.serde_json.proofs.Texts.{print-outline}
-use Rattle.fedi_asks.specs.Documents.{collection_id, item_form, page_form}
+use Rattle.fedi_model.specs.Documents.{collection_id, item_form, page_form}
 use Rattle.fedi_town.specs.declared.act.Act.{Act}
 use Rattle.fedi_town.specs.declared.caller.Caller.{Caller}
 use Rattle.fedi_town.specs.declared.caller.Which.{Which}

@@ -4,7 +4,7 @@ use Rattle.json.specs.Token.{Token}
 use Rattle.json.specs.Tree.{json_tokens}
 use Rattle.serde_json.specs.Data.{Data}
 use Rattle.serde_json.specs.Written.{outline}
-use Rattle.fedi_asks.specs.Documents.{page_id}
+use Rattle.fedi_model.specs.Documents.{page_id}
 use Rattle.fedi_town.specs.Collections.{highest}
 
 -- the tokens of an item, where there is one

@@ -1,7 +1,7 @@
 //! The ids of collections and of their pages.
 
 ghost use Rattle.std.specs.Prelude.{◌≡◌, ℕ, List, ◌++◌, IfOk, OnOk, codes, string_bytes};
-ghost use Rattle.fedi_asks.specs.Documents.{collection_id, page_id};
+ghost use Rattle.fedi_model.specs.Documents.{collection_id, page_id};
 ghost use Rattle.fedi_collections.specs.Members.{text_member};
 ghost use Rattle.fedi_objects.specs.Writing.{Adds};
 

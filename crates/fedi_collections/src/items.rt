@@ -3,7 +3,7 @@
 ghost use Rattle.std.specs.Prelude.{◌≡◌, ◌+◌, ◌≤◌, List, OnOk, Some, length, map, option_copied, reverse, slice_get};
 ghost use Rattle.serde_json.specs.Data.{array};
 ghost use Rattle.serde_json.specs.View.{items_of};
-ghost use Rattle.fedi_asks.specs.Documents.{embedded_form, item_form};
+ghost use Rattle.fedi_model.specs.Documents.{embedded_form, item_form};
 ghost use Rattle.fedi_collections.specs.Members.{tokens_at};
 ghost use Rattle.fedi_objects.specs.Writing.{Adds, IsWritten};
 ghost use Rattle.fedi_town.specs.Collections.{text_of};

@@ -2,7 +2,7 @@
 
 ghost use Rattle.std.specs.Prelude.{◌≡◌, ◌+◌, ◌*◌, ◌≤◌, IfOk, List, OnErr, OnOk, Some, drop, length, map, option_map, reverse, slice_get, take};
 ghost use Rattle.serde_json.specs.Written.{compact_text};
-ghost use Rattle.fedi_asks.specs.Documents.{collection_id, item_form, page_form, summary_form};
+ghost use Rattle.fedi_model.specs.Documents.{collection_id, item_form, page_form, summary_form};
 ghost use Rattle.fedi_collections.specs.Pages.{page_text, summary_of, total_of};
 ghost use Rattle.fedi_objects.specs.Writing.{IsWritten};
 ghost use Rattle.fedi_town.specs.Collections.{highest, owner_of};

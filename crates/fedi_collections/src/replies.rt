@@ -1,7 +1,7 @@
 //! The replies to who reads a collection. Out of memory is the only error.
 
 ghost use Rattle.std.specs.Prelude.{◌≡◌, ◌<◌, ◌||◌, IfOk, IsTrue, OnErr, Some, false, not, option_copied};
-ghost use Rattle.fedi_asks.specs.Reading.{collection_answer, is_malformed, items_answer, marks_rule, name_of, object_rule, owner_answer, reading_rule};
+ghost use Rattle.fedi_model.specs.Reading.{collection_answer, is_malformed, items_answer, marks_rule, name_of, object_rule, owner_answer, reading_rule};
 ghost use Rattle.fedi_town.specs.Collections.{owner_of};
 ghost use Rattle.fedi_town.specs.declared.caller.Which.TheVariants.{Inbox, Likes};
 ghost use Rattle.fedi_model.specs.Memory.{finds_marked, is_refused};
@@ -124,7 +124,7 @@ fn object_owner(
 
 // The reply to who reads this part of the owner's collection. How often activities are read is counted
 // here, and the bounds are those of `summary` and `page`.
-#[tactic(auto, unfolding(fedi_asks::specs::Reading::items_answer))]
+#[tactic(auto, unfolding(fedi_model::specs::Reading::items_answer))]
 fn items_reply<S: Shelf, L: Ledger>(
     alloc: Global,
     shelf: &S,

@@ -10,14 +10,14 @@ use Rattle.fedi_town.specs.declared.caller.Caller.TheVariants as callers
 use Rattle.fedi_town.specs.Histories.{town}
 use Rattle.fedi_town.specs.Legal.{IsLegal}
 use Rattle.fedi_town.specs.Towns.{Town, id_of}
-use Rattle.fedi_asks.specs.declared.ask.Ask.{Ask}
-use Rattle.fedi_asks.specs.declared.ask.Ask.TheVariants.{Nowhere, WrongMethod, Webfinger, Actor, Collection, Activity, Object, Outbox, Inbox}
-use Rattle.fedi_asks.specs.declared.post.Post.{Post}
-use Rattle.fedi_asks.specs.Posting.{Judgement, Stop, Repeat, Keep, entry_at, inbox_entry, inbox_entry_at, judge_inbox, judge_post, post_entry, repeat_by}
-use Rattle.fedi_asks.specs.Asks.{IsPostable, entry_of}
+use Rattle.fedi_model.specs.declared.ask.Ask.{Ask}
+use Rattle.fedi_model.specs.declared.ask.Ask.TheVariants.{Nowhere, WrongMethod, Webfinger, Actor, Collection, Activity, Object, Outbox, Inbox}
+use Rattle.fedi_model.specs.declared.post.Post.{Post}
+use Rattle.fedi_model.specs.Posting.{Judgement, Stop, Repeat, Keep, entry_at, inbox_entry, inbox_entry_at, judge_inbox, judge_post, post_entry, repeat_by}
+use Rattle.fedi_model.specs.Asks.{IsPostable, entry_of}
 use Rattle.fedi_laws.proofs.Next.{entry_admissible}
 use Rattle.fedi_model.specs.Replies.{IsPrivate, reply}
-use Rattle.fedi_model.proofs.Private.{replies_agree}
+use Rattle.fedi_laws.proofs.PrivateReplies.{replies_agree}
 use Rattle.fedi_core.specs.Keeping.{MayAdd}
 use Rattle.fedi_core.specs.declared.deciding.Decision.{Decision}
 

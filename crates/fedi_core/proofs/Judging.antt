@@ -12,12 +12,12 @@ use Rattle.fedi_reading.specs.declared.shape_fault.ShapeFault.{ShapeFault}
 use Rattle.fedi_core.specs.Judging.{IsAdmitted, IsTurnedAway}
 use Rattle.fedi_town.specs.Ids.{activity_id}
 use Rattle.fedi_town.specs.Towns.{Town, count_of, id_of}
-use Rattle.fedi_asks.specs.declared.post.Post.{Post}
-use Rattle.fedi_asks.specs.declared.post.Read.{Read}
-use Rattle.fedi_asks.specs.declared.post.Read.TheVariants.{NotJson, Bad, Ready}
-use Rattle.fedi_asks.specs.Posting.{Stop, Repeat, Keep, entry_at, judge_activity, judge_post, judge_read, post_answer, repeat_by, repeat_under, unless_repeat}
-use Rattle.fedi_asks.specs.Answers.{Answer, Refuse, Misshape}
-use Rattle.fedi_asks.specs.Reading.{is_self}
+use Rattle.fedi_model.specs.declared.post.Post.{Post}
+use Rattle.fedi_model.specs.declared.post.Read.{Read}
+use Rattle.fedi_model.specs.declared.post.Read.TheVariants.{NotJson, Bad, Ready}
+use Rattle.fedi_model.specs.Posting.{Stop, Repeat, Keep, entry_at, judge_activity, judge_post, judge_read, post_answer, repeat_by, repeat_under, unless_repeat}
+use Rattle.fedi_model.specs.AnswerKinds.{Answer, Refuse, Misshape}
+use Rattle.fedi_model.specs.Reading.{is_self}
 use Rattle.fedi_town.proofs.Texts.{bytes_eq-is}
 use Rattle.fedi_model.specs.declared.reply.Reply.{Reply}
 use Rattle.fedi_model.specs.Memory.{is_refused}

@@ -4,10 +4,10 @@ use Rattle.fedi_town.specs.declared.caller.Caller.{Caller}
 use Rattle.fedi_town.specs.declared.caller.Caller.TheVariants.{Actor}
 use Rattle.fedi_town.specs.declared.refusal.Refusal.{Refusal}
 use Rattle.fedi_objects.specs.declared.activity.Activity.{Activity}
-use Rattle.fedi_asks.specs.declared.post.Post.{Post}
-use Rattle.fedi_asks.specs.Answers.{Answer, Refuse}
-use Rattle.fedi_asks.specs.Posting.{Judgement, Stop, Repeat, Keep, by_steps, is_bad_key}
-use Rattle.fedi_asks.specs.Reading.{is_nobody, is_self}
+use Rattle.fedi_model.specs.declared.post.Post.{Post}
+use Rattle.fedi_model.specs.AnswerKinds.{Answer, Refuse}
+use Rattle.fedi_model.specs.Posting.{Judgement, Stop, Repeat, Keep, by_steps, is_bad_key}
+use Rattle.fedi_model.specs.Reading.{is_nobody, is_self}
 use Rattle.fedi_model.specs.Replies.{reply_of}
 use Rattle.fedi_core.specs.declared.posts.Judged.{Judged}
 use Rattle.fedi_core.specs.declared.posts.Judged.TheVariants.{Refused, Repeated, Kept}

@@ -1,7 +1,7 @@
 -- What becomes of an entry that is to be kept: of the history, and of the keeper of its records.
 use Rattle.std.specs.Prelude.{◌≡◌, ◌⊎◌, ℕ, Bool, false, true, List, [], ◌∷◌, ◌++◌, length, IsTrue, Option, None, Some}
 use Rattle.std.specs.List.{list_any}
-use Rattle.fedi_asks.specs.Reading.{is_self}
+use Rattle.fedi_model.specs.Reading.{is_self}
 use Rattle.fedi_entry.specs.Codes.{code_of}
 use Rattle.fedi_entry.specs.Limits.{IsAttemptWithin}
 use Rattle.fedi_laws.specs.Statements.{is_peer_of}

@@ -1,9 +1,9 @@
 //! What the machine decides on one ask.
 
 ghost use Rattle.std.specs.Prelude.{◌≡◌, ◌<◌, ◌+◌, IfOk, IsTrue, OnErr, false, option_copied, option_map};
-ghost use Rattle.fedi_asks.specs.Answers.{Accepted};
-ghost use Rattle.fedi_asks.specs.Asks.{entry_of};
-ghost use Rattle.fedi_asks.specs.Posting.{delivery_answer, delivery_of, entry_at, inbox_entry_at, post_answer};
+ghost use Rattle.fedi_model.specs.AnswerKinds.{Accepted};
+ghost use Rattle.fedi_model.specs.Asks.{entry_of};
+ghost use Rattle.fedi_model.specs.Posting.{delivery_answer, delivery_of, entry_at, inbox_entry_at, post_answer};
 ghost use Rattle.fedi_model.specs.Memory.{is_refused, takes_memory};
 ghost use Rattle.fedi_model.specs.Replies.{reply, reply_of, without_body};
 ghost use Rattle.fedi_town.specs.Ids.{activity_id};

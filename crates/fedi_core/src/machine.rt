@@ -8,7 +8,7 @@ ghost use Rattle.fedi_entry.specs.Fields.{IsFormed};
 ghost use Rattle.fedi_town.specs.Histories.{town};
 ghost use Rattle.fedi_town.specs.Legal.{IsLegal, broken_command};
 ghost use Rattle.fedi_town.specs.Towns.{has_digest};
-ghost use Rattle.fedi_asks.specs.Asks.{entry_of};
+ghost use Rattle.fedi_model.specs.Asks.{entry_of};
 ghost use Rattle.fedi_model.specs.Callers.{caller_by, member_or_refused, peer_or_refused};
 ghost use Rattle.fedi_model.specs.Credentials.{shown_by as credentials_shown_by, signature_in};
 ghost use Rattle.fedi_model.specs.Memory.{copies_host, takes_memory};

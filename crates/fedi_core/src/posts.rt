@@ -1,7 +1,7 @@
 //! What becomes of a post, before it is kept.
 
 ghost use Rattle.std.specs.Prelude.{◌≡◌, ℕ, List, Option, Some, MatchResult};
-ghost use Rattle.fedi_asks.specs.Posting.{is_bad_key, Judgement, judge_post, repeat_by, repeat_under, unless_repeat};
+ghost use Rattle.fedi_model.specs.Posting.{is_bad_key, Judgement, judge_post, repeat_by, repeat_under, unless_repeat};
 ghost use Rattle.fedi_core.specs.Judging.{IsAdmitted, IsJudged, IsTurnedAway};
 ghost use Rattle.fedi_town.specs.Agreement.{repeats_of};
 ghost use Rattle.fedi_town.specs.Towns.{id_of};

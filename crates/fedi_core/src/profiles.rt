@@ -3,8 +3,8 @@
 
 ghost use Rattle.std.specs.Prelude.{◌≡◌, IfOk, OnErr, false, option_copied};
 ghost use Rattle.serde_json.specs.Data.{Data};
-ghost use Rattle.fedi_asks.specs.Documents.{actor_form, jrd_form};
-ghost use Rattle.fedi_asks.specs.Reading.{actor_or_missing, profile_or_missing, webfinger_answer};
+ghost use Rattle.fedi_model.specs.Documents.{actor_form, jrd_form};
+ghost use Rattle.fedi_model.specs.Reading.{actor_or_missing, profile_or_missing, webfinger_answer};
 ghost use Rattle.fedi_model.specs.Memory.{is_refused};
 ghost use Rattle.fedi_model.specs.Replies.{disallowed, reply_of, showing};
 ghost use Rattle.fedi_objects.specs.Writing.{IsDocument};

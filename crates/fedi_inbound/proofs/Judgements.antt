@@ -1,9 +1,9 @@
 -- The verdict on a delivery is the judgement on what was read.
 use Rattle.std.proofs.Common.{◌≡◌, Bool, true, false, ℕ, List, Some, None, refl}
 use Rattle.std.specs.Prelude.{if◌then◌else◌}
-use Rattle.fedi_asks.specs.Answers.{Refuse}
-use Rattle.fedi_asks.specs.Posting.{Judgement, Stop, Repeat, Keep, is_there, judge_delivery}
-use Rattle.fedi_asks.specs.declared.post.Read.TheVariants.{Ready}
+use Rattle.fedi_model.specs.AnswerKinds.{Refuse}
+use Rattle.fedi_model.specs.Posting.{Judgement, Stop, Repeat, Keep, is_there, judge_delivery}
+use Rattle.fedi_model.specs.declared.post.Read.TheVariants.{Ready}
 use Rattle.fedi_objects.specs.declared.activity.Activity.{Activity}
 use Rattle.fedi_town.specs.declared.act.Peer.{Peer}
 use Rattle.fedi_town.specs.declared.refusal.Refusal.TheVariants as refusals

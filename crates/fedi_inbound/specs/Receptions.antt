@@ -1,7 +1,7 @@
 -- What becomes of a post to an inbox, as the judgement on it is told.
 use Rattle.std.specs.Prelude.{None}
-use Rattle.fedi_asks.specs.Answers.{Refuse, Misshape}
-use Rattle.fedi_asks.specs.Posting.{Judgement, Stop, Repeat, Keep}
+use Rattle.fedi_model.specs.AnswerKinds.{Refuse, Misshape}
+use Rattle.fedi_model.specs.Posting.{Judgement, Stop, Repeat, Keep}
 use Rattle.fedi_inbound.specs.declared.receiving.Received.{Received}
 use Rattle.fedi_inbound.specs.declared.receiving.Received.TheVariants.{Refused, Misshapen, Repeated, Kept}
 

@@ -1,13 +1,13 @@
 //! What becomes of a post to an inbox, before it is kept.
 
 ghost use Rattle.std.specs.Prelude.{◌≡◌, Some, option_copied};
-ghost use Rattle.fedi_asks.specs.Posting.{is_there, judge_delivery, judge_inbox};
+ghost use Rattle.fedi_model.specs.Posting.{is_there, judge_delivery, judge_inbox};
 ghost use Rattle.fedi_inbound.specs.Receptions.{judgement_in};
 
 use crate::judging::{Verdict, judge_remote};
 use fedi_address::Iri;
-use fedi_asks::{Post, Read};
 use fedi_effects::Facts;
+use fedi_model::{Post, Read};
 use fedi_objects::{Activity, Boxed};
 use fedi_reading::ShapeFault;
 use fedi_town::{Caller, Peer, Refusal};

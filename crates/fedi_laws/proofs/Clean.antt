@@ -27,20 +27,20 @@ use Rattle.fedi_town.specs.Objects.{whole_of}
 use Rattle.fedi_town.specs.Rules.{broken_post, seen_act, seen_maker}
 use Rattle.fedi_town.specs.Showing.{shown_activity}
 use Rattle.fedi_town.specs.Towns.{Town, id_of}
-use Rattle.fedi_asks.specs.declared.ask.Ask.{Ask}
-use Rattle.fedi_asks.specs.declared.ask.Ask.TheVariants.{Nowhere, WrongMethod, Webfinger, Actor, Collection, Activity, Object, Outbox, Inbox}
-use Rattle.fedi_asks.specs.declared.ask.PageAsk.{PageAsk}
-use Rattle.fedi_asks.specs.declared.ask.PageAsk.TheVariants as pages
-use Rattle.fedi_asks.specs.declared.ask.Resource.{Resource}
-use Rattle.fedi_asks.specs.declared.post.Post.{Post}
-use Rattle.fedi_asks.specs.declared.post.Read.{Read}
-use Rattle.fedi_asks.specs.declared.post.Read.TheVariants.{NotJson, Bad, Ready}
-use Rattle.fedi_asks.specs.Answers.{Answer, Refuse, Document, Tombstone, unless_refused}
-use Rattle.fedi_asks.specs.Asks.{id_at, answer_of}
-use Rattle.fedi_asks.specs.Cleanness.{is_clean_answer}
-use Rattle.fedi_asks.specs.Documents.{actor_form, self_link, links_of, jrd_form, embedded_form, item_form, page_id, with_ends, summary_form, with_next, with_prev, page_form}
-use Rattle.fedi_asks.specs.Posting.{Judgement, Stop, Repeat, Keep, unless_broken, by_steps, judge_activity, is_bad_key, repeat_under, unless_repeat, judge_read, answer_post, post_answer, judge_delivery, is_there, answer_delivery, delivery_answer}
-use Rattle.fedi_asks.specs.Reading.{is_nobody, is_self, is_peer, actor_or_missing, profile_or_missing, resource_answer, webfinger_answer, activity_document, activity_or_missing, activity_answer, object_document, maker_document, object_or_missing, object_answer, name_of, reading_rule, object_rule, part_answer, items_answer, owner_answer, is_malformed, member_answer}
+use Rattle.fedi_model.specs.declared.ask.Ask.{Ask}
+use Rattle.fedi_model.specs.declared.ask.Ask.TheVariants.{Nowhere, WrongMethod, Webfinger, Actor, Collection, Activity, Object, Outbox, Inbox}
+use Rattle.fedi_model.specs.declared.ask.PageAsk.{PageAsk}
+use Rattle.fedi_model.specs.declared.ask.PageAsk.TheVariants as pages
+use Rattle.fedi_model.specs.declared.ask.Resource.{Resource}
+use Rattle.fedi_model.specs.declared.post.Post.{Post}
+use Rattle.fedi_model.specs.declared.post.Read.{Read}
+use Rattle.fedi_model.specs.declared.post.Read.TheVariants.{NotJson, Bad, Ready}
+use Rattle.fedi_model.specs.AnswerKinds.{Answer, Refuse, Document, Tombstone, unless_refused}
+use Rattle.fedi_model.specs.Asks.{id_at, answer_of}
+use Rattle.fedi_model.specs.Cleanness.{is_clean_answer}
+use Rattle.fedi_model.specs.Documents.{actor_form, self_link, links_of, jrd_form, embedded_form, item_form, page_id, with_ends, summary_form, with_next, with_prev, page_form}
+use Rattle.fedi_model.specs.Posting.{Judgement, Stop, Repeat, Keep, unless_broken, by_steps, judge_activity, is_bad_key, repeat_under, unless_repeat, judge_read, answer_post, post_answer, judge_delivery, is_there, answer_delivery, delivery_answer}
+use Rattle.fedi_model.specs.Reading.{is_nobody, is_self, is_peer, actor_or_missing, profile_or_missing, resource_answer, webfinger_answer, activity_document, activity_or_missing, activity_answer, object_document, maker_document, object_or_missing, object_answer, name_of, reading_rule, object_rule, part_answer, items_answer, owner_answer, is_malformed, member_answer}
 
 abbrev IsClean : Answer → Type 0
 IsClean a = is_clean_answer a ≡ true

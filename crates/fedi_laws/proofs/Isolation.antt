@@ -11,9 +11,9 @@ use Rattle.fedi_address.specs.Names.{is_name}
 use Rattle.fedi_objects.specs.declared.activity.Activity.{Activity}
 use Rattle.fedi_objects.specs.declared.entry.Entry.{Entry}
 use Rattle.fedi_objects.specs.declared.entry.Entry.TheVariants.{Local, Remote}
-use Rattle.fedi_asks.specs.Asks.{answer_of}
-use Rattle.fedi_asks.specs.Reading.{is_self}
-use Rattle.fedi_asks.specs.declared.ask.Ask.{Ask}
+use Rattle.fedi_model.specs.Asks.{answer_of}
+use Rattle.fedi_model.specs.Reading.{is_self}
+use Rattle.fedi_model.specs.declared.ask.Ask.{Ask}
 use Rattle.fedi_town.proofs.Grounded.{town_grounded, AreGrounded}
 use Rattle.fedi_laws.proofs.Inboxes.{IsOther, inbox_agrees}
 use Rattle.fedi_town.proofs.Members.{is_member, host_of-actor_id}

@@ -10,19 +10,19 @@ use Rattle.fedi_town.specs.declared.refusal.Refusal.TheVariants.{NotFound, NotOw
 use Rattle.fedi_objects.specs.declared.activity.Activity as activities
 use Rattle.fedi_objects.specs.declared.kind.State.{State}
 use Rattle.fedi_objects.specs.Forms.{activity_form}
-use Rattle.fedi_asks.specs.Answers.{Answer, Refuse, Document, unless_refused}
-use Rattle.fedi_asks.specs.Asks.{id_at, answer_of}
-use Rattle.fedi_asks.specs.Documents.{collection_id, embedded_form, item_form}
-use Rattle.fedi_asks.specs.Posting.{is_bad_key, Judgement, Stop, Repeat, Keep, judge_activity, judge_read, by_steps, answer_post, post_answer, delivery_answer, judge_delivery, answer_delivery, is_there}
-use Rattle.fedi_asks.specs.Reading.{activity_document, activity_or_missing, activity_answer, object_document, maker_document, object_or_missing, object_answer, is_self, is_nobody, is_peer, name_of, reading_rule, marks_rule, object_rule, part_answer, items_answer, owner_answer, member_answer, collection_answer, resource_answer, webfinger_answer}
-use Rattle.fedi_asks.specs.declared.ask.Ask.{Ask}
-use Rattle.fedi_asks.specs.declared.ask.Ask.TheVariants.{Nowhere, WrongMethod, Webfinger, Actor, Collection, Activity, Object, Outbox, Inbox}
-use Rattle.fedi_asks.specs.declared.ask.PageAsk.{PageAsk}
-use Rattle.fedi_asks.specs.declared.ask.PageAsk.TheVariants as pages
-use Rattle.fedi_asks.specs.declared.ask.Resource.{Resource}
-use Rattle.fedi_asks.specs.declared.post.Post.{Post}
-use Rattle.fedi_asks.specs.declared.post.Read.{Read}
-use Rattle.fedi_asks.specs.declared.post.Read.TheVariants.{NotJson, Bad, Ready}
+use Rattle.fedi_model.specs.AnswerKinds.{Answer, Refuse, Document, unless_refused}
+use Rattle.fedi_model.specs.Asks.{id_at, answer_of}
+use Rattle.fedi_model.specs.Documents.{collection_id, embedded_form, item_form}
+use Rattle.fedi_model.specs.Posting.{is_bad_key, Judgement, Stop, Repeat, Keep, judge_activity, judge_read, by_steps, answer_post, post_answer, delivery_answer, judge_delivery, answer_delivery, is_there}
+use Rattle.fedi_model.specs.Reading.{activity_document, activity_or_missing, activity_answer, object_document, maker_document, object_or_missing, object_answer, is_self, is_nobody, is_peer, name_of, reading_rule, marks_rule, object_rule, part_answer, items_answer, owner_answer, member_answer, collection_answer, resource_answer, webfinger_answer}
+use Rattle.fedi_model.specs.declared.ask.Ask.{Ask}
+use Rattle.fedi_model.specs.declared.ask.Ask.TheVariants.{Nowhere, WrongMethod, Webfinger, Actor, Collection, Activity, Object, Outbox, Inbox}
+use Rattle.fedi_model.specs.declared.ask.PageAsk.{PageAsk}
+use Rattle.fedi_model.specs.declared.ask.PageAsk.TheVariants as pages
+use Rattle.fedi_model.specs.declared.ask.Resource.{Resource}
+use Rattle.fedi_model.specs.declared.post.Post.{Post}
+use Rattle.fedi_model.specs.declared.post.Read.{Read}
+use Rattle.fedi_model.specs.declared.post.Read.TheVariants.{NotJson, Bad, Ready}
 use Rattle.fedi_laws.specs.Statements.{is_of_profiles}
 use Rattle.fedi_laws.proofs.Alike.{IsAlike, shown_alike}
 use Rattle.fedi_town.proofs.Lists.{list_any-through, filter-through, find-through, map-through}

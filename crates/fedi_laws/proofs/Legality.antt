@@ -12,8 +12,8 @@ use Rattle.fedi_town.specs.Histories.{step, town}
 use Rattle.fedi_town.specs.Legal.{broken_command, is_admissible, is_legal_from, IsLegal}
 use Rattle.fedi_town.specs.Queues.{is_due}
 use Rattle.fedi_town.specs.Towns.{Town, empty_town}
-use Rattle.fedi_asks.specs.declared.ask.Ask.{Ask}
-use Rattle.fedi_asks.specs.Asks.{entry_of, IsPostable}
+use Rattle.fedi_model.specs.declared.ask.Ask.{Ask}
+use Rattle.fedi_model.specs.Asks.{entry_of, IsPostable}
 use Rattle.fedi_town.proofs.Due.{held_on, same_later, stays_due, IsOtherEntry}
 use Rattle.fedi_town.proofs.IdsTown.{HasIds, step_by}
 use Rattle.fedi_town.proofs.Lists.{first_none, other_none}

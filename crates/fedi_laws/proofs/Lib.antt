@@ -4,6 +4,7 @@ pub mod Beside
 pub mod Burial
 pub mod Changes
 pub mod Clean
+pub mod CleanReplies
 pub mod ClubFollows
 pub mod ClubObjects
 pub mod ClubPeers
@@ -15,6 +16,8 @@ pub mod Legality
 pub mod Next
 pub mod Nobody
 pub mod Pages
+pub mod PrivateReplies
 pub mod Queued
 pub mod Readers
 pub mod Replaying
+pub mod SignedRequests

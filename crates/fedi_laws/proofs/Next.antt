@@ -8,17 +8,17 @@ use Rattle.fedi_town.specs.declared.refusal.Refusal.TheVariants.{NotOrigin}
 use Rattle.fedi_objects.specs.declared.activity.Activity as activities
 use Rattle.fedi_objects.specs.declared.entry.Entry.{Entry}
 use Rattle.fedi_objects.specs.declared.entry.Entry.TheVariants.{Local, Remote}
-use Rattle.fedi_asks.specs.Answers.{Refuse}
-use Rattle.fedi_asks.specs.Asks.{IsRead, IsReadFor, IsPostable, entry_of}
-use Rattle.fedi_asks.specs.Posting.{Judgement, Stop, Repeat, Keep, by_steps, judge_read, unless_repeat, judge_activity, unless_broken, judge_post, repeat_under, is_bad_key, is_there, judge_delivery, judge_inbox, repeat_by, post_entry, inbox_entry, entry_at, inbox_entry_at, delivery_of}
-use Rattle.fedi_asks.specs.Reading.{is_nobody, is_self}
-use Rattle.fedi_asks.specs.declared.ask.Ask.{Ask}
-use Rattle.fedi_asks.specs.declared.ask.Ask.TheVariants.{Nowhere, WrongMethod, Webfinger, Actor, Collection, Activity, Object, Outbox, Inbox}
-use Rattle.fedi_asks.specs.declared.post.KeyAsk.{KeyAsk}
-use Rattle.fedi_asks.specs.declared.post.KeyAsk.TheVariants.{Absent, Malformed, Given}
-use Rattle.fedi_asks.specs.declared.post.Post.{Post}
-use Rattle.fedi_asks.specs.declared.post.Read.{Read}
-use Rattle.fedi_asks.specs.declared.post.Read.TheVariants.{NotJson, Bad, Ready}
+use Rattle.fedi_model.specs.AnswerKinds.{Refuse}
+use Rattle.fedi_model.specs.Asks.{IsRead, IsReadFor, IsPostable, entry_of}
+use Rattle.fedi_model.specs.Posting.{Judgement, Stop, Repeat, Keep, by_steps, judge_read, unless_repeat, judge_activity, unless_broken, judge_post, repeat_under, is_bad_key, is_there, judge_delivery, judge_inbox, repeat_by, post_entry, inbox_entry, entry_at, inbox_entry_at, delivery_of}
+use Rattle.fedi_model.specs.Reading.{is_nobody, is_self}
+use Rattle.fedi_model.specs.declared.ask.Ask.{Ask}
+use Rattle.fedi_model.specs.declared.ask.Ask.TheVariants.{Nowhere, WrongMethod, Webfinger, Actor, Collection, Activity, Object, Outbox, Inbox}
+use Rattle.fedi_model.specs.declared.post.KeyAsk.{KeyAsk}
+use Rattle.fedi_model.specs.declared.post.KeyAsk.TheVariants.{Absent, Malformed, Given}
+use Rattle.fedi_model.specs.declared.post.Post.{Post}
+use Rattle.fedi_model.specs.declared.post.Read.{Read}
+use Rattle.fedi_model.specs.declared.post.Read.TheVariants.{NotJson, Bad, Ready}
 use Rattle.fedi_laws.proofs.Knowledge.{self_is}
 use Rattle.fedi_town.specs.Agreement.{repeats_of}
 use Rattle.fedi_town.specs.Origins.{is_foreign, has_inbox}

@@ -1,12 +1,12 @@
 -- Nobody is refused before the body of a post or of a delivery is looked at.
 use Rattle.std.proofs.Common.{◌≡◌, ℕ, Bool, true, false, List, Option, Some, None, refl}
-use Rattle.fedi_asks.specs.Answers.{Answer}
-use Rattle.fedi_asks.specs.Posting.{is_bad_key, post_answer, delivery_answer}
-use Rattle.fedi_asks.specs.declared.post.Post.{Post}
+use Rattle.fedi_model.specs.AnswerKinds.{Answer}
+use Rattle.fedi_model.specs.Posting.{is_bad_key, post_answer, delivery_answer}
+use Rattle.fedi_model.specs.declared.post.Post.{Post}
 use Rattle.fedi_town.specs.declared.caller.Caller.TheVariants.{Nobody}
 use Rattle.fedi_town.specs.Towns.{Town, id_of}
-use Rattle.fedi_asks.specs.Asks.{answer_of}
-use Rattle.fedi_asks.specs.declared.ask.Ask.TheVariants.{Outbox, Inbox}
+use Rattle.fedi_model.specs.Asks.{answer_of}
+use Rattle.fedi_model.specs.declared.ask.Ask.TheVariants.{Outbox, Inbox}
 
 answered : (t : Town) (name : List ℕ) (post other : Post) (id : Option (List ℕ)) → is_bad_key post.key ≡ is_bad_key other.key
     → post_answer t Nobody name post id ≡ post_answer t Nobody name other id

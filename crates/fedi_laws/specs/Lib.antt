@@ -2,4 +2,5 @@ pub mod ClubFollows
 pub mod ClubObjects
 pub mod ClubPeers
 pub mod Fixture
+pub mod SignedRequests
 pub mod Statements

@@ -28,13 +28,13 @@ use Rattle.fedi_town.specs.Seeing.{sees}
 use Rattle.fedi_town.specs.Showing.{bare_tombstone}
 use Rattle.fedi_town.specs.Towns.{Town, count_of, has_name, id_of}
 use Rattle.fedi_town.specs.declared.caller.Caller.TheVariants as callers
-use Rattle.fedi_asks.specs.declared.ask.Ask.{Ask}
-use Rattle.fedi_asks.specs.declared.ask.Ask.TheVariants as asks
-use Rattle.fedi_asks.specs.Asks.{answer_of, entry_of, IsPostable}
-use Rattle.fedi_asks.specs.Cleanness.{is_clean_answer}
-use Rattle.fedi_asks.specs.declared.post.Post.{Post}
-use Rattle.fedi_asks.specs.Posting.{is_bad_key}
-use Rattle.fedi_asks.specs.Reading.{is_self}
+use Rattle.fedi_model.specs.declared.ask.Ask.{Ask}
+use Rattle.fedi_model.specs.declared.ask.Ask.TheVariants as asks
+use Rattle.fedi_model.specs.Asks.{answer_of, entry_of, IsPostable}
+use Rattle.fedi_model.specs.Cleanness.{is_clean_answer}
+use Rattle.fedi_model.specs.declared.post.Post.{Post}
+use Rattle.fedi_model.specs.Posting.{is_bad_key}
+use Rattle.fedi_model.specs.Reading.{is_self}
 
 -- ---- what a caller may learn
 

@@ -1,10 +1,12 @@
-//! Laws of what a history means, each the contract of a function that does nothing.
+//! Laws of what a history means, and of requests and replies, each the contract of a function that does
+//! nothing.
 #![tactic(auto)]
 
 mod club;
 mod histories;
 mod objects;
 mod privacy;
+mod replies;
 
 pub use club::{
     a_follow_goes_astray, a_follow_is_delivered, a_follower_elsewhere_sees_a_note,
@@ -26,4 +28,8 @@ pub use privacy::{
     answers_are_private, attempts_tell_nothing, changes_reach_the_readers,
     deleted_content_is_told_to_nobody, deliveries_of_nobody_are_unread, posts_of_nobody_are_unread,
     profiles_tell_names_alone, unseen_deliveries_tell_nothing, unseen_posts_tell_nothing,
+};
+pub use replies::{
+    a_delivery_is_signed, refusals_are_clean, replies_are_clean, replies_are_private,
+    what_is_read_may_be_delivered, what_is_read_may_be_posted,
 };

@@ -8,8 +8,8 @@ use Rattle.fedi_log.specs.Keeping.{State}
 use Rattle.fedi_log.specs.Log.{Failed, Full, Kept, NoEntry, Outcome}
 use Rattle.fedi_objects.specs.declared.entry.Entry.{Entry}
 use Rattle.fedi_outside.specs.Keepers.{KeeperState}
-use Rattle.fedi_model.proofs.Clean.{refused_is_clean, reply_is_clean}
-use Rattle.fedi_asks.specs.declared.ask.Ask.{Ask}
+use Rattle.fedi_laws.proofs.CleanReplies.{refused_is_clean, reply_is_clean}
+use Rattle.fedi_model.specs.declared.ask.Ask.{Ask}
 use Rattle.fedi_town.specs.declared.caller.Caller.{Caller}
 use Rattle.fedi_town.specs.declared.refusal.Refusal.{Refusal}
 use Rattle.fedi_town.specs.declared.refusal.Refusal.TheVariants.{JournalFull, KeeperFault}
@@ -20,7 +20,7 @@ use Rattle.fedi_model.specs.Answers.{AgreeFor, AgreeOn, Answers, AnswersTo, call
 use Rattle.fedi_model.specs.Cleanness.{IsCleanBody}
 use Rattle.fedi_town.specs.Histories.{town}
 use Rattle.fedi_model.specs.Refusing.{refused}
-use Rattle.fedi_asks.specs.Asks.{entry_of}
+use Rattle.fedi_model.specs.Asks.{entry_of}
 use Rattle.fedi_model.specs.Replies.{IsPrivate, reply}
 use Rattle.fedi_model.specs.Routes.{Asks}
 use Rattle.fedi_town.specs.Towns.{Town}

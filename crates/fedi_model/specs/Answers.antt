@@ -3,11 +3,11 @@
 use Rattle.std.specs.Prelude.{◌≡◌, ℕ, List, Option, None, Result, Ok, Err}
 use Rattle.fedi_town.specs.declared.refusal.Refusal.{Refusal}
 use Rattle.fedi_objects.specs.declared.entry.Entry.{Entry}
-use Rattle.fedi_asks.specs.declared.ask.Ask.{Ask}
+use Rattle.fedi_model.specs.declared.ask.Ask.{Ask}
 use Rattle.fedi_town.specs.declared.caller.Caller.{Caller}
 use Rattle.fedi_model.specs.declared.reply.Reply.{Reply}
 use Rattle.fedi_model.specs.declared.request.Request.{Request}
-use Rattle.fedi_asks.specs.Asks.{entry_of}
+use Rattle.fedi_model.specs.Asks.{entry_of}
 use Rattle.fedi_town.specs.Agreement.{Agree}
 use Rattle.fedi_town.specs.Histories.{town}
 use Rattle.fedi_town.specs.Legal.{IsLegal}

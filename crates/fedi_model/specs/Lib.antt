@@ -1,3 +1,8 @@
+pub mod AnswerKinds
+pub mod Asks
+pub mod Posting
+pub mod Reading
+pub mod Documents
 pub mod Requests
 pub mod Credentials
 pub mod Callers
@@ -12,5 +17,4 @@ pub mod Replies
 pub mod ReplyText
 pub mod Cleanness
 pub mod Answers
-pub mod SignedRequests
 pub mod Memory

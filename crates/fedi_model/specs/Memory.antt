@@ -1,11 +1,11 @@
 -- Which callers take memory to be found, and which asks to be answered.
 use Rattle.std.specs.Prelude.{Bool, true, false, not, ◌||◌, Result, Ok, Err}
-use Rattle.fedi_asks.specs.declared.ask.Ask.{Ask}
-use Rattle.fedi_asks.specs.declared.ask.Ask.TheVariants.{Nowhere, WrongMethod, Webfinger, Actor, Collection, Activity, Object, Outbox, Inbox}
-use Rattle.fedi_asks.specs.declared.ask.PageAsk.{PageAsk}
-use Rattle.fedi_asks.specs.Answers.{Answer, Refuse, Misshape, Disallow, Document, Profile, Tombstone, Created, Accepted}
-use Rattle.fedi_asks.specs.Asks.{answer_of}
-use Rattle.fedi_asks.specs.Reading.{is_malformed, is_peer}
+use Rattle.fedi_model.specs.declared.ask.Ask.{Ask}
+use Rattle.fedi_model.specs.declared.ask.Ask.TheVariants.{Nowhere, WrongMethod, Webfinger, Actor, Collection, Activity, Object, Outbox, Inbox}
+use Rattle.fedi_model.specs.declared.ask.PageAsk.{PageAsk}
+use Rattle.fedi_model.specs.AnswerKinds.{Answer, Refuse, Misshape, Disallow, Document, Profile, Tombstone, Created, Accepted}
+use Rattle.fedi_model.specs.Asks.{answer_of}
+use Rattle.fedi_model.specs.Reading.{is_malformed, is_peer}
 use Rattle.fedi_town.specs.declared.refusal.Refusal.{Refusal}
 use Rattle.fedi_town.specs.declared.caller.Caller.{Caller}
 use Rattle.fedi_town.specs.declared.caller.Which.{Which}

@@ -3,8 +3,8 @@ use Rattle.std.specs.Prelude.{ℕ, Bool, ◌&&◌, nat_le, List, [], ◌∷◌, 
 use Rattle.std.specs.Char.{is_ascii_digit}
 use Rattle.std.specs.List.{list_all}
 use Rattle.std.specs.Str.Parse.{digits_value}
-use Rattle.fedi_asks.specs.declared.ask.PageAsk.{PageAsk}
-use Rattle.fedi_asks.specs.declared.ask.PageAsk.TheVariants.{Summary, Page, Malformed}
+use Rattle.fedi_model.specs.declared.ask.PageAsk.{PageAsk}
+use Rattle.fedi_model.specs.declared.ask.PageAsk.TheVariants.{Summary, Page, Malformed}
 use Rattle.fedi_model.specs.Queries.{values_of}
 
 -- the number of a page is written with 1 to 10 digits

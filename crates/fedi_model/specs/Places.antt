@@ -2,10 +2,10 @@
 -- for byte and never decoded.
 use Rattle.std.specs.Prelude.{◌≡◌, ℕ, ◌≤◌, ◌<◌, ◌^◌, List, codes, IsTrue}
 use Rattle.fedi_address.specs.Names.{is_name}
-use Rattle.fedi_asks.specs.declared.ask.Allow.{Allow}
-use Rattle.fedi_asks.specs.declared.ask.Allow.TheVariants.{GetHead, GetHeadPost}
-use Rattle.fedi_asks.specs.Documents.{collection_id}
-use Rattle.fedi_asks.specs.Reading.{name_of}
+use Rattle.fedi_model.specs.declared.ask.Allow.{Allow}
+use Rattle.fedi_model.specs.declared.ask.Allow.TheVariants.{GetHead, GetHeadPost}
+use Rattle.fedi_model.specs.Documents.{collection_id}
+use Rattle.fedi_model.specs.Reading.{name_of}
 use Rattle.fedi_town.specs.Ids.{actor_path, activity_path, object_path}
 use Rattle.fedi_town.specs.declared.caller.Which.{Which}
 use Rattle.fedi_town.specs.declared.caller.Which.TheVariants.{Inbox, Outbox, Likes, Shares}

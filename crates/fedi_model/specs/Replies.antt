@@ -2,10 +2,10 @@
 use Rattle.std.specs.Prelude.{◌≡◌, ℕ, List, [], Option, Some, None}
 use Rattle.serde_json.specs.Data.{Data}
 use Rattle.serde_json.specs.Written.{compact_text}
-use Rattle.fedi_asks.specs.declared.ask.Allow.{Allow}
-use Rattle.fedi_asks.specs.declared.ask.Ask.{Ask}
-use Rattle.fedi_asks.specs.Answers.{Answer, Refuse, Misshape, Disallow, Document, Profile, Tombstone, Created, Accepted}
-use Rattle.fedi_asks.specs.Asks.{answer_of}
+use Rattle.fedi_model.specs.declared.ask.Allow.{Allow}
+use Rattle.fedi_model.specs.declared.ask.Ask.{Ask}
+use Rattle.fedi_model.specs.AnswerKinds.{Answer, Refuse, Misshape, Disallow, Document, Profile, Tombstone, Created, Accepted}
+use Rattle.fedi_model.specs.Asks.{answer_of}
 use Rattle.fedi_objects.specs.declared.entry.Entry.{Entry}
 use Rattle.fedi_town.specs.declared.caller.Caller.{Caller}
 use Rattle.fedi_town.specs.declared.refusal.Refusal.TheVariants.{WrongMethod}

@@ -2,8 +2,8 @@
 use Rattle.std.specs.Prelude.{ℕ, Bool, true, false, ◌&&◌, ◌==◌, List, [], ◌++◌, length, codes, decimal, Option, Some, None, unwrap_or, if◌then◌else◌}
 use Rattle.http.specs.StatusCode.{reason_phrase}
 use Rattle.fedi_text.specs.Dates.{http_date_text}
-use Rattle.fedi_asks.specs.declared.ask.Allow.{Allow}
-use Rattle.fedi_asks.specs.declared.ask.Allow.TheVariants.{GetHead, GetHeadPost}
+use Rattle.fedi_model.specs.declared.ask.Allow.{Allow}
+use Rattle.fedi_model.specs.declared.ask.Allow.TheVariants.{GetHead, GetHeadPost}
 use Rattle.fedi_model.specs.declared.reply.Form.{Form}
 use Rattle.fedi_model.specs.declared.reply.Form.TheVariants.{None as Formless, Activity, Jrd, Json}
 use Rattle.fedi_model.specs.declared.reply.Reply.{Reply}

@@ -3,7 +3,7 @@ use Rattle.std.specs.Prelude.{ℕ, ◌&&◌, Bool, nat_eq, nat_lt, nat_le, List,
 use Rattle.std.specs.List.{starts_with, before_last, after_last}
 use Rattle.fedi_address.specs.Iris.{is_at, normal}
 use Rattle.fedi_address.specs.Names.{is_name}
-use Rattle.fedi_asks.specs.declared.ask.Resource.{Resource}
+use Rattle.fedi_model.specs.declared.ask.Resource.{Resource}
 use Rattle.fedi_town.specs.Ids.{actor_id}
 use Rattle.fedi_model.specs.Queries.{values_of}
 

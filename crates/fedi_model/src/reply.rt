@@ -2,8 +2,8 @@
 
 ghost use Rattle.std.specs.Prelude.{◌≡◌, []};
 
+use crate::ask::Allow;
 use fedi_address::Iri;
-use fedi_asks::Allow;
 use http::StatusCode;
 use std::borrow::CowSlice;
 use std::marker::Model;

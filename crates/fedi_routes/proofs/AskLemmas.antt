@@ -2,13 +2,13 @@
 use Rattle.std.proofs.Common.{◌≡◌, ℕ, List, Bool, true, false, Option, Some, None, Ok, Err, inl, inr, refl, sym, ◌∙◌, ap, subst}
 use Rattle.std.specs.Prelude.{Result, IfOk, MatchBool}
 use Rattle.serde_json.specs.Data.{Data}
-use Rattle.fedi_asks.specs.declared.ask.Ask.{Ask}
-use Rattle.fedi_asks.specs.declared.ask.Ask.TheVariants.{Outbox, Inbox}
-use Rattle.fedi_asks.specs.declared.post.KeyAsk.{KeyAsk}
-use Rattle.fedi_asks.specs.declared.post.Post.{Post}
-use Rattle.fedi_asks.specs.declared.post.Read.{Read}
-use Rattle.fedi_asks.specs.declared.post.Read.TheVariants.{NotJson, Bad, Ready}
-use Rattle.fedi_asks.specs.Asks.{IsRead, IsReadFor}
+use Rattle.fedi_model.specs.declared.ask.Ask.{Ask}
+use Rattle.fedi_model.specs.declared.ask.Ask.TheVariants.{Outbox, Inbox}
+use Rattle.fedi_model.specs.declared.post.KeyAsk.{KeyAsk}
+use Rattle.fedi_model.specs.declared.post.Post.{Post}
+use Rattle.fedi_model.specs.declared.post.Read.{Read}
+use Rattle.fedi_model.specs.declared.post.Read.TheVariants.{NotJson, Bad, Ready}
+use Rattle.fedi_model.specs.Asks.{IsRead, IsReadFor}
 use Rattle.fedi_town.specs.Shapes.{is_posted, is_delivered}
 use Rattle.fedi_town.specs.Histories.{town}
 use Rattle.fedi_town.specs.Ids.{actor_id}

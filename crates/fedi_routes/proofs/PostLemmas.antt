@@ -2,8 +2,8 @@
 use Rattle.std.proofs.Common.{◌≡◌, ℕ, List, Bool, true, false, Some, None, Ok, Err, refl, ap}
 use Rattle.std.specs.Prelude.{◌≢◌, Result, MatchBool}
 use Rattle.serde_json.specs.Data.{Data}
-use Rattle.fedi_asks.specs.declared.post.Read.{Read}
-use Rattle.fedi_asks.specs.declared.post.Read.TheVariants.{NotJson}
+use Rattle.fedi_model.specs.declared.post.Read.{Read}
+use Rattle.fedi_model.specs.declared.post.Read.TheVariants.{NotJson}
 use Rattle.fedi_objects.specs.declared.activity.Activity.{Activity}
 use Rattle.fedi_reading.specs.Bodies.{IsBodyOf}
 use Rattle.fedi_reading.specs.Shapes.{Gives}

@@ -1,8 +1,8 @@
 -- What is read of a post.
 use Rattle.std.specs.Prelude.{◌≡◌, ℕ, Bool, true, false, List, Option, Some, None, Result, Ok, Err, MatchBool}
 use Rattle.serde_json.specs.Data.{Data}
-use Rattle.fedi_asks.specs.declared.post.Read.{Read}
-use Rattle.fedi_asks.specs.declared.post.Read.TheVariants.{NotJson, Bad, Ready}
+use Rattle.fedi_model.specs.declared.post.Read.{Read}
+use Rattle.fedi_model.specs.declared.post.Read.TheVariants.{NotJson, Bad, Ready}
 use Rattle.fedi_objects.specs.declared.activity.Activity as activities
 use Rattle.fedi_reading.specs.Bodies.{IsBodyOf}
 use Rattle.fedi_reading.specs.declared.shape_fault.ShapeFault.{ShapeFault}

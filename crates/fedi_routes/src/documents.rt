@@ -6,7 +6,7 @@ ghost use Rattle.std.specs.String.{string_bytes};
 ghost use Rattle.serde_json.specs.Data.{array, object, string, no_members, put};
 ghost use Rattle.serde_json.specs.View.{items_of};
 ghost use Rattle.fedi_address.specs.Recipients.{is_among};
-ghost use Rattle.fedi_asks.specs.Documents.{actor_form, actor_members, jrd_form, links_of, self_link};
+ghost use Rattle.fedi_model.specs.Documents.{actor_form, actor_members, jrd_form, links_of, self_link};
 ghost use Rattle.fedi_objects.specs.Forms.{with_context};
 ghost use Rattle.fedi_objects.specs.Writing.{IsWritten};
 ghost use Rattle.fedi_town.specs.Ids.{actor_id};
@@ -21,7 +21,7 @@ use std::alloc::{AllocError, Global};
 const SELF: &str = "self";
 
 /// Writes the member's actor document. The error is out of memory.
-#[tactic(auto, unfolding(fedi_asks::specs::Documents::actor_form))]
+#[tactic(auto, unfolding(fedi_model::specs::Documents::actor_form))]
 pub fn write_actor(
     out: &mut Writer,
     alloc: Global,
@@ -55,7 +55,7 @@ fn write_person(out: &mut Writer, id: &str, name: &str) -> Result<(), AllocError
 
 /// Writes what WebFinger says of the member, with the links of these relations alone, or with all if
 /// there is none. The error is out of memory.
-#[tactic(auto, unfolding(fedi_asks::specs::Documents::jrd_form))]
+#[tactic(auto, unfolding(fedi_model::specs::Documents::jrd_form))]
 pub fn write_jrd(
     out: &mut Writer,
     alloc: Global,

@@ -8,13 +8,13 @@ use Rattle.fedi_http.specs.declared.arrivals.Arrived.TheVariants as arrivals
 use Rattle.fedi_http.specs.declared.heads.TheConstants.{HEAD_LIMIT}
 use Rattle.fedi_http.specs.declared.requests.TheConstants.{MOST_FIELDS}
 use Rattle.fedi_objects.specs.declared.entry.Entry.{Entry}
-use Rattle.fedi_asks.specs.declared.ask.Ask.{Ask}
+use Rattle.fedi_model.specs.declared.ask.Ask.{Ask}
 use Rattle.fedi_town.specs.declared.caller.Caller.{Caller}
 use Rattle.fedi_model.specs.declared.reply.Reply.{Reply}
 use Rattle.fedi_model.specs.declared.request.Request.{Request}
 use Rattle.fedi_model.specs.Answers.{AnswersTo, caller_of}
 use Rattle.fedi_town.specs.Histories.{town}
-use Rattle.fedi_asks.specs.Asks.{entry_of}
+use Rattle.fedi_model.specs.Asks.{entry_of}
 use Rattle.fedi_model.specs.Replies.{reply}
 use Rattle.fedi_town.specs.Towns.{Town}
 use Rattle.fedi_routes.proofs.AskLemmas.{asked_once}

@@ -11,8 +11,8 @@ use Rattle.fedi_town.specs.Objects.{whole_of}
 use Rattle.fedi_town.specs.Relations.{ref_id}
 use Rattle.fedi_town.specs.Showing.{object_or_id, present_object, shown_activity, shown_object, shown_ref}
 use Rattle.fedi_town.specs.Towns.{Town}
-use Rattle.fedi_asks.specs.Answers.{Document, Tombstone}
-use Rattle.fedi_asks.specs.Reading.{maker_document, object_document}
+use Rattle.fedi_model.specs.AnswerKinds.{Document, Tombstone}
+use Rattle.fedi_model.specs.Reading.{maker_document, object_document}
 use Rattle.fedi_model.specs.declared.reply.Form.TheVariants as forms
 use Rattle.fedi_model.specs.Replies.{reply_of, showing}
 

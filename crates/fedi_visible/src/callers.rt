@@ -1,7 +1,7 @@
 //! Who the caller is.
 
 ghost use Rattle.std.specs.Prelude.{◌≡◌};
-ghost use Rattle.fedi_asks.specs.Reading.{is_nobody, is_self};
+ghost use Rattle.fedi_model.specs.Reading.{is_nobody, is_self};
 
 use fedi_address::LocalName;
 use fedi_town::Caller;

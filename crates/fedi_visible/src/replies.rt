@@ -2,8 +2,8 @@
 
 ghost use Rattle.std.specs.Prelude.{◌≡◌, IfOk, option_copied, if◌then◌else◌};
 ghost use Rattle.serde_json.specs.Data.{Data};
-ghost use Rattle.fedi_asks.specs.Asks.{id_at};
-ghost use Rattle.fedi_asks.specs.Reading.{activity_answer, activity_document, object_answer, object_document};
+ghost use Rattle.fedi_model.specs.Asks.{id_at};
+ghost use Rattle.fedi_model.specs.Reading.{activity_answer, activity_document, object_answer, object_document};
 ghost use Rattle.fedi_model.specs.Replies.{reply_of, showing};
 ghost use Rattle.fedi_objects.specs.Forms.{is_tombstone};
 ghost use Rattle.fedi_objects.specs.Writing.{IsDocument};

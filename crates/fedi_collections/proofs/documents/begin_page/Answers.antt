@@ -1,6 +1,6 @@
 use Rattle.std.proofs.Common.{codes}
 use Rattle.json.specs.Token.{Token}
-use Rattle.fedi_asks.specs.Documents.{page_id}
+use Rattle.fedi_model.specs.Documents.{page_id}
 use Rattle.fedi_collections.proofs.Adding.{added_as, one_added, then_added}
 use Rattle.fedi_collections.specs.Members.{document_start, next_member, page_start, text_member}
 use Rattle.fedi_collections.proofs.documents.begin_page.Goals as goal

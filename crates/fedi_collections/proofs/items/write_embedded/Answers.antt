@@ -1,7 +1,7 @@
 use Rattle.std.proofs.Common.{false, ap, subst, ◌∙◌}
 use Rattle.std.proofs.lemmas.Result.{on_ok_weaker}
 use Rattle.fedi_objects.specs.Forms.{activity_form}
-use Rattle.fedi_asks.specs.Documents.{embedded_form}
+use Rattle.fedi_model.specs.Documents.{embedded_form}
 use Rattle.fedi_town.specs.Showing.{shown_activity}
 use Rattle.fedi_objects.specs.Writing.{IsWritten}
 use Rattle.fedi_collections.proofs.items.write_embedded.Goals as goal

@@ -5,7 +5,7 @@ use Rattle.std.proofs.lemmas.List.{length-reverse, length_push}
 use Rattle.std.proofs.lemmas.Result.{on_ok_weaker}
 use Rattle.std.specs.List.{flat_map}
 use Rattle.json.specs.Token.{Token}
-use Rattle.fedi_asks.specs.Documents.{item_form}
+use Rattle.fedi_model.specs.Documents.{item_form}
 use Rattle.fedi_collections.specs.Members.{tokens_at}
 use Rattle.fedi_objects.specs.Writing.{Adds}
 use Rattle.fedi_collections.proofs.Adding.{more_added, one_added, then_added}

@@ -1,7 +1,7 @@
 use Rattle.std.proofs.Common.{◌∷◌, ◌+◌, ◌≤◌, length, slice_get}
 use Rattle.std.specs.List.{flat_map}
 use Rattle.json.specs.Token.{Token}
-use Rattle.fedi_asks.specs.Documents.{item_form}
+use Rattle.fedi_model.specs.Documents.{item_form}
 use Rattle.fedi_collections.specs.Members.{tokens_at}
 use Rattle.fedi_objects.specs.Writing.{Adds}
 use Rattle.fedi_collections.proofs.items.write_items.Given as goal

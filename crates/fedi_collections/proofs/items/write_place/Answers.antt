@@ -1,5 +1,5 @@
 use Rattle.std.proofs.Common.{◌≤◌, subst}
-use Rattle.fedi_asks.specs.Documents.{item_form}
+use Rattle.fedi_model.specs.Documents.{item_form}
 use Rattle.fedi_collections.proofs.ItemTokens.{none_past}
 use Rattle.fedi_collections.proofs.items.write_place.Goals as goal
 

@@ -1,6 +1,6 @@
 use Rattle.std.proofs.Common.{◌≡◌, subst, ◌∙◌}
 use Rattle.serde_json.specs.Written.{compact_text}
-use Rattle.fedi_asks.specs.Documents.{summary_form}
+use Rattle.fedi_model.specs.Documents.{summary_form}
 use Rattle.fedi_collections.proofs.Found.{text_written}
 use Rattle.fedi_collections.proofs.pages.summary_text.Goals as goal
 

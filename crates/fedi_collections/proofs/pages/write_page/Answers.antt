@@ -1,6 +1,6 @@
 use Rattle.std.proofs.Common.{ap, map, reverse, slice_get, subst, ◌∙◌}
 use Rattle.std.proofs.lemmas.Result.{on_ok_weaker}
-use Rattle.fedi_asks.specs.Documents.{item_form}
+use Rattle.fedi_model.specs.Documents.{item_form}
 use Rattle.fedi_collections.proofs.Adding.{added_as}
 use Rattle.fedi_collections.proofs.DocumentParts.{page_parts}
 use Rattle.fedi_collections.specs.Members.{page_end}

@@ -1,9 +1,9 @@
 use Rattle.std.proofs.Common.{◌≡◌, Option, Some, None, sym, ap, subst, ◌∙◌}
-use Rattle.fedi_asks.specs.declared.post.Read.TheVariants.{NotJson, Bad, Ready}
-use Rattle.fedi_asks.specs.Answers.{Refuse, Misshape}
+use Rattle.fedi_model.specs.declared.post.Read.TheVariants.{NotJson, Bad, Ready}
+use Rattle.fedi_model.specs.AnswerKinds.{Refuse, Misshape}
 use Rattle.std.specs.Prelude.{Result, Err}
 use Rattle.std.specs.Result.{result_err}
-use Rattle.fedi_asks.specs.Posting.{Judgement, Stop, Keep, judge_activity, repeat_by, repeat_under, unless_broken}
+use Rattle.fedi_model.specs.Posting.{Judgement, Stop, Keep, judge_activity, repeat_by, repeat_under, unless_broken}
 use Rattle.fedi_objects.specs.declared.activity.Activity.{Activity}
 use Rattle.fedi_town.specs.declared.caller.Caller.TheVariants.{Actor}
 use Rattle.fedi_town.specs.declared.refusal.Refusal.{Refusal}

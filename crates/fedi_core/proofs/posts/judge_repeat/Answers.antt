@@ -1,6 +1,6 @@
 use Rattle.std.proofs.Common.{◌≡◌, false, refl}
 use Rattle.std.specs.Str.{bytes_eq}
-use Rattle.fedi_asks.specs.Answers.{Refuse}
+use Rattle.fedi_model.specs.AnswerKinds.{Refuse}
 use Rattle.fedi_town.specs.declared.refusal.Refusal.TheVariants.{KeyReused}
 use Rattle.fedi_core.proofs.posts.judge_repeat.Goals as goal
 

@@ -1,4 +1,4 @@
-use Rattle.fedi_asks.specs.Documents.{jrd_form}
+use Rattle.fedi_model.specs.Documents.{jrd_form}
 use Rattle.fedi_objects.proofs.Additions.{document}
 use Rattle.fedi_core.proofs.profiles.profile_document.Goals as goal
 

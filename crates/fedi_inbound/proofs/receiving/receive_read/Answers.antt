@@ -1,6 +1,6 @@
 use Rattle.std.proofs.Common.{◌≡◌, Some, inl, inr, ap, sym, ◌∙◌}
-use Rattle.fedi_asks.specs.Posting.{Keep, is_there, judge_delivery}
-use Rattle.fedi_asks.specs.declared.post.Read.TheVariants.{Ready}
+use Rattle.fedi_model.specs.Posting.{Keep, is_there, judge_delivery}
+use Rattle.fedi_model.specs.declared.post.Read.TheVariants.{Ready}
 use Rattle.fedi_objects.specs.declared.activity.Activity.{Activity}
 use Rattle.fedi_inbound.specs.declared.judging.Verdict.TheVariants.{New, AddInbox, Repeat, NotOrigin}
 use Rattle.fedi_inbound.specs.Verdicts.{verdict}

@@ -1,7 +1,7 @@
 use Rattle.std.proofs.Common.{[], ◌∷◌, codes, refl}
 use Rattle.serde_json.specs.Data.{array, object, string, no_members, put}
 use Rattle.serde_json.specs.View.{items_of}
-use Rattle.fedi_asks.specs.Documents.{links_of}
+use Rattle.fedi_model.specs.Documents.{links_of}
 use Rattle.fedi_objects.proofs.Additions.{then, one_added, ended, as_value}
 use Rattle.fedi_routes.proofs.documents.write_description.Goals as goal
 

@@ -1,6 +1,6 @@
 use Rattle.std.proofs.Common.{true, refl, arith}
 use Rattle.serde_json.specs.Data.{object}
-use Rattle.fedi_asks.specs.Documents.{actor_members}
+use Rattle.fedi_model.specs.Documents.{actor_members}
 use Rattle.fedi_objects.specs.Forms.{with_context}
 use Rattle.fedi_objects.proofs.Additions.{then, one_added, ended, as_value}
 use Rattle.fedi_routes.proofs.documents.write_person.Goals as goal

@@ -1,7 +1,7 @@
 use Rattle.std.proofs.Common.{[], ◌∷◌, refl}
 use Rattle.serde_json.specs.Data.{array}
 use Rattle.serde_json.specs.View.{items_of}
-use Rattle.fedi_asks.specs.Documents.{self_link}
+use Rattle.fedi_model.specs.Documents.{self_link}
 use Rattle.fedi_objects.proofs.Additions.{then, one_added, ended, as_value}
 use Rattle.fedi_routes.proofs.documents.write_self_link.Goals as goal
 

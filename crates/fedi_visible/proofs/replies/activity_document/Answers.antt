@@ -1,6 +1,6 @@
 use Rattle.std.proofs.Common.{true, Bool, subst, ap, ◌∙◌}
 use Rattle.serde_json.specs.Data.{Data}
-use Rattle.fedi_asks.specs.Reading.{activity_document}
+use Rattle.fedi_model.specs.Reading.{activity_document}
 use Rattle.fedi_objects.specs.Forms.{activity_form, shown_in}
 use Rattle.fedi_objects.specs.Writing.{IsWritten}
 use Rattle.fedi_objects.proofs.Additions.{document}

@@ -1,5 +1,5 @@
 use Rattle.std.proofs.Common.{ap, ◌∙◌}
-use Rattle.fedi_asks.specs.Reading.{object_or_missing}
+use Rattle.fedi_model.specs.Reading.{object_or_missing}
 use Rattle.fedi_visible.proofs.ShownForms.{present_document}
 use Rattle.fedi_visible.proofs.replies.seen_object.Goals as goal
 

@@ -1,6 +1,6 @@
 -- Histories that agree for a caller give the caller the same reply.
 use Rattle.std.proofs.Common.{◌≡◌, List, ap}
-use Rattle.fedi_asks.specs.declared.ask.Ask.{Ask}
+use Rattle.fedi_model.specs.declared.ask.Ask.{Ask}
 use Rattle.fedi_laws.proofs.Isolation.{private_answers}
 use Rattle.fedi_objects.specs.declared.entry.Entry.{Entry}
 use Rattle.fedi_town.specs.declared.caller.Caller.{Caller}

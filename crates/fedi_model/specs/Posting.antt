@@ -15,13 +15,13 @@ use Rattle.fedi_town.specs.Origins.{is_foreign, has_inbox}
 use Rattle.fedi_town.specs.Ids.{activity_id}
 use Rattle.fedi_town.specs.Rules.{broken_post}
 use Rattle.fedi_town.specs.Towns.{Town, count_of}
-use Rattle.fedi_asks.specs.declared.post.KeyAsk.{KeyAsk}
-use Rattle.fedi_asks.specs.declared.post.KeyAsk.TheVariants.{Absent, Malformed, Given}
-use Rattle.fedi_asks.specs.declared.post.Post.{Post}
-use Rattle.fedi_asks.specs.declared.post.Read.{Read}
-use Rattle.fedi_asks.specs.declared.post.Read.TheVariants.{NotJson, Bad, Ready}
-use Rattle.fedi_asks.specs.Answers.{Answer, Refuse, Misshape, Created, Accepted}
-use Rattle.fedi_asks.specs.Reading.{is_nobody, is_self, is_peer}
+use Rattle.fedi_model.specs.declared.post.KeyAsk.{KeyAsk}
+use Rattle.fedi_model.specs.declared.post.KeyAsk.TheVariants.{Absent, Malformed, Given}
+use Rattle.fedi_model.specs.declared.post.Post.{Post}
+use Rattle.fedi_model.specs.declared.post.Read.{Read}
+use Rattle.fedi_model.specs.declared.post.Read.TheVariants.{NotJson, Bad, Ready}
+use Rattle.fedi_model.specs.AnswerKinds.{Answer, Refuse, Misshape, Created, Accepted}
+use Rattle.fedi_model.specs.Reading.{is_nobody, is_self, is_peer}
 
 -- ---- judgements
 

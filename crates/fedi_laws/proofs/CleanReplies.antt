@@ -4,10 +4,10 @@ use Rattle.std.specs.Prelude.{codes}
 use Rattle.serde_json.specs.Data.{Data, object, string, put, no_members}
 use Rattle.serde_json.specs.Written.{compact_text}
 use Rattle.serde_json.proofs.OnLiterals.{serde_json_on_literals}
-use Rattle.fedi_asks.specs.declared.ask.Ask.{Ask}
-use Rattle.fedi_asks.specs.Answers.{Answer, Refuse, Misshape, Disallow, Document, Profile, Tombstone, Created, Accepted}
-use Rattle.fedi_asks.specs.Asks.{answer_of}
-use Rattle.fedi_asks.specs.Cleanness.{is_clean_answer}
+use Rattle.fedi_model.specs.declared.ask.Ask.{Ask}
+use Rattle.fedi_model.specs.AnswerKinds.{Answer, Refuse, Misshape, Disallow, Document, Profile, Tombstone, Created, Accepted}
+use Rattle.fedi_model.specs.Asks.{answer_of}
+use Rattle.fedi_model.specs.Cleanness.{is_clean_answer, IsCleanBody}
 use Rattle.fedi_laws.proofs.Clean.{answers_clean}
 use Rattle.fedi_reading.specs.declared.shape_fault.ShapeFault.{ShapeFault}
 use Rattle.fedi_reading.specs.declared.shape_fault.ShapeFault.TheVariants as faults
@@ -16,7 +16,6 @@ use Rattle.fedi_town.specs.declared.caller.Caller.{Caller}
 use Rattle.fedi_town.specs.declared.refusal.Refusal.{Refusal}
 use Rattle.fedi_town.specs.declared.refusal.Refusal.TheVariants.{BadHead, BadBody, BadQuery, NoKey, WrongKey, WrongMac, NotOwner, Blocked, NotOrigin, NotPublic, NotFound, WrongMethod, KeyReused, NotStanding, Gone, NoLength, TooLong, WrongType, BadShape, HeadTooLong, NoCoding, ActorFull, KeeperFault, Memory, JournalFull}
 use Rattle.fedi_town.specs.Towns.{Town}
-use Rattle.fedi_model.specs.Cleanness.{IsCleanBody}
 use Rattle.fedi_model.specs.Refusals.{name_of, refusal_body}
 use Rattle.fedi_model.specs.Refusing.{fault_body, refused}
 use Rattle.fedi_model.specs.Replies.{reply, reply_of}

@@ -17,11 +17,11 @@ use Rattle.fedi_town.specs.Objects.{is_deleted, whole_of}
 use Rattle.fedi_town.specs.Rules.{seen_maker, seen_act}
 use Rattle.fedi_town.specs.Showing.{shown_activity}
 use Rattle.fedi_town.specs.Towns.{Town, id_of}
-use Rattle.fedi_asks.specs.declared.ask.PageAsk.{PageAsk}
-use Rattle.fedi_asks.specs.declared.ask.PageAsk.TheVariants.{Summary, Page, Malformed}
-use Rattle.fedi_asks.specs.declared.ask.Resource.{Resource}
-use Rattle.fedi_asks.specs.Answers.{Answer, Refuse, Document, Profile, Tombstone, unless_refused}
-use Rattle.fedi_asks.specs.Documents.{actor_form, jrd_form, item_form, collection_id, summary_form, page_form}
+use Rattle.fedi_model.specs.declared.ask.PageAsk.{PageAsk}
+use Rattle.fedi_model.specs.declared.ask.PageAsk.TheVariants.{Summary, Page, Malformed}
+use Rattle.fedi_model.specs.declared.ask.Resource.{Resource}
+use Rattle.fedi_model.specs.AnswerKinds.{Answer, Refuse, Document, Profile, Tombstone, unless_refused}
+use Rattle.fedi_model.specs.Documents.{actor_form, jrd_form, item_form, collection_id, summary_form, page_form}
 
 -- ---- callers
 

@@ -14,7 +14,7 @@ use Rattle.fedi_town.specs.Towns.{has_host}
 use Rattle.fedi_model.specs.Answers.{caller_of}
 use Rattle.fedi_model.specs.Callers.{is_signed, caller_by}
 use Rattle.fedi_model.specs.Credentials.{Mac, code_of, is_lower_hex, signed_by}
-use Rattle.fedi_model.specs.SignedRequests.{SignedDelivery, body, changed_code, club, code, delivery, hill, upper_code}
+use Rattle.fedi_laws.specs.SignedRequests.{SignedDelivery, body, changed_code, club, code, delivery, hill, upper_code}
 
 -- the host is a text, so the code is what counts
 by_code : (host code body : List ℕ) → is_utf8 host ≡ true

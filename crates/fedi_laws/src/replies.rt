@@ -1,8 +1,8 @@
-//! Laws of the definitions, each the contract of a function that does nothing.
+//! Laws of requests and replies.
 
 ghost use Rattle.std.specs.Prelude.{◌≡◌, ℕ, List, IsTrue, Ok};
 ghost use Rattle.serde_json.specs.Data.{Data};
-ghost use Rattle.fedi_asks.specs.declared.ask.Ask.{Ask};
+ghost use Rattle.fedi_model.specs.declared.ask.Ask.{Ask};
 ghost use Rattle.fedi_objects.specs.declared.activity.Activity.{Activity};
 ghost use Rattle.fedi_objects.specs.declared.entry.Entry.{Entry};
 ghost use Rattle.fedi_reading.specs.Activities.{reads_activity};
@@ -17,10 +17,10 @@ ghost use Rattle.fedi_town.specs.declared.refusal.Refusal.{Refusal};
 ghost use Rattle.fedi_model.specs.Cleanness.{IsCleanBody};
 ghost use Rattle.fedi_model.specs.Refusing.{refused};
 ghost use Rattle.fedi_model.specs.Replies.{reply};
-ghost use Rattle.fedi_model.specs.SignedRequests.{SignedDelivery};
+ghost use Rattle.fedi_laws.specs.SignedRequests.{SignedDelivery};
 
 /// Legal histories that agree for a caller give the caller the same reply, whatever else stands in them.
-#[tactic(auto, using(crate::proofs::Private::replies_agree))]
+#[tactic(auto, using(crate::proofs::PrivateReplies::replies_agree))]
 pub fn replies_are_private()
     ensures { (g h : List Entry) (c : Caller) (ask : Ask) → IsLegal g → IsLegal h
         → Agree (town g) (town h) c → reply (town g) c ask ≡ reply (town h) c ask }
@@ -28,26 +28,26 @@ pub fn replies_are_private()
 
 /// No reply, to whomever and for whatever, names those whom `bto` and `bcc` hide (ActivityPub, section
 /// 6).
-#[tactic(auto, using(crate::proofs::Clean::reply_is_clean))]
+#[tactic(auto, using(crate::proofs::CleanReplies::reply_is_clean))]
 pub fn replies_are_clean()
     ensures { (t : Town) (c : Caller) (ask : Ask) → IsCleanBody (reply t c ask).body }
 {}
 
 /// No refusal names anybody, in the place of a reply or for what is no request.
-#[tactic(auto, using(crate::proofs::Clean::refused_is_clean))]
+#[tactic(auto, using(crate::proofs::CleanReplies::refused_is_clean))]
 pub fn refusals_are_clean()
     ensures { (refusal : Refusal) → IsCleanBody (refused refusal).body }
 {}
 
 /// What is read of a client's post has the shape of a post by its author.
-#[tactic(auto, using(crate::proofs::PostedActivity::activity_is_posted))]
+#[tactic(auto, using(fedi_model::proofs::PostedActivity::activity_is_posted))]
 pub fn what_is_read_may_be_posted()
     ensures { (d : Data) (a : Activity) (author : List ℕ)
         → reads_activity author d ≡ Ok a → IsTrue (is_posted author a) }
 {}
 
 /// What is read of another server's delivery has the shape of a delivery.
-#[tactic(auto, using(crate::proofs::Delivered::delivery_is_delivered))]
+#[tactic(auto, using(fedi_model::proofs::Delivered::delivery_is_delivered))]
 pub fn what_is_read_may_be_delivered()
     ensures { (d : Data) (a : Activity) → reads_delivered d ≡ Ok a → IsTrue (is_delivered a) }
 {}

@@ -3,7 +3,7 @@ use Rattle.std.specs.Prelude.{ℕ, List, Option, Some, None}
 use Rattle.serde_json.specs.Data.{Data}
 use Rattle.fedi_town.specs.declared.refusal.Refusal.{Refusal}
 use Rattle.fedi_reading.specs.declared.shape_fault.ShapeFault.{ShapeFault}
-use Rattle.fedi_asks.specs.declared.ask.Allow.{Allow}
+use Rattle.fedi_model.specs.declared.ask.Allow.{Allow}
 
 -- A refusal; a fault of shape; the methods that the path has (RFC 9110, section 15.5.6); a document of ActivityStreams or of
 -- WebFinger (15.3.1); what is left of a deleted object (15.5.11; ActivityPub, section 6.4); the id of what was posted

@@ -1,6 +1,0 @@
-pub mod Answers
-pub mod Asks
-pub mod Cleanness
-pub mod Documents
-pub mod Posting
-pub mod Reading
