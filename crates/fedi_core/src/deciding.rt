@@ -4,7 +4,7 @@ ghost use Rattle.std.specs.Prelude.{◌≡◌, ◌<◌, ◌+◌, IfOk, IsTrue, O
 ghost use Rattle.fedi_model.specs.AnswerKinds.{Accepted};
 ghost use Rattle.fedi_model.specs.Asks.{entry_of};
 ghost use Rattle.fedi_model.specs.Posting.{delivery_answer, delivery_of, entry_at, inbox_entry_at, post_answer};
-ghost use Rattle.fedi_model.specs.Memory.{is_refused, takes_memory};
+ghost use Rattle.fedi_model.specs.Memory.{is_refused, keeps_delivery, takes_memory};
 ghost use Rattle.fedi_model.specs.Replies.{reply, reply_of, without_body};
 ghost use Rattle.fedi_town.specs.Ids.{activity_id};
 ghost use Rattle.fedi_town.specs.Towns.{id_of};
@@ -161,8 +161,8 @@ fn decide_delivery(
         post (id_of facts.now.town name))) }
     ensures entry { IfOk result (λ d. d.entry ≡ inbox_entry_at facts.now.town caller.now
         name post moment (id_of facts.now.town name)) }
-    ensures memory { OnErr result (is_refused (delivery_answer facts.now.town caller.now
-        post (id_of facts.now.town name)) ≡ false) }
+    ensures memory { OnErr result (IsTrue (keeps_delivery facts.now.town caller.now
+        post (id_of facts.now.town name))) }
 {
     let Some(owner) = facts.id_of(&name) else {
         return Ok(Decision {

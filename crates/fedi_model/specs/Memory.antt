@@ -1,16 +1,18 @@
 -- Which callers take memory to be found, and which asks to be answered.
-use Rattle.std.specs.Prelude.{Bool, true, false, not, ◌||◌, Result, Ok, Err}
+use Rattle.std.specs.Prelude.{ℕ, List, Bool, true, false, not, ◌||◌, Option, None, Some, Result, Ok, Err}
 use Rattle.fedi_model.specs.declared.ask.Ask.{Ask}
 use Rattle.fedi_model.specs.declared.ask.Ask.TheVariants.{Nowhere, WrongMethod, Webfinger, Actor, Collection, Activity, Object, Outbox, Inbox}
 use Rattle.fedi_model.specs.declared.ask.PageAsk.{PageAsk}
+use Rattle.fedi_model.specs.declared.post.Post.{Post}
 use Rattle.fedi_model.specs.AnswerKinds.{Answer, Refuse, Misshape, Disallow, Document, Profile, Tombstone, Created, Accepted}
 use Rattle.fedi_model.specs.Asks.{answer_of}
+use Rattle.fedi_model.specs.Posting.{Judgement, Stop, Repeat, Keep, judge_inbox}
 use Rattle.fedi_model.specs.Reading.{is_malformed, is_peer}
 use Rattle.fedi_town.specs.declared.refusal.Refusal.{Refusal}
 use Rattle.fedi_town.specs.declared.caller.Caller.{Caller}
 use Rattle.fedi_town.specs.declared.caller.Which.{Which}
 use Rattle.fedi_town.specs.declared.caller.Which.TheVariants.{Inbox as inbox, Outbox as outbox, Followers, Following, Liked, Likes, Shares}
-use Rattle.fedi_town.specs.Towns.{Town}
+use Rattle.fedi_town.specs.Towns.{Town, id_of}
 
 -- the caller is a peer, whose host is copied
 abbrev pub copies_host : Result Caller Refusal → Bool
@@ -38,18 +40,25 @@ finds_marked (Liked name) part = false
 finds_marked (Likes name number) part = not (is_malformed part)
 finds_marked (Shares name number) part = not (is_malformed part)
 
--- an activity or an object, whose id is made to find it
-abbrev pub makes_id : Ask → Bool
-makes_id Nowhere = false
-makes_id (WrongMethod allow) = false
-makes_id (Webfinger resource) = false
-makes_id (Actor name) = false
-makes_id (Collection which part) = finds_marked which part
-makes_id (Activity name number) = true
-makes_id (Object name number) = true
-makes_id (Outbox name post) = false
-makes_id (Inbox name post) = false
+-- what was delivered is kept
+abbrev pub is_kept : Judgement → Bool
+is_kept (Stop a) = false
+is_kept (Repeat id) = false
+is_kept (Keep a) = true
 
--- the answer takes memory: an id is made for it, or the ask is not refused
+-- the delivery to an inbox, whose owner was found or not, is kept
+abbrev pub keeps_delivery : Town → Caller → Post → Option (List ℕ) → Bool
+keeps_delivery t c post None = false
+keeps_delivery t c post (Some owner) = is_kept (judge_inbox t c owner post)
+
+-- The answer takes memory: an id is made to find what is asked for, or it is not refused. A delivery takes memory for its entry alone.
 abbrev pub takes_memory : Town → Caller → Ask → Bool
-takes_memory t c ask = makes_id ask || not (is_refused (answer_of t c ask))
+takes_memory t c Nowhere = false
+takes_memory t c (WrongMethod allow) = false
+takes_memory t c (Webfinger resource) = not (is_refused (answer_of t c (Webfinger resource)))
+takes_memory t c (Actor name) = not (is_refused (answer_of t c (Actor name)))
+takes_memory t c (Collection which part) = finds_marked which part || not (is_refused (answer_of t c (Collection which part)))
+takes_memory t c (Activity name number) = true
+takes_memory t c (Object name number) = true
+takes_memory t c (Outbox name post) = not (is_refused (answer_of t c (Outbox name post)))
+takes_memory t c (Inbox name post) = keeps_delivery t c post (id_of t name)
