@@ -74,10 +74,11 @@ add_peer_at (store ∷ host ∷ key ∷ address ∷ []) relay =
     if is_position store && is_position host && is_position key && is_position address then Some (AddPeer host key address relay) else None
 add_peer_at (store ∷ host ∷ key ∷ address ∷ other ∷ others) relay = None
 
--- what these commands are to do with all their arguments
+-- what `add-actor` is to do with its arguments, among which its flag may be anywhere
 abbrev pub add_actor_with : List (List ℕ) → Option Task
 add_actor_with arguments = flagged_task (codes "--locked") add_actor_at arguments
 
+-- what `add-peer` is to do with its arguments, among which its flag may be anywhere
 abbrev pub add_peer_with : List (List ℕ) → Option Task
 add_peer_with arguments = flagged_task (codes "--relay") add_peer_at arguments
 
