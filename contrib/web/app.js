@@ -240,7 +240,7 @@ const screens = {
   },
 
   async requests() {
-    const lines = (await history.waiting()).map(({id, actor}) => {
+    const lines = (await history.waiting(mine)).map(({id, actor}) => {
       const state = el('div', {}, who(actor));
       const answer = (type, text, told) => does(text, async () => {
         await server.post({type, object: id});
@@ -276,24 +276,24 @@ const relations = {
   asked: ['You asked to follow them: there is no answer.', again, ['Take back', 'undo', 'Taken back.'], block],
   refused: ['They refused.', again, block],
   over: ['You followed them: it has ended.', again, block],
-  none: ['', ['Follow', 'follow', 'Done.'], block],
+  none: ['', ['Follow', 'follow', 'Asked.'], block],
 };
 
 /** What somebody is to me, with what can be done about it. */
 async function relation(id) {
   const bar = el('div', {className: 'does'});
-  async function draw() {
-    const {is, act} = await history.relation(id);
+  async function draw(acts) {
+    const {is, act} = await history.relation(id, acts);
     const activities = {follow: {type: 'Follow', object: id}, block: {type: 'Block', object: id}, undo: {type: 'Undo', object: act?.id}};
     const button = ([text, kind, told]) => does(text, async () => {
       await server.post(activities[kind]);
-      say(told);
-      await draw();
+      say(await draw(await history.outbox().acts()) || told);
     }, {'aria-label': `${text} ${server.handle(id)}`});
     const [text, ...whats] = relations[is];
     bar.replaceChildren(el('span', {className: 'soft'}, text), ...whats.map(button));
+    return text;
   }
-  await draw();
+  await draw(mine);
   return el('section', {'aria-label': `You and ${server.handle(id)}`}, bar);
 }
 
@@ -348,7 +348,7 @@ async function note(name, number) {
 
 /** The server lists no answers: those that came to me are known, and are read some at a time. */
 async function answersTo(id) {
-  const found = await history.answers(id), place = el('div');
+  const found = await history.answers(id, mine), place = el('div');
   if (!found.length) return [];
   async function more() {
     for (const act of found.splice(0, ANSWERS)) {
@@ -434,6 +434,9 @@ async function show() {
 }
 
 history.progress.told = (read, all) => say(`Reading what happened: ${read} of ${all}.`);
-addEventListener('hashchange', show);
+addEventListener('hashchange', () => {
+  say('');
+  show();
+});
 server.resume();
 show();

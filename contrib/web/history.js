@@ -249,8 +249,7 @@ export function blocked(mine) {
  * What somebody is to me: `blocked`, `followed`, `asked`, `refused`, `over` or `none`, with the activity of mine that can be undone. Of a member
  * here the list of followers tells, which shows me to myself; of another server's what it delivered does.
  */
-export async function relation(id) {
-  const mine = await outbox().acts();
+export async function relation(id, mine) {
   const [block] = standing(mine, 'Block', id), follows = standing(mine, 'Follow', id), follow = follows.at(-1);
   if (block) return {is: 'blocked', act: block};
   if (!follow) return {is: 'none'};
@@ -263,8 +262,8 @@ export async function relation(id) {
 }
 
 /** The Follows of me that wait for an answer, the newest of each that asked. */
-export async function waiting() {
-  const [mine, got] = await Promise.all([outbox().acts(), inbox().acts()]);
+export async function waiting(mine) {
+  const got = await inbox().acts();
   const asked = new Map();
   for (const act of got) {
     const follows = asked.get(act.actor) ?? [];
@@ -295,9 +294,8 @@ export function quotes(acts) {
 }
 
 /** The activities that answered a note, of those that came to me and my own, the oldest first. */
-export async function answers(id) {
-  const acts = [...await outbox().acts(), ...await inbox().acts()];
-  const found = acts.filter(act => act.type === 'Create' && act.inReplyTo === id);
+export async function answers(id, mine) {
+  const found = [...mine, ...await inbox().acts()].filter(act => act.type === 'Create' && act.inReplyTo === id);
   const when = act => String(act.published ?? '');
   return found.sort((one, other) => when(one) < when(other) ? -1 : when(one) > when(other) ? 1 : 0);
 }

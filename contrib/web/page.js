@@ -3,7 +3,7 @@ import * as server from './server.js';
 import {linkOf} from './safe.js';
 
 /** How many items a list grows by, and how many requests that may take. */
-const ITEMS = 20, REQUESTS = 10;
+const ITEMS = 20, REQUESTS = 8;
 const COLOURS = 8;
 
 const sayer = document.getElementById('say');
