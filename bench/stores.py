@@ -4,7 +4,7 @@ import struct
 HOST = "club.example"
 MOMENT = 784111777
 PUBLIC = "https://www.w3.org/ns/activitystreams#Public"
-ANNOUNCE, BLOCK, CREATE, DELETE, FOLLOW, LIKE, UNDO, UPDATE = 3, 5, 6, 7, 10, 15, 26, 27
+ACCEPT, ANNOUNCE, BLOCK, CREATE, DELETE, FOLLOW, LIKE, UNDO, UPDATE = 1, 3, 5, 6, 7, 10, 15, 26, 27
 
 
 # ---- entries in their format
@@ -34,8 +34,8 @@ def hosted(at=MOMENT):
     return b"\1" + text(HOST) + moment(at)
 
 
-def made(name, digest, at=MOMENT):
-    return b"\2" + text(name) + digest + b"\0" + moment(at)
+def made(name, digest, at=MOMENT, locked=False):
+    return b"\2" + text(name) + digest + bytes([locked]) + moment(at)
 
 
 def local(name, activity, repeat=None, at=MOMENT):
@@ -64,21 +64,21 @@ def delivered_note(id, actor, object, to, content):
     return optional(id) + bytes([CREATE]) + optional(actor) + b"\2" + whole + b"\0" + fields + 5 * b"\0" + number(0)
 
 
-def note(to, cc, content):
-    """A Create of a note."""
+def note(to, cc, content, answered=None):
+    """A Create of a note, which may answer another."""
     fields = texts(to) + texts(cc) + 3 * number(0)
-    whole = b"\0" + text("Note") + b"\0" + fields + b"\0" + optional(content) + 3 * b"\0" + 4 * b"\0" + number(0)
+    whole = b"\0" + text("Note") + b"\0" + fields + optional(answered) + optional(content) + 3 * b"\0" + 4 * b"\0" + number(0)
     return b"\0" + bytes([CREATE]) + b"\0\2" + whole + b"\0" + fields + 5 * b"\0" + number(0)
 
 
-def about(kind, object):
-    """An activity about this to nobody."""
-    return b"\0" + bytes([kind]) + b"\0" + object + b"\0" + 5 * number(0) + 5 * b"\0" + number(0)
+def about(kind, object, to=(), cc=()):
+    """An activity about this, to nobody if nobody is named."""
+    return b"\0" + bytes([kind]) + b"\0" + object + b"\0" + texts(to) + texts(cc) + 3 * number(0) + 5 * b"\0" + number(0)
 
 
-def of(kind, id):
-    """An activity of this type about the object of this id, to nobody."""
-    return about(kind, b"\1" + text(id))
+def of(kind, id, to=(), cc=()):
+    """An activity of this type about the object of this id, to nobody if nobody is named."""
+    return about(kind, b"\1" + text(id), to, cc)
 
 
 def change(id, content):

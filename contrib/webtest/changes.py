@@ -1,0 +1,61 @@
+"""Eleven changes of the page and its policy, each of which has to make a check fail."""
+import os
+import shutil
+
+import clicks
+import hostile
+from serving import HOME
+from stage import Caught, Checks, Stage
+from town import PUBLIC
+
+
+def signed_in(stage, check):
+    """Three members, and a note to show."""
+    stage.town.post("ana", {"type": "Note", "content": "<p>A note</p>", "to": [PUBLIC, stage.town.id("ben")]})
+    stage.pages = {name: stage.member(name) for name in ("ana", "ben", "cleo")}
+
+
+UNSAFE = ("safe.js", "build(parse(text), place, 0, local);", "place.innerHTML = policy.createHTML(text);")
+# What is changed, as file, text and new text; whether the policy stays; and the steps of which one has to fail.
+CHANGES = {
+    "links of any scheme": ([("safe.js", "const known = ['https:', 'http:', 'mailto:'].includes(url.protocol);", "const known = true;")], True, [hostile.contents]),
+    "HTML of others as it is": ([UNSAFE], True, [hostile.contents]),
+    "no policy": ([], False, [hostile.policy]),
+    "HTML of others as it is, and no policy": ([UNSAFE], False, [hostile.contents]),
+    "a new Idempotency-Key for each try": ([("server.js", "pending.get(body) ?? crypto.randomUUID()", "crypto.randomUUID()")], True, [hostile.lost_lines]),
+    "no Idempotency-Key": ([("server.js", ", 'Idempotency-Key': repeat", "")], True, [hostile.lost_lines]),
+    "a key that always stays": ([("server.js", "storages[stays ? 1 : 0]", "storages[1]")], True, [signed_in, clicks.signing_out]),
+    "ids of other hosts taken for this one's": ([("server.js", "url.origin === site && ", "")], True, [signed_in, clicks.signing_out]),
+    "notes without content": ([("app.js", "shown(note.content ?? note.name ?? '', local)", "shown('', local)")], True, [signed_in, clicks.writing]),
+    "buttons that are wider than a phone": ([("style.css", ".does { display: flex;", ".does { min-width: 30rem; display: flex;")], True, [signed_in, clicks.phone]),
+    "fields without labels": ([("page.js", "el('label', {}, label, input)", "el('div', {}, label, input)")], True, [clicks.keyboard]),
+}
+
+
+def changed_page(folder, changes):
+    """A copy of the page with these changes, each of a text that is there once."""
+    page = f"{folder}/page"
+    shutil.copytree(os.path.join(HOME, "contrib/web"), page)
+    for name, old, new in changes:
+        with open(f"{page}/{name}") as file:
+            text = file.read()
+        if text.count(old) != 1:
+            raise SystemExit(f"{name} has {text.count(old)} times: {old}")
+        with open(f"{page}/{name}", "w") as file:
+            file.write(text.replace(old, new))
+    return page
+
+
+def changes(path, folder, check):
+    for number, (name, (edits, policy, steps)) in enumerate(CHANGES.items()):
+        home = f"{folder}/change{number}"
+        os.makedirs(home)
+        stage = Stage(path, home, changed_page(home, edits), policy)
+        caught = None
+        try:
+            Checks(first=True).run(stage, steps)
+        except Caught as what:
+            caught = what
+        finally:
+            stage.end()
+        check(f"{name}: caught" + (f" by '{caught}'" if caught else ""), caught)
