@@ -51,7 +51,7 @@ class Site:
         for old, new in [(r"server 127.0.0.1:8765;", f"server 127.0.0.1:{upstream};"), (r"listen (\[::\]:)\S+.*;", ""),
                          (r"listen 80;", f"listen 127.0.0.1:{self.plain};"), (r"listen 443 ", f"listen 127.0.0.1:{self.tls} "),
                          (r"/etc/letsencrypt/\S+/fullchain.pem", self.certificate), (r"/etc/letsencrypt/\S+/privkey.pem", f"{folder}/key"),
-                         (r"/var/www/letsencrypt", f"{folder}/www"), (r"/usr/local/share/fedi/web", page), (r"/etc/nginx/fedi.d", f"{folder}/fedi.d"),
+                         (r"/var/www/html", f"{folder}/www"), (r"/usr/local/share/fedi/web", page), (r"/etc/nginx/fedi.d", f"{folder}/fedi.d"),
                          (r"rate=50r/s", "rate=100000r/s"), (re.escape(HOST), host), *changes]:
             text, count = re.subn(old, new, text)
             if count == 0:
