@@ -34,10 +34,10 @@ def tool(name):
 
 
 class Site:
-    """nginx with the site as it stands, but for its ports, its certificate, its folders and how often one address may ask. What it
-    needs is in a folder of its own. `changes` are more texts of the site with what is put in their place."""
+    """nginx with the site as it stands, but for its ports, its certificate, its folders and, without `limit`, how often one address may ask. What
+    it needs is in a folder of its own. `changes` are more texts of the site with what is put in their place."""
 
-    def __init__(self, folder, upstream, host=HOST, page=os.path.join(HOME, "contrib/web"), changes=(), cors=False):
+    def __init__(self, folder, upstream, host=HOST, page=os.path.join(HOME, "contrib/web"), changes=(), cors=False, limit=False):
         self.folder, self.host, self.plain, self.tls = folder, host, free_port(), free_port()
         os.makedirs(f"{folder}/fedi.d", exist_ok=True)
         if cors:
@@ -52,7 +52,7 @@ class Site:
                          (r"listen 80;", f"listen 127.0.0.1:{self.plain};"), (r"listen 443 ", f"listen 127.0.0.1:{self.tls} "),
                          (r"/etc/letsencrypt/\S+/fullchain.pem", self.certificate), (r"/etc/letsencrypt/\S+/privkey.pem", f"{folder}/key"),
                          (r"/var/www/html", f"{folder}/www"), (r"/usr/local/share/fedi/web", page), (r"/etc/nginx/fedi.d", f"{folder}/fedi.d"),
-                         (r"rate=50r/s", "rate=100000r/s"), (re.escape(HOST), host), *changes]:
+                         (r"rate=50r/s", "rate=50r/s" if limit else "rate=100000r/s"), (re.escape(HOST), host), *changes]:
             text, count = re.subn(old, new, text)
             if count == 0:
                 sys.exit(f"the site of contrib/nginx has no {old}")

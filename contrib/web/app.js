@@ -94,12 +94,11 @@ let labels = 0;
 const tombstone = () => el('article', {'aria-label': 'Deleted'}, el('p', {className: 'soft'}, 'This note was deleted.'));
 
 function headOf(note, via, label) {
-  const place = local(note.id);
-  const marks = [time(note.published), ` · ${audiences[audienceOf(note)]}`, note.updated ? ' · changed' : ''];
+  const when = to(note.id, time(note.published) ?? 'open', {className: 'open'});
   return el('header', {id: label}, face(note.attributedTo), el('div', {},
     via ? el('div', {className: 'via'}, who(via.actor), ' boosted') : null,
     el('div', {}, who(note.attributedTo)),
-    el('div', {className: 'soft'}, ...marks, ' · ', place ? el('a', {className: 'open', href: place}, 'open') : to(note.id, 'there'))));
+    el('div', {className: 'soft'}, when, ` · ${audiences[audienceOf(note)]}${note.updated ? ' · changed' : ''}`)));
 }
 
 /** A note, with what can be done about it. `via` is the Announce that brought it, and `then` is called after an answer. */

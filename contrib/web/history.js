@@ -187,8 +187,11 @@ class History extends Collection {
 
 const list = value => Array.isArray(value) ? value : value ? [value] : [];
 const about = ({id, type, actor, object, published}) => ({id, type, actor, object: idOf(object), published});
-/** The beginning of a note, or its content warning. */
-export const quote = note => note?.summary ? `[${note.summary}]`.slice(0, QUOTE) : plain(note?.content ?? note?.name ?? '').slice(0, QUOTE);
+/** The beginning of a note, or of its content warning. */
+function quote(note) {
+  const text = note?.summary ? `[${note.summary}]` : plain(note?.content ?? note?.name ?? '');
+  return text.length > QUOTE ? `${text.slice(0, QUOTE)}…` : text;
+}
 const noted = act => ({...about(act), text: quote(act.object), ...act.object?.inReplyTo && {inReplyTo: act.object.inReplyTo}});
 const changes = new Set(['Accept', 'Announce', 'Block', 'Delete', 'Follow', 'Like', 'Reject', 'Undo']);
 const isMine = id => String(id).startsWith(`${server.me.id}/`);

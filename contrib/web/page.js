@@ -2,8 +2,10 @@
 import * as server from './server.js';
 import {linkOf} from './safe.js';
 
-/** How many items a list grows by, and how many requests that may take. */
-const ITEMS = 20, REQUESTS = 8;
+/** How many items a list grows by, and how many requests that may take with what its screen took before: that many, but some in any case. */
+const ITEMS = 20, REQUESTS = 8, LEAST = 4;
+// A screen that took more has read a log, which it does once.
+const left = spent => spent > REQUESTS ? REQUESTS : Math.max(LEAST, REQUESTS - spent);
 const COLOURS = 8;
 
 const sayer = document.getElementById('say');
@@ -94,13 +96,14 @@ export const field = (label, input) => el('label', {}, label, input);
 
 /**
  * A list that grows by a button. `next` gives the next node, undefined for an item that has none, or null at the end. The list grows
- * by so many nodes, or by as many as so many requests show: boosts are read one by one.
+ * by so many nodes, or by as many as so many requests show: boosts are read one by one. `fill` takes how many requests there were before.
  */
 export function feed(next, label, {role = 'feed', empty = 'Nothing yet.'} = {}) {
   const items = el('div', {role, 'aria-label': label});
   const button = does('Older', () => fill(server.asked));
   async function fill(begun) {
-    for (let shown = 0; shown < ITEMS && server.asked < begun + REQUESTS;) {
+    const until = server.asked + left(server.asked - begun);
+    for (let shown = 0; shown < ITEMS && server.asked < until;) {
       const node = await next();
       if (node === null) {
         button.hidden = true;

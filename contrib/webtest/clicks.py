@@ -251,6 +251,8 @@ def stranger(stage, check):
     check("and has nothing to click that would be refused", not page.eval(HAS_BUTTON % "Like") and not page.eval(HAS_BUTTON % "Follow"))
     page.go(stage.places["morning"])
     check("and a note", "Good evening, town!" in page.text())
+    packed = page.eval("performance.getEntriesByType('resource').filter(e => e.name.endsWith('.js')).every(e => e.encodedBodySize < e.decodedBodySize)")
+    check("what is sent is packed", packed)
     for path, place in (("users/ana", "#/@ana"), (f"users/{path_of(stage.places['morning'])}", stage.places["morning"])):
         page.open(f"https://{HOST}/{path}")
         page.wait(f"location.hash === {place!r}", f"page of {path}")

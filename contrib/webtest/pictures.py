@@ -10,7 +10,8 @@ def speak(town, name, text, to=None, **more):
     for mention in tag:
         text = text.replace(mention["name"], f"<a href='{mention['href']}'>{mention['name']}</a>")
     content = "".join(f"<p>{part}</p>" for part in text.split("\n"))
-    note = {"type": "Note", "content": content, "to": to or [PUBLIC], "cc": [f"{town.id(name)}/followers", *(mention["href"] for mention in tag)], "tag": tag}
+    note = {"type": "Note", "content": content, "to": to or [PUBLIC], "tag": tag,
+            "cc": [mention["href"] for mention in tag] + ([] if to else [f"{town.id(name)}/followers"])}
     return town.post(name, note | more).replace("/a/", "/o/")
 
 

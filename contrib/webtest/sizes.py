@@ -87,10 +87,12 @@ class Screens:
         urls = [event["request"]["url"] for event in self.page.browser.happened("Network.requestWillBeSent")]
         return [url.split(HOST, 1)[1] for url in urls if f"{HOST}/users/" in url or f"{HOST}/.well-known/" in url]
 
-    def visit(self, name, act):
+    def visit(self, name, act, shows="document.querySelectorAll('article, .line').length > 0"):
         first = self.asked(act)
+        self.check(f"{name} shows something at the first visit", self.page.eval(shows))
         twice = [path for path, count in Counter(first).items() if count > 1 and "box?page=" in path]
         second = self.asked(self.load_again)
+        self.check(f"{name} shows something at a second visit", self.page.eval(shows))
         print(f"       {name}: {len(first)} requests, then {len(second)}", flush=True)
         self.check(f"{name} takes {LIMIT} requests or fewer at a second visit", len(second) <= LIMIT, f"{second}")
         self.check(f"{name} asks for no page of a log twice", not twice, f"{twice}")
@@ -133,7 +135,7 @@ def member_screens(page, log, check):
         return lambda: page.go(place)
 
     screens = Screens(page, check)
-    screens.visit("home", sign_in)
+    screens.visit("home", sign_in, "document.querySelectorAll('article').length >= 4")
     own = [object for object in log.notes if object[0] == id_of(0)][-5]
     other = [object for object in log.notes if object[0] == id_of(3)][-5]
     for name, place in (("notices", "Notices"), ("people", "People"), ("requests", "Requests"), ("one's own profile", f"#/@{me}"), ("another's profile", f"#/@{name_of(3)}"),
