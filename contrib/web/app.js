@@ -27,7 +27,7 @@ function audienceOf(note) {
   return all.some(id => String(id).endsWith('/followers')) ? 'followers' : 'named';
 }
 
-/** Whom an answer goes to. Followers of another do not see an answer that names their collection: they would have to be followers of mine. */
+/** Whom an answer goes to. An answer that names the followers of another goes to none of them, so it goes to the author. */
 function audienceOfAnswer(note) {
   const audience = audienceOf(note);
   return audience === 'everybody' || (audience === 'followers' && note.attributedTo === server.me.id) ? audience : 'named';
@@ -91,7 +91,7 @@ function writer({answered, changed, then}) {
 // ---- notes
 
 let labels = 0;
-const tombstone = () => el('article', {'aria-label': 'Deleted'}, el('p', {className: 'soft'}, 'This note was deleted.'));
+const tombstone = () => el('article', {'aria-label': 'Deleted', tabIndex: -1}, el('p', {className: 'soft'}, 'This note was deleted.'));
 
 function headOf(note, via, label) {
   const when = to(note.id, time(note.published) ?? 'open', {className: 'open'});
@@ -140,7 +140,9 @@ function changesOf(note, node, open, options) {
   const redraw = async () => node.replaceWith(article(await server.get(note.id), options));
   const remove = does('Yes, delete', async () => {
     await server.post({type: 'Delete', object: note.id});
-    node.replaceWith(tombstone());
+    const gone = tombstone();
+    node.replaceWith(gone);
+    gone.focus();
     say('Deleted.');
   });
   return [
@@ -151,10 +153,11 @@ function changesOf(note, node, open, options) {
 
 /** What a timeline shows of an activity, or undefined. */
 async function entry(act) {
-  if (act.type === 'Create') return act.object?.id ? article(act.object) : undefined;
+  const isThere = note => note?.id && note.type !== 'Tombstone';
+  if (act.type === 'Create') return isThere(act.object) ? article({attributedTo: act.actor, ...act.object}) : undefined;
   if (act.type !== 'Announce') return undefined;
   const note = await noteOf(act.object);
-  if (note) return article(note, {via: act});
+  if (note) return isThere(note) ? article(note, {via: act}) : undefined;
   const what = server.pathOf(act.object) ? 'a note that you may not see' : to(act.object, 'a note of another server');
   return el('article', {}, el('p', {className: 'soft'}, who(act.actor), ' boosted ', what));
 }
@@ -199,15 +202,14 @@ const screens = {
     const got = await history.inbox().acts();
     const quotes = history.quotes([...got, ...mine]);
     const hidden = new Set(history.blocked(mine));
-    const lines = got.filter(act => !hidden.has(act.actor)).map(act => [act, noticed(act)]).filter(([, told]) => told).reverse();
-    const last = server.storage.getItem('seen'), end = lines.findIndex(([act]) => act.id === last);
-    if (lines.length) server.storage.setItem('seen', lines[0][0].id);
-    let count = 0;
+    const last = server.storage.getItem('seen'), seen = got.findIndex(act => act.id === last);
+    if (got.length) server.keep('seen', got.at(-1).id);
+    let position = got.length;
     const {node, fill} = feed(async () => {
-      if (count === lines.length) return null;
-      const [act, [told, about]] = lines[count];
-      const isNew = last && (end === -1 || count < end);
-      count++;
+      if (position === 0) return null;
+      const act = got[--position], [told, about] = noticed(act) ?? [];
+      if (!told || hidden.has(act.actor)) return undefined;
+      const isNew = seen >= 0 && position > seen;
       return line(face(act.actor), el('div', {}, isNew ? el('strong', {}, 'New: ') : null, who(act.actor), ` ${told} `,
         about ? to(about, quotes.get(about)?.text || 'a note') : '', ' ', time(act.published)));
     }, 'Notices', {role: 'list'});
@@ -240,11 +242,12 @@ const screens = {
 
   async requests() {
     const lines = (await history.waiting(mine)).map(({id, actor}) => {
-      const state = el('div', {}, who(actor));
+      const state = el('div', {tabIndex: -1}, who(actor));
       const answer = (type, text, told) => does(text, async () => {
         await server.post({type, object: id});
         state.append(` ${told}`);
         bar.remove();
+        state.focus();
       }, {'aria-label': `${text} ${server.handle(actor)}`});
       const bar = el('div', {className: 'does'}, answer('Accept', 'Accept', 'accepted'), answer('Reject', 'Refuse', 'refused'));
       return line(face(actor), state, bar);
@@ -287,6 +290,7 @@ async function relation(id) {
     const button = ([text, kind, told]) => does(text, async () => {
       await server.post(activities[kind]);
       say(await draw(await history.outbox().acts()) || told);
+      bar.querySelector('button').focus();
     }, {'aria-label': `${text} ${server.handle(id)}`});
     const [text, ...whats] = relations[is];
     bar.replaceChildren(el('span', {className: 'soft'}, text), ...whats.map(button));

@@ -12,7 +12,8 @@ const SIDE_BY_SIDE = 6;
 const RECENT = 200;
 /** How many items are looked through for that. */
 const SEARCHED = 200;
-const QUOTE = 80;
+/** The length of the beginning of a note that is kept, and how many items are read without telling how far it is. */
+const QUOTE = 80, LONG = 400;
 
 const pageOf = position => Math.floor(position / PAGE);
 const idOf = item => item?.id ?? item;
@@ -125,17 +126,16 @@ class History extends Collection {
 
   async read() {
     await this.renew();
-    const {kept} = this, begun = kept.length;
-    if (begun > 0) {
-      const end = begun <= this.length ? idOf(await this.at(begun - 1)) : null;
-      if (end !== kept.recent[0] && !await this.mend()) Object.assign(kept, {length: 0, recent: [], acts: []});
-    }
+    const {kept} = this, known = kept.length;
+    const end = known > 0 && known <= this.length ? idOf(await this.at(known - 1)) : undefined;
+    if (end !== kept.recent[0] && !await this.mend()) Object.assign(kept, {length: 0, recent: [], acts: []});
+    const begun = kept.length;
     for (let turn = 1; kept.length < this.length; turn++) {
       await this.readPages(pageOf(kept.length));
       if (turn % 10 === 0) this.save();
-      if (this.length > PAGE * PAGE) progress.told(kept.length, this.length);
+      if (this.length - begun > LONG) progress.told(kept.length, this.length);
     }
-    if (begun !== kept.length) this.save();
+    if (end !== kept.recent[0]) this.save();
     return kept.acts;
   }
 
@@ -160,26 +160,22 @@ class History extends Collection {
 
   /** Finds the end of what was read, after a Block took items away or gave them back, or a delivery came to an earlier position. */
   async mend() {
-    const known = new Set(this.kept.recent), enough = Math.min(PAGE, known.size), seen = [];
+    const known = new Set([...this.kept.recent, ...this.kept.acts.map(idOf)]), enough = Math.min(PAGE, this.kept.length), seen = [];
     for (let run = 0; run < enough; run = known.has(seen.at(-1)[0]) ? run + 1 : 0) {
       if (seen.length === Math.min(this.length, SEARCHED)) return false;
       const item = await this.at(this.length - 1 - seen.length);
+      if (!item) return false;
       seen.push([idOf(item), item]);
     }
     this.take(seen.filter(([id]) => !known.has(id)).map(([, item]) => item).reverse());
     this.kept.length = this.length;
     this.kept.recent = [...new Set([...seen.map(([id]) => id), ...this.kept.recent])].slice(0, RECENT);
-    this.save();
     return true;
   }
 
   // A browser keeps some millions of characters. With no room the index lasts as long as this page is open.
   save() {
-    try {
-      server.storage.setItem(this.place, JSON.stringify(this.kept));
-    } catch {
-      server.storage.removeItem(this.place);
-    }
+    if (!server.keep(this.place, JSON.stringify(this.kept))) server.storage.removeItem(this.place);
   }
 }
 

@@ -23,6 +23,16 @@ function become(name, digits, where) {
   storage = where;
 }
 
+/** Keeps a text for the member, and returns whether there was room for it. */
+export function keep(name, text) {
+  try {
+    storage.setItem(name, text);
+    return true;
+  } catch {
+    return false;
+  }
+}
+
 /** Signs in who was signed in before. */
 export function resume() {
   for (const where of storages) {

@@ -9,6 +9,11 @@ from stage import Caught, Checks, Stage
 from town import PUBLIC
 
 
+def without_refresh(stage, check):
+    """A refresh takes the browser to another page, whatever else there is: so without it is seen what else would happen."""
+    stage.without = ("refresh",)
+
+
 def signed_in(stage, check):
     """Three members, and a note to show."""
     stage.town.post("ana", {"type": "Note", "content": "<p>A note</p>", "to": [PUBLIC, stage.town.id("ben")]})
@@ -19,9 +24,9 @@ UNSAFE = ("safe.js", "build(parse(text), place, 0, local);", "place.innerHTML = 
 # What is changed, as file, text and new text; whether the policy stays; and the steps of which one has to fail.
 CHANGES = {
     "links of any scheme": ([("safe.js", "const known = ['https:', 'http:', 'mailto:'].includes(url.protocol);", "const known = true;")], True, [hostile.contents]),
-    "HTML of others as it is": ([UNSAFE], True, [hostile.contents]),
+    "HTML of others as it is": ([UNSAFE], True, [without_refresh, hostile.contents]),
     "no policy": ([], False, [hostile.policy]),
-    "HTML of others as it is, and no policy": ([UNSAFE], False, [hostile.contents]),
+    "HTML of others as it is, and no policy": ([UNSAFE], False, [without_refresh, hostile.contents]),
     "a new Idempotency-Key for each try": ([("server.js", "pending.get(body) ?? crypto.randomUUID()", "crypto.randomUUID()")], True, [hostile.lost_lines]),
     "no Idempotency-Key": ([("server.js", ", 'Idempotency-Key': repeat", "")], True, [hostile.lost_lines]),
     "a key that always stays": ([("server.js", "storages[stays ? 1 : 0]", "storages[1]")], True, [signed_in, clicks.signing_out]),

@@ -336,6 +336,12 @@ def keyboard(stage, check):
     page.has("Posted.")
     page.place_of("By keyboard alone")
     check("a note is written without a mouse", True)
+    page.go("#/@ben")
+    page.eval("[...document.querySelectorAll('button')].find(b => b.textContent === 'Follow').focus()")
+    page.enter()
+    page.has("You follow them.")
+    page.wait("document.activeElement.localName === 'button'", "focus after a Follow")
+    check("the focus goes on after what it was on has gone", True)
     for place in ("Home", "Notices", "People", "Requests", "#/@ben"):
         page.go(place)
         check(f"each control of {place} has a name", not unnamed(page), f"{unnamed(page)}")

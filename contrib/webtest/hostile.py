@@ -57,7 +57,8 @@ def contents(stage, check):
     town = stage.town
     ana = town.id("ana")
     kept = []
-    for name, html in CONTENTS.items():
+    shown_contents = {name: html for name, html in CONTENTS.items() if name not in stage.without}
+    for name, html in shown_contents.items():
         note = {"type": "Note", "content": html, "to": [PUBLIC, ana], "tag": [{"type": "Mention", "href": ana, "name": HANDLER}]}
         if name in ("handler of an image", "script", "SVG"):
             note["summary"] = html[:200]
@@ -70,13 +71,15 @@ def contents(stage, check):
         town.post("ben", post)
     stage.browser.events.clear()
     page = stage.member("ana")
+    page.browser.listen(1)
+    check("nothing ran when home came", not page.eval("window.pwned"))
     older = "[...document.querySelectorAll('button')].filter(b => b.textContent === 'Older')"
     for _ in range(6):
         page.wait(f"{older}.every(b => !b.disabled)")
         if page.eval(f"{older}.some(b => !b.hidden)"):
             page.click("button", "Older")
     shown = page.eval("document.querySelectorAll('article').length")
-    check("they are shown", shown >= len(CONTENTS), f"{shown}")
+    check("they are shown", shown >= len(shown_contents), f"{shown}")
     page.eval("document.querySelectorAll('details').forEach(d => { d.open = true; })")
     page.browser.listen(1)
     check("nothing ran", not page.eval("window.pwned"))

@@ -64,6 +64,8 @@ class Stage:
         self.browser = Browser(folder, {HOST: self.town.site.tls, HILL: self.hill.site.tls, OPEN: self.open.tls,
                                         OTHER: self.elsewhere.port, EVIL: self.elsewhere.port})
         self.pages, self.places = {}, {}
+        # Hostile contents that are left out, by their names.
+        self.without = ()
 
     def end(self):
         self.browser.end()
