@@ -7,7 +7,7 @@ import subprocess
 import time
 
 # How many seconds are waited for something to be on the page, and for the browser to answer.
-PATIENCE, ANSWER = 20, 60
+PATIENCE, ANSWER = 40, 90
 # And for a screen, which may read a whole log.
 LONG = 300
 
@@ -216,5 +216,6 @@ class Page:
 
     def press(self, text, button):
         """Clicks a button of the note of this text."""
-        self.in_note(text, "a => { document.querySelectorAll('[data-picked]').forEach(e => delete e.dataset.picked); a.dataset.picked = ''; return true; }")
+        self.in_note(text, "a => { document.querySelectorAll('[data-picked]').forEach(e => delete e.dataset.picked);"
+                           " a.dataset.picked = ''; return true; }")
         self.click("article[data-picked] button", button)

@@ -23,16 +23,16 @@ def signed_in(stage, check):
 UNSAFE = ("safe.js", "build(parse(text), place, 0, local);", "place.innerHTML = policy.createHTML(text);")
 # What is changed, as file, text and new text; whether the policy stays; and the steps of which one has to fail.
 CHANGES = {
-    "links of any scheme": ([("safe.js", "const known = ['https:', 'http:', 'mailto:'].includes(url.protocol);", "const known = true;")], True, [hostile.contents]),
+    "links of any scheme": ([("safe.js", "['https:', 'http:', 'mailto:'].includes(url.protocol);", "true;")], True, [hostile.contents]),
     "HTML of others as it is": ([UNSAFE], True, [without_refresh, hostile.contents]),
     "no policy": ([], False, [hostile.policy]),
     "HTML of others as it is, and no policy": ([UNSAFE], False, [without_refresh, hostile.contents]),
-    "a new Idempotency-Key for each try": ([("server.js", "pending.get(body) ?? crypto.randomUUID()", "crypto.randomUUID()")], True, [hostile.lost_lines]),
+    "a new Idempotency-Key for each try": ([("server.js", "pending.get(body) ?? ", "")], True, [hostile.lost_lines]),
     "no Idempotency-Key": ([("server.js", ", 'Idempotency-Key': repeat", "")], True, [hostile.lost_lines]),
     "a key that always stays": ([("server.js", "storages[stays ? 1 : 0]", "storages[1]")], True, [signed_in, clicks.signing_out]),
     "ids of other hosts taken for this one's": ([("server.js", "url.origin === site && ", "")], True, [signed_in, clicks.signing_out]),
     "notes without content": ([("app.js", "shown(note.content ?? note.name ?? '', local)", "shown('', local)")], True, [signed_in, clicks.writing]),
-    "buttons that are wider than a phone": ([("style.css", ".does { display: flex;", ".does { min-width: 30rem; display: flex;")], True, [signed_in, clicks.phone]),
+    "buttons that are wider than a phone": ([("style.css", ".does { ", ".does { min-width: 30rem; ")], True, [signed_in, clicks.phone]),
     "fields without labels": ([("page.js", "el('label', {}, label, input)", "el('div', {}, label, input)")], True, [clicks.keyboard]),
 }
 

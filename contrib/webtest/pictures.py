@@ -20,8 +20,9 @@ def town_of_notes(town):
         town.post("ben", {"type": "Follow", "object": town.id(name)})
     town.post("cleo", {"type": "Follow", "object": town.id("ben")})
     boat = speak(town, "cleo", "The boat house has a new roof. Thanks to all nine of you who came on Saturday, and to @dan for the ladder.")
-    speak(town, "ana", "Minutes of the October meeting: the path to the lake is paid for, and the fee stays as it is.", summary="Long: minutes of the October meeting")
-    concert = speak(town, "ana", "The choir sings on the first of December, at four, in the old mill.\nThere are still places for two altos: <strong>write to me.</strong>")
+    speak(town, "ana", "The path to the lake is paid for, and the fee stays as it is.", summary="Long: minutes of the October meeting")
+    concert = speak(town, "ana", "The choir sings on the first of December, at four, in the old mill.\n"
+                                 "There are still places for two altos: <strong>write to me.</strong>")
     town.post("ben", {"type": "Like", "object": concert})
     town.post("ana", {"type": "Announce", "object": boat, "to": [PUBLIC], "cc": [f"{town.id('ana')}/followers"]})
     speak(town, "cleo", "@ana Can I bring a friend who has never sung?", inReplyTo=concert)

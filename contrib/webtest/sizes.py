@@ -138,12 +138,14 @@ def member_screens(page, log, check):
     screens.visit("home", sign_in, "document.querySelectorAll('article').length >= 4")
     own = [object for object in log.notes if object[0] == id_of(0)][-5]
     other = [object for object in log.notes if object[0] == id_of(3)][-5]
-    for name, place in (("notices", "Notices"), ("people", "People"), ("requests", "Requests"), ("one's own profile", f"#/@{me}"), ("another's profile", f"#/@{name_of(3)}"),
-                        ("one's own note", place_of("%s/o/%d" % own)), ("another's note", place_of("%s/o/%d" % other))):
+    for name, place in (("notices", "Notices"), ("people", "People"), ("requests", "Requests"), ("one's own profile", f"#/@{me}"),
+                        ("another's profile", f"#/@{name_of(3)}"), ("one's own note", place_of("%s/o/%d" % own)),
+                        ("another's note", place_of("%s/o/%d" % other))):
         screens.visit(name, go(place))
     page.go("Requests")
     check("two wait for an answer", page.eval("document.querySelectorAll('.line').length") == 2)
-    for name, act in (("older notes", older), ("a Like", lambda: press("Liked.")), ("taking it back", lambda: press("Taken back.")), ("a note", write_note)):
+    acts = (("older notes", older), ("a Like", lambda: press("Liked.")), ("taking it back", lambda: press("Taken back.")), ("a note", write_note))
+    for name, act in acts:
         page.go("Home")
         count = len(screens.asked(act))
         print(f"       {name}: {count} requests", flush=True)
