@@ -240,6 +240,14 @@ def neighbours(stage, check):
     ben.go("Home")
     order = [ben.text().find(text) for text in ("My latest", "Later", "Of old")]
     check("and holds up nothing that came before it", -1 not in order and order[1] < order[2], f"{order}")
+    late = {"id": f"https://{HILL}/a/11", "type": "Create", "actor": hill.id("dora"), "to": [town.id("ana"), town.id("ben")],
+            "object": {"id": f"https://{HILL}/o/11", "type": "Note", "attributedTo": hill.id("dora"), "content": "To both of you"}}
+    check("a note to two comes to the first", stage.deliver(hill, town, "ben", json.dumps(late)))
+    town.post("ben", {"type": "Note", "content": "In between", "to": [town.id("ana")]})
+    ana.go("Notices")
+    check("and to the second later", "In between" in ana.text() and stage.deliver(hill, town, "ana", json.dumps(late)))
+    ana.go("Notices")
+    check("where it is found among what was read before", "To both of you" in ana.text())
     find(ana, "@x@lake.example")
     ana.has("lake.example cannot be asked")
     check("a host that may not be asked is told", True)

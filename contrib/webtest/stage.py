@@ -38,7 +38,7 @@ class Checks:
             try:
                 step(stage, self.check)
             except Problem as problem:
-                self.check(step.__name__, False, f"{problem}")
+                self.check(f"{step.__name__}: {problem}", False)
             if not self.first:
                 print(f"       {step.__name__} took {time.monotonic() - begun:.1f} s", flush=True)
 
