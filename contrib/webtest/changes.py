@@ -32,7 +32,7 @@ CHANGES = {
     "a key that always stays": ([("server.js", "storages[stays ? 1 : 0]", "storages[1]")], True, [signed_in, clicks.signing_out]),
     "ids of other hosts taken for this one's": ([("server.js", "url.origin === site && ", "")], True, [signed_in, clicks.signing_out]),
     "notes without content": ([("app.js", "shown(note.content ?? note.name ?? '', local)", "shown('', local)")], True, [signed_in, clicks.writing]),
-    "buttons that are wider than a phone": ([("style.css", ".does { ", ".does { min-width: 30rem; ")], True, [signed_in, clicks.phone]),
+    "buttons that are wider than a phone": ([("style.css", ".does { display", ".does { min-width: 30rem; display")], True, [signed_in, clicks.phone]),
     "fields without labels": ([("page.js", "el('label', {}, label, input)", "el('div', {}, label, input)")], True, [clicks.keyboard]),
 }
 
