@@ -1,0 +1,4 @@
+pub mod Claims
+pub mod Holding
+pub mod Queues
+pub mod Rows

@@ -1,0 +1,170 @@
+//! What an entry makes of the deliveries that wait, made ready so that it takes no memory.
+
+ghost use Rattle.std.specs.Prelude.{◌≡◌, ◌&&◌, ◌<◌, IfOk, IsTrue, OnOk, Some, length, map, nat_eq};
+ghost use Rattle.std.specs.List.{list_all};
+ghost use Rattle.std.specs.Str.{bytes_eq};
+ghost use Rattle.fedi_objects.specs.declared.entry.Entry.TheVariants.{Tried};
+ghost use Rattle.fedi_queue.specs.Claims.{is_few, release};
+ghost use Rattle.fedi_queue.specs.Queues.{Fits, HasRoom, IsSettling, IsWithin, due_of, is_row_for, rows_with};
+ghost use Rattle.fedi_queue.specs.Rows.{rows_of};
+ghost use Rattle.fedi_register.specs.Changes.{place_where};
+ghost use Rattle.fedi_town.specs.Histories.{town};
+ghost use Rattle.fedi_town.specs.Legal.{IsLegal, is_admissible};
+ghost use Rattle.fedi_town.specs.Queues.{after_outcome};
+
+use crate::making::{rows_of_all, rows_of_coming};
+use crate::rows::{QueueRow, Rows};
+use fedi_address::Iri;
+use fedi_effects::{Facts, outcome_of};
+use fedi_objects::{Came, Entry};
+use fedi_text::Moment;
+use fedi_town::Outcome;
+use std::alloc::{AllocError, Global};
+
+/// What becomes of the deliveries that wait.
+#[derive(Drop)]
+pub(crate) enum Change {
+    /// Nothing.
+    Nothing,
+    /// These come last.
+    Added(Vec<QueueRow>),
+    /// The one at this place was tried: another attempt is due from a moment on, or there is none.
+    Settled {
+        /// Its place.
+        place: usize,
+        /// From when on.
+        due: Option<u64>,
+    },
+    /// They are these.
+    Rebuilt(Vec<QueueRow>),
+}
+
+// From when on the next attempt is due after one more, if there is one: 60, 120, 240, 480, 960, 1920 and
+// 3840 seconds after it, and after the eighth there is none.
+fn next_due(attempts: u8, moment: Moment, outcome: Outcome) -> Option<u64>
+    requires { attempts < 8 }
+    ensures { result ≡ due_of (after_outcome attempts moment outcome) }
+{
+    match outcome {
+        Outcome::Again if attempts < 7 => Some(moment.seconds() + (60 << attempts)),
+        Outcome::Again | Outcome::Delivered | Outcome::GivenUp => None,
+    }
+}
+
+#[tactic(auto, unfolding(crate::specs::Queues::is_row_for))]
+fn is_row_for(row: &QueueRow, activity: usize, recipient: &Iri) -> bool
+    ensures { result ≡ is_row_for activity recipient.now row.now }
+{
+    row.activity == activity && row.recipient == *recipient
+}
+
+fn place_of(rows: &[QueueRow], activity: usize, recipient: &Iri) -> Option<usize>
+    ensures { result ≡ place_where (is_row_for activity recipient.now) rows.now }
+{
+    rows.iter()
+        .position(|row| is_row_for(row, activity, recipient))
+}
+
+// What becomes of the delivery of the activity at this place among the activities.
+fn settle_at(
+    rows: &[QueueRow],
+    activity: usize,
+    recipient: &Iri,
+    came: Came,
+    moment: Moment,
+) -> Change
+    requires { IsTrue (list_all is_few rows.now) }
+    ensures { IsSettling activity recipient.now came moment rows.now result }
+{
+    match place_of(rows, activity, recipient) {
+        Some(place) => Change::Settled {
+            place,
+            due: next_due(rows[place].attempts, moment, outcome_of(came)),
+        },
+        None => Change::Nothing,
+    }
+}
+
+// What becomes of the delivery that was tried.
+fn settle(
+    facts: &Facts,
+    rows: &[QueueRow],
+    activity: &Iri,
+    recipient: &Iri,
+    came: Came,
+    moment: Moment,
+) -> Change
+    requires legal { IsLegal facts.now.history }
+    requires town { facts.now.town ≡ town facts.now.history }
+    requires rows { map release rows.now ≡ rows_of facts.now.town }
+    requires few { IsTrue (list_all is_few rows.now) }
+    ensures fits { Fits facts.now.town (Tried activity.now recipient.now came moment) result }
+    ensures within { IsWithin result (length rows.now) }
+{
+    match facts.position_of(activity) {
+        Some(place) => settle_at(rows, place, recipient, came, moment),
+        None => Change::Nothing,
+    }
+}
+
+/// What becomes of the deliveries that wait, which are those of the facts, by the entry for which the facts
+/// have room. The error is out of memory.
+pub(crate) fn change_for(
+    alloc: Global,
+    facts: &Facts,
+    rows: &[QueueRow],
+    entry: &Entry,
+) -> Result<Change, AllocError>
+    requires legal { IsLegal facts.now.history }
+    requires town { facts.now.town ≡ town facts.now.history }
+    requires admissible { IsTrue (is_admissible facts.now.town entry.now) }
+    requires room { facts.now.room ≡ Some entry.now }
+    requires rows { map release rows.now ≡ rows_of facts.now.town }
+    requires few { IsTrue (list_all is_few rows.now) }
+    ensures fits { IfOk result (λ change. Fits facts.now.town entry.now change) }
+    ensures within { IfOk result (λ change. IsWithin change (length rows.now)) }
+{
+    match entry {
+        Entry::PeerSet { host, .. } => {
+            Ok(Change::Rebuilt(rows_of_all(alloc, facts, Some(host))?))
+        }
+        Entry::Tried {
+            activity,
+            recipient,
+            came,
+            moment,
+        } => Ok(settle(facts, rows, activity, recipient, *came, *moment)),
+        Entry::Hosted { .. } | Entry::Made { .. } | Entry::Local { .. } | Entry::Remote { .. } => {
+            Ok(Change::Added(rows_of_coming(alloc, facts)?))
+        }
+    }
+}
+
+/// Makes room for what is to be added. The error is out of memory.
+pub(crate) fn reserve_for(rows: &mut Rows, change: &Change) -> Result<(), AllocError>
+    requires { IsWithin change.now (length rows.old.rows) }
+    ensures rows { rows.new.rows ≡ rows.old.rows }
+    ensures room { OnOk result (HasRoom change.now (length rows.old.rows) rows.new.room) }
+{
+    match change {
+        Change::Added(more) => rows.reserve(more.len()),
+        Change::Nothing | Change::Settled { .. } | Change::Rebuilt(_) => Ok(()),
+    }
+}
+
+/// Changes the deliveries. It takes no memory.
+pub(crate) fn apply_change(rows: &mut Rows, change: Change)
+    requires room { HasRoom change (length rows.old.rows) rows.old.room }
+    requires few { IsTrue (list_all is_few (rows_with change rows.old.rows)) }
+    ensures { rows.new.rows ≡ rows_with change rows.old.rows }
+{
+    match change {
+        Change::Nothing => {}
+        Change::Added(more) => {
+            let mut more = more;
+            rows.append(&mut more);
+        }
+        Change::Settled { place, due } => rows.settle(place, due),
+        Change::Rebuilt(list) => *rows = Rows::new(list),
+    }
+}
