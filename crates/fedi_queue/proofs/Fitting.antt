@@ -16,6 +16,7 @@ use Rattle.fedi_queue.specs.Claims.{release, replace_at, settled}
 use Rattle.fedi_queue.specs.Queues.{Fits, IsNext, IsSettling, due_of, is_claimed, is_row_for, is_tried, stays_claimed}
 use Rattle.fedi_queue.specs.Rows.{is_reached, is_row_of, retried, row_of, rows_from, rows_of}
 use Rattle.fedi_queue.proofs.Addressed.{IsKnown}
+use Rattle.fedi_queue.proofs.Carried.{Embeds, carried_claims, carried_rows, embeds_claimed, peer_embeds}
 use Rattle.fedi_queue.proofs.Growing.{is_plain, peer_rows, plain_rows}
 use Rattle.fedi_queue.proofs.RowsOf.{rows_unclaimed}
 use Rattle.fedi_queue.proofs.Trying.{attempts_change, rows_once}
@@ -23,7 +24,7 @@ use Rattle.fedi_town.proofs.IdsTown.{HasIds}
 use Rattle.fedi_register.specs.Changes.{place_where}
 use Rattle.fedi_register.specs.Marks.{is_there}
 use Rattle.fedi_register.proofs.Edited.{there, none_there}
-use Rattle.fedi_town.proofs.Lists.{filter-none, list_any-agree}
+use Rattle.fedi_town.proofs.Lists.{list_any-agree}
 use Rattle.fedi_town.specs.declared.act.Act.{Act}
 use Rattle.fedi_town.specs.declared.act.Attempt.{Attempt}
 use Rattle.fedi_town.specs.declared.outcome.Outcome.{Outcome}
@@ -223,7 +224,7 @@ nothing_fits t id r came m none =
       rows = λ rows same.
           same ∙ sym (attempts_change t a
           ∙ flat_none p (λ row. row_of row.activity row.place row.recipient (after_outcome row.attempts m (outcome came))) (retried t.acts a) (rows_of t) (retried-is t.acts a) none);
-      claims = λ rows same may.
+      claims = λ rows same.
           sym (filter_without is_claimed p (stays_claimed t.acts (Tried id r came m)) rows (stays-tried t.acts id r came m)
           (sym (any-released p rows (of-released t.acts id r)) ∙ ap (λ (ys : List QueueRow). list_any p ys) same ∙ none));
     }
@@ -239,7 +240,7 @@ settled_fits t id r came m k due y known got passes next =
       rows = λ rows same.
           replace-released k due rows ∙ ap (λ (ys : List QueueRow). replace_at k (settled due) ys) same
           ∙ sym (attempts_change t a ∙ once_flat p f (settled due) (retried t.acts a) (rows_of t) k y (retried-is t.acts a) once got passes made);
-      claims = λ rows same may.
+      claims = λ rows same.
           let held = was-released rows k y (ap (λ (ys : List QueueRow). slice_get ys k) same ∙ got) in
           let own : p held.0 ≡ true = sym (of-released t.acts id r held.0) ∙ ap p held.2 ∙ passes in
           once_kept is_claimed p (stays_claimed t.acts (Tried id r came m)) (settled due) rows k held.0 (stays-tried t.acts id r came m)
@@ -298,7 +299,7 @@ added_fits t e more known ok plain is =
     let own : map release more.items ≡ more.items = ap (λ (ys : List QueueRow). map release ys) is ∙ rows_unclaimed t (is_at_peer t) (length t.acts) (acts_in (addition_of t e)) ∙ sym is in record {
       rows = λ rows same.
           map-append release rows more.items ∙ rw (same, own, is) (sym (plain_rows t e known ok plain));
-      claims = λ rows same may.
+      claims = λ rows same.
           filter-append is_claimed rows more.items
           ∙ rw (unclaimed more.items own) (append-nil (filter is_claimed rows))
           ∙ sym (filter-agree (stays_claimed t.acts e) is_claimed rows (λ row. untried t.acts e row plain));
@@ -308,13 +309,19 @@ stays-peer : (acts : List Act) (host key address : List ℕ) (relay : Bool) (m :
 unfolding stays_claimed is_claimed is_tried
 stays-peer acts host key address relay m row = and_not row.claimed false refl
 
+embedded : (t : Town) (host : List ℕ) (rows list : List QueueRow) → map release rows ≡ rows_of t → list ≡ rows_from t (is_reached t (Some host)) 0 t.acts → Embeds (map release rows) list
+unfolding rows_of
+embedded t host rows list same is =
+    subst (λ (xs : List QueueRow). Embeds xs list) (sym same)
+    (subst (λ (ys : List QueueRow). Embeds (rows_from t (is_at_peer t) 0 t.acts) ys) (sym is) (peer_embeds t host t.acts))
+
 pub rebuilt_fits : (t : Town) (host key address : List ℕ) (relay : Bool) (m : ℕ) (list : Vec QueueRow Global) → list.items ≡ rows_from t (is_reached t (Some host)) 0 t.acts
     → Fits t (PeerSet host key address relay m) (changes.Rebuilt list)
 rebuilt_fits t host key address relay m list is =
     let e : Entry = PeerSet host key address relay m in
     let own : map release list.items ≡ list.items = ap (λ (ys : List QueueRow). map release ys) is ∙ rows_unclaimed t (is_reached t (Some host)) 0 t.acts ∙ sym is in record {
-      rows = λ rows same. own ∙ is ∙ sym (peer_rows t (record { host = host; key = key; address = address; relay = relay }));
-      claims = λ rows same may.
-          unclaimed list.items own
-          ∙ sym (filter-agree (stays_claimed t.acts e) is_claimed rows (λ row. stays-peer t.acts host key address relay m row) ∙ filter-none is_claimed rows may);
+      rows = λ rows same. carried_rows rows list.items ∙ own ∙ is ∙ sym (peer_rows t (record { host = host; key = key; address = address; relay = relay }));
+      claims = λ rows same.
+          carried_claims rows list.items own (embeds_claimed rows list.items (embedded t host rows list.items same is))
+          ∙ sym (filter-agree (stays_claimed t.acts e) is_claimed rows (λ row. stays-peer t.acts host key address relay m row));
     }

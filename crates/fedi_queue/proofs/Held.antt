@@ -12,7 +12,7 @@ use Rattle.fedi_queue.specs.declared.rows.Claim.{Claim}
 use Rattle.fedi_queue.specs.declared.rows.QueueRow.{QueueRow}
 use Rattle.fedi_queue.specs.Claims.{Listed, change_first, claim, claim_of, is_at, is_claimed_at, is_few, is_free_at, release}
 use Rattle.fedi_queue.specs.Holding.{IsRoom, IsSound}
-use Rattle.fedi_queue.specs.Queues.{ClaimsAreHeld, Fits, HasRoom, IsHeld, MayCome, is_claimed, is_held_by, is_tried, rows_with, stays_claimed}
+use Rattle.fedi_queue.specs.Queues.{ClaimsAreHeld, Fits, HasRoom, IsHeld, is_claimed, is_held_by, is_tried, rows_with, stays_claimed}
 use Rattle.fedi_queue.specs.Rows.{is_reached, rows_from, rows_of}
 use Rattle.fedi_queue.proofs.Listed.{few_released}
 use Rattle.fedi_queue.proofs.RowsOf.{from_alike, reached_now, rows_few, rows_unclaimed}
@@ -135,10 +135,9 @@ sound_pushed before since old new coming e r h is own made =
       room = tt;
     })
 
-pub claims_pushed : (history : List Entry) (old : Listed) (new : List QueueRow) (coming : Option Room) (e : Entry) (r : Room) → IsSound history old coming → coming ≡ Some r → r.entry.value ≡ e → MayCome e old.rows
-    → new ≡ rows_with r.change old.rows → filter is_claimed new ≡ filter (stays_claimed (town history).acts e) old.rows
-claims_pushed history old new coming e r h is own may made =
-    ap (λ (ys : List QueueRow). filter is_claimed ys) made ∙ (fits_at history old coming r e h is own).claims old.rows h.rows may
+pub claims_pushed : (history : List Entry) (old : Listed) (new : List QueueRow) (coming : Option Room) (e : Entry) (r : Room) → IsSound history old coming → coming ≡ Some r → r.entry.value ≡ e → new ≡ rows_with r.change old.rows → filter is_claimed new ≡ filter (stays_claimed (town history).acts e) old.rows
+claims_pushed history old new coming e r h is own made =
+    ap (λ (ys : List QueueRow). filter is_claimed ys) made ∙ (fits_at history old coming r e h is own).claims old.rows h.rows
 
 -- ---- what is held
 

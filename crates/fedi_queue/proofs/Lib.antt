@@ -1,8 +1,10 @@
 pub mod Addressed
+pub mod Carried
 pub mod Fitting
 pub mod Growing
 pub mod Held
 pub mod Listed
 pub mod Queued
 pub mod RowsOf
+pub mod Sent
 pub mod Trying

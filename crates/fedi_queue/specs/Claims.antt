@@ -41,6 +41,13 @@ abbrev pub change_first : {A : Type 0} → (A → Bool) → (A → A) → List A
 change_first p f [] = []
 change_first p f (x ∷ xs) = if p x then f x ∷ xs else x ∷ change_first p f xs
 
+-- The second rows, of which those are claimed that are so among the first. Both are in one order, and the second have more.
+abbrev pub carried : List QueueRow → List QueueRow → List QueueRow
+carried rows [] = []
+carried [] (y ∷ ys) = y ∷ ys
+carried (x ∷ xs) (y ∷ ys) =
+    if is_at x.activity x.place y then record y { claimed = x.claimed } ∷ carried xs ys else y ∷ carried (x ∷ xs) ys
+
 -- what the one at this place becomes
 abbrev pub replace_at : {A : Type 0} → ℕ → (A → List A) → List A → List A
 replace_at k f [] = []
@@ -62,7 +69,7 @@ pub record Listed : Type 0 where
   pub rows : List QueueRow
   pub room : ℕ
 
--- the rows of a list of them, with its room
+-- the rows, as those see them who ask
 abbrev pub listed_in : Inside → Listed
 listed_in q = record { rows = q.list.items; room = vec_capacity q.list - vec_len q.list }
 

@@ -37,6 +37,6 @@ pub record IsSound (history : List Entry) (listed : Listed) (coming : Option Roo
   pub rows : map release listed.rows ≡ rows_of (town history)
   pub room : IsRoom history listed coming
 
--- the queue is sound
+-- likewise of what is held
 abbrev pub IsQueue : Inside → Type 0
 IsQueue q = IsSound (history_in q) q.rows q.room

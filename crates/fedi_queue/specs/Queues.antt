@@ -10,7 +10,7 @@ use Rattle.fedi_queue.specs.declared.changes.Change.{Change}
 use Rattle.fedi_queue.specs.declared.changes.Change.TheVariants as changes
 use Rattle.fedi_queue.specs.declared.rows.Claim.{Claim}
 use Rattle.fedi_queue.specs.declared.rows.QueueRow.{QueueRow}
-use Rattle.fedi_queue.specs.Claims.{is_claimed_at, release, replace_at, settled}
+use Rattle.fedi_queue.specs.Claims.{carried, is_claimed_at, release, replace_at, settled}
 use Rattle.fedi_queue.specs.Rows.{is_row_of, rows_of}
 use Rattle.fedi_register.specs.Changes.{place_where}
 use Rattle.fedi_town.specs.declared.act.Act.{Act}
@@ -66,20 +66,9 @@ abbrev pub forwards_by : Town → Option (List ℕ) → Activity → List (List 
 forwards_by t None a = []
 forwards_by t (Some author) a = forwards_of t author a
 
--- likewise, by the author that the activity names
+-- likewise, by its actor
 abbrev pub forwards : Town → Activity → List (List ℕ)
 forwards t a = forwards_by t a.actor a
-
--- ---- peers
-
--- another host becomes a peer only while nothing is claimed
-abbrev pub MayCome : Entry → List QueueRow → Type 0
-MayCome (Hosted host moment) rows = ⊤
-MayCome (Made name digest locked moment) rows = ⊤
-MayCome (PeerSet host key address relay moment) rows = list_any is_claimed rows ≡ false
-MayCome (Local name repeat a moment) rows = ⊤
-MayCome (Remote peer inbox a moment) rows = ⊤
-MayCome (Tried activity recipient came moment) rows = ⊤
 
 -- ---- what is made ready for an entry
 
@@ -97,14 +86,14 @@ abbrev pub rows_with : Change → List QueueRow → List QueueRow
 rows_with changes.Nothing rows = rows
 rows_with (changes.Added more) rows = rows ++ more.items
 rows_with (changes.Settled place due) rows = replace_at place (settled due) rows
-rows_with (changes.Rebuilt list) rows = list.items
+rows_with (changes.Rebuilt list) rows = carried rows list.items
 
 -- Whatever is claimed: where the rows are those of the town, they are after the change those of the town after the entry, and
 -- the same is claimed but for what was tried.
 pub record Fits (t : Town) (e : Entry) (change : Change) : Type 0 where
   pub rows : (rows : List QueueRow) → map release rows ≡ rows_of t → map release (rows_with change rows) ≡ rows_of (step t e)
   pub claims :
-      (rows : List QueueRow) → map release rows ≡ rows_of t → MayCome e rows
+      (rows : List QueueRow) → map release rows ≡ rows_of t
       → filter is_claimed (rows_with change rows) ≡ filter (stays_claimed t.acts e) rows
 
 -- there is room for it among so many rows

@@ -1,10 +1,11 @@
 //! What an entry makes of the deliveries that wait, made ready so that it takes no memory.
 
-ghost use Rattle.std.specs.Prelude.{◌≡◌, ◌&&◌, ◌<◌, IfOk, IsTrue, OnOk, Some, length, map, nat_eq};
+ghost use Rattle.std.specs.Prelude.{◌≡◌, ◌∷◌, ◌<◌, ◌≤◌, IfOk, IsTrue, List, OnOk, Some, drop, length, map, option_copied, slice_get};
 ghost use Rattle.std.specs.List.{list_all};
 ghost use Rattle.std.specs.Str.{bytes_eq};
 ghost use Rattle.fedi_objects.specs.declared.entry.Entry.TheVariants.{Tried};
-ghost use Rattle.fedi_queue.specs.Claims.{is_few, release};
+ghost use Rattle.fedi_queue.specs.declared.rows.QueueRow.{QueueRow};
+ghost use Rattle.fedi_queue.specs.Claims.{carried, is_at, is_few, release};
 ghost use Rattle.fedi_queue.specs.Queues.{Fits, HasRoom, IsSettling, IsWithin, due_of, is_row_for, rows_with};
 ghost use Rattle.fedi_queue.specs.Rows.{rows_of};
 ghost use Rattle.fedi_register.specs.Changes.{place_where};
@@ -152,6 +153,49 @@ pub(crate) fn reserve_for(rows: &mut Rows, change: &Change) -> Result<(), AllocE
     }
 }
 
+#[tactic(auto, unfolding(crate::specs::Claims::is_at))]
+fn is_at(row: &QueueRow, activity: usize, place: usize) -> bool
+    ensures { result ≡ is_at activity place row.now }
+{
+    row.activity == activity && row.place == place
+}
+
+fn row_at(rows: &[QueueRow], place: usize) -> Option<&QueueRow>
+    ensures { option_copied result ≡ slice_get rows.now place }
+{
+    rows.get(place)
+}
+
+// The row is claimed if it is the next of these and that is so. The answer is which is the next after it.
+#[tactic(auto, using(crate::proofs::Carried::carried_past, crate::proofs::Carried::carried_other, crate::proofs::Carried::carried_same, crate::proofs::Carried::got_within))]
+fn carry_one(rows: &[QueueRow], next: usize, row: &mut QueueRow) -> usize
+    requires { next ≤ length rows.now }
+    ensures within { result ≤ length rows.now }
+    ensures carried { (rest : List QueueRow) → carried (drop next rows.now) (row.old ∷ rest)
+        ≡ row.new ∷ carried (drop result rows.now) rest }
+{
+    match row_at(rows, next) {
+        Some(old) => {
+            if is_at(row, old.activity, old.place) {
+                row.claimed = old.claimed;
+                return next + 1;
+            }
+            next
+        }
+        None => next,
+    }
+}
+
+// Those of the list are claimed that are so among these rows, which are in the same order.
+fn carry(rows: &[QueueRow], list: &mut [QueueRow])
+    ensures { list.new ≡ carried rows.now list.old }
+{
+    let mut next = 0;
+    for row in list.iter_mut() {
+        next = carry_one(rows, next, row);
+    }
+}
+
 /// Changes the deliveries. It takes no memory.
 pub(crate) fn apply_change(rows: &mut Rows, change: Change)
     requires room { HasRoom change (length rows.old.rows) rows.old.room }
@@ -165,6 +209,10 @@ pub(crate) fn apply_change(rows: &mut Rows, change: Change)
             rows.append(&mut more);
         }
         Change::Settled { place, due } => rows.settle(place, due),
-        Change::Rebuilt(list) => *rows = Rows::new(list),
+        Change::Rebuilt(list) => {
+            let mut list = list;
+            carry(rows.as_slice(), &mut list);
+            *rows = Rows::new(list);
+        }
     }
 }

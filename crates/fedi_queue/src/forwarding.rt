@@ -8,8 +8,9 @@ use fedi_effects::{Facts, forwards_of};
 use fedi_objects::Activity;
 use std::alloc::{AllocError, Global};
 
-/// To whom an activity of another server is forwarded when it comes for the first time (ActivityPub,
-/// section 7.1.2), each once; to nobody, if it has no actor. The error is out of memory.
+/// To whom an activity of another server is forwarded when it comes for the first time
+/// (ActivityPub, section 7.1.2), each once; to nobody, if it has no actor. The error is out of
+/// memory.
 pub fn forwards(alloc: Global, facts: &Facts, activity: &Activity) -> Result<Items<Iri>, AllocError>
     ensures { IfOk result (λ found. found ≡ forwards facts.now.town activity.now) }
 {

@@ -21,8 +21,8 @@ pub fn accepted_activities_add_rows()
     ensures { AcceptedActivitiesAddRows }
 {}
 
-/// An activity from elsewhere that comes again adds no row: it is forwarded once (ActivityPub, section
-/// 7.1.2).
+/// An activity from elsewhere that comes again adds no row: it is forwarded once (ActivityPub,
+/// section 7.1.2).
 #[tactic(auto, using(crate::proofs::Queued::repeats_add_none))]
 pub fn repeats_add_no_rows()
     ensures { RepeatsAddNoRows }

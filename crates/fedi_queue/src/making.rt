@@ -33,7 +33,8 @@ fn is_reached(facts: &Facts, new: Option<&Host>, recipient: &Iri) -> bool
     }
 }
 
-// Adds the row of the delivery to this recipient, if the recipient is reached and another attempt is due.
+// Adds the row of the delivery to this recipient, if the recipient is reached and another attempt
+// is due.
 fn add_row(
     rows: &mut Vec<QueueRow>,
     facts: &Facts,
@@ -138,8 +139,8 @@ fn place_after(place: usize, act: Option<&Kept>) -> usize
     }
 }
 
-/// The rows of the activities that the entry will add for which the facts have room. The error is out of
-/// memory.
+/// The rows of the activities that the entry will add for which the facts have room. The error is
+/// out of memory.
 pub(crate) fn rows_of_coming(alloc: Global, facts: &Facts) -> Result<Vec<QueueRow>, AllocError>
     ensures { IfOk result (λ rows. rows.items ≡ rows_from facts.now.town
         (is_at_peer facts.now.town) (length facts.now.town.acts) (coming_in facts.now)) }
@@ -173,8 +174,8 @@ fn rows_counted<L: Ledger>(
     Ok(rows)
 }
 
-/// The rows of all activities, where this host is a peer, or becomes one. It goes through all of them. The
-/// error is out of memory.
+/// The rows of all activities, where this host is a peer, or becomes one. It goes through all of
+/// them. The error is out of memory.
 pub(crate) fn rows_of_all(
     alloc: Global,
     facts: &Facts,

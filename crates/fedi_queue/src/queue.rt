@@ -3,7 +3,7 @@
 ghost use Rattle.std.specs.Prelude.{◌≡◌, ◌∷◌, ◌++◌, [], IfOk, IfSome, IsTrue, None, OnErr, OnOk, Some, filter, length, map, option_copied, option_map};
 ghost use Rattle.std.specs.List.{find};
 ghost use Rattle.fedi_queue.specs.Claims.{change_first, claim, claim_of, is_claimed_at, is_free_at, release};
-ghost use Rattle.fedi_queue.specs.Queues.{Fits, HasRoom, IsHeld, IsWithin, MayCome, is_claimed, stays_claimed};
+ghost use Rattle.fedi_queue.specs.Queues.{Fits, HasRoom, IsHeld, IsWithin, is_claimed, stays_claimed};
 ghost use Rattle.fedi_queue.specs.Rows.{rows_of};
 ghost use Rattle.fedi_town.specs.Histories.{town};
 ghost use Rattle.fedi_town.specs.Legal.{IsLegal, is_admissible};
@@ -33,9 +33,9 @@ struct Room {
     change: Change,
 }
 
-/// The deliveries of a history that wait, in the order of acceptance and of recipients (ActivityPub, section
-/// 7.1): those to recipients of peers of which another attempt is due. Each may be claimed, and is then given
-/// to nobody else until it is tried or given back.
+/// The deliveries of a history that wait, in the order of acceptance and of recipients
+/// (ActivityPub, section 7.1): those to recipients of peers of which another attempt is due. Each
+/// may be claimed, and is then given to nobody else until it is tried or given back.
 #[derive(Drop)]
 pub struct Queue {
     start: Option<Start>,
@@ -88,8 +88,8 @@ impl Queue {
         }
     }
 
-    /// The queue of the history of these facts, in which nothing is claimed. It goes through all activities. The
-    /// error is out of memory.
+    /// The queue of the history of these facts, in which nothing is claimed. It goes through all
+    /// activities. The error is out of memory.
     pub fn of(alloc: Global, facts: &Facts) -> Result<Queue, AllocError>
         ensures { IfOk result (λ queue. queue ≡ record {
           history = facts.now.history;
@@ -117,8 +117,8 @@ impl Queue {
         self.rows.as_slice()
     }
 
-    /// Claims the first delivery that is due at this moment and not claimed: there is none exactly if it returns
-    /// none. It takes no memory, and one comparison as long as nothing is due.
+    /// Claims the first delivery that is due at this moment and not claimed: there is none exactly
+    /// if it returns none. It takes no memory, and one comparison as long as nothing is due.
     pub fn claim(&mut self, moment: Moment) -> Option<Claim>
         ensures first { result
             ≡ option_map (claim_of moment) (find (is_free_at moment) self.old.rows) }
@@ -159,9 +159,9 @@ impl Queue {
         self.rows.release(activity, recipient);
     }
 
-    /// Makes room for an entry that may come next, with all that becomes of the deliveries: the facts are those
-    /// of the queue's history, and have room for the entry. The error is out of memory, and then there is room
-    /// for none.
+    /// Makes room for an entry that may come next, with all that becomes of the deliveries: the
+    /// facts are those of the queue's history, and have room for the entry. The error is out of
+    /// memory, and then there is room for none.
     pub fn reserve(&mut self, alloc: Global, facts: &Facts, entry: &Entry) -> Result<(), AllocError>
         requires history { facts.now.history ≡ self.old.history }
         requires legal { IsLegal self.old.history }
@@ -177,11 +177,10 @@ impl Queue {
         keep_room(&mut self.room, &mut self.rows, Room { entry, change })
     }
 
-    /// Adds the entry for which there is room. Whatever is claimed stays so, but for the delivery that the entry
-    /// has tried. It takes no memory.
+    /// Adds the entry for which there is room. Whatever is claimed stays so, but for the delivery
+    /// that the entry has tried. It takes no memory.
     pub fn push(&mut self, entry: &Entry)
-        requires room { self.old.room ≡ Some entry.now }
-        requires may_come { MayCome entry.now self.old.rows }
+        requires { self.old.room ≡ Some entry.now }
         ensures history { self.new.history ≡ self.old.history ++ entry.now ∷ [] }
         ensures claims { filter is_claimed self.new.rows
             ≡ filter (stays_claimed (town self.old.history).acts entry.now) self.old.rows }

@@ -27,8 +27,8 @@ pub struct QueueRow {
     pub claimed: bool,
 }
 
-/// A delivery that its owner has to itself, and tries. It is spent by what comes of the attempt, or given
-/// back.
+/// A delivery that its owner has to itself, and tries. It is spent by what comes of the attempt, or
+/// given back.
 pub struct Claim {
     /// The place of the activity in the order of acceptance.
     pub activity: usize,
@@ -175,8 +175,8 @@ impl Rows {
         }
     }
 
-    /// Claims the first delivery that is due at this moment and not claimed, or none if there is no such
-    /// delivery. It takes no memory.
+    /// Claims the first delivery that is due at this moment and not claimed, or none if there is no
+    /// such delivery. It takes no memory.
     #[tactic(auto, using(crate::proofs::Listed::early_none, crate::proofs::Listed::early_same, fedi_register::proofs::Edited::none_there, crate::proofs::Listed::late_same, crate::proofs::Listed::first_changed, crate::proofs::Listed::first_found, crate::proofs::Listed::first_within, crate::proofs::Listed::few_claimed, crate::proofs::Listed::claimed_not_before))]
     pub(crate) fn claim(&mut self, moment: Moment) -> Option<Claim>
         ensures first { result
@@ -197,8 +197,8 @@ impl Rows {
         }
     }
 
-    /// Gives up the claim on the delivery of this activity to the recipient at this place, if it is claimed.
-    /// It takes no memory.
+    /// Gives up the claim on the delivery of this activity to the recipient at this place, if it is
+    /// claimed. It takes no memory.
     #[tactic(auto, using(crate::proofs::Listed::late_same, crate::proofs::Listed::first_changed, crate::proofs::Listed::first_within, crate::proofs::Listed::few_after_release, crate::proofs::Listed::due_not_before))]
     pub(crate) fn release(&mut self, activity: usize, place: usize)
         ensures { self.new ≡ record self.old {
@@ -220,8 +220,8 @@ impl Rows {
             .find(|row| is_claimed_at(row, activity, place))
     }
 
-    /// After one more attempt of the delivery at this place: another is due from this moment on, or there is
-    /// none. It takes no memory.
+    /// After one more attempt of the delivery at this place: another is due from this moment on, or
+    /// there is none. It takes no memory.
     #[tactic(auto, using(crate::proofs::Listed::was_few, crate::proofs::Listed::set_at, crate::proofs::Listed::removed_at, crate::proofs::Listed::all_removed, crate::proofs::Listed::due_not_before))]
     pub(crate) fn settle(&mut self, place: usize, due: Option<u64>)
         requires there { place < length self.old.rows }
