@@ -6,38 +6,18 @@ ghost use Rattle.fedi_town.specs.Collections.{owner_of};
 ghost use Rattle.fedi_town.specs.declared.caller.Which.TheVariants.{Inbox, Likes};
 ghost use Rattle.fedi_model.specs.Memory.{finds_marked, is_refused};
 ghost use Rattle.fedi_model.specs.Replies.{reply_of};
-ghost use Rattle.fedi_model.specs.declared.reply.Form.TheVariants.{Activity};
 
 use crate::pages::{page, summary};
 use fedi_address::{Iri, LocalName};
 use fedi_effects::{Facts, Steps};
 use fedi_kept::Kept;
-use fedi_model::{Body, Form, PageAsk, Reply, refusal_reply};
+use fedi_model::{Form, PageAsk, Reply, refusal_reply};
 use fedi_town::{Caller, Refusal, Which, object_iri};
 use fedi_visible::{Shelf, is_nobody, is_self, seen_maker};
 use http::StatusCode;
 use std::alloc::{AllocError, Global};
 use std::marker::Brand;
 use std::sync::ledger::{Blank, Ledger};
-
-// A document with this text.
-fn showing(text: Vec<u8>) -> Reply
-    ensures { result ≡ record {
-      status = 200;
-      form = Activity;
-      location = None;
-      allow = None;
-      body = text.items;
-    } }
-{
-    Reply {
-        status: StatusCode::OK,
-        form: Form::Activity,
-        location: None,
-        allow: None,
-        body: Body::from(text),
-    }
-}
 
 // ---- rules
 
@@ -148,11 +128,11 @@ fn items_reply<S: Shelf, L: Ledger>(
     match part {
         PageAsk::Summary => {
             let text = summary(alloc, shelf, caller, which, owner, &mut steps)?;
-            Ok(showing(text))
+            Ok(Reply::document(StatusCode::OK, Form::Activity, text))
         }
         PageAsk::Page(number) => {
             match page(alloc, shelf, caller, which, owner, *number, &mut steps)? {
-                Some(text) => Ok(showing(text)),
+                Some(text) => Ok(Reply::document(StatusCode::OK, Form::Activity, text)),
                 None => Ok(refusal_reply(Refusal::NotFound)),
             }
         }

@@ -1,11 +1,10 @@
 //! What the machine decides on one ask.
 
 ghost use Rattle.std.specs.Prelude.{◌≡◌, ◌<◌, ◌+◌, IfOk, IsTrue, OnErr, false, option_copied, option_map};
-ghost use Rattle.fedi_model.specs.AnswerKinds.{Accepted};
 ghost use Rattle.fedi_model.specs.Asks.{entry_of};
 ghost use Rattle.fedi_model.specs.Posting.{delivery_answer, delivery_of, entry_at, inbox_entry_at, post_answer};
 ghost use Rattle.fedi_model.specs.Memory.{is_refused, keeps_delivery, takes_memory};
-ghost use Rattle.fedi_model.specs.Replies.{reply, reply_of, without_body};
+ghost use Rattle.fedi_model.specs.Replies.{reply, reply_of};
 ghost use Rattle.fedi_town.specs.Ids.{activity_id};
 ghost use Rattle.fedi_town.specs.Towns.{id_of};
 
@@ -15,12 +14,11 @@ use fedi_address::{Host, Iri, LocalName};
 use fedi_collections::collection_reply;
 use fedi_effects::Facts;
 use fedi_inbound::{Received, receive};
-use fedi_model::{Ask, Body, Form, Post, Reply, misshapen_reply, refusal_reply};
+use fedi_model::{Ask, Post, Reply, misshapen_reply, refusal_reply};
 use fedi_objects::{Activity, Boxed, Entry};
 use fedi_text::Moment;
 use fedi_town::{Caller, Refusal, activity_iri};
 use fedi_visible::{Shelf, activity_reply, object_reply};
-use http::StatusCode;
 use std::alloc::{AllocError, Global};
 
 /// What is decided on an ask.
@@ -30,19 +28,6 @@ pub struct Decision {
     pub reply: Reply,
     /// The entry that the ask makes: that of a post or a delivery that is accepted and new.
     pub entry: Option<Entry>,
-}
-
-// The reply that tells the id of the activity that a post made, now or before.
-fn created_reply(location: Option<Iri>) -> Reply
-    ensures { result ≡ without_body 201 location }
-{
-    Reply {
-        status: StatusCode::CREATED,
-        form: Form::None,
-        location,
-        allow: None,
-        body: Body::empty(),
-    }
 }
 
 // The id of the member's activity of this number, once the server was set up.
@@ -96,14 +81,14 @@ fn decide_post(
     match judge(facts, caller, &name, author, post) {
         Judged::Refused(reply) => Ok(Decision { reply, entry: None }),
         Judged::Repeated(id) => Ok(Decision {
-            reply: created_reply(copy_id(id)?),
+            reply: Reply::created(copy_id(id)?),
             entry: None,
         }),
         Judged::Kept(activity, repeat) => {
             let number = facts.count_of(author) as u64 + 1;
             let id = id_at(alloc, facts.host(), &name, number)?;
             Ok(Decision {
-                reply: created_reply(id),
+                reply: Reply::created(id),
                 entry: Some(Entry::Local {
                     name,
                     repeat,
@@ -112,19 +97,6 @@ fn decide_post(
                 }),
             })
         }
-    }
-}
-
-// The reply to a delivery that is accepted, now or before (ActivityPub, section 7).
-fn accepted_reply() -> Reply
-    ensures { result ≡ reply_of Accepted }
-{
-    Reply {
-        status: StatusCode::ACCEPTED,
-        form: Form::None,
-        location: None,
-        allow: None,
-        body: Body::empty(),
     }
 }
 
@@ -180,11 +152,11 @@ fn decide_delivery(
             entry: None,
         }),
         Received::Repeated => Ok(Decision {
-            reply: accepted_reply(),
+            reply: Reply::accepted(),
             entry: None,
         }),
         Received::Kept(activity) => Ok(Decision {
-            reply: accepted_reply(),
+            reply: Reply::accepted(),
             entry: delivery_of(caller, name, activity, moment)?,
         }),
     }

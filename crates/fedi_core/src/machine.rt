@@ -125,7 +125,7 @@ impl<S: Shelf + Drop, P: Keeper> Core<S, P> {
         let (mut shelf, mut keeper) = (shelf, keeper);
         match open_history(alloc, &mut keeper, &mut shelf) {
             Ok(()) => {
-                shelf.facts().stands();
+                shelf.facts().show_town();
                 Ok(Core { shelf, keeper })
             }
             Err(fault) => Err((fault, keeper)),
@@ -157,7 +157,7 @@ impl<S: Shelf + Drop, P: Keeper> Core<S, P> {
     /// Who makes a request with these credentials (RFC 6750, section 2.1): nobody without any, the member
     /// whose key they show, or the peer that signed the request by the key that it shares with this server
     /// (RFC 2104). It is `WrongKey` if a key is shown that is no member's, and `WrongMac` if one of the
-    /// fields of a peer stands and no peer of that host signed the request. The error is out of memory, which
+    /// fields of a peer is there and no peer of that host signed the request. The error is out of memory, which
     /// comes only where the caller is a peer.
     pub fn caller_of(
         &self,
@@ -207,7 +207,7 @@ impl<S: Shelf + Drop, P: Keeper> Core<S, P> {
         ensures refused { IfErr result (λ e. Refuses P.room (code_of entry) e.fault
             (P.shown self.old.keeper) (P.shown self.new.keeper)) }
         ensures back { IfErr result (λ e. e.entry ≡ entry) }
-        // What may then be in doubt can be read where it stands.
+        // What may then be in doubt can be read at its position.
         ensures next { IfErr result (λ e.
             e.fault ≡ KeepFault.Failed → IsNext (town self.old.history) entry) }
         ensures same { OnErr result (self.new.history ≡ self.old.history) }
@@ -219,11 +219,11 @@ impl<S: Shelf + Drop, P: Keeper> Core<S, P> {
         ensures time_refused { let k = P.shown self.old.keeper in IfErr result (λ e.
             PassesTimeUnkept e.fault k.records k.doubt (code_of entry)
             (P.crashes self.old.keeper) (P.crashes self.new.keeper)) }
-        // A post that changes nothing earlier tells nothing to a caller who does not see it.
+        // A post that changes nothing earlier shows nothing to a caller who does not see it.
         ensures unseen { HidesPosts self.old.history self.new.history }
         // So does a delivery of a new id that is no Follow.
         ensures unseen_deliveries { HidesDeliveries self.old.history self.new.history }
-        // A delivery of a known id tells nothing but to the owner of its inbox.
+        // A delivery of a known id shows nothing but to the owner of its inbox.
         ensures added_inboxes { TellsOwners self.old.history self.new.history }
     {
         match store_entry(alloc, &mut self.shelf, &mut self.keeper, &entry) {
@@ -232,8 +232,8 @@ impl<S: Shelf + Drop, P: Keeper> Core<S, P> {
         }
     }
 
-    /// Does an operator's command: its entry is kept, unless it breaks a rule, of which the first one is
-    /// told, or the keeper refuses it, as `keep` says. After an error the history is as before.
+    /// Does an operator's command: its entry is kept, unless it breaks a rule, the first of which is
+    /// reported, or the keeper refuses it, as `keep` says. After an error the history is as before.
     #[tactic(auto, using(crate::proofs::Commanding::command_may, crate::proofs::Rules::rule_refuses))]
     pub fn command(&mut self, alloc: Global, entry: Entry) -> Result<(), CommandFault>
         requires { IsCommand (town self.old.history) entry }

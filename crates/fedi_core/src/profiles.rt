@@ -2,26 +2,24 @@
 //! the only error.
 
 ghost use Rattle.std.specs.Prelude.{◌≡◌, IfOk, OnErr, false, option_copied};
-ghost use Rattle.serde_json.specs.Data.{Data};
 ghost use Rattle.fedi_model.specs.Documents.{actor_form, jrd_form};
 ghost use Rattle.fedi_model.specs.Reading.{actor_or_missing, profile_or_missing, webfinger_answer};
 ghost use Rattle.fedi_model.specs.Memory.{is_refused};
 ghost use Rattle.fedi_model.specs.Replies.{disallowed, reply_of, showing};
-ghost use Rattle.fedi_objects.specs.Writing.{IsDocument};
 ghost use Rattle.fedi_town.specs.Towns.{id_of};
 
 use fedi_address::{Host, LocalName};
 use fedi_effects::Facts;
-use fedi_model::{Allow, Body, Form, Reply, Resource, refusal_reply};
-use fedi_objects::{new_document, text_of};
+use fedi_model::{Allow, Form, Reply, Resource, refusal_reply};
+use fedi_objects::new_document;
 use fedi_routes::{write_actor, write_jrd};
 use fedi_text::Text;
 use fedi_town::Refusal;
+use fedi_visible::document_reply;
 use http::StatusCode;
-use json::Writer;
 use std::alloc::{AllocError, Global};
 
-/// The reply to a method that a path does not have, which tells those that it has (RFC 9110, sections
+/// The reply to a method that a path does not have, which names those that it has (RFC 9110, sections
 /// 10.2.1 and 15.5.6). It takes no memory.
 pub fn wrong_method_reply(allow: Allow) -> Reply
     ensures { result ≡ disallowed allow }
@@ -31,25 +29,12 @@ pub fn wrong_method_reply(allow: Allow) -> Reply
     reply
 }
 
-// A document of this media type.
-fn showing(form: Form, out: Writer) -> Reply
-    ensures { (d : Data) → IsDocument d out → result ≡ showing 200 form d }
-{
-    Reply {
-        status: StatusCode::OK,
-        form,
-        location: None,
-        allow: None,
-        body: Body::from(text_of(out)),
-    }
-}
-
 fn actor_document(alloc: Global, name: &LocalName, host: &Host) -> Result<Reply, AllocError>
     ensures { IfOk result (λ r. r ≡ showing 200 Form.Activity (actor_form host.now name.now)) }
 {
     let mut out = new_document(alloc)?;
     write_actor(&mut out, alloc, name, host)?;
-    Ok(showing(Form::Activity, out))
+    Ok(document_reply(StatusCode::OK, Form::Activity, out))
 }
 
 fn profile_document(
@@ -62,7 +47,7 @@ fn profile_document(
 {
     let mut out = new_document(alloc)?;
     write_jrd(&mut out, alloc, name, host, rels)?;
-    Ok(showing(Form::Jrd, out))
+    Ok(document_reply(StatusCode::OK, Form::Jrd, out))
 }
 
 /// The reply to who reads the actor document of the member of this name (ActivityPub, section 4.1).

@@ -10,4 +10,5 @@ pub mod Originals
 pub mod Prefixes
 pub mod Sent
 pub mod Standings
+pub mod Tallying
 pub mod Towns

@@ -18,6 +18,9 @@ use Rattle.fedi_town.specs.contracts.act.Actor as Actor
 use Rattle.fedi_town.specs.contracts.act.Attempt as Attempt
 use Rattle.fedi_town.specs.contracts.act.Peer as Peer
 use Rattle.fedi_effects.proofs.members.Members.TheSendSync.{the_send as members_send}
+use Rattle.fedi_effects.specs.contracts.tallies.Tallies as Tallies
+use Rattle.fedi_effects.specs.contracts.tallies.Tallies.TheInside as TalliesInside
+use Rattle.fedi_effects.specs.contracts.tallies.Tally as Tally
 use Rattle.fedi_effects.specs.contracts.facts.Facts as Facts
 use Rattle.fedi_effects.specs.contracts.facts.Facts.TheInside as Inside
 use Rattle.fedi_effects.specs.contracts.facts.Room as Room
@@ -38,6 +41,9 @@ peer_send = search (host_send, text_send, crosses, sendable) depth 20
 attempt_send : IsSend Attempt.the_row
 attempt_send = search (iri_send, moment_send, crosses, sendable) depth 20
 
+tally_send : IsSend Tally.the_row
+tally_send = search (iri_send, crosses, sendable) depth 20
+
 trace_send : (T : RattleType) → IsSend T → IsSend (Trace.the_row T)
 trace_send T s = search (traces_cross, crosses, sendable) depth 20
 
@@ -47,8 +53,14 @@ ready_send = variants_send Ready.enum (search (host_send, actor_send, peer_send,
 room_send : IsSend Room.the_row
 room_send = declared_send Room.the_type (search (ready_send, crosses, sendable) depth 20)
 
+tallies_inside_send : IsSend TalliesInside.the_row
+tallies_inside_send = declared_send TalliesInside.the_type (search (tally_send, trace_send, attempt_send, crosses, sendable) depth 30)
+
+tallies_send : IsSend Tallies.the_row
+tallies_send = view_send _ _ _ _ _ tallies_inside_send
+
 inside_send : IsSend Inside.the_row
-inside_send = declared_send Inside.the_type (search (host_send, members_send, peer_send, attempt_send, pool_send, register_send, trace_send, room_send, entry_send, crosses, sendable) depth 30)
+inside_send = declared_send Inside.the_type (search (host_send, members_send, peer_send, tallies_send, pool_send, register_send, trace_send, room_send, entry_send, crosses, sendable) depth 30)
 
 pub facts_send : IsSend Facts.the_row
 facts_send = view_send _ _ _ _ _ inside_send

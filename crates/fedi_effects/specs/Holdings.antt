@@ -41,7 +41,7 @@ town_in f = record {
   actors = f.actors.actors;
   peers = f.peers.items;
   acts = f.register.acts;
-  attempts = f.attempts.items;
+  attempts = f.tallies.attempts;
 }
 
 -- the entry that there is room for
@@ -60,7 +60,7 @@ IsRoom f (Some r) =
     (addition_in r.ready ≡ addition_of (town_in f) r.entry.value)
     × (1 ≤ f.actors.room)
     × (vec_len f.peers + 1 ≤ vec_capacity f.peers)
-    × (vec_len f.attempts + 1 ≤ vec_capacity f.attempts)
+    × (1 ≤ f.tallies.room)
     × FitsActs f.register.acts r.ready
     × (f.register.room ≡ 2)
     × HasAuthors f.register.known r.ready

@@ -7,3 +7,4 @@ pub mod Repeats
 pub mod Stamps
 pub mod Standings
 pub mod Subjects
+pub mod Tallies

@@ -1,37 +1,14 @@
 //! The rules on an operator's commands.
 
 ghost use Rattle.std.specs.Prelude.{◌≡◌, None, Some, MatchResult};
-ghost use Rattle.std.specs.List.{list_all, list_any};
-ghost use Rattle.fedi_objects.specs.Keys.{is_visible};
-ghost use Rattle.fedi_objects.specs.Limits.{is_address};
+ghost use Rattle.std.specs.List.{list_any};
 ghost use Rattle.fedi_town.specs.Legal.{broken_command, is_taken_host};
 ghost use Rattle.fedi_town.specs.Towns.{has_digest, has_host, has_name};
 
 use crate::facts::{Facts, has_host};
 use fedi_address::{Host, LocalName};
-use fedi_objects::Entry;
-use fedi_text::Text;
+use fedi_objects::{Entry, is_address};
 use fedi_town::CommandFault;
-
-fn is_visible(byte: u8) -> bool
-    ensures { result ≡ is_visible byte }
-{
-    33 <= byte && byte <= 126
-}
-
-fn are_visible(text: &[u8]) -> bool
-    ensures { result ≡ list_all is_visible text.now }
-{
-    text.iter().all(|byte| is_visible(*byte))
-}
-
-// Whether a peer may be reached at this text: 1 to 255 bytes of ASCII that show, without a space.
-fn is_address(address: &Text) -> bool
-    ensures { result ≡ is_address address.now }
-{
-    let text = address.text().as_bytes();
-    1 <= text.len() && text.len() <= 255 && are_visible(text)
-}
 
 impl Facts {
     fn has_member(&self, name: &LocalName) -> bool
@@ -75,7 +52,9 @@ impl Facts {
             Entry::Made { name, .. } if self.has_member(name) => Err(CommandFault::NameTaken),
             Entry::Made { digest, .. } if self.has_key(digest) => Err(CommandFault::KeyTaken),
             Entry::PeerSet { host, .. } if self.is_taken_host(host) => Err(CommandFault::HostTaken),
-            Entry::PeerSet { address, .. } if !is_address(address) => Err(CommandFault::BadAddress),
+            Entry::PeerSet { address, .. } if !is_address(address.text()) => Err(
+                CommandFault::BadAddress,
+            ),
             Entry::Hosted { .. }
             | Entry::Made { .. }
             | Entry::PeerSet { .. }

@@ -8,23 +8,28 @@ ghost use Rattle.fedi_town.specs.Effects.{affect};
 ghost use Rattle.fedi_town.specs.Histories.{addition_of, town, with_addition};
 ghost use Rattle.fedi_town.specs.Legal.{IsLegal};
 ghost use Rattle.fedi_town.specs.Objects.{maker, makes};
+ghost use Rattle.fedi_town.specs.Queues.{progress_of};
 ghost use Rattle.fedi_town.specs.Relations.{has_activity_id, is_actor};
 ghost use Rattle.fedi_town.specs.Towns.{count_of, empty_town, has_digest, has_host, has_id, has_name, id_of};
 ghost use Rattle.fedi_address.specs.Recipients.{is_among};
 ghost use Rattle.fedi_effects.specs.Additions.{FitsActs, HasAnswerer, HasAuthors, addition_in};
 ghost use Rattle.fedi_effects.specs.Holdings.{coming_in, coming_inbox_in};
+ghost use Rattle.fedi_effects.specs.Standings.{IsFew, progress_in};
 ghost use Rattle.fedi_register.specs.Changes.{AreMadeOnce, place_where};
 ghost use Rattle.fedi_register.specs.Marks.{Decides};
 
 use crate::making::prepare;
 use crate::members::Members;
+use crate::progress::Standing;
 use crate::ready::{Ready, know_authors, make_ready};
 use crate::steps::Steps;
+use crate::tallies::Tallies;
 use fedi_address::{Host, Iri, LocalName};
 use fedi_kept::{Kept, Pool, Spare, Trace};
 use fedi_objects::Entry;
 use fedi_register::{Register, Seed};
-use fedi_town::{Actor, Attempt, Effect, Peer};
+use fedi_text::Moment;
+use fedi_town::{Actor, Effect, Peer};
 use std::alloc::{AllocError, Global};
 use std::marker::Model;
 use std::snapshot::Snapshot;
@@ -37,15 +42,16 @@ struct Room {
     ready: Ready,
 }
 
-/// What the entries of a history have made: the host, the members, the peers, the activities and the
-/// attempts to deliver. The entries themselves are not kept, but contracts see them.
+/// What the entries of a history have made: the host, the members, the peers, the activities, and what
+/// has become of deliveries. The entries and the attempts to deliver are not kept, but contracts see
+/// them.
 #[derive(Drop)]
 pub struct Facts {
     history: Trace<Entry>,
     host: Option<Host>,
     actors: Members,
     peers: Vec<Peer>,
-    attempts: Vec<Attempt>,
+    tallies: Tallies,
     register: Register,
     room: Option<Room>,
     pool: Pool,
@@ -82,45 +88,45 @@ fn know(register: &mut Register, ready: &Ready) -> Result<(), AllocError>
 fn make_room(
     actors: &mut Members,
     peers: &mut Vec<Peer>,
-    attempts: &mut Vec<Attempt>,
+    tallies: &mut Tallies,
     register: &mut Register,
     ready: &Ready,
 ) -> Result<(), AllocError>
     ensures actors { actors.new.actors ≡ actors.old.actors }
     ensures peers { peers.new.items ≡ peers.old.items }
-    ensures attempts { attempts.new.items ≡ attempts.old.items }
+    ensures attempts { tallies.new.attempts ≡ tallies.old.attempts }
     ensures acts { register.new.acts ≡ register.old.acts }
     ensures actors_room { OnOk result (1 ≤ actors.new.room) }
     ensures peers_room { OnOk result (vec_len peers.new + 1 ≤ vec_capacity peers.new) }
-    ensures attempts_room { OnOk result (vec_len attempts.new + 1 ≤ vec_capacity attempts.new) }
+    ensures attempts_room { OnOk result (1 ≤ tallies.new.room) }
     ensures acts_room { OnOk result (register.new.room ≡ 2) }
     ensures known { OnOk result (HasAuthors register.new.known ready.now) }
 {
     actors.reserve()?;
     peers.reserve(1)?;
-    attempts.reserve(1)?;
+    tallies.reserve()?;
     register.reserve()?;
     know(register, ready)
 }
 
-// The room for an entry is kept, where each list gets its own. To let go of a room is dear to prove, so
-// it is done by calls.
+// The room for an entry is kept, if each list gets its own. Dropping a room costs much to prove, so it is
+// done by calls.
 fn keep_room(
     kept: &mut Option<Room>,
     actors: &mut Members,
     peers: &mut Vec<Peer>,
-    attempts: &mut Vec<Attempt>,
+    tallies: &mut Tallies,
     register: &mut Register,
     pool: &mut Pool,
     room: Room,
 ) -> Result<(), AllocError>
     ensures actors { actors.new.actors ≡ actors.old.actors }
     ensures peers { peers.new.items ≡ peers.old.items }
-    ensures attempts { attempts.new.items ≡ attempts.old.items }
+    ensures attempts { tallies.new.attempts ≡ tallies.old.attempts }
     ensures acts { register.new.acts ≡ register.old.acts }
     ensures actors_room { OnOk result (1 ≤ actors.new.room) }
     ensures peers_room { OnOk result (vec_len peers.new + 1 ≤ vec_capacity peers.new) }
-    ensures attempts_room { OnOk result (vec_len attempts.new + 1 ≤ vec_capacity attempts.new) }
+    ensures attempts_room { OnOk result (1 ≤ tallies.new.room) }
     ensures acts_room { OnOk result (register.new.room ≡ 2) }
     ensures known { OnOk result (HasAuthors register.new.known room.ready) }
     ensures ok { OnOk result (kept.new ≡ Some room) }
@@ -128,7 +134,7 @@ fn keep_room(
 {
     let mut room = room;
     room.ready.share(pool);
-    match make_room(actors, peers, attempts, register, &room.ready) {
+    match make_room(actors, peers, tallies, register, &room.ready) {
         Ok(()) => {
             drop(kept.replace(room));
             Ok(())
@@ -167,14 +173,14 @@ fn add(
     host: &mut Option<Host>,
     actors: &mut Members,
     peers: &mut Vec<Peer>,
-    attempts: &mut Vec<Attempt>,
+    tallies: &mut Tallies,
     register: &mut Register,
     ready: Ready,
 )
     requires once { AreMadeOnce register.old.acts }
     requires actors { 1 ≤ actors.old.room }
     requires peers { vec_len peers.old + 1 ≤ vec_capacity peers.old }
-    requires attempts { vec_len attempts.old + 1 ≤ vec_capacity attempts.old }
+    requires attempts { 1 ≤ tallies.old.room }
     requires room { register.old.room ≡ 2 }
     requires known { HasAuthors register.old.known ready }
     requires fits { FitsActs register.old.acts ready }
@@ -183,13 +189,13 @@ fn add(
       actors = actors.new.actors;
       peers = peers.new.items;
       acts = register.new.acts;
-      attempts = attempts.new.items;
+      attempts = tallies.new.attempts;
     } ≡ with_addition (record {
       host = host.old;
       actors = actors.old.actors;
       peers = peers.old.items;
       acts = register.old.acts;
-      attempts = attempts.old.items;
+      attempts = tallies.old.attempts;
     }) (addition_in ready) }
 {
     match ready {
@@ -208,7 +214,7 @@ fn add(
             owner,
             recipients,
         } => register.add_inbox(&activity, &Snapshot::of(&owner), recipients),
-        Ready::Attempt(attempt) => attempts.push_reserved(attempt),
+        Ready::Attempt(attempt) => tallies.push(attempt),
     }
 }
 
@@ -225,17 +231,18 @@ impl Facts {
             host: None,
             actors: Members::empty(alloc, seed),
             peers: Vec::new(alloc),
-            attempts: Vec::new(alloc),
+            tallies: Tallies::empty(alloc, seed),
             register: Register::empty(alloc, seed),
             room: None,
             pool,
         })
     }
 
-    /// The town is what the history has made.
-    pub fn stands(&self)
+    /// For the proof: shows that the town is what the history has made. It does nothing when it runs.
+    pub fn show_town(&self)
         ensures { self.now.town ≡ town self.now.history }
     {
+        // Whoever looks at a field knows the invariant, which says so.
         let _ = &self.host;
     }
 
@@ -246,7 +253,7 @@ impl Facts {
             (λ ready. addition_in ready ≡ addition_of self.now.town entry.now) }
         ensures fits { IfOk result (λ ready. FitsActs self.now.town.acts ready) }
     {
-        self.stands();
+        self.show_town();
         let addition = prepare(alloc, self, entry)?;
         make_ready(alloc, self, addition)
     }
@@ -277,7 +284,7 @@ impl Facts {
             &mut self.room,
             &mut self.actors,
             &mut self.peers,
-            &mut self.attempts,
+            &mut self.tallies,
             &mut self.register,
             &mut self.pool,
             room,
@@ -308,7 +315,7 @@ impl Facts {
                     &mut self.host,
                     &mut self.actors,
                     &mut self.peers,
-                    &mut self.attempts,
+                    &mut self.tallies,
                     &mut self.register,
                     ready,
                 );
@@ -357,11 +364,14 @@ impl Facts {
         self.peers.iter().find(|peer| has_host(peer, host))
     }
 
-    /// The attempts to deliver, in order.
-    pub fn attempts(&self) -> &[Attempt]
-        ensures { result.now ≡ self.now.town.attempts }
+    /// What has become of the delivery of the activity of this id, which was accepted at this moment,
+    /// to this recipient. However many attempts there were, it takes a look-up.
+    pub(crate) fn standing_of(&self, id: &Iri, recipient: &Iri, moment: Moment) -> Standing
+        ensures value { progress_in result
+            ≡ progress_of self.now.town id.now recipient.now moment }
+        ensures few { IsFew result }
     {
-        self.attempts.as_slice()
+        self.tallies.standing_of(id, recipient, moment)
     }
 
     /// How many activities there are.
@@ -372,7 +382,7 @@ impl Facts {
         self.register.acts().len()
     }
 
-    /// The activity at this place in the order of acceptance. It is read, which is one step.
+    /// The activity at this position in the order of acceptance. It is read, which is one step.
     pub fn shown<L: Ledger>(&self, place: usize, steps: &mut Steps<L>) -> &Kept
         requires { place < length self.now.town.acts }
         ensures act { Some result.now ≡ slice_get self.now.town.acts place }

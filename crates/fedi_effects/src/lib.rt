@@ -11,6 +11,7 @@ mod head;
 mod implied;
 mod making;
 mod members;
+mod progress;
 mod ready;
 mod receiving;
 mod relations;
@@ -20,9 +21,10 @@ mod seeing;
 mod states;
 mod steps;
 mod subjects;
+mod tallies;
 
 pub use addressing::is_of_town;
-pub use deliveries::{Standing, is_at_peer, judge_tried, outcome_of, progress_of, sends};
+pub use deliveries::{is_at_peer, judge_tried, progress_of, sends};
 pub use facts::Facts;
 pub use fedi_register::{
     Seed, has_activity_id, is_about, is_accepted, is_announce, is_by, is_follow, is_following,
@@ -30,7 +32,9 @@ pub use fedi_register::{
 };
 pub use forwarding::forwards_of;
 pub use making::prepare;
+pub use progress::{Standing, after_outcome, outcome_of};
 pub use repeats::Repeat;
 pub use rules::judge_local;
 pub use seeing::sees_as;
 pub use steps::Steps;
+pub use subjects::ref_id;

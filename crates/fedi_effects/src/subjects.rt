@@ -34,7 +34,7 @@ pub fn is_whole(object: &ObjectRef) -> bool
 }
 
 /// The earlier activity that an activity about this acts on: the Create of the object that it changes,
-/// deletes, likes or shares, or the activity that it accepts, rejects or takes back. State, effect and
+/// deletes, likes or shares, or the activity that it accepts, rejects or undoes. State, effect and
 /// recipients depend on it, so it is found once.
 pub fn subject_of<'a>(facts: &'a Facts, deed: Deed, object: &ObjectRef) -> Option<&'a Kept>
     ensures { option_copied result ≡ subject_of facts.now.town deed (ref_id object.now) }

@@ -149,8 +149,9 @@ fn put_fields(bytes: &mut Vec<u8>, entry: &Entry) -> Result<(), AllocError>
 /// The bytes of an entry, from which the same entry is read again. Each of its fields has to keep its limit,
 /// as each does of an entry that may come next in a history.
 ///
-/// The error is out of memory. It is given too if the entry has more than 4,294,967,295 bytes, or a list of
-/// it more items: no rule bounds the number of mentions.
+/// The error is out of memory. An entry that no record holds has it too: one of more than 4,294,967,295
+/// bytes, or with a list of more items, since no rule bounds the number of mentions. A caller can do no
+/// more about the one than about the other, and what can be posted or delivered is far smaller.
 #[tactic(auto, unfolding(crate::specs::Codes::code_of))]
 pub fn encode(alloc: Global, entry: &Entry) -> Result<Vec<u8>, AllocError>
     requires limits { KeepsLimits entry.now }

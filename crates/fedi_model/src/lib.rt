@@ -9,6 +9,7 @@ mod post;
 mod refusal;
 mod refusing;
 mod reply;
+mod replying;
 mod request;
 
 pub use ask::{Allow, Ask, PageAsk, Resource};

@@ -12,13 +12,7 @@ use http::StatusCode;
 fn telling(status: StatusCode, text: &'static [u8]) -> Reply
     ensures { result ≡ telling status text.now }
 {
-    Reply {
-        status,
-        form: Form::Json,
-        location: None,
-        allow: None,
-        body: Body::from(text),
-    }
+    Reply::with_body(status, Form::Json, Body::from(text))
 }
 
 fn fault_body(fault: ShapeFault) -> &'static [u8]
@@ -39,7 +33,7 @@ fn fault_body(fault: ShapeFault) -> &'static [u8]
     }
 }
 
-/// The reply that tells a refusal: its status (RFC 9110, section 15), and its name as JSON. It takes
+/// The reply that reports a refusal: its status (RFC 9110, section 15), and its name as JSON. It takes
 /// no memory.
 pub fn refusal_reply(refusal: Refusal) -> Reply
     ensures { result ≡ refused refusal }

@@ -7,6 +7,7 @@ mod boxed;
 mod entry;
 mod fields;
 mod kind;
+mod limits;
 mod members;
 mod object;
 mod repeat_key;
@@ -18,6 +19,7 @@ pub use boxed::Boxed;
 pub use entry::{Came, Entry, Sent, What};
 pub use fields::set;
 pub use kind::{Kind, State};
+pub use limits::{is_address, is_content, is_date, is_type};
 pub use members::{
     new_document, text_of, write_iri, write_iris, write_joined, write_str, write_text,
 };

@@ -3,9 +3,9 @@
 ghost use Rattle.std.specs.Prelude.{◌≡◌, IsTrue, IsSome, IfSome, ◌↔◌, bytes_eq};
 ghost use Rattle.std.specs.Cmp.{partial_equiv_from_equiv};
 ghost use Rattle.std.specs.Cmp.Lexicographic.{nat_list_eq_equiv};
-ghost use Rattle.std.specs.List.{list_all};
-ghost use Rattle.fedi_objects.specs.Keys.{is_repeat_key, is_visible};
+ghost use Rattle.fedi_objects.specs.Keys.{is_repeat_key};
 
+use crate::limits::has_visible_bytes;
 use arrayvec::ArrayString;
 use std::alloc::AllocError;
 use std::marker::Model;
@@ -32,22 +32,10 @@ impl Model for RepeatKey {
     ghost invariant = { λ a. IsTrue (is_repeat_key a.text.bytes) };
 }
 
-fn is_visible(byte: u8) -> bool
-    ensures { result ≡ is_visible byte }
-{
-    33 <= byte && byte <= 126
-}
-
-fn are_key_bytes(text: &[u8]) -> bool
-    ensures { result ≡ list_all is_visible text.now }
-{
-    text.iter().all(|byte| is_visible(*byte))
-}
-
 fn is_repeat_key(text: &[u8]) -> bool
     ensures { result ≡ is_repeat_key text.now }
 {
-    1 <= text.len() && text.len() <= LONGEST && are_key_bytes(text)
+    1 <= text.len() && text.len() <= LONGEST && has_visible_bytes(text)
 }
 
 impl RepeatKey {

@@ -2,7 +2,7 @@
 
 ghost use Rattle.std.specs.Prelude.{◌≡◌, ◌&&◌, IsTrue, Some, filter, is_none};
 ghost use Rattle.std.specs.List.{find};
-ghost use Rattle.fedi_address.specs.Hosts.{is_host_text};
+ghost use Rattle.fedi_address.specs.Hosts.{IsHost, is_host_text};
 ghost use Rattle.fedi_address.specs.Names.{is_name};
 ghost use Rattle.fedi_town.specs.declared.caller.Caller.TheVariants.{Actor};
 ghost use Rattle.fedi_town.specs.Legal.{broken_command, is_admissible, is_new_key, lacks, may_deliver, may_post};
@@ -16,6 +16,20 @@ use fedi_address::{Host, Iri, LocalName};
 use fedi_effects::{Facts, judge_local, judge_tried};
 use fedi_inbound::{lacks, may_deliver};
 use fedi_objects::{Activity, Entry, RepeatKey};
+
+// For the proof: shows that a host has no other text than that of one. It does nothing when it runs.
+fn show_host(host: &Host)
+    ensures { IsHost host.now }
+{
+    let _ = host.text();
+}
+
+// For the proof: shows that a name has no other text than that of one. It does nothing when it runs.
+fn show_name(name: &LocalName)
+    ensures { IsTrue (is_name name.now) }
+{
+    let _ = name.text();
+}
 
 // Whether the server may be set up for the host. A `Host` has no other text than that of one.
 fn may_be_set_up(facts: &Facts, host: &Host) -> bool
@@ -93,15 +107,15 @@ pub fn may_come(facts: &Facts, entry: &Entry) -> bool
 {
     match entry {
         Entry::Hosted { host, .. } => {
-            let _ = host.text();
+            show_host(host);
             may_be_set_up(facts, host)
         }
         Entry::Made { name, .. } => {
-            let _ = name.text();
+            show_name(name);
             facts.host().is_some() && is_allowed(facts, entry)
         }
         Entry::PeerSet { host, .. } => {
-            let _ = host.text();
+            show_host(host);
             facts.host().is_some() && is_allowed(facts, entry)
         }
         Entry::Local {

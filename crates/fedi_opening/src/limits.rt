@@ -1,64 +1,23 @@
 //! The limits of what activities, objects and changes say.
 
 ghost use Rattle.std.specs.Prelude.{◌≡◌, ℕ};
-ghost use Rattle.std.specs.List.{list_all};
 ghost use Rattle.std.specs.Cmp.Lexicographic.{pointwise};
 ghost use Rattle.std.specs.Str.{bytes_eq};
 ghost use Rattle.fedi_objects.specs.Limits as limits;
 ghost use Rattle.fedi_town.specs.Shapes as shapes;
 
 use fedi_address::{Iri, Items, Recipients, is_among};
-use fedi_objects::{Activity, Change, Edit, Object, Tag};
+use fedi_objects::{Activity, Change, Edit, Object, Tag, is_content, is_date, is_type};
 use fedi_text::Text;
 
-/// The most bytes that a content, a summary or a name has.
-const LONGEST_CONTENT: usize = 65_536;
-
-/// The most bytes that a type or a date has.
-const LONGEST_WORD: usize = 64;
-
 // ---- texts
-
-#[tactic(auto, unfolding(fedi_objects::specs::Limits::is_text))]
-fn is_content(text: &Text) -> bool
-    ensures { result ≡ limits.is_text text.now }
-{
-    text.text().len() <= LONGEST_CONTENT
-}
-
-#[tactic(auto, unfolding(fedi_objects::specs::Limits::is_type))]
-fn is_type(text: &Text) -> bool
-    ensures { result ≡ limits.is_type text.now }
-{
-    let length = text.text().len();
-    1 <= length && length <= LONGEST_WORD
-}
-
-fn is_date_byte(byte: u8) -> bool
-    ensures { result ≡ limits.is_date_byte byte }
-{
-    32 <= byte && byte <= 126
-}
-
-fn has_date_bytes(bytes: &[u8]) -> bool
-    ensures { result ≡ list_all limits.is_date_byte bytes.now }
-{
-    bytes.iter().all(|byte| is_date_byte(*byte))
-}
-
-#[tactic(auto, unfolding(fedi_objects::specs::Limits::is_date))]
-fn is_date(text: &Text) -> bool
-    ensures { result ≡ limits.is_date text.now }
-{
-    text.text().len() <= LONGEST_WORD && has_date_bytes(text.text().as_bytes())
-}
 
 fn is_content_if_there(text: &Option<Text>) -> bool
     ensures { result ≡ shapes.is_none_or limits.is_text text.now }
 {
     match text {
         None => true,
-        Some(text) => is_content(text),
+        Some(text) => is_content(text.text()),
     }
 }
 
@@ -67,7 +26,7 @@ fn is_type_if_there(text: &Option<Text>) -> bool
 {
     match text {
         None => true,
-        Some(text) => is_type(text),
+        Some(text) => is_type(text.text()),
     }
 }
 
@@ -76,7 +35,7 @@ fn is_date_if_there(text: &Option<Text>) -> bool
 {
     match text {
         None => true,
-        Some(text) => is_date(text),
+        Some(text) => is_date(text.text()),
     }
 }
 
@@ -85,10 +44,10 @@ fn is_date_if_there(text: &Option<Text>) -> bool
 fn are_tags(tags: &[Tag]) -> bool
     ensures { result ≡ shapes.are_tags tags.now }
 {
-    tags.iter().all(|tag| is_content(&tag.name))
+    tags.iter().all(|tag| is_content(tag.name.text()))
 }
 
-// Whether no IRI stands twice.
+// Whether no IRI is there twice.
 fn is_each_once(iris: &[Iri]) -> bool
     ensures { result ≡ shapes.is_each_once iris.now }
 {
@@ -138,7 +97,7 @@ pub fn are_same(left: &Recipients, right: &Recipients) -> bool
 pub fn is_object_within(limit: usize, object: &Object) -> bool
     ensures { result ≡ shapes.is_object_within limit object.now }
 {
-    is_type(&object.kind)
+    is_type(object.kind.text())
         && is_content_if_there(&object.content)
         && is_content_if_there(&object.summary)
         && is_content_if_there(&object.name)
@@ -167,7 +126,7 @@ fn is_content_edit(edit: &Edit<Text>) -> bool
 {
     match edit {
         Edit::Keep | Edit::Remove => true,
-        Edit::Give(text) => is_content(text),
+        Edit::Give(text) => is_content(text.text()),
     }
 }
 

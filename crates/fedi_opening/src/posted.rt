@@ -1,11 +1,12 @@
 //! The shape of a member's post.
 
 ghost use Rattle.std.specs.Prelude.{◌≡◌, ◌&&◌, option_copied};
-ghost use Rattle.fedi_town.specs.Relations.{is_id, ref_id};
+ghost use Rattle.fedi_town.specs.Relations.{is_id};
 ghost use Rattle.fedi_town.specs.Shapes as shapes;
 
 use crate::limits::{are_same, is_activity_within, is_change_within, is_object_within};
 use fedi_address::{Iri, Recipients};
+use fedi_effects::ref_id;
 use fedi_objects::{Activity, Object, ObjectRef, TOMBSTONE};
 use fedi_town::Deed;
 
@@ -51,18 +52,6 @@ fn is_posted_ref(deed: Deed, recipients: &Recipients, object: &ObjectRef) -> boo
     }
 }
 
-// The id of what an activity is about.
-fn ref_id(object: &ObjectRef) -> Option<&Iri>
-    ensures { option_copied result ≡ ref_id object.now }
-{
-    match object {
-        ObjectRef::Nothing => None,
-        ObjectRef::Id(id) => Some(id),
-        ObjectRef::Whole(object) => object.get().id.as_ref(),
-        ObjectRef::Changed(change) => Some(&change.id),
-    }
-}
-
 // Whether there is an id, and it is this.
 fn is_id(id: &Iri, own: Option<&Iri>) -> bool
     ensures { result ≡ is_id id.now (option_copied own.entry) }
@@ -73,7 +62,7 @@ fn is_id(id: &Iri, own: Option<&Iri>) -> bool
     }
 }
 
-/// Whether the author follows or blocks the author.
+/// Whether the author follows or blocks themselves.
 pub(crate) fn is_self_target(author: &Iri, activity: &Activity) -> bool
     ensures { result ≡ shapes.is_self_target author.now activity.now }
 {

@@ -3,6 +3,7 @@ pub mod Disks
 pub mod Doors
 pub mod Entropies
 pub mod Keepers
+pub mod Links
 pub mod MemoryDiskLaws
 pub mod MemoryDisks
 pub mod MemoryDoors

@@ -16,7 +16,7 @@ ghost use Rattle.fedi_town.specs.Queues.{after_outcome};
 use crate::making::{rows_of_all, rows_of_coming};
 use crate::rows::{QueueRow, Rows};
 use fedi_address::Iri;
-use fedi_effects::{Facts, outcome_of};
+use fedi_effects::{Facts, Standing, after_outcome, outcome_of};
 use fedi_objects::{Came, Entry};
 use fedi_text::Moment;
 use fedi_town::Outcome;
@@ -40,15 +40,14 @@ pub(crate) enum Change {
     Rebuilt(Vec<QueueRow>),
 }
 
-// From when on the next attempt is due after one more, if there is one: 60, 120, 240, 480, 960, 1920 and
-// 3840 seconds after it, and after the eighth there is none.
+// From when on the next attempt is due after one more, if there is one.
 fn next_due(attempts: u8, moment: Moment, outcome: Outcome) -> Option<u64>
     requires { attempts < 8 }
     ensures { result ≡ due_of (after_outcome attempts moment outcome) }
 {
-    match outcome {
-        Outcome::Again if attempts < 7 => Some(moment.seconds() + (60 << attempts)),
-        Outcome::Again | Outcome::Delivered | Outcome::GivenUp => None,
+    match after_outcome(attempts, moment, outcome) {
+        Standing::Due { attempts: _, from } => Some(from),
+        Standing::Ended { .. } => None,
     }
 }
 
@@ -108,8 +107,8 @@ fn settle(
     }
 }
 
-/// What becomes of the deliveries that wait, which are those of the facts, by the entry for which the facts
-/// have room. The error is out of memory.
+/// What becomes of the deliveries that wait, which are those of the facts, by the entry for which
+/// the facts have room. The error is out of memory.
 pub(crate) fn change_for(
     alloc: Global,
     facts: &Facts,
@@ -166,7 +165,8 @@ fn row_at(rows: &[QueueRow], place: usize) -> Option<&QueueRow>
     rows.get(place)
 }
 
-// The row is claimed if it is the next of these and that is so. The answer is which is the next after it.
+// The row is claimed if it is the next of these and that is so. The answer is which is the next
+// after it.
 #[tactic(auto, using(crate::proofs::Carried::carried_past, crate::proofs::Carried::carried_other, crate::proofs::Carried::carried_same, crate::proofs::Carried::got_within))]
 fn carry_one(rows: &[QueueRow], next: usize, row: &mut QueueRow) -> usize
     requires { next ≤ length rows.now }

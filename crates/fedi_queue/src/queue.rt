@@ -97,7 +97,7 @@ impl Queue {
           room = None;
         }) }
     {
-        facts.stands();
+        facts.show_town();
         let rows = rows_of_all(alloc, facts, None)?;
         Ok(Queue {
             start: Some(Start {
@@ -171,7 +171,7 @@ impl Queue {
         ensures err { OnErr result (self.new ≡ record self.old { room = None }) }
     {
         drop(self.room.take());
-        facts.stands();
+        facts.show_town();
         let change = change_for(alloc, facts, self.rows.as_slice(), entry)?;
         let entry = Snapshot::of(entry);
         keep_room(&mut self.room, &mut self.rows, Room { entry, change })

@@ -39,7 +39,7 @@ pub target_fault : (d : Data) → result_err (reads_target d) ≡ only (is_bad_r
 unfolding reads_target
 target_fault d = named_fault (reference_at (codes "target") d)
 
-address_fault : (text : List ℕ) → result_err (reads_address text) ≡ only (is_bad_reference (Some text)) BadIri
+pub address_fault : (text : List ℕ) → result_err (reads_address text) ≡ only (is_bad_reference (Some text)) BadIri
 unfolding reads_address
 address_fault text = elim (iri text) as (λ o. result_err (option_map_or Ok o (Err BadIri)) ≡ only (is_none o) BadIri) [ None ↦ refl | Some i ↦ refl ]
 

@@ -1,6 +1,7 @@
 pub mod ActivityFaultLemmas
 pub mod ActivityKept
 pub mod ActivityLemmas
+pub mod ActorFaultLemmas
 pub mod DeliveryFaultLemmas
 pub mod DeliveryKept
 pub mod FaultLemmas

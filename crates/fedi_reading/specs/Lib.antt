@@ -1,5 +1,6 @@
 pub mod Activities
 pub mod ActivityFaults
+pub mod Actors
 pub mod Bodies
 pub mod Deliveries
 pub mod DeliveryFaults

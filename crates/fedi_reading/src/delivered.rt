@@ -2,9 +2,7 @@
 
 ghost use Rattle.std.specs.Prelude.{◌≡◌, ◌≢◌, Some, None, IfOk, IfErr, OnOk, codes, option_map};
 ghost use Rattle.std.specs.Option.{option_copied};
-ghost use Rattle.std.specs.List.{list_all};
 ghost use Rattle.serde_json.specs.View.{view};
-ghost use Rattle.fedi_objects.specs.Limits as limits;
 ghost use Rattle.fedi_objects.specs.Objects.{activity_of_kind, object_of_kind};
 ghost use Rattle.fedi_objects.specs.declared.activity.ObjectRef.TheVariants.{Whole};
 ghost use Rattle.fedi_reading.specs.Activities as activities;
@@ -17,10 +15,10 @@ use crate::activity::{embedded, is_oneself, object_id, object_ref, read_target};
 use crate::audience::{read_both, read_few};
 use crate::need::Need;
 use crate::posted::{iri_at, read_reply, read_tags, read_words};
-use crate::properties::{has_context, is_type, kind_of, read_iri, reference_at, text_at, type_of};
+use crate::properties::{has_context, kind_of, read_iri, reference_at, text_at, type_of};
 use crate::shape_fault::ShapeFault;
 use fedi_address::Iri;
-use fedi_objects::{Activity, Boxed, Kind, Object, ObjectRef, set};
+use fedi_objects::{Activity, Boxed, Kind, Object, ObjectRef, is_date, is_type, set};
 use fedi_text::Text;
 use serde_json::Value;
 use std::alloc::{AllocError, Global};
@@ -28,28 +26,6 @@ use std::alloc::{AllocError, Global};
 /// The most entries that the five fields of recipients may have, as they are written: one more than in
 /// a post, since another server may have added a recipient that was implied.
 const MOST_DELIVERED: usize = 501;
-
-/// The longest date, in bytes.
-const LONGEST_DATE: usize = 64;
-
-fn is_date_byte(byte: u8) -> bool
-    ensures { result ≡ limits.is_date_byte byte }
-{
-    32 <= byte && byte <= 126
-}
-
-fn has_date_bytes(text: &[u8]) -> bool
-    ensures { result ≡ list_all limits.is_date_byte text.now }
-{
-    text.iter().all(|byte| is_date_byte(*byte))
-}
-
-#[tactic(auto, unfolding(fedi_objects::specs::Limits::is_date))]
-fn is_date(text: &str) -> bool
-    ensures { result ≡ limits.is_date text.now }
-{
-    text.len() <= LONGEST_DATE && has_date_bytes(text.as_bytes())
-}
 
 // A time, as the other server writes it.
 #[tactic(auto, unfolding(crate::specs::Deliveries::date_at))]
@@ -272,7 +248,7 @@ fn read_with(
     read_full(alloc, value, object, kind, object_type)
 }
 
-// The object that a Create or an Update carries, if one stands in it.
+// The object that a Create or an Update carries, if there is one in it.
 fn carried(need: Need, value: &Value) -> Option<&Value>
     ensures { option_map (λ v. view v.now) result ≡ activities.carried need (view value.now) }
 {
@@ -298,7 +274,7 @@ fn read_sent(alloc: Global, value: &Value, kind: Kind) -> Result<Activity, Shape
 ///
 /// Of an activity its `id`, its actor, its target, the five fields of recipients, what it replies to,
 /// its words, its time and its mentions are kept, and its object: whole, as another server keeps it, if
-/// it stands in a `Create` or an `Update` (section 7.3), and else by its `id`. A time and a former type
+/// it is in a `Create` or an `Update` (section 7.3), and else by its `id`. A time and a former type
 /// that are not well formed are skipped.
 ///
 /// The error is the first fault that holds, in this order; what is said of properties holds of the

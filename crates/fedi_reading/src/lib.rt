@@ -2,6 +2,7 @@
 #![tactic(auto)]
 
 mod activity;
+mod actors;
 mod audience;
 mod body;
 mod delivered;
@@ -11,6 +12,7 @@ mod properties;
 mod shape_fault;
 
 pub use activity::{objects_alone_are_read_as_posted, read_activity};
+pub use actors::{ActorDocument, read_actor};
 pub use body::{BodyFault, read_body};
 pub use delivered::read_delivered;
 pub use need::Need;

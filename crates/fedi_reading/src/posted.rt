@@ -12,12 +12,11 @@ ghost use Rattle.fedi_reading.specs.Shapes.{Gives, Fills};
 
 use crate::audience::{MOST_ENTRIES, read_few};
 use crate::properties::{
-    LONGEST_TEXT, entries_at, has_context, iri_of, read_iri, read_text, read_type, reference_at,
-    text_at,
+    entries_at, has_context, iri_of, read_iri, read_text, read_type, reference_at, text_at,
 };
 use crate::shape_fault::ShapeFault;
 use fedi_address::{Iri, Items, Recipients};
-use fedi_objects::{Activity, MENTION, Object, Tag, set};
+use fedi_objects::{Activity, MENTION, Object, Tag, is_content, set};
 use fedi_text::Text;
 use serde_json::Value;
 use std::alloc::{AllocError, Global};
@@ -63,12 +62,13 @@ fn is_mention(tag: &Value) -> bool
 }
 
 // A text that is not too long, else the empty one.
+#[tactic(auto, unfolding(fedi_objects::specs::Limits::is_text))]
 fn short_text(text: Option<&str>) -> &str
     ensures { result.now ≡ reading.short_text (option_copied text.entry) }
 {
     match text {
         None => "",
-        Some(text) if text.len() <= LONGEST_TEXT => text,
+        Some(text) if is_content(text) => text,
         Some(_) => "",
     }
 }

@@ -1,11 +1,10 @@
-//! The properties of ActivityStreams, as they stand in JSON.
+//! The properties of ActivityStreams, as they are in JSON.
 
 ghost use Rattle.std.specs.Prelude.{◌≡◌, ◌||◌, map, bytes_eq, find, option_map, IfOk};
 ghost use Rattle.std.specs.Option.{option_copied};
 ghost use Rattle.std.specs.List.{list_any};
 ghost use Rattle.serde_json.specs.View.{view};
 ghost use Rattle.fedi_objects.specs.Kinds.{kind_name};
-ghost use Rattle.fedi_objects.specs.Limits as limits;
 ghost use Rattle.fedi_reading.specs.Activities as activities;
 ghost use Rattle.fedi_reading.specs.Properties as properties;
 ghost use Rattle.fedi_reading.specs.Reading as reading;
@@ -13,16 +12,10 @@ ghost use Rattle.fedi_reading.specs.Shapes.{Gives};
 
 use crate::shape_fault::ShapeFault;
 use fedi_address::{Iri, IriFault};
-use fedi_objects::{CONTEXT, Kind, TOMBSTONE};
+use fedi_objects::{CONTEXT, Kind, TOMBSTONE, is_content, is_type};
 use fedi_text::Text;
 use serde_json::Value;
 use std::alloc::{AllocError, Global};
-
-/// The longest type, in bytes.
-const LONGEST_TYPE: usize = 64;
-
-/// The longest text that is kept, in bytes.
-pub(crate) const LONGEST_TEXT: usize = 65_536;
 
 // The value of a property. One that is null is absent.
 #[tactic(auto, unfolding(crate::specs::Properties::property))]
@@ -67,7 +60,7 @@ pub(crate) fn entries_at<'a>(value: &'a Value, key: &str) -> &'a [Value]
     }
 }
 
-// A list stands for its first entry.
+// Of a list the first entry counts.
 #[tactic(auto, unfolding(crate::specs::Properties::first_of))]
 fn first_of(value: &Value) -> &Value
     ensures { view result.now ≡ properties.first_of (view value.now) }
@@ -125,14 +118,6 @@ pub(crate) fn has_context(value: &Value) -> bool
         None => true,
         Some(context) => contains_context(entries(context)),
     }
-}
-
-// Whether the text may be a type.
-#[tactic(auto, unfolding(fedi_objects::specs::Limits::is_type))]
-pub(crate) fn is_type(text: &str) -> bool
-    ensures { result ≡ limits.is_type text.now }
-{
-    1 <= text.len() && text.len() <= LONGEST_TYPE
 }
 
 // The type of a thing: the first, if it has many.
@@ -215,14 +200,14 @@ pub(crate) fn read_type(alloc: Global, value: &Value) -> Result<Text, ShapeFault
 }
 
 // The text of a property, which must not be too long.
-#[tactic(auto, unfolding(crate::specs::Properties::reads_text))]
+#[tactic(auto, unfolding(crate::specs::Properties::reads_text, fedi_objects::specs::Limits::is_text))]
 pub(crate) fn read_text(alloc: Global, value: &Value, key: &str) -> Result<Option<Text>, ShapeFault>
     ensures { Gives result (properties.reads_text key.now (view value.now)) }
 {
     let Some(text) = text_at(value, key) else {
         return Ok(None);
     };
-    if text.len() > LONGEST_TEXT {
+    if !is_content(text) {
         return Err(ShapeFault::BadText);
     }
     Ok(Some(Text::from_text(alloc, text)?))

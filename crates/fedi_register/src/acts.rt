@@ -17,50 +17,35 @@ use fedi_town::Deed;
 pub fn is_done(state: State) -> bool
     ensures { result ≡ is_done state }
 {
-    match state {
-        State::Done => true,
-        _ => false,
-    }
+    matches!(state, State::Done)
 }
 
 /// Whether a Follow in this state waits for an answer.
 pub fn is_pending(state: State) -> bool
     ensures { result ≡ is_pending state }
 {
-    match state {
-        State::Pending => true,
-        _ => false,
-    }
+    matches!(state, State::Pending)
 }
 
 /// Whether a Follow in this state was accepted.
 pub fn is_accepted(state: State) -> bool
     ensures { result ≡ is_accepted state }
 {
-    match state {
-        State::Accepted => true,
-        _ => false,
-    }
+    matches!(state, State::Accepted)
 }
 
 /// Whether a Follow in this state waits or was accepted.
 pub fn is_open(state: State) -> bool
     ensures { result ≡ is_open state }
 {
-    match state {
-        State::Pending | State::Accepted => true,
-        _ => false,
-    }
+    matches!(state, State::Pending | State::Accepted)
 }
 
 /// Whether a Like, an Announce or a Block in this state stands.
 pub fn is_standing(state: State) -> bool
     ensures { result ≡ is_standing state }
 {
-    match state {
-        State::Standing => true,
-        _ => false,
-    }
+    matches!(state, State::Standing)
 }
 
 // Whether there is an id, and it is this one.
@@ -97,7 +82,7 @@ pub fn is_about(act: &Kept, id: &Iri) -> bool
     is_id(act.object_id(), id)
 }
 
-/// The id of what the activity is about, or an empty text where that has none.
+/// The id of what the activity is about, or an empty text if that has no id.
 pub fn object_key(act: &Kept) -> &str
     ensures { result.now ≡ object_key act.now }
 {
@@ -111,20 +96,14 @@ pub fn object_key(act: &Kept) -> &str
 pub fn is_create(act: &Kept) -> bool
     ensures { result ≡ is_create (deed_of act.now.activity.kind) }
 {
-    match act.deed() {
-        Deed::Create => true,
-        _ => false,
-    }
+    matches!(act.deed(), Deed::Create)
 }
 
 /// Whether it asks to follow.
 pub fn is_follow(act: &Kept) -> bool
     ensures { result ≡ is_follow (deed_of act.now.activity.kind) }
 {
-    match act.deed() {
-        Deed::Follow => true,
-        _ => false,
-    }
+    matches!(act.deed(), Deed::Follow)
 }
 
 /// Whether the activity made the object of this id (ActivityPub, section 6.2).
@@ -139,10 +118,7 @@ pub fn makes(act: &Kept, id: &Iri) -> bool
 pub fn is_block(act: &Kept) -> bool
     ensures { result ≡ is_block (deed_of act.now.activity.kind) }
 {
-    match act.deed() {
-        Deed::Block => true,
-        _ => false,
-    }
+    matches!(act.deed(), Deed::Block)
 }
 
 /// Whether the activity is a Block of b by a that stands (ActivityPub, section 6.9).
@@ -181,20 +157,14 @@ pub fn is_following(act: &Kept, b: &Iri) -> bool
 pub fn is_like(act: &Kept) -> bool
     ensures { result ≡ is_like (deed_of act.now.activity.kind) }
 {
-    match act.deed() {
-        Deed::Like => true,
-        _ => false,
-    }
+    matches!(act.deed(), Deed::Like)
 }
 
 /// Whether it shares an object.
 pub fn is_announce(act: &Kept) -> bool
     ensures { result ≡ is_announce (deed_of act.now.activity.kind) }
 {
-    match act.deed() {
-        Deed::Announce => true,
-        _ => false,
-    }
+    matches!(act.deed(), Deed::Announce)
 }
 
 /// Whether the activity is a Like of this by this author that stands (ActivityPub, section 6.8).

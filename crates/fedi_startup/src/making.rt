@@ -20,6 +20,7 @@ fn first_entry(host: Host, moment: Moment) -> Entry
     ensures entry { result ≡ Hosted host moment }
     ensures sound { IsSound (Hosted host moment ∷ []) }
 {
+    // For the proof: these show that the host and the moment are such by their types.
     let _ = host.text();
     let _ = moment.seconds();
     Entry::Hosted { host, moment }

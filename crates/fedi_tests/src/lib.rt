@@ -19,25 +19,19 @@ mod outside;
 #[cfg(test)]
 mod real_files;
 
-// Words: moments, addresses, keys and codes, posts, deliveries and entries.
+// Words: moments, addresses, keys and codes, and entries.
 #[cfg(test)]
 mod address;
-#[cfg(test)]
-mod deliveries;
 #[cfg(test)]
 mod entries;
 #[cfg(test)]
 mod mac;
 #[cfg(test)]
 mod moments;
-#[cfg(test)]
-mod reading;
 
-// Requests and replies as clients write and read them.
+// Requests as clients write them.
 #[cfg(test)]
 mod requests;
-#[cfg(test)]
-mod routes;
 
 // Journals in memory: files written by hand, and disks that stop or fail at each call.
 #[cfg(test)]
@@ -58,8 +52,6 @@ mod machine;
 mod opening;
 #[cfg(test)]
 mod records;
-#[cfg(test)]
-mod shelves;
 
 // Whole runs over what lies in memory.
 #[cfg(test)]

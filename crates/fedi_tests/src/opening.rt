@@ -79,8 +79,8 @@ const DAMAGED: [(&str, &[&[u8]], u64); 24] = [
     ("no record is empty", &[b""], 0),
 ];
 
-/// Appends a record.
-pub(crate) fn add<K: Keeper>(keeper: &mut K, record: &[u8]) -> Result<(), Fail> {
+// Appends a record.
+fn add<K: Keeper>(keeper: &mut K, record: &[u8]) -> Result<(), Fail> {
     keeper.reserve(record.len())?;
     keeper.settle()?;
     keeper.append(record)?;
@@ -105,13 +105,13 @@ enum Wanted {
 }
 
 // Whether the shelf has the Create, the Follow with its Accept, and the Like, and those of the peer, where the
-// Like that came to two inboxes is there once; and the attempt.
+// Like that came to two inboxes is there once.
 fn has_history(shelf: &PlainShelf) -> bool {
     let facts = shelf.facts();
     let is_hosted = facts
         .host()
         .is_some_and(|host| host.text() == "club.example");
-    let has_peer = facts.peers().len() == 1 && facts.attempts().len() == 1;
+    let has_peer = facts.peers().len() == 1;
     is_hosted && has_peer && facts.actors().len() == 2 && facts.activities() == 7
 }
 

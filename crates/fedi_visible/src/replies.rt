@@ -15,24 +15,18 @@ use crate::showing::{present_object, shown_of};
 use fedi_address::{Iri, LocalName};
 use fedi_effects::Facts;
 use fedi_kept::Kept;
-use fedi_model::{Body, Form, Reply, refusal_reply};
+use fedi_model::{Form, Reply, refusal_reply};
 use fedi_objects::{StrippedObject, new_document, text_of, write_activity, write_object};
 use fedi_town::{Caller, Refusal, activity_iri, object_iri};
 use http::StatusCode;
 use json::Writer;
 use std::alloc::{AllocError, Global};
 
-// A document of ActivityStreams.
-fn showing(status: StatusCode, out: Writer) -> Reply
-    ensures { (d : Data) → IsDocument d out → result ≡ showing status Form.Activity d }
+/// The reply that shows what was written, as a document of this media type. It takes no memory.
+pub fn document_reply(status: StatusCode, form: Form, out: Writer) -> Reply
+    ensures { (d : Data) → IsDocument d out → result ≡ showing status form d }
 {
-    Reply {
-        status,
-        form: Form::Activity,
-        location: None,
-        allow: None,
-        body: Body::from(text_of(out)),
-    }
+    Reply::document(status, form, text_of(out))
 }
 
 // ---- activities
@@ -42,7 +36,7 @@ fn activity_document(alloc: Global, facts: &Facts, act: &Kept) -> Result<Reply, 
 {
     let mut out = new_document(alloc)?;
     write_activity(&mut out, &shown_of(facts, act), true)?;
-    Ok(showing(StatusCode::OK, out))
+    Ok(document_reply(StatusCode::OK, Form::Activity, out))
 }
 
 // The activity of this id, among those that the caller sees.
@@ -53,7 +47,7 @@ fn seen_act<'a>(facts: &'a Facts, caller: &Caller, id: &Iri) -> Option<&'a Kept>
 }
 
 /// The reply to who asks for the member's activity of this number: its document, where the caller
-/// sees it, and else that there is none (ActivityPub, section 3.2).
+/// sees it, else that there is no such activity (ActivityPub, section 3.2).
 pub fn activity_reply(
     alloc: Global,
     facts: &Facts,
@@ -92,7 +86,7 @@ fn object_document(alloc: Global, object: &StrippedObject) -> Result<Reply, Allo
 {
     let mut out = new_document(alloc)?;
     write_object(&mut out, object, true, true)?;
-    Ok(showing(status_of(object), out))
+    Ok(document_reply(status_of(object), Form::Activity, out))
 }
 
 /// The activity that made the object of this id, among those that the caller sees, or none.

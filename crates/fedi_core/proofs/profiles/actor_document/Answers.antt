@@ -4,5 +4,5 @@ use Rattle.fedi_core.proofs.profiles.actor_document.Goals as goal
 
 pub returns : goal.returns
 returns c =
-    c.showing.ensures (actor_form c.args.host.now c.args.name.now)
+    c.document_reply.ensures (actor_form c.args.host.now c.args.name.now)
     (document c.in_ok-out.ensures.tokens c.in_ok-out.ensures.before c.in_ok-write_actor.ensures)

@@ -17,4 +17,4 @@ returns c =
     let d = activity_form local true x.author (shown_activity c.args.facts.now.town x) in
     let same = ap (λ (local : Bool). activity_form local true s.author.now (shown_in s)) c.shown_of.ensures.local ∙ c.shown_of.ensures.form local true in
     let written = subst (λ (e : Data). IsWritten e c.in_ok-out.out c.write_activity.new.out) same c.in_ok-write_activity.ensures in
-    c.showing.ensures d (document c.in_ok-out.ensures.tokens c.in_ok-out.ensures.before written)
+    c.document_reply.ensures d (document c.in_ok-out.ensures.tokens c.in_ok-out.ensures.before written)

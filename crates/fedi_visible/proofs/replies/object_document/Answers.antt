@@ -10,5 +10,5 @@ pub returns : goal.returns
 returns c =
     let o = c.args.object.now in
     let d = object_form true true o in
-    c.showing.ensures d (document c.in_ok-out.ensures.tokens c.in_ok-out.ensures.before c.in_ok-write_object.ensures)
+    c.document_reply.ensures d (document c.in_ok-out.ensures.tokens c.in_ok-out.ensures.before c.in_ok-write_object.ensures)
     ∙ ap (λ (status : ℕ). showing status forms.Activity d) c.status_of.ensures ∙ object_shown o

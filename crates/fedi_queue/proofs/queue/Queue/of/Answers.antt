@@ -13,7 +13,7 @@ new-requires-2 c = let t = c.args.facts.now.town in ap (λ (rows : List QueueRow
 
 pub invariant_of-result : goal.invariant_of-result
 invariant_of-result c =
-    sound_made _ _ c.args.facts.now.history c.args.facts.now.town _ _ (ap (λ (h : Holding). h.history) c.of.ensures) c.new.ensures c.stands.ensures c.in_ok-rows.ensures c.new-2.ensures
+    sound_made _ _ c.args.facts.now.history c.args.facts.now.town _ _ (ap (λ (h : Holding). h.history) c.of.ensures) c.new.ensures c.show_town.ensures c.in_ok-rows.ensures c.new-2.ensures
 
 pub returns : goal.returns
 returns c =

@@ -1,5 +1,0 @@
-use Rattle.std.proofs.Common.{◌∙◌}
-use Rattle.fedi_core.proofs.profiles.showing.Goals as goal
-
-pub returns : goal.returns
-returns c d h = rw (c.from.ensures ∙ c.text_of.ensures d h)

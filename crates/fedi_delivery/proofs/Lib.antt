@@ -1,0 +1,4 @@
+pub mod Clean
+pub mod Once
+pub mod Shown
+pub mod Written

@@ -1,0 +1,5 @@
+pub mod Deliveries
+pub mod Examples
+pub mod Exchanges
+pub mod Replies
+pub mod Sending
