@@ -52,6 +52,11 @@ def remote(host, inbox, activity, at=MOMENT):
     return b"\5" + text(host) + text(inbox) + activity + moment(at)
 
 
+def tried(activity, recipient, status, at=MOMENT):
+    """An attempt to deliver, whose post was answered with this status."""
+    return b"\x06" + text(activity) + text(recipient) + b"\x01\x03" + status.to_bytes(2, "big") + moment(at)
+
+
 def delivered(kind, id, actor, object):
     """An activity of another server about the object of this id, which names nobody."""
     return optional(id) + bytes([kind]) + optional(actor) + b"\1" + text(object) + b"\0" + 5 * number(0) + 5 * b"\0" + number(0)

@@ -52,10 +52,10 @@ def free_port():
 
 
 class Server:
-    """A process that serves a store, until `end` or `kill`."""
+    """A process that serves a store at this port, or at a free one, until `end` or `kill`."""
 
-    def __init__(self, path, store, **how):
-        self.port = free_port()
+    def __init__(self, path, store, port=None, **how):
+        self.port = port or free_port()
         words = [path, "serve", store, f"127.0.0.1:{self.port}"]
         self.child = subprocess.Popen(words, stdin=subprocess.DEVNULL, stdout=subprocess.DEVNULL, **how)
 

@@ -2,8 +2,8 @@
 //! that says what of it is known.
 //!
 //! What a file or a socket holds, gives and takes no contract can say. So disks and lines tell nothing
-//! of their bytes, and doors no rows: what is proved of them is how many bytes a call moved, and that
-//! exactly the calls that fail are counted.
+//! of their bytes, doors no rows, and links no replies: what is proved of them is how many bytes a call
+//! moved, and that exactly the calls that fail are counted.
 #![tactic(auto)]
 
 mod file_disk;
@@ -14,6 +14,7 @@ mod system;
 mod tcp_benches;
 mod tcp_doors;
 mod tcp_lines;
+mod tcp_links;
 
 pub use file_disk::FileDisk;
 pub use listeners::Listening;
@@ -23,3 +24,4 @@ pub use system::{Reading, SystemClock, SystemEntropy, Writing};
 pub use tcp_benches::benches;
 pub use tcp_doors::TcpDoor;
 pub use tcp_lines::TcpLine;
+pub use tcp_links::TcpLink;

@@ -1,21 +1,23 @@
-//! Benches with doors on a listener.
+//! Benches with doors on a listener, each with a link.
 ghost use Rattle.std.specs.Prelude.{◌≡◌, All, IfOk, None, false, vec_len};
 
 use crate::listeners::Listening;
 use crate::tcp_doors::TcpDoor;
+use crate::tcp_links::TcpLink;
 use fedi_outside::{Bench, Door};
 use std::alloc::{AllocError, Global};
 use std::net::{Net, TcpListener, TcpStream};
 use std::sync::Wait;
 use std::time::Clock;
 
-/// So many benches, each with a door on this listener, of which nothing was asked yet. The error is out of memory.
+/// So many benches, each with a door on this listener, of which nothing was asked yet, and a link
+/// of its own. The error is out of memory.
 pub fn benches<'a, R: Net<Listener = TcpListener, Stream = TcpStream> + Clock + Wait + Sync>(
     rt: &'a R,
     alloc: Global,
     listening: &'a Listening<'a, R>,
     count: usize,
-) -> Result<Vec<Bench<TcpDoor<'a, R>>>, AllocError>
+) -> Result<Vec<Bench<TcpDoor<'a, R>, TcpLink<'a, R>>>, AllocError>
     ensures count { IfOk result (λ benches. vec_len benches ≡ count) }
     ensures waiting { IfOk result (λ benches.
         All (λ bench. (⟦<TcpDoor<'a, R> as Door>⟧.out bench.door ≡ None)
@@ -23,8 +25,10 @@ pub fn benches<'a, R: Net<Listener = TcpListener, Stream = TcpStream> + Clock + 
 {
     let mut benches = Vec::with_capacity(alloc, count)?;
     for _ in 0..count {
-        let door = TcpDoor::new(rt, listening);
-        benches.push(Bench { door })?;
+        benches.push(Bench {
+            door: TcpDoor::new(rt, listening),
+            link: TcpLink::new(rt),
+        })?;
     }
     Ok(benches)
 }

@@ -22,8 +22,9 @@ use Rattle.fedi_outside.specs.Keepers.{HasAdded, KeeperState}
 use Rattle.fedi_core.specs.declared.keeping.KeepFault.{KeepFault}
 use Rattle.fedi_core.specs.declared.keeping.KeepFault.TheVariants.{Full, Failed, Memory}
 use Rattle.fedi_core.specs.Keeping.{HidesDeliveries, HidesPosts, MayAdd, Refuses, TellsOwners, TellsPeers}
-use Rattle.fedi_core.specs.Machines.{IsGrown, IsKeeping, IsNextCode, IsSame, Stands}
+use Rattle.fedi_core.specs.Machines.{IsGrown, IsKeeping, IsMachine, IsNextCode, IsQueueGrown, IsQueueSame, IsSame, Stands}
 use Rattle.fedi_effects.specs.Holdings.{Holding}
+use Rattle.fedi_queue.specs.Queues.{Queued}
 
 legal_from_grown : (t : Town) (h : List Entry) (e : Entry) → is_legal_from t h ≡ true → is_admissible (fold step t h) e ≡ true → is_legal_from t (h ++ e ∷ []) ≡ true
 legal_from_grown t [] e legal next = both_true next refl
@@ -103,12 +104,28 @@ unchanged room e fault f f' k k' stands same next refused =
     }
 
 -- it stands after an entry that may be added was kept or refused
-pub stays : (growth room : ℕ → ℕ) (r : Result (Unit {0}) KeepFault) (f f' : Holding) (k k' : KeeperState) (e : Entry) → Stands f k
+stays : (growth room : ℕ → ℕ) (r : Result (Unit {0}) KeepFault) (f f' : Holding) (k k' : KeeperState) (e : Entry) → Stands f k
     → MayAdd (town f.history) e → OnOk r (IsFormed e) → (IsErrOf r Failed → IsFormed e) → OnOk r (IsGrown f e f') → OnErr r (IsSame f f')
     → OnOk r (HasAdded growth (code_of e) k k') → IfErr r (λ fault. Refuses room (code_of e) fault k k') → Stands f' k'
 stays growth room (Ok done) f f' k k' e stands may formed failed more same added refused = grown growth f f' k k' e stands may formed more added
 stays growth room (Err fault) f f' k k' e stands may formed failed more same added refused =
     unchanged room e fault f f' k k' stands same (λ is. comes_next (town f.history) e may (failed (ap (λ (x : KeepFault). Err x) is))) refused
+
+-- the queue is that of the history after an entry that was kept or refused
+queue_stays : (r : Result (Unit {0}) KeepFault) (f f' : Holding) (q q' : Queued) (e : Entry) → q.history ≡ f.history → OnOk r (IsGrown f e f') → OnErr r (IsSame f f')
+    → OnOk r (IsQueueGrown q e q') → OnErr r (IsQueueSame q q') → q'.history ≡ f'.history
+queue_stays (Ok done) f f' q q' e own more same grows stays = grows.history ∙ (ap (λ (h : List Entry). h ++ e ∷ []) own ∙ sym more.held)
+queue_stays (Err fault) f f' q q' e own more same grows stays = stays.history ∙ (own ∙ sym same.held)
+
+-- a machine stays one after an entry that may be added was kept or refused
+pub machine_stays : (growth room : ℕ → ℕ) (r : Result (Unit {0}) KeepFault) (f f' : Holding) (k k' : KeeperState) (q q' : Queued) (e : Entry) → IsMachine f k q
+    → MayAdd (town f.history) e → OnOk r (IsFormed e) → (IsErrOf r Failed → IsFormed e) → OnOk r (IsGrown f e f') → OnErr r (IsSame f f')
+    → OnOk r (IsQueueGrown q e q') → OnErr r (IsQueueSame q q') → OnOk r (HasAdded growth (code_of e) k k')
+    → IfErr r (λ fault. Refuses room (code_of e) fault k k') → IsMachine f' k' q'
+machine_stays growth room r f f' k k' q q' e machine may formed failed more same grows stayed added refused = record {
+  stands = stays growth room r f f' k k' e machine.stands may formed failed more same added refused;
+  queued = queue_stays r f f' q q' e machine.queued more same grows stayed;
+}
 
 -- ---- posts that are not seen
 

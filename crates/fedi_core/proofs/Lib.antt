@@ -1,3 +1,4 @@
+pub mod Claims
 pub mod Commanding
 pub mod Rules
 pub mod Accepting

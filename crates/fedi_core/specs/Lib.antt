@@ -3,4 +3,5 @@ pub mod Keeping
 pub mod Commands
 pub mod Machines
 pub mod Crashing
+pub mod Delivering
 pub mod Opening

@@ -1,19 +1,23 @@
 -- A machine, as its callers see it, and what it keeps true.
-use Rattle.std.specs.Prelude.{◌≡◌, ℕ, IfSome, List, [], ◌∷◌, ◌++◌, length, map}
+use Rattle.std.specs.Prelude.{◌≡◌, ℕ, IfSome, List, [], ◌∷◌, ◌++◌, filter, length, map}
 use Rattle.std.specs.List.{AllByRecursion}
 use Rattle.fedi_entry.specs.Codes.{code_of}
 use Rattle.fedi_entry.specs.Fields.{IsFormed}
 use Rattle.fedi_objects.specs.declared.entry.Entry.{Entry}
 use Rattle.fedi_opening.specs.Opening.{IsNext}
 use Rattle.fedi_outside.specs.Keepers.{KeeperState}
+use Rattle.fedi_queue.specs.declared.rows.QueueRow.{QueueRow}
+use Rattle.fedi_queue.specs.Queues.{Queued, is_claimed, stays_claimed}
+use Rattle.fedi_town.specs.declared.act.Act.{Act}
 use Rattle.fedi_town.specs.Histories.{town}
 use Rattle.fedi_town.specs.Legal.{IsLegal}
 use Rattle.fedi_effects.specs.Holdings.{Holding}
 
--- the history of all that was accepted, and the keeper of its records
+-- the history of all that was accepted, the keeper of its records, and its deliveries that wait, of which some are claimed
 pub record Machine (P : Type 0) : Type 0 where
   pub history : List Entry
   pub keeper : P
+  pub rows : List QueueRow
 
 -- it is the code of an entry that may come next, so that it can be read there
 abbrev pub IsNextCode : List Entry → List ℕ → Type 0
@@ -33,6 +37,11 @@ pub record Stands (facts : Holding) (k : KeeperState) : Type 0 where
   pub formed : AllByRecursion IsFormed facts.history
   pub kept : IsKeeping k facts.history
 
+-- likewise, and the queue is that of the history
+pub record IsMachine (facts : Holding) (k : KeeperState) (queue : Queued) : Type 0 where
+  pub stands : Stands facts k
+  pub queued : queue.history ≡ facts.history
+
 -- the facts have one more entry
 pub record IsGrown (before : Holding) (e : Entry) (after : Holding) : Type 0 where
   pub held : after.history ≡ before.history ++ e ∷ []
@@ -42,3 +51,17 @@ pub record IsGrown (before : Holding) (e : Entry) (after : Holding) : Type 0 whe
 pub record IsSame (before after : Holding) : Type 0 where
   pub held : after.history ≡ before.history
   pub made : after.town ≡ before.town
+
+-- the rows after the entry have the claims of those before it, but for the delivery that the entry has tried
+abbrev pub KeepsClaims : List Act → Entry → List QueueRow → List QueueRow → Type 0
+KeepsClaims acts e before after = filter is_claimed after ≡ filter (stays_claimed acts e) before
+
+-- the queue has one more entry
+pub record IsQueueGrown (before : Queued) (e : Entry) (after : Queued) : Type 0 where
+  pub history : after.history ≡ before.history ++ e ∷ []
+  pub claims : KeepsClaims (town before.history).acts e before.rows after.rows
+
+-- the queue is as before, but for the room that there is
+pub record IsQueueSame (before after : Queued) : Type 0 where
+  pub history : after.history ≡ before.history
+  pub rows : after.rows ≡ before.rows

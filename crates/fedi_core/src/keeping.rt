@@ -8,12 +8,13 @@ ghost use Rattle.fedi_town.specs.Legal.{IsLegal, is_admissible};
 ghost use Rattle.fedi_outside.specs.Keepers.{HasAdded, HasRoom};
 ghost use Rattle.fedi_core.specs.Crashing.{PassesTimeUnkept, PassesTimeWith};
 ghost use Rattle.fedi_core.specs.Keeping.{Refuses};
-ghost use Rattle.fedi_core.specs.Machines.{IsGrown, IsSame};
+ghost use Rattle.fedi_core.specs.Machines.{IsGrown, IsQueueGrown, IsQueueSame, IsSame};
 ghost use Rattle.fedi_core.specs.declared.keeping.KeepFault.TheVariants.{Memory};
 
 use fedi_entry::encode;
 use fedi_objects::Entry;
 use fedi_outside::{Failed, Keeper, ReserveFault};
+use fedi_queue::Queue;
 use fedi_visible::Shelf;
 use std::alloc::{AllocError, Global};
 use thiserror::Error;
@@ -84,21 +85,25 @@ fn store<P: Keeper>(keeper: &mut P, code: &[u8]) -> Result<(), KeepFault>
     }
 }
 
-/// Keeps the bytes of an entry, after all that takes memory. Then the shelf has what the entry makes; after an
-/// error it is as before.
+/// Keeps the bytes of an entry, after all that takes memory. Then the shelf has what the entry
+/// makes, and the queue what becomes of the deliveries; after an error both are as before.
 pub fn store_entry<S: Shelf, P: Keeper>(
     alloc: Global,
     shelf: &mut S,
+    queue: &mut Queue,
     keeper: &mut P,
     entry: &Entry,
 ) -> Result<(), KeepFault>
     requires legal { IsLegal (S.holding shelf.old).history }
     requires admissible { IsTrue (is_admissible (S.holding shelf.old).town entry.now) }
     requires limits { KeepsLimits entry.now }
+    requires queued { queue.old.history ≡ (S.holding shelf.old).history }
     ensures formed { OnOk result (IsFormed entry.now) }
     ensures formed_failed { IsErrOf result KeepFault.Failed → IsFormed entry.now }
     ensures grown { OnOk result (IsGrown (S.holding shelf.old) entry.now (S.holding shelf.new)) }
     ensures same { OnErr result (IsSame (S.holding shelf.old) (S.holding shelf.new)) }
+    ensures queue_grown { OnOk result (IsQueueGrown queue.old entry.now queue.new) }
+    ensures queue_same { OnErr result (IsQueueSame queue.old queue.new) }
     ensures fits { OnOk result
         (HasRoom P.room (P.shown keeper.old).end (length (code_of entry.now))) }
     ensures added { OnOk result
@@ -113,7 +118,9 @@ pub fn store_entry<S: Shelf, P: Keeper>(
 {
     let code = encode(alloc, entry)?;
     shelf.reserve(alloc, entry)?;
+    queue.reserve(alloc, shelf.facts(), entry)?;
     store(keeper, &code)?;
+    queue.push(entry);
     shelf.push(entry);
     Ok(())
 }

@@ -1,12 +1,16 @@
 //! The machine over one history: who a caller is, what becomes of a post or a delivery, and what is kept.
 #![tactic(auto)]
 
+mod attempts;
 mod deciding;
+mod delivering;
 mod keeping;
 mod machine;
 mod posts;
 mod profiles;
+mod sending;
 
 pub use deciding::Decision;
+pub use delivering::RecordFault;
 pub use keeping::{KeepError, KeepFault};
 pub use machine::Core;

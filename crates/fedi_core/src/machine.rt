@@ -19,9 +19,11 @@ ghost use Rattle.fedi_core.specs.Crashing.{PassesTimeRefused, PassesTimeUnkept, 
 ghost use Rattle.fedi_core.specs.Keeping.{HidesDeliveries, HidesPosts, IsKept, MayAdd, Refuses, TellsOwners, TellsPeers};
 ghost use Rattle.fedi_core.specs.Opening.{keeper_after, outcome_of};
 ghost use Rattle.fedi_objects.specs.declared.entry.Entry.{Entry};
-ghost use Rattle.fedi_core.specs.Machines.{IsNextCode};
+ghost use Rattle.fedi_core.specs.Machines.{IsNextCode, KeepsClaims};
 ghost use Rattle.fedi_opening.specs.Opening.{IsNext, IsRead, IsStopped, after_open};
 ghost use Rattle.fedi_outside.specs.Keepers.{PassesTime, after_fault};
+ghost use Rattle.fedi_queue.specs.Claims.{release};
+ghost use Rattle.fedi_queue.specs.Rows.{rows_of};
 ghost use Rattle.fedi_visible.specs.Shelves.{empty_holding};
 
 use crate::deciding::{Decision, decide};
@@ -33,6 +35,7 @@ use fedi_model::{Ask, Credentials, Signed};
 use fedi_objects::Entry;
 use fedi_opening::{OpenFault, open_history};
 use fedi_outside::{Failed, Keeper};
+use fedi_queue::Queue;
 use fedi_routes::is_signed;
 use fedi_text::Moment;
 use fedi_town::{Caller, CommandFault, Peer, Refusal};
@@ -40,22 +43,28 @@ use fedi_visible::Shelf;
 use std::alloc::{AllocError, Global};
 use std::marker::Model;
 
-/// The machine: a shelf with a legal history, and the keeper of its records, which are the codes of the
-/// entries in order. A contract sees it as the history and the keeper.
+/// The machine: a shelf with a legal history, the keeper of its records, which are the codes of the
+/// entries in order, and the queue of its deliveries. A contract sees it as the history, the keeper
+/// and the rows of the queue.
 #[derive(Drop)]
 pub struct Core<S: Shelf, P: Keeper> {
-    shelf: S,
-    keeper: P,
+    pub(crate) shelf: S,
+    pub(crate) keeper: P,
+    pub(crate) queue: Queue,
 }
 
 impl<S: Shelf, P: Keeper> Model for Core<S, P> {
-    ghost use Rattle.fedi_core.specs.Machines.{Machine, Stands};
+    ghost use Rattle.fedi_core.specs.Machines.{IsMachine, Machine};
 
     ghost Value = { Machine P };
 
-    ghost view = { λ c. record { history = (S.holding c.shelf).history; keeper = c.keeper } };
+    ghost view = { λ c. record {
+      history = (S.holding c.shelf).history;
+      keeper = c.keeper;
+      rows = c.queue.rows;
+    } };
 
-    ghost invariant = { λ c. Stands (S.holding c.shelf) (P.shown c.keeper) };
+    ghost invariant = { λ c. IsMachine (S.holding c.shelf) (P.shown c.keeper) c.queue };
 }
 
 fn member_with(facts: &Facts, key: &[u8; 32]) -> Result<Caller, Refusal>
@@ -100,19 +109,21 @@ fn caller_of(
 }
 
 impl<S: Shelf + Drop, P: Keeper> Core<S, P> {
-    /// Opens the history of the records that the keeper holds on a shelf that is empty: each record is read as
-    /// the entry of which it is the code, which has to be one that may come there.
+    /// Opens the history of the records that the keeper holds on a shelf that is empty: each record
+    /// is read as the entry of which it is the code, which has to be one that may come there. None
+    /// of its deliveries is claimed.
     ///
-    /// An error hands the keeper back. It is `Empty`, exactly if there is no record; `Damaged`, with the
-    /// place of the first record that is the code of no entry that may come there; `Failed`, if the keeper
-    /// failed, which it counts once; and `Memory`, out of memory. The keeper's records, what is in doubt and
-    /// the end of it are as before, whatever comes, and what lies outside is read and not written. Nothing may
-    /// be in doubt when it is opened.
+    /// An error hands the keeper back. It is `Empty`, exactly if there is no record; `Damaged`,
+    /// with the place of the first record that is the code of no entry that may come there;
+    /// `Failed`, if the keeper failed, which it counts once; and `Memory`, out of memory. The
+    /// keeper's records, what is in doubt and the end of it are as before, whatever comes, and what
+    /// lies outside is read and not written. Nothing may be in doubt when it is opened.
     pub fn open(alloc: Global, shelf: S, keeper: P) -> Result<Core<S, P>, (OpenFault, P)>
         requires empty { S.holding shelf ≡ empty_holding }
         requires settled { (P.shown keeper).doubt ≡ None }
         ensures opened { IfOk result (λ core.
             IsRead (P.shown keeper).records (P.shown keeper).held core.history) }
+        ensures unclaimed { IfOk result (λ core. core.rows ≡ rows_of (town core.history)) }
         ensures none { IsErrOf (outcome_of result) OpenFault.Empty ↔ ((P.shown keeper).held ≡ 0) }
         ensures stopped { IfErr result (λ back.
             (history : List Entry) × IsStopped back.0 (P.shown keeper) history) }
@@ -126,7 +137,14 @@ impl<S: Shelf + Drop, P: Keeper> Core<S, P> {
         match open_history(alloc, &mut keeper, &mut shelf) {
             Ok(()) => {
                 shelf.facts().show_town();
-                Ok(Core { shelf, keeper })
+                match Queue::of(alloc, shelf.facts()) {
+                    Ok(queue) => Ok(Core {
+                        shelf,
+                        keeper,
+                        queue,
+                    }),
+                    Err(AllocError) => Err((OpenFault::Memory, keeper)),
+                }
             }
             Err(fault) => Err((fault, keeper)),
         }
@@ -195,10 +213,12 @@ impl<S: Shelf + Drop, P: Keeper> Core<S, P> {
         decide(alloc, &self.shelf, caller, ask, moment)
     }
 
-    /// Appends an entry that may come next to the history, once the keeper has its bytes. All that takes
-    /// memory comes before the keeper is settled. After an error the history is as before and the entry is
-    /// handed back: `Full` if the keeper has no room for it, `Failed` if the keeper failed, which it
-    /// counts once, and `Memory` if out of memory, which it does not count.
+    /// Appends an entry that may come next to the history, once the keeper has its bytes. All that
+    /// takes memory comes before the keeper is settled. What is claimed stays so, but for a
+    /// delivery that the entry has tried. After an error the history and the deliveries are as
+    /// before and the entry is handed back: `Full` if the keeper has no room for it, `Failed` if
+    /// the keeper failed, which it counts once, and `Memory` if out of memory, which it does not
+    /// count.
     #[tactic(auto, using(crate::proofs::Limits::added_keeps))]
     pub fn keep(&mut self, alloc: Global, entry: Entry) -> Result<(), KeepError>
         requires { MayAdd (town self.old.history) entry }
@@ -211,6 +231,10 @@ impl<S: Shelf + Drop, P: Keeper> Core<S, P> {
         ensures next { IfErr result (λ e.
             e.fault ≡ KeepFault.Failed → IsNext (town self.old.history) entry) }
         ensures same { OnErr result (self.new.history ≡ self.old.history) }
+        ensures claims { OnOk result (KeepsClaims (town self.old.history).acts entry
+            self.old.rows self.new.rows) }
+        ensures rows { OnErr result (self.new.rows ≡ self.old.rows) }
+        ensures queue { map release self.new.rows ≡ rows_of (town self.new.history) }
         ensures legal { IsLegal self.new.history }
         // A crash on the way leaves the keeper's records, with the one in doubt, or with the entry's.
         ensures time { let k = P.shown self.old.keeper in OnOk result
@@ -226,14 +250,23 @@ impl<S: Shelf + Drop, P: Keeper> Core<S, P> {
         // A delivery of a known id shows nothing but to the owner of its inbox.
         ensures added_inboxes { TellsOwners self.old.history self.new.history }
     {
-        match store_entry(alloc, &mut self.shelf, &mut self.keeper, &entry) {
+        let stored = store_entry(
+            alloc,
+            &mut self.shelf,
+            &mut self.queue,
+            &mut self.keeper,
+            &entry,
+        );
+        self.queue.entries();
+        match stored {
             Ok(()) => Ok(()),
             Err(fault) => Err(KeepError { fault, entry }),
         }
     }
 
-    /// Does an operator's command: its entry is kept, unless it breaks a rule, the first of which is
-    /// reported, or the keeper refuses it, as `keep` says. After an error the history is as before.
+    /// Does an operator's command: its entry is kept, unless it breaks a rule, the first of which
+    /// is reported, or the keeper refuses it, as `keep` says. What is claimed stays so. After an
+    /// error the history and the deliveries are as before.
     #[tactic(auto, using(crate::proofs::Commanding::command_may, crate::proofs::Rules::rule_refuses))]
     pub fn command(&mut self, alloc: Global, entry: Entry) -> Result<(), CommandFault>
         requires { IsCommand (town self.old.history) entry }
@@ -246,6 +279,9 @@ impl<S: Shelf + Drop, P: Keeper> Core<S, P> {
         ensures next { IfErr result (λ fault.
             fault ≡ CommandFault.KeeperFault → IsNext (town self.old.history) entry) }
         ensures same { OnErr result (self.new.history ≡ self.old.history) }
+        ensures claims { OnOk result (KeepsClaims (town self.old.history).acts entry
+            self.old.rows self.new.rows) }
+        ensures rows { OnErr result (self.new.rows ≡ self.old.rows) }
         ensures legal { IsLegal self.new.history }
         ensures time { let k = P.shown self.old.keeper in OnOk result
             (PassesTimeWith k.records k.doubt (code_of entry)
@@ -274,6 +310,7 @@ impl<S: Shelf + Drop, P: Keeper> Core<S, P> {
     /// error, which the keeper counts, all is as before.
     pub fn settle(&mut self) -> Result<(), Failed>
         ensures history { self.new.history ≡ self.old.history }
+        ensures rows { self.new.rows ≡ self.old.rows }
         ensures settled { OnOk result (P.shown self.new.keeper
             ≡ record (P.shown self.old.keeper) { doubt = None }) }
         ensures refused { OnErr result
@@ -294,7 +331,11 @@ impl<S: Shelf + Drop, P: Keeper> Core<S, P> {
         ensures legal { IsLegal self.history }
         ensures formed { AllByRecursion IsFormed self.history }
     {
-        let Core { shelf: _, keeper } = self;
+        let Core {
+            shelf: _,
+            keeper,
+            queue: _,
+        } = self;
         keeper
     }
 }

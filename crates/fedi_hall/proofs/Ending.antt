@@ -51,13 +51,13 @@ first_of : {X : Type 0} (xs : List X) → 0 < length xs → X
 first_of [] below = absurd (omega (arith, below))
 first_of (x ∷ xs) below = x
 
-module _ {W : Type 0} (by room : ℕ → ℕ) (told : Option ℕ) (opened : State) (served : W → Option (List Row)) (closed : W → Bool) (faults : W → ℕ)
-    (passes passes' : List (Pass Item)) (benches benches' : List (Bench W)) (all all' : List (Station W))
+module _ {W K : Type 0} (by room : ℕ → ℕ) (told : Option ℕ) (opened : State) (served : W → Option (List Row)) (closed : W → Bool) (faults : W → ℕ)
+    (passes passes' : List (Pass Item)) (benches benches' : List (Bench W K)) (all all' : List (Station W K))
     (seats : map pass_of all ≡ reverse passes) (doors : map bench_of all ≡ reverse benches)
     (seats' : passes' ≡ reverse (map pass_of all')) (doors' : benches' ≡ reverse (map bench_of all')) (same : length all' ≡ length all)
-    (each : (k : ℕ) (d : Station W) → k < length all → IsLabor by room told opened served closed faults (slice_index_or all k d) (slice_index_or all' k d)) where
+    (each : (k : ℕ) (d : Station W K) → k < length all → IsLabor by room told opened served closed faults (slice_index_or all k d) (slice_index_or all' k d)) where
   -- a pass and a bench, as a station
-  abbrev station : Pass Item → Bench W → Station W
+  abbrev station : Pass Item → Bench W K → Station W K
   station p b = record { pass = p; bench = b; end = Closed }
 
   many_passes : length passes ≡ length all
@@ -77,22 +77,22 @@ module _ {W : Type 0} (by room : ℕ → ℕ) (told : Option ℕ) (opened : Stat
   place k = length all - 1 - k
 
   -- what was done there
-  labor : (k : ℕ) (p : Pass Item) (b : Bench W) → k < length all
+  labor : (k : ℕ) (p : Pass Item) (b : Bench W K) → k < length all
       → IsLabor by room told opened served closed faults (slice_index_or all (place k) (station p b)) (slice_index_or all' (place k) (station p b))
   labor k p b below = each (place k) (station p b) (omega (arith, below))
 
-  pass_at : (k : ℕ) (p : Pass Item) (b : Bench W) → k < length all → slice_index_or passes k p ≡ (slice_index_or all (place k) (station p b)).pass
+  pass_at : (k : ℕ) (p : Pass Item) (b : Bench W K) → k < length all → slice_index_or passes k p ≡ (slice_index_or all (place k) (station p b)).pass
   pass_at k p b below = at_turned pass_of passes all (turned_from pass_of passes all seats) k p (station p b) below
 
-  bench_at : (k : ℕ) (p : Pass Item) (b : Bench W) → k < length all → slice_index_or benches k b ≡ (slice_index_or all (place k) (station p b)).bench
+  bench_at : (k : ℕ) (p : Pass Item) (b : Bench W K) → k < length all → slice_index_or benches k b ≡ (slice_index_or all (place k) (station p b)).bench
   bench_at k p b below = at_turned bench_of benches all (turned_from bench_of benches all doors) k b (station p b) below
 
-  pass_after : (k : ℕ) (p : Pass Item) (b : Bench W) → k < length all → slice_index_or passes' k p ≡ (slice_index_or all' (place k) (station p b)).pass
+  pass_after : (k : ℕ) (p : Pass Item) (b : Bench W K) → k < length all → slice_index_or passes' k p ≡ (slice_index_or all' (place k) (station p b)).pass
   pass_after k p b below =
       at_turned pass_of passes' all' seats' k p (station p b) (subst (λ (n : ℕ). k < n) (sym same) below)
       ∙ ap (λ (n : ℕ). (slice_index_or all' (n - 1 - k) (station p b)).pass) same
 
-  bench_after : (k : ℕ) (p : Pass Item) (b : Bench W) → k < length all → slice_index_or benches' k b ≡ (slice_index_or all' (place k) (station p b)).bench
+  bench_after : (k : ℕ) (p : Pass Item) (b : Bench W K) → k < length all → slice_index_or benches' k b ≡ (slice_index_or all' (place k) (station p b)).bench
   bench_after k p b below =
       at_turned bench_of benches' all' doors' k b (station p b) (subst (λ (n : ℕ). k < n) (sym same) below)
       ∙ ap (λ (n : ℕ). (slice_index_or all' (n - 1 - k) (station p b)).bench) same
@@ -103,15 +103,15 @@ module _ {W : Type 0} (by room : ℕ → ℕ) (told : Option ℕ) (opened : Stat
     number_at : (k : ℕ) (p : Pass Item) → k < length all → number_of (slice_index_or passes k p) ≡ k
     number_at k p below = (new k p (subst (λ (n : ℕ). k < n) (sym many_passes) below)).1
 
-    number_after : (k : ℕ) (p : Pass Item) (b : Bench W) → k < length all → number_of (slice_index_or passes' k p) ≡ k
+    number_after : (k : ℕ) (p : Pass Item) (b : Bench W K) → k < length all → number_of (slice_index_or passes' k p) ≡ k
     number_after k p b below =
         ap number_of (pass_after k p b below) ∙ (labor k p b below).same ∙ sym (ap number_of (pass_at k p b below)) ∙ number_at k p below
 
-    worked_at : ContinuesEach (growth list) passes' log → (k : ℕ) (p : Pass Item) (b : Bench W) → k < length all
+    worked_at : ContinuesEach (growth list) passes' log → (k : ℕ) (p : Pass Item) (b : Bench W K) → k < length all
         → HasWorked (setting_by by room told (Some k) opened) (given opened.history) log (served (slice_index_or benches k b).door) (served (slice_index_or benches' k b).door)
     worked_at on k p b below =
-        let s : Station W = slice_index_or all (place k) (station p b) in
-        let t : Station W = slice_index_or all' (place k) (station p b) in
+        let s : Station W K = slice_index_or all (place k) (station p b) in
+        let t : Station W K = slice_index_or all' (place k) (station p b) in
         let number : number_of s.pass ≡ k = sym (ap number_of (pass_at k p b below)) ∙ number_at k p below in
         let seen : seen_of s.pass ≡ given opened.history =
         sym (ap seen_of (pass_at k p b below)) ∙ (new k p (subst (λ (n : ℕ). k < n) (sym many_passes) below)).2 ∙ start in
@@ -124,13 +124,13 @@ module _ {W : Type 0} (by room : ℕ → ℕ) (told : Option ℕ) (opened : Stat
         subst (λ (n : ℕ). Continues (λ (i : Item). i.pass) n (seen_of t.pass) log) (number_after k p b below)
         (subst (λ (x : Pass Item). Continues (λ (i : Item). i.pass) (number_of (slice_index_or passes' k p)) (seen_of x) log) (pass_after k p b below) on_at) in
         let last = worked_at_last (setting_by by room told (Some k) opened) k (given opened.history) (seen_of t.pass) log (served s.bench.door) (served t.bench.door) refl goes second in
-        subst (λ (x : Bench W). HasWorked (setting_by by room told (Some k) opened) (given opened.history) log (served x.door) (served (slice_index_or benches' k b).door))
+        subst (λ (x : Bench W K). HasWorked (setting_by by room told (Some k) opened) (given opened.history) log (served x.door) (served (slice_index_or benches' k b).door))
         (sym (bench_at k p b below))
-        (subst (λ (x : Bench W). HasWorked (setting_by by room told (Some k) opened) (given opened.history) log (served s.bench.door) (served x.door))
+        (subst (λ (x : Bench W K). HasWorked (setting_by by room told (Some k) opened) (given opened.history) log (served s.bench.door) (served x.door))
         (sym (bench_after k p b below)) last)
 
     -- each item past the opening's names the worker of a bench
-    named : (b : Bench W) → NamesOneOf (growth list) lock passes' log → NamesWorkers (length benches) (given opened.history) log
+    named : (b : Bench W K) → NamesOneOf (growth list) lock passes' log → NamesWorkers (length benches) (given opened.history) log
     named b names = record {
       past = names.0;
       is = names.1 ∙ ap (λ (l : Log). l ++ names.0) start;
@@ -159,19 +159,19 @@ module _ {W : Type 0} (by room : ℕ → ℕ) (told : Option ℕ) (opened : Stat
 
   -- ---- how it ended
 
-  end_at : (ends : List WorkerEnd) → ends ≡ reverse (map end_of all') → (k : ℕ) (p : Pass Item) (b : Bench W) (e : WorkerEnd) → k < length all
+  end_at : (ends : List WorkerEnd) → ends ≡ reverse (map end_of all') → (k : ℕ) (p : Pass Item) (b : Bench W K) (e : WorkerEnd) → k < length all
       → slice_index_or ends k e ≡ (slice_index_or all' (place k) (station p b)).end
   end_at ends is k p b e below =
       at_turned end_of ends all' is k e (station p b) (subst (λ (n : ℕ). k < n) (sym same) below)
       ∙ ap (λ (n : ℕ). (slice_index_or all' (n - 1 - k) (station p b)).end) same
 
-  ended_at : (k : ℕ) (p : Pass Item) (b : Bench W) → k < length all → (e : WorkerEnd) → (slice_index_or all' (place k) (station p b)).end ≡ e
+  ended_at : (k : ℕ) (p : Pass Item) (b : Bench W K) → k < length all → (e : WorkerEnd) → (slice_index_or all' (place k) (station p b)).end ≡ e
       → EndsWork (closed (slice_index_or benches' k b).door) (faults (slice_index_or benches k b).door) (faults (slice_index_or benches' k b).door) e
   ended_at k p b below e is =
-      let s : Station W = slice_index_or all (place k) (station p b) in
-      let t : Station W = slice_index_or all' (place k) (station p b) in
-      subst (λ (x : Bench W). EndsWork (closed x.door) (faults (slice_index_or benches k b).door) (faults x.door) e) (sym (bench_after k p b below))
-      (subst (λ (x : Bench W). EndsWork (closed t.bench.door) (faults x.door) (faults t.bench.door) e) (sym (bench_at k p b below))
+      let s : Station W K = slice_index_or all (place k) (station p b) in
+      let t : Station W K = slice_index_or all' (place k) (station p b) in
+      subst (λ (x : Bench W K). EndsWork (closed x.door) (faults (slice_index_or benches k b).door) (faults x.door) e) (sym (bench_after k p b below))
+      (subst (λ (x : Bench W K). EndsWork (closed t.bench.door) (faults x.door) (faults t.bench.door) e) (sym (bench_at k p b below))
       (subst (λ (x : WorkerEnd). EndsWork (closed t.bench.door) (faults s.bench.door) (faults t.bench.door) x) is (labor k p b below).ends))
 
   ends_by : (p : Pass Item) (end : WorkerEnd) → end ≡ ends_of (reverse (map end_of all')) → EndsServing closed faults benches benches' (end_by end)
@@ -196,8 +196,8 @@ module _ {W : Type 0} (by room : ℕ → ℕ) (told : Option ℕ) (opened : Stat
 -- ---- nothing was served
 
 -- the machine is the one that was opened
-pub serves_none : {P W : Type 0} (by room : ℕ → ℕ) (told : Option ℕ) (opened : State) (first : Crashes) (shown : P → KeeperState) (crashes : P → Crashes)
-    (served : W → Option (List Row)) (benches : List (Bench W)) (core back : Machine P) → opened ≡ state_of core.history (shown core.keeper) → AreSame first (crashes core.keeper)
+pub serves_none : {P W K : Type 0} (by room : ℕ → ℕ) (told : Option ℕ) (opened : State) (first : Crashes) (shown : P → KeeperState) (crashes : P → Crashes)
+    (served : W → Option (List Row)) (benches : List (Bench W K)) (core back : Machine P) → opened ≡ state_of core.history (shown core.keeper) → AreSame first (crashes core.keeper)
     → IsLegal core.history → LeavesRecords (shown core.keeper) (crashes core.keeper) → back ≡ core
     → ServesAll by room told opened first (state_of back.history (shown back.keeper)) (crashes back.keeper) served benches benches
 serves_none {P = P} by room told opened first shown crashes served benches core back is same legal leaves then =

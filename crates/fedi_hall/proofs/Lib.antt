@@ -1,4 +1,5 @@
 pub mod Ending
 pub mod Seating
+pub mod Sent
 pub mod Turning
 pub mod Working

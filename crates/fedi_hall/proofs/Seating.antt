@@ -45,19 +45,19 @@ turned_from f ys xs is = sym (reverse-reverse ys) ∙ ap reverse (sym is)
 
 -- ---- stations
 
-module _ {V W : Type 0} (log : V → Log) (out : W → Option Coming) (idle : W → Bool) (lock : TurnLock V Item) where
+module _ {V W K : Type 0} (log : V → Log) (out : W → Option Coming) (idle : W → Bool) (lock : TurnLock V Item) where
   -- each pass is idle and each door waits, so that a worker may begin at each station
-  pub seated : (passes : List (Pass Item)) (benches : List (Bench W)) (all : List (Station W)) → map pass_of all ≡ reverse passes → map bench_of all ≡ reverse benches
-      → All (IsIdleBy log lock) passes → All (λ (b : Bench W). IsWaiting out idle b.door) benches → All (IsReady log out idle lock) all
+  pub seated : (passes : List (Pass Item)) (benches : List (Bench W K)) (all : List (Station W K)) → map pass_of all ≡ reverse passes → map bench_of all ≡ reverse benches
+      → All (IsIdleBy log lock) passes → All (λ (b : Bench W K). IsWaiting out idle b.door) benches → All (IsReady log out idle lock) all
   seated passes benches all p b are_idle wait = λ k s below. (
     all_back pass_of passes all (turned_from pass_of passes all p) (IsIdleBy log lock) are_idle k s below,
-    all_back bench_of benches all (turned_from bench_of benches all b) (λ (x : Bench W). IsWaiting out idle x.door) wait k s below,
+    all_back bench_of benches all (turned_from bench_of benches all b) (λ (x : Bench W K). IsWaiting out idle x.door) wait k s below,
   )
 
   -- and so they are once they are taken back
-  pub idle_after : (passes : List (Pass Item)) (all : List (Station W)) → passes ≡ reverse (map pass_of all) → All (IsReady log out idle lock) all → All (IsIdleBy log lock) passes
+  pub idle_after : (passes : List (Pass Item)) (all : List (Station W K)) → passes ≡ reverse (map pass_of all) → All (IsReady log out idle lock) all → All (IsIdleBy log lock) passes
   idle_after passes all is ready = all_there pass_of passes all is (IsIdleBy log lock) (λ k s below. (ready k s below).0)
 
-  pub waiting_after : (benches : List (Bench W)) (all : List (Station W)) → benches ≡ reverse (map bench_of all) → All (IsReady log out idle lock) all
-      → All (λ (b : Bench W). IsWaiting out idle b.door) benches
-  waiting_after benches all is ready = all_there bench_of benches all is (λ (b : Bench W). IsWaiting out idle b.door) (λ k s below. (ready k s below).1)
+  pub waiting_after : (benches : List (Bench W K)) (all : List (Station W K)) → benches ≡ reverse (map bench_of all) → All (IsReady log out idle lock) all
+      → All (λ (b : Bench W K). IsWaiting out idle b.door) benches
+  waiting_after benches all is ready = all_there bench_of benches all is (λ (b : Bench W K). IsWaiting out idle b.door) (λ k s below. (ready k s below).1)

@@ -23,24 +23,24 @@ pub record NamesWorkers (count : ℕ) (seen log : Log) : Type 0 where
 
 -- There is one log, which begins with the history of the opening, and the machine stands for it; each item past that names one
 -- worker; and what the worker of each bench did is over this log, from that history on.
-pub record ServesAll {W : Type 0} (growth room : ℕ → ℕ) (told : Option ℕ) (opened : State) (first : Crashes) (closed : State) (crashes : Crashes)
-    (served : W → Option (List Row)) (before after : List (Bench W)) : Type 0 where
+pub record ServesAll {W K : Type 0} (growth room : ℕ → ℕ) (told : Option ℕ) (opened : State) (first : Crashes) (closed : State) (crashes : Crashes)
+    (served : W → Option (List Row)) (before after : List (Bench W K)) : Type 0 where
   pub log : Log
   pub stands : StandsFor growth room opened first closed crashes log
   pub named : NamesWorkers (length before) (given opened.history) log
   pub same : length after ≡ length before
-  pub each : (k : ℕ) (b : Bench W) → k < length before
+  pub each : (k : ℕ) (b : Bench W K) → k < length before
       → HasWorked (setting_by growth room told (Some k) opened) (given opened.history) log (served (slice_index_or before k b).door) (served (slice_index_or after k b).door)
 
 -- the door of some bench failed once more
-pub record HasFailedDoor {W : Type 0} (faults : W → ℕ) (before after : List (Bench W)) : Type 0 where
+pub record HasFailedDoor {W K : Type 0} (faults : W → ℕ) (before after : List (Bench W K)) : Type 0 where
   pub place : ℕ
   pub within : place < length before
-  pub rose : (b : Bench W) → faults (slice_index_or after place b).door ≡ next_count (faults (slice_index_or before place b).door)
+  pub rose : (b : Bench W K) → faults (slice_index_or after place b).door ≡ next_count (faults (slice_index_or before place b).door)
 
 -- The serving ended so: all doors are closed; or the door of some bench failed; or there was no memory, and no door was asked.
-abbrev pub EndsServing : {W : Type 0} → (W → Bool) → (W → ℕ) → List (Bench W) → List (Bench W) → ServeEnd → Type 0
-EndsServing {W} closed faults before after Closed = All (λ (b : Bench W). closed b.door ≡ true) after
+abbrev pub EndsServing : {W K : Type 0} → (W → Bool) → (W → ℕ) → List (Bench W K) → List (Bench W K) → ServeEnd → Type 0
+EndsServing {W} {K} closed faults before after Closed = All (λ (b : Bench W K). closed b.door ≡ true) after
 EndsServing closed faults before after DoorFault = HasFailedDoor faults before after
 EndsServing closed faults before after Memory = after ≡ before
 

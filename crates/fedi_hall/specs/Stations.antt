@@ -17,15 +17,15 @@ use Rattle.fedi_hall.specs.declared.workers.WorkerEnd.{WorkerEnd}
 use Rattle.fedi_hall.specs.declared.workers.WorkerEnd.TheVariants.{Closed}
 
 -- the pass of a station
-abbrev pub pass_of : {W : Type 0} → Station W → Pass Item
+abbrev pub pass_of : {W K : Type 0} → Station W K → Pass Item
 pass_of s = s.pass
 
 -- its bench
-abbrev pub bench_of : {W : Type 0} → Station W → Bench W
+abbrev pub bench_of : {W K : Type 0} → Station W K → Bench W K
 bench_of s = s.bench
 
 -- how its worker ended
-abbrev pub end_of : {W : Type 0} → Station W → WorkerEnd
+abbrev pub end_of : {W K : Type 0} → Station W K → WorkerEnd
 end_of s = s.end
 
 -- how these workers ended: the door of one failed, or all closed
@@ -33,11 +33,11 @@ abbrev pub ends_of : List WorkerEnd → WorkerEnd
 ends_of ends = fold both Closed ends
 
 -- a worker may begin at the station: its pass is idle, and its door waits to be asked
-abbrev pub IsReady : {V W : Type 0} → (V → Log) → (W → Option Coming) → (W → Bool) → TurnLock V Item → Station W → Type 0
+abbrev pub IsReady : {V W K : Type 0} → (V → Log) → (W → Option Coming) → (W → Bool) → TurnLock V Item → Station W K → Type 0
 IsReady log out idle lock s = IsIdleBy log lock s.pass × IsWaiting out idle s.bench.door
 
 -- what a worker did at a station, over the machine that was opened so
-pub record IsLabor {W : Type 0} (growth room : ℕ → ℕ) (told : Option ℕ) (opened : State) (served : W → Option (List Row)) (closed : W → Bool) (faults : W → ℕ) (s t : Station W) : Type 0 where
+pub record IsLabor {W K : Type 0} (growth room : ℕ → ℕ) (told : Option ℕ) (opened : State) (served : W → Option (List Row)) (closed : W → Bool) (faults : W → ℕ) (s t : Station W K) : Type 0 where
   pub same : number_of t.pass ≡ number_of s.pass
   pub worked : HasWorked (setting_by growth room told (Some (number_of s.pass)) opened) (seen_of s.pass) (seen_of t.pass) (served s.bench.door) (served t.bench.door)
   pub ends : EndsWork (closed t.bench.door) (faults s.bench.door) (faults t.bench.door) t.end

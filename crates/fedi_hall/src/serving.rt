@@ -13,7 +13,7 @@ use crate::workers::WorkerEnd;
 use fedi_core::Core;
 use fedi_log::Item;
 use fedi_logged::Opened;
-use fedi_outside::{Bench, Clock, Door, Keeper};
+use fedi_outside::{Bench, Clock, Door, Keeper, Link};
 use fedi_turn::Pass;
 use fedi_visible::Shelf;
 use std::alloc::{AllocError, Global};
@@ -48,23 +48,23 @@ impl From<WorkerEnd> for ServeEnd {
 
 /// What is left of a machine and its benches that were served.
 #[derive(Drop)]
-pub struct Served<S: Shelf, P: Keeper, W> {
+pub struct Served<S: Shelf, P: Keeper, W, K> {
     pub end: ServeEnd,
     pub core: Core<S, P>,
     /// The benches, in the order in which they came.
-    pub benches: Vec<Bench<W>>,
+    pub benches: Vec<Bench<W, K>>,
 }
 
 // Room for the stations, passes and benches of so many workers.
 #[derive(Drop)]
-struct Room<W> {
-    stations: Vec<Station<W>>,
+struct Room<W, K> {
+    stations: Vec<Station<W, K>>,
     passes: Vec<Pass<Item>>,
-    benches: Vec<Bench<W>>,
+    benches: Vec<Bench<W, K>>,
 }
 
 // Makes the room. The error is out of memory.
-fn make_room<W: Drop>(alloc: Global, count: usize) -> Result<Room<W>, AllocError>
+fn make_room<W: Drop, K: Drop>(alloc: Global, count: usize) -> Result<Room<W, K>, AllocError>
     ensures empty { IfOk result (λ room. (room.stations.items ≡ [])
         × (room.passes.items ≡ []) × (room.benches.items ≡ [])) }
     ensures spare { IfOk result (λ room. (vec_capacity room.stations ≡ count)
@@ -78,10 +78,10 @@ fn make_room<W: Drop>(alloc: Global, count: usize) -> Result<Room<W>, AllocError
 }
 
 // No door was asked, since there was no memory.
-fn unserved<S: Shelf + Drop, P: Keeper, O: Opened, W: Door>(
+fn unserved<S: Shelf + Drop, P: Keeper, O: Opened, W: Door, K: Link>(
     core: Core<S, P>,
-    benches: Vec<Bench<W>>,
-) -> Served<S, P, W>
+    benches: Vec<Bench<W, K>>,
+) -> Served<S, P, W, K>
     requires opened { O.state ≡ state_of core.history (P.shown core.keeper) }
     requires crashes { AreSame O.crashes (P.crashes core.keeper) }
     requires legal { IsLegal core.history }
@@ -105,8 +105,15 @@ fn serve_opened<
     P: Keeper + Drop + Send,
     O: Opened + Send,
     W: Door + Send + Drop,
+    K: Link + Send + Drop,
     C: Clock + Sync,
->(rt: &R, alloc: Global, core: Core<S, P>, benches: Vec<Bench<W>>, clock: &C) -> Served<S, P, W>
+>(
+    rt: &R,
+    alloc: Global,
+    core: Core<S, P>,
+    benches: Vec<Bench<W, K>>,
+    clock: &C,
+) -> Served<S, P, W, K>
     requires some { 0 < vec_len benches }
     requires waiting { All (λ b. IsWaiting W.out W.idle b.door) benches.items }
     requires opened { O.state ≡ state_of core.history (P.shown core.keeper) }
@@ -121,11 +128,11 @@ fn serve_opened<
     ensures back { result.end ≡ ServeEnd.Memory → result.core ≡ core }
 {
     let Ok(room) = make_room(alloc, benches.len()) else {
-        return unserved::<S, P, O, W>(core, benches);
+        return unserved::<S, P, O, W, K>(core, benches);
     };
     let (hall, passes) = match Hall::<S, P, O>::new(alloc, core, benches.len() as u64) {
         Ok(made) => made,
-        Err(core) => return unserved::<S, P, O, W>(core, benches),
+        Err(core) => return unserved::<S, P, O, W, K>(core, benches),
     };
     let Room {
         stations,
@@ -153,8 +160,15 @@ pub fn serve_core<
     S: Shelf + Drop + Send,
     P: Keeper + Drop + Send,
     W: Door + Send + Drop,
+    K: Link + Send + Drop,
     C: Clock + Sync,
->(rt: &R, alloc: Global, core: Core<S, P>, benches: Vec<Bench<W>>, clock: &C) -> Served<S, P, W>
+>(
+    rt: &R,
+    alloc: Global,
+    core: Core<S, P>,
+    benches: Vec<Bench<W, K>>,
+    clock: &C,
+) -> Served<S, P, W, K>
     requires some { 0 < vec_len benches }
     requires waiting { All (λ b. IsWaiting W.out W.idle b.door) benches.items }
     requires hosted { IsTrue (is_some (town core.history).host) }
@@ -169,5 +183,5 @@ pub fn serve_core<
     ensures waiting { All (λ b. IsWaiting W.out W.idle b.door) result.benches.items }
     ensures back { result.end ≡ ServeEnd.Memory → result.core ≡ core }
 {
-    serve_opened::<R, S, P, Brand, W, C>(rt, alloc, core, benches, clock)
+    serve_opened::<R, S, P, Brand, W, K, C>(rt, alloc, core, benches, clock)
 }

@@ -11,7 +11,7 @@ use crate::workers::{WorkerEnd, worker};
 use fedi_address::Host;
 use fedi_log::Item;
 use fedi_logged::{Logged, Opened};
-use fedi_outside::{Bench, Clock, Door, Keeper};
+use fedi_outside::{Bench, Clock, Door, Keeper, Link};
 use fedi_routes::Routes;
 use fedi_turn::{Pass, TurnLock};
 use fedi_visible::Shelf;
@@ -22,18 +22,18 @@ use std::thread::Threads;
 
 /// A pass at a bench, and how its worker ended.
 #[derive(Drop)]
-pub struct Station<W> {
+pub struct Station<W, K> {
     pub pass: Pass<Item>,
-    pub bench: Bench<W>,
+    pub bench: Bench<W, K>,
     pub end: WorkerEnd,
 }
 
 /// Puts each pass at a bench, the last ones first, in stations for which there is room.
-pub(crate) fn seat<W: Drop>(
-    room: Vec<Station<W>>,
+pub(crate) fn seat<W: Drop, K: Drop>(
+    room: Vec<Station<W, K>>,
     passes: Vec<Pass<Item>>,
-    benches: Vec<Bench<W>>,
-) -> Vec<Station<W>>
+    benches: Vec<Bench<W, K>>,
+) -> Vec<Station<W, K>>
     requires empty { room.items ≡ [] }
     requires same { vec_len passes ≡ vec_len benches }
     requires room { vec_len benches ≤ vec_capacity room }
@@ -56,10 +56,10 @@ pub(crate) fn seat<W: Drop>(
 }
 
 /// Takes the passes and the benches back, for which there is room, and says how the workers ended.
-pub(crate) fn leave<W: Drop>(
-    stations: Vec<Station<W>>,
+pub(crate) fn leave<W: Drop, K: Drop>(
+    stations: Vec<Station<W, K>>,
     passes: &mut Vec<Pass<Item>>,
-    benches: &mut Vec<Bench<W>>,
+    benches: &mut Vec<Bench<W, K>>,
 ) -> WorkerEnd
     requires no_passes { passes.old.items ≡ [] }
     requires no_benches { benches.old.items ≡ [] }
@@ -87,6 +87,7 @@ pub fn serve_stations<
     P: Keeper + Drop + Send,
     O: Opened + Send,
     W: Door + Send + Drop,
+    K: Link + Send + Drop,
     C: Clock + Sync,
 >(
     rt: &R,
@@ -94,16 +95,16 @@ pub fn serve_stations<
     lock: &TurnLock<Logged<S, P, O>>,
     host: &Host,
     routes: &Routes,
-    stations: Vec<Station<W>>,
+    stations: Vec<Station<W, K>>,
     clock: &C,
-) -> Vec<Station<W>>
+) -> Vec<Station<W, K>>
     requires some { 0 < vec_len stations }
     requires host { (town O.state.history).host ≡ Some host.now }
     requires ready { All (IsReady (λ l. l.log) W.out W.idle lock.now) stations.items }
     ensures ready { All (IsReady (λ l. l.log) W.out W.idle lock.now) result.items }
     ensures len { vec_len result ≡ vec_len stations }
     ensures same { length result.items ≡ length stations.items }
-    ensures each { (k : ℕ) (d : Station W) → k < length stations.items
+    ensures each { (k : ℕ) (d : Station W K) → k < length stations.items
         → IsLabor P.growth P.room (C.told clock.now) O.state W.served W.closed W.faults
         (slice_index_or stations.items k d) (slice_index_or result.items k d) }
 {
@@ -114,7 +115,7 @@ pub fn serve_stations<
         stations.as_mut_slice(),
         count,
         &|_, station|
-            requires { IsSend W.row × IsSend W.L.row
+            requires { IsSend W.row × IsSend W.L.row × IsSend K.row
                 × ((town O.state.history).host ≡ Some host.now)
                 × IsReady (λ l. l.log) W.out W.idle lock.now station.old }
             ensures { IsReady (λ l. l.log) W.out W.idle lock.entry.now station.new
@@ -126,13 +127,13 @@ pub fn serve_stations<
 }
 
 /// Has a worker at the station until it has ended.
-fn labor<R: Wait, S: Shelf + Drop, P: Keeper + Drop, O: Opened, W: Door, C: Clock>(
+fn labor<R: Wait, S: Shelf + Drop, P: Keeper + Drop, O: Opened, W: Door, K: Link, C: Clock>(
     rt: &R,
     alloc: Global,
     lock: &TurnLock<Logged<S, P, O>>,
     host: &Host,
     routes: &Routes,
-    station: &mut Station<W>,
+    station: &mut Station<W, K>,
     clock: &C,
 )
     requires host { (town O.state.history).host ≡ Some host.now }

@@ -1,7 +1,9 @@
-//! Tests of workers side by side, which stand apart from the others since they need threads.
+//! Tests that need threads: of workers side by side, and of links over TCP with whoever answers them.
 #![tactic(auto)]
 
 #[cfg(test)]
 mod held;
+#[cfg(test)]
+mod links;
 #[cfg(test)]
 mod tests;

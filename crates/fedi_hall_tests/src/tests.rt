@@ -5,7 +5,8 @@ ghost use Rattle.fedi_hall.specs.Works.{IsWaiting};
 use crate::held::{HeldDoor, Part};
 use fedi_effects::Seed;
 use fedi_outside::{
-    Bench, Door, FixedClock, MemoryDisk, MemoryDoor, MemoryEntropy, MemorySink, MemorySource, Turn,
+    Bench, Door, FixedClock, Link, MemoryDisk, MemoryDoor, MemoryEntropy, MemoryLink, MemorySink,
+    MemorySource, Turn,
 };
 use fedi_program::{Connection, Ended, address_of, run, run_alone};
 use std::alloc::{AllocError, Global};
@@ -49,6 +50,18 @@ fn words(alloc: Global, line: &str) -> Result<Vec<String>, AllocError> {
     Ok(words)
 }
 
+// A bench whose door gives no connection, and whose link has no reply.
+fn idle_bench(alloc: Global) -> Result<Vec<Bench<MemoryDoor, MemoryLink>>, AllocError>
+    ensures { IfOk result (λ benches. 0 < vec_len benches) }
+{
+    let mut benches = Vec::new(alloc);
+    benches.push(Bench {
+        door: MemoryDoor::new(alloc, Vec::new(alloc))?,
+        link: silent(alloc),
+    })?;
+    Ok(benches)
+}
+
 // The disk after a command without a connection, which has to end well.
 fn disk_after(alloc: Global, line: &str, disk: MemoryDisk) -> Result<MemoryDisk, Fail> {
     let words = words(alloc, line)?;
@@ -57,14 +70,14 @@ fn disk_after(alloc: Global, line: &str, disk: MemoryDisk) -> Result<MemoryDisk,
     };
     let mut connection = nobody(alloc);
     let mut entropy = MemoryEntropy::new(alloc, DRAWN.to_vec(alloc)?);
-    let none = Vec::<Bench<MemoryDoor>>::new(alloc);
+    let benches = idle_bench(alloc)?;
     let ended = run_alone(
         alloc,
         seed(),
         &words,
         &mut connection,
         disk,
-        none,
+        benches,
         &mut entropy,
     );
     if ended.status == 0 {
@@ -82,6 +95,11 @@ fn nobody(alloc: Global) -> Connection<MemorySource, MemorySink, FixedClock> {
     }
 }
 
+// A link that nobody is to use.
+fn silent(alloc: Global) -> MemoryLink {
+    MemoryLink::new(alloc, Vec::new(alloc))
+}
+
 // The disk of a store of which ana is a member.
 fn town(alloc: Global) -> Result<MemoryDisk, Fail> {
     let empty = MemoryDisk::new(alloc, Vec::new(alloc))?;
@@ -90,12 +108,12 @@ fn town(alloc: Global) -> Result<MemoryDisk, Fail> {
 }
 
 // Serves the connections of the doors.
-fn serve<R: Threads + Wait + Sync, W: Door + Send + Drop>(
+fn serve<R: Threads + Wait + Sync, W: Door + Send + Drop, K: Link + Send + Drop>(
     rt: &R,
     alloc: Global,
     disk: MemoryDisk,
-    benches: Vec<Bench<W>>,
-) -> Result<Ended<MemoryDisk, W>, AllocError>
+    benches: Vec<Bench<W, K>>,
+) -> Result<Ended<MemoryDisk, W, K>, AllocError>
     requires some { 0 < vec_len benches }
     requires waiting { All (λ b. IsWaiting W.out W.idle b.door) benches.items }
 {
@@ -158,7 +176,7 @@ fn has_replies(sent: &[u8], row: &Row) -> bool {
         && text.contains(row.text)
 }
 
-fn have_replies<R>(benches: &[Bench<HeldDoor<'_, R>>], row: &Row, other: &Row) -> bool {
+fn have_replies<R>(benches: &[Bench<HeldDoor<'_, R>, MemoryLink>], row: &Row, other: &Row) -> bool {
     match benches {
         [one, two] => has_replies(one.door.sent(), row) && has_replies(two.door.sent(), other),
         _ => false,
@@ -176,9 +194,11 @@ fn expect<'a, R: Threads + Wait + Clock + Sync>(
     let mut benches = Vec::with_capacity(alloc, 2)?;
     benches.push(Bench {
         door: door(rt, alloc, gate, row)?,
+        link: silent(alloc),
     })?;
     benches.push(Bench {
         door: door(rt, alloc, gate, other)?,
+        link: silent(alloc),
     })?;
     let ended = serve(rt, alloc, town(alloc)?, benches)?;
     if ended.status == 0 && have_replies(&ended.benches, row, other) {
@@ -240,6 +260,7 @@ fn a_door_that_fails_ends_with_11(rt: HostRuntime) -> Result<(), Fail> {
         let mut benches = Vec::new(rt.alloc());
         benches.push(Bench {
             door: MemoryDoor::new(rt.alloc(), turns)?,
+            link: silent(rt.alloc()),
         })?;
         let ended = serve(&rt, rt.alloc(), town(rt.alloc())?, benches)?;
         if ended.status != status {

@@ -62,7 +62,7 @@ fn is_id(id: &Iri, own: Option<&Iri>) -> bool
     }
 }
 
-/// Whether the author follows or blocks themselves.
+/// Whether an author follows or blocks their own account.
 pub(crate) fn is_self_target(author: &Iri, activity: &Activity) -> bool
     ensures { result ≡ shapes.is_self_target author.now activity.now }
 {

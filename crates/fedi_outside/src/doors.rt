@@ -54,8 +54,9 @@ pub trait Door {
         ensures faults { faults self.new ≡ faults self.old };
 }
 
-/// A door, and what else its worker needs.
+/// What one worker serves and delivers by: where connections come from, and how requests are sent.
 #[derive(Drop)]
-pub struct Bench<W> {
+pub struct Bench<W, K> {
     pub door: W,
+    pub link: K,
 }

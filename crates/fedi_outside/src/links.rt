@@ -19,9 +19,10 @@ pub trait Link {
     /// How many exchanges failed. The count saturates at 2^64 - 1.
     ghost link_faults: { Self → ℕ };
 
-    /// Sends the request to the address on a new connection, and reads the reply until the other side closes
-    /// or `into`, which has room for `REPLY_LENGTH` bytes, is full. The reply is at the front of `into`, and
-    /// its length is the answer. After an error, which it counts, nothing is known of what was sent.
+    /// Sends the request to the address on a new connection, and reads the reply until the other
+    /// side closes or `into`, which has room for `REPLY_LENGTH` bytes, is full. The reply is at the
+    /// front of `into`, and its length is the answer. After an error, which it counts, nothing is
+    /// known of what was sent.
     fn exchange(&mut self, address: &str, request: &[u8], into: &mut [u8]) -> Result<usize, Failed>
         requires { length into.old ≡ 65536 }
         ensures within { IfOk result (λ count. count ≤ length into.new) }

@@ -1,7 +1,8 @@
 //! A link in memory.
-ghost use Rattle.std.specs.Prelude.{◌≡◌, ◌≤◌, ◌++◌, ◌∷◌, [], IfOk, OnOk, length, map};
+ghost use Rattle.std.specs.Prelude.{◌≡◌, ◌≤◌, ◌++◌, ◌∷◌, [], IfOk, OnOk, length, map, true};
 ghost use Rattle.fedi_outside.specs.Causes.{HasCause};
 ghost use Rattle.fedi_outside.specs.Links.{asking_in, heard_by, reply_in, told_if};
+ghost use Rattle.fedi_outside.specs.Plans.{no_faults};
 
 use crate::plans::FaultPlan;
 use crate::{Failed, Link};
@@ -25,9 +26,9 @@ pub enum Heard {
     Reply(Vec<u8>),
 }
 
-/// A link in memory, which gives these replies in order, and may be made to fail; without any more it fails. It
-/// tells what it was asked and what was heard, unless it finds no memory for that: then it fails, and tells
-/// nothing from then on.
+/// A link in memory, which gives these replies in order, and may be made to fail; without any more
+/// it fails. It tells what it was asked and what was heard, unless it finds no memory for that: then
+/// it fails, and tells nothing from then on.
 #[derive(Drop)]
 pub struct MemoryLink {
     replies: Vec<Vec<u8>>,
@@ -122,7 +123,14 @@ fn answer(
 
 impl MemoryLink {
     /// A link that gives these replies in order, and fails after them.
-    pub fn new(alloc: Global, replies: Vec<Vec<u8>>) -> Self {
+    pub fn new(alloc: Global, replies: Vec<Vec<u8>>) -> Self
+        ensures replies { result.replies ≡ replies }
+        ensures asked { result.asked.items ≡ [] }
+        ensures heard { result.heard.items ≡ [] }
+        ensures first { result.exchanges ≡ 0 }
+        ensures tells { result.tells ≡ true }
+        ensures plan { result.plan ≡ no_faults }
+    {
         MemoryLink {
             replies,
             exchanges: 0,
@@ -133,8 +141,11 @@ impl MemoryLink {
         }
     }
 
-    /// The same link, whose exchanges with these numbers, counted from 0, fail. Their replies are skipped.
-    pub fn failing(self, exchanges: Vec<u64>) -> Self {
+    /// The same link, whose exchanges with these numbers, counted from 0, fail. Their replies are
+    /// skipped.
+    pub fn failing(self, exchanges: Vec<u64>) -> Self
+        ensures { result ≡ record self { plan = record self.plan { failing = exchanges.items } } }
+    {
         let mut link = self;
         link.plan.set_failing(exchanges);
         link

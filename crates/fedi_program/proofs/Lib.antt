@@ -1,5 +1,9 @@
+pub mod AttemptLemmas
+pub mod ClaimLemmas
+pub mod DeliverLemmas
 pub mod MemberLemmas
 pub mod PeerLemmas
 pub mod RunLemmas
 pub mod StoreLemmas
+pub mod TrialLemmas
 pub mod WordLemmas

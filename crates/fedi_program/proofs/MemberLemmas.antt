@@ -78,7 +78,7 @@ adds_status told before after chance left first now name locked status (inr (ope
 -- ---- a keeper that failed was asked to settle
 
 -- and did: then nothing is in doubt
-settled_turn : (growth room : ℕ → ℕ) (before refused after : Standing) (e : Entry) → refused.state.history ≡ before.state.history → IsNext (town before.state.history) e
+pub settled_turn : (growth room : ℕ → ℕ) (before refused after : Standing) (e : Entry) → refused.state.history ≡ before.state.history → IsNext (town before.state.history) e
     → IsUnkept room before refused e keeps.Failed → after.state.history ≡ refused.state.history
     → after.state.keeper ≡ record refused.state.keeper { doubt = None }
     → PassesTime refused.state.keeper.records refused.state.keeper.doubt refused.crashes after.crashes → Turns growth before after (Failed e)
@@ -97,7 +97,7 @@ settled_turn growth room before refused after e same next k still settled time =
     }
 
 -- and failed again, which is one fault more
-failed_again : (growth : ℕ → ℕ) (refused after : Standing) (e : Entry) → IsNext (town refused.state.history) e → after.state.history ≡ refused.state.history
+pub failed_again : (growth : ℕ → ℕ) (refused after : Standing) (e : Entry) → IsNext (town refused.state.history) e → after.state.history ≡ refused.state.history
     → after.state.keeper ≡ after_fault refused.state.keeper
     → PassesTime refused.state.keeper.records refused.state.keeper.doubt refused.crashes after.crashes → Turns growth refused after (Failed e)
 failed_again growth refused after e next still failed time =

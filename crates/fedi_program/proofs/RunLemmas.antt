@@ -73,8 +73,8 @@ pub checked_safe : (before after : Medium) (first now : Output) (status : ℕ) �
 checked_safe before after first now status (inl (fault, refused, _)) = inl (fault, refused)
 checked_safe before after first now status (inr (opened, served, _, _)) = inr (opened, opened, given opened.history, served)
 
-pub doors_safe : {W : Type 0} (told : Option ℕ) (before after : Medium) (served : W → Option (List Row)) (closed : W → Bool) (faults : W → ℕ)
-    (first now : List (Bench W)) (status : ℕ) → ServesDoors told before after served closed faults first now status → IsKeptSafe before after
+pub doors_safe : {W K : Type 0} (told : Option ℕ) (before after : Medium) (served : W → Option (List Row)) (closed : W → Bool) (faults : W → ℕ)
+    (first now : List (Bench W K)) (status : ℕ) → ServesDoors told before after served closed faults first now status → IsKeptSafe before after
 doors_safe told before after served closed faults first now status (inl (fault, refused, _, _)) = inl (fault, refused)
 doors_safe told before after served closed faults first now status (inr (opened, last, log, is, _, _)) = inr (opened, last, log, is)
 
@@ -114,8 +114,8 @@ of_ending address serves.Closed = refl
 of_ending address serves.DoorFault = refl
 of_ending address serves.Memory = refl
 
-pub doors_status : {W : Type 0} (told : Option ℕ) (before after : Medium) (served : W → Option (List Row)) (closed : W → Bool) (faults : W → ℕ)
-    (first now : List (Bench W)) (status : ℕ) → ServesDoors told before after served closed faults first now status
+pub doors_status : {W K : Type 0} (told : Option ℕ) (before after : Medium) (served : W → Option (List Row)) (closed : W → Bool) (faults : W → ℕ)
+    (first now : List (Bench W K)) (status : ℕ) → ServesDoors told before after served closed faults first now status
     → (address : List ℕ) → is_status_of (Some (Serve address)) status ≡ true
 doors_status told before after served closed faults first now status (inl (fault, _, _, is)) address = rw is (of_fault address fault)
 doors_status told before after served closed faults first now status (inr (opened, last, log, _, _, (ending, is, _))) address = rw is (of_ending address ending)

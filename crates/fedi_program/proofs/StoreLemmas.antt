@@ -92,8 +92,8 @@ serves told start found later before middle after opened closed log count first 
     inr (opened, closed, log, served_alone start found later before middle after opened closed log count opens records same before_now left only survives closes, runs)
 
 -- or served those of many doors
-pub serves_doors : {W : Type 0} (told : Option ℕ) (start found later : DiskState) (before middle after : DiskCrashes) (opened closed : State) (count : ℕ)
-    (rows : W → Option (List Row)) (shut : W → Bool) (faults : W → ℕ) (first now : List (Bench W)) (status : ℕ)
+pub serves_doors : {W K : Type 0} (told : Option ℕ) (start found later : DiskState) (before middle after : DiskCrashes) (opened closed : State) (count : ℕ)
+    (rows : W → Option (List Row)) (shut : W → Bool) (faults : W → ℕ) (first now : List (Bench W K)) (status : ℕ)
     → IsOpened start opened → opened.keeper.records ≡ records_told plain count found → IsUntouched start found before middle
     → ((image : List ℕ) → before.left_since before.clock image → before.may_leave image)
     → IfSome start.reads (λ _. LeavesFiles middle (records_of opened.history) None) → ((image : List ℕ) → middle.left_since middle.clock image → middle.may_leave image)

@@ -1,7 +1,7 @@
 -- The store that accepted arguments name.
 use Rattle.std.proofs.Common.{◌≡◌, ℕ, Bool, true, false, ◌&&◌, List, [], ◌∷◌, map, Option, None, Some, is_some, option_map, bytes_eq, codes, refl, sym, ap, ◌∙◌, if◌then◌else◌}
 use Rattle.std.specs.List.{list_any, find}
-use Rattle.fedi_program.specs.Commands.{Task, Init, Inetd, Serve, AddActor, AddPeer, Check, is_flag, is_position, without_flag, add_actor_at, add_peer_at, flagged_task, on_store, on_store_with, usage_with, task_in, names_store, store_in}
+use Rattle.fedi_program.specs.Commands.{Task, Init, Inetd, Serve, AddActor, AddPeer, Deliver, Check, is_flag, is_position, without_flag, add_actor_at, add_peer_at, flagged_task, on_store, on_store_with, usage_with, task_in, names_store, store_in}
 
 -- the arguments have a position, if this task has a store
 abbrev HasPosition : List (List ℕ) → Option Task → Type 0
@@ -72,7 +72,8 @@ accepted_has name xs =
     either (bytes_eq name (codes "serve")) xs _ _ (on_store_with_has Serve xs) (
     either (bytes_eq name (codes "add-actor")) xs _ _ (flagged_has (codes "--locked") add_actor_at xs add_actor_at_has) (
     either (bytes_eq name (codes "add-peer")) xs _ _ (flagged_has (codes "--relay") add_peer_at xs add_peer_at_has) (
-    either (bytes_eq name (codes "check")) xs _ _ (on_store_has Check xs) (λ e. absurd (cc e))))))))
+    either (bytes_eq name (codes "deliver")) xs _ _ (on_store_has Deliver xs) (
+    either (bytes_eq name (codes "check")) xs _ _ (on_store_has Check xs) (λ e. absurd (cc e)))))))))
 
 named_in : (words : List (List ℕ)) → is_some (store_in words) ≡ names_store (task_in words)
 named_in [] = refl

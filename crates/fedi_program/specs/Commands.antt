@@ -7,7 +7,7 @@ use Rattle.fedi_program.specs.declared.words.Words.{Words}
 
 -- What the program is asked to do: to print its usage, to begin a store for this host, to serve one connection, to serve those
 -- that come to this address, to make a member of this name, who is locked or not, to make this host a peer with this key at this
--- address, which is a relay or not, or to count what a store holds.
+-- address, which is a relay or not, to try each delivery that is due, or to count what a store holds.
 pub data Task : Type 0 where
   Usage : Task
   Init : List ℕ → Task
@@ -15,6 +15,7 @@ pub data Task : Type 0 where
   Serve : List ℕ → Task
   AddActor : List ℕ → Bool → Task
   AddPeer : List ℕ → List ℕ → List ℕ → Bool → Task
+  Deliver : Task
   Check : Task
 
 -- the task of a command, without its references
@@ -25,6 +26,7 @@ task_of commands.Inetd = Inetd
 task_of (commands.Serve address) = Serve address.now
 task_of (commands.AddActor name locked) = AddActor name.now locked
 task_of (commands.AddPeer peer) = AddPeer peer.host.now peer.key.now peer.address.now peer.relay
+task_of commands.Deliver = Deliver
 task_of commands.Check = Check
 
 -- an argument that begins with `-` is no position
@@ -110,7 +112,8 @@ task_in (name ∷ arguments) =
     if bytes_eq name (codes "serve") then on_store_with Serve arguments else (
     if bytes_eq name (codes "add-actor") then add_actor_with arguments else (
     if bytes_eq name (codes "add-peer") then add_peer_with arguments else (
-    if bytes_eq name (codes "check") then on_store Check arguments else None))))))
+    if bytes_eq name (codes "deliver") then on_store Deliver arguments else (
+    if bytes_eq name (codes "check") then on_store Check arguments else None)))))))
 
 -- whether arguments that ask for this name a store
 abbrev pub names_store : Option Task → Bool
@@ -121,6 +124,7 @@ names_store (Some Inetd) = true
 names_store (Some (Serve address)) = true
 names_store (Some (AddActor name locked)) = true
 names_store (Some (AddPeer host key address relay)) = true
+names_store (Some Deliver) = true
 names_store (Some Check) = true
 
 -- the store that the arguments name, if they are accepted: the first position after the command
@@ -137,4 +141,5 @@ address_of (Some Inetd) = None
 address_of (Some (Serve address)) = Some address
 address_of (Some (AddActor name locked)) = None
 address_of (Some (AddPeer host key address relay)) = None
+address_of (Some Deliver) = None
 address_of (Some Check) = None

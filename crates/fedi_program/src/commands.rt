@@ -32,6 +32,8 @@ pub enum Command<'a> {
     },
     /// To make another server a peer.
     AddPeer(NewPeer<'a>),
+    /// To try each delivery that is due.
+    Deliver,
     /// To count what a store holds.
     Check,
 }
@@ -159,6 +161,7 @@ pub fn command_of(arguments: &[String]) -> Option<Command<'_>>
         "serve" => serve(arguments),
         "add-actor" => add_actor(arguments),
         "add-peer" => add_peer(arguments),
+        "deliver" => on_store(Command::Deliver, arguments),
         "check" => on_store(Command::Check, arguments),
         _ => None,
     }

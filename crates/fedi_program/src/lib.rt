@@ -3,6 +3,7 @@
 
 mod commands;
 mod connection;
+mod delivering;
 mod enrolling;
 mod members;
 mod peers;

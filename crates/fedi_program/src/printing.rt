@@ -1,6 +1,7 @@
 //! What a run prints, and the status that it then ends with.
 
-ghost use Rattle.fedi_talk.specs.Endings.{output_by};
+ghost use Rattle.std.specs.Prelude.{OnErr, OnOk, []};
+ghost use Rattle.fedi_talk.specs.Endings.{BreaksOff, Writes, output_by};
 ghost use Rattle.fedi_program.specs.Endings.{Prints};
 ghost use Rattle.fedi_program.specs.Members.{Tells};
 
@@ -8,12 +9,22 @@ use crate::statuses::{DONE, WRITE_FAULT};
 use fedi_http::send;
 use fedi_outside::{Failed, Sink};
 
+/// Writes the text. The error is that a write failed, and a proper prefix of the text was written.
+pub fn write<O: Sink>(out: &mut O, text: &[u8]) -> Result<(), Failed>
+    ensures written { OnOk result (Writes (output_by O.sent O.write_faults out.old)
+        (output_by O.sent O.write_faults out.new) text.now) }
+    ensures broken { OnErr result (BreaksOff (output_by O.sent O.write_faults out.old)
+        (output_by O.sent O.write_faults out.new) [] text.now) }
+{
+    send(out, text)
+}
+
 /// Prints the text of a run that is done. The answer is the exit status: 0, or 7 if a write failed.
 pub fn print<O: Sink>(out: &mut O, text: &[u8]) -> u8
     ensures { Prints (output_by O.sent O.write_faults out.old)
         (output_by O.sent O.write_faults out.new) text.now result }
 {
-    match send(out, text) {
+    match write(out, text) {
         Ok(()) => DONE,
         Err(Failed) => WRITE_FAULT,
     }
@@ -24,6 +35,6 @@ pub fn tell<O: Sink>(out: &mut O, status: u8, text: &[u8]) -> u8
     ensures { Tells (output_by O.sent O.write_faults out.old)
         (output_by O.sent O.write_faults out.new) status text.now result }
 {
-    let _ = send(out, text);
+    let _ = write(out, text);
     status
 }

@@ -1,8 +1,9 @@
 //! The whole program, over whatever lies outside.
 
-ghost use Rattle.std.specs.Prelude.{◌≡◌, ◌≢◌, ◌↔◌, ◌<◌, ℕ, All, Bool, false, true, List, [], IfSome, IsTrue, Some, None, map, string_bytes, vec_len};
-ghost use Rattle.fedi_program.specs.Commands.{AddActor, AddPeer, Check, Inetd, Init, Serve, Usage, address_of, names_store, task_in};
+ghost use Rattle.std.specs.Prelude.{◌≡◌, ◌≢◌, ◌↔◌, ◌<◌, ℕ, All, Bool, false, true, List, [], IfSome, IsTrue, Some, None, length, map, string_bytes, vec_len};
+ghost use Rattle.fedi_program.specs.Commands.{AddActor, AddPeer, Check, Deliver, Inetd, Init, Serve, Usage, address_of, names_store, task_in};
 ghost use Rattle.fedi_talk.specs.Endings.{WritesUnlessFailed, faults_by, output_by, scene_by};
+ghost use Rattle.fedi_program.specs.Delivering.{DeliversBy, DeliversStore, told_by};
 ghost use Rattle.fedi_program.specs.Endings.{HasCauses, Prints, status_of};
 ghost use Rattle.fedi_program.specs.Members.{chance_by};
 ghost use Rattle.fedi_program.specs.Runs.{is_status_of, may_draw, opens_store};
@@ -14,9 +15,11 @@ ghost use Rattle.fedi_logged.specs.Marks.{Survives};
 ghost use Rattle.fedi_program.specs.Serving.{ServesDoors};
 ghost use Rattle.fedi_program.specs.Stores.{AddsMember, AddsPeer, ChecksStore, Counts, IsKeptSafe, MakesStore, ServesStore, TalksOverStore, medium_by};
 ghost use Rattle.fedi_program.specs.Usage.{usage_text};
+ghost use Rattle.fedi_town.specs.Legal.{IsLegal};
 
 use crate::commands::{Command, NewPeer, command_of};
 use crate::connection::{Connection, serve_connection};
+use crate::delivering::deliver;
 use crate::members::make_member;
 use crate::peers::make_peer;
 use crate::printing::{print, tell};
@@ -27,7 +30,7 @@ use crate::usage::usage;
 use fedi_core::Core;
 use fedi_effects::Seed;
 use fedi_index::IndexedShelf;
-use fedi_outside::{Bench, Clock, Disk, Door, Entropy, Keeper, Sink, Source};
+use fedi_outside::{Bench, Clock, Disk, Door, Entropy, Keeper, Link, Sink, Source};
 use fedi_report::check_line;
 use fedi_routes::Routes;
 use fedi_startup::{close_store, open_store};
@@ -38,13 +41,13 @@ use std::thread::Threads;
 
 /// How a run ended.
 #[derive(Drop)]
-pub struct Ended<D, W> {
+pub struct Ended<D, W, K> {
     /// The exit status.
     pub status: u8,
     /// The disk, with all that the run kept.
     pub disk: D,
     /// The benches.
-    pub benches: Vec<Bench<W>>,
+    pub benches: Vec<Bench<W, K>>,
 }
 
 fn status_of(end: SessionEnd) -> u8
@@ -146,8 +149,60 @@ fn add_peer<S, O: Sink, D: Disk, C: Clock>(
     }
 }
 
+/// Tries what is due of the store of the disk, over the link.
+fn deliver_over<S, O: Sink, D: Disk, K: Link, C: Clock>(
+    alloc: Global,
+    seed: Seed,
+    connection: &mut Connection<S, O, C>,
+    disk: D,
+    link: &mut K,
+) -> (u8, D)
+    ensures delivered { DeliversStore (C.told connection.old.clock)
+        (medium_by D.shown D.crashes disk) (medium_by D.shown D.crashes result.1)
+        (told_by K.asked K.heard K.link_faults link.old)
+        (told_by K.asked K.heard K.link_faults link.new)
+        (output_by O.sent O.write_faults connection.old.out)
+        (output_by O.sent O.write_faults connection.new.out) result.0 }
+    ensures input { connection.new.input ≡ connection.old.input }
+    ensures clock { connection.new.clock ≡ connection.old.clock }
+{
+    match open_store(alloc, seed, disk) {
+        Ok(mut core) => {
+            let (out, clock) = (&mut connection.out, &connection.clock);
+            let status = deliver(alloc, &mut core, out, clock, link);
+            (status, close_store(core))
+        }
+        Err((fault, disk)) => (tell_of_store(&mut connection.out, fault), disk),
+    }
+}
+
+/// Tries what is due of the store of the disk, by the link of the first bench.
+fn deliver_by<S, O: Sink, D: Disk, W, K: Link, C: Clock>(
+    alloc: Global,
+    seed: Seed,
+    connection: &mut Connection<S, O, C>,
+    disk: D,
+    benches: &mut [Bench<W, K>],
+) -> (u8, D)
+    requires some { 0 < length benches.old }
+    ensures delivered { DeliversBy (told_by K.asked K.heard K.link_faults)
+        (C.told connection.old.clock)
+        (medium_by D.shown D.crashes disk) (medium_by D.shown D.crashes result.1)
+        benches.old benches.new
+        (output_by O.sent O.write_faults connection.old.out)
+        (output_by O.sent O.write_faults connection.new.out) result.0 }
+    ensures safe { IsKeptSafe (medium_by D.shown D.crashes disk)
+        (medium_by D.shown D.crashes result.1) }
+    ensures statuses { IsTrue (is_status_of (Some Deliver) result.0) }
+    ensures input { connection.new.input ≡ connection.old.input }
+    ensures clock { connection.new.clock ≡ connection.old.clock }
+{
+    deliver_over(alloc, seed, connection, disk, &mut benches[0].link)
+}
+
 /// Prints how much the machine has. The answer is the exit status.
 fn count<O: Sink, P: Keeper>(alloc: Global, out: &mut O, core: &Core<IndexedShelf, P>) -> u8
+    requires legal { IsLegal core.now.history }
     ensures counted { Counts (output_by O.sent O.write_faults out.old)
         (output_by O.sent O.write_faults out.new) core.now.history result }
     // The machine is only looked at.
@@ -177,18 +232,20 @@ fn check<O: Sink, D: Disk>(alloc: Global, seed: Seed, out: &mut O, disk: D) -> (
     }
 }
 
-/// Does as `run` does, in this thread alone: whatever the arguments ask for but `serve`. The benches come
-/// back as they were.
-pub fn run_alone<S: Source, O: Sink, D: Disk, W, C: Clock, E: Entropy>(
+/// Does as `run` does, in this thread alone: whatever the arguments ask for but `serve`. The
+/// benches come back as they were, but for the first one's link, which `deliver` asks.
+pub fn run_alone<S: Source, O: Sink, D: Disk, W, K: Link, C: Clock, E: Entropy>(
     alloc: Global,
     seed: Seed,
     arguments: &[String],
     connection: &mut Connection<S, O, C>,
     disk: D,
-    benches: Vec<Bench<W>>,
+    benches: Vec<Bench<W, K>>,
     entropy: &mut E,
-) -> Ended<D, W>
+) -> Ended<D, W, K>
     requires alone { address_of (task_in (map string_bytes arguments.now)) ≡ None }
+    requires linked { task_in (map string_bytes arguments.now) ≡ Some Deliver
+        → 0 < vec_len benches }
 
     // The status is one that the task may end with, and 2 exactly if the arguments are not accepted.
     ensures statuses { IsTrue
@@ -248,6 +305,16 @@ pub fn run_alone<S: Source, O: Sink, D: Disk, W, C: Clock, E: Entropy>(
         → KeepsOther (D.shown disk) (D.shown result.disk)
         (D.crashes disk) (D.crashes result.disk) }
 
+    // The deliveries that are due at the one moment that is read are tried, each once and in order,
+    // by the first bench's link: all of them at 0, and else the first of them. What was asked of
+    // the link and what was heard show what came of each, which is kept and then told by its line.
+    ensures delivered { task_in (map string_bytes arguments.now) ≡ Some Deliver
+        → DeliversBy (told_by K.asked K.heard K.link_faults) (C.told connection.old.clock)
+        (medium_by D.shown D.crashes disk) (medium_by D.shown D.crashes result.disk)
+        benches.items result.benches.items
+        (output_by O.sent O.write_faults connection.old.out)
+        (output_by O.sent O.write_faults connection.new.out) result.status }
+
     // What a store has is counted, and the disk is untouched: reads give the same bytes, and a crash at
     // any moment of the run leaves nothing new.
     ensures checked { task_in (map string_bytes arguments.now) ≡ Some Check
@@ -284,14 +351,16 @@ pub fn run_alone<S: Source, O: Sink, D: Disk, W, C: Clock, E: Entropy>(
         → entropy.new ≡ entropy.old }
 
     // A failure has its cause outside: the count of failed reads rose exactly at 6, and that of
-    // failed writes at 7. (Of the making of a member, a peer or a store `added`, `peered` and `made` say
-    // so.)
+    // failed writes at 7. (Of the making of a member, a peer or a store `added`, `peered` and
+    // `made` say so, and of what is tried `delivered` does.)
     ensures causes { task_in (map string_bytes arguments.now) ≡ Some Inetd → HasCauses
         (faults_by S.read_faults O.write_faults connection.old.input connection.old.out)
         (faults_by S.read_faults O.write_faults connection.new.input connection.new.out)
         result.status }
     ensures clock { connection.new.clock ≡ connection.old.clock }
-    ensures benches { result.benches ≡ benches }
+    // Only the first link of `deliver` is asked.
+    ensures benches { task_in (map string_bytes arguments.now) ≢ Some Deliver
+        → result.benches ≡ benches }
 {
     match command_of(arguments) {
         Some(Command::Inetd) => {
@@ -327,6 +396,15 @@ pub fn run_alone<S: Source, O: Sink, D: Disk, W, C: Clock, E: Entropy>(
                 benches,
             }
         }
+        Some(Command::Deliver) => {
+            let mut benches = benches;
+            let (status, disk) = deliver_by(alloc, seed, connection, disk, &mut benches);
+            Ended {
+                status,
+                disk,
+                benches,
+            }
+        }
         Some(Command::Check) => {
             let (status, disk) = check(alloc, seed, &mut connection.out, disk);
             Ended {
@@ -351,18 +429,21 @@ pub fn run_alone<S: Source, O: Sink, D: Disk, W, C: Clock, E: Entropy>(
 
 /// Runs the program on the arguments after its name, over the disk of the store that they name.
 ///
-/// `usage` prints the arguments that the program takes. `init STORE HOST` makes a store for the host,
-/// and prints `made HOST`. `add-actor STORE NAME` makes a member of this name, whose key is drawn from
-/// the entropy, and prints `NAME KEY`, the key in 64 digits; with `--locked`, which may stand anywhere
-/// behind the command, the member answers each Follow. `add-peer STORE HOST KEY ADDRESS` makes the server
-/// of this host a peer, which is reached at the address and has the same key, 64 digits, and prints
-/// `peer HOST`; with `--relay`, which may stand anywhere behind the command, the peer may deliver what
-/// actors of other hosts did. `inetd STORE` serves one connection: it answers
-/// the requests on the input one after the other, and keeps what they make. `serve STORE ADDRESS` serves
-/// the connections that the doors of the benches give, each door by a worker in a thread of its own, until
-/// all doors close; binding to the address is the doors' work. `check STORE` opens the
-/// store and prints how many entries, members and activities it has. Other arguments are answered with
-/// the usage, and do not ask the disk.
+/// `usage` prints the arguments that the program takes. `init STORE HOST` makes a store for the
+/// host, and prints `made HOST`. `add-actor STORE NAME` makes a member of this name, whose key is
+/// drawn from the entropy, and prints `NAME KEY`, the key in 64 digits; with `--locked`, which may
+/// stand anywhere behind the command, the member answers each Follow. `add-peer STORE HOST KEY
+/// ADDRESS` makes the server of this host a peer, which is reached at the address and has the same
+/// key, 64 digits, and prints `peer HOST`; with `--relay`, which may stand anywhere behind the
+/// command, the peer may deliver what actors of other hosts did. `inetd STORE` serves one
+/// connection: it answers the requests on the input one after the other, and keeps what they make.
+/// `serve STORE ADDRESS` serves the connections that the doors of the benches give, each door by a
+/// worker in a thread of its own, until all doors close; binding to the address is the doors' work.
+/// `deliver STORE` tries each delivery that is due at one moment once, by the link of the first
+/// bench, and prints `ACTIVITY HOST WORD` for each: the activity's id, the recipient's host, and
+/// `delivered`, `again` or `gave-up`; and then `done N`, the number of those that it tried. `check
+/// STORE` opens the store and prints how many entries, members, activities and deliveries that have
+/// not ended it has. Other arguments are answered with the usage, and do not ask the disk.
 ///
 /// | Status | When | Printed, but by `inetd` and `serve` |
 /// |---|---|---|
@@ -372,13 +453,13 @@ pub fn run_alone<S: Source, O: Sink, D: Disk, W, C: Clock, E: Entropy>(
 /// | 4 | the store is damaged | `damaged at byte P`, `damaged at record R` |
 /// | 5 | the disk failed | `disk fault` |
 /// | 6 | a read failed, or no key could be drawn | nothing |
-/// | 7 | a write failed; a member, peer or store that was to be made was | |
+/// | 7 | a write failed; a member, peer or store that was to be made was, and what came of the last attempt of `deliver` was kept | |
 /// | 8 | the input ended inside a request | |
 /// | 9 | a store was to be made, and the disk has other bytes | `exists` |
 /// | 10 | a rule is broken | `refused: bad name`, `refused: name taken`, `refused: key taken`, `refused: bad host`, `refused: host taken`, `refused: bad key`, `refused: bad address` |
 /// | 11 | a door failed | nothing |
 /// | 12 | out of memory | nothing |
-/// | 13 | the store has no room for a member or a peer | `full` |
+/// | 13 | the store has no room for a member or a peer, or for what came of an attempt | `full` |
 ///
 /// A status other than 0 stays if its text cannot be written. The disk comes back with all that was
 /// kept, and the benches come back too. The seed is what texts are looked up by: nothing that can be seen depends on it but time.
@@ -388,6 +469,7 @@ pub fn run<
     O: Sink,
     D: Disk + Send + Drop,
     W: Door + Send + Drop,
+    K: Link + Send + Drop,
     C: Clock + Sync,
     E: Entropy,
 >(
@@ -397,9 +479,9 @@ pub fn run<
     arguments: &[String],
     connection: &mut Connection<S, O, C>,
     disk: D,
-    benches: Vec<Bench<W>>,
+    benches: Vec<Bench<W, K>>,
     entropy: &mut E,
-) -> Ended<D, W>
+) -> Ended<D, W, K>
     requires some { 0 < vec_len benches }
     requires waiting { All (λ b. IsWaiting W.out W.idle b.door) benches.items }
 
@@ -461,6 +543,16 @@ pub fn run<
         → KeepsOther (D.shown disk) (D.shown result.disk)
         (D.crashes disk) (D.crashes result.disk) }
 
+    // The deliveries that are due at the one moment that is read are tried, each once and in order,
+    // by the first bench's link: all of them at 0, and else the first of them. What was asked of
+    // the link and what was heard show what came of each, which is kept and then told by its line.
+    ensures delivered { task_in (map string_bytes arguments.now) ≡ Some Deliver
+        → DeliversBy (told_by K.asked K.heard K.link_faults) (C.told connection.old.clock)
+        (medium_by D.shown D.crashes disk) (medium_by D.shown D.crashes result.disk)
+        benches.items result.benches.items
+        (output_by O.sent O.write_faults connection.old.out)
+        (output_by O.sent O.write_faults connection.new.out) result.status }
+
     // What a store has is counted, and the disk is untouched: reads give the same bytes, and a crash at
     // any moment of the run leaves nothing new.
     ensures checked { task_in (map string_bytes arguments.now) ≡ Some Check
@@ -497,8 +589,8 @@ pub fn run<
         → entropy.new ≡ entropy.old }
 
     // A failure has its cause outside: the count of failed reads rose exactly at 6, and that of
-    // failed writes at 7. (Of the making of a member, a peer or a store `added`, `peered` and `made` say
-    // so.)
+    // failed writes at 7. (Of the making of a member, a peer or a store `added`, `peered` and
+    // `made` say so, and of what is tried `delivered` does.)
     ensures causes { task_in (map string_bytes arguments.now) ≡ Some Inetd → HasCauses
         (faults_by S.read_faults O.write_faults connection.old.input connection.old.out)
         (faults_by S.read_faults O.write_faults connection.new.input connection.new.out)
@@ -515,8 +607,9 @@ pub fn run<
         (medium_by D.shown D.crashes disk) (medium_by D.shown D.crashes result.disk)
         W.served W.closed W.faults benches.items result.benches.items result.status }
 
-    // Only the doors of `serve` are asked.
+    // Only the doors of `serve` and the first link of `deliver` are asked.
     ensures benches { address_of (task_in (map string_bytes arguments.now)) ≡ None
+        → task_in (map string_bytes arguments.now) ≢ Some Deliver
         → result.benches ≡ benches }
 {
     match command_of(arguments) {

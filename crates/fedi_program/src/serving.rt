@@ -12,7 +12,7 @@ use crate::statuses::{DONE, DOOR_FAULT, OUT_OF_MEMORY};
 use crate::stores::status_by;
 use fedi_effects::Seed;
 use fedi_hall::{ServeEnd, Served, serve_core};
-use fedi_outside::{Bench, Clock, Disk, Door};
+use fedi_outside::{Bench, Clock, Disk, Door, Link};
 use fedi_startup::{close_store, open_store};
 use std::alloc::Global;
 use std::sync::Wait;
@@ -34,8 +34,16 @@ pub(crate) fn serve<
     R: Threads + Wait + Sync,
     D: Disk + Send + Drop,
     W: Door + Send + Drop,
+    K: Link + Send + Drop,
     C: Clock + Sync,
->(rt: &R, alloc: Global, seed: Seed, clock: &C, disk: D, benches: Vec<Bench<W>>) -> Ended<D, W>
+>(
+    rt: &R,
+    alloc: Global,
+    seed: Seed,
+    clock: &C,
+    disk: D,
+    benches: Vec<Bench<W, K>>,
+) -> Ended<D, W, K>
     requires some { 0 < vec_len benches }
     requires waiting { All (λ b. IsWaiting W.out W.idle b.door) benches.items }
     ensures served { ServesDoors (C.told clock.now)

@@ -1,5 +1,6 @@
 pub mod Addressed
 pub mod Carried
+pub mod Due
 pub mod Fitting
 pub mod Growing
 pub mod Held

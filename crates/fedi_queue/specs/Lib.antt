@@ -1,4 +1,5 @@
 pub mod Claims
+pub mod Due
 pub mod Holding
 pub mod Queues
 pub mod Rows

@@ -1,5 +1,6 @@
 //! Laws of the deliveries that wait, each the contract of a function that does nothing.
 
+ghost use Rattle.fedi_queue.specs.Due.{AttemptsLeaveTheRest};
 ghost use Rattle.fedi_queue.specs.Queues.{ClaimsAreHeld};
 ghost use Rattle.fedi_queue.specs.Rows.{AcceptedActivitiesAddRows, AttemptsChangeTheirRows, DeliveriesHaveOneRow, NextIdsAreNew, RepeatsAddNoRows, RowsAreDue, RowsAreTheQueue};
 
@@ -32,6 +33,13 @@ pub fn repeats_add_no_rows()
 #[tactic(auto, using(crate::proofs::Trying::attempts_change))]
 pub fn attempts_change_their_rows()
     ensures { AttemptsChangeTheirRows }
+{}
+
+/// An attempt of the first delivery that is due at its moment leaves the others due, and no more,
+/// so that each is tried once at one moment (ActivityPub, section 7.1).
+#[tactic(auto, using(crate::proofs::Due::attempts_leave))]
+pub fn attempts_leave_the_rest()
+    ensures { AttemptsLeaveTheRest }
 {}
 
 /// Of a delivery there is one row at most.

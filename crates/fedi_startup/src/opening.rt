@@ -7,7 +7,9 @@ ghost use Rattle.fedi_objects.specs.declared.entry.Entry.{Entry};
 ghost use Rattle.fedi_opening.specs.Opening.{IsRead, IsStopped, after_open};
 ghost use Rattle.fedi_outside.specs.Disks.{IsUntouched};
 ghost use Rattle.fedi_outside.specs.Keepers.{PassesTime};
+ghost use Rattle.fedi_queue.specs.Rows.{rows_of};
 ghost use Rattle.fedi_startup.specs.Stores.{ComesBack, IsOpened, LeavesFiles, disk_left, records_of};
+ghost use Rattle.fedi_town.specs.Histories.{town};
 
 use crate::faults::StoreFault;
 use fedi_core::Core;
@@ -30,6 +32,7 @@ fn open_core<P: Keeper>(
     requires settled { (P.shown keeper).doubt ≡ None }
     ensures opened { IfOk result (λ core.
         IsRead (P.shown keeper).records (P.shown keeper).held core.history) }
+    ensures unclaimed { IfOk result (λ core. core.rows ≡ rows_of (town core.history)) }
     ensures some { OnOk result ((P.shown keeper).held ≢ 0) }
     ensures stopped { IfErr result (λ back.
         (history : List Entry) × IsStopped back.0 (P.shown keeper) history) }
@@ -46,7 +49,7 @@ fn open_core<P: Keeper>(
 }
 
 /// Opens the machine over the store of a disk: finds the records of its file, and the history that they
-/// are the codes of. The disk is synced, and the gates that are found are written again, so that a crash
+/// are the codes of. No delivery is claimed. The disk is synced, and the gates that are found are written again, so that a crash
 /// leaves what is found. The seed is what texts are looked up by. Whatever the answer, reads give the same bytes, and a crash leaves nothing new.
 ///
 /// Each error hands the disk back. It is `NotAStore`, if the disk has fewer
@@ -61,6 +64,7 @@ pub fn open_store<D: Disk>(
 ) -> Result<StoreCore<D>, (StoreFault, D)>
     ensures opened { IfOk result (λ core. IsOpened (D.shown disk)
         (state_of core.history (⟦<Journal<D> as Keeper>⟧.shown core.keeper))) }
+    ensures unclaimed { IfOk result (λ core. core.rows ≡ rows_of (town core.history)) }
     ensures leaves { IfOk result (λ core. IfSome (D.shown disk).reads (λ _.
         LeavesFiles (D.crashes (disk_of core.keeper)) (records_of core.history) None)) }
     ensures refused { IfErr result (λ back. ComesBack back.0 (D.shown disk) (D.shown back.1)) }

@@ -1,7 +1,11 @@
 //! What runs begin with.
 
+ghost use Rattle.std.specs.Prelude.{◌<◌, IfOk, vec_len};
+
 use crate::store_files::{disk_of, store_of};
-use fedi_outside::{FixedClock, MemoryDisk, MemoryEntropy, MemorySink, MemorySource};
+use fedi_outside::{
+    Bench, FixedClock, MemoryDisk, MemoryDoor, MemoryEntropy, MemoryLink, MemorySink, MemorySource,
+};
 use fedi_program::Connection;
 use std::alloc::{AllocError, Global};
 
@@ -37,6 +41,9 @@ pub struct Case<'a> {
     pub failing_draws: &'a [u64],
     /// What the clock tells.
     pub seconds: u64,
+    /// What other servers reply to the requests of the run, in order, and which exchanges fail.
+    pub replies: &'a [&'a str],
+    pub failing_exchanges: &'a [u64],
 }
 
 /// A run of this command line over a store of these records, at which nothing fails.
@@ -57,6 +64,8 @@ pub fn calm<'a>(line: &'a str, records: &'a [&'a [u8]]) -> Case<'a> {
         drawn: KEY,
         failing_draws: &[],
         seconds: SECONDS,
+        replies: &[],
+        failing_exchanges: &[],
     }
 }
 
@@ -131,4 +140,28 @@ pub(crate) fn disk_in(alloc: Global, case: &Case) -> Result<MemoryDisk, AllocErr
         MemoryDisk::new(alloc, store_of(alloc, case.records)?)?
     };
     Ok(disk.failing(failing).stopping(case.stop))
+}
+
+fn link_of(alloc: Global, case: &Case) -> Result<MemoryLink, AllocError> {
+    let mut replies = Vec::new(alloc);
+    for reply in case.replies {
+        replies.push(reply.as_bytes().to_vec(alloc)?)?;
+    }
+    let failing = case.failing_exchanges.to_vec(alloc)?;
+    Ok(MemoryLink::new(alloc, replies).failing(failing))
+}
+
+/// One bench, to which nobody connects.
+pub(crate) fn benches_of(
+    alloc: Global,
+    case: &Case,
+) -> Result<Vec<Bench<MemoryDoor, MemoryLink>>, AllocError>
+    ensures { IfOk result (λ benches. 0 < vec_len benches) }
+{
+    let mut benches = Vec::new(alloc);
+    benches.push(Bench {
+        door: MemoryDoor::new(alloc, Vec::new(alloc))?,
+        link: link_of(alloc, case)?,
+    })?;
+    Ok(benches)
 }

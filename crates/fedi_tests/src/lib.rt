@@ -57,6 +57,8 @@ mod records;
 #[cfg(test)]
 mod cases;
 #[cfg(test)]
+mod delivering;
+#[cfg(test)]
 mod members;
 #[cfg(test)]
 mod peers;

@@ -1,22 +1,38 @@
 //! Runs, and what they leave.
 
-use crate::cases::{Case, arguments_of, calm, connection_of, disk_in, entropy_of};
+ghost use Rattle.std.specs.Prelude.{◌<◌, vec_len};
+
+use crate::cases::{Case, arguments_of, benches_of, calm, connection_of, disk_in, entropy_of};
 use crate::rows::seed;
 use crate::store_files::has_records;
 use fedi_outside::{
-    Bench, FixedClock, MemoryDisk, MemoryDoor, MemoryEntropy, MemorySink, MemorySource,
+    Bench, FixedClock, MemoryDisk, MemoryDoor, MemoryEntropy, MemoryLink, MemorySink, MemorySource,
 };
 use fedi_program::{Connection, OUT_OF_MEMORY, address_of, run_alone};
 use std::alloc::{AllocError, Global};
 
-/// What a run left: its status, what it wrote, the bytes of the disk, and how many calls that was
-/// asked.
+/// What a run left: its status, what it wrote, the bytes of the disk, how many calls that was asked, and
+/// the requests that were sent to other servers, one after another.
 #[derive(Drop)]
 pub struct Left {
     pub status: u8,
     pub out: Vec<u8>,
     pub disk: Vec<u8>,
     pub calls: u64,
+    pub asked: Vec<u8>,
+}
+
+fn asked_by(
+    alloc: Global,
+    benches: &[Bench<MemoryDoor, MemoryLink>],
+) -> Result<Vec<u8>, AllocError> {
+    let mut asked = Vec::new(alloc);
+    for bench in benches {
+        for row in bench.link.asked() {
+            asked.extend_from_slice(&row.request)?;
+        }
+    }
+    Ok(asked)
 }
 
 fn left_of(
@@ -24,12 +40,14 @@ fn left_of(
     status: u8,
     out: &MemorySink,
     disk: &MemoryDisk,
+    benches: &[Bench<MemoryDoor, MemoryLink>],
 ) -> Result<Left, AllocError> {
     Ok(Left {
         status,
         out: out.bytes().to_vec(alloc)?,
         disk: disk.bytes().to_vec(alloc)?,
         calls: disk.calls().len() as u64,
+        asked: asked_by(alloc, benches)?,
     })
 }
 
@@ -39,14 +57,22 @@ fn left_in(
     arguments: &[String],
     connection: &mut Connection<MemorySource, MemorySink, FixedClock>,
     disk: MemoryDisk,
+    benches: Vec<Bench<MemoryDoor, MemoryLink>>,
     entropy: &mut MemoryEntropy,
-) -> Result<Left, AllocError> {
+) -> Result<Left, AllocError>
+    requires { 0 < vec_len benches }
+{
     let None = address_of(arguments) else {
-        return left_of(alloc, OUT_OF_MEMORY, &connection.out, &disk);
+        return left_of(alloc, OUT_OF_MEMORY, &connection.out, &disk, &benches);
     };
-    let none = Vec::<Bench<MemoryDoor>>::new(alloc);
-    let ended = run_alone(alloc, seed(), arguments, connection, disk, none, entropy);
-    left_of(alloc, ended.status, &connection.out, &ended.disk)
+    let ended = run_alone(alloc, seed(), arguments, connection, disk, benches, entropy);
+    left_of(
+        alloc,
+        ended.status,
+        &connection.out,
+        &ended.disk,
+        &ended.benches,
+    )
 }
 
 /// What the run leaves. The error is out of memory.
@@ -55,7 +81,15 @@ pub fn left_by(alloc: Global, case: &Case) -> Result<Left, AllocError> {
     let mut entropy = entropy_of(alloc, case)?;
     let mut connection = connection_of(alloc, case)?;
     let disk = disk_in(alloc, case)?;
-    left_in(alloc, &arguments, &mut connection, disk, &mut entropy)
+    let benches = benches_of(alloc, case)?;
+    left_in(
+        alloc,
+        &arguments,
+        &mut connection,
+        disk,
+        benches,
+        &mut entropy,
+    )
 }
 
 /// Whether these bytes are those of the texts, one after another.

@@ -29,8 +29,8 @@ fn is_left(
 
 /// Records, and what a run that counts them prints.
 const COUNTS: [(&[&[u8]], u8, &str); 4] = [
-    (&MEMBERS, 0, "entries 5 actors 4 activities 0\n"),
-    (&TOWN, 0, "entries 7 actors 4 activities 2\n"),
+    (&MEMBERS, 0, "entries 5 actors 4 activities 0 queue 0\n"),
+    (&TOWN, 0, "entries 7 actors 4 activities 2 queue 0\n"),
     // An entry that may not come there.
     (&[HOSTED, HOSTED], 4, "damaged at record 1\n"),
     (&[HOSTED, b""], 4, "damaged at record 1\n"),
@@ -180,9 +180,9 @@ fn the_disk_fails_at_each_call_of_two_posts(rt: HostRuntime) -> Result<(), Fail>
 /// Where the gate behind the example town without posts is.
 const GATE: usize = 275;
 
-const WITHOUT: &str = "entries 5 actors 4 activities 0\n";
+const WITHOUT: &str = "entries 5 actors 4 activities 0 queue 0\n";
 
-const WITH: &str = "entries 6 actors 4 activities 1\n";
+const WITH: &str = "entries 6 actors 4 activities 1 queue 0\n";
 
 /// From which call on the disk of a post stops, counted from the first of its append, the byte that
 /// a crash leaves at the gate, if it is another than is read, and what is counted then.

@@ -36,3 +36,9 @@ pub returns-clause-waiting : goal.returns-clause-waiting
 returns-clause-waiting g c =
     waiting_after (λ l. l.log) g.W.Door.out g.W.Door.idle c.in-Ok-new.made.0.lock c.leave-end.new.benches.items c.serve_stations-stations.result.items c.leave-end.ensures.benches
     c.serve_stations-stations.ensures.ready
+
+pub returns-in-Err-clause-served : goal.returns-in-Err-clause-served
+returns-in-Err-clause-served g c = c.unserved-in-Err.ensures.served (g.C.Clock.told c.args.clock.now)
+
+pub returns-in-Err-clause-waiting : goal.returns-in-Err-clause-waiting
+returns-in-Err-clause-waiting g c = rw c.unserved-in-Err.ensures.benches c.requires.waiting

@@ -2,6 +2,9 @@ use Rattle.std.proofs.Common.{length, refl}
 use Rattle.fedi_program.proofs.StoreLemmas.{checks}
 use Rattle.fedi_program.proofs.running.check.Goals as goal
 
+pub count-status-requires : goal.count-status-requires
+count-status-requires g c = record { legal = c.in-Ok.ensures.opened.sound.legal }
+
 pub returns-in-Ok : goal.returns-in-Ok
 returns-in-Ok g c =
     let keeper = c.in-Ok.core.keeper in

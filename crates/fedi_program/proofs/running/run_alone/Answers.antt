@@ -19,6 +19,9 @@ returns-in-Some-AddActor-clause-crashes g c = λ opens. added_safe _ _ _ _ _ _ _
 pub returns-in-Some-AddPeer-clause-crashes : goal.returns-in-Some-AddPeer-clause-crashes
 returns-in-Some-AddPeer-clause-crashes g c = λ opens. peered_safe _ _ _ _ _ _ _ _ _ _ c.add_peer-status.ensures.peered
 
+pub returns-in-Some-Deliver-clause-crashes : goal.returns-in-Some-Deliver-clause-crashes
+returns-in-Some-Deliver-clause-crashes g c = λ opens. c.deliver_by-status.ensures.safe
+
 pub returns-in-Some-Check-clause-crashes : goal.returns-in-Some-Check-clause-crashes
 returns-in-Some-Check-clause-crashes g c = λ opens. checked_safe _ _ _ _ _ c.check-status.ensures.checked
 

@@ -1,0 +1,438 @@
+-- How trials follow one another, and how their trying ends.
+use Rattle.std.proofs.Common.{◌≡◌, ◌⊎◌, ℕ, ◌+◌, ◌-◌, ◌≤◌, true, List, [], ◌∷◌, ◌++◌, length, Option, None, Some, Ok, Err, arith, inl, inr, refl, sym, ap, subst, ◌∙◌, append_assoc, append-nil, codes}
+use Rattle.std.specs.Prelude.{map, take}
+use Rattle.std.proofs.lemmas.Grind.{flat_map-append}
+use Rattle.std.proofs.lemmas.List.{length-append, map-append}
+use Rattle.std.proofs.lemmas.List.Sums.{fold-append}
+use Rattle.std.proofs.KnownBytes.{Appends-nil, Appends-trans}
+use Rattle.fedi_core.specs.Keeping.{IsKept, Refuses}
+use Rattle.fedi_core.specs.declared.keeping.KeepFault.TheVariants as keeps
+use Rattle.fedi_delivery.specs.Exchanges.{Exchanges, Told, count_after}
+use Rattle.fedi_queue.proofs.Due.{attempts_leave}
+use Rattle.fedi_queue.specs.Due.{IsTo, due_in}
+use Rattle.fedi_entry.specs.Codes.{code_of}
+use Rattle.fedi_log.proofs.Keeping.{unchanged}
+use Rattle.fedi_log.specs.Keeping.{Base, State}
+use Rattle.fedi_log.specs.Log.{Failed, Log, NoEntry, items_of}
+use Rattle.fedi_logged.proofs.Crashing.{survives_more}
+use Rattle.fedi_logged.specs.Marks.{Survives, SurvivesMarked}
+use Rattle.fedi_logged.specs.Turns.{Standing, SurvivesTurn, Turns}
+use Rattle.fedi_objects.specs.declared.entry.Came.{Came}
+use Rattle.fedi_objects.specs.declared.entry.Entry.{Entry}
+use Rattle.fedi_opening.specs.Opening.{IsNext}
+use Rattle.fedi_outside.specs.Keepers.{Crashes, OnlyRoomChanged, PassesTime, after_fault}
+use Rattle.fedi_outside.specs.Causes.{next_count}
+use Rattle.fedi_outside.specs.Links.{AddsRow}
+use Rattle.fedi_startup.specs.Surviving.{growth, room}
+use Rattle.fedi_talk.specs.Conversations.{IsNow}
+use Rattle.fedi_talk.specs.Endings.{BreaksOff, Output, Writes, WritesUnlessFailed}
+use Rattle.fedi_town.specs.Histories.{town}
+use Rattle.fedi_town.specs.Legal.{IsLegal}
+use Rattle.fedi_town.specs.Queues.{Delivery}
+use Rattle.fedi_town.specs.Towns.{Town}
+use Rattle.fedi_program.specs.Commands.{Deliver}
+use Rattle.fedi_program.specs.Delivering.{AddsRows, AreFirst, DeliversStore, EndsTrial, EndsTrying, Exchange, HasExchanged, IsAttempt, IsBegun, IsStopped, ShowsCame, TellsDone, Trial, TrialSurvives, TriesDue, TriesEach, count_after_each, done_line, entry_of, exchanges_of, line_of, lines_of}
+use Rattle.fedi_program.specs.declared.delivering.Stop.{Stop}
+use Rattle.fedi_program.specs.declared.delivering.Stop.TheVariants.{WriteFault, KeeperFault, Full, Memory}
+use Rattle.fedi_program.specs.Endings.{Prints}
+use Rattle.fedi_program.specs.Runs.{is_status_of}
+use Rattle.fedi_program.specs.Stores.{IsKeptSafe, Medium}
+use Rattle.fedi_program.proofs.MemberLemmas.{failed_again, settled_turn}
+use Rattle.fedi_program.proofs.RunLemmas.{known_status, told_status}
+
+-- ---- exchanges
+
+rows-none : {A : Type 0} (rows : Option (List A)) → AddsRows rows rows []
+rows-none None = tt
+rows-none (Some xs) = sym (append-nil xs)
+
+rows-one : {A : Type 0} (before now : Option (List A)) (x : A) → AddsRow before now x → AddsRows before now (x ∷ [])
+rows-one before None x row = tt
+rows-one None (Some told) x row = absurd row
+rows-one (Some before) (Some told) x row = row
+
+rows-more : {A : Type 0} (first before now : Option (List A)) (xs ys : List A) → AddsRows first before xs → AddsRows before now ys → AddsRows first now (xs ++ ys)
+rows-more first before None xs ys was more = tt
+rows-more first None (Some told) xs ys was more = absurd more
+rows-more None (Some before) (Some told) xs ys was more = absurd was
+rows-more {A} (Some first) (Some before) (Some told) xs ys was more = more ∙ ap (λ (l : List A). l ++ ys) was ∙ append_assoc first xs ys
+
+pub exchanged_none : (w : Told) → HasExchanged w w []
+exchanged_none w = record { asked = rows-none w.asked; heard = rows-none w.heard; faults = refl }
+
+pub exchanged_one : (before now : Told) (x : Exchange) → Exchanges before now x.asking x.heard → HasExchanged before now (x ∷ [])
+exchanged_one before now x e = record {
+  asked = rows-one before.asked now.asked x.asking e.asked;
+  heard = rows-one before.heard now.heard x.heard e.heard;
+  faults = e.faults;
+}
+
+pub exchanged_more : (first before now : Told) (xs ys : List Exchange) → HasExchanged first before xs → HasExchanged before now ys → HasExchanged first now (xs ++ ys)
+exchanged_more first before now xs ys was more = record {
+  asked = subst (AddsRows first.asked now.asked) (sym (map-append (λ (x : Exchange). x.asking) xs ys))
+      (rows-more first.asked before.asked now.asked (map (λ (x : Exchange). x.asking) xs) (map (λ (x : Exchange). x.asking) ys) was.asked more.asked);
+  heard = subst (AddsRows first.heard now.heard) (sym (map-append (λ (x : Exchange). x.heard) xs ys))
+      (rows-more first.heard before.heard now.heard (map (λ (x : Exchange). x.heard) xs) (map (λ (x : Exchange). x.heard) ys) was.heard more.heard);
+  faults = more.faults ∙ ap (λ (n : ℕ). count_after_each n ys) was.faults
+      ∙ sym (fold-append (λ (n : ℕ) (x : Exchange). count_after x.heard n) first.faults xs ys);
+}
+
+-- an attempt that came to its end was begun
+pub shown_begun : (t : Town) (id recipient : List ℕ) (exchanges : List Exchange) (came : Came) → ShowsCame t id recipient exchanges came → IsBegun t id recipient exchanges
+shown_begun t id recipient [] came shows = absurd shows
+shown_begun t id recipient (l ∷ []) came shows = shows.0
+shown_begun t id recipient (l ∷ p ∷ []) came shows = (shows.0, shows.1, shows.2, shows.3)
+shown_begun t id recipient (l ∷ p ∷ x ∷ xs) came shows = absurd shows
+
+-- ---- what is written
+
+pub writes_none : (out : Output) → Writes out out []
+writes_none out = record { sent = Appends-nil out.sent; calm = refl }
+
+writes-on : (first before now : Output) (written text : List ℕ) → Writes first before written → Writes before now text → Writes first now (written ++ text)
+writes-on first before now written text was more = record {
+  sent = Appends-trans first.sent before.sent now.sent written text was.sent more.sent;
+  calm = more.calm ∙ was.calm;
+}
+
+breaks-on : (first before now : Output) (written text : List ℕ) → Writes first before written → BreaksOff before now [] text → BreaksOff first now written text
+breaks-on first before now written text was b = record {
+  prefix = b.prefix;
+  short = b.short;
+  sent = Appends-trans first.sent before.sent now.sent written (take b.prefix text) was.sent b.sent;
+  cause = b.cause ∙ ap next_count was.calm;
+}
+
+unless-failed-on : (first before now : Output) (written text : List ℕ) → Writes first before written
+    → WritesUnlessFailed before now [] text → WritesUnlessFailed first now written text
+unless-failed-on first before now written text was (inl sent) = inl (writes-on first before now written text was sent)
+unless-failed-on first before now written text was (inr broken) = inr (breaks-on first before now written text was broken)
+
+-- ---- one trial more
+
+-- the machine before and after it
+abbrev Tries : (growth room : ℕ → ℕ) → ℕ → Trial → State → State → Type 0
+Tries growth room moment x before after =
+    IsAttempt (town before.history) x × IsKept growth room before.history (entry_of moment x) before.keeper after.keeper after.history
+
+each-more : (growth room : ℕ → ℕ) (moment : ℕ) (opened : State) (tried : List Trial) (before after : State) (x : Trial) → TriesEach growth room moment opened tried before
+    → Tries growth room moment x before after → TriesEach growth room moment opened (tried ++ x ∷ []) after
+each-more growth room moment opened [] before after x each more =
+    let same = subst (λ (s : State). Tries growth room moment x s after) each more in (after, same.0, same.1, refl)
+each-more growth room moment opened (y ∷ ys) before after x each more = (each.0, each.1, each.2, each-more growth room moment each.0 ys before after x each.3 more)
+
+first-more : (due : List Delivery) (tried : List Trial) (left rest : List Delivery) (d : Delivery) (x : Trial) → AreFirst due tried left → left ≡ d ∷ rest
+    → IsTo x.activity x.recipient d → AreFirst due (tried ++ x ∷ []) rest
+first-more due [] left rest d x first is to = subst (λ (ds : List Delivery). AreFirst ds (x ∷ []) rest) (sym (first ∙ is)) (to, refl)
+first-more [] (y ∷ ys) left rest d x first is to = absurd first
+first-more (e ∷ due) (y ∷ ys) left rest d x first is to = (first.0, first-more due ys left rest d x first.1 is to)
+
+lines-more : (tried : List Trial) (x : Trial) → lines_of (tried ++ x ∷ []) ≡ lines_of tried ++ line_of x
+lines-more tried x = flat_map-append line_of tried (x ∷ []) ∙ ap (λ (l : List ℕ). lines_of tried ++ l) (append-nil (line_of x))
+
+exchanges-more : (tried : List Trial) (x : Trial) → exchanges_of (tried ++ x ∷ []) ≡ exchanges_of tried ++ x.exchanges
+exchanges-more tried x =
+    flat_map-append (λ (y : Trial). y.exchanges) tried (x ∷ []) ∙ ap (λ (l : List Exchange). exchanges_of tried ++ l) (append-nil x.exchanges)
+
+-- ---- while there is more to try
+
+-- the first of the deliveries that were due were tried, those are left that are due now, and the line of each is printed
+pub record IsTrying (growth room : ℕ → ℕ) (moment : ℕ) (opened now : State) (asked heard : Told) (first out : Output) : Type 0 where
+  pub tried : List Trial
+  pub each : TriesEach growth room moment opened tried now
+  pub due : AreFirst (due_in (town opened.history) moment) tried (due_in (town now.history) moment)
+  pub exchanged : HasExchanged asked heard (exchanges_of tried)
+  pub written : Writes first out (lines_of tried)
+
+pub trying_first : (growth room : ℕ → ℕ) (moment : ℕ) (opened : State) (link : Told) (out : Output) → Writes out out [] → IsTrying growth room moment opened opened link link out out
+trying_first growth room moment opened link out nothing = record { tried = []; each = refl; due = refl; exchanged = exchanged_none link; written = nothing }
+
+-- what one trial leaves, but for its line
+record TriedOn (growth room : ℕ → ℕ) (moment : ℕ) (opened next : State) (asked later : Told) (tried : List Trial) (rest : List Delivery) (x : Trial) : Type 0 where
+  each : TriesEach growth room moment opened (tried ++ x ∷ []) next
+  due : AreFirst (due_in (town opened.history) moment) (tried ++ x ∷ []) rest
+  exchanged : HasExchanged asked later (exchanges_of (tried ++ x ∷ []))
+
+tried-on : (growth room : ℕ → ℕ) (moment : ℕ) (opened now next : State) (asked heard later : Told) (first out : Output) (d : Delivery) (rest : List Delivery) (x : Trial)
+    → (t : IsTrying growth room moment opened now asked heard first out) → due_in (town now.history) moment ≡ d ∷ rest → IsTo x.activity x.recipient d
+    → IsAttempt (town now.history) x → IsKept growth room now.history (entry_of moment x) now.keeper next.keeper next.history → HasExchanged heard later x.exchanges
+    → TriedOn growth room moment opened next asked later t.tried rest x
+tried-on growth room moment opened now next asked heard later first out d rest x t is to attempt kept exchanged = record {
+  each = each-more growth room moment opened t.tried now next x t.each (attempt, kept);
+  due = first-more (due_in (town opened.history) moment) t.tried (due_in (town now.history) moment) rest d x t.due is to;
+  exchanged = subst (HasExchanged asked later) (sym (exchanges-more t.tried x)) (exchanged_more asked heard later (exchanges_of t.tried) x.exchanges t.exchanged exchanged);
+}
+
+pub trying_more : (growth room : ℕ → ℕ) (moment : ℕ) (opened now next : State) (asked heard later : Told) (first out after : Output) (d : Delivery) (rest : List Delivery) (x : Trial)
+    → IsTrying growth room moment opened now asked heard first out → due_in (town now.history) moment ≡ d ∷ rest → IsTo x.activity x.recipient d
+    → due_in (town next.history) moment ≡ rest → IsAttempt (town now.history) x
+    → IsKept growth room now.history (entry_of moment x) now.keeper next.keeper next.history → HasExchanged heard later x.exchanges → Writes out after (line_of x)
+    → IsTrying growth room moment opened next asked later first after
+trying_more growth room moment opened now next asked heard later first out after d rest x t is to left attempt kept exchanged line =
+    let on = tried-on growth room moment opened now next asked heard later first out d rest x t is to attempt kept exchanged in
+    record {
+      tried = t.tried ++ x ∷ [];
+      each = on.each;
+      due = subst (AreFirst (due_in (town opened.history) moment) (t.tried ++ x ∷ [])) (sym left) on.due;
+      exchanged = on.exchanged;
+      written = subst (Writes first after) (sym (lines-more t.tried x)) (writes-on first out after (lines_of t.tried) (line_of x) t.written line);
+    }
+
+-- each entry that was kept is one more
+each-grown : (growth room : ℕ → ℕ) (moment : ℕ) (opened now : State) (tried : List Trial) → TriesEach growth room moment opened tried now
+    → length now.history ≡ length opened.history + length tried
+each-grown growth room moment opened now [] each = let same : length now.history ≡ length opened.history = ap (λ (s : State). length s.history) each in omega (arith, same)
+each-grown growth room moment opened now (x ∷ xs) each =
+    let rest = each-grown growth room moment each.0 now xs each.3 in
+    let one : length each.0.history ≡ length opened.history + 1 = ap length each.2.history ∙ length-append opened.history (entry_of moment x ∷ []) in
+    omega (arith, rest, one)
+
+-- one delivery that was claimed was tried, and the others are left
+pub trial_more : (growth room : ℕ → ℕ) (moment : ℕ) (opened now next : State) (asked heard later : Told) (first out after : Output) (id recipient : List ℕ) (d : Delivery) (rest : List Delivery)
+    (done : Unit {0}) → IsTrying growth room moment opened now asked heard first out → due_in (town now.history) moment ≡ d ∷ rest → IsTo id recipient d → IsLegal next.history
+    → EndsTrial growth room moment id recipient now next heard later out after (Ok done)
+    → IsTrying growth room moment opened next asked later first after × (due_in (town next.history) moment ≡ rest)
+trial_more growth room moment opened now next asked heard later first out after id recipient d rest done t is to legal (exchanges, came, shows, exchanged, kept, line) =
+    let x : Trial = record { activity = id; recipient = recipient; exchanges = exchanges; came = came } in
+    let left : due_in (town next.history) moment ≡ rest =
+    ap (λ (h : List Entry). due_in (town h) moment) kept.history
+    ∙ attempts_leave now.history id recipient came moment d rest (subst IsLegal kept.history legal) is to in
+    (trying_more growth room moment opened now next asked heard later first out after d rest x t is to left shows kept exchanged line, left)
+
+-- the history grew
+pub trying_grown : (growth room : ℕ → ℕ) (moment : ℕ) (opened now : State) (asked heard : Told) (first out : Output) → IsTrying growth room moment opened now asked heard first out
+    → length opened.history ≤ length now.history
+trying_grown growth room moment opened now asked heard first out t = let grown = each-grown growth room moment opened now t.tried t.each in omega (arith, grown)
+
+-- ---- how it ends
+
+-- no exchange is beyond those of the trials
+none-beyond : (asked heard : Told) (tried : List Trial) → HasExchanged asked heard (exchanges_of tried) → HasExchanged asked heard (exchanges_of tried ++ [])
+none-beyond asked heard tried e = subst (HasExchanged asked heard) (sym (append-nil (exchanges_of tried))) e
+
+-- nothing is left that is due, and the last line was printed, or that write failed
+pub trying_done : (growth room : ℕ → ℕ) (told : Option ℕ) (moment count : ℕ) (opened now : State) (asked heard : Told) (first out last : Output) (status : ℕ) → IsNow told moment
+    → IsTrying growth room moment opened now asked heard first out → due_in (town now.history) moment ≡ [] → count ≡ length now.history - length opened.history
+    → Prints out last (done_line count) status → TriesDue growth room told opened now asked heard first last status
+trying_done growth room told moment count opened now asked heard first out last status is_now t none counted prints = record {
+  moment = moment;
+  is_now = is_now;
+  tried = t.tried;
+  left = [];
+  last = now;
+  beyond = [];
+  each = t.each;
+  due = subst (AreFirst (due_in (town opened.history) moment) t.tried) none t.due;
+  exchanged = none-beyond asked heard t.tried t.exchanged;
+  ends = inl (refl, refl, refl, of (subst (λ (n : ℕ). Prints out last (done_line n) status) all prints));
+}
+  where
+    all : count ≡ length t.tried
+    all = let grown = each-grown growth room moment opened now t.tried t.each in omega (arith, grown, counted)
+
+    of : Prints out last (done_line (length t.tried)) status → TellsDone t.tried first last status
+    of (inl p) = inl (p.0, writes-on first out last (lines_of t.tried) (done_line (length t.tried)) t.written p.1)
+    of (inr p) = inr (p.0, breaks-on first out last (lines_of t.tried) (done_line (length t.tried)) t.written p.1)
+
+-- there was no memory to begin
+pub trying_none : (growth room : ℕ → ℕ) (told : Option ℕ) (moment : ℕ) (opened : State) (link : Told) (out : Output) (status : ℕ) → IsNow told moment → status ≡ 12 → Writes out out []
+    → TriesDue growth room told opened opened link link out out status
+trying_none growth room told moment opened link out status is_now is nothing = record {
+  moment = moment;
+  is_now = is_now;
+  tried = [];
+  left = due_in (town opened.history) moment;
+  last = opened;
+  beyond = [];
+  each = refl;
+  due = refl;
+  exchanged = exchanged_none link;
+  ends = inr (inr (inr (is, refl, record { records = refl; held = refl; doubt = refl; end = refl; faults = refl }, nothing, inl refl)));
+}
+
+-- one more attempt was not kept, or not told
+pub trying_stopped : (growth room : ℕ → ℕ) (told : Option ℕ) (moment : ℕ) (opened now refused after : State) (asked heard later : Told) (first out mid last : Output)
+    (id recipient : List ℕ) (d : Delivery) (rest : List Delivery) (stop : Stop) (status : ℕ) → IsNow told moment
+    → IsTrying growth room moment opened now asked heard first out → due_in (town now.history) moment ≡ d ∷ rest → IsTo id recipient d
+    → EndsTrial growth room moment id recipient now refused heard later out mid (Err stop) → IsStopped stop refused after mid last status
+    → TriesDue growth room told opened after asked later first last status
+trying_stopped growth room told moment opened now refused after asked heard later first out mid last id recipient d rest WriteFault status is_now t is to
+    (exchanges, came, shows, exchanged, kept, broken) (is_seven, same, silent) =
+    let x : Trial = record { activity = id; recipient = recipient; exchanges = exchanges; came = came } in
+    let on = tried-on growth room moment opened now refused asked heard later first out d rest x t is to shows kept exchanged in
+    record {
+      moment = moment;
+      is_now = is_now;
+      tried = t.tried ++ x ∷ [];
+      left = rest;
+      last = refused;
+      beyond = [];
+      each = on.each;
+      due = on.due;
+      exchanged = none-beyond asked later (t.tried ++ x ∷ []) on.exchanged;
+      ends = inr (inl (
+        refl,
+        same,
+        (
+          is_seven,
+          t.tried,
+          x,
+          refl,
+          breaks-on first out last (lines_of t.tried) (line_of x) t.written
+              (subst (λ (o : Output). BreaksOff out o [] (line_of x)) (sym silent) broken),
+        ),
+      ));
+    }
+trying_stopped growth room told moment opened now refused after asked heard later first out mid last id recipient d rest KeeperFault status is_now t is to
+    (exchanges, came, shows, exchanged, still, refuses, silent) (is_five, settled, tells) =
+    let x : Trial = record { activity = id; recipient = recipient; exchanges = exchanges; came = came } in
+    record {
+      moment = moment;
+      is_now = is_now;
+      tried = t.tried;
+      left = d ∷ rest;
+      last = now;
+      beyond = exchanges;
+      each = t.each;
+      due = subst (AreFirst (due_in (town opened.history) moment) t.tried) is t.due;
+      exchanged = exchanged_more asked heard later (exchanges_of t.tried) exchanges t.exchanged exchanged;
+      ends = inr (inr (inl (
+        x,
+        to,
+        shows,
+        refl,
+        inr (
+          is_five,
+          refused,
+          still,
+          refuses,
+          settled,
+          unless-failed-on first out last (lines_of t.tried) (codes "disk fault\n") t.written
+              (subst (λ (o : Output). WritesUnlessFailed o last [] (codes "disk fault\n")) silent tells),
+        ),
+      )));
+    }
+trying_stopped growth room told moment opened now refused after asked heard later first out mid last id recipient d rest Full status is_now t is to
+    (exchanges, came, shows, exchanged, still, refuses, silent) (is_full, same, tells) =
+    let x : Trial = record { activity = id; recipient = recipient; exchanges = exchanges; came = came } in
+    record {
+      moment = moment;
+      is_now = is_now;
+      tried = t.tried;
+      left = d ∷ rest;
+      last = now;
+      beyond = exchanges;
+      each = t.each;
+      due = subst (AreFirst (due_in (town opened.history) moment) t.tried) is t.due;
+      exchanged = exchanged_more asked heard later (exchanges_of t.tried) exchanges t.exchanged exchanged;
+      ends = inr (inr (inl (
+        x,
+        to,
+        shows,
+        refl,
+        inl (
+          is_full,
+          ap (λ (s : State). s.history) same ∙ still,
+          subst (λ (s : State). Refuses room (code_of (entry_of moment x)) keeps.Full now.keeper s.keeper) (sym same) refuses,
+          unless-failed-on first out last (lines_of t.tried) (codes "full\n") t.written
+              (subst (λ (o : Output). WritesUnlessFailed o last [] (codes "full\n")) silent tells),
+        ),
+      )));
+    }
+trying_stopped growth room told moment opened now refused after asked heard later first out mid last id recipient d rest Memory status is_now t is to
+    (exchanges, begun, exchanged, still, only, silent) (is_twelve, same, quiet) = record {
+      moment = moment;
+      is_now = is_now;
+      tried = t.tried;
+      left = d ∷ rest;
+      last = now;
+      beyond = exchanges;
+      each = t.each;
+      due = subst (AreFirst (due_in (town opened.history) moment) t.tried) is t.due;
+      exchanged = exchanged_more asked heard later (exchanges_of t.tried) exchanges t.exchanged exchanged;
+      ends = inr (inr (inr (
+        is_twelve,
+        ap (λ (s : State). s.history) same ∙ still,
+        subst (λ (s : State). OnlyRoomChanged now.keeper s.keeper) (sym same) only,
+        subst (λ (o : Output). Writes first o (lines_of t.tried)) (sym (quiet ∙ silent)) t.written,
+        inr (id, recipient, to, begun),
+      )));
+    }
+
+-- ---- the status
+
+ends-status : (room : ℕ → ℕ) (moment : ℕ) (last after : State) (tried : List Trial) (left : List Delivery) (beyond : List Exchange) (first now : Output) (status : ℕ)
+    → EndsTrying room moment last after tried left beyond first now status → is_status_of (Some Deliver) status ≡ true
+ends-status room moment last after tried left beyond first now status (inl (_, _, _, inl done)) = known_status (Some Deliver) status 0 refl done.0
+ends-status room moment last after tried left beyond first now status (inl (_, _, _, inr broken)) = known_status (Some Deliver) status 7 refl broken.0
+ends-status room moment last after tried left beyond first now status (inr (inl (_, _, loses))) = known_status (Some Deliver) status 7 refl loses.0
+ends-status room moment last after tried left beyond first now status (inr (inr (inl (x, _, _, _, inl full)))) = known_status (Some Deliver) status 13 refl full.0
+ends-status room moment last after tried left beyond first now status (inr (inr (inl (x, _, _, _, inr failed)))) = known_status (Some Deliver) status 5 refl failed.0
+ends-status room moment last after tried left beyond first now status (inr (inr (inr (is, _, _, _, _)))) = known_status (Some Deliver) status 12 refl is
+
+-- how the run ends
+pub delivers_status : (told : Option ℕ) (before after : Medium) (asked heard : Told) (first now : Output) (status : ℕ)
+    → DeliversStore told before after asked heard first now status → is_status_of (Some Deliver) status ≡ true
+delivers_status told before after asked heard first now status (inl (fault, _, _, tells)) =
+    told_status (Some Deliver) fault first now status refl refl refl refl tells
+delivers_status told before after asked heard first now status (inr (opened, closed, _, tries)) =
+    ends-status room tries.moment tries.last closed tries.tried tries.left tries.beyond first now status tries.ends
+
+pub delivers_safe : (told : Option ℕ) (before after : Medium) (asked heard : Told) (first now : Output) (status : ℕ)
+    → DeliversStore told before after asked heard first now status → IsKeptSafe before after
+delivers_safe told before after asked heard first now status (inl (fault, refused, _, _)) = inl (fault, refused)
+delivers_safe told before after asked heard first now status (inr (opened, closed, run, _)) = inr (opened, closed, run.0, run.1.0)
+
+-- ---- what a crash may leave
+
+-- a turn in which nothing was kept
+still-turn : (growth : ℕ → ℕ) (before after : Standing) → after.state ≡ before.state
+    → PassesTime before.state.keeper.records before.state.keeper.doubt before.crashes after.crashes → Turns growth before after NoEntry
+still-turn growth before after same time = record {
+  follows = unchanged growth before.state after.state (ap (λ (s : State). s.history) same) (ap (λ (s : State). s.keeper.records) same)
+      (ap (λ (s : State). s.keeper.end) same) (ap (λ (s : State). s.keeper.doubt) same) (ap (λ (s : State). s.keeper.faults) same);
+  passes = time;
+  may_fail = tt;
+}
+
+-- two turns
+two : (b : Base) (seen log : Log) (x : Crashes) (before refused after : Standing) → SurvivesTurn b.growth before refused
+    → Survives b None seen log before.state x before.crashes → after.state ≡ refused.state
+    → PassesTime refused.state.keeper.records refused.state.keeper.doubt refused.crashes after.crashes → SurvivesMarked b None seen after.state x after.crashes
+two b seen log x before refused after trial was same time = (
+  (log ++ items_of None trial.0) ++ items_of None NoEntry,
+  survives_more b None seen (log ++ items_of None trial.0) x refused after NoEntry
+      (survives_more b None seen log x before refused trial.0 was trial.1) (still-turn b.growth refused after same time),
+)
+
+-- the trial left what a turn leaves
+pub trial_survives : (b : Base) (seen : Log) (x : Crashes) (before after : Standing) → SurvivesMarked b None seen before.state x before.crashes
+    → SurvivesTurn b.growth before after → SurvivesMarked b None seen after.state x after.crashes
+trial_survives b seen x before after was turn = (was.0 ++ items_of None turn.0, survives_more b None seen was.0 x before after turn.0 was.1 turn.1)
+
+-- whatever the trial left, the machine stands for a log
+pub stopped_survives : (b : Base) (room : ℕ → ℕ) (seen : Log) (x : Crashes) (before refused after : Standing) (stop : Stop) (first now : Output) (status : ℕ)
+    → SurvivesMarked b None seen before.state x before.crashes → TrialSurvives b.growth room before refused (Err stop)
+    → IsStopped stop refused.state after.state first now status
+    → PassesTime refused.state.keeper.records refused.state.keeper.doubt refused.crashes after.crashes → SurvivesMarked b None seen after.state x after.crashes
+stopped_survives b room seen x before refused after WriteFault first now status was trial is time = two b seen was.0 x before refused after trial was.1 is.1 time
+stopped_survives b room seen x before refused after Full first now status was trial is time = two b seen was.0 x before refused after trial was.1 is.1 time
+stopped_survives b room seen x before refused after Memory first now status was trial is time = two b seen was.0 x before refused after trial was.1 is.1 time
+stopped_survives b room seen x before refused after KeeperFault first now status (log, was) (e, refuses, turn) (is, settled, tells) time = of settled.1
+  where
+    same : refused.state.history ≡ before.state.history
+    same = turn.follows.history ∙ append-nil before.state.history
+
+    of : (after.state.keeper ≡ record refused.state.keeper { doubt = None }) ⊎ (after.state.keeper ≡ after_fault refused.state.keeper)
+        → SurvivesMarked b None seen after.state x after.crashes
+    of (inl done) = (
+      log ++ items_of None (Failed e),
+      survives_more b None seen log x before after (Failed e) was
+          (settled_turn b.growth room before refused after e same turn.may_fail (refuses, turn.passes) settled.0 done time),
+    )
+    of (inr failed) = (
+      (log ++ items_of None (Failed e)) ++ items_of None (Failed e),
+      survives_more b None seen (log ++ items_of None (Failed e)) x refused after (Failed e)
+          (survives_more b None seen log x before refused (Failed e) was turn)
+          (failed_again b.growth refused after e (subst (λ (h : List Entry). IsNext (town h) e) (sym same) turn.may_fail) settled.0 failed time),
+    )

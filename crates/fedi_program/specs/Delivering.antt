@@ -1,0 +1,289 @@
+-- Trying each delivery that is due once (ActivityPub, sections 7.1 and 7.1.2): the operator's command, and what is printed.
+use Rattle.std.specs.Prelude.{◌≡◌, ◌⊎◌, ℕ, List, [], ◌∷◌, ◌++◌, codes, decimal, length, map, Option, Some, None, Result, Ok, Err, slice_get}
+use Rattle.std.specs.List.{flat_map, fold}
+use Rattle.std.specs.declared.alloc.AllocError.{AllocError}
+use Rattle.fedi_address.specs.Iris.{host_of}
+use Rattle.fedi_core.specs.Keeping.{IsKept, Refuses}
+use Rattle.fedi_core.specs.declared.delivering.RecordFault.{RecordFault}
+use Rattle.fedi_core.specs.declared.delivering.RecordFault.TheVariants as records
+use Rattle.fedi_core.specs.declared.keeping.KeepFault.TheVariants as keeps
+use Rattle.fedi_delivery.specs.Deliveries.{address_to, body_of, lookup_to, post_to}
+use Rattle.fedi_delivery.specs.Exchanges.{Told, count_after}
+use Rattle.fedi_delivery.specs.Replies.{IsCameOfPost, IsFoundIn}
+use Rattle.fedi_delivery.specs.declared.replies.Found.TheVariants.{Inbox, Ended}
+use Rattle.fedi_queue.specs.Due.{IsTo, due_in}
+use Rattle.fedi_entry.specs.Codes.{code_of}
+use Rattle.fedi_log.specs.Keeping.{State}
+use Rattle.fedi_logged.specs.Turns.{Standing, SurvivesTurn, Turns}
+use Rattle.fedi_log.specs.Log as logs
+use Rattle.fedi_objects.specs.declared.entry.Came.{Came}
+use Rattle.fedi_objects.specs.declared.entry.Entry.{Entry}
+use Rattle.fedi_objects.specs.declared.entry.Entry.TheVariants.{Tried}
+use Rattle.fedi_outside.specs.Keepers.{OnlyRoomChanged}
+use Rattle.fedi_outside.specs.Links.{Asking}
+use Rattle.fedi_outside.specs.declared.doors.Bench.{Bench}
+use Rattle.fedi_startup.specs.declared.faults.StoreFault.{StoreFault}
+use Rattle.fedi_startup.specs.Surviving.{growth, room}
+use Rattle.fedi_talk.specs.Conversations.{IsNow}
+use Rattle.fedi_talk.specs.Endings.{BreaksOff, Output, Writes, WritesUnlessFailed}
+use Rattle.fedi_town.specs.declared.act.Act.{Act}
+use Rattle.fedi_town.specs.declared.outcome.Outcome.{Outcome}
+use Rattle.fedi_town.specs.declared.outcome.Outcome.TheVariants.{Delivered, Again, GivenUp}
+use Rattle.fedi_town.specs.Histories.{town}
+use Rattle.fedi_town.specs.Queues.{Delivery, outcome}
+use Rattle.fedi_town.specs.Towns.{Town}
+use Rattle.fedi_program.specs.Members.{IsSettled}
+use Rattle.fedi_program.specs.Stores.{IsRefused, IsRunAlone, Medium, TellsOfStore}
+use Rattle.fedi_program.specs.declared.delivering.Stop.{Stop}
+use Rattle.fedi_program.specs.declared.delivering.Stop.TheVariants.{WriteFault, KeeperFault, Full, Memory}
+
+-- ---- exchanges
+
+-- a request that was sent, and what was heard of it: a reply, or none
+pub record Exchange : Type 0 where
+  pub asking : Asking
+  pub heard : Option (List ℕ)
+
+-- if rows are told now, they are those that were told before and then these
+abbrev pub AddsRows : {A : Type 0} → Option (List A) → Option (List A) → List A → Type 0
+AddsRows before None rows = Unit {0}
+AddsRows None (Some told) rows = ⊥
+AddsRows (Some before) (Some told) rows = told ≡ before ++ rows
+
+-- the count of faults after these exchanges: one more for each that has no reply
+abbrev pub count_after_each : ℕ → List Exchange → ℕ
+count_after_each count exchanges = fold (λ (n : ℕ) (x : Exchange). count_after x.heard n) count exchanges
+
+-- the link had these exchanges in order and no others
+pub record HasExchanged (before now : Told) (exchanges : List Exchange) : Type 0 where
+  pub asked : AddsRows before.asked now.asked (map (λ (x : Exchange). x.asking) exchanges)
+  pub heard : AddsRows before.heard now.heard (map (λ (x : Exchange). x.heard) exchanges)
+  pub faults : now.faults ≡ count_after_each before.faults exchanges
+
+-- what this link tells, by what tells of such
+abbrev pub told_by : {K : Type 0} → (K → Option (List Asking)) → (K → Option (List (Option (List ℕ)))) → (K → ℕ) → K → Told
+told_by asked heard faults link = record { asked = asked link; heard = heard link; faults = faults link }
+
+-- ---- one attempt
+
+-- an attempt to deliver the activity of this id to the recipient: its exchanges, and what came of it
+pub record Trial : Type 0 where
+  pub activity : List ℕ
+  pub recipient : List ℕ
+  pub exchanges : List Exchange
+  pub came : Came
+
+-- the recipient was looked up at its server
+abbrev pub IsLookup : Town → List ℕ → Exchange → Type 0
+IsLookup t recipient x = (address_to t recipient ≡ Some x.asking.address) × (lookup_to t recipient ≡ Some x.asking.request)
+
+-- the activity of this id was posted to the inbox, at the server of the recipient
+abbrev pub IsPost : Town → List ℕ → List ℕ → List ℕ → Exchange → Type 0
+IsPost t id recipient inbox x =
+    (k : ℕ) × (a : Act) × (slice_get t.acts k ≡ Some a) × (a.activity.id ≡ Some id)
+    × (address_to t recipient ≡ Some x.asking.address) × (post_to t recipient inbox (body_of t a) ≡ Some x.asking.request)
+
+-- The exchanges of an attempt, and what came of it is what the last of them shows: the lookup alone, if it ended the attempt; or
+-- the lookup, which found the inbox, and the post to it.
+abbrev pub ShowsCame : Town → (id recipient : List ℕ) → List Exchange → Came → Type 0
+ShowsCame t id recipient [] came = ⊥
+ShowsCame t id recipient (l ∷ []) came = IsLookup t recipient l × IsFoundIn recipient l.heard (Ended came)
+ShowsCame t id recipient (l ∷ p ∷ []) came =
+    (inbox : List ℕ) × IsLookup t recipient l × IsFoundIn recipient l.heard (Inbox inbox)
+    × IsPost t id recipient inbox p × IsCameOfPost p.heard came
+ShowsCame t id recipient (l ∷ p ∷ x ∷ xs) came = ⊥
+
+-- the exchanges of an attempt that may have been given up: none, the lookup, or both
+abbrev pub IsBegun : Town → (id recipient : List ℕ) → List Exchange → Type 0
+IsBegun t id recipient [] = Unit {0}
+IsBegun t id recipient (l ∷ []) = IsLookup t recipient l
+IsBegun t id recipient (l ∷ p ∷ []) =
+    (inbox : List ℕ) × IsLookup t recipient l × IsFoundIn recipient l.heard (Inbox inbox) × IsPost t id recipient inbox p
+IsBegun t id recipient (l ∷ p ∷ x ∷ xs) = ⊥
+
+-- it was an attempt at this town
+abbrev pub IsAttempt : Town → Trial → Type 0
+IsAttempt t x = ShowsCame t x.activity x.recipient x.exchanges x.came
+
+-- its entry, at this moment
+abbrev pub entry_of : ℕ → Trial → Entry
+entry_of moment x = Tried x.activity x.recipient x.came moment
+
+-- ---- what is printed
+
+-- the word for what an attempt means
+abbrev pub word_of : Outcome → List ℕ
+word_of Delivered = codes "delivered"
+word_of Again = codes "again"
+word_of GivenUp = codes "gave-up"
+
+-- the line that tells of an attempt: the activity, the host of the recipient, who is not named, and the word
+unfoldable pub attempt_line : (id recipient : List ℕ) → Came → List ℕ
+attempt_line id recipient came =
+    id ++ (codes " " ++ (host_of recipient ++ (codes " " ++ (word_of (outcome came) ++ codes "\n"))))
+
+-- that of a trial
+abbrev pub line_of : Trial → List ℕ
+line_of x = attempt_line x.activity x.recipient x.came
+
+-- those of trials, in order
+abbrev pub lines_of : List Trial → List ℕ
+lines_of tried = flat_map line_of tried
+
+-- the last line: how many were tried
+unfoldable pub done_line : ℕ → List ℕ
+done_line count = codes "done " ++ (decimal count ++ codes "\n")
+
+-- ---- many attempts
+
+-- their exchanges, in order
+abbrev pub exchanges_of : List Trial → List Exchange
+exchanges_of tried = flat_map (λ (x : Trial). x.exchanges) tried
+
+-- The machine went from the first state to the second by these attempts at this moment, one after the other, each at the history
+-- that those before it left, and kept the entry of each.
+abbrev pub TriesEach : (growth room : ℕ → ℕ) → ℕ → State → List Trial → State → Type 0
+TriesEach growth room moment before [] after = after ≡ before
+TriesEach growth room moment before (x ∷ xs) after =
+    (next : State) × IsAttempt (town before.history) x
+    × IsKept growth room before.history (entry_of moment x) before.keeper next.keeper next.history
+    × TriesEach growth room moment next xs after
+
+-- the trials are of the first of these deliveries, in order, each once, and the others are left
+abbrev pub AreFirst : List Delivery → List Trial → List Delivery → Type 0
+AreFirst due [] left = due ≡ left
+AreFirst [] (x ∷ xs) left = ⊥
+AreFirst (d ∷ due) (x ∷ xs) left = IsTo x.activity x.recipient d × AreFirst due xs left
+
+-- the attempt is of the first of these deliveries
+abbrev pub IsFirst : (id recipient : List ℕ) → List Delivery → Type 0
+IsFirst id recipient [] = ⊥
+IsFirst id recipient (d ∷ left) = IsTo id recipient d
+
+-- ---- how the command ends
+
+-- each was tried, and the last line printed, unless its write failed (7)
+abbrev pub TellsDone : List Trial → Output → Output → ℕ → Type 0
+TellsDone tried first now status =
+    ((status ≡ 0) × Writes first now (lines_of tried ++ done_line (length tried)))
+    ⊎ ((status ≡ 7) × BreaksOff first now (lines_of tried) (done_line (length tried)))
+
+-- the line of the last that was tried was not printed, since its write failed (7)
+abbrev pub LosesLine : List Trial → Output → Output → ℕ → Type 0
+LosesLine tried first now status =
+    (status ≡ 7) × (earlier : List Trial) × (x : Trial) × (tried ≡ earlier ++ x ∷ []) × BreaksOff first now (lines_of earlier) (line_of x)
+
+-- the keeper had no room for the entry of one more attempt (13), or it failed and was asked once to settle (5), and this is told
+abbrev pub IsUnrecorded : (ℕ → ℕ) → State → State → Entry → List Trial → Output → Output → ℕ → Type 0
+IsUnrecorded room last after e tried first now status =
+    ((status ≡ 13) × (after.history ≡ last.history) × Refuses room (code_of e) keeps.Full last.keeper after.keeper
+    × WritesUnlessFailed first now (lines_of tried) (codes "full\n"))
+    ⊎ ((status ≡ 5) × (refused : State) × (refused.history ≡ last.history)
+    × Refuses room (code_of e) keeps.Failed last.keeper refused.keeper × IsSettled refused after
+    × WritesUnlessFailed first now (lines_of tried) (codes "disk fault\n"))
+
+-- How the trying ends after the deliveries that were tried, with exchanges beyond theirs: nothing that is due is left; or a write
+-- failed; or what came of one more attempt was not kept; or there was no memory to end the next attempt, or to begin any (12).
+abbrev pub EndsTrying :
+    (ℕ → ℕ) → ℕ → (last after : State) → List Trial → List Delivery → List Exchange → (first now : Output) → ℕ → Type 0
+EndsTrying room moment last after tried left beyond first now status =
+    ((left ≡ []) × (beyond ≡ []) × (after ≡ last) × TellsDone tried first now status)
+    ⊎ (((beyond ≡ []) × (after ≡ last) × LosesLine tried first now status)
+    ⊎ (((x : Trial) × IsFirst x.activity x.recipient left × IsAttempt (town last.history) x × (beyond ≡ x.exchanges)
+    × IsUnrecorded room last after (entry_of moment x) tried first now status)
+    ⊎ ((status ≡ 12) × (after.history ≡ last.history) × OnlyRoomChanged last.keeper after.keeper × Writes first now (lines_of tried)
+    × ((beyond ≡ []) ⊎ ((id : List ℕ) × (recipient : List ℕ) × IsFirst id recipient left × IsBegun (town last.history) id recipient beyond)))))
+
+-- The deliveries that were due at the one moment that was read were tried in order, each once: all of them at status 0, and else
+-- the first of them.
+pub record TriesDue (growth room : ℕ → ℕ) (told : Option ℕ) (opened after : State) (before heard : Told) (first now : Output) (status : ℕ) : Type 0 where
+  pub moment : ℕ
+  pub is_now : IsNow told moment
+  pub tried : List Trial
+  pub left : List Delivery
+  pub last : State
+  pub beyond : List Exchange
+  pub each : TriesEach growth room moment opened tried last
+  pub due : AreFirst (due_in (town opened.history) moment) tried left
+  pub exchanged : HasExchanged before heard (exchanges_of tried ++ beyond)
+  pub ends : EndsTrying room moment last after tried left beyond first now status
+
+-- How a run tries what is due of the store of a disk, over a link: it is not opened, and nothing is asked of the link; or it is.
+abbrev pub DeliversStore : Option ℕ → Medium → Medium → Told → Told → Output → Output → ℕ → Type 0
+DeliversStore told before after asked heard first now status =
+    ((fault : StoreFault) × IsRefused before after fault × (heard ≡ asked) × TellsOfStore fault first now status)
+    ⊎ ((opened : State) × (closed : State) × IsRunAlone before after opened closed
+    × TriesDue growth room told opened closed asked heard first now status)
+
+-- ---- one claim
+
+-- what came of the attempt is what its exchanges show, or there was no memory to end it
+abbrev pub EndsAttempt : Town → (id recipient : List ℕ) → (asked heard : Told) → Result Came AllocError → Type 0
+EndsAttempt t id recipient asked heard (Ok came) =
+    (exchanges : List Exchange) × ShowsCame t id recipient exchanges came × HasExchanged asked heard exchanges
+EndsAttempt t id recipient asked heard (Err e) =
+    (exchanges : List Exchange) × IsBegun t id recipient exchanges × HasExchanged asked heard exchanges
+
+-- what came of an attempt with which something else came
+abbrev pub came_in : {B E : Type 0} → Result (Came × B) E → Result Came E
+came_in (Ok done) = Ok done.0
+came_in (Err e) = Err e
+
+-- why no more is tried, where what came of an attempt was not kept for this reason
+abbrev pub stop_of : RecordFault → Stop
+stop_of records.KeeperFault = KeeperFault
+stop_of records.Full = Full
+stop_of records.Memory = Memory
+
+-- How one delivery that was claimed is tried: its entry is kept and its line printed; or that write failed; or the entry was not
+-- kept; or there was no memory to end the attempt.
+abbrev pub EndsTrial :
+    (growth room : ℕ → ℕ) → ℕ → (id recipient : List ℕ) → (before after : State) → (asked heard : Told) → (first now : Output) → Result (Unit {0}) Stop → Type 0
+EndsTrial growth room moment id recipient before after asked heard first now (Ok done) =
+    (exchanges : List Exchange) × (came : Came) × ShowsCame (town before.history) id recipient exchanges came
+    × HasExchanged asked heard exchanges
+    × IsKept growth room before.history (Tried id recipient came moment) before.keeper after.keeper after.history
+    × Writes first now (attempt_line id recipient came)
+EndsTrial growth room moment id recipient before after asked heard first now (Err WriteFault) =
+    (exchanges : List Exchange) × (came : Came) × ShowsCame (town before.history) id recipient exchanges came
+    × HasExchanged asked heard exchanges
+    × IsKept growth room before.history (Tried id recipient came moment) before.keeper after.keeper after.history
+    × BreaksOff first now [] (attempt_line id recipient came)
+EndsTrial growth room moment id recipient before after asked heard first now (Err KeeperFault) =
+    (exchanges : List Exchange) × (came : Came) × ShowsCame (town before.history) id recipient exchanges came
+    × HasExchanged asked heard exchanges × (after.history ≡ before.history)
+    × Refuses room (code_of (Tried id recipient came moment)) keeps.Failed before.keeper after.keeper × (now ≡ first)
+EndsTrial growth room moment id recipient before after asked heard first now (Err Full) =
+    (exchanges : List Exchange) × (came : Came) × ShowsCame (town before.history) id recipient exchanges came
+    × HasExchanged asked heard exchanges × (after.history ≡ before.history)
+    × Refuses room (code_of (Tried id recipient came moment)) keeps.Full before.keeper after.keeper × (now ≡ first)
+EndsTrial growth room moment id recipient before after asked heard first now (Err Memory) =
+    (exchanges : List Exchange) × IsBegun (town before.history) id recipient exchanges × HasExchanged asked heard exchanges
+    × (after.history ≡ before.history) × OnlyRoomChanged before.keeper after.keeper × (now ≡ first)
+
+-- what a crash during it may leave: the keeper that failed may have left the entry
+abbrev pub TrialSurvives : (growth room : ℕ → ℕ) → (before after : Standing) → Result (Unit {0}) Stop → Type 0
+TrialSurvives growth room before after (Ok done) = SurvivesTurn growth before after
+TrialSurvives growth room before after (Err WriteFault) = SurvivesTurn growth before after
+TrialSurvives growth room before after (Err KeeperFault) =
+    (e : Entry) × Refuses room (code_of e) keeps.Failed before.state.keeper after.state.keeper × Turns growth before after (logs.Failed e)
+TrialSurvives growth room before after (Err Full) = SurvivesTurn growth before after
+TrialSurvives growth room before after (Err Memory) = SurvivesTurn growth before after
+
+-- What follows where no more is tried, and the status: it is told why, unless a write failed, or there is no memory; and a keeper
+-- that failed is asked once to settle.
+abbrev pub IsStopped : Stop → (before after : State) → (first now : Output) → ℕ → Type 0
+IsStopped WriteFault before after first now status = (status ≡ 7) × (after ≡ before) × (now ≡ first)
+IsStopped KeeperFault before after first now status =
+    (status ≡ 5) × IsSettled before after × WritesUnlessFailed first now [] (codes "disk fault\n")
+IsStopped Full before after first now status = (status ≡ 13) × (after ≡ before) × WritesUnlessFailed first now [] (codes "full\n")
+IsStopped Memory before after first now status = (status ≡ 12) × (after ≡ before) × (now ≡ first)
+
+-- ---- benches
+
+-- How a run tries what is due by the link of the first of these benches: it alone is asked, and all else of the benches stays.
+abbrev pub DeliversBy :
+    {W K : Type 0} → (K → Told) → Option ℕ → Medium → Medium → (benches now : List (Bench W K)) → Output → Output → ℕ → Type 0
+DeliversBy tells told before after [] now first out status = ⊥
+DeliversBy tells told before after (b ∷ benches) now first out status =
+    (link : _) × (now ≡ record b { link = link } ∷ benches) × DeliversStore told before after (tells b.link) (tells link) first out status

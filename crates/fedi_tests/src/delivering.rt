@@ -1,0 +1,357 @@
+//! Runs that deliver to other servers what waits, byte for byte.
+
+use crate::cases::{Case, SECONDS, calm};
+use crate::example::MEMBERS;
+use crate::records::{ANA, FOLLOWED, HOSTED, LAKE, NOTE};
+use crate::rows::expect_at;
+use crate::runs::{are_texts, calls_after, calls_of_an_opening, left_by};
+use crate::store_files::has_records;
+use std::alloc::{AllocError, Global};
+use std::test::Fail;
+
+/// Another server became a peer.
+const HILL: &[u8] = b"\
+    \x03\
+    \0\0\0\x0chill.example\
+    0123456789abcdef0123456789abcdef\
+    \0\0\0\x0e127.0.0.1:8082\
+    \0\
+    \0\0\0\0.\xbc\x98\xa1";
+
+/// It delivered a Follow of the first member, which is accepted at once.
+const FOLLOWED_BY_FINN: &[u8] = b"\
+    \x05\
+    \0\0\0\x0chill.example\
+    \0\0\0\x03ana\
+    \x01\0\0\0\x23https://hill.example/users/finn/a/1\
+    \x0a\
+    \x01\0\0\0\x1fhttps://hill.example/users/finn\
+    \x01\
+    \0\0\0\x1ehttps://club.example/users/ana\
+    \0\0\0\0\0\0\0\0\0\0\0\0\0\0\0\0\0\0\0\0\0\0\0\0\0\0\0\0\0\0\
+    \0\0\0\0.\xbc\x98\xa1";
+
+/// It delivered a note below the member's second activity.
+const REPLIED: &[u8] = b"\
+    \x05\
+    \0\0\0\x0chill.example\
+    \0\0\0\x03ana\
+    \x01\0\0\0\x23https://hill.example/users/dora/a/9\
+    \x06\
+    \x01\0\0\0\x1fhttps://hill.example/users/dora\
+    \x02\
+    \x01\0\0\0\x23https://hill.example/users/dora/o/9\
+    \0\0\0\x04Note\
+    \0\
+    \0\0\0\0\0\0\0\0\0\0\0\0\0\0\0\0\0\0\0\0\
+    \x01\0\0\0\x22https://club.example/users/ana/o/2\
+    \x01\0\0\0\x05Hello\
+    \0\0\0\0\0\0\0\0\0\0\0\
+    \0\
+    \0\0\0\0\0\0\0\0\0\0\0\0\0\0\0\0\0\0\0\0\
+    \0\0\0\0\0\0\0\0\0\
+    \0\0\0\0.\xbc\x98\xa1";
+
+/// It delivered another one, which is for the followers of the member too.
+const FORWARDED: &[u8] = b"\
+    \x05\
+    \0\0\0\x0chill.example\
+    \0\0\0\x03ana\
+    \x01\0\0\0\x23https://hill.example/users/dora/a/8\
+    \x06\
+    \x01\0\0\0\x1fhttps://hill.example/users/dora\
+    \x02\
+    \x01\0\0\0\x23https://hill.example/users/dora/o/8\
+    \0\0\0\x04Note\
+    \0\
+    \0\0\0\0\0\0\0\0\0\0\0\0\0\0\0\0\0\0\0\0\
+    \x01\0\0\0\x22https://club.example/users/ana/o/2\
+    \x01\0\0\0\x05Hello\
+    \0\0\0\0\0\0\0\0\0\0\0\
+    \0\
+    \0\0\0\0\
+    \0\0\0\x01\
+    \0\0\0(https://club.example/users/ana/followers\
+    \0\0\0\0\0\0\0\0\0\0\0\0\
+    \0\0\0\0\0\0\0\0\0\
+    \0\0\0\0.\xbc\x98\xa1";
+
+/// A town in which the acceptance of a Follow is due.
+const FOLLOWING: [&[u8]; 4] = [HOSTED, ANA, LAKE, FOLLOWED];
+
+/// A town in which that is due, and the forward of a note to the follower.
+const WAITING: [&[u8]; 7] = [HOSTED, ANA, LAKE, HILL, FOLLOWED, NOTE, FORWARDED];
+
+/// The same records, but that the note is not for the followers.
+const NOT_FORWARDED: [&[u8]; 7] = [HOSTED, ANA, LAKE, HILL, FOLLOWED, NOTE, REPLIED];
+
+/// A town with one more follower, on the server from which the note came.
+const FOLLOWED_TWICE: [&[u8]; 8] = [
+    HOSTED,
+    ANA,
+    LAKE,
+    HILL,
+    FOLLOWED,
+    NOTE,
+    FOLLOWED_BY_FINN,
+    FORWARDED,
+];
+
+/// What `check` prints of each.
+const COUNTS: [(&[&[u8]], &str); 5] = [
+    (&MEMBERS, "entries 5 actors 4 activities 0 queue 0\n"),
+    (&FOLLOWING, "entries 4 actors 1 activities 2 queue 1\n"),
+    (&WAITING, "entries 7 actors 1 activities 4 queue 2\n"),
+    (&NOT_FORWARDED, "entries 7 actors 1 activities 4 queue 1\n"),
+    // Nothing is forwarded to the server from which it came.
+    (&FOLLOWED_TWICE, "entries 8 actors 1 activities 6 queue 3\n"),
+];
+
+/// The actor document of the follower.
+const EVE: &str =
+    "HTTP/1.1 200 OK\r\nContent-Length: 86\r\n\r\n{\"id\":\"https://lake.example/users/eve\",\"inbox\":\"https://lake.example/users/eve/inbox\"}";
+
+/// A delivery was taken.
+const TAKEN: &str = "HTTP/1.1 202 Accepted\r\nContent-Length: 0\r\n\r\n";
+
+/// What was asked for is gone.
+const GONE: &str = "HTTP/1.1 410 Gone\r\n\r\n";
+
+/// The requests by which the acceptance of the Follow is delivered.
+const LOOK_UP: &str =
+    "GET /users/eve HTTP/1.1\r\nHost: lake.example\r\nAccept: application/ld+json; profile=\"https://www.w3.org/ns/activitystreams\"\r\nPeer-Host: club.example\r\nPeer-Mac: 09ffc80b31fbd4d9d68914837bba0a8c38e2626c8d612fb4f5dc5a9c17d0190a\r\nConnection: close\r\n\r\n";
+
+const ACCEPT: &str =
+    "POST /users/eve/inbox HTTP/1.1\r\nHost: lake.example\r\nContent-Type: application/ld+json; profile=\"https://www.w3.org/ns/activitystreams\"\r\nPeer-Host: club.example\r\nPeer-Mac: 346aea3f82cfd4e62fa2a079e8024b2fdc7a99687ab5da546966e3c1bdb3f5a3\r\nContent-Length: 272\r\nConnection: close\r\n\r\n{\"@context\":\"https://www.w3.org/ns/activitystreams\",\"actor\":\"https://club.example/users/ana\",\"id\":\"https://club.example/users/ana/a/1\",\"object\":\"https://lake.example/users/eve/a/1\",\"published\":\"1994-11-06T08:49:37Z\",\"to\":[\"https://lake.example/users/eve\"],\"type\":\"Accept\"}";
+
+/// The requests by which the note is forwarded after that.
+const FORWARD: &str =
+    "POST /users/eve/inbox HTTP/1.1\r\nHost: lake.example\r\nContent-Type: application/ld+json; profile=\"https://www.w3.org/ns/activitystreams\"\r\nPeer-Host: club.example\r\nPeer-Mac: ea1570ba394276c82541885a522d27569d6196052d86b94d89b2af478dcd2955\r\nContent-Length: 387\r\nConnection: close\r\n\r\n{\"@context\":\"https://www.w3.org/ns/activitystreams\",\"actor\":\"https://hill.example/users/dora\",\"cc\":[\"https://club.example/users/ana/followers\"],\"id\":\"https://hill.example/users/dora/a/8\",\"object\":{\"attributedTo\":\"https://hill.example/users/dora\",\"content\":\"Hello\",\"id\":\"https://hill.example/users/dora/o/8\",\"inReplyTo\":\"https://club.example/users/ana/o/2\",\"type\":\"Note\"},\"type\":\"Create\"}";
+
+/// The beginnings of the lines that are printed, one for each attempt.
+const OWN: &str = "https://club.example/users/ana/a/1 lake.example ";
+
+const OTHER: &str = "https://hill.example/users/dora/a/8 lake.example ";
+
+/// What is shown, the replies, which exchanges fail, what is printed of both attempts, and what was asked.
+const RUNS: [(&str, &[&str], &[u64], &[&str], &[&str]); 4] = [
+    (
+        "both are delivered",
+        &[EVE, TAKEN, EVE, TAKEN],
+        &[],
+        &[OWN, "delivered\n", OTHER, "delivered\n", "done 2\n"],
+        &[LOOK_UP, ACCEPT, LOOK_UP, FORWARD],
+    ),
+    (
+        "whoever is gone gets nothing",
+        &[GONE, GONE],
+        &[],
+        &[OWN, "gave-up\n", OTHER, "gave-up\n", "done 2\n"],
+        &[LOOK_UP, LOOK_UP],
+    ),
+    (
+        "one that fails does not stop the other",
+        &["", EVE, TAKEN],
+        &[0],
+        &[OWN, "again\n", OTHER, "delivered\n", "done 2\n"],
+        &[LOOK_UP, LOOK_UP, FORWARD],
+    ),
+    (
+        "nobody answers",
+        &[],
+        &[],
+        &[OWN, "again\n", OTHER, "again\n", "done 2\n"],
+        &[LOOK_UP, LOOK_UP],
+    ),
+];
+
+/// The replies to the requests of one attempt, which exchanges fail, and the word that is printed.
+const WORDS: [(&[&str], &[u64], &str); 19] = [
+    (&["HTTP/1.1 404 Not Found\r\n\r\n"], &[], "gave-up\n"),
+    (&["HTTP/1.1 403 Forbidden\r\n\r\n"], &[], "again\n"),
+    (&["HTTP/1.1 204 No Content\r\n\r\n"], &[], "again\n"),
+    // No head, or the half of one, or a status that there is not.
+    (&[""], &[], "again\n"),
+    (&["220 lake.example ESMTP\r\n"], &[], "again\n"),
+    (&["HTTP/1.1 200 OK\r\n"], &[], "again\n"),
+    (&["HTTP/1.1 099 Odd\r\n\r\n"], &[], "again\n"),
+    // No actor document, one of another actor, and one whose inbox is on another server.
+    (&["HTTP/1.1 200 OK\r\n\r\n"], &[], "again\n"),
+    (&["HTTP/1.1 200 OK\r\n\r\n{}"], &[], "again\n"),
+    (
+        &[
+            "HTTP/1.1 200 OK\r\n\r\n{\"id\":\"https://lake.example/users/eva\",\"inbox\":\"https://lake.example/users/eva/inbox\"}",
+        ],
+        &[],
+        "again\n",
+    ),
+    (
+        &[
+            "HTTP/1.1 200 OK\r\n\r\n{\"id\":\"https://lake.example/users/eve\",\"inbox\":\"https://hill.example/users/eve/inbox\"}",
+        ],
+        &[],
+        "again\n",
+    ),
+    // The post.
+    (&[EVE, "HTTP/1.1 200 OK\r\n\r\n"], &[], "delivered\n"),
+    (&[EVE, "HTTP/1.1 299 Odd\r\n\r\n"], &[], "delivered\n"),
+    (&[EVE, "HTTP/1.1 301 Moved\r\n\r\n"], &[], "again\n"),
+    (&[EVE, "HTTP/1.1 404 Not Found\r\n\r\n"], &[], "gave-up\n"),
+    (&[EVE, GONE], &[], "gave-up\n"),
+    (&[EVE, "HTTP/1.1 500 Odd\r\n\r\n"], &[], "again\n"),
+    (&[EVE, "nothing of HTTP"], &[], "again\n"),
+    (&[EVE, TAKEN], &[1], "again\n"),
+];
+
+/// How long after the first attempt each of the eight is due, the last of which ends the delivery.
+const DUE: [u64; 8] = [0, 60, 180, 420, 900, 1_860, 3_780, 7_620];
+
+/// Which calls of the disk fail, counted from the first append's first, which are four for each append, and
+/// which writes, and the status, what is printed, and how many attempts are kept.
+const FAULTS: [(&[u64], &[u64], u8, &[&str], usize); 6] = [
+    (&[0], &[], 5, &["disk fault\n"], 0),
+    (&[2], &[], 5, &["disk fault\n"], 0),
+    (&[4], &[], 5, &[OWN, "delivered\n", "disk fault\n"], 1),
+    // A write fails: the attempt was kept, and no other is made.
+    (&[], &[0], 7, &[], 1),
+    (&[], &[1], 7, &[OWN, "delivered\n"], 2),
+    (&[], &[2], 7, &[OWN, "delivered\n", OTHER, "delivered\n"], 2),
+];
+
+fn delivering<'a>(records: &'a [&'a [u8]], replies: &'a [&'a str]) -> Case<'a> {
+    Case {
+        replies,
+        ..calm("fedi deliver s", records)
+    }
+}
+
+fn has_count(alloc: Global, records: &[&[u8]], printed: &str) -> Result<bool, AllocError> {
+    let left = left_by(alloc, &calm("fedi check s", records))?;
+    Ok(left.status == 0 && are_texts(&left.out, &[printed]))
+}
+
+// Whether the run over the records tries each delivery once, and the next one at the same moment none of them.
+fn has_run(
+    alloc: Global,
+    row: &(&str, &[&str], &[u64], &[&str], &[&str]),
+) -> Result<bool, AllocError> {
+    let (_, replies, failing_exchanges, printed, asked) = *row;
+    let case = Case {
+        failing_exchanges,
+        ..delivering(&WAITING, replies)
+    };
+    let left = left_by(alloc, &case)?;
+    let again = Case {
+        bytes: &left.disk,
+        ..delivering(&[], &[EVE, TAKEN])
+    };
+    let last = left_by(alloc, &again)?;
+    Ok(
+        left.status == 0
+            && are_texts(&left.out, printed)
+            && are_texts(&left.asked, asked)
+            && has_records(alloc, &left.disk, &WAITING, 2)?
+            && last.status == 0
+            && are_texts(&last.out, &["done 0\n"])
+            && last.asked.is_empty(),
+    )
+}
+
+fn has_word(alloc: Global, row: &(&[&str], &[u64], &str)) -> Result<bool, AllocError> {
+    let (replies, failing_exchanges, word) = *row;
+    let case = Case {
+        failing_exchanges,
+        ..delivering(&FOLLOWING, replies)
+    };
+    let left = left_by(alloc, &case)?;
+    Ok(
+        left.status == 0
+            && are_texts(&left.out, &[OWN, word, "done 1\n"])
+            && has_records(alloc, &left.disk, &FOLLOWING, 1)?,
+    )
+}
+
+// What is printed so long after the first moment, over the disk, and the disk after it.
+fn is_printed(
+    alloc: Global,
+    disk: &[u8],
+    after: u64,
+    printed: &[&str],
+) -> Result<(bool, Vec<u8>), AllocError> {
+    let case = Case {
+        bytes: disk,
+        seconds: SECONDS.saturating_add(after),
+        ..delivering(&[], &[])
+    };
+    let left = left_by(alloc, &case)?;
+    Ok((left.status == 0 && are_texts(&left.out, printed), left.disk))
+}
+
+// Which of the attempts is not made when it is due, or made a second before that.
+fn first_off(alloc: Global) -> Result<Option<usize>, AllocError> {
+    let none = left_by(alloc, &calm("fedi check s", &FOLLOWING))?;
+    let mut disk = none.disk;
+    for (number, due) in DUE.iter().enumerate() {
+        if *due > 0 && !is_printed(alloc, &disk, due.saturating_sub(1), &["done 0\n"])?.0 {
+            return Ok(Some(number));
+        }
+        let (holds, after) = is_printed(alloc, &disk, *due, &[OWN, "again\n", "done 1\n"])?;
+        if !holds {
+            return Ok(Some(number));
+        }
+        disk = after;
+    }
+    let (holds, _) = is_printed(alloc, &disk, 1_000_000, &["done 0\n"])?;
+    Ok(if holds { None } else { Some(DUE.len()) })
+}
+
+fn has_fault(
+    alloc: Global,
+    opening: u64,
+    row: &(&[u64], &[u64], u8, &[&str], usize),
+) -> Result<bool, AllocError> {
+    let (failing, failing_writes, status, printed, kept) = *row;
+    let failing_calls = calls_after(alloc, opening, failing)?;
+    let case = Case {
+        failing_calls: &failing_calls,
+        failing_writes,
+        ..delivering(&WAITING, &[EVE, TAKEN, EVE, TAKEN])
+    };
+    let left = left_by(alloc, &case)?;
+    Ok(
+        left.status == status
+            && are_texts(&left.out, printed)
+            && has_records(alloc, &left.disk, &WAITING, kept)?,
+    )
+}
+
+#[test]
+fn each_delivery_that_is_due_is_tried_once(rt: HostRuntime) -> Result<(), Fail> {
+    for (number, row) in COUNTS.iter().enumerate() {
+        expect_at(has_count(rt.alloc(), row.0, row.1)?, row.1, number)?;
+    }
+    for (number, row) in RUNS.iter().enumerate() {
+        expect_at(has_run(rt.alloc(), row)?, row.0, number)?;
+    }
+    for (number, row) in WORDS.iter().enumerate() {
+        expect_at(has_word(rt.alloc(), row)?, row.2, number)?;
+    }
+    Ok(())
+}
+
+#[test]
+fn a_delivery_is_tried_again_until_the_eighth_time(rt: HostRuntime) -> Result<(), Fail> {
+    match first_off(rt.alloc())? {
+        Some(number) => expect_at(false, "attempt", number),
+        None => Ok(()),
+    }
+}
+
+#[test]
+fn what_was_tried_is_kept_whatever_fails_after_it(rt: HostRuntime) -> Result<(), Fail> {
+    let opening = calls_of_an_opening(rt.alloc(), &WAITING)?;
+    for (number, row) in FAULTS.iter().enumerate() {
+        expect_at(has_fault(rt.alloc(), opening, row)?, "a fault", number)?;
+    }
+    Ok(())
+}
