@@ -39,7 +39,8 @@ class Site:
 
     def __init__(self, folder, upstream, host=HOST, page=os.path.join(HOME, "contrib/web"), changes=(), cors=False, limit=False):
         self.folder, self.host, self.plain, self.tls = folder, host, free_port(), free_port()
-        os.makedirs(f"{folder}/fedi.d", exist_ok=True)
+        for name in ("fedi.d", "members"):
+            os.makedirs(f"{folder}/{name}", exist_ok=True)
         if cors:
             shutil.copy(os.path.join(HOME, "contrib/nginx/fedi-cors.conf"), f"{folder}/fedi.d")
         self.certificate = f"{folder}/certificate"
@@ -51,7 +52,8 @@ class Site:
         for old, new in [(r"server 127.0.0.1:8765;", f"server 127.0.0.1:{upstream};"), (r"listen (\[::\]:)\S+.*;", ""),
                          (r"listen 80;", f"listen 127.0.0.1:{self.plain};"), (r"listen 443 ", f"listen 127.0.0.1:{self.tls} "),
                          (r"/etc/letsencrypt/\S+/fullchain.pem", self.certificate), (r"/etc/letsencrypt/\S+/privkey.pem", f"{folder}/key"),
-                         (r"/var/www/html", f"{folder}/www"), (r"/usr/local/share/fedi/web", page), (r"/etc/nginx/fedi.d", f"{folder}/fedi.d"),
+                         (r"/var/www/html", f"{folder}/www"), (r"/usr/local/share/fedi/web", page), (r"/var/lib/fedi-members", f"{folder}/members"),
+                         (r"/etc/nginx/fedi.d", f"{folder}/fedi.d"),
                          (r"rate=50r/s", "rate=50r/s" if limit else "rate=100000r/s"), (re.escape(HOST), host), *changes]:
             text, count = re.subn(old, new, text)
             if count == 0:

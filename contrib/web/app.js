@@ -225,18 +225,25 @@ const screens = {
       if (local(id)) location.hash = local(id);
       else place.replaceChildren(await relation(id));
     }, field('Find somebody', input), el('button', {type: 'submit'}, 'Find'));
-    const parts = [];
+    const parts = [], person = id => line(face(id), el('div', {}, who(id)));
     for (const [path, title] of [['following', 'You follow'], ['followers', 'Followers']]) {
       const people = await new history.Collection(`${server.me.id}/${path}`).open(), next = people.walk();
       const {node, fill} = feed(async () => {
         const at = await next();
-        return at && line(face(at.item), el('div', {}, who(at.item)));
+        return at && person(at.item);
       }, title, {role: 'list', empty: 'Nobody yet.'});
       await fill(begun);
       parts.push(el('h2', {}, `${title} (${people.length})`), node);
     }
-    const blocked = history.blocked(mine).map(id => line(face(id), el('div', {}, who(id))));
+    const blocked = history.blocked(mine).map(person);
     if (blocked.length) parts.push(el('h2', {}, 'You block'), el('div', {role: 'list', 'aria-label': 'You block'}, ...blocked));
+    const listed = await server.members();
+    if (listed.length) {
+      let position = 0;
+      const {node, fill} = feed(async () => position < listed.length ? person(listed[position++]) : null, 'Members', {role: 'list'});
+      await fill(begun);
+      parts.push(el('h2', {}, `Members (${listed.length})`), node);
+    }
     return [heading('People'), finder, place, ...parts];
   },
 

@@ -152,6 +152,14 @@ export async function post(activity) {
 
 // ---- names
 
+/** The ids of the members whom the operator lists, the newest first, or none if there is no list. */
+export async function members() {
+  const reply = await ask('/members.json', null, {headers: {Accept: 'application/json'}}).catch(() => null);
+  const told = reply?.ok ? await reply.json().catch(() => null) : null;
+  const names = Array.isArray(told) ? told.filter(name => typeof name === 'string' && /^[a-z0-9_]+$/.test(name)) : [];
+  return names.map(name => `${site}/users/${name}`).reverse();
+}
+
 /** `@name@host` of an id in the form of this server. An id of another form is shown as it is. */
 export function handle(id) {
   const found = /^https:\/\/([^/]+)\/users\/([a-z0-9_]+)(?:$|\/)/.exec(id ?? '');

@@ -1,4 +1,4 @@
-"""Eleven changes of the page and its policy, each of which has to make a check fail."""
+"""Twelve changes of the page and its policy, each of which has to make a check fail."""
 import os
 import shutil
 
@@ -33,6 +33,7 @@ CHANGES = {
     "ids of other hosts taken for this one's": ([("server.js", "url.origin === site && ", "")], True, [signed_in, clicks.signing_out]),
     "notes without content": ([("app.js", "shown(note.content ?? note.name ?? '', local)", "shown('', local)")], True, [signed_in, clicks.writing]),
     "buttons that are wider than a phone": ([("style.css", ".does { display", ".does { min-width: 30rem; display")], True, [signed_in, clicks.phone]),
+    "a list of members with whatever is in it": ([("server.js", "typeof name === 'string' && /^[a-z0-9_]+$/.test(name)", "true")], True, [hostile.listed]),
     "fields without labels": ([("page.js", "el('label', {}, label, input)", "el('div', {}, label, input)")], True, [clicks.keyboard]),
 }
 

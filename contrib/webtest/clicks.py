@@ -196,6 +196,22 @@ def blocking(stage, check):
     check("a Block and a Follow are taken back", town.total("ana/followers", "ana") == 0)
 
 
+def listing(stage, check):
+    """The list of members, which the operator makes or not."""
+    cleo, town = stage.pages["cleo"], stage.town
+    cleo.go("People")
+    check("without a list no members are shown", "Members" not in cleo.screen() and "Find somebody" in cleo.screen())
+    check("a list is made of a copy", town.list_members())
+    cleo.go("People")
+    text = cleo.screen().partition("Members (4)")[2]
+    order = [text.find(f"@{name}") for name in ("dan", "cleo", "ben", "ana")]
+    check("all members are listed, the newest first", -1 not in order and order == sorted(order), text)
+    cleo.click("[aria-label=Members] a", "@dan")
+    cleo.wait("location.hash === '#/@dan'", "profile of dan")
+    cleo.settle()
+    check("and lead to their profiles", "@dan@club.example" in cleo.screen())
+
+
 def neighbours(stage, check):
     """A member of another server: what that server has to be told is delivered by hand."""
     ana, town, hill = stage.pages["ana"], stage.town, stage.hill
@@ -422,4 +438,4 @@ def signing_out(stage, check):
     check("after signing out nothing is left in the browser", page.eval("sessionStorage.length + localStorage.length === 0"))
 
 
-STEPS = [signing_in, following, writing, answering, changing, blocking, neighbours, stranger, phone, keyboard, refusals, origins, signing_out]
+STEPS = [signing_in, following, writing, answering, changing, blocking, listing, neighbours, stranger, phone, keyboard, refusals, origins, signing_out]

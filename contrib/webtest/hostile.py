@@ -1,4 +1,6 @@
 """What others may write to a member, lines that break, and acts that were repeated elsewhere."""
+import json
+import os
 import time
 
 from browser import Page, Problem
@@ -109,6 +111,25 @@ def contents(stage, check):
     asked = {url.split("/")[2] for url in urls if url.startswith("http")}
     check("nothing was asked of another host", asked == {HOST} and not stage.elsewhere.asked, f"{asked} {stage.elsewhere.asked}")
     check("the page is still this page", page.eval("location.host") == HOST)
+
+
+LISTED = ["ben", HANDLER, f"javascript:{RUN}", "../ana", "ana/o/1", "ana@evil.example", "Ana", "", "ana\n", None, 5, ["ana"], {"name": "ana"}]
+
+
+def listed(stage, check):
+    """Lists of members that are none, or have what is no name."""
+    page = stage.member("ana")
+    for text in ("no JSON", "null", "5", "{}", '"ana"', '{"length": 1, "0": "ana"}', "[]", ""):
+        with open(stage.town.list(), "w") as file:
+            file.write(text)
+        page.go("People")
+        check(f"'{text}' is no list of members", "Find somebody" in page.screen() and "Members" not in page.screen())
+    with open(stage.town.list(), "w") as file:
+        json.dump(LISTED, file)
+    page.go("People")
+    shown = page.eval("[...document.querySelectorAll('[aria-label=Members] a')].map(a => a.getAttribute('href'))")
+    check("a list of members has names alone", shown == ["#/@ben"] and not page.eval("window.pwned"), f"{shown}")
+    os.remove(stage.town.list())
 
 
 def policy(stage, check):
@@ -222,4 +243,4 @@ def repeated(stage, check):
     check("nor does its end", "after all" in page.text() and page.text().count("after the block") == 1)
 
 
-STEPS = [lost_lines, repeated, policy, contents]
+STEPS = [lost_lines, repeated, policy, listed, contents]

@@ -65,6 +65,20 @@ class Town:
         first = self.ask("GET", f"/users/{name}/{box}", name)[2]["first"]
         return self.ask("GET", first.removeprefix(f"https://{self.host}"), name)[2]["orderedItems"]
 
+    def list_members(self):
+        """Makes the list of members of a copy of the store, as the units of contrib/systemd do, and returns whether that went well."""
+        contrib, programs, copies = os.path.dirname(HERE), f"{self.folder}/programs", f"{self.folder}/copies"
+        for folder in (programs, copies):
+            os.makedirs(folder)
+        os.symlink(self.path, f"{programs}/fedi")
+        found = os.environ | {"PATH": f"{programs}:{os.environ['PATH']}"}
+        steps = ([f"{contrib}/fedi-copy", self.store, copies, "1"], [f"{contrib}/fedi-members", copies, self.list()])
+        return all(subprocess.run(words, env=found, stdout=subprocess.DEVNULL).returncode == 0 for words in steps)
+
+    def list(self):
+        """Where the site has the list of members."""
+        return f"{self.site.folder}/members/members.json"
+
     def total(self, collection, name=None):
         return self.ask("GET", f"/users/{collection}", name)[2].get("totalItems")
 

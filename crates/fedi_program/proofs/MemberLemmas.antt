@@ -20,7 +20,8 @@ use Rattle.fedi_town.specs.Legal.{broken_command, is_taken_host}
 use Rattle.fedi_town.specs.Towns.{has_digest, has_name}
 use Rattle.fedi_logged.specs.Marks.{SurvivesMarked}
 use Rattle.fedi_startup.specs.Surviving.{growth, room}
-use Rattle.fedi_program.specs.Commands.{AddActor, Init, Task}
+use Rattle.fedi_program.specs.declared.commands.Table.{Table}
+use Rattle.fedi_program.specs.Commands.{AddActor, Init, Task, Export}
 use Rattle.fedi_logged.specs.Turns.{Standing, Turns}
 use Rattle.fedi_talk.specs.Endings.{Output}
 use Rattle.fedi_program.specs.Endings.{Prints}
@@ -186,6 +187,13 @@ of_task P task name other locked flag is holds asked =
     let names : name ≡ other = cc in
     let flags : locked ≡ flag = cc in
     subst (λ (n : List ℕ). P n flag) names (subst (λ (f : Bool). P name f) flags holds)
+
+-- what holds of the table that the command has holds of the one that is asked for
+pub of_table : (P : Table → Type 0) (task : Option Task) (table other : Table) → Some (Export table) ≡ task → P table → task ≡ Some (Export other) → P other
+of_table P task table other is holds asked =
+    let same : Some (Export table) ≡ Some (Export other) = is ∙ asked in
+    let tables : table ≡ other = cc in
+    subst P tables holds
 
 -- what holds of the host that the command has holds of the one that is asked for
 pub of_host : (P : List ℕ → Type 0) (task : Option Task) (host other : List ℕ) → Some (Init host) ≡ task → P host → task ≡ Some (Init other) → P other

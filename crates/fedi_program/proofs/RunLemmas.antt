@@ -19,7 +19,8 @@ use Rattle.fedi_program.specs.Endings.{HasCauses, RunsTo, TalksIfTold, status_of
 use Rattle.fedi_talk.specs.Turning.{setting_by}
 use Rattle.fedi_program.specs.Members.{Chance}
 use Rattle.fedi_program.specs.Runs.{is_status_of}
-use Rattle.fedi_program.specs.Stores.{AddsMember, AddsPeer, ChecksStore, IsKeptSafe, Medium, ServesStore, TalksOverStore, TellsOfStore, status_by}
+use Rattle.fedi_program.specs.declared.commands.Table.{Table}
+use Rattle.fedi_program.specs.Stores.{AddsMember, AddsPeer, ChecksStore, ExportsStore, IsKeptSafe, Medium, ServesStore, TalksOverStore, TellsOfStore, status_by}
 
 -- ---- the end of a session
 
@@ -72,6 +73,10 @@ peered_safe told before after first now host key address relay status (inr (open
 pub checked_safe : (before after : Medium) (first now : Output) (status : ℕ) → ChecksStore before after first now status → IsKeptSafe before after
 checked_safe before after first now status (inl (fault, refused, _)) = inl (fault, refused)
 checked_safe before after first now status (inr (opened, served, _, _)) = inr (opened, opened, given opened.history, served)
+
+pub exported_safe : (table : Table) (before after : Medium) (first now : Output) (status : ℕ) → ExportsStore table before after first now status → IsKeptSafe before after
+exported_safe table before after first now status (inl (fault, refused, _)) = inl (fault, refused)
+exported_safe table before after first now status (inr (opened, served, _, _)) = inr (opened, opened, given opened.history, served)
 
 pub doors_safe : {W K : Type 0} (told : Option ℕ) (before after : Medium) (served : W → Option (List Row)) (closed : W → Bool) (faults : W → ℕ)
     (first now : List (Bench W K)) (status : ℕ) → ServesDoors told before after served closed faults first now status → IsKeptSafe before after

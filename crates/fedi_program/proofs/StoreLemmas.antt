@@ -31,7 +31,9 @@ use Rattle.fedi_hall.specs.declared.serving.ServeEnd.{ServeEnd}
 use Rattle.fedi_outside.specs.Doors.{Row}
 use Rattle.fedi_outside.specs.declared.doors.Bench.{Bench}
 use Rattle.fedi_program.specs.Serving.{ServesDoors, status_after}
-use Rattle.fedi_program.specs.Stores.{ChecksStore, Counts, EndsMaking, IsRefused, IsRunAlone, IsServed, IsServedAlone, MakesStore, ServesStore}
+use Rattle.fedi_program.specs.Stores.{ChecksStore, Counts, EndsMaking, ExportsStore, IsRefused, IsRunAlone, IsServed, IsServedAlone, MakesStore, PrintsTable, ServesStore, table_text}
+use Rattle.fedi_program.specs.declared.commands.Table.{Table}
+use Rattle.fedi_town.specs.Histories.{town}
 
 -- A machine was opened over a disk, and its keeper then survived along a log.
 pub served : (start found later : DiskState) (before middle after : DiskCrashes) (opened closed : State) (log : Log) (count : ℕ)
@@ -164,3 +166,14 @@ pub checks : (start found : DiskState) (before middle : DiskCrashes) (opened : S
     → ChecksStore (record { shown = start; crashes = before }) (record { shown = found; crashes = middle }) first now status
 checks start found before middle opened count first now status opens told same before_now left only survives closes counts =
     inr (opened, (served_alone start found found before middle middle opened opened (given opened.history) count opens told same before_now left only survives closes).0, same, counts)
+
+-- A machine that was opened for a table of what it has, and closed.
+pub exports : (table : Table) (start found : DiskState) (before middle : DiskCrashes) (opened : State) (count : ℕ) (first now : Output) (status : ℕ)
+    → IsOpened start opened → opened.keeper.records ≡ records_told plain count found → IsUntouched start found before middle
+    → ((image : List ℕ) → before.left_since before.clock image → before.may_leave image)
+    → IfSome start.reads (λ _. LeavesFiles middle (records_of opened.history) None) → ((image : List ℕ) → middle.left_since middle.clock image → middle.may_leave image)
+    → Survives (opened_base opened) None (given opened.history) (given opened.history) opened (record_crashes plain found middle) (record_crashes plain found middle)
+    → IsClosed found middle opened → PrintsTable first now (table_text table (town opened.history)) status
+    → ExportsStore table (record { shown = start; crashes = before }) (record { shown = found; crashes = middle }) first now status
+exports table start found before middle opened count first now status opens told same before_now left only survives closes prints =
+    inr (opened, (served_alone start found found before middle middle opened opened (given opened.history) count opens told same before_now left only survives closes).0, same, prints)

@@ -1,7 +1,7 @@
 -- The store that accepted arguments name.
 use Rattle.std.proofs.Common.{◌≡◌, ℕ, Bool, true, false, ◌&&◌, List, [], ◌∷◌, map, Option, None, Some, is_some, option_map, bytes_eq, codes, refl, sym, ap, ◌∙◌, if◌then◌else◌}
 use Rattle.std.specs.List.{list_any, find}
-use Rattle.fedi_program.specs.Commands.{Task, Init, Inetd, Serve, AddActor, AddPeer, Deliver, Check, is_flag, is_position, without_flag, add_actor_at, add_peer_at, flagged_task, on_store, on_store_with, usage_with, task_in, names_store, store_in}
+use Rattle.fedi_program.specs.Commands.{Task, Init, Inetd, Serve, AddActor, AddPeer, Deliver, Export, Check, is_flag, is_position, without_flag, add_actor_at, add_peer_at, flagged_task, on_store, on_store_with, table_of, export_with, usage_with, task_in, names_store, store_in}
 
 -- the arguments have a position, if this task has a store
 abbrev HasPosition : List (List ℕ) → Option Task → Type 0
@@ -56,6 +56,12 @@ flagged_has : (flag : List ℕ) (task_at : List (List ℕ) → Bool → Option T
     → ((words : List (List ℕ)) (flagged : Bool) → HasPosition words (task_at words flagged)) → HasPosition xs (flagged_task flag task_at xs)
 flagged_has flag task_at xs has = λ e. with_flag flag xs (has (without_flag flag xs) (list_any (is_flag flag) xs) e)
 
+export_has : (xs : List (List ℕ)) → HasPosition xs (export_with xs)
+export_has [] = λ e. absurd (cc e)
+export_has (store ∷ []) = λ e. absurd (cc e)
+export_has (store ∷ name ∷ []) = first_is_position store (name ∷ []) (λ b. if b then option_map Export (table_of name) else None) refl
+export_has (store ∷ name ∷ x ∷ xs) = λ e. absurd (cc e)
+
 usage_has : (xs : List (List ℕ)) → HasPosition xs (usage_with xs)
 usage_has [] = λ e. absurd (cc e)
 usage_has (x ∷ xs) = λ e. absurd (cc e)
@@ -73,7 +79,8 @@ accepted_has name xs =
     either (bytes_eq name (codes "add-actor")) xs _ _ (flagged_has (codes "--locked") add_actor_at xs add_actor_at_has) (
     either (bytes_eq name (codes "add-peer")) xs _ _ (flagged_has (codes "--relay") add_peer_at xs add_peer_at_has) (
     either (bytes_eq name (codes "deliver")) xs _ _ (on_store_has Deliver xs) (
-    either (bytes_eq name (codes "check")) xs _ _ (on_store_has Check xs) (λ e. absurd (cc e)))))))))
+    either (bytes_eq name (codes "export")) xs _ _ (export_has xs) (
+    either (bytes_eq name (codes "check")) xs _ _ (on_store_has Check xs) (λ e. absurd (cc e))))))))))
 
 named_in : (words : List (List ℕ)) → is_some (store_in words) ≡ names_store (task_in words)
 named_in [] = refl

@@ -1,8 +1,10 @@
 -- The arguments that the program takes.
-use Rattle.std.specs.Prelude.{ℕ, Bool, true, false, not, ◌&&◌, ◌||◌, nat_eq, List, [], ◌∷◌, codes, map, string_bytes, bytes_eq, Option, Some, None, if◌then◌else◌}
+use Rattle.std.specs.Prelude.{ℕ, Bool, true, false, not, ◌&&◌, ◌||◌, nat_eq, List, [], ◌∷◌, codes, map, string_bytes, bytes_eq, Option, Some, None, option_map, if◌then◌else◌}
 use Rattle.std.specs.List.{starts_with, list_any, find}
 use Rattle.fedi_program.specs.declared.commands.Command.{Command}
 use Rattle.fedi_program.specs.declared.commands.Command.TheVariants as commands
+use Rattle.fedi_program.specs.declared.commands.Table.{Table}
+use Rattle.fedi_program.specs.declared.commands.Table.TheVariants.{Actors, Activities, Queue}
 use Rattle.fedi_program.specs.declared.words.Words.{Words}
 
 -- What the program is asked to do: to print its usage, to begin a store for this host, to serve one connection, to serve those
@@ -16,6 +18,7 @@ pub data Task : Type 0 where
   AddActor : List ℕ → Bool → Task
   AddPeer : List ℕ → List ℕ → List ℕ → Bool → Task
   Deliver : Task
+  Export : Table → Task
   Check : Task
 
 -- the task of a command, without its references
@@ -27,6 +30,7 @@ task_of (commands.Serve address) = Serve address.now
 task_of (commands.AddActor name locked) = AddActor name.now locked
 task_of (commands.AddPeer peer) = AddPeer peer.host.now peer.key.now peer.address.now peer.relay
 task_of commands.Deliver = Deliver
+task_of (commands.Export table) = Export table
 task_of commands.Check = Check
 
 -- an argument that begins with `-` is no position
@@ -97,6 +101,20 @@ on_store task [] = None
 on_store task (store ∷ []) = if is_position store then Some task else None
 on_store task (store ∷ other ∷ others) = None
 
+-- the table of this name
+abbrev pub table_of : List ℕ → Option Table
+table_of name =
+    if bytes_eq name (codes "actors") then Some Actors else (
+    if bytes_eq name (codes "activities") then Some Activities else (
+    if bytes_eq name (codes "queue") then Some Queue else None))
+
+-- what `export` is to do with its arguments, a store and the name of a table
+abbrev pub export_with : List (List ℕ) → Option Task
+export_with [] = None
+export_with (store ∷ []) = None
+export_with (store ∷ name ∷ []) = if is_position store then option_map Export (table_of name) else None
+export_with (store ∷ name ∷ other ∷ others) = None
+
 -- what `usage` is to do with these arguments
 abbrev pub usage_with : List (List ℕ) → Option Task
 usage_with [] = Some Usage
@@ -113,7 +131,8 @@ task_in (name ∷ arguments) =
     if bytes_eq name (codes "add-actor") then add_actor_with arguments else (
     if bytes_eq name (codes "add-peer") then add_peer_with arguments else (
     if bytes_eq name (codes "deliver") then on_store Deliver arguments else (
-    if bytes_eq name (codes "check") then on_store Check arguments else None)))))))
+    if bytes_eq name (codes "export") then export_with arguments else (
+    if bytes_eq name (codes "check") then on_store Check arguments else None))))))))
 
 -- whether arguments that ask for this name a store
 abbrev pub names_store : Option Task → Bool
@@ -125,6 +144,7 @@ names_store (Some (Serve address)) = true
 names_store (Some (AddActor name locked)) = true
 names_store (Some (AddPeer host key address relay)) = true
 names_store (Some Deliver) = true
+names_store (Some (Export table)) = true
 names_store (Some Check) = true
 
 -- the store that the arguments name, if they are accepted: the first position after the command
@@ -142,4 +162,5 @@ address_of (Some (Serve address)) = Some address
 address_of (Some (AddActor name locked)) = None
 address_of (Some (AddPeer host key address relay)) = None
 address_of (Some Deliver) = None
+address_of (Some (Export table)) = None
 address_of (Some Check) = None

@@ -1,7 +1,7 @@
 -- What a run may do, by what it is asked.
 use Rattle.std.specs.Prelude.{ℕ, ◌==◌, Bool, true, false, List, [], ◌∷◌, Option, None, Some}
 use Rattle.std.specs.List.{list_any}
-use Rattle.fedi_program.specs.Commands.{Task, Usage, Init, Inetd, Serve, AddActor, AddPeer, Deliver, Check}
+use Rattle.fedi_program.specs.Commands.{Task, Usage, Init, Inetd, Serve, AddActor, AddPeer, Deliver, Export, Check}
 
 -- the statuses with which it may end
 abbrev pub statuses_of : Option Task → List ℕ
@@ -13,6 +13,7 @@ statuses_of (Some (Serve address)) = 0 ∷ 3 ∷ 4 ∷ 5 ∷ 11 ∷ 12 ∷ []
 statuses_of (Some (AddActor name locked)) = 0 ∷ 3 ∷ 4 ∷ 5 ∷ 6 ∷ 7 ∷ 10 ∷ 12 ∷ 13 ∷ []
 statuses_of (Some (AddPeer host key address relay)) = 0 ∷ 3 ∷ 4 ∷ 5 ∷ 7 ∷ 10 ∷ 12 ∷ 13 ∷ []
 statuses_of (Some Deliver) = 0 ∷ 3 ∷ 4 ∷ 5 ∷ 7 ∷ 12 ∷ 13 ∷ []
+statuses_of (Some (Export table)) = 0 ∷ 3 ∷ 4 ∷ 5 ∷ 7 ∷ 12 ∷ []
 statuses_of (Some Check) = 0 ∷ 3 ∷ 4 ∷ 5 ∷ 7 ∷ 12 ∷ []
 
 -- the status is one of these
@@ -29,6 +30,7 @@ opens_store (Some (Serve address)) = true
 opens_store (Some (AddActor name locked)) = true
 opens_store (Some (AddPeer host key address relay)) = true
 opens_store (Some Deliver) = true
+opens_store (Some (Export table)) = true
 opens_store (Some Check) = true
 
 -- whether it may draw a key
@@ -41,4 +43,5 @@ may_draw (Some (Serve address)) = false
 may_draw (Some (AddActor name locked)) = true
 may_draw (Some (AddPeer host key address relay)) = false
 may_draw (Some Deliver) = false
+may_draw (Some (Export table)) = false
 may_draw (Some Check) = false

@@ -8,12 +8,18 @@ use Rattle.fedi_objects.specs.declared.entry.Entry.{Entry}
 use Rattle.fedi_objects.specs.declared.entry.Entry.TheVariants.{Hosted}
 use Rattle.fedi_outside.specs.Disks.{DiskCrashes, DiskState, IsUntouched}
 use Rattle.fedi_talk.specs.Conversations.{IsNow}
-use Rattle.fedi_talk.specs.Endings.{Output, Scene, Writes}
+use Rattle.fedi_talk.specs.Endings.{BreaksOff, Output, Scene, Writes}
 use Rattle.fedi_program.specs.Endings.{Prints, RunsTo, TalksIfTold}
 use Rattle.fedi_talk.specs.Turning.{setting_by}
 use Rattle.fedi_program.specs.Members.{Chance, MakesMember, Tells, refusal_line}
 use Rattle.fedi_program.specs.Peers.{MakesPeer}
+use Rattle.fedi_program.specs.declared.commands.Table.{Table}
+use Rattle.fedi_program.specs.declared.commands.Table.TheVariants.{Actors, Activities, Queue}
+use Rattle.fedi_report.specs.Exports.{activities_text, actors_text, queue_text}
 use Rattle.fedi_report.specs.Reports.{check_text}
+use Rattle.fedi_report.specs.Tables.{Begins}
+use Rattle.fedi_town.specs.Histories.{town}
+use Rattle.fedi_town.specs.Towns.{Town}
 use Rattle.fedi_logged.specs.Marks.{MarksMayCome}
 use Rattle.fedi_startup.specs.Making.{IsMade, IsNotMade, LeavesAtMost}
 use Rattle.fedi_startup.specs.Stores.{ComesBack, IsClosed, IsOpened, LeavesStores}
@@ -133,6 +139,24 @@ ChecksStore before after first now status =
     ((fault : StoreFault) × IsRefused before after fault × TellsOfStore fault first now status)
     ⊎ ((opened : State) × IsServed before after opened opened (given opened.history) × IsSame before after
     × Counts first now opened.history status)
+
+-- the text of a table
+abbrev pub table_text : Table → Town → List ℕ
+table_text Actors t = actors_text t
+table_text Activities t = activities_text t
+table_text Queue t = queue_text t
+
+-- the text was printed whole (0), or a proper prefix of it before a write failed (7), or a front of it before memory ran out (12)
+abbrev pub PrintsTable : Output → Output → List ℕ → ℕ → Type 0
+PrintsTable first now text status =
+    ((status ≡ 0) × Writes first now text) ⊎ (((status ≡ 7) × BreaksOff first now [] text) ⊎ ((status ≡ 12) × Begins first now text))
+
+-- how a run prints a table of what the store of a disk has, which is untouched
+abbrev pub ExportsStore : Table → Medium → Medium → Output → Output → ℕ → Type 0
+ExportsStore table before after first now status =
+    ((fault : StoreFault) × IsRefused before after fault × TellsOfStore fault first now status)
+    ⊎ ((opened : State) × IsServed before after opened opened (given opened.history) × IsSame before after
+    × PrintsTable first now (table_text table (town opened.history)) status)
 
 -- ---- making a store
 

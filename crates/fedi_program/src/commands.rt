@@ -2,7 +2,7 @@
 
 ghost use Rattle.std.specs.Prelude.{◌≡◌, map, is_some, option_map, string_bytes};
 ghost use Rattle.std.specs.List.{find};
-ghost use Rattle.fedi_program.specs.Commands.{Init, Serve, add_actor_with, add_peer_with, address_of, is_position, names_store, on_store, on_store_with, store_in, task_in, task_of, usage_with};
+ghost use Rattle.fedi_program.specs.Commands.{Init, Serve, add_actor_with, add_peer_with, address_of, export_with, is_position, names_store, on_store, on_store_with, store_in, table_of, task_in, task_of, usage_with};
 
 use crate::words::Words;
 
@@ -34,8 +34,24 @@ pub enum Command<'a> {
     AddPeer(NewPeer<'a>),
     /// To try each delivery that is due.
     Deliver,
+    /// To print a table of what a store holds.
+    Export {
+        /// The table.
+        table: Table,
+    },
     /// To count what a store holds.
     Check,
+}
+
+/// A table of what a store holds.
+#[derive(Clone, Copy, Debug, PartialEq, Eq)]
+pub enum Table {
+    /// The members.
+    Actors,
+    /// The activities.
+    Activities,
+    /// The deliveries that have not ended.
+    Queue,
 }
 
 /// A server that is to be made a peer, as an operator writes it.
@@ -137,6 +153,29 @@ fn on_store<'a>(command: Command<'a>, arguments: &[String]) -> Option<Command<'a
     }
 }
 
+fn table_of(name: &str) -> Option<Table>
+    ensures { result ≡ table_of name.now }
+{
+    match name {
+        "actors" => Some(Table::Actors),
+        "activities" => Some(Table::Activities),
+        "queue" => Some(Table::Queue),
+        _ => None,
+    }
+}
+
+fn export(arguments: &[String]) -> Option<Command<'_>>
+    ensures { option_map task_of result ≡ export_with (map string_bytes arguments.now) }
+{
+    match arguments {
+        [store, name] if is_position(store) => {
+            let table = table_of(name)?;
+            Some(Command::Export { table })
+        }
+        _ => None,
+    }
+}
+
 fn usage(arguments: &[String]) -> Option<Command<'_>>
     ensures { option_map task_of result ≡ usage_with (map string_bytes arguments.now) }
 {
@@ -162,6 +201,7 @@ pub fn command_of(arguments: &[String]) -> Option<Command<'_>>
         "add-actor" => add_actor(arguments),
         "add-peer" => add_peer(arguments),
         "deliver" => on_store(Command::Deliver, arguments),
+        "export" => export(arguments),
         "check" => on_store(Command::Check, arguments),
         _ => None,
     }

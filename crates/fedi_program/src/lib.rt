@@ -5,6 +5,7 @@ mod commands;
 mod connection;
 mod delivering;
 mod enrolling;
+mod exporting;
 mod members;
 mod peers;
 mod printing;
@@ -15,7 +16,7 @@ mod stores;
 mod usage;
 mod words;
 
-pub use commands::{Command, NewPeer, address_of, command_of, store_of};
+pub use commands::{Command, NewPeer, Table, address_of, command_of, store_of};
 pub use connection::{Connection, serve_connection};
 pub use fedi_effects::Seed;
 pub use running::{Ended, run, run_alone};

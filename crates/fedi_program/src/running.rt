@@ -1,7 +1,7 @@
 //! The whole program, over whatever lies outside.
 
 ghost use Rattle.std.specs.Prelude.{◌≡◌, ◌≢◌, ◌↔◌, ◌<◌, ℕ, All, Bool, false, true, List, [], IfSome, IsTrue, Some, None, length, map, string_bytes, vec_len};
-ghost use Rattle.fedi_program.specs.Commands.{AddActor, AddPeer, Check, Deliver, Inetd, Init, Serve, Usage, address_of, names_store, task_in};
+ghost use Rattle.fedi_program.specs.Commands.{AddActor, AddPeer, Check, Deliver, Export, Inetd, Init, Serve, Usage, address_of, names_store, task_in};
 ghost use Rattle.fedi_talk.specs.Endings.{WritesUnlessFailed, faults_by, output_by, scene_by};
 ghost use Rattle.fedi_program.specs.Delivering.{DeliversBy, DeliversStore, told_by};
 ghost use Rattle.fedi_program.specs.Endings.{HasCauses, Prints, status_of};
@@ -13,13 +13,15 @@ ghost use Rattle.fedi_log.specs.Keeping.{base_of, state_of};
 ghost use Rattle.fedi_log.specs.Log.{given};
 ghost use Rattle.fedi_logged.specs.Marks.{Survives};
 ghost use Rattle.fedi_program.specs.Serving.{ServesDoors};
-ghost use Rattle.fedi_program.specs.Stores.{AddsMember, AddsPeer, ChecksStore, Counts, IsKeptSafe, MakesStore, ServesStore, TalksOverStore, medium_by};
+ghost use Rattle.fedi_program.specs.Stores.{AddsMember, AddsPeer, ChecksStore, Counts, ExportsStore, IsKeptSafe, MakesStore, ServesStore, TalksOverStore, medium_by};
 ghost use Rattle.fedi_program.specs.Usage.{usage_text};
+ghost use Rattle.fedi_program.specs.declared.commands.Table.{Table};
 ghost use Rattle.fedi_town.specs.Legal.{IsLegal};
 
 use crate::commands::{Command, NewPeer, command_of};
 use crate::connection::{Connection, serve_connection};
 use crate::delivering::deliver;
+use crate::exporting::export;
 use crate::members::make_member;
 use crate::peers::make_peer;
 use crate::printing::{print, tell};
@@ -323,6 +325,14 @@ pub fn run_alone<S: Source, O: Sink, D: Disk, W, K: Link, C: Clock, E: Entropy>(
         (output_by O.sent O.write_faults connection.old.out)
         (output_by O.sent O.write_faults connection.new.out) result.status }
 
+    // A table of what a store has is printed, and the disk is untouched, as by the counting.
+    ensures exported { (table : Table)
+        → task_in (map string_bytes arguments.now) ≡ Some (Export table)
+        → ExportsStore table
+        (medium_by D.shown D.crashes disk) (medium_by D.shown D.crashes result.disk)
+        (output_by O.sent O.write_faults connection.old.out)
+        (output_by O.sent O.write_faults connection.new.out) result.status }
+
     // Whatever the task and the input, a store that is opened comes back with the records of a legal
     // history: those that the opening found, and those of the entries that the run made. A crash at
     // any moment of the run leaves the records of before the run, or those that the opening found with
@@ -405,6 +415,14 @@ pub fn run_alone<S: Source, O: Sink, D: Disk, W, K: Link, C: Clock, E: Entropy>(
                 benches,
             }
         }
+        Some(Command::Export { table }) => {
+            let (status, disk) = export(alloc, seed, &mut connection.out, disk, table);
+            Ended {
+                status,
+                disk,
+                benches,
+            }
+        }
         Some(Command::Check) => {
             let (status, disk) = check(alloc, seed, &mut connection.out, disk);
             Ended {
@@ -441,9 +459,11 @@ pub fn run_alone<S: Source, O: Sink, D: Disk, W, K: Link, C: Clock, E: Entropy>(
 /// worker in a thread of its own, until all doors close; binding to the address is the doors' work.
 /// `deliver STORE` tries each delivery that is due at one moment once, by the link of the first
 /// bench, and prints `ACTIVITY HOST WORD` for each: the activity's id, the recipient's host, and
-/// `delivered`, `again` or `gave-up`; and then `done N`, the number of those that it tried. `check
-/// STORE` opens the store and prints how many entries, members, activities and deliveries that have
-/// not ended it has. Other arguments are answered with the usage, and do not ask the disk.
+/// `delivered`, `again` or `gave-up`; and then `done N`, the number of those that it tried. `export
+/// STORE TABLE` prints the members (`actors`), the `activities` or the deliveries that have not
+/// ended (`queue`) as comma-separated values (RFC 4180), and names no recipient. `check STORE` opens
+/// the store and prints how many entries, members, activities and deliveries that have not ended it
+/// has. Other arguments are answered with the usage, and do not ask the disk.
 ///
 /// | Status | When | Printed, but by `inetd` and `serve` |
 /// |---|---|---|
@@ -458,7 +478,7 @@ pub fn run_alone<S: Source, O: Sink, D: Disk, W, K: Link, C: Clock, E: Entropy>(
 /// | 9 | a store was to be made, and the disk has other bytes | `exists` |
 /// | 10 | a rule is broken | `refused: bad name`, `refused: name taken`, `refused: key taken`, `refused: bad host`, `refused: host taken`, `refused: bad key`, `refused: bad address` |
 /// | 11 | a door failed | nothing |
-/// | 12 | out of memory | nothing |
+/// | 12 | out of memory | nothing, lines of attempts that were kept, or a front of the table |
 /// | 13 | the store has no room for a member or a peer, or for what came of an attempt | `full` |
 ///
 /// A status other than 0 stays if its text cannot be written. The disk comes back with all that was
@@ -557,6 +577,14 @@ pub fn run<
     // any moment of the run leaves nothing new.
     ensures checked { task_in (map string_bytes arguments.now) ≡ Some Check
         → ChecksStore
+        (medium_by D.shown D.crashes disk) (medium_by D.shown D.crashes result.disk)
+        (output_by O.sent O.write_faults connection.old.out)
+        (output_by O.sent O.write_faults connection.new.out) result.status }
+
+    // A table of what a store has is printed, and the disk is untouched, as by the counting.
+    ensures exported { (table : Table)
+        → task_in (map string_bytes arguments.now) ≡ Some (Export table)
+        → ExportsStore table
         (medium_by D.shown D.crashes disk) (medium_by D.shown D.crashes result.disk)
         (output_by O.sent O.write_faults connection.old.out)
         (output_by O.sent O.write_faults connection.new.out) result.status }

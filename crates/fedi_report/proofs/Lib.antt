@@ -1,1 +1,4 @@
+mod Blocks
+mod Exported
+mod Pieces
 pub mod RowLemmas

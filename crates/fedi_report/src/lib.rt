@@ -1,16 +1,21 @@
 //! What an operator reads of a store.
 #![tactic(auto)]
 
+mod exports;
+mod tables;
+
 ghost use Rattle.std.specs.Prelude.{◌≡◌, ◌++◌, IfOk, OnOk, decimal};
 ghost use Rattle.fedi_report.specs.Reports.{check_text, waiting};
 ghost use Rattle.fedi_town.specs.Histories.{town};
 ghost use Rattle.fedi_town.specs.Legal.{IsLegal};
 
+pub use exports::{csv_activities, csv_actors, csv_queue};
 use fedi_core::Core;
 use fedi_outside::Keeper;
 use fedi_visible::Shelf;
 use itoa::Buffer;
 use std::alloc::{AllocError, Global};
+pub use tables::ReportFault;
 
 /// The room for a line of counts, each of which has at most 20 digits.
 const LINE: usize = 128;

@@ -80,7 +80,7 @@ const FORWARDED: &[u8] = b"\
 const FOLLOWING: [&[u8]; 4] = [HOSTED, ANA, LAKE, FOLLOWED];
 
 /// A town in which that is due, and the forward of a note to the follower.
-const WAITING: [&[u8]; 7] = [HOSTED, ANA, LAKE, HILL, FOLLOWED, NOTE, FORWARDED];
+pub const WAITING: [&[u8]; 7] = [HOSTED, ANA, LAKE, HILL, FOLLOWED, NOTE, FORWARDED];
 
 /// The same records, but that the note is not for the followers.
 const NOT_FORWARDED: [&[u8]; 7] = [HOSTED, ANA, LAKE, HILL, FOLLOWED, NOTE, REPLIED];

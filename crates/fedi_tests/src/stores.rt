@@ -1,6 +1,7 @@
 //! Stores in memory: making, opening and posts whose disk fails or stops at each call.
 
 use crate::cases::{Case, calm, inetd};
+use crate::delivering::WAITING;
 use crate::example::{HOSTED, MEMBERS, TOWN};
 use crate::program::{FIRST, NOTE, SECOND};
 use crate::rows::{expect, expect_at};
@@ -41,6 +42,45 @@ fn has_count(alloc: Global, row: &(&[&[u8]], u8, &str)) -> Result<bool, AllocErr
     ends(alloc, &calm("fedi check s", records), status, &[printed], 0)
 }
 
+/// Tables of records: the command line, and what it prints.
+const TABLES: [(&str, &[&[u8]], &str); 6] = [
+    (
+        "fedi export s actors",
+        &MEMBERS,
+        "name,locked,activities,followers\nana,no,0,0\nben,no,0,0\ncleo,no,0,0\ndan,yes,0,0\n",
+    ),
+    (
+        "fedi export s activities",
+        &MEMBERS,
+        "place,id,actor,type,state,moment\n",
+    ),
+    (
+        "fedi export s actors",
+        &TOWN,
+        "name,locked,activities,followers\nana,no,2,0\nben,no,0,0\ncleo,no,0,0\ndan,yes,0,0\n",
+    ),
+    (
+        "fedi export s activities",
+        &TOWN,
+        "place,id,actor,type,state,moment\n\
+0,https://club.example/users/ana/a/1,https://club.example/users/ana,Create,done,1994-11-06T08:49:37Z\n\
+1,https://club.example/users/ana/a/2,https://club.example/users/ana,Create,done,1994-11-06T08:49:37Z\n",
+    ),
+    ("fedi export s queue", &TOWN, "activity,host,attempts,due\n"),
+    (
+        "fedi export s queue",
+        &WAITING,
+        "activity,host,attempts,due\n\
+https://club.example/users/ana/a/1,lake.example,0,784111777\n\
+https://hill.example/users/dora/a/8,lake.example,0,784111777\n",
+    ),
+];
+
+fn has_table(alloc: Global, row: &(&str, &[&[u8]], &str)) -> Result<bool, AllocError> {
+    let (line, records, printed) = *row;
+    ends(alloc, &calm(line, records), 0, &[printed], 0)
+}
+
 /// The making of a store on a disk with these bytes.
 fn making(bytes: &[u8]) -> Case<'_> {
     Case {
@@ -76,6 +116,14 @@ fn expect_made_again(alloc: Global, call: usize, status: u8) -> Result<(), Fail>
     for stop in [u64::MAX, call as u64] {
         let is_made = is_made_again(alloc, call as u64, stop, status)?;
         expect_at(is_made, "a making whose disk fails at", call)?;
+    }
+    Ok(())
+}
+
+#[test]
+fn stores_are_told_as_tables(rt: HostRuntime) -> Result<(), Fail> {
+    for (number, row) in TABLES.iter().enumerate() {
+        expect_at(has_table(rt.alloc(), row)?, row.0, number)?;
     }
     Ok(())
 }

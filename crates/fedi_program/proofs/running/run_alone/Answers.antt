@@ -1,10 +1,11 @@
 use Rattle.std.proofs.Common.{ℕ, List, Bool}
 use Rattle.fedi_talk.specs.Endings.{output_by}
 use Rattle.fedi_program.specs.Members.{chance_by}
-use Rattle.fedi_program.specs.Stores.{AddsMember, AddsPeer, MakesStore, medium_by}
-use Rattle.fedi_program.proofs.MemberLemmas.{of_host, of_task}
+use Rattle.fedi_program.specs.Stores.{AddsMember, AddsPeer, ExportsStore, MakesStore, medium_by}
+use Rattle.fedi_program.specs.declared.commands.Table.{Table}
+use Rattle.fedi_program.proofs.MemberLemmas.{of_host, of_table, of_task}
 use Rattle.fedi_program.proofs.PeerLemmas.{of_peer}
-use Rattle.fedi_program.proofs.RunLemmas.{added_safe, checked_safe, peered_safe, served_safe, store_talks}
+use Rattle.fedi_program.proofs.RunLemmas.{added_safe, checked_safe, exported_safe, peered_safe, served_safe, store_talks}
 use Rattle.fedi_program.proofs.running.run_alone.Goals as goal
 
 pub returns-in-Some-Inetd-clause-talk : goal.returns-in-Some-Inetd-clause-talk
@@ -51,3 +52,14 @@ returns-in-Some-Init-clause-made g c =
     (λ (h : List ℕ). MakesStore g.D.Disk.shown g.D.Disk.crashes (g.C.Clock.told c.args.connection.now.clock) c.args.disk c.begin_store-status.result.1
     (output_by g.O.Sink.sent g.O.Sink.write_faults c.args.connection.now.out) (output_by g.O.Sink.sent g.O.Sink.write_faults c.begin_store-status.new.out)
     h c.begin_store-status.result.0) _ _ _ asked c.begin_store-status.ensures.made
+
+pub returns-in-Some-Export-clause-crashes : goal.returns-in-Some-Export-clause-crashes
+returns-in-Some-Export-clause-crashes g c = λ opens. exported_safe _ _ _ _ _ _ c.export-status.ensures.exported
+
+pub returns-in-Some-Export-clause-exported : goal.returns-in-Some-Export-clause-exported
+returns-in-Some-Export-clause-exported g c =
+    let asked = rw c.in-Some-Export.field-0-is at c.in-Some-Export.ensures in
+    λ table. of_table
+    (λ (t : Table). ExportsStore t (medium_by g.D.Disk.shown g.D.Disk.crashes c.args.disk) (medium_by g.D.Disk.shown g.D.Disk.crashes c.export-status.result.1)
+    (output_by g.O.Sink.sent g.O.Sink.write_faults c.args.connection.now.out) (output_by g.O.Sink.sent g.O.Sink.write_faults c.export-status.new.out)
+    c.export-status.result.0) _ _ _ asked c.export-status.ensures.exported

@@ -1,0 +1,4 @@
+use Rattle.fedi_report.proofs.exports.write_actors.Goals as goal
+
+pub returns : goal.returns
+returns g c = rw (c.as_slice.ensures, c.as_slice-2.ensures, c.as_slice-3.ensures, c.as_slice-4.ensures) at c.write_table.ensures
