@@ -2,9 +2,10 @@
 
 ghost use Rattle.fedi_entry.specs.Limits.{KeepsLimits};
 
-use crate::rows::expect_at;
+use crate::rows::{expect, expect_at};
 use fedi_entry::{KnownHosts, decode, encode};
 use fedi_objects::Entry;
+use fedi_town::next_number;
 use std::alloc::{AllocError, Global};
 use std::test::Fail;
 
@@ -205,4 +206,13 @@ fn entries_are_read_and_written_again(rt: HostRuntime) -> Result<(), Fail> {
         expect_back(rt.alloc(), &mut hosts, number, bytes)?;
     }
     Ok(())
+}
+
+#[test]
+fn the_last_activity_of_a_member_has_the_last_number() -> Result<(), Fail> {
+    expect(next_number(0) == Some(1), "the first number")?;
+    expect(
+        next_number(4_294_967_294) == Some(4_294_967_295) && next_number(4_294_967_295).is_none(),
+        "the last number",
+    )
 }

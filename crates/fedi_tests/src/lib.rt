@@ -43,11 +43,9 @@ mod stops;
 #[cfg(test)]
 mod store_files;
 
-// Histories and machines over keepers in memory.
+// Histories over keepers in memory.
 #[cfg(test)]
 mod example;
-#[cfg(test)]
-mod machine;
 #[cfg(test)]
 mod opening;
 #[cfg(test)]
