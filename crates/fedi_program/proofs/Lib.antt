@@ -1,6 +1,7 @@
 pub mod AttemptLemmas
 pub mod ClaimLemmas
 pub mod DeliverLemmas
+pub mod Examples
 pub mod MemberLemmas
 pub mod PeerLemmas
 pub mod RunLemmas

@@ -1,96 +1,137 @@
--- The store that accepted arguments name.
-use Rattle.std.proofs.Common.{◌≡◌, ℕ, Bool, true, false, ◌&&◌, List, [], ◌∷◌, map, Option, None, Some, is_some, option_map, bytes_eq, codes, refl, sym, ap, ◌∙◌, if◌then◌else◌}
-use Rattle.std.specs.List.{list_any, find}
-use Rattle.fedi_program.specs.Commands.{Task, Init, Inetd, Serve, AddActor, AddPeer, Deliver, Export, Check, is_flag, is_position, without_flag, add_actor_at, add_peer_at, flagged_task, on_store, on_store_with, table_of, export_with, usage_with, task_in, names_store, store_in}
+-- Reading the words of the arguments one after the other.
+use Rattle.std.proofs.Common.{◌≡◌, ◌≤◌, ◌<◌, ◌+◌, ◌-◌, ◌==◌, slice_range, suc, nat_le, ℕ, Bool, true, false, ◌&&◌, ◌||◌, List, [], ◌∷◌, ◌++◌, length, map, Option, None, Some, refl, ap, arith, ◌∙◌, append_assoc, append-nil, length-append, drop, drop-cons, get_or, add-one, if◌then◌else◌}
+use Rattle.std.proofs.lemmas.List.{drop_all, take_all}
+use Rattle.std.proofs.lemmas.List.Folds.{list_all-append}
+use Rattle.std.specs.List.{filter, list_all, list_any}
+use Rattle.std.specs.Option.{option_and_then}
+use Rattle.fedi_program.specs.Commands.{Reading, Row, is_flag, is_position, positions_of, read, read_by, row_by, row_of}
+use Rattle.fedi_program.specs.declared.words.Row as coded
 
--- the arguments have a position, if this task has a store
-abbrev HasPosition : List (List ℕ) → Option Task → Type 0
-HasPosition xs task = names_store task ≡ true → is_some (find is_position xs) ≡ true
+-- how often the flag is there, which was there already or not
+abbrev counted : Bool → ℕ → ℕ
+counted false n = n
+counted true n = suc n
 
--- the first argument is a position, if there is no task where it is none
-first_is_position : (store : List ℕ) (xs : List (List ℕ)) (task_by : Bool → Option Task) → task_by false ≡ None → HasPosition (store ∷ xs) (task_by (is_position store))
-first_is_position store xs task_by none =
-    elim (is_position store) as (λ b. names_store (task_by b) ≡ true → is_some (if b then Some store else find is_position xs) ≡ true) [
-      | true ↦ λ e. refl
-      | false ↦ λ e. absurd (let no : names_store None ≡ true = ap names_store (sym none) ∙ e in cc no)
-    ]
+-- what is read where these are the positions so far, the flag was there or not, and these words are left
+abbrev pub answer : Row → List (List ℕ) → Bool → List (List ℕ) → Option Reading
+answer row ps flagged rest =
+    if (length (ps ++ positions_of row.flag rest) == row.positions) && list_all is_position (ps ++ positions_of row.flag rest)
+    && nat_le (counted flagged (length (filter (is_flag row.flag) rest))) 1
+    then Some (record { verb = row.verb; positions = ps ++ positions_of row.flag rest; flagged = flagged || list_any (is_flag row.flag) rest })
+    else None
 
--- a position that is found without the flag is found with it
-with_flag : (flag : List ℕ) (xs : List (List ℕ)) → is_some (find is_position (without_flag flag xs)) ≡ true → is_some (find is_position xs) ≡ true
-with_flag flag [] = λ e. e
-with_flag flag (x ∷ xs) =
-    elim (is_flag flag x) as (λ f. is_some (find is_position (if f then xs else x ∷ without_flag flag xs)) ≡ true → is_some (find is_position (x ∷ xs)) ≡ true) [
-      | true ↦ elim (is_position x) as (λ b. is_some (find is_position xs) ≡ true → is_some (if b then Some x else find is_position xs) ≡ true) [ true ↦ λ e. refl | false ↦ λ e. e ]
-      | false ↦ elim (is_position x) as (λ b. is_some (if b then Some x else find is_position (without_flag flag xs)) ≡ true → is_some (if b then Some x else find is_position xs) ≡ true) [ true ↦ λ e. refl | false ↦ with_flag flag xs ]
-    ]
+-- there is nothing before the first word
+pub begins : (row : Row) (words : List (List ℕ)) → answer row [] false words ≡ read_by words row
+begins row words = refl
 
-on_store_has : (task : Task) (xs : List (List ℕ)) → HasPosition xs (on_store task xs)
-on_store_has task [] = λ e. absurd (cc e)
-on_store_has task (store ∷ []) = first_is_position store [] (λ b. if b then Some task else None) refl
-on_store_has task (store ∷ x ∷ xs) = λ e. absurd (cc e)
+-- the flag, which was not there yet
+pub flag_first : (row : Row) (ps : List (List ℕ)) (flagged : Bool) (w : List ℕ) (left rest : List (List ℕ)) → left ≡ w ∷ rest → flagged ≡ false
+    → is_flag row.flag w ≡ true → answer row ps flagged left ≡ answer row ps true rest
+flag_first row ps flagged w left rest at first is = rw (at, first, is) refl
 
-on_store_with_has : (task : List ℕ → Task) (xs : List (List ℕ)) → HasPosition xs (on_store_with task xs)
-on_store_with_has task [] = λ e. absurd (cc e)
-on_store_with_has task (store ∷ []) = λ e. absurd (cc e)
-on_store_with_has task (store ∷ word ∷ []) = first_is_position store (word ∷ []) (λ b. if b && is_position word then Some (task word) else None) refl
-on_store_with_has task (store ∷ word ∷ x ∷ xs) = λ e. absurd (cc e)
+too_many : (n : ℕ) → nat_le (suc (suc n)) 1 ≡ false
+too_many n = grind arith
 
-add_actor_at_has : (xs : List (List ℕ)) (locked : Bool) → HasPosition xs (add_actor_at xs locked)
-add_actor_at_has [] locked = λ e. absurd (cc e)
-add_actor_at_has (store ∷ []) locked = λ e. absurd (cc e)
-add_actor_at_has (store ∷ name ∷ []) locked = first_is_position store (name ∷ []) (λ b. if b && is_position name then Some (AddActor name locked) else None) refl
-add_actor_at_has (store ∷ name ∷ x ∷ xs) locked = λ e. absurd (cc e)
+and_false : (a b : Bool) → (a && b && false) ≡ false
+and_false true true = refl
+and_false true false = refl
+and_false false b = refl
 
-add_peer_at_has : (xs : List (List ℕ)) (relay : Bool) → HasPosition xs (add_peer_at xs relay)
-add_peer_at_has [] relay = λ e. absurd (cc e)
-add_peer_at_has (store ∷ []) relay = λ e. absurd (cc e)
-add_peer_at_has (store ∷ host ∷ []) relay = λ e. absurd (cc e)
-add_peer_at_has (store ∷ host ∷ key ∷ []) relay = λ e. absurd (cc e)
-add_peer_at_has (store ∷ host ∷ key ∷ address ∷ []) relay =
-    first_is_position store (host ∷ key ∷ address ∷ [])
-    (λ b. if b && is_position host && is_position key && is_position address then Some (AddPeer host key address relay) else None) refl
-add_peer_at_has (store ∷ host ∷ key ∷ address ∷ x ∷ xs) relay = λ e. absurd (cc e)
+-- and which was
+pub flag_twice : (row : Row) (ps : List (List ℕ)) (flagged : Bool) (w : List ℕ) (left rest : List (List ℕ)) → left ≡ w ∷ rest → flagged ≡ true
+    → is_flag row.flag w ≡ true → answer row ps flagged left ≡ None
+flag_twice row ps flagged w left rest at first is =
+    let more : nat_le (suc (suc (length (filter (is_flag row.flag) rest)))) 1 ≡ false = too_many (length (filter (is_flag row.flag) rest)) in
+    rw (at, first, is, more, and_false (length (ps ++ positions_of row.flag rest) == row.positions) (list_all is_position (ps ++ positions_of row.flag rest))) refl
 
--- so have those with a flag, if those without it do
-flagged_has : (flag : List ℕ) (task_at : List (List ℕ) → Bool → Option Task) (xs : List (List ℕ))
-    → ((words : List (List ℕ)) (flagged : Bool) → HasPosition words (task_at words flagged)) → HasPosition xs (flagged_task flag task_at xs)
-flagged_has flag task_at xs has = λ e. with_flag flag xs (has (without_flag flag xs) (list_any (is_flag flag) xs) e)
+-- a word that is not the flag
+pub position_next : (row : Row) (ps : List (List ℕ)) (flagged : Bool) (w : List ℕ) (left rest : List (List ℕ)) → left ≡ w ∷ rest
+    → is_flag row.flag w ≡ false → answer row ps flagged left ≡ answer row (ps ++ w ∷ []) flagged rest
+position_next row ps flagged w left rest at other = rw (at, other, append_assoc ps (w ∷ []) (positions_of row.flag rest)) refl
 
-export_has : (xs : List (List ℕ)) → HasPosition xs (export_with xs)
-export_has [] = λ e. absurd (cc e)
-export_has (store ∷ []) = λ e. absurd (cc e)
-export_has (store ∷ name ∷ []) = first_is_position store (name ∷ []) (λ b. if b then option_map Export (table_of name) else None) refl
-export_has (store ∷ name ∷ x ∷ xs) = λ e. absurd (cc e)
+-- what is no position so far, or too much
+not_taken : (row : Row) (ps : List (List ℕ)) (flagged : Bool) (left : List (List ℕ))
+    → ((length (ps ++ positions_of row.flag left) == row.positions) && list_all is_position (ps ++ positions_of row.flag left)) ≡ false
+    → answer row ps flagged left ≡ None
+not_taken row ps flagged left bad =
+    let none = and_off (length (ps ++ positions_of row.flag left) == row.positions) (list_all is_position (ps ++ positions_of row.flag left))
+    (nat_le (counted flagged (length (filter (is_flag row.flag) left))) 1) bad in
+    rw none refl
+  where
+    and_off : (a b c : Bool) → (a && b) ≡ false → (a && b && c) ≡ false
+    and_off true true c e = absurd (cc e)
+    and_off true false c e = refl
+    and_off false b c e = refl
 
-usage_has : (xs : List (List ℕ)) → HasPosition xs (usage_with xs)
-usage_has [] = λ e. absurd (cc e)
-usage_has (x ∷ xs) = λ e. absurd (cc e)
+-- a word that is neither the flag nor a position
+pub no_position : (row : Row) (ps : List (List ℕ)) (flagged : Bool) (w : List ℕ) (left rest : List (List ℕ)) → left ≡ w ∷ rest
+    → is_flag row.flag w ≡ false → is_position w ≡ false → answer row ps flagged left ≡ None
+no_position row ps flagged w left rest at other bad =
+    let all : list_all is_position (ps ++ w ∷ positions_of row.flag rest) ≡ false =
+    rw (list_all-append is_position ps (w ∷ positions_of row.flag rest), bad) (second_off (list_all is_position ps)) in
+    rw at (not_taken row ps flagged (w ∷ rest) (rw (other, all) (second_off (length (ps ++ w ∷ positions_of row.flag rest) == row.positions))))
+  where
+    second_off : (a : Bool) → (a && false) ≡ false
+    second_off true = refl
+    second_off false = refl
 
-either : (test : Bool) (xs : List (List ℕ)) (task other : Option Task) → HasPosition xs task → HasPosition xs other → HasPosition xs (if test then task else other)
-either true xs task other has had = has
-either false xs task other has had = had
+-- one position too many
+pub too_long : (row : Row) (ps : List (List ℕ)) (flagged : Bool) (w : List ℕ) (left rest : List (List ℕ)) → left ≡ w ∷ rest
+    → is_flag row.flag w ≡ false → row.positions ≤ length ps → answer row ps flagged left ≡ None
+too_long row ps flagged w left rest at other full =
+    let longer : (length (ps ++ w ∷ positions_of row.flag rest) == row.positions) ≡ false =
+    grind (arith, length-append ps (w ∷ positions_of row.flag rest)) in
+    rw at (not_taken row ps flagged (w ∷ rest) (rw (other, longer) refl))
 
-accepted_has : (name : List ℕ) (xs : List (List ℕ)) → HasPosition xs (task_in (name ∷ xs))
-accepted_has name xs =
-    either (bytes_eq name (codes "usage")) xs _ _ (usage_has xs) (
-    either (bytes_eq name (codes "init")) xs _ _ (on_store_with_has Init xs) (
-    either (bytes_eq name (codes "inetd")) xs _ _ (on_store_has Inetd xs) (
-    either (bytes_eq name (codes "serve")) xs _ _ (on_store_with_has Serve xs) (
-    either (bytes_eq name (codes "add-actor")) xs _ _ (flagged_has (codes "--locked") add_actor_at xs add_actor_at_has) (
-    either (bytes_eq name (codes "add-peer")) xs _ _ (flagged_has (codes "--relay") add_peer_at xs add_peer_at_has) (
-    either (bytes_eq name (codes "deliver")) xs _ _ (on_store_has Deliver xs) (
-    either (bytes_eq name (codes "export")) xs _ _ (export_has xs) (
-    either (bytes_eq name (codes "check")) xs _ _ (on_store_has Check xs) (λ e. absurd (cc e))))))))))
+-- all words are read, and there are too few positions
+pub too_short : (row : Row) (ps : List (List ℕ)) (flagged : Bool) → length ps < row.positions → answer row ps flagged [] ≡ None
+too_short row ps flagged few =
+    let shorter : (length (ps ++ []) == row.positions) ≡ false = grind (arith, append-nil ps) in
+    not_taken row ps flagged [] (rw shorter refl)
 
-named_in : (words : List (List ℕ)) → is_some (store_in words) ≡ names_store (task_in words)
-named_in [] = refl
-named_in (name ∷ xs) =
-    elim (names_store (task_in (name ∷ xs))) as (λ b. (b ≡ true → is_some (find is_position xs) ≡ true) → is_some (if b then find is_position xs else None) ≡ b) [
-      | true ↦ λ has. has refl
-      | false ↦ λ has. refl
-    ] (accepted_has name xs)
+-- or as many as it takes
+pub all_read : (row : Row) (ps : List (List ℕ)) (flagged : Bool) → length ps ≡ row.positions → list_all is_position ps ≡ true
+    → answer row ps flagged [] ≡ Some (record { verb = row.verb; positions = ps; flagged = flagged })
+all_read row ps flagged enough all = rw (append-nil ps, enough, all, same row.positions, or_false flagged, once flagged) refl
+  where
+    or_false : (a : Bool) → (a || false) ≡ a
+    or_false true = refl
+    or_false false = refl
 
--- the arguments name a store exactly if their task has one
-pub named : {A : Type 0} (f : A → List ℕ) (words : List (List ℕ)) (store : Option A) → option_map f store ≡ store_in words → is_some store ≡ names_store (task_in words)
-named f words None is = ap is_some is ∙ named_in words
-named f words (Some store) is = ap is_some is ∙ named_in words
+    same : (n : ℕ) → (n == n) ≡ true
+    same n = grind arith
+
+    once : (f : Bool) → nat_le (counted f 0) 1 ≡ true
+    once true = refl
+    once false = refl
+
+-- the word at this place is the first of those from it on
+pub next_word : {A : Type 0} (f : A → List ℕ) (xs : List A) (k : ℕ) (x : A) (w : List ℕ) → k < length xs → x ≡ get_or xs k x → w ≡ f x
+    → map f (drop k xs) ≡ w ∷ map f (drop (k + 1) xs)
+next_word f xs k x w at is word = rw (drop-cons xs k x at, ← is, word, add-one) refl
+
+-- one more position
+pub more_positions : {A : Type 0} (f : A → List ℕ) (ps : List A) (p : A) → list_all is_position (map f ps) ≡ true → is_position (f p) ≡ true
+    → list_all is_position (map f (ps ++ p ∷ [])) ≡ true
+more_positions f [] p so_far is = rw is refl
+more_positions f (x ∷ ps) p so_far is =
+    let parts = both (is_position (f x)) (list_all is_position (map f ps)) so_far in
+    rw parts.0 (more_positions f ps p parts.1 is)
+  where
+    both : (a b : Bool) → (a && b) ≡ true → (a ≡ true) × (b ≡ true)
+    both true b e = (refl, e)
+    both false b e = absurd (cc e)
+
+-- no word is left
+pub none_left : {A : Type 0} (f : A → List ℕ) (xs : List A) (k : ℕ) → length xs ≤ k → map f (drop k xs) ≡ []
+none_left f xs k past = rw (drop_all k xs past) refl
+
+-- the first argument names a row, and this reads the others
+pub read_all : {A : Type 0} (f : A → List ℕ) (arguments : List A) (first : A) (name : List ℕ) (row : coded.Row) (result : Option Reading) → 1 ≤ length arguments
+    → first ≡ get_or arguments 0 first → name ≡ f first → Some (row_by name row) ≡ row_of name
+    → result ≡ read_by (map f (slice_range arguments 1 (length arguments))) (row_by name row) → result ≡ read (map f arguments)
+read_all f [] first name row result some is named found reads = absurd (omega (arith, some))
+read_all f (x ∷ xs) first name row result some is named found reads =
+    let name_is : name ≡ f x = named ∙ ap f is in
+    let rest : slice_range (x ∷ xs) 1 (length (x ∷ xs)) ≡ xs = take_all (length (x ∷ xs) - 1) xs (omega arith) in
+    rw rest at reads ∙ ap (option_and_then (read_by (map f xs))) found ∙ ap (λ (n : List ℕ). option_and_then (read_by (map f xs)) (row_of n)) name_is

@@ -1,15 +1,20 @@
 -- The arguments that the program takes.
-use Rattle.std.specs.Prelude.{ℕ, Bool, true, false, not, ◌&&◌, ◌||◌, nat_eq, List, [], ◌∷◌, codes, map, string_bytes, bytes_eq, Option, Some, None, option_map, if◌then◌else◌}
-use Rattle.std.specs.List.{starts_with, list_any, find}
+use Rattle.std.specs.Prelude.{ℕ, Bool, true, false, not, ◌&&◌, ◌==◌, nat_eq, nat_le, List, [], ◌∷◌, codes, length, map, bytes_eq, Option, Some, None, option_map, slice_index_or, if◌then◌else◌}
+use Rattle.std.specs.List.{starts_with, filter, find, list_all, list_any}
+use Rattle.std.specs.Option.{option_and_then}
 use Rattle.fedi_program.specs.declared.commands.Command.{Command}
 use Rattle.fedi_program.specs.declared.commands.Command.TheVariants as commands
 use Rattle.fedi_program.specs.declared.commands.Table.{Table}
 use Rattle.fedi_program.specs.declared.commands.Table.TheVariants.{Actors, Activities, Queue}
-use Rattle.fedi_program.specs.declared.words.Words.{Words}
+use Rattle.fedi_program.specs.declared.words.Reading as readings
+use Rattle.fedi_program.specs.declared.words.Row as coded
+use Rattle.fedi_program.specs.declared.words.Verb.{Verb}
+use Rattle.fedi_program.specs.declared.words.Verb.TheVariants as verbs
 
--- What the program is asked to do: to print its usage, to begin a store for this host, to serve one connection, to serve those
--- that come to this address, to make a member of this name, who is locked or not, to make this host a peer with this key at this
--- address, which is a relay or not, to try each delivery that is due, or to count what a store holds.
+-- What the program is asked to do: to print its usage, to begin a store for this host, to serve one
+-- connection, to serve those that come to this address, to make a member of this name, who is
+-- locked or not, to make this host a peer with this key at this address, which is a relay or not, to
+-- try each delivery that is due, to print this table of a store, or to count what a store holds.
 pub data Task : Type 0 where
   Usage : Task
   Init : List ℕ → Task
@@ -33,73 +38,86 @@ task_of commands.Deliver = Deliver
 task_of (commands.Export table) = Export table
 task_of commands.Check = Check
 
--- an argument that begins with `-` is no position
+-- ---- the table of commands
+
+-- a row of it: a command, its name, how many positions it takes, and its flag, if it has one
+pub record Row : Type 0 where
+  pub verb : Verb
+  pub name : List ℕ
+  pub positions : ℕ
+  pub flag : Option (List ℕ)
+
+-- the row of these
+abbrev pub row : Verb → List ℕ → ℕ → Option (List ℕ) → Row
+row verb name positions flag =
+    record { verb = verb; name = name; positions = positions; flag = flag }
+
+-- the rows: the first position is the store, but `usage` has none
+abbrev pub rows : List Row
+rows =
+    row verbs.Usage (codes "usage") 0 None
+    ∷ row verbs.Init (codes "init") 2 None
+    ∷ row verbs.Inetd (codes "inetd") 1 None
+    ∷ row verbs.Serve (codes "serve") 2 None
+    ∷ row verbs.AddActor (codes "add-actor") 2 (Some (codes "--locked"))
+    ∷ row verbs.AddPeer (codes "add-peer") 4 (Some (codes "--relay"))
+    ∷ row verbs.Deliver (codes "deliver") 1 None
+    ∷ row verbs.Export (codes "export") 2 None
+    ∷ row verbs.Check (codes "check") 1 None
+    ∷ []
+
+-- the row of the command of this name
+abbrev pub row_of : List ℕ → Option Row
+row_of name = find (λ row. bytes_eq name row.name) rows
+
+-- ---- the rule
+
+-- a word that begins with `-` is no position
 abbrev pub is_position : List ℕ → Bool
-is_position argument = not (starts_with nat_eq argument (codes "-"))
+is_position word = not (starts_with nat_eq word (codes "-"))
 
--- ---- flags
+-- the word is this flag, if there is one
+abbrev pub is_flag : Option (List ℕ) → List ℕ → Bool
+is_flag None word = false
+is_flag (Some flag) word = bytes_eq word flag
 
--- the argument is this flag
-abbrev pub is_flag : List ℕ → List ℕ → Bool
-is_flag flag argument = bytes_eq argument flag
+-- the words that are not this flag
+abbrev pub positions_of : Option (List ℕ) → List (List ℕ) → List (List ℕ)
+positions_of flag words = filter (λ word. not (is_flag flag word)) words
 
--- the arguments without the first among them that is this flag
-abbrev pub without_flag : List ℕ → List (List ℕ) → List (List ℕ)
-without_flag flag [] = []
-without_flag flag (argument ∷ arguments) = if is_flag flag argument then arguments else argument ∷ without_flag flag arguments
+-- The words after a command are accepted exactly if those that are not its flag are its positions,
+-- as many as it takes, of which none begins with `-`, and its flag is among them once at most,
+-- anywhere.
+abbrev pub accepts : Row → List (List ℕ) → Bool
+accepts row words =
+    (length (positions_of row.flag words) == row.positions)
+    && list_all is_position (positions_of row.flag words)
+    && nat_le (length (filter (is_flag row.flag) words)) 1
 
--- What a command that may have this flag is to do: its positions are the arguments without the flag, which is anywhere among
--- them, once at most, since another one would be no position.
-abbrev pub flagged_task : List ℕ → (List (List ℕ) → Bool → Option Task) → List (List ℕ) → Option Task
-flagged_task flag task arguments = task (without_flag flag arguments) (list_any (is_flag flag) arguments)
+-- accepted arguments: the command, its positions in order, and whether its flag is there
+pub record Reading : Type 0 where
+  pub verb : Verb
+  pub positions : List (List ℕ)
+  pub flagged : Bool
 
--- the words that are left to be read of a command's arguments: those without its flag, if that was not read yet
-abbrev pub words_left : Words → List (List ℕ)
-words_left w = if w.is_flagged then map string_bytes w.left.now else without_flag w.flag.now (map string_bytes w.left.now)
+-- the words after a command as its row reads them
+abbrev pub reading_by : Row → List (List ℕ) → Reading
+reading_by row words = record {
+  verb = row.verb;
+  positions = positions_of row.flag words;
+  flagged = list_any (is_flag row.flag) words;
+}
 
--- whether the flag was read, or is to be read yet
-abbrev pub has_flag : Words → Bool
-has_flag w = w.is_flagged || list_any (is_flag w.flag.now) (map string_bytes w.left.now)
+-- so if it accepts them
+abbrev pub read_by : List (List ℕ) → Row → Option Reading
+read_by words row = if accepts row words then Some (reading_by row words) else None
 
--- ---- commands
+-- the arguments, if they are accepted: a command, and the words after it
+abbrev pub read : List (List ℕ) → Option Reading
+read [] = None
+read (name ∷ words) = option_and_then (read_by words) (row_of name)
 
--- what `add-actor` is to do with these positions, a store and a name, with its flag or without
-abbrev pub add_actor_at : List (List ℕ) → Bool → Option Task
-add_actor_at [] locked = None
-add_actor_at (store ∷ []) locked = None
-add_actor_at (store ∷ name ∷ []) locked = if is_position store && is_position name then Some (AddActor name locked) else None
-add_actor_at (store ∷ name ∷ other ∷ others) locked = None
-
--- what `add-peer` is to do with these positions, a store, a host, a key and an address, with its flag or without
-abbrev pub add_peer_at : List (List ℕ) → Bool → Option Task
-add_peer_at [] relay = None
-add_peer_at (store ∷ []) relay = None
-add_peer_at (store ∷ host ∷ []) relay = None
-add_peer_at (store ∷ host ∷ key ∷ []) relay = None
-add_peer_at (store ∷ host ∷ key ∷ address ∷ []) relay =
-    if is_position store && is_position host && is_position key && is_position address then Some (AddPeer host key address relay) else None
-add_peer_at (store ∷ host ∷ key ∷ address ∷ other ∷ others) relay = None
-
--- what `add-actor` is to do with its arguments, among which its flag may be anywhere
-abbrev pub add_actor_with : List (List ℕ) → Option Task
-add_actor_with arguments = flagged_task (codes "--locked") add_actor_at arguments
-
--- what `add-peer` is to do with its arguments, among which its flag may be anywhere
-abbrev pub add_peer_with : List (List ℕ) → Option Task
-add_peer_with arguments = flagged_task (codes "--relay") add_peer_at arguments
-
--- the task of this word, if the arguments are a store and that word alone
-abbrev pub on_store_with : (List ℕ → Task) → List (List ℕ) → Option Task
-on_store_with task [] = None
-on_store_with task (store ∷ []) = None
-on_store_with task (store ∷ word ∷ []) = if is_position store && is_position word then Some (task word) else None
-on_store_with task (store ∷ word ∷ other ∷ others) = None
-
--- this task, if the arguments are a store alone
-abbrev pub on_store : Task → List (List ℕ) → Option Task
-on_store task [] = None
-on_store task (store ∷ []) = if is_position store then Some task else None
-on_store task (store ∷ other ∷ others) = None
+-- ---- the task
 
 -- the table of this name
 abbrev pub table_of : List ℕ → Option Table
@@ -108,31 +126,30 @@ table_of name =
     if bytes_eq name (codes "activities") then Some Activities else (
     if bytes_eq name (codes "queue") then Some Queue else None))
 
--- what `export` is to do with its arguments, a store and the name of a table
-abbrev pub export_with : List (List ℕ) → Option Task
-export_with [] = None
-export_with (store ∷ []) = None
-export_with (store ∷ name ∷ []) = if is_position store then option_map Export (table_of name) else None
-export_with (store ∷ name ∷ other ∷ others) = None
+-- the position of this number, counted from 0
+abbrev pub word : List (List ℕ) → ℕ → List ℕ
+word positions k = slice_index_or positions k []
 
--- what `usage` is to do with these arguments
-abbrev pub usage_with : List (List ℕ) → Option Task
-usage_with [] = Some Usage
-usage_with (argument ∷ arguments) = None
+-- what a command with these positions is to do, with its flag or without
+abbrev pub task_at : Verb → List (List ℕ) → Bool → Option Task
+task_at verbs.Usage positions flagged = Some Usage
+task_at verbs.Init positions flagged = Some (Init (word positions 1))
+task_at verbs.Inetd positions flagged = Some Inetd
+task_at verbs.Serve positions flagged = Some (Serve (word positions 1))
+task_at verbs.AddActor positions flagged = Some (AddActor (word positions 1) flagged)
+task_at verbs.AddPeer positions flagged =
+    Some (AddPeer (word positions 1) (word positions 2) (word positions 3) flagged)
+task_at verbs.Deliver positions flagged = Some Deliver
+task_at verbs.Export positions flagged = option_map Export (table_of (word positions 1))
+task_at verbs.Check positions flagged = Some Check
+
+-- what accepted arguments ask for
+abbrev pub task_by : Reading → Option Task
+task_by reading = task_at reading.verb reading.positions reading.flagged
 
 -- what the arguments ask for, if they are accepted
 abbrev pub task_in : List (List ℕ) → Option Task
-task_in [] = None
-task_in (name ∷ arguments) =
-    if bytes_eq name (codes "usage") then usage_with arguments else (
-    if bytes_eq name (codes "init") then on_store_with Init arguments else (
-    if bytes_eq name (codes "inetd") then on_store Inetd arguments else (
-    if bytes_eq name (codes "serve") then on_store_with Serve arguments else (
-    if bytes_eq name (codes "add-actor") then add_actor_with arguments else (
-    if bytes_eq name (codes "add-peer") then add_peer_with arguments else (
-    if bytes_eq name (codes "deliver") then on_store Deliver arguments else (
-    if bytes_eq name (codes "export") then export_with arguments else (
-    if bytes_eq name (codes "check") then on_store Check arguments else None))))))))
+task_in arguments = option_and_then task_by (read arguments)
 
 -- whether arguments that ask for this name a store
 abbrev pub names_store : Option Task → Bool
@@ -147,10 +164,12 @@ names_store (Some Deliver) = true
 names_store (Some (Export table)) = true
 names_store (Some Check) = true
 
--- the store that the arguments name, if they are accepted: the first position after the command
+-- the store that the arguments name: the first position, if they are accepted and the task has one
 abbrev pub store_in : List (List ℕ) → Option (List ℕ)
-store_in [] = None
-store_in (name ∷ arguments) = if names_store (task_in (name ∷ arguments)) then find is_position arguments else None
+store_in arguments =
+    if names_store (task_in arguments)
+    then option_map (λ reading. word reading.positions 0) (read arguments)
+    else None
 
 -- the address at which connections are served, if that is the task
 abbrev pub address_of : Option Task → Option (List ℕ)
@@ -164,3 +183,17 @@ address_of (Some (AddPeer host key address relay)) = None
 address_of (Some Deliver) = None
 address_of (Some (Export table)) = None
 address_of (Some Check) = None
+
+-- ---- as the code has them
+
+-- the row of the command of this name, as the code's table has it
+abbrev pub row_by : List ℕ → coded.Row → Row
+row_by name r = row r.verb name r.positions (option_map (λ flag. flag.now) r.flag)
+
+-- a reading of the code, without its references
+abbrev pub reading_of : readings.Reading → Reading
+reading_of r = record {
+  verb = r.verb;
+  positions = map (λ word. word.now) r.positions.items;
+  flagged = r.flagged;
+}

@@ -1,71 +1,172 @@
-//! The words of a command that has a flag.
+//! The words of the arguments, by one rule for all commands.
 
-ghost use Rattle.std.specs.Prelude.{◌≡◌, ◌∷◌, ℕ, List, [], MatchOption, map, string_bytes};
-ghost use Rattle.std.specs.List.{list_any};
-ghost use Rattle.fedi_program.specs.Commands.{has_flag, is_flag, without_flag, words_left};
+ghost use Rattle.std.specs.Prelude.{◌≡◌, ◌≤◌, ℕ, List, IfSome, None, Some, map, option_map, string_bytes};
+ghost use Rattle.fedi_program.specs.Commands.{is_flag, is_position, read, read_by, reading_of, row_by, row_of, word};
 
-/// The arguments of a command that may have a flag, which is anywhere among them. They are read one after
-/// the other, without the flag.
-#[derive(Drop)]
-pub struct Words<'a> {
-    left: &'a [String],
-    flag: &'a str,
-    is_flagged: bool,
+use arrayvec::ArrayVec;
+
+/// A command, by its name alone.
+#[derive(Clone, Copy)]
+pub enum Verb {
+    /// `usage`
+    Usage,
+    /// `init`
+    Init,
+    /// `inetd`
+    Inetd,
+    /// `serve`
+    Serve,
+    /// `add-actor`
+    AddActor,
+    /// `add-peer`
+    AddPeer,
+    /// `deliver`
+    Deliver,
+    /// `export`
+    Export,
+    /// `check`
+    Check,
 }
 
-impl<'a> Words<'a> {
-    /// The words that these arguments are without the first among them that is the flag.
-    pub fn new(arguments: &'a [String], flag: &'a str) -> Words<'a>
-        ensures left { words_left result ≡ without_flag flag.now (map string_bytes arguments.now) }
-        ensures flag { has_flag result
-            ≡ list_any (is_flag flag.now) (map string_bytes arguments.now) }
+/// A row of the table of commands.
+#[derive(Clone, Copy)]
+pub struct Row {
+    /// The command.
+    verb: Verb,
+    /// How many positions it takes.
+    positions: usize,
+    /// Its flag, if it has one.
+    flag: Option<&'static str>,
+}
+
+/// How many positions a command takes at most.
+const POSITIONS: usize = 4;
+
+impl Row {
+    /// A command that has no flag.
+    fn new(verb: Verb, positions: usize) -> Row
+        ensures verb { result.verb ≡ verb }
+        ensures positions { result.positions ≡ positions }
+        ensures flag { result.flag ≡ None }
     {
-        Words {
-            left: arguments,
-            flag,
-            is_flagged: false,
+        Row {
+            verb,
+            positions,
+            flag: None,
         }
     }
 
-    // The next argument, if one is left.
-    fn take(&mut self) -> Option<&'a str>
-        ensures taken { MatchOption result
-            ((self.old.left.now ≡ []) × (self.new ≡ self.old))
-            (λ word. map string_bytes self.old.left.now
-            ≡ word.now ∷ map string_bytes self.new.left.now) }
-        ensures flag { self.new.flag ≡ self.old.flag }
-        ensures flagged { self.new.is_flagged ≡ self.old.is_flagged }
+    /// A command that may have this flag.
+    fn flagged(verb: Verb, positions: usize, flag: &'static str) -> Row
+        ensures verb { result.verb ≡ verb }
+        ensures positions { result.positions ≡ positions }
+        ensures flag { result.flag ≡ Some flag.entry }
     {
-        let (first, rest) = self.left.split_first()?;
-        self.left = rest;
-        Some(first)
-    }
-
-    /// The next word, if one is left. After the last it is known whether the flag was among the arguments.
-    pub fn next(&mut self) -> Option<&'a str>
-        ensures { MatchOption result
-            ((words_left self.old ≡ []) × (self.new.is_flagged ≡ has_flag self.old))
-            (λ word. (words_left self.old ≡ word.now ∷ words_left self.new)
-            × (has_flag self.new ≡ has_flag self.old)) }
-    {
-        let word = self.take()?;
-        if self.is_flagged || word != self.flag {
-            return Some(word);
-        }
-        self.is_flagged = true;
-        self.take()
-    }
-
-    /// Whether the flag was among the arguments, if no word is left.
-    pub fn end(mut self) -> Option<bool>
-        ensures { MatchOption result
-            ((word : List ℕ) × (words : List (List ℕ))
-            × (words_left self.entry ≡ word ∷ words))
-            (λ flagged. (words_left self.entry ≡ []) × (flagged ≡ has_flag self.entry)) }
-    {
-        match self.next() {
-            Some(_) => None,
-            None => Some(self.is_flagged),
+        Row {
+            verb,
+            positions,
+            flag: Some(flag),
         }
     }
+
+    // Whether the word is the flag.
+    fn is_flag(&self, word: &str) -> bool
+        ensures { result ≡ is_flag (option_map (λ flag. flag.now) self.now.flag) word.now }
+    {
+        match self.flag {
+            Some(flag) => word == flag,
+            None => false,
+        }
+    }
+}
+
+// The row of the command of this name.
+fn row_of(name: &str) -> Option<Row>
+    ensures row { option_map (row_by name.now) result ≡ row_of name.now }
+    ensures positions { IfSome result (λ row. row.positions ≤ POSITIONS) }
+{
+    match name {
+        "usage" => Some(Row::new(Verb::Usage, 0)),
+        "init" => Some(Row::new(Verb::Init, 2)),
+        "inetd" => Some(Row::new(Verb::Inetd, 1)),
+        "serve" => Some(Row::new(Verb::Serve, 2)),
+        "add-actor" => Some(Row::flagged(Verb::AddActor, 2, "--locked")),
+        "add-peer" => Some(Row::flagged(Verb::AddPeer, 4, "--relay")),
+        "deliver" => Some(Row::new(Verb::Deliver, 1)),
+        "export" => Some(Row::new(Verb::Export, 2)),
+        "check" => Some(Row::new(Verb::Check, 1)),
+        _ => None,
+    }
+}
+
+fn is_position(word: &str) -> bool
+    ensures { result ≡ is_position word.now }
+{
+    !word.as_bytes().starts_with(b"-")
+}
+
+/// Accepted arguments.
+#[derive(Drop)]
+pub struct Reading<'a> {
+    /// The command.
+    pub verb: Verb,
+    /// Its positions, in order.
+    positions: ArrayVec<&'a str, POSITIONS>,
+    /// Whether its flag is among the words after it.
+    pub flagged: bool,
+}
+
+impl<'a> Reading<'a> {
+    /// The position of this number, counted from 0. It is empty where there are fewer.
+    pub fn position(&self, number: usize) -> &'a str
+        ensures { result.now ≡ word (reading_of self.now).positions number }
+    {
+        match self.positions.get(number) {
+            Some(word) => word,
+            None => "",
+        }
+    }
+}
+
+// The words after a command as its row reads them, if it accepts them: those that are not its flag
+// are its positions, as many as it takes, of which none begins with `-`, and its flag is there once
+// at most.
+fn read_by<'a>(words: &'a [String], row: Row) -> Option<Reading<'a>>
+    requires { row.positions ≤ POSITIONS }
+    ensures { (name : List ℕ) → option_map reading_of result
+        ≡ read_by (map string_bytes words.now) (row_by name row) }
+{
+    let mut positions = ArrayVec::new();
+    let mut flagged = false;
+    for word in words {
+        let word = word.as_str();
+        if row.is_flag(word) {
+            if flagged {
+                return None;
+            }
+            flagged = true;
+        } else if is_position(word) && positions.len() < row.positions {
+            positions.push(word);
+        } else {
+            return None;
+        }
+    }
+    if positions.len() < row.positions {
+        return None;
+    }
+    Some(Reading {
+        verb: row.verb,
+        positions,
+        flagged,
+    })
+}
+
+/// The arguments, if they are accepted: a command and the words after it.
+pub fn read(arguments: &[String]) -> Option<Reading<'_>>
+    ensures { option_map reading_of result ≡ read (map string_bytes arguments.now) }
+{
+    let [name, words @ ..] = arguments else {
+        return None;
+    };
+    read_by(words, row_of(name)?)
 }
