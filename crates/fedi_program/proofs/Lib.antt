@@ -1,5 +1,6 @@
 pub mod AttemptLemmas
 pub mod ClaimLemmas
+pub mod CompleteLemmas
 pub mod DeliverLemmas
 pub mod Examples
 pub mod MemberLemmas

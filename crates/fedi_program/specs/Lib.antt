@@ -1,4 +1,5 @@
 pub mod Commands
+pub mod Complete
 pub mod Delivering
 pub mod Endings
 pub mod Members

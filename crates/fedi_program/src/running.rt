@@ -1,8 +1,9 @@
 //! The whole program, over whatever lies outside.
 
 ghost use Rattle.std.specs.Prelude.{◌≡◌, ◌≢◌, ◌↔◌, ◌<◌, ℕ, All, Bool, false, true, List, [], IfSome, IsTrue, Some, None, length, map, string_bytes, vec_len};
-ghost use Rattle.fedi_program.specs.Commands.{AddActor, AddPeer, Check, Deliver, Export, Inetd, Init, Serve, Usage, address_of, names_store, task_in};
+ghost use Rattle.fedi_program.specs.Commands.{AddActor, AddPeer, Check, Deliver, Export, Inetd, Init, Serve, Task, Usage, address_of, names_store, task_in};
 ghost use Rattle.fedi_talk.specs.Endings.{WritesUnlessFailed, faults_by, output_by, scene_by};
+ghost use Rattle.fedi_program.specs.Complete.{DoorsAreCalm, IsComplete, outside_of};
 ghost use Rattle.fedi_program.specs.Delivering.{DeliversBy, DeliversStore, told_by};
 ghost use Rattle.fedi_program.specs.Endings.{HasCauses, Prints, status_of};
 ghost use Rattle.fedi_program.specs.Members.{chance_by};
@@ -371,6 +372,17 @@ pub fn run_alone<S: Source, O: Sink, D: Disk, W, K: Link, C: Clock, E: Entropy>(
     // Only the first link of `deliver` is asked.
     ensures benches { task_in (map string_bytes arguments.now) ≢ Some Deliver
         → result.benches ≡ benches }
+
+    // If no call failed, a task is done (0) unless memory ran out (12), over each store, and `init`
+    // over what may become one, where it breaks no rule and has room. The input of `inetd` may also
+    // have ended inside a request (8).
+    ensures complete { (task : Task) → task_in (map string_bytes arguments.now) ≡ Some task
+        → IsComplete task (C.told connection.old.clock)
+        (outside_of (D.shown disk) (chance_by E.next E.faults entropy.old)
+        (faults_by S.read_faults O.write_faults connection.old.input connection.old.out))
+        (outside_of (D.shown result.disk) (chance_by E.next E.faults entropy.new)
+        (faults_by S.read_faults O.write_faults connection.new.input connection.new.out))
+        result.status }
 {
     match command_of(arguments) {
         Some(Command::Inetd) => {
@@ -639,6 +651,18 @@ pub fn run<
     ensures benches { address_of (task_in (map string_bytes arguments.now)) ≡ None
         → task_in (map string_bytes arguments.now) ≢ Some Deliver
         → result.benches ≡ benches }
+
+    // If no call failed, a task is done (0) unless memory ran out (12), over each store, and `init`
+    // over what may become one, where it breaks no rule and has room. The input of `inetd` may also
+    // have ended inside a request (8).
+    ensures complete { (task : Task) → task_in (map string_bytes arguments.now) ≡ Some task
+        → DoorsAreCalm W.faults benches.items result.benches.items
+        → IsComplete task (C.told connection.old.clock)
+        (outside_of (D.shown disk) (chance_by E.next E.faults entropy.old)
+        (faults_by S.read_faults O.write_faults connection.old.input connection.old.out))
+        (outside_of (D.shown result.disk) (chance_by E.next E.faults entropy.new)
+        (faults_by S.read_faults O.write_faults connection.new.input connection.new.out))
+        result.status }
 {
     match command_of(arguments) {
         Some(Command::Serve { .. }) => serve(rt, alloc, seed, &connection.clock, disk, benches),

@@ -1,8 +1,10 @@
 use Rattle.std.proofs.Common.{ℕ, List, Bool}
 use Rattle.fedi_talk.specs.Endings.{output_by}
+use Rattle.fedi_program.specs.Commands.{Usage}
 use Rattle.fedi_program.specs.Members.{chance_by}
 use Rattle.fedi_program.specs.Stores.{AddsMember, AddsPeer, ExportsStore, MakesStore, medium_by}
 use Rattle.fedi_program.specs.declared.commands.Table.{Table}
+use Rattle.fedi_program.proofs.CompleteLemmas.{add_actor_complete, add_peer_complete, asked_complete, check_complete, deliver_by_complete, export_complete, inetd_complete, init_complete, prints_complete}
 use Rattle.fedi_program.proofs.MemberLemmas.{of_host, of_table, of_task}
 use Rattle.fedi_program.proofs.PeerLemmas.{of_peer}
 use Rattle.fedi_program.proofs.RunLemmas.{added_safe, checked_safe, exported_safe, peered_safe, served_safe, store_talks}
@@ -63,3 +65,43 @@ returns-in-Some-Export-clause-exported g c =
     (λ (t : Table). ExportsStore t (medium_by g.D.Disk.shown g.D.Disk.crashes c.args.disk) (medium_by g.D.Disk.shown g.D.Disk.crashes c.export-status.result.1)
     (output_by g.O.Sink.sent g.O.Sink.write_faults c.args.connection.now.out) (output_by g.O.Sink.sent g.O.Sink.write_faults c.export-status.new.out)
     c.export-status.result.0) _ _ _ asked c.export-status.ensures.exported
+
+pub returns-in-Some-Inetd-clause-complete : goal.returns-in-Some-Inetd-clause-complete
+returns-in-Some-Inetd-clause-complete g c = λ task is.
+    let told = g.C.Clock.told c.args.connection.now.clock in
+    asked_complete _ _ task told _ _ _ (rw c.in-Some-Inetd.field-0-is at c.in-Some-Inetd.ensures) (inetd_complete told _ _ _ _ _ _ _ _ _ c.inetd-status.ensures.session c.inetd-status.ensures.causes) is
+
+pub returns-in-Some-AddActor-clause-complete : goal.returns-in-Some-AddActor-clause-complete
+returns-in-Some-AddActor-clause-complete g c = λ task is.
+    let told = g.C.Clock.told c.args.connection.now.clock in
+    asked_complete _ _ task told _ _ _ (rw c.in-Some-AddActor.field-0-is at c.in-Some-AddActor.ensures) (add_actor_complete told _ _ _ _ _ _ _ _ _ _ _ c.add_actor-status.ensures.added) is
+
+pub returns-in-Some-AddPeer-clause-complete : goal.returns-in-Some-AddPeer-clause-complete
+returns-in-Some-AddPeer-clause-complete g c = λ task is.
+    let told = g.C.Clock.told c.args.connection.now.clock in
+    asked_complete _ _ task told _ _ _ (rw c.in-Some-AddPeer.field-0-is at c.in-Some-AddPeer.ensures) (add_peer_complete told _ _ _ _ _ _ _ _ _ _ _ _ _ c.add_peer-status.ensures.peered) is
+
+pub returns-in-Some-Init-clause-complete : goal.returns-in-Some-Init-clause-complete
+returns-in-Some-Init-clause-complete g c = λ task is.
+    let told = g.C.Clock.told c.args.connection.now.clock in
+    asked_complete _ _ task told _ _ _ (rw c.in-Some-Init.field-0-is at c.in-Some-Init.ensures) (init_complete g.D.Disk.shown g.D.Disk.crashes _ _ _ _ _ _ _ _ _ _ _ c.begin_store-status.ensures.made) is
+
+pub returns-in-Some-Deliver-clause-complete : goal.returns-in-Some-Deliver-clause-complete
+returns-in-Some-Deliver-clause-complete g c = λ task is.
+    let told = g.C.Clock.told c.args.connection.now.clock in
+    asked_complete _ _ task told _ _ _ (rw c.in-Some-Deliver.field-0-is at c.in-Some-Deliver.ensures) (deliver_by_complete _ told _ _ _ _ _ _ _ _ _ _ _ c.deliver_by-status.ensures.delivered) is
+
+pub returns-in-Some-Export-clause-complete : goal.returns-in-Some-Export-clause-complete
+returns-in-Some-Export-clause-complete g c = λ task is.
+    let told = g.C.Clock.told c.args.connection.now.clock in
+    asked_complete _ _ task told _ _ _ (rw c.in-Some-Export.field-0-is at c.in-Some-Export.ensures) (export_complete _ told _ _ _ _ _ _ _ _ _ c.export-status.ensures.exported) is
+
+pub returns-in-Some-Check-clause-complete : goal.returns-in-Some-Check-clause-complete
+returns-in-Some-Check-clause-complete g c = λ task is.
+    let told = g.C.Clock.told c.args.connection.now.clock in
+    asked_complete _ _ task told _ _ _ (rw c.in-Some-Check.field-0-is at c.in-Some-Check.ensures) (check_complete told _ _ _ _ _ _ _ _ _ c.check-status.ensures.checked) is
+
+pub returns-in-Some-Usage-clause-complete : goal.returns-in-Some-Usage-clause-complete
+returns-in-Some-Usage-clause-complete g c = λ task is.
+    let told = g.C.Clock.told c.args.connection.now.clock in
+    asked_complete _ _ task told _ _ _ (rw c.in-Some-Usage.field-0-is at c.in-Some-Usage.ensures) (prints_complete Usage told _ _ _ _ _ _ _ _ _ _ c.print.ensures) is
