@@ -34,7 +34,12 @@ fn seed(rt: &HostRuntime) -> Seed {
 
 /// How many connections are served at once. A bench is a few words until `serve` gives it a thread, and each
 /// connection has a buffer of its own from its first request on.
-const BENCHES: usize = 64;
+const SERVING: u16 = 64;
+
+/// How many deliveries are tried at once, beside the connections. A peer that does not answer holds
+/// one of them for ten seconds a try, and deliveries to others wait only when all are held. While
+/// nothing is due, each is a thread that looks once a second.
+const DELIVERING: u16 = 16;
 
 fn main(rt: HostRuntime) -> ExitCode {
     let Ok(arguments) = arguments(&rt) else {
@@ -49,7 +54,7 @@ fn main(rt: HostRuntime) -> ExitCode {
     let disk = FileDisk::new(&rt, store_of(&arguments).unwrap_or_default());
     // Likewise, only `serve` asks its doors, and the address is bound when one is first asked.
     let listening = Listening::new(&rt, address_of(&arguments).unwrap_or_default());
-    let Ok(benches) = benches(&rt, rt.alloc(), &listening, BENCHES) else {
+    let Ok(benches) = benches(&rt, rt.alloc(), &listening, SERVING, DELIVERING) else {
         return ExitCode::from(OUT_OF_MEMORY);
     };
     let mut entropy = SystemEntropy::new(&rt);

@@ -22,6 +22,6 @@ pub use locked_file::LockedFile;
 pub use raw_file::RawFile;
 pub use system::{Reading, SystemClock, SystemEntropy, Writing};
 pub use tcp_benches::benches;
-pub use tcp_doors::TcpDoor;
+pub use tcp_doors::{Role, TcpDoor};
 pub use tcp_lines::TcpLine;
 pub use tcp_links::TcpLink;

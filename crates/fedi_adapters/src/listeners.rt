@@ -2,29 +2,15 @@
 
 use std::io::{self, ErrorKind};
 use std::net::{Net, TcpListener, TcpStream};
-use std::os::fd::OwnedFd;
 use std::sync::{OnceLock, Wait};
 use std::thread;
 use std::time::{Clock, Duration};
 
-/// The most seconds that one call waits for a connection.
-const PATIENCE: u64 = 1;
-
-/// For how many milliseconds a call that failed otherwise sleeps: what it lacked may come.
+/// For how many milliseconds a call that failed sleeps before the next: what it lacked may come.
 const PAUSE: u64 = 100;
 
-/// What a call found.
-#[derive(Drop)]
-pub(crate) enum Found {
-    Connection(TcpStream),
-    /// No connection came in time, or one was gone before it was taken, or the system had no room for one.
-    Nothing,
-    /// Nobody listens, since the address could not be bound.
-    Unbound,
-}
-
-/// Listens for TCP connections at an address, `HOST:PORT`. It is bound by the first call that asks for a connection, and only once:
-/// if that fails, each call finds it unbound.
+/// Listens for TCP connections at an address, `HOST:PORT`. It is bound when a door is first asked,
+/// and only once: if that fails, each door fails.
 #[derive(Drop)]
 pub struct Listening<'a, R: Net<Listener = TcpListener, Stream = TcpStream>> {
     rt: &'a R,
@@ -45,26 +31,30 @@ impl<'a, R: Net<Listener = TcpListener, Stream = TcpStream>> Listening<'a, R> {
 }
 
 impl<R: Net<Listener = TcpListener, Stream = TcpStream> + Clock + Wait> Listening<'_, R> {
-    /// Waits for a connection, for a second at most.
-    pub(crate) fn next(&self) -> Found {
-        let bound = || bind(self.rt, self.address).ok();
-        let Some(listener) = self.listener.get_or_init(self.rt, bound) else {
-            return Found::Unbound;
-        };
-        match listener.accept() {
-            Ok((stream, _)) => Found::Connection(stream),
-            Err(error) => {
-                if error.kind() != ErrorKind::WouldBlock {
-                    thread::sleep(self.rt, Duration::from_millis(PAUSE));
-                }
-                Found::Nothing
+    /// Whether the address is bound.
+    pub(crate) fn is_bound(&self) -> bool {
+        self.listener().is_some()
+    }
+
+    /// The next connection, whenever it comes. None if the address could not be bound.
+    pub(crate) fn next(&self) -> Option<TcpStream> {
+        let listener = self.listener()?;
+        for _ in self.rt.forever() {
+            match listener.accept() {
+                Ok((stream, _)) => return Some(stream),
+                // It was gone before it was taken, or the system had no room for it.
+                Err(_) => thread::sleep(self.rt, Duration::from_millis(PAUSE)),
             }
         }
+        unreachable!()
+    }
+
+    fn listener(&self) -> Option<&TcpListener> {
+        let bound = || bind(self.rt, self.address).ok();
+        self.listener.get_or_init(self.rt, bound).as_ref()
     }
 }
 
-// Binds the address. A call for a connection then waits no longer than its patience: that is the time-out of reads, which a listener
-// has as any socket.
 fn bind<R: Net<Listener = TcpListener, Stream = TcpStream>>(
     rt: &R,
     address: &str,
@@ -72,10 +62,7 @@ fn bind<R: Net<Listener = TcpListener, Stream = TcpStream>>(
     if has_no_port(address) {
         return Err(ErrorKind::InvalidInput.into());
     }
-    let listener = TcpListener::bind(rt, address)?;
-    let socket = TcpStream::from(OwnedFd::from(listener));
-    socket.set_read_timeout(Some(Duration::from_secs(PATIENCE)))?;
-    Ok(TcpListener::from(OwnedFd::from(socket)))
+    TcpListener::bind(rt, address)
 }
 
 fn has_no_port(address: &str) -> bool {

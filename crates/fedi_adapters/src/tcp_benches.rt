@@ -1,8 +1,8 @@
 //! Benches with doors on a listener, each with a link.
-ghost use Rattle.std.specs.Prelude.{◌≡◌, All, IfOk, None, false, vec_len};
+ghost use Rattle.std.specs.Prelude.{◌≡◌, ◌+◌, All, IfOk, None, false, vec_len};
 
 use crate::listeners::Listening;
-use crate::tcp_doors::TcpDoor;
+use crate::tcp_doors::{Role, TcpDoor};
 use crate::tcp_links::TcpLink;
 use fedi_outside::{Bench, Door};
 use std::alloc::{AllocError, Global};
@@ -10,23 +10,30 @@ use std::net::{Net, TcpListener, TcpStream};
 use std::sync::Wait;
 use std::time::Clock;
 
-/// So many benches, each with a door on this listener, of which nothing was asked yet, and a link
-/// of its own. The error is out of memory.
+/// So many benches that serve, and then so many that deliver, each with a door on this listener, of
+/// which nothing was asked yet, and a link of its own. The error is out of memory.
 pub fn benches<'a, R: Net<Listener = TcpListener, Stream = TcpStream> + Clock + Wait + Sync>(
     rt: &'a R,
     alloc: Global,
     listening: &'a Listening<'a, R>,
-    count: usize,
+    serving: u16,
+    delivering: u16,
 ) -> Result<Vec<Bench<TcpDoor<'a, R>, TcpLink<'a, R>>>, AllocError>
-    ensures count { IfOk result (λ benches. vec_len benches ≡ count) }
+    ensures count { IfOk result (λ benches. vec_len benches ≡ serving + delivering) }
     ensures waiting { IfOk result (λ benches.
         All (λ bench. (⟦<TcpDoor<'a, R> as Door>⟧.out bench.door ≡ None)
         × (⟦<TcpDoor<'a, R> as Door>⟧.idle bench.door ≡ false)) benches.items) }
 {
+    let count = usize::from(serving) + usize::from(delivering);
     let mut benches = Vec::with_capacity(alloc, count)?;
-    for _ in 0..count {
+    for place in 0..count {
+        let role = if place < usize::from(serving) {
+            Role::Serves
+        } else {
+            Role::Delivers
+        };
         benches.push(Bench {
-            door: TcpDoor::new(rt, listening),
+            door: TcpDoor::new(rt, listening, role),
             link: TcpLink::new(rt),
         })?;
     }

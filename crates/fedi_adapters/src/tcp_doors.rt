@@ -1,30 +1,47 @@
 //! Doors on a listener.
-ghost use Rattle.std.specs.Prelude.{◌≡◌, None, false};
+ghost use Rattle.std.specs.Prelude.{◌≡◌, IfSome, None, false};
 ghost use Rattle.fedi_adapters.specs.Untold.{untold_if};
 
-use crate::listeners::{Found, Listening};
+use crate::listeners::Listening;
 use crate::tcp_lines::TcpLine;
 use fedi_outside::{Door, Rest, Turn};
 use std::net::{Net, TcpListener, TcpStream};
 use std::sync::Wait;
-use std::time::Clock;
+use std::thread;
+use std::time::{Clock, Duration};
 
-/// A door on a listener that others share. It gives a line; or Idle, after about a second at most, if no connection came, if the other
-/// side had left before, or if the system had no room for one; or Failed, if the address could not be bound, and then each time. It
-/// is never closed. It tells no rows.
+/// For how many milliseconds a door that delivers sleeps after nothing was due.
+const PAUSE: u64 = 1_000;
+
+/// What a door is for. A delivery may take seconds, in which its worker does nothing else: so no
+/// worker both serves and delivers.
+#[derive(Clone, Copy, Debug, PartialEq, Eq)]
+pub enum Role {
+    /// It gives connections, and is never idle: it waits until one comes.
+    Serves,
+    /// It gives no connection, and is always idle: at once after a delivery was tried, as there may
+    /// be more, and otherwise after a second.
+    Delivers,
+}
+
+/// A door on a listener that others share. Whatever its role, it fails if the address could not be
+/// bound, and then each time. It is never closed. It tells no rows.
 #[derive(Drop)]
 pub struct TcpDoor<'a, R: Net<Listener = TcpListener, Stream = TcpStream>> {
     rt: &'a R,
     listening: &'a Listening<'a, R>,
+    role: Role,
     // Whether a line is out, and whether a rest is to be told.
     is_out: bool,
     is_idle: bool,
+    // Whether nothing was due when it was last idle.
+    pauses: bool,
     faults: u64,
 }
 
 impl<'a, R: Net<Listener = TcpListener, Stream = TcpStream>> TcpDoor<'a, R> {
-    /// A door on this listener, which no line has left yet.
-    pub fn new(rt: &'a R, listening: &'a Listening<'a, R>) -> Self
+    /// A door of this role on this listener, which no line has left yet.
+    pub fn new(rt: &'a R, listening: &'a Listening<'a, R>, role: Role) -> Self
         ensures out { result.is_out ≡ false }
         ensures idle { result.is_idle ≡ false }
         ensures faults { result.faults ≡ 0 }
@@ -32,10 +49,40 @@ impl<'a, R: Net<Listener = TcpListener, Stream = TcpStream>> TcpDoor<'a, R> {
         TcpDoor {
             rt,
             listening,
+            role,
             is_out: false,
             is_idle: false,
+            pauses: false,
             faults: 0,
         }
+    }
+}
+
+impl<'a, R: Net<Listener = TcpListener, Stream = TcpStream> + Clock + Wait> TcpDoor<'a, R> {
+    // The next line, whenever it comes. None if the address could not be bound.
+    fn line(&self) -> Option<TcpLine<'a, R>>
+        ensures reads { IfSome result (λ line. line.read_faults ≡ 0) }
+        ensures writes { IfSome result (λ line. line.write_faults ≡ 0) }
+    {
+        for _ in self.rt.forever() {
+            let stream = self.listening.next()?;
+            // It fails if the other side has left.
+            if let Ok(line) = TcpLine::new(self.rt, stream) {
+                return Some(line);
+            }
+        }
+        unreachable!()
+    }
+
+    // Sleeps if nothing was due before. Whether the address is bound.
+    fn rest(&self) -> bool {
+        if !self.listening.is_bound() {
+            return false;
+        }
+        if self.pauses {
+            thread::sleep(self.rt, Duration::from_millis(PAUSE));
+        }
+        true
     }
 }
 
@@ -54,28 +101,22 @@ impl<'a, R: Net<Listener = TcpListener, Stream = TcpStream> + Clock + Wait + Syn
     ghost faults = { λ door. door.faults };
 
     fn next(&mut self) -> Turn<TcpLine<'a, R>> {
-        let stream = match self.listening.next() {
-            Found::Connection(stream) => stream,
-            Found::Nothing => {
-                self.is_idle = true;
-                return Turn::Idle;
+        match self.role {
+            Role::Serves => {
+                if let Some(line) = self.line() {
+                    self.is_out = true;
+                    return Turn::Line(line);
+                }
             }
-            Found::Unbound => {
-                self.faults = self.faults.saturating_add(1);
-                return Turn::Failed;
-            }
-        };
-        match TcpLine::new(self.rt, stream) {
-            Ok(line) => {
-                self.is_out = true;
-                Turn::Line(line)
-            }
-            // The other side has left.
-            Err(_) => {
-                self.is_idle = true;
-                Turn::Idle
+            Role::Delivers => {
+                if self.rest() {
+                    self.is_idle = true;
+                    return Turn::Idle;
+                }
             }
         }
+        self.faults = self.faults.saturating_add(1);
+        Turn::Failed
     }
 
     fn back(&mut self, line: TcpLine<'a, R>) {
@@ -83,7 +124,8 @@ impl<'a, R: Net<Listener = TcpListener, Stream = TcpStream> + Clock + Wait + Syn
         self.is_out = false;
     }
 
-    fn rested(&mut self, _rest: Rest) {
+    fn rested(&mut self, rest: Rest) {
         self.is_idle = false;
+        self.pauses = !matches!(rest, Rest::Tried { .. });
     }
 }

@@ -9,7 +9,9 @@ use Rattle.fedi_log.specs.Log.{Log, given}
 use Rattle.fedi_log.specs.declared.items.Item.{Item}
 use Rattle.fedi_logged.specs.Logs.{AreSame, StandsFor}
 use Rattle.fedi_logged.proofs.Standing.{stands_first}
+use Rattle.fedi_delivery.specs.Exchanges.{Told}
 use Rattle.fedi_outside.specs.Doors.{Row}
+use Rattle.fedi_talk.specs.Conversations.{Setting}
 use Rattle.fedi_outside.specs.Keepers.{Crashes, KeeperState, LeavesRecords}
 use Rattle.fedi_outside.specs.declared.doors.Bench.{Bench}
 use Rattle.fedi_talk.specs.Turning.{setting_by}
@@ -51,11 +53,15 @@ first_of : {X : Type 0} (xs : List X) → 0 < length xs → X
 first_of [] below = absurd (omega (arith, below))
 first_of (x ∷ xs) below = x
 
-module _ {W K : Type 0} (by room : ℕ → ℕ) (told : Option ℕ) (opened : State) (served : W → Option (List Row)) (closed : W → Bool) (faults : W → ℕ)
+module _ {W K : Type 0} (by room : ℕ → ℕ) (told : Option ℕ) (opened : State) (served : W → Option (List Row)) (tells : K → Told) (closed : W → Bool) (faults : W → ℕ)
     (passes passes' : List (Pass Item)) (benches benches' : List (Bench W K)) (all all' : List (Station W K))
     (seats : map pass_of all ≡ reverse passes) (doors : map bench_of all ≡ reverse benches)
     (seats' : passes' ≡ reverse (map pass_of all')) (doors' : benches' ≡ reverse (map bench_of all')) (same : length all' ≡ length all)
-    (each : (k : ℕ) (d : Station W K) → k < length all → IsLabor by room told opened served closed faults (slice_index_or all k d) (slice_index_or all' k d)) where
+    (each : (k : ℕ) (d : Station W K) → k < length all → IsLabor by room told opened served tells closed faults (slice_index_or all k d) (slice_index_or all' k d)) where
+  -- what the worker of a bench did
+  abbrev WorkedAt : Setting → Log → Log → Bench W K → Bench W K → Type 0
+  WorkedAt w seen now x y = HasWorked w seen now (served x.door) (served y.door) (tells x.link) (tells y.link)
+
   -- a pass and a bench, as a station
   abbrev station : Pass Item → Bench W K → Station W K
   station p b = record { pass = p; bench = b; end = Closed }
@@ -78,7 +84,7 @@ module _ {W K : Type 0} (by room : ℕ → ℕ) (told : Option ℕ) (opened : St
 
   -- what was done there
   labor : (k : ℕ) (p : Pass Item) (b : Bench W K) → k < length all
-      → IsLabor by room told opened served closed faults (slice_index_or all (place k) (station p b)) (slice_index_or all' (place k) (station p b))
+      → IsLabor by room told opened served tells closed faults (slice_index_or all (place k) (station p b)) (slice_index_or all' (place k) (station p b))
   labor k p b below = each (place k) (station p b) (omega (arith, below))
 
   pass_at : (k : ℕ) (p : Pass Item) (b : Bench W K) → k < length all → slice_index_or passes k p ≡ (slice_index_or all (place k) (station p b)).pass
@@ -108,26 +114,25 @@ module _ {W K : Type 0} (by room : ℕ → ℕ) (told : Option ℕ) (opened : St
         ap number_of (pass_after k p b below) ∙ (labor k p b below).same ∙ sym (ap number_of (pass_at k p b below)) ∙ number_at k p below
 
     worked_at : ContinuesEach (growth list) passes' log → (k : ℕ) (p : Pass Item) (b : Bench W K) → k < length all
-        → HasWorked (setting_by by room told (Some k) opened) (given opened.history) log (served (slice_index_or benches k b).door) (served (slice_index_or benches' k b).door)
+        → WorkedAt (setting_by by room told (Some k) opened) (given opened.history) log (slice_index_or benches k b) (slice_index_or benches' k b)
     worked_at on k p b below =
         let s : Station W K = slice_index_or all (place k) (station p b) in
         let t : Station W K = slice_index_or all' (place k) (station p b) in
         let number : number_of s.pass ≡ k = sym (ap number_of (pass_at k p b below)) ∙ number_at k p below in
         let seen : seen_of s.pass ≡ given opened.history =
         sym (ap seen_of (pass_at k p b below)) ∙ (new k p (subst (λ (n : ℕ). k < n) (sym many_passes) below)).2 ∙ start in
-        let first = subst (λ (n : ℕ). HasWorked (setting_by by room told (Some n) opened) (seen_of s.pass) (seen_of t.pass) (served s.bench.door) (served t.bench.door)) number
+        let first = subst (λ (n : ℕ). WorkedAt (setting_by by room told (Some n) opened) (seen_of s.pass) (seen_of t.pass) s.bench t.bench) number
         (labor k p b below).worked in
-        let second = subst (λ (l : Log). HasWorked (setting_by by room told (Some k) opened) l (seen_of t.pass) (served s.bench.door) (served t.bench.door)) seen first in
+        let second = subst (λ (l : Log). WorkedAt (setting_by by room told (Some k) opened) l (seen_of t.pass) s.bench t.bench) seen first in
         let on_at : Continues (λ (i : Item). i.pass) (number_of (slice_index_or passes' k p)) (seen_of (slice_index_or passes' k p)) log =
         on k p (subst (λ (n : ℕ). k < n) (sym many_after) below) in
         let goes : Continues (λ (i : Item). i.pass) k (seen_of t.pass) log =
         subst (λ (n : ℕ). Continues (λ (i : Item). i.pass) n (seen_of t.pass) log) (number_after k p b below)
         (subst (λ (x : Pass Item). Continues (λ (i : Item). i.pass) (number_of (slice_index_or passes' k p)) (seen_of x) log) (pass_after k p b below) on_at) in
-        let last = worked_at_last (setting_by by room told (Some k) opened) k (given opened.history) (seen_of t.pass) log (served s.bench.door) (served t.bench.door) refl goes second in
-        subst (λ (x : Bench W K). HasWorked (setting_by by room told (Some k) opened) (given opened.history) log (served x.door) (served (slice_index_or benches' k b).door))
-        (sym (bench_at k p b below))
-        (subst (λ (x : Bench W K). HasWorked (setting_by by room told (Some k) opened) (given opened.history) log (served s.bench.door) (served x.door))
-        (sym (bench_after k p b below)) last)
+        let last = worked_at_last (setting_by by room told (Some k) opened) k (given opened.history) (seen_of t.pass) log (served s.bench.door) (served t.bench.door)
+        (tells s.bench.link) (tells t.bench.link) refl goes second in
+        subst (λ (x : Bench W K). WorkedAt (setting_by by room told (Some k) opened) (given opened.history) log x (slice_index_or benches' k b)) (sym (bench_at k p b below))
+        (subst (λ (x : Bench W K). WorkedAt (setting_by by room told (Some k) opened) (given opened.history) log s.bench x) (sym (bench_after k p b below)) last)
 
     -- each item past the opening's names the worker of a bench
     named : (b : Bench W K) → NamesOneOf (growth list) lock passes' log → NamesWorkers (length benches) (given opened.history) log
@@ -147,7 +152,7 @@ module _ {W K : Type 0} (by room : ℕ → ℕ) (told : Option ℕ) (opened : St
 
     pub serves_all : (first : Crashes) (now : State) (crashes : Crashes) → 0 < length benches → StandsFor by room opened first now crashes log
         → ContinuesEach (growth list) passes' log → NamesOneOf (growth list) lock passes' log
-        → ServesAll by room told opened first now crashes served benches benches'
+        → ServesAll by room told opened first now crashes served tells benches benches'
     serves_all first now crashes some stands on names = record {
       log = log;
       stands = stands;
@@ -197,14 +202,15 @@ module _ {W K : Type 0} (by room : ℕ → ℕ) (told : Option ℕ) (opened : St
 
 -- the machine is the one that was opened
 pub serves_none : {P W K : Type 0} (by room : ℕ → ℕ) (told : Option ℕ) (opened : State) (first : Crashes) (shown : P → KeeperState) (crashes : P → Crashes)
-    (served : W → Option (List Row)) (benches : List (Bench W K)) (core back : Machine P) → opened ≡ state_of core.history (shown core.keeper) → AreSame first (crashes core.keeper)
+    (served : W → Option (List Row)) (tells : K → Told) (benches : List (Bench W K)) (core back : Machine P) → opened ≡ state_of core.history (shown core.keeper) → AreSame first (crashes core.keeper)
     → IsLegal core.history → LeavesRecords (shown core.keeper) (crashes core.keeper) → back ≡ core
-    → ServesAll by room told opened first (state_of back.history (shown back.keeper)) (crashes back.keeper) served benches benches
-serves_none {P = P} by room told opened first shown crashes served benches core back is same legal leaves then =
-    subst (λ (m : Machine P). ServesAll by room told opened first (state_of m.history (shown m.keeper)) (crashes m.keeper) served benches benches) (sym then) (record {
+    → ServesAll by room told opened first (state_of back.history (shown back.keeper)) (crashes back.keeper) served tells benches benches
+serves_none {P = P} by room told opened first shown crashes served tells benches core back is same legal leaves then =
+    subst (λ (m : Machine P). ServesAll by room told opened first (state_of m.history (shown m.keeper)) (crashes m.keeper) served tells benches benches) (sym then) (record {
       log = given opened.history;
       stands = stands_first by room opened (state_of core.history (shown core.keeper)) first (crashes core.keeper) is same legal leaves;
       named = record { past = []; is = sym (append-nil (given opened.history)); named = All-nil (λ (i : Item). (n : ℕ) × (n < length benches) × (i.pass ≡ Some n)) };
       same = refl;
-      each = λ k b below. worked_first (setting_by by room told (Some k) opened) (given opened.history) (served (slice_index_or benches k b).door);
+      each = λ k b below. worked_first (setting_by by room told (Some k) opened) (given opened.history) (served (slice_index_or benches k b).door)
+          (tells (slice_index_or benches k b).link);
     })

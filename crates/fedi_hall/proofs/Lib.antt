@@ -1,3 +1,4 @@
+pub mod Attempting
 pub mod Ending
 pub mod Seating
 pub mod Sent

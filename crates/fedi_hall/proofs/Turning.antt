@@ -27,7 +27,7 @@ grown_by b k n taken log now moment q body closing r same at tells lacks =
 
 -- ---- a turn
 
-goes_by : (n : ℕ) (seen log : Log) → Continues (λ (i : Item). i.pass) n seen log → Goes (Some n) seen log
+pub goes_by : (n : ℕ) (seen log : Log) → Continues (λ (i : Item). i.pass) n seen log → Goes (Some n) seen log
 goes_by n seen log on = record { rest = on.0; is = on.1; others = on.2 }
 
 pub turn_tells : {A E : Type 0} (b : Base) (k n : ℕ) (seen taken log now after : Log) (moment : ℕ) (q : Request) (body : List ℕ) (closing : Bool) (r : Result (Vec ℕ A) E)

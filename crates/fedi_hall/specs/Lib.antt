@@ -1,3 +1,4 @@
+pub mod Delivering
 pub mod Locks
 pub mod Serving
 pub mod Stations

@@ -4,6 +4,7 @@ use Rattle.fedi_log.specs.Keeping.{State}
 use Rattle.fedi_log.specs.Log.{Log, given}
 use Rattle.fedi_log.specs.declared.items.Item.{Item}
 use Rattle.fedi_logged.specs.Logs.{StandsFor}
+use Rattle.fedi_delivery.specs.Exchanges.{Told}
 use Rattle.fedi_outside.specs.Causes.{next_count}
 use Rattle.fedi_outside.specs.Doors.{Row}
 use Rattle.fedi_outside.specs.Keepers.{Crashes}
@@ -24,13 +25,15 @@ pub record NamesWorkers (count : ℕ) (seen log : Log) : Type 0 where
 -- There is one log, which begins with the history of the opening, and the machine stands for it; each item past that names one
 -- worker; and what the worker of each bench did is over this log, from that history on.
 pub record ServesAll {W K : Type 0} (growth room : ℕ → ℕ) (told : Option ℕ) (opened : State) (first : Crashes) (closed : State) (crashes : Crashes)
-    (served : W → Option (List Row)) (before after : List (Bench W K)) : Type 0 where
+    (served : W → Option (List Row)) (tells : K → Told) (before after : List (Bench W K)) : Type 0 where
   pub log : Log
   pub stands : StandsFor growth room opened first closed crashes log
   pub named : NamesWorkers (length before) (given opened.history) log
   pub same : length after ≡ length before
   pub each : (k : ℕ) (b : Bench W K) → k < length before
-      → HasWorked (setting_by growth room told (Some k) opened) (given opened.history) log (served (slice_index_or before k b).door) (served (slice_index_or after k b).door)
+      → HasWorked (setting_by growth room told (Some k) opened) (given opened.history) log
+      (served (slice_index_or before k b).door) (served (slice_index_or after k b).door)
+      (tells (slice_index_or before k b).link) (tells (slice_index_or after k b).link)
 
 -- the door of some bench failed once more
 pub record HasFailedDoor {W K : Type 0} (faults : W → ℕ) (before after : List (Bench W K)) : Type 0 where

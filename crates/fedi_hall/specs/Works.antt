@@ -1,12 +1,15 @@
--- What a worker does by the turns of its door.
+-- What a worker does by the turns of its door, and over its link.
 use Rattle.std.specs.Prelude.{◌≡◌, ℕ, Bool, false, true, List, [], ◌∷◌, ◌++◌, Option, None, IfSome, option_map}
 use Rattle.fedi_log.specs.Log.{Goes, Log}
+use Rattle.fedi_delivery.specs.Exchanges.{Told}
+use Rattle.fedi_logged.specs.Attempts.{Exchange, HasExchanged}
 use Rattle.fedi_outside.specs.Causes.{next_count}
 use Rattle.fedi_outside.specs.Doors.{Coming, Rested, Row, Served, Spoken}
-use Rattle.fedi_outside.specs.declared.turns.Rest.TheVariants.{Tried, Nothing, Lost}
 use Rattle.fedi_talk.specs.Conversations.{Setting}
 use Rattle.fedi_talk.specs.Endings.{IsCaused, Output, Serves, faults_of, scene_of}
 use Rattle.fedi_talk.specs.declared.sessions.SessionEnd.{SessionEnd}
+use Rattle.fedi_hall.specs.Delivering.{IsStep, rest_of}
+use Rattle.fedi_hall.specs.declared.delivering.Step.{Step}
 use Rattle.fedi_hall.specs.declared.workers.WorkerEnd.{WorkerEnd}
 use Rattle.fedi_hall.specs.declared.workers.WorkerEnd.TheVariants.{Closed, DoorFault}
 
@@ -28,25 +31,28 @@ pub record IsServed (w : Setting) (seen now : Log) (row : Spoken) : Type 0 where
   pub caused : IsCaused (faults_of 0 0) (faults_of row.reads row.writes) ending
   pub serves : IfSome row.came.input (Serves w seen (output_of row.came) (scene_of row.left (output_after row)) now ending)
 
--- what a row tells, from what was seen of the log to what was seen then. No delivery is tried yet.
-abbrev pub IsWorkOf : Setting → Log → Log → Row → Type 0
-IsWorkOf w seen now (Served row) = IsServed w seen now row
-IsWorkOf w seen now (Rested (Tried claimed)) = ⊥
-IsWorkOf w seen now (Rested (Nothing front moment)) = ⊥
-IsWorkOf w seen now (Rested Lost) = Goes w.by seen now
+-- What a row tells, from what was seen of the log to what was seen then, with these exchanges over the link: a line was served, and
+-- nothing was asked; or none waited, and one step of delivery was made.
+abbrev pub IsWorkOf : Setting → Log → Log → List Exchange → Row → Type 0
+IsWorkOf w seen now exchanges (Served row) = (exchanges ≡ []) × IsServed w seen now row
+IsWorkOf w seen now exchanges (Rested rest) = (step : Step) × (rest ≡ rest_of step) × IsStep w seen now exchanges step
 
 -- ---- rows one after the other
 
--- each row over a log that goes on from what was seen after the one before it
-abbrev pub Works : Setting → Log → Log → List Row → Type 0
-Works w seen now [] = Goes w.by seen now
-Works w seen now (row ∷ rows) = (start : Log) × (next : Log) × Goes w.by seen start × IsWorkOf w start next row × Works w next now rows
+-- each row over a log that goes on from what was seen after the one before it, and with the exchanges that follow
+abbrev pub Works : Setting → Log → Log → List Exchange → List Row → Type 0
+Works w seen now exchanges [] = (exchanges ≡ []) × Goes w.by seen now
+Works w seen now exchanges (row ∷ rows) =
+    (start : Log) × (next : Log) × (own : List Exchange) × (others : List Exchange) × (exchanges ≡ own ++ others)
+    × Goes w.by seen start × IsWorkOf w start next own row × Works w next now others rows
 
--- the rows that were added are those of this work, if the door tells its rows
-pub record HasWorked (w : Setting) (seen now : Log) (before after : Option (List Row)) : Type 0 where
+-- the rows that were added to those of the door, if it tells them, and the exchanges of the link are those of this work
+pub record HasWorked (w : Setting) (seen now : Log) (before after : Option (List Row)) (asked heard : Told) : Type 0 where
   pub rows : List Row
+  pub exchanges : List Exchange
   pub added : after ≡ option_map (λ (rs : List Row). rs ++ rows) before
-  pub works : Works w seen now rows
+  pub exchanged : HasExchanged asked heard exchanges
+  pub works : Works w seen now exchanges rows
 
 -- ---- the door of a worker
 

@@ -3,6 +3,7 @@ ghost use Rattle.std.specs.Prelude.{◌≡◌, ◌<◌, ◌↔◌, All, IfErr, I
 ghost use Rattle.fedi_log.specs.Keeping.{state_of};
 ghost use Rattle.fedi_log.specs.Log.{Log, given};
 ghost use Rattle.fedi_logged.specs.Logs.{AreSame, StandsFor};
+ghost use Rattle.fedi_queue.specs.Rows.{rows_of};
 ghost use Rattle.fedi_town.specs.Histories.{town};
 ghost use Rattle.fedi_town.specs.Legal.{IsLegal};
 ghost use Rattle.fedi_turn.specs.Turn.{AreNew, ContinuesEach, IsIdle, NamesOneOf, seats_of, start_of};
@@ -47,6 +48,7 @@ impl<S: Shelf + Drop, P: Keeper + Drop, O: Opened> Hall<S, P, O> {
         seats: u64,
     ) -> Result<(Hall<S, P, O>, Vec<Pass<Item>>), Core<S, P>>
         requires some { 0 < seats }
+        requires unclaimed { core.rows ≡ rows_of (town core.history) }
         requires opened { O.state ≡ state_of core.history (P.shown core.keeper) }
         requires crashes { AreSame O.crashes (P.crashes core.keeper) }
         requires hosted { IsTrue (is_some (town core.history).host) }

@@ -2,6 +2,7 @@
 ghost use Rattle.std.specs.Prelude.{◌≡◌, ℕ, List, Option, Some};
 ghost use Rattle.fedi_log.specs.Log.{Log};
 ghost use Rattle.fedi_log.specs.declared.items.Item.{Item};
+ghost use Rattle.fedi_delivery.specs.Exchanges.{Told};
 ghost use Rattle.fedi_outside.specs.Doors.{Row};
 ghost use Rattle.fedi_talk.specs.Conversations.{Setting};
 ghost use Rattle.fedi_turn.specs.Record.{Continues};
@@ -11,6 +12,8 @@ ghost use Rattle.fedi_hall.specs.Works.{HasWorked};
 /// the end.
 pub fn work_stays()
     ensures { (w : Setting) (n : ℕ) (seen now log : Log) (before after : Option (List Row))
+        (asked heard : Told)
         → w.by ≡ Some n → Continues (λ (i : Item). i.pass) n now log
-        → HasWorked w seen now before after → HasWorked w seen log before after }
+        → HasWorked w seen now before after asked heard
+        → HasWorked w seen log before after asked heard }
 {}

@@ -1,6 +1,7 @@
-//! Many connections at once over one machine: workers that take turns with it, each at a door.
+//! Many connections at once over one machine, and deliveries to other servers: workers that take turns with it, each at a bench.
 #![tactic(auto)]
 
+mod delivering;
 mod hall;
 mod laws;
 mod serving;
@@ -9,6 +10,7 @@ mod stations;
 mod turns;
 mod workers;
 
+pub use delivering::{Delivers, Step, deliver_one};
 pub use hall::Hall;
 pub use laws::work_stays;
 pub use serving::{ServeEnd, Served, serve_core};

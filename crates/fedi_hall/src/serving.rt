@@ -1,7 +1,9 @@
 //! Serving the connections of many doors at once.
 ghost use Rattle.std.specs.Prelude.{◌≡◌, ◌<◌, ℕ, All, IfOk, IsTrue, Option, [], is_some, vec_capacity, vec_len};
 ghost use Rattle.fedi_log.specs.Keeping.{state_of};
+ghost use Rattle.fedi_logged.specs.Attempts.{told_by};
 ghost use Rattle.fedi_logged.specs.Logs.{AreSame};
+ghost use Rattle.fedi_queue.specs.Rows.{rows_of};
 ghost use Rattle.fedi_town.specs.Histories.{town};
 ghost use Rattle.fedi_town.specs.Legal.{IsLegal};
 ghost use Rattle.fedi_hall.specs.Serving.{EndsServing, ServesAll};
@@ -87,7 +89,7 @@ fn unserved<S: Shelf + Drop, P: Keeper, O: Opened, W: Door, K: Link>(
     requires legal { IsLegal core.history }
     ensures served { (told : Option ℕ) → ServesAll P.growth P.room told O.state O.crashes
         (state_of result.core.history (P.shown result.core.keeper)) (P.crashes result.core.keeper)
-        W.served benches.items result.benches.items }
+        W.served (told_by K.asked K.heard K.link_faults) benches.items result.benches.items }
     ensures end { result.end ≡ ServeEnd.Memory }
     ensures core { result.core ≡ core }
     ensures benches { result.benches ≡ benches }
@@ -116,13 +118,14 @@ fn serve_opened<
 ) -> Served<S, P, W, K>
     requires some { 0 < vec_len benches }
     requires waiting { All (λ b. IsWaiting W.out W.idle b.door) benches.items }
+    requires unclaimed { core.rows ≡ rows_of (town core.history) }
     requires opened { O.state ≡ state_of core.history (P.shown core.keeper) }
     requires crashes { AreSame O.crashes (P.crashes core.keeper) }
     requires hosted { IsTrue (is_some (town core.history).host) }
     requires legal { IsLegal core.history }
     ensures served { ServesAll P.growth P.room (C.told clock.now) O.state O.crashes
         (state_of result.core.history (P.shown result.core.keeper)) (P.crashes result.core.keeper)
-        W.served benches.items result.benches.items }
+        W.served (told_by K.asked K.heard K.link_faults) benches.items result.benches.items }
     ensures ends { EndsServing W.closed W.faults benches.items result.benches.items result.end }
     ensures waiting { All (λ b. IsWaiting W.out W.idle b.door) result.benches.items }
     ensures back { result.end ≡ ServeEnd.Memory → result.core ≡ core }
@@ -153,8 +156,8 @@ fn serve_opened<
     }
 }
 
-/// Serves the connections of all benches at once over the machine, by one worker for each bench, each in a thread of its own, until
-/// all have ended. It hands the machine and the benches back with how it ended.
+/// Serves the connections of all benches at once over the machine, and delivers while none wait, by one worker for each bench, each
+/// in a thread of its own, until all have ended. It hands the machine and the benches back with how it ended.
 pub fn serve_core<
     R: Threads + Wait + Sync,
     S: Shelf + Drop + Send,
@@ -171,14 +174,16 @@ pub fn serve_core<
 ) -> Served<S, P, W, K>
     requires some { 0 < vec_len benches }
     requires waiting { All (λ b. IsWaiting W.out W.idle b.door) benches.items }
+    requires unclaimed { core.rows ≡ rows_of (town core.history) }
     requires hosted { IsTrue (is_some (town core.history).host) }
     requires legal { IsLegal core.history }
     // There is one log at the end, for which the machine stands, and each item past the history that it had names one worker. What
-    // each worker read and wrote on the lines of its door are conversations over this log, one after the other.
+    // each worker read and wrote on the lines of its door are conversations over this log, one after the other, and what it asked and
+    // heard over its link are attempts of deliveries that were due and that nobody else had.
     ensures served { ServesAll P.growth P.room (C.told clock.now)
         (state_of core.history (P.shown core.keeper)) (P.crashes core.keeper)
         (state_of result.core.history (P.shown result.core.keeper)) (P.crashes result.core.keeper)
-        W.served benches.items result.benches.items }
+        W.served (told_by K.asked K.heard K.link_faults) benches.items result.benches.items }
     ensures ends { EndsServing W.closed W.faults benches.items result.benches.items result.end }
     ensures waiting { All (λ b. IsWaiting W.out W.idle b.door) result.benches.items }
     ensures back { result.end ≡ ServeEnd.Memory → result.core ≡ core }

@@ -6,12 +6,13 @@ ghost use Rattle.fedi_town.specs.Histories.{town};
 ghost use Rattle.fedi_turn.specs.Turn.{number_of, seen_of};
 ghost use Rattle.fedi_hall.specs.Locks.{IsIdleBy};
 
+use crate::delivering::{Delivers, Step, deliver_one};
 use crate::turns::answer_in_turn;
 use fedi_address::Host;
 use fedi_log::Item;
 use fedi_logged::{Logged, Opened};
 use fedi_model::Request;
-use fedi_outside::Keeper;
+use fedi_outside::{Clock, Keeper, Link};
 use fedi_routes::{Routes, route};
 use fedi_talk::Turns;
 use fedi_text::Moment;
@@ -64,5 +65,12 @@ impl<'a, 'b, R: Wait, S: Shelf + Drop, P: Keeper + Drop, O: Opened> Turns
         answer_in_turn(
             self.rt, alloc, self.lock, self.pass, request, body, ask, moment, closing,
         )
+    }
+}
+
+impl<'a, 'b, R: Wait, S: Shelf + Drop, P: Keeper + Drop, O: Opened> Delivers
+    for Shared<'a, 'b, R, S, P, O> {
+    fn deliver_one<K: Link, C: Clock>(&mut self, alloc: Global, link: &mut K, clock: &C) -> Step {
+        deliver_one(self.rt, alloc, self.lock, self.pass, link, clock)
     }
 }

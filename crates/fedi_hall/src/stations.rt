@@ -1,6 +1,7 @@
 //! Workers side by side.
 ghost use Rattle.std.specs.Prelude.{◌≡◌, ◌<◌, ◌≤◌, ℕ, All, Some, [], length, map, reverse, slice_index_or, vec_capacity, vec_len};
 ghost use denote.Param.Send.{IsSend, IsSync};
+ghost use Rattle.fedi_logged.specs.Attempts.{told_by};
 ghost use Rattle.fedi_town.specs.Histories.{town};
 ghost use Rattle.fedi_hall.specs.Locks.{IsIdleBy};
 ghost use Rattle.fedi_hall.specs.Stations.{IsLabor, IsReady, bench_of, end_of, ends_of, pass_of};
@@ -105,7 +106,8 @@ pub fn serve_stations<
     ensures len { vec_len result ≡ vec_len stations }
     ensures same { length result.items ≡ length stations.items }
     ensures each { (k : ℕ) (d : Station W K) → k < length stations.items
-        → IsLabor P.growth P.room (C.told clock.now) O.state W.served W.closed W.faults
+        → IsLabor P.growth P.room (C.told clock.now) O.state W.served
+        (told_by K.asked K.heard K.link_faults) W.closed W.faults
         (slice_index_or stations.items k d) (slice_index_or result.items k d) }
 {
     let mut stations = stations;
@@ -120,7 +122,8 @@ pub fn serve_stations<
                 × IsReady (λ l. l.log) W.out W.idle lock.now station.old }
             ensures { IsReady (λ l. l.log) W.out W.idle lock.entry.now station.new
                 × IsLabor P.growth P.room (C.told clock.entry.now) O.state
-                W.served W.closed W.faults station.old station.new }
+                W.served (told_by K.asked K.heard K.link_faults) W.closed W.faults
+                station.old station.new }
         { labor(rt, alloc, lock, host, routes, station, clock) },
     );
     stations
@@ -139,7 +142,8 @@ fn labor<R: Wait, S: Shelf + Drop, P: Keeper + Drop, O: Opened, W: Door, K: Link
     requires host { (town O.state.history).host ≡ Some host.now }
     requires ready { IsReady (λ l. l.log) W.out W.idle lock.now station.old }
     ensures ready { IsReady (λ l. l.log) W.out W.idle lock.now station.new }
-    ensures labor { IsLabor P.growth P.room (C.told clock.now) O.state W.served W.closed W.faults
+    ensures labor { IsLabor P.growth P.room (C.told clock.now) O.state W.served
+        (told_by K.asked K.heard K.link_faults) W.closed W.faults
         station.old station.new }
 {
     let Station { pass, bench, end } = station;
@@ -150,5 +154,5 @@ fn labor<R: Wait, S: Shelf + Drop, P: Keeper + Drop, O: Opened, W: Door, K: Link
         routes,
         pass,
     };
-    *end = worker(rt, alloc, &mut shared, &mut bench.door, clock);
+    *end = worker(rt, alloc, &mut shared, bench, clock);
 }

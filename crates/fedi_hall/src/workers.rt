@@ -1,10 +1,12 @@
 //! Workers.
 ghost use Rattle.std.specs.Prelude.{◌≡◌};
+ghost use Rattle.fedi_logged.specs.Attempts.{told_by};
 ghost use Rattle.fedi_talk.specs.Turning.{setting_at};
 ghost use Rattle.fedi_hall.specs.Works.{EndsWork, HasWorked, IsWaiting, both};
 
-use fedi_outside::{Clock, Door, Rest, Turn};
-use fedi_talk::{Turns, session};
+use crate::delivering::Delivers;
+use fedi_outside::{Bench, Clock, Door, Link, Turn};
+use fedi_talk::session;
 use std::alloc::Global;
 use std::sync::Wait;
 
@@ -29,33 +31,41 @@ impl WorkerEnd {
     }
 }
 
-/// Serves the connections of a door, one after the other, until it closes or fails. Each line that the door gave comes back to it,
-/// and a fault of a line ends that line alone. While no connection waits nothing is done.
-pub fn worker<R: Wait, T: Turns, W: Door, C: Clock>(
+/// Serves the connections of the bench's door, one after the other, until it closes or fails. Each line that the door gave comes back
+/// to it, and a fault of a line ends that line alone. Each time that no connection waits, one delivery that is due is tried over the
+/// bench's link, and the door is told what was done.
+pub fn worker<R: Wait, T: Delivers, W: Door, K: Link, C: Clock>(
     rt: &R,
     alloc: Global,
     turns: &mut T,
-    door: &mut W,
+    bench: &mut Bench<W, K>,
     clock: &C,
 ) -> WorkerEnd
     requires ready { T.ready turns.old }
-    requires waiting { IsWaiting W.out W.idle door.old }
+    requires waiting { IsWaiting W.out W.idle bench.old.door }
     ensures ready { T.ready turns.new }
     ensures same { T.same turns.old turns.new }
-    ensures waiting { IsWaiting W.out W.idle door.new }
-    // The door has one row more for each line and for each rest, and by each row the log goes on from what was seen before it.
+    ensures waiting { IsWaiting W.out W.idle bench.new.door }
+    // The door has one row more for each line and for each rest, and the link one exchange more for each that a step of delivery
+    // tells of; and by each row the log goes on from what was seen before it.
     ensures worked { HasWorked (setting_at (T.by turns.old) (C.told clock.now) T.base)
-        (T.seen turns.old) (T.seen turns.new) (W.served door.old) (W.served door.new) }
-    ensures ends { EndsWork (W.closed door.new) (W.faults door.old) (W.faults door.new) result }
+        (T.seen turns.old) (T.seen turns.new) (W.served bench.old.door) (W.served bench.new.door)
+        (told_by K.asked K.heard K.link_faults bench.old.link)
+        (told_by K.asked K.heard K.link_faults bench.new.link) }
+    ensures ends { EndsWork (W.closed bench.new.door)
+        (W.faults bench.old.door) (W.faults bench.new.door) result }
 {
     for _ in rt.forever() {
-        match door.next() {
+        match bench.door.next() {
             Turn::Line(line) => {
                 let mut line = line;
                 session(alloc, turns, &mut line, clock);
-                door.back(line);
+                bench.door.back(line);
             }
-            Turn::Idle => door.rested(Rest::Lost),
+            Turn::Idle => {
+                let step = turns.deliver_one(alloc, &mut bench.link, clock);
+                bench.door.rested(step.rest());
+            }
             Turn::Closed => return WorkerEnd::Closed,
             Turn::Failed => return WorkerEnd::DoorFault,
         }

@@ -1,30 +1,83 @@
-//! Lines in memory of which one waits for another, and doors that give one line each.
+//! Lines, links and doors in memory of which one waits for another.
 ghost use Rattle.std.specs.Prelude.{◌≡◌, None, false};
 ghost use Rattle.std.proofs.Common.{refl};
 ghost use Rattle.fedi_adapters.specs.Untold.{untold_if};
 
-use fedi_outside::{Door, Failed, Line, MemorySink, MemorySource, Rest, Sink, Source, Turn};
-use std::sync::atomic::{AtomicU64, Ordering};
+use fedi_outside::{
+    Door, Failed, Line, Link, MemoryLine, MemoryLink, MemorySink, MemorySource, Rest, Sink, Source,
+    Turn,
+};
+use std::sync::{Mutex, Wait};
 use std::thread;
 use std::time::{Clock, Duration};
 
-/// The most milliseconds that a read waits for the gate.
-const PATIENCE: u32 = 5_000;
+/// How often whoever waits looks at a gate before it fails.
+const TURNS: u32 = 1_000_000;
 
-/// What a line has to do with the gate.
+/// How many microseconds it sleeps between two looks, so that others come to their turns.
+const PAUSE: u64 = 10;
+
+/// A stage that only grows, for which some wait until others have reached it.
+#[derive(Drop)]
+pub struct Gate {
+    stage: Mutex<u8>,
+}
+
+/// The stage at which a line that waits was answered, and that which opens the gate.
+const ANSWERED: u8 = 1;
+
+const OPEN: u8 = 2;
+
+impl Gate {
+    /// A gate that is closed.
+    pub fn new() -> Self {
+        Gate {
+            stage: Mutex::new(0),
+        }
+    }
+
+    fn reach<R: Wait>(&self, rt: &R, stage: u8) {
+        let mut reached = self.stage.lock(rt);
+        if *reached < stage {
+            *reached = stage;
+        }
+    }
+
+    fn has_reached<R: Wait>(&self, rt: &R, stage: u8) -> bool {
+        let reached = self.stage.lock(rt);
+        stage <= *reached
+    }
+
+    // Whether the stage is reached in time.
+    fn wait<R: Wait + Clock>(&self, rt: &R, stage: u8) -> bool {
+        for _ in 0..TURNS {
+            if self.has_reached(rt, stage) {
+                return true;
+            }
+            thread::sleep(rt, Duration::from_micros(PAUSE));
+        }
+        false
+    }
+}
+
+/// What a line or a link has to do with the gate.
 #[derive(Clone, Copy, PartialEq, Eq)]
 pub enum Part {
-    /// Each read but the first waits until it is open.
+    /// Nothing.
+    Free,
+    /// Each read but the first, or each exchange, waits until it is open.
     Waits,
-    /// Each write opens it.
+    /// Each write or exchange opens it. A line waits for that until one that waits was answered.
     Opens,
 }
+
+// ---- lines
 
 /// A line in memory. It tells neither what is to be read nor what was sent; its sink has that.
 #[derive(Drop)]
 pub struct HeldLine<'a, R> {
     rt: &'a R,
-    gate: &'a AtomicU64,
+    gate: &'a Gate,
     part: Part,
     has_read: bool,
     source: MemorySource,
@@ -33,20 +86,7 @@ pub struct HeldLine<'a, R> {
     write_faults: u64,
 }
 
-impl<'a, R: Clock> HeldLine<'a, R> {
-    // Whether the gate opens in time.
-    fn is_open(&self) -> bool {
-        for _ in 0..PATIENCE {
-            if self.gate.load(Ordering::SeqCst) != 0 {
-                return true;
-            }
-            thread::sleep(self.rt, Duration::from_millis(1));
-        }
-        false
-    }
-}
-
-impl<R: Clock> Source for HeldLine<'_, R> {
+impl<R: Wait + Clock> Source for HeldLine<'_, R> {
     ghost left = { λ _. None };
 
     ghost read_faults = { λ line. line.read_faults };
@@ -54,9 +94,13 @@ impl<R: Clock> Source for HeldLine<'_, R> {
     ghost beside_source = { λ line. record { 0 = None; 1 = line.write_faults } };
 
     fn read(&mut self, into: &mut [u8]) -> Result<usize, Failed> {
-        let waits = self.has_read && self.part == Part::Waits;
+        let goes_on = match self.part {
+            Part::Waits if self.has_read => self.gate.wait(self.rt, OPEN),
+            Part::Opens => self.gate.wait(self.rt, ANSWERED),
+            _ => true,
+        };
         self.has_read = true;
-        if !waits || self.is_open() {
+        if goes_on {
             if let Ok(count) = self.source.read(into) {
                 return Ok(count);
             }
@@ -66,7 +110,7 @@ impl<R: Clock> Source for HeldLine<'_, R> {
     }
 }
 
-impl<R: Clock> Sink for HeldLine<'_, R> {
+impl<R: Wait + Clock> Sink for HeldLine<'_, R> {
     ghost sent = { λ _. None };
 
     ghost write_faults = { λ line. line.write_faults };
@@ -81,14 +125,16 @@ impl<R: Clock> Sink for HeldLine<'_, R> {
                 return Err(Failed);
             }
         };
-        if self.part == Part::Opens {
-            self.gate.store(1, Ordering::SeqCst);
+        match self.part {
+            Part::Free => {}
+            Part::Waits => self.gate.reach(self.rt, ANSWERED),
+            Part::Opens => self.gate.reach(self.rt, OPEN),
         }
         Ok(count)
     }
 }
 
-impl<R: Clock> Line for HeldLine<'_, R> {
+impl<R: Wait + Clock> Line for HeldLine<'_, R> {
     ghost reads_beside = { λ _. refl };
 
     ghost writes_beside = { λ _. refl };
@@ -98,7 +144,7 @@ impl<R: Clock> Line for HeldLine<'_, R> {
 #[derive(Drop)]
 pub struct HeldDoor<'a, R> {
     rt: &'a R,
-    gate: &'a AtomicU64,
+    gate: &'a Gate,
     part: Part,
     // What the line is made of, until it is given.
     coming: Option<(MemorySource, MemorySink)>,
@@ -112,7 +158,7 @@ impl<'a, R> HeldDoor<'a, R> {
     /// A door that gives a line over these.
     pub fn new(
         rt: &'a R,
-        gate: &'a AtomicU64,
+        gate: &'a Gate,
         part: Part,
         source: MemorySource,
         sink: MemorySink,
@@ -141,7 +187,7 @@ impl<'a, R> HeldDoor<'a, R> {
     }
 }
 
-impl<'a, R: Clock + Sync> Door for HeldDoor<'a, R> {
+impl<'a, R: Wait + Clock + Sync> Door for HeldDoor<'a, R> {
     type L = HeldLine<'a, R>;
 
     ghost out = { λ door. untold_if door.is_out };
@@ -180,5 +226,140 @@ impl<'a, R: Clock + Sync> Door for HeldDoor<'a, R> {
 
     fn rested(&mut self, _rest: Rest) {
         self.is_idle = false;
+    }
+}
+
+// ---- links
+
+/// A link in memory. It tells neither what it was asked nor what was heard; the link that it is made
+/// of has that.
+#[derive(Drop)]
+pub struct HeldLink<'a, R> {
+    rt: &'a R,
+    gate: &'a Gate,
+    part: Part,
+    link: MemoryLink,
+    faults: u64,
+}
+
+impl<'a, R> HeldLink<'a, R> {
+    /// This link, held back by the gate, or opening it.
+    pub fn new(rt: &'a R, gate: &'a Gate, part: Part, link: MemoryLink) -> Self {
+        HeldLink {
+            rt,
+            gate,
+            part,
+            link,
+            faults: 0,
+        }
+    }
+
+    /// How many exchanges there were, and how many of them failed.
+    pub fn counts(&self) -> (usize, u64) {
+        (self.link.asked().len(), self.faults)
+    }
+}
+
+impl<R: Wait + Clock> Link for HeldLink<'_, R> {
+    ghost asked = { λ _. None };
+
+    ghost heard = { λ _. None };
+
+    ghost link_faults = { λ link. link.faults };
+
+    fn exchange(
+        &mut self,
+        address: &str,
+        request: &[u8],
+        into: &mut [u8],
+    ) -> Result<usize, Failed> {
+        let goes_on = match self.part {
+            Part::Free => true,
+            Part::Waits => self.gate.wait(self.rt, OPEN),
+            Part::Opens => {
+                self.gate.reach(self.rt, OPEN);
+                true
+            }
+        };
+        if goes_on {
+            if let Ok(count) = self.link.exchange(address, request, into) {
+                return Ok(count);
+            }
+        }
+        self.faults = self.faults.saturating_add(1);
+        Err(Failed)
+    }
+}
+
+/// A door that is idle once, and closed after that. It keeps what it is told, and opens the gate if
+/// that is that nothing is due.
+#[derive(Drop)]
+pub struct IdleDoor<'a, R> {
+    rt: &'a R,
+    gate: &'a Gate,
+    has_been_idle: bool,
+    told: Option<Rest>,
+    is_out: bool,
+    is_idle: bool,
+    is_closed: bool,
+}
+
+impl<'a, R> IdleDoor<'a, R> {
+    /// A door that was told nothing yet.
+    pub fn new(rt: &'a R, gate: &'a Gate) -> Self
+        ensures out { result.is_out ≡ false }
+        ensures idle { result.is_idle ≡ false }
+    {
+        IdleDoor {
+            rt,
+            gate,
+            has_been_idle: false,
+            told: None,
+            is_out: false,
+            is_idle: false,
+            is_closed: false,
+        }
+    }
+
+    /// What it was told.
+    pub fn told(&self) -> Option<Rest> {
+        self.told
+    }
+}
+
+impl<R: Wait + Sync> Door for IdleDoor<'_, R> {
+    type L = MemoryLine;
+
+    ghost out = { λ door. untold_if door.is_out };
+
+    ghost idle = { λ door. door.is_idle };
+
+    ghost served = { λ _. None };
+
+    ghost closed = { λ door. door.is_closed };
+
+    ghost faults = { λ _. 0 };
+
+    fn next(&mut self) -> Turn<MemoryLine> {
+        self.is_closed = self.has_been_idle;
+        self.is_idle = !self.has_been_idle;
+        self.has_been_idle = true;
+        if self.is_idle {
+            Turn::Idle
+        } else {
+            Turn::Closed
+        }
+    }
+
+    fn back(&mut self, _line: MemoryLine) {
+        self.is_out = false;
+    }
+
+    fn rested(&mut self, rest: Rest) {
+        self.is_idle = false;
+        self.told = Some(rest);
+        if let Rest::Nothing { .. } = rest {
+            self.gate.reach(self.rt, OPEN);
+        }
     }
 }

@@ -2,8 +2,12 @@
 #![tactic(auto)]
 
 #[cfg(test)]
+mod deliveries;
+#[cfg(test)]
 mod held;
+#[cfg(test)]
+mod lines;
 #[cfg(test)]
 mod links;
 #[cfg(test)]
-mod tests;
+mod towns;

@@ -37,13 +37,13 @@ goes_more by a b more f others = goes_on by a b (b ++ more) f (record { rest = m
 
 -- ---- which items are a pass's own
 
-other_pass : (a b : Option ℕ) → b ≢ a → is_same_pass a b ≡ false
+pub other_pass : (a b : Option ℕ) → b ≢ a → is_same_pass a b ≡ false
 other_pass None None ne = absurd (ne refl)
 other_pass None (Some n) ne = refl
 other_pass (Some m) None ne = refl
 other_pass (Some m) (Some n) ne = ne_eqb m n (λ is. ne (ap (λ (k : ℕ). Some k) (sym is)))
 
-own_pass : (a : Option ℕ) → is_same_pass a a ≡ true
+pub own_pass : (a : Option ℕ) → is_same_pass a a ≡ true
 own_pass None = refl
 own_pass (Some m) = eq-eqb m m refl
 

@@ -27,7 +27,7 @@ left_first b log kept left is = record { past = []; rest = since b log; is = ref
 one_at_most : (what : What) → length (entry_in what) ≤ 1
 one_at_most (Entered e) = omega arith
 one_at_most (Marked e) = omega arith
-one_at_most (Claimed p moment) = omega arith
+one_at_most (Claimed p place moment) = omega arith
 one_at_most (Released p) = omega arith
 
 -- an item is one entry at most

@@ -1,4 +1,10 @@
+pub mod ClaimChanges
+pub mod ClaimedRows
+pub mod Claiming
+pub mod ClaimsHeld
 pub mod Files
+pub mod Firsts
+pub mod Freeing
 pub mod Growing
 pub mod Keeping
 pub mod Leaving

@@ -1,3 +1,4 @@
+pub mod Claims
 pub mod Keeping
 pub mod Leaving
 pub mod Lives

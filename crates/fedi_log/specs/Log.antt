@@ -1,4 +1,4 @@
--- A log: what was kept, what the keeper failed to keep, and which deliveries were claimed and let go, in order.
+-- A log: what was kept, what the keeper failed to keep, and which deliveries were claimed and released, in order.
 use Rattle.std.specs.Prelude.{◌≡◌, ◌≢◌, ℕ, ◌==◌, Bool, false, true, List, [], ◌∷◌, ◌++◌, map, Option, Some, None, All}
 use Rattle.std.specs.List.{filter, flat_map, fold}
 use Rattle.fedi_entry.specs.Codes.{code_of}
@@ -25,7 +25,7 @@ given history = map (λ (e : Entry). made_by None (Entered e)) history
 abbrev pub entry_in : What → List Entry
 entry_in (Entered e) = e ∷ []
 entry_in (Marked e) = []
-entry_in (Claimed p moment) = []
+entry_in (Claimed p place moment) = []
 entry_in (Released p) = []
 
 -- its entries, in order
@@ -36,7 +36,7 @@ history_of log = flat_map (λ (i : Item). entry_in i.what) log
 abbrev pub mark_in : What → List Entry
 mark_in (Entered e) = []
 mark_in (Marked e) = e ∷ []
-mark_in (Claimed p moment) = []
+mark_in (Claimed p place moment) = []
 mark_in (Released p) = []
 
 -- the entries that the keeper failed to keep, in order
@@ -47,7 +47,7 @@ marks_of log = flat_map (λ (i : Item). mark_in i.what) log
 abbrev pub doubts_after : List (List ℕ) → What → List (List ℕ)
 doubts_after doubts (Entered e) = []
 doubts_after doubts (Marked e) = doubts ++ code_of e ∷ []
-doubts_after doubts (Claimed p moment) = doubts
+doubts_after doubts (Claimed p place moment) = doubts
 doubts_after doubts (Released p) = doubts
 
 -- the records of which one may be in doubt after these items, where these were before them

@@ -11,6 +11,15 @@ pub struct Pair {
     pub recipient: Iri,
 }
 
+/// Where a delivery is in the queue.
+#[derive(Clone, Copy, Debug, PartialEq, Eq)]
+pub struct Place {
+    /// The place of the activity in the order of acceptance.
+    pub activity: usize,
+    /// The place of the recipient among those to whom the activity is sent.
+    pub recipient: usize,
+}
+
 /// What happened to a log.
 #[derive(Drop)]
 pub enum What {
@@ -18,9 +27,9 @@ pub enum What {
     Entered(Entry),
     /// The keeper failed to keep this entry, and its record may be in doubt.
     Marked(Entry),
-    /// This delivery was claimed at this moment.
-    Claimed(Pair, Moment),
-    /// This delivery was let go.
+    /// This delivery, which is there in the queue, was claimed at this moment.
+    Claimed(Pair, Place, Moment),
+    /// This delivery was released.
     Released(Pair),
 }
 

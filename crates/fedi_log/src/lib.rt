@@ -1,5 +1,5 @@
 //! The log under every connection: which entries were kept, which the keeper failed to keep, and which
-//! deliveries were claimed and let go, in order. No log is kept in memory yet: contracts speak of it. And
+//! deliveries were claimed and released, in order. No log is kept in memory: contracts speak of it. And
 //! what lasts over the lives of a store: runs, crashes and openings, one after another.
 #![tactic(auto)]
 
@@ -7,7 +7,7 @@ mod items;
 mod laws;
 mod lives;
 
-pub use items::{Item, Pair, What};
+pub use items::{Item, Pair, Place, What};
 pub use laws::{
     doubts_are_marked, given_logs_hold_their_history, items_past_are_added, logs_go_on,
     machines_stand_for_logs,

@@ -126,7 +126,7 @@ turn_left b by o log kept doubt left opened doubted may = of (turn_leaves b by o
     of (inr h) = left_after b log (items_of by o) kept left opened h
 
 -- and what was left before stays so
-left_later : (b : Base) (log items : Log) (kept left : List (List ℕ)) → b.kept ≤ length log → IsLeft b log kept left → IsLeft b (log ++ items) kept left
+pub left_later : (b : Base) (log items : Log) (kept left : List (List ℕ)) → b.kept ≤ length log → IsLeft b log kept left → IsLeft b (log ++ items) kept left
 left_later b log items kept left opened h = record {
   past = h.past;
   rest = h.rest ++ items;

@@ -1,10 +1,17 @@
+pub mod Attempts
+pub mod Claimed
+pub mod Claiming
 pub mod Crashing
 pub mod Hosted
 pub mod Hosts
 pub mod Marks
 pub mod Noting
 pub mod Own
+pub mod Peers
+pub mod Recording
 pub mod Replying
+pub mod Silent
 pub mod Standing
 pub mod Telling
 pub mod Turning
+pub mod Untried

@@ -35,7 +35,7 @@ doubts_stay history doubts (Marked e) may all =
   where
     one : (P : List ℕ → Type 0) (x : List ℕ) → P x → All P (x ∷ [])
     one P x p = All-cons P x [] p (All-nil P)
-doubts_stay history doubts (Claimed p moment) may all = subst (λ (h : List Entry). All (IsNextCode h) doubts) (sym (append-nil history)) all
+doubts_stay history doubts (Claimed p place moment) may all = subst (λ (h : List Entry). All (IsNextCode h) doubts) (sym (append-nil history)) all
 doubts_stay history doubts (Released p) may all = subst (λ (h : List Entry). All (IsNextCode h) doubts) (sym (append-nil history)) all
 
 -- after any items

@@ -12,14 +12,14 @@ use Rattle.fedi_logged.specs.Turns.{Standing}
 
 -- ---- its items are one's own
 
-one : (by : Option ℕ) (what : What) → All (λ (i : Item). i.pass ≡ by) (made_by by what ∷ [])
-one by what = All-cons (λ (i : Item). i.pass ≡ by) (made_by by what) [] refl (All-nil (λ (i : Item). i.pass ≡ by))
+pub own_one : (by : Option ℕ) (what : What) → All (λ (i : Item). i.pass ≡ by) (made_by by what ∷ [])
+own_one by what = All-cons (λ (i : Item). i.pass ≡ by) (made_by by what) [] refl (All-nil (λ (i : Item). i.pass ≡ by))
 
 pub own_items : (by : Option ℕ) (o : Outcome) → All (λ (i : Item). i.pass ≡ by) (items_of by o)
 own_items by NoEntry = All-nil (λ (i : Item). i.pass ≡ by)
-own_items by (Kept e) = one by (Entered e)
+own_items by (Kept e) = own_one by (Entered e)
 own_items by (Full e) = All-nil (λ (i : Item). i.pass ≡ by)
-own_items by (Failed e) = one by (Marked e)
+own_items by (Failed e) = own_one by (Marked e)
 
 pub alone_more : (growth : ℕ → ℕ) (by : Option ℕ) (before after : Standing) (seen log now : Log) → GoesAlone by seen log → TurnsOn growth by before after log now
     → GoesAlone by seen now

@@ -1,3 +1,5 @@
+pub mod Attempts
+pub mod Claiming
 pub mod Logs
 pub mod Marks
 pub mod Sessions

@@ -5,13 +5,18 @@ use Rattle.fedi_log.specs.Keeping.{Holds, State, base_of}
 use Rattle.fedi_log.specs.Leaving.{CrashesAlong}
 use Rattle.fedi_log.specs.Log.{Log, Outcome, given, items_of, made_by}
 use Rattle.fedi_log.specs.declared.items.Item.{Item}
+use Rattle.fedi_log.specs.declared.items.Pair.{Pair}
 use Rattle.fedi_log.specs.declared.items.What.{What}
-use Rattle.fedi_log.specs.declared.items.What.TheVariants.{Entered, Marked}
+use Rattle.fedi_log.specs.declared.items.What.TheVariants.{Entered, Marked, Claimed, Released}
 use Rattle.fedi_objects.specs.declared.entry.Entry.{Entry}
+use Rattle.fedi_objects.specs.declared.entry.Entry.TheVariants.{Tried}
 use Rattle.fedi_outside.specs.Keepers.{Crashes}
 use Rattle.fedi_town.specs.Legal.{IsLegal}
 use Rattle.fedi_logged.specs.Marks.{MarksMayCome}
 use Rattle.fedi_logged.specs.Turns.{Standing, Turns}
+use Rattle.fedi_logged.specs.declared.noted.Deed.{Deed}
+use Rattle.fedi_logged.specs.declared.noted.Deed.TheVariants as deeds
+use Rattle.fedi_logged.specs.declared.noted.Delivery.{Delivery}
 use Rattle.fedi_logged.specs.declared.noted.Noted.{Noted}
 
 -- ---- what a machine stands for
@@ -50,9 +55,20 @@ abbrev pub became : Bool → Entry → What
 became true e = Entered e
 became false e = Marked e
 
+-- the delivery that was noted
+abbrev pub pair_of : Delivery → Pair
+pair_of d = record { activity = d.activity.value; recipient = d.recipient.value }
+
+-- what was noted
+abbrev pub what_of : Deed → What
+what_of (deeds.Entry e kept) = became kept e.value
+what_of (deeds.Claimed d place moment) = Claimed (pair_of d) place moment
+what_of (deeds.Tried d came moment kept) = became kept (Tried d.activity.value d.recipient.value came moment)
+what_of (deeds.Released d) = Released (pair_of d)
+
 -- the item that was noted
 abbrev pub item_of : Noted → Item
-item_of n = made_by n.by (became n.kept n.entry.value)
+item_of n = made_by n.by (what_of n.deed)
 
 -- the log of a history that was given, with what was noted since
 abbrev pub log_of : List Entry → List Noted → Log

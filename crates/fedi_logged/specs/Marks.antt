@@ -15,7 +15,7 @@ use Rattle.fedi_town.specs.Histories.{town}
 abbrev pub MayCome : List Entry → What → Type 0
 MayCome history (Entered e) = Unit {0}
 MayCome history (Marked e) = IsNext (town history) e
-MayCome history (Claimed p moment) = Unit {0}
+MayCome history (Claimed p place moment) = Unit {0}
 MayCome history (Released p) = Unit {0}
 
 -- behind this history, each entry that is marked may come where its mark stands

@@ -3,6 +3,7 @@ ghost use Rattle.std.specs.Prelude.{◌≡◌, ℕ, IfOk, IsTrue, None, OnErr, i
 ghost use Rattle.std.proofs.Common.{refl};
 ghost use Rattle.fedi_log.specs.Keeping.{GoesAlone, base_of, state_of};
 ghost use Rattle.fedi_log.specs.Log.{Goes, given};
+ghost use Rattle.fedi_queue.specs.Rows.{rows_of};
 ghost use Rattle.fedi_talk.specs.Endings.{IsCaused, faults_on, scene_on};
 ghost use Rattle.fedi_talk.specs.Turning.{TurnTells, setting_by};
 ghost use Rattle.fedi_town.specs.Histories.{town};
@@ -33,6 +34,7 @@ pub struct Alone<S: Shelf, P: Keeper, O: Opened> {
 impl<S: Shelf + Drop, P: Keeper, O: Opened> Alone<S, P, O> {
     /// The machine that was opened so.
     pub fn of(core: Core<S, P>, routes: Routes) -> Self
+        requires unclaimed { core.rows ≡ rows_of (town core.history) }
         requires opened { O.state ≡ state_of core.history (P.shown core.keeper) }
         requires crashes { AreSame O.crashes (P.crashes core.keeper) }
         requires legal { IsLegal core.history }
@@ -96,6 +98,7 @@ fn serve_opened<S: Shelf + Drop, P: Keeper, O: Opened, H: Channel, C: Clock>(
     channel: &mut H,
     clock: &C,
 ) -> (SessionEnd, Core<S, P>)
+    requires unclaimed { core.rows ≡ rows_of (town core.history) }
     requires opened { O.state ≡ state_of core.history (P.shown core.keeper) }
     requires crashes { AreSame O.crashes (P.crashes core.keeper) }
     requires hosted { IsTrue (is_some (town core.history).host) }
@@ -121,6 +124,7 @@ pub fn serve_alone<S: Shelf + Drop, P: Keeper, H: Channel, C: Clock>(
     channel: &mut H,
     clock: &C,
 ) -> (SessionEnd, Core<S, P>)
+    requires unclaimed { core.rows ≡ rows_of (town core.history) }
     requires hosted { IsTrue (is_some (town core.history).host) }
     requires legal { IsLegal core.history }
     // From the history that the machine has, the log goes on by what is kept and what the keeper fails to keep. If the input is

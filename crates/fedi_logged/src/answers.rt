@@ -3,6 +3,7 @@ ghost use Rattle.std.specs.Prelude.{◌≡◌, [], IfOk, IsTrue, OnErr, is_some,
 ghost use Rattle.fedi_log.specs.Keeping.{base_of, state_of};
 ghost use Rattle.fedi_log.specs.Log.{given};
 ghost use Rattle.fedi_model.specs.Routes.{Asks, IsPostableAt};
+ghost use Rattle.fedi_queue.specs.Rows.{rows_of};
 ghost use Rattle.fedi_talk.specs.Turning.{Tells};
 ghost use Rattle.fedi_town.specs.Histories.{town};
 ghost use Rattle.fedi_town.specs.Legal.{IsLegal};
@@ -10,7 +11,7 @@ ghost use Rattle.fedi_logged.specs.Logs.{AreSame, StandsFor, TurnsOn};
 ghost use Rattle.fedi_logged.specs.Turns.{standing_by};
 
 use crate::logged::Logged;
-use crate::noted::Noted;
+use crate::noted::{Deed, Noted};
 use crate::opened::Opened;
 use fedi_address::Host;
 use fedi_core::{Core, Decision, KeepError, KeepFault};
@@ -43,8 +44,9 @@ impl<S: Shelf + Drop, P: Keeper + Drop, O: Opened> Grows for Logged<S, P, O> {
 }
 
 impl<S: Shelf + Drop, P: Keeper, O: Opened> Logged<S, P, O> {
-    /// The machine that was opened so, with the log of its history.
+    /// The machine that was opened so, with the log of its history. None of its deliveries may be claimed.
     pub fn of(core: Core<S, P>) -> Self
+        requires unclaimed { core.rows ≡ rows_of (town core.history) }
         requires opened { O.state ≡ state_of core.history (P.shown core.keeper) }
         requires crashes { AreSame O.crashes (P.crashes core.keeper) }
         requires legal { IsLegal core.history }
@@ -56,6 +58,7 @@ impl<S: Shelf + Drop, P: Keeper, O: Opened> Logged<S, P, O> {
             core,
             noted: Trace::new(),
             front,
+            claimed: 0,
             of: PhantomData,
         }
     }
@@ -83,7 +86,7 @@ impl<S: Shelf + Drop, P: Keeper, O: Opened> Logged<S, P, O> {
     /// a keeper that failed.
     ///
     /// The error is out of memory, and then nothing was kept, and the keeper did not fail. It also comes once the log has 2^64 - 1
-    /// items.
+    /// items, with one for each delivery that is claimed.
     pub fn answer(
         &mut self,
         alloc: Global,
@@ -104,7 +107,7 @@ impl<S: Shelf + Drop, P: Keeper, O: Opened> Logged<S, P, O> {
         ensures turn { TurnsOn P.growth by (standing_by P.shown P.crashes self.old.core)
             (standing_by P.shown P.crashes self.new.core) self.old.log self.new.log }
     {
-        if self.front == u64::MAX {
+        if u64::MAX - self.front == self.claimed {
             return Err(AllocError);
         }
         let head_only = request.head_only;
@@ -123,8 +126,10 @@ impl<S: Shelf + Drop, P: Keeper, O: Opened> Logged<S, P, O> {
         match self.core.keep(alloc, entry) {
             Ok(()) => {
                 self.noted.push(&Noted {
-                    entry: made,
-                    kept: true,
+                    deed: Deed::Entry {
+                        entry: made,
+                        kept: true,
+                    },
                     by,
                 });
                 self.front += 1;
@@ -136,8 +141,10 @@ impl<S: Shelf + Drop, P: Keeper, O: Opened> Logged<S, P, O> {
                 }
                 KeepFault::Failed => {
                     self.noted.push(&Noted {
-                        entry: made,
-                        kept: false,
+                        deed: Deed::Entry {
+                            entry: made,
+                            kept: false,
+                        },
                         by,
                     });
                     self.front += 1;

@@ -15,6 +15,8 @@ pub struct Logged<S: Shelf, P: Keeper, O: Opened> {
     pub(crate) noted: Trace<Noted>,
     // The length of the log.
     pub(crate) front: u64,
+    // How many deliveries are claimed: for each there is room in the log for the item that ends its claim.
+    pub(crate) claimed: u64,
     pub(crate) of: PhantomData<O>,
 }
 
@@ -22,6 +24,8 @@ impl<S: Shelf, P: Keeper, O: Opened> Model for Logged<S, P, O> {
     ghost use Rattle.std.specs.Prelude.{◌≡◌, length};
     ghost use Rattle.fedi_log.specs.Keeping.{state_of};
     ghost use Rattle.fedi_logged.specs.Logs.{MachineLog, StandsFor, log_of};
+    ghost use Rattle.fedi_logged.specs.Claiming.{IsClaiming};
+    ghost use Rattle.fedi_town.specs.Histories.{town};
 
     ghost Value = { MachineLog P };
 
@@ -30,5 +34,7 @@ impl<S: Shelf, P: Keeper, O: Opened> Model for Logged<S, P, O> {
     ghost invariant = { λ l. (l.front ≡ length (log_of O.state.history l.noted))
         × StandsFor P.growth P.room O.state O.crashes
         (state_of l.core.history (P.shown l.core.keeper)) (P.crashes l.core.keeper)
-        (log_of O.state.history l.noted) };
+        (log_of O.state.history l.noted)
+        × IsClaiming (town l.core.history) l.core.rows (log_of O.state.history l.noted)
+        l.front l.claimed };
 }

@@ -1,12 +1,47 @@
 //! What a turn adds to a log, of which nothing is held.
-use fedi_objects::Entry;
+use fedi_address::Iri;
+use fedi_log::Place;
+use fedi_objects::{Came, Entry};
+use fedi_text::Moment;
 use std::snapshot::Snapshot;
 
-/// An entry that was kept, or that the keeper failed to keep, and the number of the pass that had it made, if others add to the log
-/// too.
+/// A delivery, of which nothing is held.
+#[derive(Drop)]
+pub struct Delivery {
+    pub activity: Snapshot<Iri>,
+    pub recipient: Snapshot<Iri>,
+}
+
+/// What a turn did.
+#[derive(Drop)]
+pub enum Deed {
+    /// The keeper kept this entry of a request, or failed to keep it.
+    Entry {
+        entry: Snapshot<Entry>,
+        kept: bool,
+    },
+    /// This delivery was claimed.
+    Claimed {
+        delivery: Delivery,
+        place: Place,
+        moment: Moment,
+    },
+    /// The keeper kept what came of an attempt of this delivery, or failed to keep it.
+    Tried {
+        delivery: Delivery,
+        came: Came,
+        moment: Moment,
+        kept: bool,
+    },
+    /// This delivery was released.
+    Released {
+        delivery: Delivery,
+    },
+}
+
+/// What a turn did, and the number of the pass that did it, if others add to the log too.
 #[derive(Drop)]
 pub struct Noted {
-    pub entry: Snapshot<Entry>,
-    pub kept: bool,
+    pub deed: Deed,
     pub by: Option<u64>,
 }

@@ -8,6 +8,7 @@ use Rattle.fedi_delivery.specs.Exchanges.{Told}
 use Rattle.fedi_queue.specs.Due.{IsTo, due_in}
 use Rattle.fedi_queue.proofs.Due.{first_due, none_due}
 use Rattle.fedi_log.specs.Keeping.{State, state_of}
+use Rattle.fedi_logged.proofs.Claiming.{mapped, mapped_none}
 use Rattle.fedi_objects.specs.declared.entry.Entry.{Entry}
 use Rattle.fedi_outside.specs.Keepers.{KeeperState}
 use Rattle.fedi_queue.specs.declared.rows.Claim.{Claim}
@@ -27,14 +28,6 @@ use Rattle.fedi_program.specs.Delivering.{EndsTrial}
 none-of-none : {A : Type 0} (xs : List A) → length xs ≡ 0 → xs ≡ []
 none-of-none [] none = refl
 none-of-none (x ∷ xs) none = absurd (omega (arith, none))
-
-mapped : {A B : Type 0} (f : A → B) (o : Option A) (y : B) → Some y ≡ option_map f o → (x : A) × (o ≡ Some x) × (f x ≡ y)
-mapped f None y is = absurd cc
-mapped f (Some x) y is = let same : y ≡ f x = cc in (x, refl, sym same)
-
-mapped-none : {A B : Type 0} (f : A → B) (o : Option A) → None ≡ option_map f o → o ≡ None
-mapped-none f None is = refl
-mapped-none f (Some x) is = absurd cc
 
 -- the claim is of the first delivery that is due at this moment
 pub record IsFirstDue (history : List Entry) (m : ℕ) (rows : List QueueRow) (c : Claim) : Type 0 where
@@ -70,7 +63,7 @@ claimed_first {P} m before after rows c legal queue none same is row_is there =
 pub claimed_none : (history : List Entry) (m : ℕ) (rows : List QueueRow) → IsLegal history → map release rows ≡ rows_of (town history) → claims_in rows ≡ 0
     → None ≡ option_map (claim_of m) (find (is_free_at m) rows) → due_in (town history) m ≡ []
 claimed_none history m rows legal same none is =
-    none_due history m rows legal same (none-of-none (filter is_claimed rows) none) (mapped-none (claim_of m) (find (is_free_at m) rows) is)
+    none_due history m rows legal same (none-of-none (filter is_claimed rows) none) (mapped_none (claim_of m) (find (is_free_at m) rows) is)
 
 -- ---- the machine that has claimed is the machine before, but for its rows
 

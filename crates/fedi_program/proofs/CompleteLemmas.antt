@@ -35,7 +35,9 @@ use Rattle.fedi_town.specs.Legal.{broken_command, is_taken_host}
 use Rattle.fedi_town.specs.Queues.{Delivery}
 use Rattle.fedi_program.specs.Commands.{AddActor, AddPeer, Check, Deliver, Export, Inetd, Init, Serve, Task, Usage}
 use Rattle.fedi_program.specs.Complete.{DoorsAreCalm, HasRoomForEach, HasStore, IsCalm, IsComplete, IsDone, IsFree, CanBeKept, Outside, outside_of}
-use Rattle.fedi_program.specs.Delivering.{AreFirst, DeliversBy, DeliversStore, EndsTrying, Exchange, IsFirst, Trial, TriesDue, TriesEach, entry_of}
+use Rattle.fedi_log.specs.Claims.{IsFirst}
+use Rattle.fedi_logged.specs.Attempts.{Exchange}
+use Rattle.fedi_program.specs.Delivering.{AreFirst, DeliversBy, DeliversStore, EndsTrying, Trial, TriesDue, TriesEach, entry_of}
 use Rattle.fedi_program.specs.Endings.{HasCauses, Prints}
 use Rattle.fedi_program.specs.Members.{Chance, Draws, EndsWith, IsSettled, MakesMember, TellsFault, key_line, member_entry}
 use Rattle.fedi_program.specs.Peers.{MakesPeer, peer_entry, peer_line}
@@ -272,17 +274,17 @@ one_of : {A : Type 0} (xs : List A) (k : ℕ) → k < length xs → A
 one_of [] k within = absurd (omega (arith, within))
 one_of (x ∷ xs) k within = x
 
-doors_done : {W K : Type 0} (told : Option ℕ) (before after : Medium) (served : W → Option (List Row)) (closed : W → Bool) (counts : W → ℕ)
-    (first now : List (Bench W K)) (status : ℕ) (address : List ℕ) → ServesDoors told before after served closed counts first now status
+doors_done : {W K : Type 0} (told : Option ℕ) (before after : Medium) (served : W → Option (List Row)) (tells : K → Told) (closed : W → Bool) (counts : W → ℕ)
+    (first now : List (Bench W K)) (status : ℕ) (address : List ℕ) → ServesDoors told before after served tells closed counts first now status
     → IsCalm before.shown.faults after.shown.faults → DoorsAreCalm counts first now
     → (history : List Entry) → HasStore before.shown history → IsDone (Serve address) status
-doors_done told before after served closed counts first now status address (inl (fault, refused, _, is)) calm doors history has =
+doors_done told before after served tells closed counts first now status address (inl (fault, refused, _, is)) calm doors history has =
     by_status (Serve address) fault before after history status has calm refused is
-doors_done told before after served closed counts first now status address (inr (opened, last, log, _, _, (serves.Closed, is, _))) calm doors history has = inl is
-doors_done told before after served closed counts first now status address (inr (opened, last, log, _, _, (serves.DoorFault, is, failed))) calm doors history has =
+doors_done told before after served tells closed counts first now status address (inr (opened, last, log, _, _, (serves.Closed, is, _))) calm doors history has = inl is
+doors_done told before after served tells closed counts first now status address (inr (opened, last, log, _, _, (serves.DoorFault, is, failed))) calm doors history has =
     let b = one_of first failed.place failed.within in
     absurd (doors failed.place b failed.within (rises (counts (slice_index_or first failed.place b).door) (counts (slice_index_or now failed.place b).door) (failed.rose b)))
-doors_done told before after served closed counts first now status address (inr (opened, last, log, _, _, (serves.Memory, is, _))) calm doors history has = inr (inl is)
+doors_done told before after served tells closed counts first now status address (inr (opened, last, log, _, _, (serves.Memory, is, _))) calm doors history has = inr (inl is)
 
 made_done : {D : Type 0} (shown : D → DiskState) (crashes : D → DiskCrashes) (told : Option ℕ) (before after : D) (first now : Output) (host : List ℕ) (status : ℕ)
     → MakesStore shown crashes told before after first now host status
@@ -339,11 +341,11 @@ pub inetd_complete : (told : Option ℕ) (before after : Medium) (chance left : 
 inetd_complete told before after chance left first now was is status serves causes =
     λ calm possible. inetd_done told before after first now was is status serves causes calm.disk calm.reads calm.writes possible.0 possible.1
 
-pub serve_complete : {W K : Type 0} (told : Option ℕ) (before after : Medium) (chance left : Chance) (served : W → Option (List Row)) (closed : W → Bool) (counts : W → ℕ)
-    (first now : List (Bench W K)) (was is : Faults) (status : ℕ) (address : List ℕ) → ServesDoors told before after served closed counts first now status
+pub serve_complete : {W K : Type 0} (told : Option ℕ) (before after : Medium) (chance left : Chance) (served : W → Option (List Row)) (tells : K → Told) (closed : W → Bool) (counts : W → ℕ)
+    (first now : List (Bench W K)) (was is : Faults) (status : ℕ) (address : List ℕ) → ServesDoors told before after served tells closed counts first now status
     → DoorsAreCalm counts first now → IsComplete (Serve address) told (outside_of before.shown chance was) (outside_of after.shown left is) status
-serve_complete told before after chance left served closed counts first now was is status address serves doors =
-    λ calm possible. doors_done told before after served closed counts first now status address serves calm.disk doors possible.0 possible.1
+serve_complete told before after chance left served tells closed counts first now was is status address serves doors =
+    λ calm possible. doors_done told before after served tells closed counts first now status address serves calm.disk doors possible.0 possible.1
 
 pub add_actor_complete : (told : Option ℕ) (before after : Medium) (chance left : Chance) (reads later : ℕ) (first now : Output) (name : List ℕ) (locked : Bool) (status : ℕ)
     → AddsMember told before after chance left first now name locked status

@@ -31,7 +31,9 @@ use Rattle.fedi_town.specs.Legal.{IsLegal}
 use Rattle.fedi_town.specs.Queues.{Delivery}
 use Rattle.fedi_town.specs.Towns.{Town}
 use Rattle.fedi_program.specs.Commands.{Deliver}
-use Rattle.fedi_program.specs.Delivering.{AddsRows, AreFirst, DeliversStore, EndsTrial, EndsTrying, Exchange, HasExchanged, IsAttempt, IsBegun, IsStopped, ShowsCame, TellsDone, Trial, TrialSurvives, TriesDue, TriesEach, count_after_each, done_line, entry_of, exchanges_of, line_of, lines_of}
+use Rattle.fedi_logged.specs.Attempts.{Exchange, HasExchanged, IsBegun, ShowsCame}
+use Rattle.fedi_logged.proofs.Attempts.{exchanged_more, exchanged_none, exchanged_one, shown_begun}
+use Rattle.fedi_program.specs.Delivering.{AreFirst, DeliversStore, EndsTrial, EndsTrying, IsAttempt, IsStopped, TellsDone, Trial, TrialSurvives, TriesDue, TriesEach, done_line, entry_of, exchanges_of, line_of, lines_of}
 use Rattle.fedi_program.specs.declared.delivering.Stop.{Stop}
 use Rattle.fedi_program.specs.declared.delivering.Stop.TheVariants.{WriteFault, KeeperFault, Full, Memory}
 use Rattle.fedi_program.specs.Endings.{Prints}
@@ -39,50 +41,6 @@ use Rattle.fedi_program.specs.Runs.{is_status_of}
 use Rattle.fedi_program.specs.Stores.{IsKeptSafe, Medium}
 use Rattle.fedi_program.proofs.MemberLemmas.{failed_again, settled_turn}
 use Rattle.fedi_program.proofs.RunLemmas.{known_status, told_status}
-
--- ---- exchanges
-
-rows-none : {A : Type 0} (rows : Option (List A)) → AddsRows rows rows []
-rows-none None = tt
-rows-none (Some xs) = sym (append-nil xs)
-
-rows-one : {A : Type 0} (before now : Option (List A)) (x : A) → AddsRow before now x → AddsRows before now (x ∷ [])
-rows-one before None x row = tt
-rows-one None (Some told) x row = absurd row
-rows-one (Some before) (Some told) x row = row
-
-rows-more : {A : Type 0} (first before now : Option (List A)) (xs ys : List A) → AddsRows first before xs → AddsRows before now ys → AddsRows first now (xs ++ ys)
-rows-more first before None xs ys was more = tt
-rows-more first None (Some told) xs ys was more = absurd more
-rows-more None (Some before) (Some told) xs ys was more = absurd was
-rows-more {A} (Some first) (Some before) (Some told) xs ys was more = more ∙ ap (λ (l : List A). l ++ ys) was ∙ append_assoc first xs ys
-
-pub exchanged_none : (w : Told) → HasExchanged w w []
-exchanged_none w = record { asked = rows-none w.asked; heard = rows-none w.heard; faults = refl }
-
-pub exchanged_one : (before now : Told) (x : Exchange) → Exchanges before now x.asking x.heard → HasExchanged before now (x ∷ [])
-exchanged_one before now x e = record {
-  asked = rows-one before.asked now.asked x.asking e.asked;
-  heard = rows-one before.heard now.heard x.heard e.heard;
-  faults = e.faults;
-}
-
-pub exchanged_more : (first before now : Told) (xs ys : List Exchange) → HasExchanged first before xs → HasExchanged before now ys → HasExchanged first now (xs ++ ys)
-exchanged_more first before now xs ys was more = record {
-  asked = subst (AddsRows first.asked now.asked) (sym (map-append (λ (x : Exchange). x.asking) xs ys))
-      (rows-more first.asked before.asked now.asked (map (λ (x : Exchange). x.asking) xs) (map (λ (x : Exchange). x.asking) ys) was.asked more.asked);
-  heard = subst (AddsRows first.heard now.heard) (sym (map-append (λ (x : Exchange). x.heard) xs ys))
-      (rows-more first.heard before.heard now.heard (map (λ (x : Exchange). x.heard) xs) (map (λ (x : Exchange). x.heard) ys) was.heard more.heard);
-  faults = more.faults ∙ ap (λ (n : ℕ). count_after_each n ys) was.faults
-      ∙ sym (fold-append (λ (n : ℕ) (x : Exchange). count_after x.heard n) first.faults xs ys);
-}
-
--- an attempt that came to its end was begun
-pub shown_begun : (t : Town) (id recipient : List ℕ) (exchanges : List Exchange) (came : Came) → ShowsCame t id recipient exchanges came → IsBegun t id recipient exchanges
-shown_begun t id recipient [] came shows = absurd shows
-shown_begun t id recipient (l ∷ []) came shows = shows.0
-shown_begun t id recipient (l ∷ p ∷ []) came shows = (shows.0, shows.1, shows.2, shows.3)
-shown_begun t id recipient (l ∷ p ∷ x ∷ xs) came shows = absurd shows
 
 -- ---- what is written
 

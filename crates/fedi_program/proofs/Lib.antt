@@ -1,4 +1,3 @@
-pub mod AttemptLemmas
 pub mod ClaimLemmas
 pub mod CompleteLemmas
 pub mod DeliverLemmas

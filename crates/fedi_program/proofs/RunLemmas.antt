@@ -12,6 +12,7 @@ use Rattle.fedi_hall.specs.declared.serving.ServeEnd.TheVariants as serves
 use Rattle.fedi_outside.specs.Doors.{Row}
 use Rattle.fedi_outside.specs.declared.doors.Bench.{Bench}
 use Rattle.fedi_program.specs.Commands.{Inetd, Serve, Task}
+use Rattle.fedi_delivery.specs.Exchanges.{Told}
 use Rattle.fedi_program.specs.Serving.{ServesDoors, status_after}
 use Rattle.fedi_talk.specs.Conversations.{Setting}
 use Rattle.fedi_talk.specs.Endings.{Faults, IsCaused, Output, Scene, Serves, Talks}
@@ -78,10 +79,10 @@ pub exported_safe : (table : Table) (before after : Medium) (first now : Output)
 exported_safe table before after first now status (inl (fault, refused, _)) = inl (fault, refused)
 exported_safe table before after first now status (inr (opened, served, _, _)) = inr (opened, opened, given opened.history, served)
 
-pub doors_safe : {W K : Type 0} (told : Option ℕ) (before after : Medium) (served : W → Option (List Row)) (closed : W → Bool) (faults : W → ℕ)
-    (first now : List (Bench W K)) (status : ℕ) → ServesDoors told before after served closed faults first now status → IsKeptSafe before after
-doors_safe told before after served closed faults first now status (inl (fault, refused, _, _)) = inl (fault, refused)
-doors_safe told before after served closed faults first now status (inr (opened, last, log, is, _, _)) = inr (opened, last, log, is)
+pub doors_safe : {W K : Type 0} (told : Option ℕ) (before after : Medium) (served : W → Option (List Row)) (tells : K → Told) (closed : W → Bool) (faults : W → ℕ)
+    (first now : List (Bench W K)) (status : ℕ) → ServesDoors told before after served tells closed faults first now status → IsKeptSafe before after
+doors_safe told before after served tells closed faults first now status (inl (fault, refused, _, _)) = inl (fault, refused)
+doors_safe told before after served tells closed faults first now status (inr (opened, last, log, is, _, _)) = inr (opened, last, log, is)
 
 -- ---- the status
 
@@ -119,11 +120,11 @@ of_ending address serves.Closed = refl
 of_ending address serves.DoorFault = refl
 of_ending address serves.Memory = refl
 
-pub doors_status : {W K : Type 0} (told : Option ℕ) (before after : Medium) (served : W → Option (List Row)) (closed : W → Bool) (faults : W → ℕ)
-    (first now : List (Bench W K)) (status : ℕ) → ServesDoors told before after served closed faults first now status
+pub doors_status : {W K : Type 0} (told : Option ℕ) (before after : Medium) (served : W → Option (List Row)) (tells : K → Told) (closed : W → Bool) (faults : W → ℕ)
+    (first now : List (Bench W K)) (status : ℕ) → ServesDoors told before after served tells closed faults first now status
     → (address : List ℕ) → is_status_of (Some (Serve address)) status ≡ true
-doors_status told before after served closed faults first now status (inl (fault, _, _, is)) address = rw is (of_fault address fault)
-doors_status told before after served closed faults first now status (inr (opened, last, log, _, _, (ending, is, _))) address = rw is (of_ending address ending)
+doors_status told before after served tells closed faults first now status (inl (fault, _, _, is)) address = rw is (of_fault address fault)
+doors_status told before after served tells closed faults first now status (inr (opened, last, log, _, _, (ending, is, _))) address = rw is (of_ending address ending)
 
 -- ---- causes
 

@@ -26,6 +26,7 @@ use Rattle.fedi_talk.specs.Conversations.{IsNow}
 use Rattle.fedi_talk.specs.Endings.{Output, Scene}
 use Rattle.fedi_program.specs.Endings.{RunsTo}
 use Rattle.fedi_talk.specs.Turning.{setting_by}
+use Rattle.fedi_delivery.specs.Exchanges.{Told}
 use Rattle.fedi_hall.specs.Serving.{EndsServing, ServesAll}
 use Rattle.fedi_hall.specs.declared.serving.ServeEnd.{ServeEnd}
 use Rattle.fedi_outside.specs.Doors.{Row}
@@ -95,15 +96,15 @@ serves told start found later before middle after opened closed log count first 
 
 -- or served those of many doors
 pub serves_doors : {W K : Type 0} (told : Option ℕ) (start found later : DiskState) (before middle after : DiskCrashes) (opened closed : State) (count : ℕ)
-    (rows : W → Option (List Row)) (shut : W → Bool) (faults : W → ℕ) (first now : List (Bench W K)) (status : ℕ)
+    (rows : W → Option (List Row)) (tells : K → Told) (shut : W → Bool) (faults : W → ℕ) (first now : List (Bench W K)) (status : ℕ)
     → IsOpened start opened → opened.keeper.records ≡ records_told plain count found → IsUntouched start found before middle
     → ((image : List ℕ) → before.left_since before.clock image → before.may_leave image)
     → IfSome start.reads (λ _. LeavesFiles middle (records_of opened.history) None) → ((image : List ℕ) → middle.left_since middle.clock image → middle.may_leave image)
-    → ServesAll growth room told opened (record_crashes plain found middle) closed (record_crashes plain later after) rows first now
+    → ServesAll growth room told opened (record_crashes plain found middle) closed (record_crashes plain later after) rows tells first now
     → IsClosed later after closed
     → (ending : ServeEnd) × (status ≡ status_after ending) × EndsServing shut faults first now ending
-    → ServesDoors told (record { shown = start; crashes = before }) (record { shown = later; crashes = after }) rows shut faults first now status
-serves_doors told start found later before middle after opened closed count rows shut faults first now status opens records same before_now left only all closes ends =
+    → ServesDoors told (record { shown = start; crashes = before }) (record { shown = later; crashes = after }) rows tells shut faults first now status
+serves_doors told start found later before middle after opened closed count rows tells shut faults first now status opens records same before_now left only all closes ends =
     let stands = all.stands in
     let holds : HoldsFrom (opened_base opened) (given opened.history) closed all.log = record { past = stands.past; is = stands.begins; holds = stands.holds } in
     inr (

@@ -17,8 +17,9 @@ use Rattle.fedi_objects.specs.declared.entry.Entry.TheVariants.{Tried}
 use Rattle.fedi_opening.specs.Opening.{IsNext}
 use Rattle.fedi_talk.specs.Endings.{Output}
 use Rattle.fedi_town.specs.Histories.{town}
-use Rattle.fedi_program.specs.Delivering.{EndsTrial, Exchange, HasExchanged, ShowsCame, TrialSurvives, stop_of}
-use Rattle.fedi_program.proofs.DeliverLemmas.{shown_begun}
+use Rattle.fedi_logged.specs.Attempts.{Exchange, HasExchanged, ShowsCame}
+use Rattle.fedi_program.specs.Delivering.{EndsTrial, TrialSurvives, stop_of}
+use Rattle.fedi_logged.proofs.Attempts.{shown_begun}
 
 -- what came of it was not kept
 pub trial_refused : (growth room : ℕ → ℕ) (moment : ℕ) (id recipient : List ℕ) (before after : State) (asked heard : Told) (out : Output) (exchanges : List Exchange) (came : Came)

@@ -1,32 +1,28 @@
 -- Trying each delivery that is due once (ActivityPub, sections 7.1 and 7.1.2): the operator's command, and what is printed.
-use Rattle.std.specs.Prelude.{◌≡◌, ◌⊎◌, ℕ, List, [], ◌∷◌, ◌++◌, codes, decimal, length, map, Option, Some, None, Result, Ok, Err, slice_get}
-use Rattle.std.specs.List.{flat_map, fold}
-use Rattle.std.specs.declared.alloc.AllocError.{AllocError}
+use Rattle.std.specs.Prelude.{◌≡◌, ◌⊎◌, ℕ, List, [], ◌∷◌, ◌++◌, codes, decimal, length, map, Option, Result, Ok, Err}
+use Rattle.std.specs.List.{flat_map}
 use Rattle.fedi_address.specs.Iris.{host_of}
 use Rattle.fedi_core.specs.Keeping.{IsKept, Refuses}
 use Rattle.fedi_core.specs.declared.delivering.RecordFault.{RecordFault}
 use Rattle.fedi_core.specs.declared.delivering.RecordFault.TheVariants as records
 use Rattle.fedi_core.specs.declared.keeping.KeepFault.TheVariants as keeps
-use Rattle.fedi_delivery.specs.Deliveries.{address_to, body_of, lookup_to, post_to}
-use Rattle.fedi_delivery.specs.Exchanges.{Told, count_after}
-use Rattle.fedi_delivery.specs.Replies.{IsCameOfPost, IsFoundIn}
-use Rattle.fedi_delivery.specs.declared.replies.Found.TheVariants.{Inbox, Ended}
+use Rattle.fedi_delivery.specs.Exchanges.{Told}
 use Rattle.fedi_queue.specs.Due.{IsTo, due_in}
 use Rattle.fedi_entry.specs.Codes.{code_of}
+use Rattle.fedi_log.specs.Claims.{IsFirst}
 use Rattle.fedi_log.specs.Keeping.{State}
+use Rattle.fedi_logged.specs.Attempts.{Exchange, HasExchanged, IsBegun, ShowsCame}
 use Rattle.fedi_logged.specs.Turns.{Standing, SurvivesTurn, Turns}
 use Rattle.fedi_log.specs.Log as logs
 use Rattle.fedi_objects.specs.declared.entry.Came.{Came}
 use Rattle.fedi_objects.specs.declared.entry.Entry.{Entry}
 use Rattle.fedi_objects.specs.declared.entry.Entry.TheVariants.{Tried}
 use Rattle.fedi_outside.specs.Keepers.{OnlyRoomChanged}
-use Rattle.fedi_outside.specs.Links.{Asking}
 use Rattle.fedi_outside.specs.declared.doors.Bench.{Bench}
 use Rattle.fedi_startup.specs.declared.faults.StoreFault.{StoreFault}
 use Rattle.fedi_startup.specs.Surviving.{growth, room}
 use Rattle.fedi_talk.specs.Conversations.{IsNow}
 use Rattle.fedi_talk.specs.Endings.{BreaksOff, Output, Writes, WritesUnlessFailed}
-use Rattle.fedi_town.specs.declared.act.Act.{Act}
 use Rattle.fedi_town.specs.declared.outcome.Outcome.{Outcome}
 use Rattle.fedi_town.specs.declared.outcome.Outcome.TheVariants.{Delivered, Again, GivenUp}
 use Rattle.fedi_town.specs.Histories.{town}
@@ -37,33 +33,6 @@ use Rattle.fedi_program.specs.Stores.{IsRefused, IsRunAlone, Medium, TellsOfStor
 use Rattle.fedi_program.specs.declared.delivering.Stop.{Stop}
 use Rattle.fedi_program.specs.declared.delivering.Stop.TheVariants.{WriteFault, KeeperFault, Full, Memory}
 
--- ---- exchanges
-
--- a request that was sent, and what was heard of it: a reply, or none
-pub record Exchange : Type 0 where
-  pub asking : Asking
-  pub heard : Option (List ℕ)
-
--- if rows are told now, they are those that were told before and then these
-abbrev pub AddsRows : {A : Type 0} → Option (List A) → Option (List A) → List A → Type 0
-AddsRows before None rows = Unit {0}
-AddsRows None (Some told) rows = ⊥
-AddsRows (Some before) (Some told) rows = told ≡ before ++ rows
-
--- the count of faults after these exchanges: one more for each that has no reply
-abbrev pub count_after_each : ℕ → List Exchange → ℕ
-count_after_each count exchanges = fold (λ (n : ℕ) (x : Exchange). count_after x.heard n) count exchanges
-
--- the link had these exchanges in order and no others
-pub record HasExchanged (before now : Told) (exchanges : List Exchange) : Type 0 where
-  pub asked : AddsRows before.asked now.asked (map (λ (x : Exchange). x.asking) exchanges)
-  pub heard : AddsRows before.heard now.heard (map (λ (x : Exchange). x.heard) exchanges)
-  pub faults : now.faults ≡ count_after_each before.faults exchanges
-
--- what this link tells, by what tells of such
-abbrev pub told_by : {K : Type 0} → (K → Option (List Asking)) → (K → Option (List (Option (List ℕ)))) → (K → ℕ) → K → Told
-told_by asked heard faults link = record { asked = asked link; heard = heard link; faults = faults link }
-
 -- ---- one attempt
 
 -- an attempt to deliver the activity of this id to the recipient: its exchanges, and what came of it
@@ -72,34 +41,6 @@ pub record Trial : Type 0 where
   pub recipient : List ℕ
   pub exchanges : List Exchange
   pub came : Came
-
--- the recipient was looked up at its server
-abbrev pub IsLookup : Town → List ℕ → Exchange → Type 0
-IsLookup t recipient x = (address_to t recipient ≡ Some x.asking.address) × (lookup_to t recipient ≡ Some x.asking.request)
-
--- the activity of this id was posted to the inbox, at the server of the recipient
-abbrev pub IsPost : Town → List ℕ → List ℕ → List ℕ → Exchange → Type 0
-IsPost t id recipient inbox x =
-    (k : ℕ) × (a : Act) × (slice_get t.acts k ≡ Some a) × (a.activity.id ≡ Some id)
-    × (address_to t recipient ≡ Some x.asking.address) × (post_to t recipient inbox (body_of t a) ≡ Some x.asking.request)
-
--- The exchanges of an attempt, and what came of it is what the last of them shows: the lookup alone, if it ended the attempt; or
--- the lookup, which found the inbox, and the post to it.
-abbrev pub ShowsCame : Town → (id recipient : List ℕ) → List Exchange → Came → Type 0
-ShowsCame t id recipient [] came = ⊥
-ShowsCame t id recipient (l ∷ []) came = IsLookup t recipient l × IsFoundIn recipient l.heard (Ended came)
-ShowsCame t id recipient (l ∷ p ∷ []) came =
-    (inbox : List ℕ) × IsLookup t recipient l × IsFoundIn recipient l.heard (Inbox inbox)
-    × IsPost t id recipient inbox p × IsCameOfPost p.heard came
-ShowsCame t id recipient (l ∷ p ∷ x ∷ xs) came = ⊥
-
--- the exchanges of an attempt that may have been given up: none, the lookup, or both
-abbrev pub IsBegun : Town → (id recipient : List ℕ) → List Exchange → Type 0
-IsBegun t id recipient [] = Unit {0}
-IsBegun t id recipient (l ∷ []) = IsLookup t recipient l
-IsBegun t id recipient (l ∷ p ∷ []) =
-    (inbox : List ℕ) × IsLookup t recipient l × IsFoundIn recipient l.heard (Inbox inbox) × IsPost t id recipient inbox p
-IsBegun t id recipient (l ∷ p ∷ x ∷ xs) = ⊥
 
 -- it was an attempt at this town
 abbrev pub IsAttempt : Town → Trial → Type 0
@@ -154,11 +95,6 @@ abbrev pub AreFirst : List Delivery → List Trial → List Delivery → Type 0
 AreFirst due [] left = due ≡ left
 AreFirst [] (x ∷ xs) left = ⊥
 AreFirst (d ∷ due) (x ∷ xs) left = IsTo x.activity x.recipient d × AreFirst due xs left
-
--- the attempt is of the first of these deliveries
-abbrev pub IsFirst : (id recipient : List ℕ) → List Delivery → Type 0
-IsFirst id recipient [] = ⊥
-IsFirst id recipient (d ∷ left) = IsTo id recipient d
 
 -- ---- how the command ends
 
@@ -216,13 +152,6 @@ DeliversStore told before after asked heard first now status =
     × TriesDue growth room told opened closed asked heard first now status)
 
 -- ---- one claim
-
--- what came of the attempt is what its exchanges show, or there was no memory to end it
-abbrev pub EndsAttempt : Town → (id recipient : List ℕ) → (asked heard : Told) → Result Came AllocError → Type 0
-EndsAttempt t id recipient asked heard (Ok came) =
-    (exchanges : List Exchange) × ShowsCame t id recipient exchanges came × HasExchanged asked heard exchanges
-EndsAttempt t id recipient asked heard (Err e) =
-    (exchanges : List Exchange) × IsBegun t id recipient exchanges × HasExchanged asked heard exchanges
 
 -- what came of an attempt with which something else came
 abbrev pub came_in : {B E : Type 0} → Result (Came × B) E → Result Came E

@@ -1,5 +1,6 @@
--- What a run does that serves the connections of many doors.
+-- What a run does that serves the connections of many doors, and delivers.
 use Rattle.std.specs.Prelude.{◌≡◌, ◌⊎◌, ◌<◌, ℕ, Bool, List, length, slice_index_or, Option, Some}
+use Rattle.fedi_delivery.specs.Exchanges.{Told}
 use Rattle.fedi_hall.specs.Serving.{EndsServing, NamesWorkers}
 use Rattle.fedi_hall.specs.Works.{HasWorked}
 use Rattle.fedi_hall.specs.declared.serving.ServeEnd.{ServeEnd}
@@ -20,17 +21,23 @@ status_after DoorFault = 11
 status_after Memory = 12
 
 -- Each item past the history of the opening names one worker, of whom each bench has one; and what each of them did at the
--- connections of its door is over this log.
-pub record AreServed {W K : Type 0} (told : Option ℕ) (opened : State) (log : Log) (served : W → Option (List Row)) (before after : List (Bench W K)) : Type 0 where
+-- connections of its door, and asked and heard over its link, is over this log.
+pub record AreServed
+    {W K : Type 0} (told : Option ℕ) (opened : State) (log : Log) (served : W → Option (List Row)) (tells : K → Told)
+    (before after : List (Bench W K)) : Type 0 where
   pub named : NamesWorkers (length before) (given opened.history) log
   pub same : length after ≡ length before
   pub each : (k : ℕ) (b : Bench W K) → k < length before
-      → HasWorked (setting_by growth room told (Some k) opened) (given opened.history) log (served (slice_index_or before k b).door) (served (slice_index_or after k b).door)
+      → HasWorked (setting_by growth room told (Some k) opened) (given opened.history) log
+      (served (slice_index_or before k b).door) (served (slice_index_or after k b).door)
+      (tells (slice_index_or before k b).link) (tells (slice_index_or after k b).link)
 
--- How a run serves the connections of the doors of these benches over the store of a disk: it is not opened, and no door is asked;
+-- How a run serves the connections of the doors of these benches over the store of a disk: it is not opened, and no door or link is asked;
 -- or it is, and all workers work over one log, until each door closes or one fails, or there is no memory for them.
-abbrev pub ServesDoors : {W K : Type 0} → Option ℕ → Medium → Medium → (W → Option (List Row)) → (W → Bool) → (W → ℕ) → List (Bench W K) → List (Bench W K) → ℕ → Type 0
-ServesDoors told before after served closed faults first now status =
+abbrev pub ServesDoors :
+    {W K : Type 0} → Option ℕ → Medium → Medium → (W → Option (List Row)) → (K → Told) → (W → Bool) → (W → ℕ)
+    → List (Bench W K) → List (Bench W K) → ℕ → Type 0
+ServesDoors told before after served tells closed faults first now status =
     ((fault : StoreFault) × IsRefused before after fault × (now ≡ first) × (status ≡ status_by fault))
-    ⊎ ((opened : State) × (last : State) × (log : Log) × IsServed before after opened last log × AreServed told opened log served first now
+    ⊎ ((opened : State) × (last : State) × (log : Log) × IsServed before after opened last log × AreServed told opened log served tells first now
     × ((ending : ServeEnd) × (status ≡ status_after ending) × EndsServing closed faults first now ending))

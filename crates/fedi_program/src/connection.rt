@@ -3,6 +3,7 @@ ghost use Rattle.std.specs.Prelude.{◌≡◌, IsTrue, None, is_some};
 ghost use Rattle.fedi_log.specs.Keeping.{state_of};
 ghost use Rattle.fedi_log.specs.Log.{given};
 ghost use Rattle.fedi_logged.specs.Sessions.{EndsSession};
+ghost use Rattle.fedi_queue.specs.Rows.{rows_of};
 ghost use Rattle.fedi_talk.specs.Endings.{IsCaused, faults_by, scene_by};
 ghost use Rattle.fedi_talk.specs.Turning.{setting_by};
 ghost use Rattle.fedi_town.specs.Histories.{town};
@@ -32,6 +33,7 @@ pub fn serve_connection<S: Source, O: Sink, P: Keeper, C: Clock>(
     routes: Routes,
     connection: &mut Connection<S, O, C>,
 ) -> (SessionEnd, Core<IndexedShelf, P>)
+    requires unclaimed { core.rows ≡ rows_of (town core.history) }
     requires hosted { IsTrue (is_some (town core.history).host) }
     requires legal { IsLegal core.history }
     // From the history that the machine has, the log goes on by what is kept and what the keeper

@@ -3,8 +3,9 @@
 ghost use Rattle.std.specs.Prelude.{◌≡◌, ◌≢◌, ◌↔◌, ◌<◌, ℕ, All, Bool, false, true, List, [], IfSome, IsTrue, Some, None, length, map, string_bytes, vec_len};
 ghost use Rattle.fedi_program.specs.Commands.{AddActor, AddPeer, Check, Deliver, Export, Inetd, Init, Serve, Task, Usage, address_of, names_store, task_in};
 ghost use Rattle.fedi_talk.specs.Endings.{WritesUnlessFailed, faults_by, output_by, scene_by};
+ghost use Rattle.fedi_logged.specs.Attempts.{told_by};
 ghost use Rattle.fedi_program.specs.Complete.{DoorsAreCalm, IsComplete, outside_of};
-ghost use Rattle.fedi_program.specs.Delivering.{DeliversBy, DeliversStore, told_by};
+ghost use Rattle.fedi_program.specs.Delivering.{DeliversBy, DeliversStore};
 ghost use Rattle.fedi_program.specs.Endings.{HasCauses, Prints, status_of};
 ghost use Rattle.fedi_program.specs.Members.{chance_by};
 ghost use Rattle.fedi_program.specs.Runs.{is_status_of, may_draw, opens_store};
@@ -638,16 +639,18 @@ pub fn run<
     ensures clock { connection.new.clock ≡ connection.old.clock }
 
     // `serve` serves each connection that a door gives, over one log that begins with the history of the
-    // disk's file: each request has the reply that the machine gives at the log so far. Each item that was
-    // added is that of one request of one worker. A door that failed is the cause of 11, and at 0 each door
-    // has closed.
+    // disk's file: each request has the reply that the machine gives at the log so far. Where a door is
+    // idle, its worker makes one step of delivery: it tries the first that is due and that nobody has
+    // claimed. Each item that was added is that of one request or one attempt of one worker. A door that
+    // failed is the cause of 11, and at 0 each door has closed.
     ensures doors { (address : List ℕ)
         → task_in (map string_bytes arguments.now) ≡ Some (Serve address)
         → ServesDoors (C.told connection.old.clock)
         (medium_by D.shown D.crashes disk) (medium_by D.shown D.crashes result.disk)
-        W.served W.closed W.faults benches.items result.benches.items result.status }
+        W.served (told_by K.asked K.heard K.link_faults) W.closed W.faults
+        benches.items result.benches.items result.status }
 
-    // Only the doors of `serve` and the first link of `deliver` are asked.
+    // Only the doors and links of `serve` and the first link of `deliver` are asked.
     ensures benches { address_of (task_in (map string_bytes arguments.now)) ≡ None
         → task_in (map string_bytes arguments.now) ≢ Some Deliver
         → result.benches ≡ benches }

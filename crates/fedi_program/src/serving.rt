@@ -2,6 +2,7 @@
 
 ghost use Rattle.std.specs.Prelude.{◌≡◌, ◌<◌, ℕ, All, List, Some, true, vec_len};
 ghost use Rattle.fedi_hall.specs.Works.{IsWaiting};
+ghost use Rattle.fedi_logged.specs.Attempts.{told_by};
 ghost use Rattle.fedi_program.specs.Commands.{Serve};
 ghost use Rattle.fedi_program.specs.Runs.{is_status_of};
 ghost use Rattle.fedi_program.specs.Serving.{ServesDoors, status_after};
@@ -28,8 +29,8 @@ fn status_after(end: ServeEnd) -> u8
     }
 }
 
-/// Serves the connections that the doors of the benches give, each door by a worker in a thread of its own,
-/// over the store of the disk, until each door has closed or failed.
+/// Serves the connections that the doors of the benches give, and delivers what is due while none wait, each
+/// bench by a worker in a thread of its own, over the store of the disk, until each door has closed or failed.
 pub(crate) fn serve<
     R: Threads + Wait + Sync,
     D: Disk + Send + Drop,
@@ -48,7 +49,8 @@ pub(crate) fn serve<
     requires waiting { All (λ b. IsWaiting W.out W.idle b.door) benches.items }
     ensures served { ServesDoors (C.told clock.now)
         (medium_by D.shown D.crashes disk) (medium_by D.shown D.crashes result.disk)
-        W.served W.closed W.faults benches.items result.benches.items result.status }
+        W.served (told_by K.asked K.heard K.link_faults) W.closed W.faults
+        benches.items result.benches.items result.status }
     ensures safe { IsKeptSafe (medium_by D.shown D.crashes disk)
         (medium_by D.shown D.crashes result.disk) }
     ensures statuses { (address : List ℕ)

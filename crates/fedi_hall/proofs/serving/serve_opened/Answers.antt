@@ -1,5 +1,6 @@
 use Rattle.std.proofs.Common.{◌<◌, ◌∙◌, ap, length, rules, sym}
 use Rattle.fedi_log.specs.Log.{given}
+use Rattle.fedi_logged.specs.Attempts.{told_by}
 use Rattle.fedi_hall.proofs.Ending.{ends_serving, serves_all}
 use Rattle.fedi_hall.proofs.Seating.{idle_after, seated, waiting_after}
 use Rattle.fedi_hall.proofs.serving.serve_opened.Goals as goal
@@ -17,7 +18,7 @@ pub returns-clause-served : goal.returns-clause-served
 returns-clause-served g c =
     let closed = c.in-Ok-close.ensures.closed in
     let some : 0 < length c.args.benches.items = search rules in
-    serves_all g.P.Keeper.growth g.P.Keeper.room (g.C.Clock.told c.args.clock.now) g.O.Opened.state g.W.Door.served g.W.Door.closed g.W.Door.faults
+    serves_all g.P.Keeper.growth g.P.Keeper.room (g.C.Clock.told c.args.clock.now) g.O.Opened.state g.W.Door.served (told_by g.K.Link.asked g.K.Link.heard g.K.Link.link_faults) g.W.Door.closed g.W.Door.faults
     c.in-Ok-new.made.1.items c.leave-end.new.passes.items c.args.benches.items c.leave-end.new.benches.items c.seat-stations.result.items c.serve_stations-stations.result.items
     c.seat-stations.ensures.passes c.seat-stations.ensures.benches c.leave-end.ensures.passes c.leave-end.ensures.benches c.serve_stations-stations.ensures.same c.serve_stations-stations.ensures.each
     (λ l. l.log) c.in-Ok-new.made.0.lock closed.0 c.in-Ok-new.ensures.new (c.in-Ok-new.ensures.start ∙ ap (λ s. given s.history) (sym c.requires.opened))
@@ -26,7 +27,7 @@ returns-clause-served g c =
 pub returns-clause-ends : goal.returns-clause-ends
 returns-clause-ends g c =
     let some : 0 < length c.args.benches.items = search rules in
-    let ends = ends_serving g.P.Keeper.growth g.P.Keeper.room (g.C.Clock.told c.args.clock.now) g.O.Opened.state g.W.Door.served g.W.Door.closed g.W.Door.faults
+    let ends = ends_serving g.P.Keeper.growth g.P.Keeper.room (g.C.Clock.told c.args.clock.now) g.O.Opened.state g.W.Door.served (told_by g.K.Link.asked g.K.Link.heard g.K.Link.link_faults) g.W.Door.closed g.W.Door.faults
     c.in-Ok-new.made.1.items c.leave-end.new.passes.items c.args.benches.items c.leave-end.new.benches.items c.seat-stations.result.items c.serve_stations-stations.result.items
     c.seat-stations.ensures.passes c.seat-stations.ensures.benches c.leave-end.ensures.passes c.leave-end.ensures.benches c.serve_stations-stations.ensures.same c.serve_stations-stations.ensures.each
     c.leave-end.result some c.leave-end.ensures.ends in

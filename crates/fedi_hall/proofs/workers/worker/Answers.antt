@@ -1,7 +1,7 @@
-use Rattle.std.proofs.Common.{◌∙◌, ap, refl}
-use Rattle.fedi_log.proofs.Growing.{goes_here}
+use Rattle.std.proofs.Common.{◌∙◌, [], ap, refl}
+use Rattle.fedi_logged.proofs.Attempts.{exchanged_none}
+use Rattle.fedi_logged.specs.Attempts.{told_by}
 use Rattle.fedi_outside.specs.Doors.{Coming, Rested, Served, Spoken, coming_by, spoken_by, with_row}
-use Rattle.fedi_outside.specs.declared.turns.Rest.TheVariants.{Lost}
 use Rattle.fedi_talk.specs.Turning.{setting_at}
 use Rattle.fedi_hall.proofs.Working.{served_row, worked_first, worked_next}
 use Rattle.fedi_hall.proofs.workers.worker.Goals as goal
@@ -15,7 +15,8 @@ loop-init g c = (
   c.requires.waiting.0,
   c.requires.waiting.1,
   refl,
-  worked_first (setting_at (g.T.Turns.by c.args.turns.now) (g.C.Clock.told c.args.clock.now) g.T.Turns.base) (g.T.Turns.seen c.args.turns.now) (g.W.Door.served c.args.door.now),
+  worked_first (setting_at (g.T.Turns.by c.args.turns.now) (g.C.Clock.told c.args.clock.now) g.T.Turns.base) (g.T.Turns.seen c.args.turns.now) (g.W.Door.served c.args.bench.now.door)
+      (told_by g.K.Link.asked g.K.Link.heard g.K.Link.link_faults c.args.bench.now.link),
 )
 
 pub loop-preserved-in-Line : goal.loop-preserved-in-Line
@@ -34,26 +35,34 @@ loop-preserved-in-Line g c =
       c.back.ensures.faults ∙ c.in-Line.ensures.cause ∙ c.loop.invariant.6,
       worked_next g.T.Turns.base (g.C.Clock.told c.args.clock.now) (g.T.Turns.by c.args.turns.now) (g.T.Turns.by c.loop.turns)
           (g.T.Turns.seen c.args.turns.now) (g.T.Turns.seen c.loop.turns) (g.T.Turns.seen c.session.new.turns)
-          (g.W.Door.served c.args.door.now) (g.W.Door.served c.loop.door) (g.W.Door.served c.back.new.self) (Served row)
+          (g.W.Door.served c.args.bench.now.door) (g.W.Door.served c.loop.bench.door) (g.W.Door.served c.back.new.self)
+          (told_by g.K.Link.asked g.K.Link.heard g.K.Link.link_faults c.args.bench.now.link) (told_by g.K.Link.asked g.K.Link.heard g.K.Link.link_faults c.loop.bench.link)
+          (told_by g.K.Link.asked g.K.Link.heard g.K.Link.link_faults c.loop.bench.link) [] (Served row)
           (g.met.T.Turns.same_by c.args.turns.now c.loop.turns same) c.loop.invariant.7
-          (served_row (setting_at (g.T.Turns.by c.loop.turns) (g.C.Clock.told c.args.clock.now) g.T.Turns.base) (g.T.Turns.seen c.loop.turns) (g.T.Turns.seen c.session.new.turns) row
-          (g.W.L.Source.read_faults line) (g.W.L.Sink.write_faults line) c.session.result
-          c.in-Line.ensures.gives.3.1 c.in-Line.ensures.gives.3.2 c.in-Line.ensures.gives.3.0 c.session.ensures.causes c.session.ensures.serves)
+          (exchanged_none (told_by g.K.Link.asked g.K.Link.heard g.K.Link.link_faults c.loop.bench.link)) (
+            refl,
+            served_row (setting_at (g.T.Turns.by c.loop.turns) (g.C.Clock.told c.args.clock.now) g.T.Turns.base) (g.T.Turns.seen c.loop.turns) (g.T.Turns.seen c.session.new.turns) row
+                (g.W.L.Source.read_faults line) (g.W.L.Sink.write_faults line) c.session.result
+                c.in-Line.ensures.gives.3.1 c.in-Line.ensures.gives.3.2 c.in-Line.ensures.gives.3.0 c.session.ensures.causes c.session.ensures.serves,
+          )
           (c.back.ensures.served came c.in-Line.ensures.gives.0 ∙ ap (with_row (Served row)) c.in-Line.ensures.served),
     )
 
 pub loop-preserved : goal.loop-preserved
-loop-preserved g c = (
-  tt,
-  tt,
-  c.loop.invariant.2,
-  c.loop.invariant.3,
-  c.rested.ensures.out,
-  c.rested.ensures.idle,
-  c.rested.ensures.faults ∙ c.in-Idle.ensures.cause ∙ c.loop.invariant.6,
-  worked_next g.T.Turns.base (g.C.Clock.told c.args.clock.now) (g.T.Turns.by c.args.turns.now) (g.T.Turns.by c.loop.turns)
-      (g.T.Turns.seen c.args.turns.now) (g.T.Turns.seen c.loop.turns) (g.T.Turns.seen c.loop.turns)
-      (g.W.Door.served c.args.door.now) (g.W.Door.served c.loop.door) (g.W.Door.served c.rested.new.self) (Rested Lost)
-      (g.met.T.Turns.same_by c.args.turns.now c.loop.turns c.loop.invariant.3) c.loop.invariant.7 (goes_here (g.T.Turns.by c.loop.turns) (g.T.Turns.seen c.loop.turns))
-      (c.rested.ensures.served ∙ ap (with_row (Rested Lost)) c.in-Idle.ensures.served),
-)
+loop-preserved g c =
+    let steps = c.deliver_one-step.ensures.steps in (
+      tt,
+      tt,
+      c.deliver_one-step.ensures.ready,
+      g.met.T.Turns.same_both c.args.turns.now c.loop.turns c.deliver_one-step.new.self c.loop.invariant.3 c.deliver_one-step.ensures.same,
+      c.rested.ensures.out,
+      c.rested.ensures.idle,
+      c.rested.ensures.faults ∙ c.in-Idle.ensures.cause ∙ c.loop.invariant.6,
+      worked_next g.T.Turns.base (g.C.Clock.told c.args.clock.now) (g.T.Turns.by c.args.turns.now) (g.T.Turns.by c.loop.turns)
+          (g.T.Turns.seen c.args.turns.now) (g.T.Turns.seen c.loop.turns) (g.T.Turns.seen c.deliver_one-step.new.self)
+          (g.W.Door.served c.args.bench.now.door) (g.W.Door.served c.loop.bench.door) (g.W.Door.served c.rested.new.self)
+          (told_by g.K.Link.asked g.K.Link.heard g.K.Link.link_faults c.args.bench.now.link) (told_by g.K.Link.asked g.K.Link.heard g.K.Link.link_faults c.loop.bench.link)
+          (told_by g.K.Link.asked g.K.Link.heard g.K.Link.link_faults c.deliver_one-step.new.link) steps.exchanges (Rested c.rest.result)
+          (g.met.T.Turns.same_by c.args.turns.now c.loop.turns c.loop.invariant.3) c.loop.invariant.7 steps.exchanged (c.deliver_one-step.result, c.rest.ensures, steps.is)
+          (c.rested.ensures.served ∙ ap (with_row (Rested c.rest.result)) c.in-Idle.ensures.served),
+    )

@@ -1,7 +1,8 @@
 use Rattle.std.proofs.lemmas.Result.{err_from_is_err_and}
 use Rattle.fedi_core.specs.Delivering.{claimed_id, claimed_recipient}
 use Rattle.fedi_town.specs.Histories.{town}
-use Rattle.fedi_program.proofs.AttemptLemmas.{lookup_begun, lookup_ended, lookup_may, none_sent, post_ended, post_may}
+use Rattle.fedi_logged.proofs.Attempts.{lookup_begun, lookup_ended, lookup_may, none_sent, post_ended, post_may}
+use Rattle.fedi_logged.proofs.Claimed.{claimed_act}
 use Rattle.fedi_program.proofs.delivering.attempt.Goals as goal
 
 pub returns-in_err-outgoing-clause-came : goal.returns-in_err-outgoing-clause-came
@@ -39,8 +40,8 @@ returns-clause-came g c =
     let t = town c.args.core.now.history in
     let sent = c.in_ok-outgoing.ensures in
     let of = rw c.recipient_of-recipient.ensures.recipient at c.recipient_of-recipient.ensures.delivery in
-    post_ended t sent.act c.args.claim.now (claimed_id t.acts c.args.claim.now) (claimed_recipient c.args.core.now.rows c.args.claim.now) c.in-Inbox.inbox c.in_ok-outgoing.outgoing
-    _ _ _ _ _ _ c.post.result sent.sent sent.there of c.text-address.ensures c.deref.ensures.value
+    post_ended t sent.act c.args.claim.now.activity (claimed_id t.acts c.args.claim.now) (claimed_recipient c.args.core.now.rows c.args.claim.now) c.in-Inbox.inbox c.in_ok-outgoing.outgoing
+    _ _ _ _ _ _ c.post.result sent.sent sent.there (claimed_act t c.args.claim.now _ _ sent.act of sent.there) c.text-address.ensures c.deref.ensures.value
     (rw (c.deref-in-Inbox.ensures.value) at c.in_ok-request-in-Inbox.ensures)
     (rw (c.recipient_of-recipient.ensures.recipient, c.in-Inbox.is) at c.in_ok-came.ensures.looks_up)
     (rw c.deref-in-Inbox-2.ensures.value at c.post.ensures.posts)

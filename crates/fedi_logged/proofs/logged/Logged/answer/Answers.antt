@@ -1,16 +1,20 @@
-use Rattle.std.proofs.Common.{◌≡◌, ◌∙◌, ap, append-nil, None, Option, refl, Some, subst, sym, List, ℕ}
+use Rattle.std.proofs.Common.{◌≡◌, ◌∙◌, ap, arith, append-nil, None, Option, refl, Some, subst, sym, List, ℕ}
 use Rattle.fedi_core.specs.declared.keeping.KeepFault.TheVariants as faults
 use Rattle.fedi_entry.specs.Codes.{code_of}
 use Rattle.fedi_log.specs.Log.{Failed, Full, Kept, NoEntry}
+use Rattle.fedi_log.specs.declared.items.What.TheVariants.{Entered, Marked}
 use Rattle.fedi_model.specs.Refusing.{refused}
 use Rattle.fedi_model.specs.Routes.{IsPostableAt}
 use Rattle.fedi_town.specs.declared.refusal.Refusal.TheVariants.{JournalFull, KeeperFault}
 use Rattle.fedi_logged.specs.Turns.{Standing, standing_by}
+use Rattle.fedi_town.specs.Histories.{town}
+use Rattle.fedi_logged.proofs.Claiming.{claiming_kept, claiming_marked, claiming_same}
 use Rattle.fedi_logged.proofs.Noting.{entered, length_more, marked}
 use Rattle.fedi_logged.proofs.Replying.{IsDecided, decided, failed_reply, full_reply, kept_reply, read_reply, refused_reply, refuses_by}
 use Rattle.fedi_logged.proofs.Standing.{stands_host, stands_more}
 use Rattle.fedi_logged.proofs.Telling.{told, tells, turned, untold}
 use Rattle.fedi_logged.proofs.Turning.{failed_turn_by, full_turn_by, kept_turn, memory_turn_by}
+use Rattle.fedi_logged.proofs.Untried.{untried}
 use Rattle.fedi_logged.proofs.logged.Logged.answer.Goals as goal
 
 pub returns-in-Err-clause-text : goal.returns-in-Err-clause-text
@@ -50,10 +54,17 @@ pub invariant_of-self : goal.invariant_of-self
 invariant_of-self g c =
     let was : Standing = standing_by g.P.Keeper.shown g.P.Keeper.crashes c.self.inside.core in
     let now : Standing = standing_by g.P.Keeper.shown g.P.Keeper.crashes c.keep.new.self in
-    let log = entered g.O.Opened.state.history c.self.inside.noted c.push.new.self _ c.in-Some.entry c.args.by c.push.ensures refl refl c.of-made.ensures in
-    let turn = kept_turn g.P.Keeper.growth g.P.Keeper.room was now c.in-Some.entry c.in-Ok-keep.ensures.kept c.in-Ok-keep.ensures.time in (
+    let log = entered g.O.Opened.state.history c.self.inside.noted c.push.new.self _ _ c.in-Some.entry c.args.by c.push.ensures refl refl (ap Entered c.of-made.ensures) in
+    let turn = kept_turn g.P.Keeper.growth g.P.Keeper.room was now c.in-Some.entry c.in-Ok-keep.ensures.kept c.in-Ok-keep.ensures.time in
+    let y = c.in_ok-reply.entry-is in
+    let z = c.in-Some.is in
+    let is : c.in_ok-reply.field-0.entry ≡ Some c.in-Some.entry = cc in
+    let made = sym c.in_ok-reply.ensures.entry ∙ is in (
       length_more _ _ _ c.self.inside.front log c.self.invariant.0,
       stands_more g.P.Keeper.growth g.P.Keeper.room g.O.Opened.state g.O.Opened.crashes c.args.by was now _ _ (Kept c.in-Some.entry) c.self.invariant.1 c.in-Ok-keep.ensures.legal turn log,
+      claiming_kept c.self.inside.core.history c.keep.new.self.history c.in-Some.entry c.args.by c.self.inside.core.rows c.keep.new.self.rows _ _ c.self.inside.front c.self.inside.claimed
+          c.in-Ok-keep.ensures.kept.history c.in-Ok-keep.ensures.queue (untried (town c.self.inside.core.history) c.in-Ok.caller c.args.ask c.args.moment c.in-Some.entry made)
+          c.in-Ok-keep.ensures.claims log (let other = c.if-self.false in let room = c.self.invariant.2.room in omega (arith, other, room)) c.self.invariant.2,
     )
 
 pub returns-in-Ok-keep-clause-text : goal.returns-in-Ok-keep-clause-text
@@ -70,7 +81,7 @@ returns-in-Ok-keep-clause-text g c =
     let host = stands_host _ _ _ _ _ _ _ stands c.requires.hosted in
     let d : IsDecided was.state c.args.moment c.args.request.now c.args.body.now c.in-Ok.caller c.args.ask c.in_ok-reply.field-0.reply (Some c.in-Some.entry) =
     decided _ _ c.args.request.now c.args.body.now c.in-Ok.caller c.args.ask c.in_ok-reply.field-0.reply _ _ _ (sym caller) (sym host) c.requires.asks e.reply e.entry e.private n in
-    let log = entered g.O.Opened.state.history c.self.inside.noted c.push.new.self _ c.in-Some.entry c.args.by c.push.ensures refl refl c.of-made.ensures in
+    let log = entered g.O.Opened.state.history c.self.inside.noted c.push.new.self _ _ c.in-Some.entry c.args.by c.push.ensures refl refl (ap Entered c.of-made.ensures) in
     tells g.P.Keeper.growth g.P.Keeper.room g.O.Opened.state was.state c.args.by _ _ _ c.args.moment c.args.request.now c.args.body.now c.args.closing (Kept c.in-Some.entry) c.in_ok-reply.field-0.reply c.in_ok-text.text.items
     (ap (λ m. m.log) c.self.view_is) stands.holds
     (kept_reply g.P.Keeper.growth g.P.Keeper.room was.state now.state c.args.moment c.args.request.now c.args.body.now c.in-Ok.caller c.args.ask
@@ -80,7 +91,7 @@ pub returns-in-Ok-keep-clause-turn : goal.returns-in-Ok-keep-clause-turn
 returns-in-Ok-keep-clause-turn g c =
     let was : Standing = standing_by g.P.Keeper.shown g.P.Keeper.crashes c.self.inside.core in
     let now : Standing = standing_by g.P.Keeper.shown g.P.Keeper.crashes c.keep.new.self in
-    let log = entered g.O.Opened.state.history c.self.inside.noted c.push.new.self _ c.in-Some.entry c.args.by c.push.ensures refl refl c.of-made.ensures in
+    let log = entered g.O.Opened.state.history c.self.inside.noted c.push.new.self _ _ c.in-Some.entry c.args.by c.push.ensures refl refl (ap Entered c.of-made.ensures) in
     let turn = kept_turn g.P.Keeper.growth g.P.Keeper.room was now c.in-Some.entry c.in-Ok-keep.ensures.kept c.in-Ok-keep.ensures.time in
     turned g.P.Keeper.growth c.args.by g.P.Keeper.shown g.P.Keeper.crashes _ _ c.keep.new.self _ c.self.view_is (Kept c.in-Some.entry, turn, log)
 
@@ -91,6 +102,7 @@ invariant_of-self-in-Full g c =
     let turn = full_turn_by g.P.Keeper.growth g.P.Keeper.room was now c.in-Some.entry c.in-Err-keep.field-0.fault c.in-Full.is c.in-Err-keep.ensures.same c.in-Err-keep.ensures.refused c.in-Err-keep.ensures.time_refused in (
       c.self.invariant.0,
       stands_more g.P.Keeper.growth g.P.Keeper.room g.O.Opened.state g.O.Opened.crashes c.args.by was now _ _ (Full c.in-Some.entry) c.self.invariant.1 c.in-Err-keep.ensures.legal turn (sym (append-nil _)),
+      claiming_same c.self.inside.core.history c.keep.new.self.history c.self.inside.core.rows c.keep.new.self.rows _ c.self.inside.front c.self.inside.claimed c.in-Err-keep.ensures.same c.in-Err-keep.ensures.rows c.self.invariant.2,
     )
 
 pub returns-in-Full-clause-text : goal.returns-in-Full-clause-text
@@ -128,10 +140,17 @@ pub invariant_of-self-in-Failed : goal.invariant_of-self-in-Failed
 invariant_of-self-in-Failed g c =
     let was : Standing = standing_by g.P.Keeper.shown g.P.Keeper.crashes c.self.inside.core in
     let now : Standing = standing_by g.P.Keeper.shown g.P.Keeper.crashes c.keep.new.self in
-    let log = marked g.O.Opened.state.history c.self.inside.noted c.push-in-Failed.new.self _ c.in-Some.entry c.args.by c.push-in-Failed.ensures refl refl c.of-made.ensures in
-    let turn = failed_turn_by g.P.Keeper.growth g.P.Keeper.room was now c.in-Some.entry c.in-Err-keep.field-0.fault c.in-Failed.is c.in-Err-keep.ensures.same (c.in-Err-keep.ensures.next c.in-Failed.is) c.in-Err-keep.ensures.refused c.in-Err-keep.ensures.time_refused in (
+    let log = marked g.O.Opened.state.history c.self.inside.noted c.push-in-Failed.new.self _ _ c.in-Some.entry c.args.by c.push-in-Failed.ensures refl refl (ap Marked c.of-made.ensures) in
+    let turn = failed_turn_by g.P.Keeper.growth g.P.Keeper.room was now c.in-Some.entry c.in-Err-keep.field-0.fault c.in-Failed.is c.in-Err-keep.ensures.same (c.in-Err-keep.ensures.next c.in-Failed.is) c.in-Err-keep.ensures.refused c.in-Err-keep.ensures.time_refused in
+    let y = c.in_ok-reply.entry-is in
+    let z = c.in-Some.is in
+    let is : c.in_ok-reply.field-0.entry ≡ Some c.in-Some.entry = cc in
+    let made = sym c.in_ok-reply.ensures.entry ∙ is in (
       length_more _ _ _ c.self.inside.front log c.self.invariant.0,
       stands_more g.P.Keeper.growth g.P.Keeper.room g.O.Opened.state g.O.Opened.crashes c.args.by was now _ _ (Failed c.in-Some.entry) c.self.invariant.1 c.in-Err-keep.ensures.legal turn log,
+      claiming_marked c.self.inside.core.history c.keep.new.self.history c.in-Some.entry c.args.by c.self.inside.core.rows c.keep.new.self.rows _ _ c.self.inside.front c.self.inside.claimed
+          c.in-Err-keep.ensures.same c.in-Err-keep.ensures.rows (untried (town c.self.inside.core.history) c.in-Ok.caller c.args.ask c.args.moment c.in-Some.entry made)
+          log (let other = c.if-self.false in let room = c.self.invariant.2.room in omega (arith, other, room)) c.self.invariant.2,
     )
 
 pub returns-in-Failed-clause-text : goal.returns-in-Failed-clause-text
@@ -148,7 +167,7 @@ returns-in-Failed-clause-text g c =
     let host = stands_host _ _ _ _ _ _ _ stands c.requires.hosted in
     let d : IsDecided was.state c.args.moment c.args.request.now c.args.body.now c.in-Ok.caller c.args.ask c.in_ok-reply.field-0.reply (Some c.in-Some.entry) =
     decided _ _ c.args.request.now c.args.body.now c.in-Ok.caller c.args.ask c.in_ok-reply.field-0.reply _ _ _ (sym caller) (sym host) c.requires.asks e.reply e.entry e.private n in
-    let log = marked g.O.Opened.state.history c.self.inside.noted c.push-in-Failed.new.self _ c.in-Some.entry c.args.by c.push-in-Failed.ensures refl refl c.of-made.ensures in
+    let log = marked g.O.Opened.state.history c.self.inside.noted c.push-in-Failed.new.self _ _ c.in-Some.entry c.args.by c.push-in-Failed.ensures refl refl (ap Marked c.of-made.ensures) in
     let k = refuses_by g.P.Keeper.room (code_of c.in-Some.entry) c.in-Err-keep.field-0.fault faults.Failed _ _ c.in-Failed.is c.in-Err-keep.ensures.refused in
     tells g.P.Keeper.growth g.P.Keeper.room g.O.Opened.state was.state c.args.by _ _ _ c.args.moment c.args.request.now c.args.body.now c.args.closing (Failed c.in-Some.entry) (refused KeeperFault) c.in_ok-fault_text.fault_text.items
     (ap (λ m. m.log) c.self.view_is) stands.holds
@@ -159,7 +178,7 @@ pub returns-in-Failed-clause-turn : goal.returns-in-Failed-clause-turn
 returns-in-Failed-clause-turn g c =
     let was : Standing = standing_by g.P.Keeper.shown g.P.Keeper.crashes c.self.inside.core in
     let now : Standing = standing_by g.P.Keeper.shown g.P.Keeper.crashes c.keep.new.self in
-    let log = marked g.O.Opened.state.history c.self.inside.noted c.push-in-Failed.new.self _ c.in-Some.entry c.args.by c.push-in-Failed.ensures refl refl c.of-made.ensures in
+    let log = marked g.O.Opened.state.history c.self.inside.noted c.push-in-Failed.new.self _ _ c.in-Some.entry c.args.by c.push-in-Failed.ensures refl refl (ap Marked c.of-made.ensures) in
     let turn = failed_turn_by g.P.Keeper.growth g.P.Keeper.room was now c.in-Some.entry c.in-Err-keep.field-0.fault c.in-Failed.is c.in-Err-keep.ensures.same (c.in-Err-keep.ensures.next c.in-Failed.is) c.in-Err-keep.ensures.refused c.in-Err-keep.ensures.time_refused in
     turned g.P.Keeper.growth c.args.by g.P.Keeper.shown g.P.Keeper.crashes _ _ c.keep.new.self _ c.self.view_is (Failed c.in-Some.entry, turn, log)
 
@@ -170,6 +189,7 @@ invariant_of-self-in-Memory g c =
     let turn = memory_turn_by g.P.Keeper.growth g.P.Keeper.room was now c.in-Some.entry c.in-Err-keep.field-0.fault c.in-Memory.is c.in-Err-keep.ensures.same c.in-Err-keep.ensures.refused c.in-Err-keep.ensures.time_refused in (
       c.self.invariant.0,
       stands_more g.P.Keeper.growth g.P.Keeper.room g.O.Opened.state g.O.Opened.crashes c.args.by was now _ _ NoEntry c.self.invariant.1 c.in-Err-keep.ensures.legal turn (sym (append-nil _)),
+      claiming_same c.self.inside.core.history c.keep.new.self.history c.self.inside.core.rows c.keep.new.self.rows _ c.self.inside.front c.self.inside.claimed c.in-Err-keep.ensures.same c.in-Err-keep.ensures.rows c.self.invariant.2,
     )
 
 pub returns-clause-turn : goal.returns-clause-turn

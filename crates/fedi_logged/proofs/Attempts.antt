@@ -1,17 +1,18 @@
--- One attempt: its exchanges, and what came of it.
-use Rattle.std.proofs.Common.{◌≡◌, ℕ, ◌≤◌, arith, List, [], ◌∷◌, length, Option, Some, None, Result, Ok, Err, sym, ap, subst, ◌∙◌}
-use Rattle.std.specs.Prelude.{All, IsTrue, option_and_then, slice_get}
+-- Exchanges, one after the other, and attempts: their exchanges, and what came of them.
+use Rattle.std.proofs.Common.{◌≡◌, ℕ, ◌≤◌, arith, List, [], ◌∷◌, ◌++◌, length, Option, Some, None, Result, Ok, Err, refl, sym, ap, subst, ◌∙◌, append_assoc, append-nil}
+use Rattle.std.specs.Prelude.{All, IsTrue, map, slice_get}
 use Rattle.std.specs.Char.{digit_value, is_ascii_digit}
 use Rattle.std.specs.Str.Parse.{digits_value}
 use Rattle.std.specs.declared.alloc.AllocError.{AllocError}
 use Rattle.std.proofs.lemmas.Bool.{and_parts, leb-true}
+use Rattle.std.proofs.lemmas.List.{map-append}
+use Rattle.std.proofs.lemmas.List.Sums.{fold-append}
 use Rattle.std.proofs.lemmas.Str.{digit_value_digit}
-use Rattle.fedi_core.specs.Delivering.{IsClaimOf}
 use Rattle.fedi_delivery.specs.declared.replies.Found.{Found}
 use Rattle.fedi_delivery.specs.declared.replies.Found.TheVariants.{Inbox, Ended}
 use Rattle.fedi_delivery.specs.declared.sending.Outgoing.{Outgoing}
 use Rattle.fedi_delivery.specs.Deliveries.{IsOutgoing, post_to}
-use Rattle.fedi_delivery.specs.Exchanges.{LooksUp, Posts, Told, asking_for}
+use Rattle.fedi_delivery.specs.Exchanges.{Exchanges, LooksUp, Posts, Told, asking_for, count_after}
 use Rattle.fedi_delivery.specs.Replies.{EndsLookup, EndsPost, HasHead, IsCameOfPost, IsFoundIn, IsLookedUp}
 use Rattle.fedi_entry.specs.Fields.{MayCome}
 use Rattle.fedi_objects.specs.declared.entry.Came.{Came}
@@ -19,11 +20,54 @@ use Rattle.fedi_objects.specs.declared.entry.Sent.{Sent}
 use Rattle.fedi_objects.specs.declared.entry.Sent.TheVariants.{Lookup, Post}
 use Rattle.fedi_objects.specs.declared.entry.What.{What}
 use Rattle.fedi_objects.specs.declared.entry.What.TheVariants.{Failed, NoHead, BadActor, Status}
-use Rattle.fedi_queue.specs.declared.rows.Claim.{Claim}
+use Rattle.fedi_outside.specs.Links.{AddsRow}
 use Rattle.fedi_town.specs.declared.act.Act.{Act}
 use Rattle.fedi_town.specs.Towns.{Town}
-use Rattle.fedi_program.specs.Delivering.{EndsAttempt, Exchange, HasExchanged, IsLookup}
-use Rattle.fedi_program.proofs.DeliverLemmas.{exchanged_more, exchanged_none, exchanged_one}
+use Rattle.fedi_logged.specs.Attempts.{AddsRows, EndsAttempt, Exchange, HasExchanged, IsBegun, IsLookup, ShowsCame, count_after_each}
+
+-- ---- exchanges
+
+rows-none : {A : Type 0} (rows : Option (List A)) → AddsRows rows rows []
+rows-none None = tt
+rows-none (Some xs) = sym (append-nil xs)
+
+rows-one : {A : Type 0} (before now : Option (List A)) (x : A) → AddsRow before now x → AddsRows before now (x ∷ [])
+rows-one before None x row = tt
+rows-one None (Some told) x row = absurd row
+rows-one (Some before) (Some told) x row = row
+
+rows-more : {A : Type 0} (first before now : Option (List A)) (xs ys : List A) → AddsRows first before xs → AddsRows before now ys → AddsRows first now (xs ++ ys)
+rows-more first before None xs ys was more = tt
+rows-more first None (Some told) xs ys was more = absurd more
+rows-more None (Some before) (Some told) xs ys was more = absurd was
+rows-more {A} (Some first) (Some before) (Some told) xs ys was more = more ∙ ap (λ (l : List A). l ++ ys) was ∙ append_assoc first xs ys
+
+pub exchanged_none : (w : Told) → HasExchanged w w []
+exchanged_none w = record { asked = rows-none w.asked; heard = rows-none w.heard; faults = refl }
+
+pub exchanged_one : (before now : Told) (x : Exchange) → Exchanges before now x.asking x.heard → HasExchanged before now (x ∷ [])
+exchanged_one before now x e = record {
+  asked = rows-one before.asked now.asked x.asking e.asked;
+  heard = rows-one before.heard now.heard x.heard e.heard;
+  faults = e.faults;
+}
+
+pub exchanged_more : (first before now : Told) (xs ys : List Exchange) → HasExchanged first before xs → HasExchanged before now ys → HasExchanged first now (xs ++ ys)
+exchanged_more first before now xs ys was more = record {
+  asked = subst (AddsRows first.asked now.asked) (sym (map-append (λ (x : Exchange). x.asking) xs ys))
+      (rows-more first.asked before.asked now.asked (map (λ (x : Exchange). x.asking) xs) (map (λ (x : Exchange). x.asking) ys) was.asked more.asked);
+  heard = subst (AddsRows first.heard now.heard) (sym (map-append (λ (x : Exchange). x.heard) xs ys))
+      (rows-more first.heard before.heard now.heard (map (λ (x : Exchange). x.heard) xs) (map (λ (x : Exchange). x.heard) ys) was.heard more.heard);
+  faults = more.faults ∙ ap (λ (n : ℕ). count_after_each n ys) was.faults
+      ∙ sym (fold-append (λ (n : ℕ) (x : Exchange). count_after x.heard n) first.faults xs ys);
+}
+
+-- an attempt that came to its end was begun
+pub shown_begun : (t : Town) (id recipient : List ℕ) (exchanges : List Exchange) (came : Came) → ShowsCame t id recipient exchanges came → IsBegun t id recipient exchanges
+shown_begun t id recipient [] came shows = absurd shows
+shown_begun t id recipient (l ∷ []) came shows = shows.0
+shown_begun t id recipient (l ∷ p ∷ []) came shows = (shows.0, shows.1, shows.2, shows.3)
+shown_begun t id recipient (l ∷ p ∷ x ∷ xs) came shows = absurd shows
 
 -- ---- what may come of it
 
@@ -72,14 +116,7 @@ post_may (Some reply) came shows = of came.step came.what shows.0 shows.1
     of step BadActor is ends = absurd ends
     of step (Status status) is ends = status-may step reply ends.0 status ends.1
 
--- ---- the exchanges
-
--- the activity of a claim has its id
-claimed-act : (t : Town) (c : Claim) (id recipient : List ℕ) (a : Act) → IsClaimOf t c id recipient → slice_get t.acts c.activity ≡ Some a → a.activity.id ≡ Some id
-claimed-act t c id recipient a of got =
-    let same = ap (λ (x : Claim). x.activity) of.claim in
-    let at = subst (λ (k : ℕ). option_and_then (λ (x : Act). x.activity.id) (slice_get t.acts k) ≡ Some id) same of.named in
-    subst (λ (o : Option Act). option_and_then (λ (x : Act). x.activity.id) o ≡ Some id) got at
+-- ---- the exchanges of an attempt
 
 -- the lookup was sent
 record Looked (t : Town) (recipient : List ℕ) (asked heard : Told) (result : Result Found AllocError) : Type 0 where
@@ -116,11 +153,11 @@ lookup_begun t a id recipient o address request asked heard result e out is_addr
     (x.exchange ∷ [], x.lookup, x.exchanged)
 
 -- the inbox was found, and the activity posted to it
-pub post_ended : (t : Town) (a : Act) (c : Claim) (id recipient inbox : List ℕ) (o : Outgoing) (address request post : List ℕ) (asked heard later : Told) (came : Came)
-    → IsOutgoing t a recipient o → slice_get t.acts c.activity ≡ Some a → IsClaimOf t c id recipient → address ≡ o.address → request ≡ o.lookup.items
+pub post_ended : (t : Town) (a : Act) (k : ℕ) (id recipient inbox : List ℕ) (o : Outgoing) (address request post : List ℕ) (asked heard later : Told) (came : Came)
+    → IsOutgoing t a recipient o → slice_get t.acts k ≡ Some a → a.activity.id ≡ Some id → address ≡ o.address → request ≡ o.lookup.items
     → Some post ≡ post_to t recipient inbox o.body.items → LooksUp asked heard (asking_for address request) recipient (Ok (Inbox inbox))
     → Posts heard later (asking_for address post) came → EndsAttempt t id recipient asked later (Ok came)
-post_ended t a c id recipient inbox o address request post asked heard later came out got of is_address is_request is_post l p =
+post_ended t a k id recipient inbox o address request post asked heard later came out got named is_address is_request is_post l p =
     let x = looked t a recipient o address request asked heard (Ok (Inbox inbox)) out is_address is_request l in
     let y : Exchange = record { asking = asking_for address post; heard = p.row } in (
       x.exchange ∷ y ∷ [],
@@ -129,10 +166,10 @@ post_ended t a c id recipient inbox o address request post asked heard later cam
         x.lookup,
         x.shows,
         (
-          c.activity,
+          k,
           a,
           got,
-          claimed-act t c id recipient a of got,
+          named,
           out.address ∙ ap (λ (b : List ℕ). Some b) (sym is_address),
           ap (λ (b : List ℕ). post_to t recipient inbox b) (sym out.body) ∙ sym is_post,
         ),

@@ -1,0 +1,155 @@
+//! Workers that serve lines side by side over one store, in memory.
+ghost use Rattle.std.specs.Prelude.{IfOk};
+ghost use Rattle.fedi_hall.specs.Works.{IsWaiting};
+
+use crate::held::{Gate, HeldDoor, Part};
+use crate::towns::{post, serve, silent, town};
+use fedi_outside::{Bench, Door, MemoryDoor, MemoryLink, MemorySink, MemorySource, Turn};
+use std::alloc::{AllocError, Global};
+use std::sync::Wait;
+use std::test::Fail;
+use std::thread::Threads;
+use std::time::Clock;
+
+const NOTE: &str =
+    "{\"type\":\"Note\",\"to\":[\"https://www.w3.org/ns/activitystreams#Public\"],\"content\":\"Hi\"}";
+
+const OBJECT: &str = "GET /users/ana/o/1 HTTP/1.1\r\nHost: club.example\r\n\r\n";
+
+const OUTBOX: &str = "GET /users/ana/outbox?page=0 HTTP/1.1\r\nHost: club.example\r\n\r\n";
+
+/// What is sent on a line, in pieces that are read one by one; whether it waits for the other; and the
+/// statuses of the replies, in order, and a text of the last of them.
+#[derive(Clone, Copy)]
+struct Row<'a> {
+    pieces: &'a [&'a str],
+    part: Part,
+    statuses: &'a [&'a str],
+    text: &'a str,
+}
+
+fn door<'a, R: Wait + Clock + Sync>(
+    rt: &'a R,
+    alloc: Global,
+    gate: &'a Gate,
+    row: &Row,
+) -> Result<HeldDoor<'a, R>, AllocError>
+    ensures { IfOk result (λ door. IsWaiting
+        ⟦<HeldDoor<'a, R> as Door>⟧.out ⟦<HeldDoor<'a, R> as Door>⟧.idle door) }
+{
+    let mut bytes = Vec::new(alloc);
+    let mut lengths = Vec::new(alloc);
+    for piece in row.pieces {
+        bytes.extend_from_slice(piece.as_bytes())?;
+        lengths.push(piece.len())?;
+    }
+    let source = MemorySource::new(alloc, bytes).cut(lengths);
+    Ok(HeldDoor::new(rt, gate, row.part, source, MemorySink::new(alloc)))
+}
+
+fn has_replies(sent: &[u8], row: &Row) -> bool {
+    let Ok(text) = str::from_utf8(sent) else {
+        return false;
+    };
+    let mut replies = text.split("HTTP/1.1 ").skip(1);
+    row.statuses.iter().all(|status| replies
+        .next()
+        .is_some_and(|reply| reply.starts_with(*status)))
+        && replies.next().is_none()
+        && text.contains(row.text)
+}
+
+fn have_replies<R>(benches: &[Bench<HeldDoor<'_, R>, MemoryLink>], row: &Row, other: &Row) -> bool {
+    match benches {
+        [one, two] => has_replies(one.door.sent(), row) && has_replies(two.door.sent(), other),
+        _ => false,
+    }
+}
+
+// Fails unless the lines of the rows, each at a bench of its own, have their replies.
+fn expect<'a, R: Threads + Wait + Clock + Sync>(
+    rt: &'a R,
+    alloc: Global,
+    gate: &'a Gate,
+    row: &Row,
+    other: &Row,
+) -> Result<(), Fail> {
+    let mut benches = Vec::with_capacity(alloc, 2)?;
+    benches.push(Bench {
+        door: door(rt, alloc, gate, row)?,
+        link: silent(alloc),
+    })?;
+    benches.push(Bench {
+        door: door(rt, alloc, gate, other)?,
+        link: silent(alloc),
+    })?;
+    let ended = serve(rt, alloc, town(alloc)?, benches)?;
+    if ended.status == 0 && have_replies(&ended.benches, row, other) {
+        Ok(())
+    } else {
+        Err(Fail::new("a line lacks a reply"))
+    }
+}
+
+// The first line holds its second request back until the reply to the other's post was written, which
+// is read once the first request was answered: so the workers run side by side, and one that has only
+// read before finds what another posted.
+#[test]
+fn a_line_that_only_reads_finds_what_another_posted(rt: HostRuntime) -> Result<(), Fail> {
+    let post = post(rt.alloc(), NOTE)?;
+    let reads = Row {
+        pieces: &[OBJECT, OBJECT],
+        part: Part::Waits,
+        statuses: &["404", "200"],
+        text: "\"content\":\"Hi\"",
+    };
+    let posts = Row {
+        pieces: &[&post],
+        part: Part::Opens,
+        statuses: &["201"],
+        text: "Location: https://club.example/users/ana/a/1",
+    };
+    let gate = Gate::new();
+    expect(&rt, rt.alloc(), &gate, &reads, &posts)
+}
+
+#[test]
+fn a_line_that_posts_finds_its_own_post(rt: HostRuntime) -> Result<(), Fail> {
+    let post = post(rt.alloc(), NOTE)?;
+    let own = Row {
+        pieces: &[&post, OUTBOX],
+        part: Part::Free,
+        statuses: &["201", "200"],
+        text: "\"content\":\"Hi\"",
+    };
+    let none = Row {
+        pieces: &[],
+        part: Part::Free,
+        statuses: &[],
+        text: "",
+    };
+    let gate = Gate::new();
+    expect(&rt, rt.alloc(), &gate, &own, &none)
+}
+
+// The status by the turns of one door.
+#[test]
+fn a_door_that_fails_ends_with_11(rt: HostRuntime) -> Result<(), Fail> {
+    for (fails, status) in [(false, 0), (true, 11)] {
+        let mut turns = Vec::new(rt.alloc());
+        turns.push(Turn::Idle)?;
+        if fails {
+            turns.push(Turn::Failed)?;
+        }
+        let mut benches = Vec::new(rt.alloc());
+        benches.push(Bench {
+            door: MemoryDoor::new(rt.alloc(), turns)?,
+            link: silent(rt.alloc()),
+        })?;
+        let ended = serve(&rt, rt.alloc(), town(rt.alloc())?, benches)?;
+        if ended.status != status {
+            return Err(Fail::new("the status"));
+        }
+    }
+    Ok(())
+}

@@ -1,0 +1,158 @@
+//! A town in memory, and runs of the program over it.
+ghost use Rattle.std.specs.Prelude.{◌<◌, All, IfOk, vec_len};
+ghost use Rattle.fedi_hall.specs.Works.{IsWaiting};
+
+use fedi_effects::Seed;
+use fedi_outside::{
+    Bench, Door, FixedClock, Link, MemoryDisk, MemoryDoor, MemoryEntropy, MemoryLink, MemorySink,
+    MemorySource,
+};
+use fedi_program::{Connection, Ended, address_of, run, run_alone};
+use std::alloc::{AllocError, Global};
+use std::sync::Wait;
+use std::test::Fail;
+use std::thread::Threads;
+
+/// The moment at which all happens, in seconds since 1970-01-01T00:00:00Z.
+pub const SECONDS: u64 = 784_111_777;
+
+/// The bytes that ana's key is drawn from, and her key.
+const DRAWN: &[u8] = b"0123456789abcdefghijklmnopqrstuv";
+
+const KEY: &str = "303132333435363738396162636465666768696a6b6c6d6e6f70717273747576";
+
+fn seed() -> Seed {
+    Seed::new(b"0123456789abcdef")
+}
+
+fn words(alloc: Global, line: &str) -> Result<Vec<String>, AllocError> {
+    let mut words = Vec::new(alloc);
+    for word in line.split(' ') {
+        words.push(String::from_str(alloc, word)?)?;
+    }
+    Ok(words)
+}
+
+// A bench whose door gives no connection, and whose link has no reply.
+fn idle_bench(alloc: Global) -> Result<Vec<Bench<MemoryDoor, MemoryLink>>, AllocError>
+    ensures { IfOk result (λ benches. 0 < vec_len benches) }
+{
+    let mut benches = Vec::new(alloc);
+    benches.push(Bench {
+        door: MemoryDoor::new(alloc, Vec::new(alloc))?,
+        link: silent(alloc),
+    })?;
+    Ok(benches)
+}
+
+// A connection on which this comes.
+fn connection(
+    alloc: Global,
+    input: &str,
+) -> Result<Connection<MemorySource, MemorySink, FixedClock>, AllocError> {
+    Ok(Connection {
+        input: MemorySource::new(alloc, Vec::from_slice(alloc, input.as_bytes())?),
+        out: MemorySink::new(alloc),
+        clock: FixedClock::new(SECONDS),
+    })
+}
+
+// The disk after a command, which has to end well, and what it printed.
+fn done(
+    alloc: Global,
+    line: &str,
+    input: &str,
+    disk: MemoryDisk,
+) -> Result<(MemoryDisk, Vec<u8>), Fail> {
+    let words = words(alloc, line)?;
+    let None = address_of(&words) else {
+        return Err(Fail::new(line));
+    };
+    let mut connection = connection(alloc, input)?;
+    let mut entropy = MemoryEntropy::new(alloc, DRAWN.to_vec(alloc)?);
+    let benches = idle_bench(alloc)?;
+    let ended = run_alone(
+        alloc,
+        seed(),
+        &words,
+        &mut connection,
+        disk,
+        benches,
+        &mut entropy,
+    );
+    if ended.status == 0 {
+        let printed = connection.out.bytes().to_vec(alloc)?;
+        Ok((ended.disk, printed))
+    } else {
+        Err(Fail::new(line))
+    }
+}
+
+/// The disk after a command, which has to end well, with this input.
+pub fn disk_after(
+    alloc: Global,
+    line: &str,
+    input: &str,
+    disk: MemoryDisk,
+) -> Result<MemoryDisk, Fail> {
+    let (disk, _) = done(alloc, line, input, disk)?;
+    Ok(disk)
+}
+
+/// Whether `check` prints this of the store of the disk.
+pub fn has_counts(alloc: Global, disk: MemoryDisk, printed: &str) -> Result<bool, Fail> {
+    let (_, out) = done(alloc, "check s", "", disk)?;
+    Ok(out.as_slice() == printed.as_bytes())
+}
+
+/// A link that nobody is to use.
+pub fn silent(alloc: Global) -> MemoryLink {
+    MemoryLink::new(alloc, Vec::new(alloc))
+}
+
+/// The disk of a store of which ana is a member.
+pub fn town(alloc: Global) -> Result<MemoryDisk, Fail> {
+    let empty = MemoryDisk::new(alloc, Vec::new(alloc))?;
+    let made = disk_after(alloc, "init s club.example", "", empty)?;
+    disk_after(alloc, "add-actor s ana", "", made)
+}
+
+/// Serves the connections of the doors, and delivers over the links.
+pub fn serve<R: Threads + Wait + Sync, W: Door + Send + Drop, K: Link + Send + Drop>(
+    rt: &R,
+    alloc: Global,
+    disk: MemoryDisk,
+    benches: Vec<Bench<W, K>>,
+) -> Result<Ended<MemoryDisk, W, K>, AllocError>
+    requires some { 0 < vec_len benches }
+    requires waiting { All (λ b. IsWaiting W.out W.idle b.door) benches.items }
+{
+    let words = words(alloc, "serve s 127.0.0.1:80")?;
+    let mut connection = connection(alloc, "")?;
+    let mut entropy = MemoryEntropy::new(alloc, Vec::new(alloc));
+    Ok(run(
+        rt,
+        alloc,
+        seed(),
+        &words,
+        &mut connection,
+        disk,
+        benches,
+        &mut entropy,
+    ))
+}
+
+/// A post of this body by ana.
+pub fn post(alloc: Global, body: &str) -> Result<String, AllocError> {
+    let mut text = String::from_str(
+        alloc,
+        "POST /users/ana/outbox HTTP/1.1\r\nHost: club.example\r\n",
+    )?;
+    text.push_str("Authorization: Bearer ")?;
+    text.push_str(KEY)?;
+    text.push_str("\r\nContent-Type: application/activity+json\r\nContent-Length: ")?;
+    text.push_str(&format!(in alloc; "{}", body.len())?)?;
+    text.push_str("\r\n\r\n")?;
+    text.push_str(body)?;
+    Ok(text)
+}
