@@ -1,8 +1,8 @@
 -- What a call of a disk in memory adds to the images that a crash may leave.
-use Rattle.std.proofs.Common.{◌≡◌, inl, inr, ⊎_elim, ℕ, ◌≤◌, Bool, true, false, List, [], ◌∷◌, ◌++◌, length, refl, sym, subst, arith, length-append}
+use Rattle.std.proofs.Common.{◌≡◌, inl, inr, ⊎_elim, ℕ, ◌≤◌, Bool, true, false, List, [], ◌∷◌, ◌++◌, length, take, refl, sym, subst, ap, ◌∙◌, ◌-◌, arith, length-append}
 use Rattle.std.specs.Global.{Vec}
 use Rattle.std.proofs.lemmas.Bool.{cases_lt}
-use Rattle.std.proofs.lemmas.List.{take_all, take-append-le}
+use Rattle.std.proofs.lemmas.List.{take_all, take_at, take-append-le}
 use Rattle.std.proofs.lemmas.List.Sums.{fold-append}
 use Rattle.fedi_outside.specs.Disks.{DiskCrashes, Elapses, IsTorn, MayTear}
 use Rattle.fedi_outside.specs.MemoryDisks.{Contents, LeftSince, MayBeLeft, contents_after, contents_of}
@@ -67,3 +67,19 @@ pub write_elapses : (base : List ℕ) (calls after : List Call) (at : ℕ) (byte
 write_elapses base calls after at bytes done from is same inside =
     elapses base calls after (Write at bytes done) _ is
     (λ image left. subst (λ (l : List ℕ). MayTear at l (crashes_of base calls) image) same (written_left base calls at bytes done image inside left))
+
+-- a write that was not recorded
+pub unwritten_elapses : (base : List ℕ) (calls after : List Call) (at : ℕ) (from : List ℕ) → after ≡ calls
+    → Elapses (crashes_of base calls) (crashes_of base after) (MayTear at from (crashes_of base calls))
+unwritten_elapses base calls after at from same =
+    subst (λ (l : List Call). Elapses (crashes_of base calls) (crashes_of base l) (MayTear at from (crashes_of base calls))) (sym same) (record {
+      clock = omega arith;
+      now = λ image left. (image, left, torn_none at from image);
+      nothing_else = λ moment image past since. inl since;
+      keeps = λ moment image past since. since;
+    })
+
+-- the calls without the last of them
+pub without_last : (calls after : List Call) (call : Call) (count : ℕ) → after ≡ calls ++ call ∷ [] → count ≡ length after → take (count - 1) after ≡ calls
+without_last calls after call count is size =
+    ap (take (count - 1)) is ∙ take_at calls (call ∷ []) (count - 1) (omega (arith, size, ap length is, length-append calls (call ∷ [])))

@@ -120,17 +120,16 @@ impl MemoryDisk {
     }
 }
 
-// The bytes with others in the place of those at this offset, and past the end. The error is out of memory.
-fn splice(alloc: Global, bytes: &[u8], at: usize, from: &[u8]) -> Result<Vec<u8>, AllocError>
-    requires { at ≤ length bytes.now }
-    ensures { IfOk result (λ after. after.items ≡ spliced at from.now bytes.now) }
+// Puts bytes in the place of those at this offset, and past the end. The error is out of memory, and then nothing changes.
+fn splice(bytes: &mut Vec<u8>, at: usize, from: &[u8]) -> Result<(), AllocError>
+    requires { at ≤ length bytes.old.items }
+    ensures ok { OnOk result (bytes.new.items ≡ spliced at from.now bytes.old.items) }
+    ensures err { OnErr result (bytes.new.items ≡ bytes.old.items) }
 {
-    let mut after = bytes[..at].to_vec(alloc)?;
-    after.extend_from_slice(from)?;
-    if from.len() < bytes.len() - at {
-        after.extend_from_slice(&bytes[at + from.len()..])?;
-    }
-    Ok(after)
+    let inside = from.len().min(bytes.len() - at);
+    bytes.extend_from_slice(&from[inside..])?;
+    bytes[at..at + inside].copy_from_slice(&from[..inside]);
+    Ok(())
 }
 
 // Records a call. The error is out of memory, and then nothing is recorded.
@@ -204,10 +203,7 @@ impl Disk for MemoryDisk {
             (MayTear at from.now (disk_crashes self.old)) }
     {
         let done = !self.next_fails();
-        let (Ok(after), Ok(bytes)) = (
-            splice(self.alloc, &self.bytes, at as usize, from),
-            from.to_vec(self.alloc),
-        ) else {
+        let Ok(bytes) = from.to_vec(self.alloc) else {
             return Err(self.fault());
         };
         let Ok(()) = note(&mut self.calls, Call::Write { at, bytes, done }) else {
@@ -216,7 +212,10 @@ impl Disk for MemoryDisk {
         if !done {
             return Err(self.fault());
         }
-        self.bytes = after;
+        let Ok(()) = splice(&mut self.bytes, at as usize, from) else {
+            self.calls.pop();
+            return Err(self.fault());
+        };
         Ok(())
     }
 
