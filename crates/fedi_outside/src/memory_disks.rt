@@ -103,6 +103,13 @@ impl MemoryDisk {
         &self.calls
     }
 
+    /// How many calls failed. The count saturates at 2^64 - 1.
+    pub fn faults(&self) -> u64
+        ensures { result ≡ self.now.faults }
+    {
+        self.faults
+    }
+
     // Whether the next call is to fail.
     fn next_fails(&self) -> bool
         ensures { result ≡ is_failing self.now (length self.now.calls) }
