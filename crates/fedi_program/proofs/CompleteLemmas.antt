@@ -33,7 +33,8 @@ use Rattle.fedi_town.specs.declared.command_fault.CommandFault.TheVariants as co
 use Rattle.fedi_town.specs.Histories.{town}
 use Rattle.fedi_town.specs.Legal.{broken_command, is_taken_host}
 use Rattle.fedi_town.specs.Queues.{Delivery}
-use Rattle.fedi_program.specs.Commands.{AddActor, AddPeer, Check, Deliver, Export, Inetd, Init, Serve, Task, Usage}
+use Rattle.fedi_program.specs.Commands.{AddActor, AddPeer, Check, Demo, Deliver, Export, Inetd, Init, Serve, Task, Usage}
+use Rattle.fedi_program.specs.Demonstrating.{Demonstrates}
 use Rattle.fedi_program.specs.Complete.{DoorsAreCalm, HasRoomForEach, HasStore, IsCalm, IsComplete, IsDone, IsFree, CanBeKept, Outside, outside_of}
 use Rattle.fedi_log.specs.Claims.{IsFirst}
 use Rattle.fedi_logged.specs.Attempts.{Exchange}
@@ -384,3 +385,11 @@ pub check_complete : (told : Option ℕ) (before after : Medium) (chance left : 
     → IsComplete Check told (outside_of before.shown chance (faults_of reads first.faults)) (outside_of after.shown left (faults_of later now.faults)) status
 check_complete told before after chance left reads later first now status checked =
     λ calm possible. checked_done before after first now status checked calm.disk calm.writes possible.0 possible.1
+
+-- its text is printed, or there is no memory
+pub demo_complete : (told : Option ℕ) (disk after : DiskState) (chance left : Chance) (reads later : ℕ) (first now : Output) (number : ℕ) (status : ℕ)
+    → Demonstrates number first now status
+    → IsComplete (Demo number) told (outside_of disk chance (faults_of reads first.faults)) (outside_of after left (faults_of later now.faults)) status
+demo_complete told disk after chance left reads later first now number status (inl (text, _, prints)) =
+    prints_complete (Demo number) told disk after chance left reads later first now text status prints
+demo_complete told disk after chance left reads later first now number status (inr (none, _)) = λ calm possible. inr (inl none)

@@ -21,7 +21,7 @@ use Rattle.fedi_town.specs.Towns.{has_digest, has_name}
 use Rattle.fedi_logged.specs.Marks.{SurvivesMarked}
 use Rattle.fedi_startup.specs.Surviving.{growth, room}
 use Rattle.fedi_program.specs.declared.commands.Table.{Table}
-use Rattle.fedi_program.specs.Commands.{AddActor, Init, Task, Export}
+use Rattle.fedi_program.specs.Commands.{AddActor, Init, Task, Export, Demo}
 use Rattle.fedi_logged.specs.Turns.{Standing, Turns}
 use Rattle.fedi_talk.specs.Endings.{Output}
 use Rattle.fedi_program.specs.Endings.{Prints}
@@ -194,6 +194,13 @@ of_table P task table other is holds asked =
     let same : Some (Export table) ≡ Some (Export other) = is ∙ asked in
     let tables : table ≡ other = cc in
     subst P tables holds
+
+-- what holds of the number that the command has holds of the one that is asked for
+pub of_number : (P : ℕ → Type 0) (task : Option Task) (number other : ℕ) → Some (Demo number) ≡ task → P number → task ≡ Some (Demo other) → P other
+of_number P task number other is holds asked =
+    let same : Some (Demo number) ≡ Some (Demo other) = is ∙ asked in
+    let numbers : number ≡ other = cc in
+    subst P numbers holds
 
 -- what holds of the host that the command has holds of the one that is asked for
 pub of_host : (P : List ℕ → Type 0) (task : Option Task) (host other : List ℕ) → Some (Init host) ≡ task → P host → task ≡ Some (Init other) → P other

@@ -33,7 +33,7 @@ closed_talks : (w : Setting) (seen : Log) (first : Output) (now : Scene) (log : 
 closed_talks w seen first now log None s = tt
 closed_talks w seen first now log (Some input) s = record { exchanges = s.exchanges; each = s.each; over = inl s.ends.0; done = s.ends.1 }
 
-session_talks : (w : Setting) (opened : State) (log : Log) (first now : Scene) (status : ℕ) → status ≡ 0 → RunsTo w opened log first now status → TalksIfTold w opened log first now
+pub session_talks : (w : Setting) (opened : State) (log : Log) (first now : Scene) (status : ℕ) → status ≡ 0 → RunsTo w opened log first now status → TalksIfTold w opened log first now
 session_talks w opened log first now status done (End, is, ran) = ended_talks w (given opened.history) first.output now log first.input ran
 session_talks w opened log first now status done (Closed, is, ran) = closed_talks w (given opened.history) first.output now log first.input ran
 session_talks w opened log first now status done (CutShort, is, ran) = let clash : 8 ≡ 0 = sym is ∙ done in absurd cc

@@ -2,6 +2,8 @@
 use Rattle.std.specs.Prelude.{ℕ, Bool, true, false, not, ◌&&◌, ◌==◌, nat_eq, nat_le, List, [], ◌∷◌, codes, length, map, bytes_eq, Option, Some, None, option_map, slice_index_or, if◌then◌else◌}
 use Rattle.std.specs.List.{starts_with, filter, find, list_all, list_any}
 use Rattle.std.specs.Option.{option_and_then}
+use Rattle.std.specs.Str.Parse.{digits_value}
+use Rattle.fedi_text.specs.Decimals.{is_decimal}
 use Rattle.fedi_program.specs.declared.commands.Command.{Command}
 use Rattle.fedi_program.specs.declared.commands.Command.TheVariants as commands
 use Rattle.fedi_program.specs.declared.commands.Table.{Table}
@@ -14,7 +16,8 @@ use Rattle.fedi_program.specs.declared.words.Verb.TheVariants as verbs
 -- What the program is asked to do: to print its usage, to begin a store for this host, to serve one
 -- connection, to serve those that come to this address, to make a member of this name, who is
 -- locked or not, to make this host a peer with this key at this address, which is a relay or not, to
--- try each delivery that is due, to print this table of a store, or to count what a store holds.
+-- try each delivery that is due, to print this table of a store, to count what a store holds, or to
+-- run the demonstration with this number.
 pub data Task : Type 0 where
   Usage : Task
   Init : List ℕ → Task
@@ -25,6 +28,7 @@ pub data Task : Type 0 where
   Deliver : Task
   Export : Table → Task
   Check : Task
+  Demo : ℕ → Task
 
 -- the task of a command, without its references
 abbrev pub task_of : Command → Task
@@ -37,6 +41,7 @@ task_of (commands.AddPeer peer) = AddPeer peer.host.now peer.key.now peer.addres
 task_of commands.Deliver = Deliver
 task_of (commands.Export table) = Export table
 task_of commands.Check = Check
+task_of (commands.Demo number) = Demo number
 
 -- ---- the table of commands
 
@@ -52,7 +57,7 @@ abbrev pub row : Verb → List ℕ → ℕ → Option (List ℕ) → Row
 row verb name positions flag =
     record { verb = verb; name = name; positions = positions; flag = flag }
 
--- the rows: the first position is the store, but `usage` has none
+-- the rows: the first position is the store, but `usage` and `demo` have none
 abbrev pub rows : List Row
 rows =
     row verbs.Usage (codes "usage") 0 None
@@ -64,6 +69,7 @@ rows =
     ∷ row verbs.Deliver (codes "deliver") 1 None
     ∷ row verbs.Export (codes "export") 2 None
     ∷ row verbs.Check (codes "check") 1 None
+    ∷ row verbs.Demo (codes "demo") 1 None
     ∷ []
 
 -- the row of the command of this name
@@ -126,6 +132,11 @@ table_of name =
     if bytes_eq name (codes "activities") then Some Activities else (
     if bytes_eq name (codes "queue") then Some Queue else None))
 
+-- the number that one to four decimal digits write
+abbrev pub number_of : List ℕ → Option ℕ
+number_of word =
+    if nat_le (length word) 4 && is_decimal word then Some (digits_value 10 word) else None
+
 -- the position of this number, counted from 0
 abbrev pub word : List (List ℕ) → ℕ → List ℕ
 word positions k = slice_index_or positions k []
@@ -142,6 +153,7 @@ task_at verbs.AddPeer positions flagged =
 task_at verbs.Deliver positions flagged = Some Deliver
 task_at verbs.Export positions flagged = option_map Export (table_of (word positions 1))
 task_at verbs.Check positions flagged = Some Check
+task_at verbs.Demo positions flagged = option_map Demo (number_of (word positions 0))
 
 -- what accepted arguments ask for
 abbrev pub task_by : Reading → Option Task
@@ -163,6 +175,7 @@ names_store (Some (AddPeer host key address relay)) = true
 names_store (Some Deliver) = true
 names_store (Some (Export table)) = true
 names_store (Some Check) = true
+names_store (Some (Demo number)) = false
 
 -- the store that the arguments name: the first position, if they are accepted and the task has one
 abbrev pub store_in : List (List ℕ) → Option (List ℕ)
@@ -183,6 +196,7 @@ address_of (Some (AddPeer host key address relay)) = None
 address_of (Some Deliver) = None
 address_of (Some (Export table)) = None
 address_of (Some Check) = None
+address_of (Some (Demo number)) = None
 
 -- ---- as the code has them
 

@@ -20,7 +20,7 @@ use Rattle.fedi_talk.specs.Endings.{Faults}
 use Rattle.fedi_town.specs.Histories.{town}
 use Rattle.fedi_town.specs.Legal.{broken_command}
 use Rattle.fedi_town.specs.Queues.{Delivery}
-use Rattle.fedi_program.specs.Commands.{Task, Usage, Init, Inetd, Serve, AddActor, AddPeer, Deliver, Export, Check}
+use Rattle.fedi_program.specs.Commands.{Task, Usage, Init, Inetd, Serve, AddActor, AddPeer, Deliver, Export, Check, Demo}
 use Rattle.fedi_program.specs.Members.{Chance, Draws, member_entry}
 use Rattle.fedi_program.specs.Peers.{peer_entry}
 
@@ -105,6 +105,7 @@ IsPossible Deliver told before now =
     → HasRoomForEach moment (end_of history) (due_in (town history) moment))
 IsPossible (Export table) told before now = IsStore before.disk
 IsPossible Check told before now = IsStore before.disk
+IsPossible (Demo number) told before now = Unit {0}
 
 -- ---- it is done
 

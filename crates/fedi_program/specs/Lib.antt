@@ -1,6 +1,7 @@
 pub mod Commands
 pub mod Complete
 pub mod Delivering
+pub mod Demonstrating
 pub mod Endings
 pub mod Members
 pub mod Peers

@@ -1,7 +1,7 @@
 -- What a run may do, by what it is asked.
 use Rattle.std.specs.Prelude.{ℕ, ◌==◌, Bool, true, false, List, [], ◌∷◌, Option, None, Some}
 use Rattle.std.specs.List.{list_any}
-use Rattle.fedi_program.specs.Commands.{Task, Usage, Init, Inetd, Serve, AddActor, AddPeer, Deliver, Export, Check}
+use Rattle.fedi_program.specs.Commands.{Task, Usage, Init, Inetd, Serve, AddActor, AddPeer, Deliver, Export, Check, Demo}
 
 -- the statuses with which it may end
 abbrev pub statuses_of : Option Task → List ℕ
@@ -15,6 +15,7 @@ statuses_of (Some (AddPeer host key address relay)) = 0 ∷ 3 ∷ 4 ∷ 5 ∷ 7 
 statuses_of (Some Deliver) = 0 ∷ 3 ∷ 4 ∷ 5 ∷ 7 ∷ 12 ∷ 13 ∷ []
 statuses_of (Some (Export table)) = 0 ∷ 3 ∷ 4 ∷ 5 ∷ 7 ∷ 12 ∷ []
 statuses_of (Some Check) = 0 ∷ 3 ∷ 4 ∷ 5 ∷ 7 ∷ 12 ∷ []
+statuses_of (Some (Demo number)) = 0 ∷ 7 ∷ 12 ∷ []
 
 -- the status is one of these
 abbrev pub is_status_of : Option Task → ℕ → Bool
@@ -32,6 +33,7 @@ opens_store (Some (AddPeer host key address relay)) = true
 opens_store (Some Deliver) = true
 opens_store (Some (Export table)) = true
 opens_store (Some Check) = true
+opens_store (Some (Demo number)) = false
 
 -- whether it may draw a key
 abbrev pub may_draw : Option Task → Bool
@@ -45,3 +47,4 @@ may_draw (Some (AddPeer host key address relay)) = false
 may_draw (Some Deliver) = false
 may_draw (Some (Export table)) = false
 may_draw (Some Check) = false
+may_draw (Some (Demo number)) = false

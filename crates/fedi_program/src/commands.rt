@@ -1,9 +1,10 @@
 //! The arguments of the program.
 
 ghost use Rattle.std.specs.Prelude.{◌≡◌, map, is_some, option_map, string_bytes};
-ghost use Rattle.fedi_program.specs.Commands.{address_of, names_store, reading_of, store_in, table_of, task_by, task_in, task_of};
+ghost use Rattle.fedi_program.specs.Commands.{address_of, names_store, number_of, reading_of, store_in, table_of, task_by, task_in, task_of};
 
 use crate::words::{Reading, Verb, read};
+use fedi_text::read_decimal;
 
 /// What the program is asked to do.
 #[derive(Clone, Copy, Debug, PartialEq, Eq)]
@@ -40,6 +41,11 @@ pub enum Command<'a> {
     },
     /// To count what a store holds.
     Check,
+    /// To run a demonstration.
+    Demo {
+        /// Its number.
+        number: u16,
+    },
 }
 
 /// A table of what a store holds.
@@ -77,7 +83,19 @@ fn table_of(name: &str) -> Option<Table>
     }
 }
 
-// The command that accepted arguments give, or none if they name no table.
+// The number that one to four decimal digits write.
+#[tactic(auto, using(crate::proofs::NumberLemmas::short_number))]
+fn number_of(word: &str) -> Option<u16>
+    ensures { result ≡ number_of word.now }
+{
+    if word.len() > 4 {
+        return None;
+    }
+    let number = read_decimal(word.as_bytes())?;
+    u16::try_from(number).ok()
+}
+
+// The command that accepted arguments give, or none if they name no table or no number.
 fn command_by<'a>(reading: &Reading<'a>) -> Option<Command<'a>>
     ensures { option_map task_of result ≡ task_by (reading_of reading.now) }
 {
@@ -105,6 +123,9 @@ fn command_by<'a>(reading: &Reading<'a>) -> Option<Command<'a>>
             table: table_of(reading.position(1))?,
         },
         Verb::Check => Command::Check,
+        Verb::Demo => Command::Demo {
+            number: number_of(reading.position(0))?,
+        },
     };
     Some(command)
 }
@@ -126,7 +147,7 @@ pub fn store_of(arguments: &[String]) -> Option<&str>
 {
     let reading = read(arguments)?;
     match command_by(&reading)? {
-        Command::Usage => None,
+        Command::Usage | Command::Demo { .. } => None,
         _ => Some(reading.position(0)),
     }
 }

@@ -4,8 +4,10 @@
 mod commands;
 mod connection;
 mod delivering;
+mod demonstrating;
 mod enrolling;
 mod exporting;
+mod laws;
 mod members;
 mod peers;
 mod printing;
@@ -19,5 +21,6 @@ mod words;
 pub use commands::{Command, NewPeer, Table, address_of, command_of, store_of};
 pub use connection::{Connection, serve_connection};
 pub use fedi_effects::Seed;
+pub use laws::demonstrations_are_determined;
 pub use running::{Ended, run, run_alone};
 pub use statuses::OUT_OF_MEMORY;

@@ -1,11 +1,12 @@
 //! The whole program, over whatever lies outside.
 
 ghost use Rattle.std.specs.Prelude.{◌≡◌, ◌≢◌, ◌↔◌, ◌<◌, ℕ, All, Bool, false, true, List, [], IfSome, IsTrue, Some, None, length, map, string_bytes, vec_len};
-ghost use Rattle.fedi_program.specs.Commands.{AddActor, AddPeer, Check, Deliver, Export, Inetd, Init, Serve, Task, Usage, address_of, names_store, task_in};
+ghost use Rattle.fedi_program.specs.Commands.{AddActor, AddPeer, Check, Deliver, Demo, Export, Inetd, Init, Serve, Task, Usage, address_of, names_store, task_in};
 ghost use Rattle.fedi_talk.specs.Endings.{WritesUnlessFailed, faults_by, output_by, scene_by};
 ghost use Rattle.fedi_logged.specs.Attempts.{told_by};
 ghost use Rattle.fedi_program.specs.Complete.{DoorsAreCalm, IsComplete, outside_of};
 ghost use Rattle.fedi_program.specs.Delivering.{DeliversBy, DeliversStore};
+ghost use Rattle.fedi_program.specs.Demonstrating.{Demonstrates};
 ghost use Rattle.fedi_program.specs.Endings.{HasCauses, Prints, status_of};
 ghost use Rattle.fedi_program.specs.Members.{chance_by};
 ghost use Rattle.fedi_program.specs.Runs.{is_status_of, may_draw, opens_store};
@@ -23,6 +24,7 @@ ghost use Rattle.fedi_town.specs.Legal.{IsLegal};
 use crate::commands::{Command, NewPeer, command_of};
 use crate::connection::{Connection, serve_connection};
 use crate::delivering::deliver;
+use crate::demonstrating::demo;
 use crate::exporting::export;
 use crate::members::make_member;
 use crate::peers::make_peer;
@@ -335,6 +337,13 @@ pub fn run_alone<S: Source, O: Sink, D: Disk, W, K: Link, C: Clock, E: Entropy>(
         (output_by O.sent O.write_faults connection.old.out)
         (output_by O.sent O.write_faults connection.new.out) result.status }
 
+    // A demonstration prints the one text of its number, which depends on nothing else: at 7 a prefix
+    // of it, since a write failed, and at 12 nothing.
+    ensures demonstrated { (number : ℕ)
+        → task_in (map string_bytes arguments.now) ≡ Some (Demo number)
+        → Demonstrates number (output_by O.sent O.write_faults connection.old.out)
+        (output_by O.sent O.write_faults connection.new.out) result.status }
+
     // Whatever the task and the input, a store that is opened comes back with the records of a legal
     // history: those that the opening found, and those of the entries that the run made. A crash at
     // any moment of the run leaves the records of before the run, or those that the opening found with
@@ -444,6 +453,14 @@ pub fn run_alone<S: Source, O: Sink, D: Disk, W, K: Link, C: Clock, E: Entropy>(
                 benches,
             }
         }
+        Some(Command::Demo { number }) => {
+            let status = demo(alloc, seed, &mut connection.out, number);
+            Ended {
+                status,
+                disk,
+                benches,
+            }
+        }
         Some(Command::Usage) => Ended {
             status: print(&mut connection.out, usage().as_bytes()),
             disk,
@@ -476,7 +493,10 @@ pub fn run_alone<S: Source, O: Sink, D: Disk, W, K: Link, C: Clock, E: Entropy>(
 /// STORE TABLE` prints the members (`actors`), the `activities` or the deliveries that have not
 /// ended (`queue`) as comma-separated values (RFC 4180), and names no recipient. `check STORE` opens
 /// the store and prints how many entries, members, activities and deliveries that have not ended it
-/// has. Other arguments are answered with the usage, and do not ask the disk.
+/// has. `demo NUMBER` has eight members of a town in memory ask 2,000 requests, which are drawn from
+/// a number of one to four digits, and prints how many replies had each status, what the town then
+/// has, and the length and the digest of all replies. Other arguments are answered with the usage,
+/// and do not ask the disk.
 ///
 /// | Status | When | Printed, but by `inetd` and `serve` |
 /// |---|---|---|
@@ -600,6 +620,13 @@ pub fn run<
         → ExportsStore table
         (medium_by D.shown D.crashes disk) (medium_by D.shown D.crashes result.disk)
         (output_by O.sent O.write_faults connection.old.out)
+        (output_by O.sent O.write_faults connection.new.out) result.status }
+
+    // A demonstration prints the one text of its number, which depends on nothing else: at 7 a prefix
+    // of it, since a write failed, and at 12 nothing.
+    ensures demonstrated { (number : ℕ)
+        → task_in (map string_bytes arguments.now) ≡ Some (Demo number)
+        → Demonstrates number (output_by O.sent O.write_faults connection.old.out)
         (output_by O.sent O.write_faults connection.new.out) result.status }
 
     // Whatever the task and the input, a store that is opened comes back with the records of a legal

@@ -26,6 +26,8 @@ pub enum Verb {
     Export,
     /// `check`
     Check,
+    /// `demo`
+    Demo,
 }
 
 /// A row of the table of commands.
@@ -95,6 +97,7 @@ fn row_of(name: &str) -> Option<Row>
         "deliver" => Some(Row::new(Verb::Deliver, 1)),
         "export" => Some(Row::new(Verb::Export, 2)),
         "check" => Some(Row::new(Verb::Check, 1)),
+        "demo" => Some(Row::new(Verb::Demo, 1)),
         _ => None,
     }
 }

@@ -1,11 +1,12 @@
 use Rattle.std.proofs.Common.{ℕ, List, Bool}
 use Rattle.fedi_talk.specs.Endings.{output_by}
 use Rattle.fedi_program.specs.Commands.{Usage}
+use Rattle.fedi_program.specs.Demonstrating.{Demonstrates}
 use Rattle.fedi_program.specs.Members.{chance_by}
 use Rattle.fedi_program.specs.Stores.{AddsMember, AddsPeer, ExportsStore, MakesStore, medium_by}
 use Rattle.fedi_program.specs.declared.commands.Table.{Table}
-use Rattle.fedi_program.proofs.CompleteLemmas.{add_actor_complete, add_peer_complete, asked_complete, check_complete, deliver_by_complete, export_complete, inetd_complete, init_complete, prints_complete}
-use Rattle.fedi_program.proofs.MemberLemmas.{of_host, of_table, of_task}
+use Rattle.fedi_program.proofs.CompleteLemmas.{add_actor_complete, add_peer_complete, asked_complete, check_complete, deliver_by_complete, demo_complete, export_complete, inetd_complete, init_complete, prints_complete}
+use Rattle.fedi_program.proofs.MemberLemmas.{of_host, of_number, of_table, of_task}
 use Rattle.fedi_program.proofs.PeerLemmas.{of_peer}
 use Rattle.fedi_program.proofs.RunLemmas.{added_safe, checked_safe, exported_safe, peered_safe, served_safe, store_talks}
 use Rattle.fedi_program.proofs.running.run_alone.Goals as goal
@@ -105,3 +106,15 @@ pub returns-in-Some-Usage-clause-complete : goal.returns-in-Some-Usage-clause-co
 returns-in-Some-Usage-clause-complete g c = λ task is.
     let told = g.C.Clock.told c.args.connection.now.clock in
     asked_complete _ _ task told _ _ _ (rw c.in-Some-Usage.field-0-is at c.in-Some-Usage.ensures) (prints_complete Usage told _ _ _ _ _ _ _ _ _ _ c.print.ensures) is
+
+pub returns-in-Some-Demo-clause-demonstrated : goal.returns-in-Some-Demo-clause-demonstrated
+returns-in-Some-Demo-clause-demonstrated g c =
+    let asked = rw c.in-Some-Demo.field-0-is at c.in-Some-Demo.ensures in
+    λ number. of_number
+    (λ (n : ℕ). Demonstrates n (output_by g.O.Sink.sent g.O.Sink.write_faults c.args.connection.now.out)
+    (output_by g.O.Sink.sent g.O.Sink.write_faults c.demo-status.new.out) c.demo-status.result) _ _ _ asked c.demo-status.ensures
+
+pub returns-in-Some-Demo-clause-complete : goal.returns-in-Some-Demo-clause-complete
+returns-in-Some-Demo-clause-complete g c = λ task is.
+    let told = g.C.Clock.told c.args.connection.now.clock in
+    asked_complete _ _ task told _ _ _ (rw c.in-Some-Demo.field-0-is at c.in-Some-Demo.ensures) (demo_complete told _ _ _ _ _ _ _ _ _ _ c.demo-status.ensures) is
