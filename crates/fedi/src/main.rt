@@ -9,7 +9,8 @@ use std::process::ExitCode;
 use std::random::RandomSource;
 use std::{env, io};
 
-/// The arguments after the program's name, or none if one of them is no text. The error is out of memory.
+/// The arguments after the program's name, or none if one of them is no text. The error is out of
+/// memory.
 fn arguments(rt: &HostRuntime) -> Result<Vec<String>, AllocError> {
     let mut arguments = Vec::new(rt.alloc());
     match env::args(rt) {
@@ -24,16 +25,16 @@ fn arguments(rt: &HostRuntime) -> Result<Vec<String>, AllocError> {
     Ok(arguments)
 }
 
-/// A seed that strangers do not know. If the system has no random bytes, it is that of zeros: then look-ups
-/// have only lost their guard against texts that were chosen to be slow.
+/// A seed that strangers do not know. If the system has no random bytes, it is that of zeros: then
+/// look-ups have only lost their guard against texts that were chosen to be slow.
 fn seed(rt: &HostRuntime) -> Seed {
     let mut secret = [0; 16];
     let _ = rt.fill_bytes(&mut secret);
     Seed::new(&secret)
 }
 
-/// How many connections are served at once. A bench is a few words until `serve` gives it a thread, and each
-/// connection has a buffer of its own from its first request on.
+/// How many connections are served at once. A bench is a few words until `serve` gives it a thread,
+/// and each connection has a buffer of its own from its first request on.
 const SERVING: u16 = 64;
 
 /// How many deliveries are tried at once, beside the connections. A peer that does not answer holds

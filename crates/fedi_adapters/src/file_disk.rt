@@ -6,11 +6,13 @@ use crate::raw_file::RawFile;
 use fedi_outside::{Disk, Failed};
 use std::fs::{File, Files};
 
-/// A file as a disk, whose faults are those of the file. It tells neither what it holds nor what a crash leaves.
+/// A file as a disk, whose faults are those of the file. It tells neither what it holds nor what a
+/// crash leaves.
 #[derive(Drop)]
 pub struct FileDisk<F> {
     file: F,
-    // How many bytes it had when that was last asked, with those that were written past them since; 0 before.
+    // How many bytes it had when that was last asked, with those that were written past them since;
+    // 0 before.
     size: u64,
 }
 

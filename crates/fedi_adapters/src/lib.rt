@@ -1,9 +1,9 @@
-//! The trusted edge: real streams, files, sockets, the clock and random bytes, each behind the trait
-//! that says what of it is known.
+//! The trusted edge: real streams, files, sockets, the clock and random bytes, each behind the
+//! trait that says what of it is known.
 //!
-//! What a file or a socket holds, gives and takes no contract can say. So disks and lines tell nothing
-//! of their bytes, doors no rows, and links no replies: what is proved of them is how many bytes a call
-//! moved, and that exactly the calls that fail are counted.
+//! What a file or a socket holds, gives and takes no contract can say. So disks and lines tell
+//! nothing of their bytes, doors no rows, and links no replies: what is proved of them is how many
+//! bytes a call moved, and that exactly the calls that fail are counted.
 #![tactic(auto)]
 
 mod file_disk;

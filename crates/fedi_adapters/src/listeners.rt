@@ -19,8 +19,9 @@ pub struct Listening<'a, R: Net<Listener = TcpListener, Stream = TcpStream>> {
 }
 
 impl<'a, R: Net<Listener = TcpListener, Stream = TcpStream>> Listening<'a, R> {
-    /// A listener at this address, which is not bound yet. The host is an IP address, one of version 6 in brackets, or a name, of whose
-    /// addresses the first that can be bound is. A port of 0 cannot be bound: the system would choose one that nobody is told.
+    /// A listener at this address, which is not bound yet. The host is an IP address, one of
+    /// version 6 in brackets, or a name, of whose addresses the first that can be bound is. A port
+    /// of 0 cannot be bound: the system would choose one that nobody is told.
     pub fn new(rt: &'a R, address: &'a str) -> Self {
         Listening {
             rt,

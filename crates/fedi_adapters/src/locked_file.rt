@@ -29,9 +29,10 @@ enum Entry {
     Synced,
 }
 
-/// A file of the machine that is opened by the first call, and locked until this is dropped. If another has the lock, each call fails
-/// until it is free. If there is no file, it counts as an empty one, and the first write creates it, for its owner alone. What is
-/// there and is no regular file, as a folder, a pipe or a device, makes each call fail, and is left as it is.
+/// A file of the machine that is opened by the first call, and locked until this is dropped. If
+/// another has the lock, each call fails until it is free. If there is no file, it counts as an
+/// empty one, and the first write creates it, for its owner alone. What is there and is no regular
+/// file, as a folder, a pipe or a device, makes each call fail, and is left as it is.
 #[derive(Drop)]
 pub struct LockedFile<'a, R: Files<File = File>> {
     rt: &'a R,
@@ -55,7 +56,8 @@ impl<'a, R: Files<File = File>> LockedFile<'a, R> {
         }
     }
 
-    /// This file, which was opened at this path, with no fault so far. It may be of any kind, and is not locked.
+    /// This file, which was opened at this path, with no fault so far. It may be of any kind, and
+    /// is not locked.
     pub fn over(rt: &'a R, path: &'a str, file: File) -> Self
         ensures { result.faults ≡ 0 }
     {
@@ -134,8 +136,9 @@ impl<'a, R: Files<File = File>> LockedFile<'a, R> {
         Ok(())
     }
 
-    // Makes the entry in the folder durable, unless that was done. One who may not read the folder cannot do that: the error counts
-    // only if this process has created the file, since who did so before was to sync the entry.
+    // Makes the entry in the folder durable, unless that was done. One who may not read the folder
+    // cannot do that: the error counts only if this process has created the file, since who did so
+    // before was to sync the entry.
     fn sync_entry(&mut self) -> io::Result<()>
         ensures { self.new.faults ≡ self.old.faults }
     {
@@ -185,15 +188,17 @@ impl<R: Files<File = File>> RawFile for LockedFile<'_, R> {
         self.counted(written)
     }
 
-    /// Makes durable all that was written, and by the first call that is done the entry in the folder too.
+    /// Makes durable all that was written, and by the first call that is done the entry in the
+    /// folder too.
     fn sync(&mut self) -> Result<(), Failed> {
         let synced = self.sync_all();
         self.counted(synced)
     }
 }
 
-// Opens the file of this path, or creates it for its owner alone, and locks it. It is an error if another has the lock, if a file that
-// is to be created is there, and if what is there is no regular file.
+// Opens the file of this path, or creates it for its owner alone, and locks it. It is an error if
+// another has the lock, if a file that is to be created is there, and if what is there is no
+// regular file.
 fn open_locked<R: Files<File = File>>(rt: &R, path: &str, create: bool) -> io::Result<File> {
     let mut options = OpenOptions::new();
     options
@@ -201,8 +206,9 @@ fn open_locked<R: Files<File = File>>(rt: &R, path: &str, create: bool) -> io::R
         .write(true)
         .create_new(create)
         .mode(0o600);
-    // If the program was started with a standard stream closed, the file gets that stream's descriptor, and what goes to the stream
-    // would go into the file. The clone's descriptor is above those of the streams, and the first one is closed at once.
+    // If the program was started with a standard stream closed, the file gets that stream's
+    // descriptor, and what goes to the stream would go into the file. The clone's descriptor is
+    // above those of the streams, and the first one is closed at once.
     let file = options.open(rt, path)?.try_clone()?;
     if !file.metadata()?.is_file() {
         return Err(ErrorKind::InvalidInput.into());

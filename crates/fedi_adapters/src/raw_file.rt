@@ -13,12 +13,13 @@ pub trait RawFile {
     fn size(&mut self) -> Result<u64, Failed>
         ensures cause { HasCause (faults self.old) (faults self.new) result };
 
-    /// Reads the bytes at this offset, as many as there is room for. It is an error if there are fewer, and then `into` holds any
-    /// bytes.
+    /// Reads the bytes at this offset, as many as there is room for. It is an error if there are
+    /// fewer, and then `into` holds any bytes.
     fn read_at(&mut self, at: u64, into: &mut [u8]) -> Result<(), Failed>
         ensures cause { HasCause (faults self.old) (faults self.new) result };
 
-    /// Writes these bytes at this offset. It is an error if they end at 2^64 or after it. After an error the range holds any bytes.
+    /// Writes these bytes at this offset. It is an error if they end at 2^64 or after it. After an
+    /// error the range holds any bytes.
     fn write_at(&mut self, at: u64, from: &[u8]) -> Result<(), Failed>
         ensures end { OnOk result (at + length from.now < 2 ^ 64) }
         ensures cause { HasCause (faults self.old) (faults self.new) result };

@@ -1,5 +1,5 @@
-//! The real input, output, clock and source of random bytes. What they hold is told as far as std tells
-//! it.
+//! The real input, output, clock and source of random bytes. What they hold is told as far as std
+//! tells it.
 ghost use Rattle.std.specs.Prelude.{◌≡◌, ◌<◌, ◌/◌, ℕ, None, IfOk, OnOk, is_some, length};
 ghost use Rattle.std.specs.Io.{ReadsAtMost, WritesAtMost};
 ghost use Rattle.std.specs.Io.KnownBytes.{ReadConsumes, WriteAppends};
@@ -133,8 +133,8 @@ fn seconds_of(time: SystemTime) -> u64
     }
 }
 
-/// The file of a path as a source of random bytes, opened for each draw. A draw that does not open it, or
-/// does not read all its bytes, is a counted fault.
+/// The file of a path as a source of random bytes, opened for each draw. A draw that does not open
+/// it, or does not read all its bytes, is a counted fault.
 #[derive(Drop)]
 pub struct SystemEntropy<'a, R> {
     rt: &'a R,

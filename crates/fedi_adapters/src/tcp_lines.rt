@@ -9,20 +9,23 @@ use std::time::{Clock, Duration, Instant};
 /// The most seconds that one read or one write waits.
 const PATIENCE: u64 = 5;
 
-/// The most seconds in which reads come one after the other, or writes, before one more is not made.
+/// The most seconds in which reads come one after the other, or writes, before one more is not
+/// made.
 const BUDGET: u64 = 30;
 
 /// The most seconds in which what still comes is dropped at the end.
 const FAREWELL: u64 = 1;
 
-/// A TCP connection. A read or a write fails that waits longer than 5 seconds, and so does each that is made more than 30 seconds
-/// after the first of its kind since the last of the other: a request has to be there, or a reply to be taken, in that time.
-/// It tells neither what is to be read nor what was sent.
+/// A TCP connection. A read or a write fails that waits longer than 5 seconds, and so does each
+/// that is made more than 30 seconds after the first of its kind since the last of the other: a
+/// request has to be there, or a reply to be taken, in that time. It tells neither what is to be
+/// read nor what was sent.
 #[derive(Drop)]
 pub struct TcpLine<'a, R> {
     rt: &'a R,
     stream: TcpStream,
-    // Whether the last call was a write, and when the first of its kind was made since the last of the other.
+    // Whether the last call was a write, and when the first of its kind was made since the last of
+    // the other.
     writes: bool,
     since: Option<Instant>,
     read_faults: u64,
@@ -62,9 +65,10 @@ impl<'a, R: Clock> TcpLine<'a, R> {
         is_past(self.since, now, BUDGET)
     }
 
-    /// Closes the connection so that the other side gets what was written: if it still sends, that is read and dropped for some time,
-    /// since the system answers what comes to a closed connection by a reset, which may overtake the last reply (RFC 9112, section 9.6).
-    /// A connection of which a call failed is closed at once.
+    /// Closes the connection so that the other side gets what was written: if it still sends, that
+    /// is read and dropped for some time, since the system answers what comes to a closed
+    /// connection by a reset, which may overtake the last reply (RFC 9112, section 9.6). A
+    /// connection of which a call failed is closed at once.
     pub(crate) fn close(self) {
         if self.read_faults > 0 || self.write_faults > 0 {
             return;

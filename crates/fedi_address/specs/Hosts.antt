@@ -1,5 +1,6 @@
 -- Hosts of servers, and the addresses at them.
-use Rattle.std.specs.Prelude.{◌≡◌, ℕ, Bool, true, ◌&&◌, ◌||◌, ◌==◌, nat_le, List, ◌++◌, length, slice_index, codes, Some}
+use Rattle.std.specs.Prelude.{◌≡◌, ℕ, Bool, true, ◌&&◌, ◌||◌, ◌==◌, nat_le, List, ◌++◌, length}
+use Rattle.std.specs.Prelude.{slice_index, codes, Some}
 use Rattle.std.specs.List.{list_all, before_first, after_first}
 use Rattle.fedi_address.specs.Names.{is_lower, is_digit, is_name_byte}
 use Rattle.fedi_address.specs.Iris.{normal}
@@ -33,7 +34,8 @@ is_host_text text = is_domain text || is_domain_and_port text
 abbrev pub address : List ℕ → List ℕ → List ℕ
 address host path = codes "https://" ++ (host ++ path)
 
--- The text is a host: a name with or without a port, of which `https://HOST/` is its own normal text.
+-- The text is a host: a name with or without a port, of which `https://HOST/` is its own normal
+-- text.
 pub record IsHost (text : List ℕ) : Type 0 where
   pub shape : is_host_text text ≡ true
   pub own : normal (address text (codes "/")) ≡ Some (address text (codes "/"))

@@ -1,5 +1,7 @@
--- What an IRI is here: the text that the URL Standard's serializer writes (URL Standard, 4.5), of a web address.
-use Rattle.std.specs.Prelude.{◌≡◌, ℕ, ◌≤◌, Bool, true, false, ◌||◌, ◌==◌, List, length, codes, bytes_eq, Option, Some, None, option_map, if◌then◌else◌}
+-- What an IRI is here: the text that the URL Standard's serializer writes (URL Standard, 4.5), of a
+-- web address.
+use Rattle.std.specs.Prelude.{◌≡◌, ℕ, ◌≤◌, Bool, true, false, ◌||◌, ◌==◌, List, length, codes}
+use Rattle.std.specs.Prelude.{bytes_eq, Option, Some, None, option_map, if◌then◌else◌}
 use Rattle.std.specs.Result.{result_ok}
 use Rattle.std.specs.List.{before_first, after_first}
 use Rattle.fedi_address.specs.Pieces.{after_any, from_first}
@@ -7,7 +9,8 @@ use Rattle.url.specs.declared.error.ParseError.{ParseError}
 use Rattle.url.specs.declared.error.ParseError.TheVariants.{OutOfMemory, Overflow}
 use Rattle.url.specs.Parser.{parse_url}
 use Rattle.url.specs.Parts.{Parts, serialize, text_between, IsValid}
-use Rattle.url.specs.declared.slicing.Position.TheVariants.{BeforeHost, AfterPort, BeforePath, AfterQuery}
+use Rattle.url.specs.declared.slicing.Position.TheVariants.{BeforeHost, AfterPort, BeforePath}
+use Rattle.url.specs.declared.slicing.Position.TheVariants.{AfterQuery}
 
 -- the scheme is one of the web's (RFC 9110, 4.2)
 abbrev pub is_web : Parts → Bool
@@ -72,7 +75,8 @@ after_slashes text = after_first is_slash (after_first is_slash text)
 abbrev pub authority_of : List ℕ → List ℕ
 authority_of text = before_first is_slash (after_slashes text)
 
--- the host, and the port if there is one: what follows the user information and its `@` (RFC 3986, 3.2.1 to 3.2.3)
+-- the host, and the port if there is one: what follows the user information and its `@` (RFC 3986,
+-- 3.2.1 to 3.2.3)
 unfoldable pub host_of : List ℕ → List ℕ
 host_of text = after_any is_at (authority_of text)
 

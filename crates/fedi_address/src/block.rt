@@ -7,8 +7,8 @@ use arrayvec::ArrayString;
 use std::alloc::{AllocError, Global};
 use std::sync::Arc;
 
-// Where a text lies, once for all its owners. Most texts have at most 48 bytes, and these lie in the
-// block itself.
+// Where a text lies, once for all its owners. Most texts have at most 48 bytes, and these lie in
+// the block itself.
 #[derive(Drop)]
 pub(crate) enum Block {
     Short(ArrayString<48>),

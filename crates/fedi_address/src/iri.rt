@@ -1,9 +1,11 @@
 //! IRIs: the normal texts of web addresses.
 
-ghost use Rattle.std.specs.Prelude.{◌≡◌, ℕ, ◌<◌, ◌≤◌, List, ◌++◌, length, codes, bytes_eq, Some, None, IsTrue, IfOk, IfErr, MatchResult};
+ghost use Rattle.std.specs.Prelude.{◌≡◌, ℕ, ◌<◌, ◌≤◌, List, ◌++◌, length, codes, bytes_eq, Some};
+ghost use Rattle.std.specs.Prelude.{None, IsTrue, IfOk, IfErr, MatchResult};
 ghost use Rattle.std.specs.Prelude.{◌≢◌, true, false};
 ghost use Rattle.fedi_address.specs.Hosts.{address, is_plain_path};
-ghost use Rattle.fedi_address.specs.Iris.{IsIri, host_of, host_and_port, normal, path_and_query, target_of, public_iri, web_url};
+ghost use Rattle.fedi_address.specs.Iris.{IsIri, host_of, host_and_port, normal, path_and_query};
+ghost use Rattle.fedi_address.specs.Iris.{target_of, public_iri, web_url};
 ghost use Rattle.fedi_address.specs.Iris as iris;
 ghost use Rattle.std.specs.Cmp.{partial_equiv_from_equiv};
 ghost use Rattle.std.specs.Cmp.Lexicographic.{nat_list_eq_equiv};

@@ -114,9 +114,9 @@ impl Recipients {
         left
     }
 
-    /// Adds the other recipients to these, field by field: each field then has the IRIs of both, each
-    /// once, in the order of their first places (W3C ActivityPub, 6.2). Its time grows with the product
-    /// of their numbers. Out of memory nothing is changed.
+    /// Adds the other recipients to these, field by field: each field then has the IRIs of both,
+    /// each once, in the order of their first places (W3C ActivityPub, 6.2). Its time grows with
+    /// the product of their numbers. Out of memory nothing is changed.
     pub fn merge(&mut self, other: &Recipients) -> Result<(), AllocError>
         ensures ok { OnOk result (self.new ≡ recipients.union self.old other.now) }
         ensures err { OnErr result (self.new ≡ self.old) }

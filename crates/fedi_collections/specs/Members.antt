@@ -1,5 +1,6 @@
 -- The tokens of the documents of a collection and of a page (ActivityStreams 2.0 Core, section 5).
-use Rattle.std.specs.Prelude.{ℕ, zero, suc, ◌+◌, nat_le, List, [], ◌∷◌, ◌++◌, Option, Some, None, codes, decimal, if◌then◌else◌}
+use Rattle.std.specs.Prelude.{ℕ, zero, suc, ◌+◌, nat_le, List, [], ◌∷◌, ◌++◌, Option, Some, None}
+use Rattle.std.specs.Prelude.{codes, decimal, if◌then◌else◌}
 use Rattle.json.specs.Token.{Token}
 use Rattle.json.specs.Tree.{json_tokens}
 use Rattle.serde_json.specs.Data.{Data}
@@ -21,7 +22,8 @@ text_member key text = Token.key key ∷ Token.string text ∷ []
 -- the beginning of a document, with its context (ActivityStreams 2.0 Core, section 2.1)
 unfoldable pub document_start : List Token
 document_start =
-    Token.begin_object ∷ text_member (codes "@context") (codes "https://www.w3.org/ns/activitystreams")
+    Token.begin_object
+    ∷ text_member (codes "@context") (codes "https://www.w3.org/ns/activitystreams")
 
 -- the type and the end of a document
 unfoldable pub document_end : List ℕ → List Token
@@ -48,7 +50,8 @@ next_member id (suc k) = text_member (codes "next") (page_id id k)
 
 -- the page of newer items, where the highest page is this one
 unfoldable pub prev_member : List ℕ → ℕ → ℕ → List Token
-prev_member id k top = if nat_le (k + 1) top then text_member (codes "prev") (page_id id (k + 1)) else []
+prev_member id k top =
+    if nat_le (k + 1) top then text_member (codes "prev") (page_id id (k + 1)) else []
 
 -- what stands before the items of a page
 unfoldable pub page_start : List ℕ → ℕ → List Token

@@ -19,9 +19,11 @@ summary_of t c which id = summary_form (collection_id which id) (total_of t c wh
 -- the page of this number, which is not above the highest
 abbrev pub page_at : Town → Caller → Which → List ℕ → ℕ → Data
 page_at t c which id k =
-    page_form (collection_id which id) k (total_of t c which id) (map (item_form t which) (page_of k (items t c which id)))
+    page_form (collection_id which id) k (total_of t c which id)
+    (map (item_form t which) (page_of k (items t c which id)))
 
 -- the text of the page of this number, or none if it is above the highest
 abbrev pub page_text : Town → Caller → Which → List ℕ → ℕ → Option (List ℕ)
 page_text t c which id k =
-    if nat_le k (highest (total_of t c which id)) then Some (compact_text (page_at t c which id k)) else None
+    if nat_le k (highest (total_of t c which id))
+    then Some (compact_text (page_at t c which id k)) else None

@@ -2,7 +2,8 @@
 
 ghost use Rattle.std.specs.Prelude.{◌≡◌, OnOk, codes};
 ghost use Rattle.fedi_model.specs.Documents.{page_id, summary_form};
-ghost use Rattle.fedi_collections.specs.Members.{first_member, last_member, next_member, page_end, page_start, prev_member};
+ghost use Rattle.fedi_collections.specs.Members.{first_member, last_member, next_member, page_end};
+ghost use Rattle.fedi_collections.specs.Members.{page_start, prev_member};
 ghost use Rattle.fedi_objects.specs.Writing.{Adds, IsWritten};
 ghost use Rattle.fedi_town.specs.Collections.{highest};
 

@@ -1,6 +1,7 @@
 //! The items of a page. Out of memory is the only error.
 
-ghost use Rattle.std.specs.Prelude.{◌≡◌, ◌+◌, ◌≤◌, List, OnOk, Some, length, map, option_copied, reverse, slice_get};
+ghost use Rattle.std.specs.Prelude.{◌≡◌, ◌+◌, ◌≤◌, List, OnOk, Some, length, map, option_copied};
+ghost use Rattle.std.specs.Prelude.{reverse, slice_get};
 ghost use Rattle.serde_json.specs.Data.{array};
 ghost use Rattle.serde_json.specs.View.{items_of};
 ghost use Rattle.fedi_model.specs.Documents.{embedded_form, item_form};
@@ -11,8 +12,8 @@ ghost use Rattle.fedi_town.specs.declared.act.Act.{Act};
 
 use fedi_address::Iri;
 use fedi_effects::{Facts, Steps};
-use fedi_kept::Kept;
 use fedi_objects::write_activity;
+use fedi_register::Kept;
 use fedi_town::Which;
 use fedi_visible::shown_of;
 use json::Writer;

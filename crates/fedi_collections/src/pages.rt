@@ -1,6 +1,7 @@
 //! The documents of collections and of their pages. Out of memory is the only error.
 
-ghost use Rattle.std.specs.Prelude.{◌≡◌, ◌+◌, ◌*◌, ◌≤◌, IfOk, List, OnErr, OnOk, Some, drop, length, map, option_map, reverse, slice_get, take};
+ghost use Rattle.std.specs.Prelude.{◌≡◌, ◌+◌, ◌*◌, ◌≤◌, IfOk, List, OnErr, OnOk, Some, drop};
+ghost use Rattle.std.specs.Prelude.{length, map, option_map, reverse, slice_get, take};
 ghost use Rattle.serde_json.specs.Written.{compact_text};
 ghost use Rattle.fedi_model.specs.Documents.{collection_id, item_form, page_form, summary_form};
 ghost use Rattle.fedi_collections.specs.Pages.{page_text, summary_of, total_of};
@@ -19,7 +20,8 @@ use json::Writer;
 use std::alloc::{AllocError, Global};
 use std::sync::ledger::Ledger;
 
-// The room for what stands beside the items, and for an item, in bytes. It grows if it is too small.
+// The room for what stands beside the items, and for an item, in bytes. It grows if it is too
+// small.
 const FRAME: usize = 768;
 
 const EMBEDDED: usize = 640;
@@ -41,9 +43,10 @@ fn summary_text(
     Ok(out.into_inner())
 }
 
-/// The JSON of the owner's collection without its items (ActivityStreams 2.0 Core, section 5): its id, how
-/// many items the reader sees, and its newest and its oldest page, where it has items. The owner is the
-/// member or the object with this id. It reads as many activities as a page of the shelf.
+/// The JSON of the owner's collection without its items (ActivityStreams 2.0 Core, section 5): its
+/// id, how many items the reader sees, and its newest and its oldest page, where it has items. The
+/// owner is the member or the object with this id. It reads as many activities as a page of the
+/// shelf.
 pub fn summary<S: Shelf, L: Ledger>(
     alloc: Global,
     shelf: &S,
@@ -116,11 +119,11 @@ fn page_text<L: Ledger>(
     Ok(out.into_inner())
 }
 
-/// The JSON of the page of this number (ActivityStreams 2.0 Core, section 5.2): up to 20 items of those that
-/// the reader sees, the newest first, and the pages before and after it. None exactly if the page is above
-/// the highest, which has the newest item, and is 0 for an empty collection; it takes no memory then. The
-/// owner is the member or the object with this id. Beside the activities that a page of the shelf reads, each
-/// item is read once.
+/// The JSON of the page of this number (ActivityStreams 2.0 Core, section 5.2): up to 20 items of
+/// those that the reader sees, the newest first, and the pages before and after it. None exactly if
+/// the page is above the highest, which has the newest item, and is 0 for an empty collection; it
+/// takes no memory then. The owner is the member or the object with this id. Beside the activities
+/// that a page of the shelf reads, each item is read once.
 pub fn page<S: Shelf, L: Ledger>(
     alloc: Global,
     shelf: &S,

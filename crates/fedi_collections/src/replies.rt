@@ -1,7 +1,10 @@
 //! The replies to who reads a collection. Out of memory is the only error.
 
-ghost use Rattle.std.specs.Prelude.{◌≡◌, ◌<◌, ◌||◌, IfOk, IsTrue, OnErr, Some, false, not, option_copied};
-ghost use Rattle.fedi_model.specs.Reading.{collection_answer, is_malformed, items_answer, marks_rule, name_of, object_rule, owner_answer, reading_rule};
+ghost use Rattle.std.specs.Prelude.{◌≡◌, ◌<◌, ◌||◌, IfOk, IsTrue, OnErr, Some, false, not};
+ghost use Rattle.std.specs.Prelude.{option_copied};
+ghost use Rattle.fedi_model.specs.Reading.{collection_answer, is_malformed, items_answer};
+ghost use Rattle.fedi_model.specs.Reading.{marks_rule, name_of, object_rule, owner_answer};
+ghost use Rattle.fedi_model.specs.Reading.{reading_rule};
 ghost use Rattle.fedi_town.specs.Collections.{owner_of};
 ghost use Rattle.fedi_town.specs.declared.caller.Which.TheVariants.{Inbox, Likes};
 ghost use Rattle.fedi_model.specs.Memory.{finds_marked, is_refused};
@@ -10,8 +13,8 @@ ghost use Rattle.fedi_model.specs.Replies.{reply_of};
 use crate::pages::{page, summary};
 use fedi_address::{Iri, LocalName};
 use fedi_effects::{Facts, Steps};
-use fedi_kept::Kept;
 use fedi_model::{Form, PageAsk, Reply, refusal_reply};
+use fedi_register::Kept;
 use fedi_town::{Caller, Refusal, Which, object_iri};
 use fedi_visible::{Shelf, is_nobody, is_self, seen_maker};
 use http::StatusCode;
@@ -35,7 +38,8 @@ fn name_of(which: &Which) -> &LocalName
     }
 }
 
-// Why the caller may not read the member's inbox, which is the member's alone (ActivityPub, section 5.2).
+// Why the caller may not read the member's inbox, which is the member's alone (ActivityPub, section
+// 5.2).
 fn inbox_rule(caller: &Caller, name: &LocalName) -> Option<Refusal>
     ensures { result ≡ reading_rule caller.now (Inbox name.now) }
 {
@@ -102,8 +106,8 @@ fn object_owner(
 
 // ---- replies
 
-// The reply to who reads this part of the owner's collection. How often activities are read is counted
-// here, and the bounds are those of `summary` and `page`.
+// The reply to who reads this part of the owner's collection. How often activities are read is
+// counted here, and the bounds are those of `summary` and `page`.
 #[tactic(auto, unfolding(fedi_model::specs::Reading::items_answer))]
 fn items_reply<S: Shelf, L: Ledger>(
     alloc: Global,
@@ -173,10 +177,11 @@ fn is_malformed(part: &PageAsk) -> bool
     }
 }
 
-/// The reply to who reads a collection, or a page of it (ActivityPub, section 5). `NotFound` if there is no
-/// such member, or no page of that number; `BadQuery` if the page is no number; `NoKey` and `NotOwner` if
-/// an inbox is read by somebody else than its owner (section 5.2); for the Likes and Announces of an object
-/// `NotFound` if the reader does not see the object, and `Gone` if it was deleted.
+/// The reply to who reads a collection, or a page of it (ActivityPub, section 5). `NotFound` if
+/// there is no such member, or no page of that number; `BadQuery` if the page is no number; `NoKey`
+/// and `NotOwner` if an inbox is read by somebody else than its owner (section 5.2); for the Likes
+/// and Announces of an object `NotFound` if the reader does not see the object, and `Gone` if it
+/// was deleted.
 pub fn collection_reply<S: Shelf>(
     alloc: Global,
     shelf: &S,

@@ -1,6 +1,7 @@
 -- What is claimed of the deliveries that wait (ActivityPub, section 7.1), and the entry of an
 -- attempt.
-use Rattle.std.specs.Prelude.{◌≡◌, ℕ, ◌≤◌, List, Option, Some, filter, length, option_map, slice_get}
+use Rattle.std.specs.Prelude.{◌≡◌, ℕ, ◌≤◌, List, Option, Some, filter, length, option_map}
+use Rattle.std.specs.Prelude.{slice_get}
 use Rattle.std.specs.List.{find}
 use Rattle.fedi_delivery.specs.declared.sending.Outgoing.{Outgoing}
 use Rattle.fedi_delivery.specs.Deliveries.{IsOutgoing, post_to}

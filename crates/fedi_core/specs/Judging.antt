@@ -18,9 +18,11 @@ IsJudged j repeat (Refused r) = (a : Answer) × (j ≡ Stop a) × (r ≡ reply_o
 IsJudged j repeat (Repeated id) = j ≡ Repeat (option_copied id)
 IsJudged j repeat (Kept a key) = (j ≡ Keep a) × (key ≡ repeat)
 
--- what comes of the steps before the body of the post at this name, if they are passed with this behind them
+-- what comes of the steps before the body of the post at this name, if they are passed with this
+-- behind them
 abbrev pub steps_before : Caller → List ℕ → Post → Judgement → Judgement
-steps_before c name post j = by_steps (is_bad_key post.key) (is_nobody c) (is_self c name) post.is_typed j
+steps_before c name post j =
+    by_steps (is_bad_key post.key) (is_nobody c) (is_self c name) post.is_typed j
 
 -- the post is its author's, and passes these steps
 pub record IsAdmitted (c : Caller) (name : List ℕ) (post : Post) : Type 0 where

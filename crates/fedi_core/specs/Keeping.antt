@@ -1,5 +1,6 @@
 -- What becomes of an entry that is to be kept: of the history, and of the keeper of its records.
-use Rattle.std.specs.Prelude.{◌≡◌, ◌⊎◌, ℕ, Bool, false, true, List, [], ◌∷◌, ◌++◌, length, IsTrue, Option, None, Some}
+use Rattle.std.specs.Prelude.{◌≡◌, ◌⊎◌, ℕ, Bool, false, true, List, [], ◌∷◌, ◌++◌, length, IsTrue}
+use Rattle.std.specs.Prelude.{Option, None, Some}
 use Rattle.std.specs.List.{list_any}
 use Rattle.fedi_model.specs.Reading.{is_self}
 use Rattle.fedi_entry.specs.Codes.{code_of}
@@ -44,45 +45,58 @@ pub record HasFailedOnce (code : List ℕ) (before after : KeeperState) : Type 0
 
 -- why a record with this code was not kept, and what then became of the keeper
 abbrev pub Refuses : (ℕ → ℕ) → List ℕ → KeepFault → KeeperState → KeeperState → Type 0
-Refuses room code Full before after = IsFull room before.end (length code) × OnlyRoomChanged before after
-Refuses room code Failed before after = HasRoom room before.end (length code) × HasFailedOnce code before after
+Refuses room code Full before after =
+    IsFull room before.end (length code) × OnlyRoomChanged before after
+Refuses room code Failed before after =
+    HasRoom room before.end (length code) × HasFailedOnce code before after
 Refuses room code Memory before after = OnlyRoomChanged before after
 
 -- ---- entries
 
 -- the entry was kept: it is the last of the history, and its code the last of the records
-pub record IsKept (growth room : ℕ → ℕ) (h : List Entry) (e : Entry) (before after : KeeperState) (h' : List Entry) : Type 0 where
+pub record IsKept (growth room : ℕ → ℕ) (h : List Entry) (e : Entry) (before after : KeeperState)
+    (h' : List Entry) : Type 0 where
   pub history : h' ≡ h ++ e ∷ []
   pub fits : HasRoom room before.end (length (code_of e))
   pub keeper : HasAdded growth (code_of e) before after
 
--- A post that came to the history and changes nothing earlier (a Create, a Follow, a Like, an Announce, or a type without side
--- effects) changed nothing for a caller who does not see it.
+-- A post that came to the history and changes nothing earlier (a Create, a Follow, a Like, an
+-- Announce, or a type without side effects) changed nothing for a caller who does not see it.
 abbrev pub HidesPosts : List Entry → List Entry → Type 0
 HidesPosts h h' =
-    (host name : List ℕ) (repeat : Option (List ℕ × List ℕ)) (a : Activity) (moment : ℕ) (c : Caller)
-    → (town h).host ≡ Some host → h' ≡ h ++ Local name repeat a moment ∷ [] → changes_nothing (deed_of a.kind) ≡ true
-    → sees (town h) c (local_act (town h) host name repeat a moment) ≡ false → Agree (town h') (town h) c
+    (host name : List ℕ) (repeat : Option (List ℕ × List ℕ)) (a : Activity) (moment : ℕ)
+    (c : Caller)
+    → (town h).host ≡ Some host → h' ≡ h ++ Local name repeat a moment ∷ []
+    → changes_nothing (deed_of a.kind) ≡ true
+    → sees (town h) c (local_act (town h) host name repeat a moment) ≡ false
+    → Agree (town h') (town h) c
 
--- A delivery of a new id that came to the history, changes nothing earlier and is no Follow changed nothing for a caller who does
--- not see it.
+-- A delivery of a new id that came to the history, changes nothing earlier and is no Follow changed
+-- nothing for a caller who does not see it.
 abbrev pub HidesDeliveries : List Entry → List Entry → Type 0
 HidesDeliveries h h' =
     (peer inbox owner author id : List ℕ) (a : Activity) (moment : ℕ) (c : Caller)
-    → h' ≡ h ++ Remote peer inbox a moment ∷ [] → id_of (town h) inbox ≡ Some owner → a.actor ≡ Some author → a.id ≡ Some id
-    → is_known (town h) id ≡ false → changes_nothing (deed_of a.kind) ≡ true → is_follow (deed_of a.kind) ≡ false
-    → sees (town h) c (remote_act (town h) owner author a moment) ≡ false → Agree (town h') (town h) c
+    → h' ≡ h ++ Remote peer inbox a moment ∷ [] → id_of (town h) inbox ≡ Some owner
+    → a.actor ≡ Some author → a.id ≡ Some id
+    → is_known (town h) id ≡ false → changes_nothing (deed_of a.kind) ≡ true
+    → is_follow (deed_of a.kind) ≡ false
+    → sees (town h) c (remote_act (town h) owner author a moment) ≡ false
+    → Agree (town h') (town h) c
 
--- A delivery of a known id, which only adds an inbox, changed nothing for a caller but that inbox's owner.
+-- A delivery of a known id, which only adds an inbox, changed nothing for a caller but that inbox's
+-- owner.
 abbrev pub TellsOwners : List Entry → List Entry → Type 0
 TellsOwners h h' =
     (host peer inbox author id : List ℕ) (a : Activity) (moment : ℕ) (c : Caller)
-    → h' ≡ h ++ Remote peer inbox a moment ∷ [] → (town h).host ≡ Some host → list_any (has_name inbox) (town h).actors ≡ true
-    → a.actor ≡ Some author → a.id ≡ Some id → is_known (town h) id ≡ true → is_caller (town h) c ≡ true → is_self c inbox ≡ false
+    → h' ≡ h ++ Remote peer inbox a moment ∷ [] → (town h).host ≡ Some host
+    → list_any (has_name inbox) (town h).actors ≡ true
+    → a.actor ≡ Some author → a.id ≡ Some id → is_known (town h) id ≡ true
+    → is_caller (town h) c ≡ true → is_self c inbox ≡ false
     → Agree (town h') (town h) c
 
 -- A peer that was added changed nothing for a caller but that peer.
 abbrev pub TellsPeers : List Entry → List Entry → Type 0
 TellsPeers h h' =
-    (host key address : List ℕ) (relay : Bool) (moment : ℕ) (c : Caller) → h' ≡ h ++ PeerSet host key address relay moment ∷ []
+    (host key address : List ℕ) (relay : Bool) (moment : ℕ) (c : Caller)
+    → h' ≡ h ++ PeerSet host key address relay moment ∷ []
     → is_peer_of host c ≡ false → Agree (town h') (town h) c

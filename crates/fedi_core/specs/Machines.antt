@@ -13,7 +13,8 @@ use Rattle.fedi_town.specs.Histories.{town}
 use Rattle.fedi_town.specs.Legal.{IsLegal}
 use Rattle.fedi_effects.specs.Holdings.{Holding}
 
--- the history of all that was accepted, the keeper of its records, and its deliveries that wait, of which some are claimed
+-- the history of all that was accepted, the keeper of its records, and its deliveries that wait, of
+-- which some are claimed
 pub record Machine (P : Type 0) : Type 0 where
   pub history : List Entry
   pub keeper : P
@@ -23,14 +24,15 @@ pub record Machine (P : Type 0) : Type 0 where
 abbrev pub IsNextCode : List Entry → List ℕ → Type 0
 IsNextCode history code = (e : Entry) × IsNext (town history) e × (code ≡ code_of e)
 
--- the keeper has a record for each entry, and if it tells them, they are the codes of the entries in order; and what is in doubt
--- behind them may come next
+-- the keeper has a record for each entry, and if it tells them, they are the codes of the entries
+-- in order; and what is in doubt behind them may come next
 pub record IsKeeping (k : KeeperState) (history : List Entry) : Type 0 where
   pub held : k.held ≡ length history
   pub spelled : IfSome k.records (λ records. map code_of history ≡ records)
   pub doubted : IfSome k.doubt (IsNextCode history)
 
--- the facts are those of a history that is legal, whose entries' fields have their forms, and kept by the keeper
+-- the facts are those of a history that is legal, whose entries' fields have their forms, and kept
+-- by the keeper
 pub record Stands (facts : Holding) (k : KeeperState) : Type 0 where
   pub made : facts.town ≡ town facts.history
   pub legal : IsLegal facts.history
@@ -52,7 +54,8 @@ pub record IsSame (before after : Holding) : Type 0 where
   pub held : after.history ≡ before.history
   pub made : after.town ≡ before.town
 
--- the rows after the entry have the claims of those before it, but for the delivery that the entry has tried
+-- the rows after the entry have the claims of those before it, but for the delivery that the entry
+-- has tried
 abbrev pub KeepsClaims : List Act → Entry → List QueueRow → List QueueRow → Type 0
 KeepsClaims acts e before after = filter is_claimed after ≡ filter (stays_claimed acts e) before
 

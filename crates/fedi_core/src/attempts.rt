@@ -8,9 +8,9 @@ ghost use Rattle.fedi_queue.specs.Rows.{id_at, rows_of};
 
 use fedi_address::Iri;
 use fedi_effects::{Facts, Steps};
-use fedi_kept::Kept;
 use fedi_objects::{Came, Entry};
 use fedi_queue::{Claim, Queue};
+use fedi_register::Kept;
 use fedi_text::Moment;
 use std::alloc::AllocError;
 use std::marker::Brand;

@@ -1,8 +1,10 @@
 //! What the machine decides on one ask.
 
-ghost use Rattle.std.specs.Prelude.{◌≡◌, ◌<◌, ◌+◌, IfOk, IsTrue, OnErr, false, option_copied, option_map};
+ghost use Rattle.std.specs.Prelude.{◌≡◌, ◌<◌, ◌+◌, IfOk, IsTrue, OnErr, false, option_copied};
+ghost use Rattle.std.specs.Prelude.{option_map};
 ghost use Rattle.fedi_model.specs.Asks.{entry_of};
-ghost use Rattle.fedi_model.specs.Posting.{delivery_answer, delivery_of, entry_at, inbox_entry_at, post_answer};
+ghost use Rattle.fedi_model.specs.Posting.{delivery_answer, delivery_of, entry_at, inbox_entry_at};
+ghost use Rattle.fedi_model.specs.Posting.{post_answer};
 ghost use Rattle.fedi_model.specs.Memory.{is_refused, keeps_delivery, takes_memory};
 ghost use Rattle.fedi_model.specs.Replies.{reply, reply_of};
 ghost use Rattle.fedi_town.specs.Ids.{activity_id};
@@ -120,8 +122,8 @@ fn delivery_of(
     }
 }
 
-// What is decided on a post to the inbox of the member of this name. Only the entry of one that is kept
-// takes memory.
+// What is decided on a post to the inbox of the member of this name. Only the entry of one that is
+// kept takes memory.
 fn decide_delivery(
     facts: &Facts,
     caller: &Caller,
@@ -162,8 +164,8 @@ fn decide_delivery(
     }
 }
 
-/// Decides on an ask by the history on a shelf. The only error is out of memory, and what is refused takes
-/// none, but where an id is made to find a thing.
+/// Decides on an ask by the history on a shelf. The only error is out of memory, and what is
+/// refused takes none, but where an id is made to find a thing.
 pub fn decide<S: Shelf>(
     alloc: Global,
     shelf: &S,

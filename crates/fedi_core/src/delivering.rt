@@ -1,15 +1,19 @@
 //! Deliveries that wait, and attempts of them.
 
-ghost use Rattle.std.specs.Prelude.{◌≡◌, ◌+◌, ◌≤◌, IfErr, IfOk, IfSome, OnErr, OnOk, map, option_map};
+ghost use Rattle.std.specs.Prelude.{◌≡◌, ◌+◌, ◌≤◌, IfErr, IfOk, IfSome, OnErr, OnOk, map};
+ghost use Rattle.std.specs.Prelude.{option_map};
 ghost use Rattle.std.specs.List.{find};
 ghost use Rattle.fedi_core.specs.Crashing.{PassesTimeUnkept, PassesTimeWith};
-ghost use Rattle.fedi_core.specs.Delivering.{IsClaimOf, IsPostFor, IsSentFor, attempt_of, claimed_id, claimed_recipient, claimed_row, claims_in, keep_fault};
+ghost use Rattle.fedi_core.specs.Delivering.{IsClaimOf, IsPostFor, IsSentFor, attempt_of};
+ghost use Rattle.fedi_core.specs.Delivering.{claimed_id, claimed_recipient, claimed_row, claims_in};
+ghost use Rattle.fedi_core.specs.Delivering.{keep_fault};
 ghost use Rattle.fedi_core.specs.Keeping.{IsKept, Refuses};
 ghost use Rattle.fedi_core.specs.Machines.{KeepsClaims};
 ghost use Rattle.fedi_entry.specs.Codes.{code_of};
 ghost use Rattle.fedi_entry.specs.Fields.{MayCome};
 ghost use Rattle.fedi_opening.specs.Opening.{IsNext};
-ghost use Rattle.fedi_queue.specs.Claims.{change_first, claim, claim_of, is_claimed_at, is_free_at, release};
+ghost use Rattle.fedi_queue.specs.Claims.{change_first, claim, claim_of, is_claimed_at, is_free_at};
+ghost use Rattle.fedi_queue.specs.Claims.{release};
 ghost use Rattle.fedi_queue.specs.Queues.{IsHeld};
 ghost use Rattle.fedi_queue.specs.Rows.{rows_of};
 ghost use Rattle.fedi_town.specs.Histories.{town};

@@ -50,11 +50,12 @@ pub struct KeepError {
     pub entry: Entry,
 }
 
-// Keeps one more record. Room is made first, so that nothing takes memory once the doubt is settled.
+// Keeps one more record. Room is made first, so that nothing takes memory once the doubt is
+// settled.
 //
-// The errors are `Full`, if the keeper has no room for the record; `Failed`, if the keeper failed, which it
-// counts once, and then the record may be in doubt; and `Memory`, out of memory. After an error the records
-// are as before.
+// The errors are `Full`, if the keeper has no room for the record; `Failed`, if the keeper failed,
+// which it counts once, and then the record may be in doubt; and `Memory`, out of memory. After an
+// error the records are as before.
 fn store<P: Keeper>(keeper: &mut P, code: &[u8]) -> Result<(), KeepFault>
     ensures fits { OnOk result (HasRoom P.room (P.shown keeper.old).end (length code.now)) }
     ensures added { OnOk result

@@ -1,4 +1,5 @@
-//! The machine over one history: who a caller is, what becomes of a post or a delivery, and what is kept.
+//! The machine over one history: who a caller is, what becomes of a post or a delivery, and what is
+//! kept.
 #![tactic(auto)]
 
 mod attempts;

@@ -1,6 +1,7 @@
 //! The machine over one history and the keeper of its records.
 
-ghost use Rattle.std.specs.Prelude.{◌≡◌, ◌↔◌, List, IfOk, IfErr, IfSome, IsErrOf, IsTrue, None, OnOk, OnErr, length, map, option_copied};
+ghost use Rattle.std.specs.Prelude.{◌≡◌, ◌↔◌, List, IfOk, IfErr, IfSome, IsErrOf, IsTrue, None};
+ghost use Rattle.std.specs.Prelude.{OnOk, OnErr, length, map, option_copied};
 ghost use Rattle.std.specs.List.{AllByRecursion, find};
 ghost use Rattle.sha2.specs.Sha256.{sha256};
 ghost use Rattle.fedi_entry.specs.Codes.{code_of};
@@ -16,7 +17,8 @@ ghost use Rattle.fedi_model.specs.Replies.{IsPrivate, reply};
 ghost use Rattle.fedi_model.specs.Routes.{IsPostableAt};
 ghost use Rattle.fedi_core.specs.Commands.{IsCommand, RefusesCommand};
 ghost use Rattle.fedi_core.specs.Crashing.{PassesTimeRefused, PassesTimeUnkept, PassesTimeWith};
-ghost use Rattle.fedi_core.specs.Keeping.{HidesDeliveries, HidesPosts, IsKept, MayAdd, Refuses, TellsOwners, TellsPeers};
+ghost use Rattle.fedi_core.specs.Keeping.{HidesDeliveries, HidesPosts, IsKept, MayAdd, Refuses};
+ghost use Rattle.fedi_core.specs.Keeping.{TellsOwners, TellsPeers};
 ghost use Rattle.fedi_core.specs.Opening.{keeper_after, outcome_of};
 ghost use Rattle.fedi_objects.specs.declared.entry.Entry.{Entry};
 ghost use Rattle.fedi_core.specs.Machines.{IsNextCode, KeepsClaims};
@@ -68,7 +70,8 @@ impl<S: Shelf, P: Keeper> Model for Core<S, P> {
 }
 
 fn member_with(facts: &Facts, key: &[u8; 32]) -> Result<Caller, Refusal>
-    ensures { result ≡ member_or_refused (find (has_digest (sha256 key.now)) facts.now.town.actors) }
+    ensures { result ≡ member_or_refused
+        (find (has_digest (sha256 key.now)) facts.now.town.actors) }
 {
     match facts.actor_with(&digest(key.as_slice())) {
         Some(actor) => Ok(Caller::Actor(actor.name.copy())),
@@ -172,11 +175,11 @@ impl<S: Shelf + Drop, P: Keeper> Core<S, P> {
         self.shelf.facts().host()
     }
 
-    /// Who makes a request with these credentials (RFC 6750, section 2.1): nobody without any, the member
-    /// whose key they show, or the peer that signed the request by the key that it shares with this server
-    /// (RFC 2104). It is `WrongKey` if a key is shown that is no member's, and `WrongMac` if one of the
-    /// fields of a peer is there and no peer of that host signed the request. The error is out of memory, which
-    /// comes only where the caller is a peer.
+    /// Who makes a request with these credentials (RFC 6750, section 2.1): nobody without any, the
+    /// member whose key they show, or the peer that signed the request by the key that it shares
+    /// with this server (RFC 2104). It is `WrongKey` if a key is shown that is no member's, and
+    /// `WrongMac` if one of the fields of a peer is there and no peer of that host signed the
+    /// request. The error is out of memory, which comes only where the caller is a peer.
     pub fn caller_of(
         &self,
         credentials: &Credentials,
@@ -189,10 +192,11 @@ impl<S: Shelf + Drop, P: Keeper> Core<S, P> {
         caller_of(self.shelf.facts(), credentials)
     }
 
-    /// Decides on an ask at a moment (ActivityPub, sections 3.2, 4.1, 6 and 7; RFC 7033, section 4.2): the
-    /// reply, and for a post or a delivery that is accepted and new the entry that `keep` has to keep before
-    /// the reply is sent. It changes nothing. The error is out of memory, which comes only where the answer
-    /// takes memory: what is refused takes none, but where an id is made to find a thing.
+    /// Decides on an ask at a moment (ActivityPub, sections 3.2, 4.1, 6 and 7; RFC 7033, section
+    /// 4.2): the reply, and for a post or a delivery that is accepted and new the entry that `keep`
+    /// has to keep before the reply is sent. It changes nothing. The error is out of memory, which
+    /// comes only where the answer takes memory: what is refused takes none, but where an id is
+    /// made to find a thing.
     pub fn decide(
         &self,
         alloc: Global,
@@ -205,7 +209,8 @@ impl<S: Shelf + Drop, P: Keeper> Core<S, P> {
         ensures entry { IfOk result (λ d.
             d.entry ≡ entry_of (town self.now.history) caller.now ask moment) }
         ensures may_add { IfOk result (λ d. IfSome d.entry (MayAdd (town self.now.history))) }
-        // Each legal history that agrees with this one on what the caller may know gives the same reply.
+        // Each legal history that agrees with this one on what the caller may know gives the same
+        // reply.
         ensures private { IfOk result (λ d. IsPrivate self.now.history caller.now ask d.reply) }
         ensures memory { OnErr result
             (IsTrue (takes_memory (town self.now.history) caller.now ask)) }
@@ -236,7 +241,8 @@ impl<S: Shelf + Drop, P: Keeper> Core<S, P> {
         ensures rows { OnErr result (self.new.rows ≡ self.old.rows) }
         ensures queue { map release self.new.rows ≡ rows_of (town self.new.history) }
         ensures legal { IsLegal self.new.history }
-        // A crash on the way leaves the keeper's records, with the one in doubt, or with the entry's.
+        // A crash on the way leaves the keeper's records, with the one in doubt, or with the
+        // entry's.
         ensures time { let k = P.shown self.old.keeper in OnOk result
             (PassesTimeWith k.records k.doubt (code_of entry)
             (P.crashes self.old.keeper) (P.crashes self.new.keeper)) }
@@ -306,8 +312,8 @@ impl<S: Shelf + Drop, P: Keeper> Core<S, P> {
         }
     }
 
-    /// Removes what a failed `keep` may have left, so that nothing is in doubt. It takes no memory. After an
-    /// error, which the keeper counts, all is as before.
+    /// Removes what a failed `keep` may have left, so that nothing is in doubt. It takes no memory.
+    /// After an error, which the keeper counts, all is as before.
     pub fn settle(&mut self) -> Result<(), Failed>
         ensures history { self.new.history ≡ self.old.history }
         ensures rows { self.new.rows ≡ self.old.rows }

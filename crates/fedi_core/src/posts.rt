@@ -1,7 +1,8 @@
 //! What becomes of a post, before it is kept.
 
 ghost use Rattle.std.specs.Prelude.{◌≡◌, ℕ, List, Option, Some, MatchResult};
-ghost use Rattle.fedi_model.specs.Posting.{is_bad_key, Judgement, judge_post, repeat_by, repeat_under, unless_repeat};
+ghost use Rattle.fedi_model.specs.Posting.{is_bad_key, Judgement, judge_post, repeat_by};
+ghost use Rattle.fedi_model.specs.Posting.{repeat_under, unless_repeat};
 ghost use Rattle.fedi_core.specs.Judging.{IsAdmitted, IsJudged, IsTurnedAway};
 ghost use Rattle.fedi_town.specs.Agreement.{repeats_of};
 ghost use Rattle.fedi_town.specs.Towns.{id_of};
@@ -34,8 +35,8 @@ fn is_bad_key(key: &KeyAsk) -> bool
     }
 }
 
-// Whether the body of the post at this name is looked at: not if its key is none, if nobody is known to
-// post or somebody else, or if it has another media type. The first reason counts.
+// Whether the body of the post at this name is looked at: not if its key is none, if nobody is
+// known to post or somebody else, or if it has another media type. The first reason counts.
 #[tactic(auto, using(crate::proofs::Judging::is_own))]
 fn admit(caller: &Caller, name: &LocalName, post: &Post) -> Result<(), Refusal>
     ensures { MatchResult result
@@ -92,10 +93,10 @@ fn repeat_by(digest: [u8; 32], key: KeyAsk) -> Option<(RepeatKey, [u8; 32])>
     }
 }
 
-/// What becomes of the post at the name of the member who is the author with this id. It is refused for
-/// a key that is none, if nobody is known to post or somebody else, for another media type, for what is
-/// no JSON or has not the shape of a post, for a key that was used for another body, for a rule that it
-/// breaks, or since the author has the most activities. The first reason counts.
+/// What becomes of the post at the name of the member who is the author with this id. It is refused
+/// for a key that is none, if nobody is known to post or somebody else, for another media type, for
+/// what is no JSON or has not the shape of a post, for a key that was used for another body, for a
+/// rule that it breaks, or since the author has the most activities. The first reason counts.
 pub fn judge<'a>(
     facts: &'a Facts,
     caller: &Caller,

@@ -1,5 +1,5 @@
-//! The replies to who asks who a member is, and to a method that a path does not have. Out of memory is
-//! the only error.
+//! The replies to who asks who a member is, and to a method that a path does not have. Out of
+//! memory is the only error.
 
 ghost use Rattle.std.specs.Prelude.{◌≡◌, IfOk, OnErr, false, option_copied};
 ghost use Rattle.fedi_model.specs.Documents.{actor_form, jrd_form};
@@ -19,8 +19,8 @@ use fedi_visible::document_reply;
 use http::StatusCode;
 use std::alloc::{AllocError, Global};
 
-/// The reply to a method that a path does not have, which names those that it has (RFC 9110, sections
-/// 10.2.1 and 15.5.6). It takes no memory.
+/// The reply to a method that a path does not have, which names those that it has (RFC 9110,
+/// sections 10.2.1 and 15.5.6). It takes no memory.
 pub fn wrong_method_reply(allow: Allow) -> Reply
     ensures { result ≡ disallowed allow }
 {
@@ -66,7 +66,8 @@ pub fn actor_reply(alloc: Global, facts: &Facts, name: &LocalName) -> Result<Rep
     actor_document(alloc, name, host)
 }
 
-// The reply that describes the member of this name by these relations (RFC 7033, sections 4.2 to 4.4).
+// The reply that describes the member of this name by these relations (RFC 7033, sections 4.2 to
+// 4.4).
 fn profile_reply(
     alloc: Global,
     facts: &Facts,
@@ -87,8 +88,8 @@ fn profile_reply(
     profile_document(alloc, name, host, rels)
 }
 
-/// The reply to a query of WebFinger (RFC 7033, section 4.2): who the member is whom it names, 404 if it
-/// names none, and 400 if it is malformed.
+/// The reply to a query of WebFinger (RFC 7033, section 4.2): who the member is whom it names, 404
+/// if it names none, and 400 if it is malformed.
 pub fn webfinger_reply(
     alloc: Global,
     facts: &Facts,

@@ -6,8 +6,8 @@ ghost use Rattle.fedi_delivery.specs.Deliveries.{IsOutgoing, body_of, peer_for, 
 use fedi_address::{Host, Iri};
 use fedi_delivery::{Outgoing, lookup_bytes, post_bytes};
 use fedi_effects::Facts;
-use fedi_kept::Kept;
 use fedi_objects::{new_document, text_of, write_activity};
+use fedi_register::Kept;
 use fedi_town::Peer;
 use fedi_visible::shown_of;
 use std::alloc::{AllocError, Global};

@@ -24,7 +24,8 @@ sender_lines own code =
 unfoldable pub lookup_lines : (target host : List ℕ) → List ℕ
 lookup_lines target host =
     codes "GET " ++ (target ++ (codes " HTTP/1.1\r\nHost: " ++ (host
-    ++ codes "\r\nAccept: application/ld+json; profile=\"https://www.w3.org/ns/activitystreams\"\r\n")))
+    ++ codes
+    "\r\nAccept: application/ld+json; profile=\"https://www.w3.org/ns/activitystreams\"\r\n")))
 
 -- the lookup of what is at this target of this host, by the server `own`
 unfoldable pub lookup_request : (own key target host : List ℕ) → List ℕ

@@ -4,7 +4,9 @@ ghost use Rattle.std.specs.Prelude.{◌≡◌, ◌≤◌, length, drop, IfOk, If
 ghost use Rattle.serde_json.specs.View.{view};
 ghost use Rattle.fedi_objects.specs.declared.entry.Sent.TheVariants.{Post};
 ghost use Rattle.fedi_objects.specs.declared.entry.What.TheVariants.{Failed};
-ghost use Rattle.fedi_delivery.specs.Replies.{HasHead, HasNoHead, IsCameOfPost, IsLookedUp, IsShownBy, NamesInbox, NamesNone, ended_by, inbox_in, inbox_of};
+ghost use Rattle.fedi_delivery.specs.Replies.{HasHead, HasNoHead, IsCameOfPost, IsLookedUp};
+ghost use Rattle.fedi_delivery.specs.Replies.{IsShownBy, NamesInbox, NamesNone, ended_by, inbox_in};
+ghost use Rattle.fedi_delivery.specs.Replies.{inbox_of};
 
 use fedi_address::Iri;
 use fedi_objects::{Came, Sent, What};

@@ -2,7 +2,9 @@
 
 ghost use Rattle.std.specs.Prelude.{◌≡◌, ◌++◌, IfOk, OnOk};
 ghost use Rattle.std.specs.List.{flat_map};
-ghost use Rattle.fedi_delivery.specs.Sending.{code_text, content_text, lookup_lines, lookup_request, lookup_text, post_text, post_lines, post_request, sender_lines};
+ghost use Rattle.fedi_delivery.specs.Sending.{code_text, content_text, lookup_lines};
+ghost use Rattle.fedi_delivery.specs.Sending.{lookup_request, lookup_text, post_text, post_lines};
+ghost use Rattle.fedi_delivery.specs.Sending.{post_request, sender_lines};
 
 use fedi_address::{Host, Iri};
 use fedi_mac::{hex_text, sign};
@@ -118,7 +120,8 @@ fn push_lookup_lines(text: &mut Vec<u8>, target: &str, host: &str) -> Result<(),
             target.as_bytes(),
             b" HTTP/1.1\r\nHost: ",
             host.as_bytes(),
-            b"\r\nAccept: application/ld+json; profile=\"https://www.w3.org/ns/activitystreams\"\r\n",
+            b"\r\n\
+              Accept: application/ld+json; profile=\"https://www.w3.org/ns/activitystreams\"\r\n",
         ],
     )
 }
@@ -153,7 +156,9 @@ fn push_post_lines(text: &mut Vec<u8>, target: &str, host: &str) -> Result<(), A
             target.as_bytes(),
             b" HTTP/1.1\r\nHost: ",
             host.as_bytes(),
-            b"\r\nContent-Type: application/ld+json; profile=\"https://www.w3.org/ns/activitystreams\"\r\n",
+            b"\r\n\
+              Content-Type: application/ld+json; \
+              profile=\"https://www.w3.org/ns/activitystreams\"\r\n",
         ],
     )
 }

@@ -9,7 +9,7 @@ use Rattle.std.proofs.lemmas.List.Sums.{fold-append}
 use Rattle.std.proofs.lemmas.Slice.Eq.{bytes_eq-Decides}
 use Rattle.fedi_address.specs.Recipients.{add_new, distinct}
 use Rattle.fedi_objects.specs.declared.activity.ObjectRef.{ObjectRef}
-use Rattle.fedi_kept.specs.Mentions.{reply_in, tags_in}
+use Rattle.fedi_register.specs.Mentions.{reply_in, tags_in}
 use Rattle.fedi_objects.specs.declared.object.Object.{Object}
 use Rattle.fedi_objects.specs.declared.object.Tag.{Tag}
 use Rattle.fedi_town.proofs.Kept.{ref_id-received}

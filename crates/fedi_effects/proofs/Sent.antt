@@ -4,11 +4,11 @@ use denote.Param.Send.{IsSend, view_send, sendable}
 use denote.Param.SendFields.{declared_send, variants_send}
 use Rattle.std.proofs.Crossing.{crosses}
 use Rattle.fedi_address.specs.contracts.host.Host as Host
-use Rattle.fedi_kept.proofs.Sent.{iri_send, iris_send, kept_send}
-use Rattle.fedi_kept.proofs.extras.Spare.TheSendSync.{the_send as spare_send}
-use Rattle.fedi_kept.proofs.pool.Pool.TheSendSync.{the_send as pool_send}
-use Rattle.fedi_kept.proofs.trace.Trace.TheLaws.TheKnot.{crosses as traces_cross}
-use Rattle.fedi_kept.specs.contracts.trace.Trace as Trace
+use Rattle.fedi_register.proofs.KeptSent.{iri_send, iris_send, kept_send}
+use Rattle.fedi_register.proofs.extras.Spare.TheSendSync.{the_send as spare_send}
+use Rattle.fedi_register.proofs.pool.Pool.TheSendSync.{the_send as pool_send}
+use Rattle.fedi_register.proofs.trace.Trace.TheLaws.TheKnot.{crosses as traces_cross}
+use Rattle.fedi_register.specs.contracts.trace.Trace as Trace
 use Rattle.fedi_objects.proofs.entry.Entry.TheSendSync.{the_send as entry_send}
 use Rattle.fedi_register.proofs.Sent.{register_send}
 use Rattle.fedi_town.proofs.effect.Effect.TheSendSync.{the_send as effect_send}

@@ -17,7 +17,8 @@ addition_in ready.Nothing = additions.Nothing
 addition_in (ready.Host host) = additions.Host host
 addition_in (ready.Member member) = additions.Member member
 addition_in (ready.Peer peer) = additions.Peer peer
-addition_in (ready.Activity act effect spare answer) = additions.Activity (record { act = act; effect = effect; answer = answer })
+addition_in (ready.Activity act effect spare answer) =
+    additions.Activity (record { act = act; effect = effect; answer = answer })
 addition_in (ready.Inbox activity owner recipients) = additions.Inbox activity owner
 addition_in (ready.Attempt attempt) = additions.Attempt attempt
 
@@ -48,17 +49,20 @@ CanAdd acts (additions.Host host) = ⊤
 CanAdd acts (additions.Member member) = ⊤
 CanAdd acts (additions.Peer peer) = ⊤
 CanAdd acts (additions.Activity a) = ⊤
-CanAdd acts (additions.Inbox id owner) = IsTrue (list_any (has_activity_id id) acts) × PassesOnce (has_activity_id id) acts
+CanAdd acts (additions.Inbox id owner) =
+    IsTrue (list_any (has_activity_id id) acts) × PassesOnce (has_activity_id id) acts
 CanAdd acts (additions.Attempt attempt) = ⊤
 
--- the activity that goes to one more inbox is there once, and those to whom it goes then were made ready
+-- the activity that goes to one more inbox is there once, and those to whom it goes then were made
+-- ready
 abbrev pub FitsActs : List Act → Ready → Type 0
 FitsActs acts ready.Nothing = ⊤
 FitsActs acts (ready.Host host) = ⊤
 FitsActs acts (ready.Member member) = ⊤
 FitsActs acts (ready.Peer peer) = ⊤
 FitsActs acts (ready.Activity act effect spare answer) = ⊤
-FitsActs acts (ready.Inbox id owner recipients) = PassesOnce (has_activity_id id) acts × (longer_of id owner acts ≡ Some recipients)
+FitsActs acts (ready.Inbox id owner recipients) =
+    PassesOnce (has_activity_id id) acts × (longer_of id owner acts ≡ Some recipients)
 FitsActs acts (ready.Attempt attempt) = ⊤
 
 -- the answer's author is known
@@ -72,7 +76,8 @@ HasAuthors known ready.Nothing = ⊤
 HasAuthors known (ready.Host host) = ⊤
 HasAuthors known (ready.Member member) = ⊤
 HasAuthors known (ready.Peer peer) = ⊤
-HasAuthors known (ready.Activity act effect spare answer) = IsTrue (is_among act.author known) × HasAnswerer known answer
+HasAuthors known (ready.Activity act effect spare answer) =
+    IsTrue (is_among act.author known) × HasAnswerer known answer
 HasAuthors known (ready.Inbox id owner recipients) = ⊤
 HasAuthors known (ready.Attempt attempt) = ⊤
 
@@ -87,6 +92,7 @@ with_authors known ready.Nothing = known
 with_authors known (ready.Host host) = known
 with_authors known (ready.Member member) = known
 with_authors known (ready.Peer peer) = known
-with_authors known (ready.Activity act effect spare answer) = with_answerer (add_new known act.author) answer
+with_authors known (ready.Activity act effect spare answer) =
+    with_answerer (add_new known act.author) answer
 with_authors known (ready.Inbox id owner recipients) = known
 with_authors known (ready.Attempt attempt) = known

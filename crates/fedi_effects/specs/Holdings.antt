@@ -1,5 +1,6 @@
 -- The facts, as their callers see them.
-use Rattle.std.specs.Prelude.{◌≡◌, ℕ, ◌+◌, ◌≤◌, ⊤, List, [], Option, Some, None, vec_len, vec_capacity}
+use Rattle.std.specs.Prelude.{◌≡◌, ℕ, ◌+◌, ◌≤◌, ⊤, List, [], Option, Some, None, vec_len}
+use Rattle.std.specs.Prelude.{vec_capacity}
 use Rattle.fedi_objects.specs.declared.entry.Entry.{Entry}
 use Rattle.fedi_town.specs.declared.act.Act.{Act}
 use Rattle.fedi_town.specs.Histories.{addition_of, town}
@@ -23,7 +24,8 @@ coming t (Some e) = acts_in (addition_of t e)
 abbrev pub coming_in : Holding → List Act
 coming_in h = coming h.town h.room
 
--- the activity that the entry for which there is room brings to one more inbox, and the inbox's owner
+-- the activity that the entry for which there is room brings to one more inbox, and the inbox's
+-- owner
 abbrev pub coming_inbox : Town → Option Entry → Option (List ℕ × List ℕ)
 coming_inbox t None = None
 coming_inbox t (Some e) = inbox_in (addition_of t e)

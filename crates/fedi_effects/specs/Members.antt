@@ -27,7 +27,8 @@ digest_mark seed a = mark_of seed a.digest
 abbrev pub members_in : Inside → Peopled
 members_in m = record { actors = m.list.items; room = m.room }
 
--- each member is looked up by name, id and digest, there is room in each list, and a place fits its field
+-- each member is looked up by name, id and digest, there is room in each list, and a place fits its
+-- field
 abbrev pub AreMembers : Inside → Type 0
 AreMembers m =
     (m.names.marks ≡ marks_from every (name_mark m.seed) 0 m.list.items)

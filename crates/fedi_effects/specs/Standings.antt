@@ -19,4 +19,5 @@ IsFew (standings.Ended attempts) = ⊤
 
 -- what has become of a delivery by these attempts, whose activity was accepted at this moment
 unfoldable pub progress_at : List Attempt → List ℕ → List ℕ → ℕ → Progress
-progress_at attempts id recipient moment = fold after_attempt (Due 0 moment) (filter (is_of_pair id recipient) attempts)
+progress_at attempts id recipient moment =
+    fold after_attempt (Due 0 moment) (filter (is_of_pair id recipient) attempts)

@@ -2,13 +2,16 @@
 use Rattle.std.specs.Prelude.{ℕ, List, Option, None}
 use Rattle.fedi_town.specs.declared.act.Act.{Act}
 use Rattle.fedi_town.specs.declared.deed.Deed.{Deed}
-use Rattle.fedi_town.specs.declared.deed.Deed.TheVariants.{Create, Update, Delete, Follow, Like, Announce, Block, Accept, Reject, Undo, Other}
+use Rattle.fedi_town.specs.declared.deed.Deed.TheVariants.{Create, Update, Delete, Follow, Like}
+use Rattle.fedi_town.specs.declared.deed.Deed.TheVariants.{Announce, Block, Accept, Reject, Undo}
+use Rattle.fedi_town.specs.declared.deed.Deed.TheVariants.{Other}
 use Rattle.fedi_town.specs.Addressing.{act_of}
 use Rattle.fedi_town.specs.Objects.{maker_of}
 use Rattle.fedi_town.specs.Towns.{Town}
 
--- The Create of the object that an activity about this changes, deletes, likes or shares, or the activity of this id, which
--- it accepts, rejects or takes back. State, effect and recipients of an activity depend on it.
+-- The Create of the object that an activity about this changes, deletes, likes or shares, or the
+-- activity of this id, which it accepts, rejects or takes back. State, effect and recipients of an
+-- activity depend on it.
 abbrev pub subject_of : Town → Deed → Option (List ℕ) → Option Act
 subject_of t Update id = maker_of t id
 subject_of t Delete id = maker_of t id

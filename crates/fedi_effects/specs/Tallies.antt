@@ -1,5 +1,6 @@
 -- The attempts to deliver, as they are held: what has become of each delivery that was tried.
-use Rattle.std.specs.Prelude.{◌≡◌, ℕ, ◌+◌, ◌<◌, ◌≤◌, ◌^◌, Bool, true, ◌&&◌, nat_lt, IsTrue, List, Option, Some, None, vec_len, vec_capacity}
+use Rattle.std.specs.Prelude.{◌≡◌, ℕ, ◌+◌, ◌<◌, ◌≤◌, ◌^◌, Bool, true, ◌&&◌, nat_lt, IsTrue, List}
+use Rattle.std.specs.Prelude.{Option, Some, None, vec_len, vec_capacity}
 use Rattle.std.specs.List.{find, list_all}
 use Rattle.std.specs.Str.{bytes_eq}
 use Rattle.fedi_effects.specs.declared.progress.Standing.{Standing}
@@ -43,7 +44,8 @@ standing_or moment (Some y) = progress_in y.standing
 
 -- the tallies say what has become of every delivery
 pub record AreTallied (list : List Tally) (attempts : List Attempt) : Type 0 where
-  pub so : (id recipient : List ℕ) (moment : ℕ) → progress_at attempts id recipient moment ≡ standing_or moment (find (is_tally_of id recipient) list)
+  pub so : (id recipient : List ℕ) (moment : ℕ) → progress_at attempts id recipient moment
+      ≡ standing_or moment (find (is_tally_of id recipient) list)
 
 -- the attempts, as those see them who look up
 abbrev pub tallied_in : Inside → Tallied

@@ -1,13 +1,16 @@
 //! Who gets a member's activity.
 
-ghost use Rattle.std.specs.Prelude.{◌≡◌, ◌<◌, IfOk, IfSome, OnOk, [], bytes_eq, filter, is_some, length};
+ghost use Rattle.std.specs.Prelude.{◌≡◌, ◌<◌, IfOk, IfSome, OnOk, [], bytes_eq, filter, is_some};
+ghost use Rattle.std.specs.Prelude.{length};
 ghost use Rattle.std.specs.List.{fold};
 ghost use Rattle.fedi_address.specs.Iris.{public_iri};
 ghost use Rattle.fedi_address.specs.Recipients.{all_of, is_among, names};
-ghost use Rattle.fedi_town.specs.Addressing.{is_nobody_here, is_of_town, is_recipient, recipients_with};
+ghost use Rattle.fedi_town.specs.Addressing.{is_nobody_here, is_of_town, is_recipient};
+ghost use Rattle.fedi_town.specs.Addressing.{recipients_with};
 ghost use Rattle.fedi_town.specs.Ids.{followers_id, is_of_host};
 ghost use Rattle.fedi_town.specs.Relations.{followers};
-ghost use Rattle.fedi_effects.specs.Gathering.{first_place, is_new_recipient, with_addressees, with_reached};
+ghost use Rattle.fedi_effects.specs.Gathering.{first_place, is_new_recipient, with_addressees};
+ghost use Rattle.fedi_effects.specs.Gathering.{with_reached};
 
 use crate::facts::Facts;
 use fedi_address::{Host, Iri, Items, Recipients, is_among};
@@ -45,8 +48,8 @@ pub fn is_nobody_here(facts: &Facts, iri: &Iri) -> bool
 }
 
 // Whether this one may get the author's activity: Public is everybody and nobody's address
-// (ActivityPub, section 5.6), the author needs no copy, what is of this host and no member's id has no
-// inbox, and a Block keeps both sides away (6.9).
+// (ActivityPub, section 5.6), the author needs no copy, what is of this host and no member's id has
+// no inbox, and a Block keeps both sides away (6.9).
 #[tactic(auto, unfolding(fedi_town::specs::Addressing::is_recipient))]
 fn is_recipient(facts: &Facts, author: &Iri, iri: &Iri) -> bool
     ensures { result ≡ is_recipient facts.now.town author.now iri.now }
@@ -130,8 +133,8 @@ fn place_of(found: &[Iri], iri: &Iri, near: usize) -> Option<usize>
     first_place(found, iri)
 }
 
-// Adds the IRI if it is new. It is looked for first at this place, and the place to look at for the next
-// one is returned.
+// Adds the IRI if it is new. It is looked for first at this place, and the place to look at for the
+// next one is returned.
 #[tactic(auto, unfolding(crate::specs::Gathering::with_reached, crate::specs::Gathering::is_new_recipient))]
 fn reach_near(
     facts: &Facts,
@@ -153,8 +156,8 @@ fn reach_near(
     Ok(near)
 }
 
-// Adds those who are new. They may be many, and mostly stand in the order in which they were found: so
-// each is looked for first behind the one before it.
+// Adds those who are new. They may be many, and mostly stand in the order in which they were found:
+// so each is looked for first behind the one before it.
 fn reach(facts: &Facts, author: &Iri, found: &mut Vec<Iri>, iris: &[Iri]) -> Result<(), AllocError>
     ensures { OnOk result (found.new.items
         ≡ fold (with_reached facts.now.town author.now) found.old.items iris.now) }
@@ -243,7 +246,8 @@ fn reach_all(
 }
 
 /// The recipients of a member's activity: those of `to`, `cc`, `bto`, `bcc` and `audience` in this
-/// order and then the others, each once (ActivityPub, sections 6 and 7.1). The error is out of memory.
+/// order and then the others, each once (ActivityPub, sections 6 and 7.1). The error is out of
+/// memory.
 #[tactic(auto, using(crate::proofs::Gathering::reached_are_recipients))]
 pub fn recipients_with(
     alloc: Global,

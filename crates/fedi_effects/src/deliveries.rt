@@ -1,19 +1,19 @@
 //! What is due to be delivered.
 
 ghost use Rattle.std.specs.Prelude.{◌≡◌};
-ghost use Rattle.fedi_town.specs.Queues.{is_at_peer, is_due, is_due_at, is_due_in, progress_of, sends};
+ghost use Rattle.fedi_town.specs.Queues.{is_at_peer, is_due, is_due_at, is_due_in, progress_of};
+ghost use Rattle.fedi_town.specs.Queues.{sends};
 ghost use Rattle.fedi_effects.specs.Standings.{IsFew, progress_in};
 
 use crate::addressing::is_of_town;
 use crate::facts::{Facts, has_host};
 use crate::progress::Standing;
 use fedi_address::{Iri, is_among};
-use fedi_kept::Kept;
-use fedi_register::has_activity_id;
+use fedi_register::{Kept, has_activity_id};
 use fedi_text::Moment;
 
-/// What has become of the delivery to this recipient of the activity of this id, which was accepted at
-/// this moment.
+/// What has become of the delivery to this recipient of the activity of this id, which was accepted
+/// at this moment.
 pub fn progress_of(facts: &Facts, id: &Iri, recipient: &Iri, moment: Moment) -> Standing
     ensures value { progress_in result
         ≡ progress_of facts.now.town id.now recipient.now moment }
@@ -24,8 +24,8 @@ pub fn progress_of(facts: &Facts, id: &Iri, recipient: &Iri, moment: Moment) -> 
 
 // ---- what is due
 
-/// To whom this server sends the activity: a member's to its recipients, any other to those to whom it is
-/// forwarded (ActivityPub, section 7.1.2).
+/// To whom this server sends the activity: a member's to its recipients, any other to those to whom
+/// it is forwarded (ActivityPub, section 7.1.2).
 #[tactic(auto, unfolding(fedi_town::specs::Queues::sends))]
 pub fn sends<'a>(facts: &Facts, act: &'a Kept) -> &'a [Iri]
     ensures { result.now ≡ sends facts.now.town act.now }
@@ -65,8 +65,8 @@ fn is_due_in(facts: &Facts, id: &Iri, recipient: &Iri, moment: Moment, act: &Kep
         && is_due_at(moment, progress_of(facts, id, recipient, act.moment()))
 }
 
-/// Whether the delivery of the activity of this id to this recipient is due at this moment: the activity
-/// goes to the recipient, who is of a peer, and by the attempts so far the next is due.
+/// Whether the delivery of the activity of this id to this recipient is due at this moment: the
+/// activity goes to the recipient, who is of a peer, and by the attempts so far the next is due.
 pub fn judge_tried(facts: &Facts, id: &Iri, recipient: &Iri, moment: Moment) -> bool
     ensures { result ≡ is_due facts.now.town id.now recipient.now moment }
 {

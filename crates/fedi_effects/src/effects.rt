@@ -6,7 +6,9 @@ ghost use Rattle.fedi_objects.specs.declared.kind.State.TheVariants.{Rejected, U
 ghost use Rattle.fedi_text.specs.Dates.{moment_text};
 ghost use Rattle.fedi_town.specs.declared.effect.Effect.TheVariants as effects;
 ghost use Rattle.fedi_town.specs.Deeds.{deed_of, is_accepted, is_follow};
-ghost use Rattle.fedi_town.specs.Effects.{accept_activity, accept_by, acceptance, answer_to, effect_about, effect_of, follow_ends, followee, takes_effect, to_one, undo_effect};
+ghost use Rattle.fedi_town.specs.Effects.{accept_activity, accept_by, acceptance, answer_to};
+ghost use Rattle.fedi_town.specs.Effects.{effect_about, effect_of, follow_ends, followee};
+ghost use Rattle.fedi_town.specs.Effects.{takes_effect, to_one, undo_effect};
 ghost use Rattle.fedi_town.specs.Relations.{ref_id};
 ghost use Rattle.fedi_town.specs.Showing.{ref_to};
 ghost use Rattle.fedi_effects.specs.Subjects.{subject_of};
@@ -17,15 +19,14 @@ use crate::head::Head;
 use crate::states::count_after;
 use crate::subjects::ref_id;
 use fedi_address::{Host, Iri, Items, Recipients};
-use fedi_kept::Kept;
 use fedi_objects::{Activity, Boxed, Kind, ObjectRef, State, Tag};
-use fedi_register::{is_accepted, is_done, is_follow, is_standing};
+use fedi_register::{Kept, is_accepted, is_done, is_follow, is_standing};
 use fedi_text::Text;
 use fedi_town::{Acceptance, Act, Actor, Deed, Effect};
 use std::alloc::{AllocError, Global};
 
-// Whether the side effect happens: that of a Block where it stands, that of any other activity where
-// it is done.
+// Whether the side effect happens: that of a Block where it stands, that of any other activity
+// where it is done.
 fn takes_effect(deed: Deed, state: State) -> bool
     ensures { result ≡ takes_effect deed state }
 {
@@ -303,8 +304,8 @@ fn answer_to(alloc: Global, facts: &Facts, act: &Act) -> Result<Option<Act>, All
     Ok(Some(accept))
 }
 
-// What the activity does to earlier ones, and its answer. To let go of an effect is dear to prove, so it
-// is done by a call.
+// What the activity does to earlier ones, and its answer. To let go of an effect is dear to prove,
+// so it is done by a call.
 fn consequences(
     alloc: Global,
     facts: &Facts,

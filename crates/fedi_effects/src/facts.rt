@@ -1,6 +1,8 @@
 //! The facts that a history has made.
 
-ghost use Rattle.std.specs.Prelude.{◌≡◌, ◌∷◌, ◌++◌, [], ◌+◌, ◌^◌, ◌<◌, ◌≤◌, ◌&&◌, Bool, IsTrue, IfOk, None, OnErr, OnOk, Some, length, map, option_copied, option_map, option_to_list, slice_get, vec_len, vec_capacity};
+ghost use Rattle.std.specs.Prelude.{◌≡◌, ◌∷◌, ◌++◌, [], ◌+◌, ◌^◌, ◌<◌, ◌≤◌, ◌&&◌, Bool, IsTrue};
+ghost use Rattle.std.specs.Prelude.{IfOk, None, OnErr, OnOk, Some, length, map, option_copied};
+ghost use Rattle.std.specs.Prelude.{option_map, option_to_list, slice_get, vec_len, vec_capacity};
 ghost use Rattle.std.specs.Fn.{FnReturnsAt};
 ghost use Rattle.std.specs.List.{find};
 ghost use Rattle.fedi_town.specs.declared.act.Act.{Act};
@@ -10,7 +12,8 @@ ghost use Rattle.fedi_town.specs.Legal.{IsLegal};
 ghost use Rattle.fedi_town.specs.Objects.{maker, makes};
 ghost use Rattle.fedi_town.specs.Queues.{progress_of};
 ghost use Rattle.fedi_town.specs.Relations.{has_activity_id, is_actor};
-ghost use Rattle.fedi_town.specs.Towns.{count_of, empty_town, has_digest, has_host, has_id, has_name, id_of};
+ghost use Rattle.fedi_town.specs.Towns.{count_of, empty_town, has_digest, has_host, has_id};
+ghost use Rattle.fedi_town.specs.Towns.{has_name, id_of};
 ghost use Rattle.fedi_address.specs.Recipients.{is_among};
 ghost use Rattle.fedi_effects.specs.Additions.{FitsActs, HasAnswerer, HasAuthors, addition_in};
 ghost use Rattle.fedi_effects.specs.Holdings.{coming_in, coming_inbox_in};
@@ -25,9 +28,8 @@ use crate::ready::{Ready, know_authors, make_ready};
 use crate::steps::Steps;
 use crate::tallies::Tallies;
 use fedi_address::{Host, Iri, LocalName};
-use fedi_kept::{Kept, Pool, Spare, Trace};
 use fedi_objects::Entry;
-use fedi_register::{Register, Seed};
+use fedi_register::{Kept, Pool, Register, Seed, Spare, Trace};
 use fedi_text::Moment;
 use fedi_town::{Actor, Effect, Peer};
 use std::alloc::{AllocError, Global};
@@ -42,9 +44,9 @@ struct Room {
     ready: Ready,
 }
 
-/// What the entries of a history have made: the host, the members, the peers, the activities, and what
-/// has become of deliveries. The entries and the attempts to deliver are not kept, but contracts see
-/// them.
+/// What the entries of a history have made: the host, the members, the peers, the activities, and
+/// what has become of deliveries. The entries and the attempts to deliver are not kept, but
+/// contracts see them.
 #[derive(Drop)]
 pub struct Facts {
     history: Trace<Entry>,
@@ -109,8 +111,8 @@ fn make_room(
     know(register, ready)
 }
 
-// The room for an entry is kept, if each list gets its own. Dropping a room costs much to prove, so it is
-// done by calls.
+// The room for an entry is kept, if each list gets its own. Dropping a room costs much to prove, so
+// it is done by calls.
 fn keep_room(
     kept: &mut Option<Room>,
     actors: &mut Members,
@@ -219,8 +221,8 @@ fn add(
 }
 
 impl Facts {
-    /// The facts of no entry. The seed is for the numbers by which members and activities are looked up.
-    /// The error is out of memory.
+    /// The facts of no entry. The seed is for the numbers by which members and activities are
+    /// looked up. The error is out of memory.
     pub fn empty(alloc: Global, seed: Seed) -> Result<Facts, AllocError>
         ensures { IfOk result (λ facts.
             facts ≡ record { history = []; town = empty_town; room = None }) }
@@ -238,7 +240,8 @@ impl Facts {
         })
     }
 
-    /// For the proof: shows that the town is what the history has made. It does nothing when it runs.
+    /// For the proof: shows that the town is what the history has made. It does nothing when it
+    /// runs.
     pub fn show_town(&self)
         ensures { self.now.town ≡ town self.now.history }
     {
@@ -271,8 +274,9 @@ impl Facts {
         Ok(Room { entry, ready })
     }
 
-    /// Does for an entry all that takes memory, so that it can be added without. An earlier entry for
-    /// which this was done has room no longer. The error is out of memory, and then no entry has room.
+    /// Does for an entry all that takes memory, so that it can be added without. An earlier entry
+    /// for which this was done has room no longer. The error is out of memory, and then no entry
+    /// has room.
     pub fn reserve(&mut self, alloc: Global, entry: &Entry) -> Result<(), AllocError>
         requires { IsLegal self.old.history }
         ensures ok { OnOk result (self.new ≡ record self.old { room = Some entry.now }) }
@@ -364,8 +368,8 @@ impl Facts {
         self.peers.iter().find(|peer| has_host(peer, host))
     }
 
-    /// What has become of the delivery of the activity of this id, which was accepted at this moment,
-    /// to this recipient. However many attempts there were, it takes a look-up.
+    /// What has become of the delivery of the activity of this id, which was accepted at this
+    /// moment, to this recipient. However many attempts there were, it takes a look-up.
     pub(crate) fn standing_of(&self, id: &Iri, recipient: &Iri, moment: Moment) -> Standing
         ensures value { progress_in result
             ≡ progress_of self.now.town id.now recipient.now moment }
@@ -392,7 +396,8 @@ impl Facts {
         &self.register.acts()[place]
     }
 
-    /// The activities that the entry for which there is room will add: its own, and the answer to it.
+    /// The activities that the entry for which there is room will add: its own, and the answer to
+    /// it.
     pub fn coming(&self) -> (Option<&Kept>, Option<&Kept>)
         ensures { option_to_list (option_copied result.0) ++ option_to_list (option_copied result.1)
             ≡ coming_in self.now }
@@ -403,8 +408,8 @@ impl Facts {
         }
     }
 
-    /// The activity that the entry for which there is room will bring to one more inbox, by its id, and the
-    /// inbox's owner.
+    /// The activity that the entry for which there is room will bring to one more inbox, by its id,
+    /// and the inbox's owner.
     pub fn coming_inbox(&self) -> Option<(&Iri, &Iri)>
         ensures { option_map (λ pair. (pair.0.now, pair.1.now)) result ≡ coming_inbox_in self.now }
     {
@@ -481,8 +486,8 @@ impl Facts {
         self.register.maker(id)
     }
 
-    /// The first activity that made the object of this id and passes the test, or none if there is no such
-    /// activity.
+    /// The first activity that made the object of this id and passes the test, or none if there is
+    /// no such activity.
     pub fn first_maker<F: Fn(&Kept) -> bool>(&self, id: &Iri, passes: F) -> Option<&Kept>
         requires { F.IsAlwaysCallable passes }
         ensures { (p : Act → Bool) → Decides (FnReturnsAt F.Fn passes) p

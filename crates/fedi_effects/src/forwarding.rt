@@ -1,8 +1,11 @@
 //! To whom an activity of another server is forwarded (ActivityPub, section 7.1.2).
 
-ghost use Rattle.std.specs.Prelude.{◌≡◌, ◌++◌, IfOk, OnOk, filter, map, option_copied, option_to_list};
+ghost use Rattle.std.specs.Prelude.{◌≡◌, ◌++◌, IfOk, OnOk, filter, map, option_copied};
+ghost use Rattle.std.specs.Prelude.{option_to_list};
 ghost use Rattle.std.specs.List.{find, fold, list_any};
-ghost use Rattle.fedi_town.specs.Forwarding.{far_followers, forwards_at, forwards_of, has_followers_at, is_far, is_local, is_ours, mentions, object_mentions};
+ghost use Rattle.fedi_town.specs.Forwarding.{far_followers, forwards_at, forwards_of};
+ghost use Rattle.fedi_town.specs.Forwarding.{has_followers_at, is_far, is_local, is_ours, mentions};
+ghost use Rattle.fedi_town.specs.Forwarding.{object_mentions};
 ghost use Rattle.fedi_town.specs.Objects.{maker_of, object_of, whole_of};
 ghost use Rattle.fedi_effects.specs.Forwards.{is_unfound, with_forwards};
 
@@ -10,8 +13,8 @@ use crate::addressing::is_of_town;
 use crate::facts::Facts;
 use crate::subjects::ref_id;
 use fedi_address::{Iri, Items, is_among};
-use fedi_kept::Kept;
 use fedi_objects::{Activity, ObjectRef, Tag};
+use fedi_register::Kept;
 use fedi_town::Actor;
 use std::alloc::{AllocError, Global};
 
@@ -104,8 +107,8 @@ fn maker_of<'a>(facts: &'a Facts, id: Option<&Iri>) -> Option<&'a Kept>
     }
 }
 
-// Whether an activity refers to what is of this server, by itself, by the object that it carries, or by
-// the object as it is kept.
+// Whether an activity refers to what is of this server, by itself, by the object that it carries,
+// or by the object as it is kept.
 #[tactic(auto, using(crate::proofs::Forwards::any_six))]
 fn refers_to_ours(facts: &Facts, activity: &Activity) -> bool
     ensures { result ≡ list_any (is_ours facts.now.town) (mentions facts.now.town activity.now) }
@@ -178,8 +181,8 @@ fn keep_unfound(found: &[Iri], iris: &mut Vec<Iri>)
     iris.retain(|iri| is_unfound(found, iri));
 }
 
-// Adds the far followers of the member whose followers collection this is. They may be many and are there
-// once each, so each of them is looked for only among those who were found before.
+// Adds the far followers of the member whose followers collection this is. They may be many and are
+// there once each, so each of them is looked for only among those who were found before.
 #[tactic(auto, using(crate::proofs::Forwards::forwards_apart))]
 fn add_forwards_at(
     alloc: Global,
@@ -212,9 +215,9 @@ fn add_forwards(
     Ok(())
 }
 
-/// To whom the author's activity is forwarded when it comes for the first time: where it refers to what
-/// is of this server, to the far followers of each member whose followers it is addressed to, each once.
-/// The error is out of memory.
+/// To whom the author's activity is forwarded when it comes for the first time: where it refers to
+/// what is of this server, to the far followers of each member whose followers it is addressed to,
+/// each once. The error is out of memory.
 #[tactic(auto, using(crate::proofs::Forwards::gathered), unfolding(fedi_town::specs::Forwarding::forwards_of))]
 pub fn forwards_of(
     alloc: Global,

@@ -1,16 +1,16 @@
 //! Whom an activity implies: who is told of it although it does not name them.
 
 ghost use Rattle.std.specs.Prelude.{◌≡◌, OnOk, Some, option_copied};
-ghost use Rattle.fedi_town.specs.Addressing.{author_of, complete_recipients, implied_recipient, is_silent, undo_recipient, with_implied};
+ghost use Rattle.fedi_town.specs.Addressing.{author_of, complete_recipients, implied_recipient};
+ghost use Rattle.fedi_town.specs.Addressing.{is_silent, undo_recipient, with_implied};
 ghost use Rattle.fedi_town.specs.Relations.{ref_id};
 ghost use Rattle.fedi_effects.specs.Subjects.{subject_of};
 
 use crate::facts::Facts;
 use crate::subjects::ref_id;
 use fedi_address::{Iri, Recipients};
-use fedi_kept::Kept;
 use fedi_objects::ObjectRef;
-use fedi_register::is_block;
+use fedi_register::{Kept, is_block};
 use fedi_town::Deed;
 use std::alloc::{AllocError, Global};
 
@@ -103,8 +103,8 @@ fn add_implied(
     }
 }
 
-/// Whom a member's activity names once it is completed: nobody if it is to stay hidden, and else also
-/// whom it implies. The error is out of memory.
+/// Whom a member's activity names once it is completed: nobody if it is to stay hidden, and else
+/// also whom it implies. The error is out of memory.
 #[tactic(auto, unfolding(fedi_town::specs::Addressing::complete_recipients))]
 pub fn complete_recipients(
     alloc: Global,

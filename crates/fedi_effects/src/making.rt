@@ -4,7 +4,8 @@ ghost use Rattle.std.specs.Prelude.{◌≡◌, IfOk, OnOk, Some, option_copied};
 ghost use Rattle.fedi_text.specs.Dates.{moment_text};
 ghost use Rattle.fedi_town.specs.declared.addition.Addition.TheVariants as additions;
 ghost use Rattle.fedi_town.specs.Activities.{act_by, complete_activity, complete_ref, local_act};
-ghost use Rattle.fedi_town.specs.Addressing.{complete_recipients, is_original_for_followers, is_original_public, original_recipients};
+ghost use Rattle.fedi_town.specs.Addressing.{complete_recipients, is_original_for_followers};
+ghost use Rattle.fedi_town.specs.Addressing.{is_original_public, original_recipients};
 ghost use Rattle.fedi_town.specs.Deeds.{deed_of};
 ghost use Rattle.fedi_town.specs.Effects.{acceptance};
 ghost use Rattle.fedi_town.specs.Histories.{addition_of, member_addition, post_addition};
@@ -22,9 +23,8 @@ use crate::receiving::delivery_addition;
 use crate::states::state_of;
 use crate::subjects::subject_of;
 use fedi_address::{Host, Iri, Items, LocalName};
-use fedi_kept::Kept;
 use fedi_objects::{Activity, Boxed, Came, Entry, Object, ObjectRef, RepeatKey, set};
-use fedi_register::is_done;
+use fedi_register::{Kept, is_done};
 use fedi_text::{Moment, Text};
 use fedi_town::{Acceptance, Act, Actor, Addition, Attempt, Deed, Peer, actor_iri, object_iri};
 use std::alloc::{AllocError, Global};
@@ -354,9 +354,9 @@ fn attempt_addition(
     }))
 }
 
-/// What the entry adds to the town: a host, a member, a peer, a member's activity or a delivered one with
-/// all that follows from it, one more inbox of an activity that is known, or an attempt. Nothing changes.
-/// The error is out of memory.
+/// What the entry adds to the town: a host, a member, a peer, a member's activity or a delivered
+/// one with all that follows from it, one more inbox of an activity that is known, or an attempt.
+/// Nothing changes. The error is out of memory.
 pub fn prepare(alloc: Global, facts: &Facts, entry: &Entry) -> Result<Addition, AllocError>
     ensures { IfOk result (λ a. a ≡ addition_of facts.now.town entry.now) }
 {

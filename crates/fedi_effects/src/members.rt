@@ -144,8 +144,8 @@ impl Members {
             .is_some()
     }
 
-    /// Makes room for one more member. The error is out of memory, as it is for more than [`MOST_ITEMS`]
-    /// members.
+    /// Makes room for one more member. The error is out of memory, as it is for more than
+    /// [`MOST_ITEMS`] members.
     pub(crate) fn reserve(&mut self) -> Result<(), AllocError>
         ensures actors { self.new.actors ≡ self.old.actors }
         ensures room { OnOk result (1 ≤ self.new.room) }

@@ -1,7 +1,8 @@
 //! What comes of attempts to deliver, and when the next one is due.
 
 ghost use Rattle.std.specs.Prelude.{◌≡◌, ◌<◌, ◌*◌, ◌^◌};
-ghost use Rattle.fedi_town.specs.Queues.{after_attempt, after_outcome, next_attempt, outcome, request_outcome, status_outcome, step_outcome};
+ghost use Rattle.fedi_town.specs.Queues.{after_attempt, after_outcome, next_attempt, outcome};
+ghost use Rattle.fedi_town.specs.Queues.{request_outcome, status_outcome, step_outcome};
 ghost use Rattle.fedi_effects.specs.Standings.{IsFew, progress_in};
 
 use fedi_objects::{Came, Sent, What};

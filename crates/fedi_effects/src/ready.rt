@@ -1,6 +1,7 @@
 //! What an entry adds, made ready to be added without memory.
 
-ghost use Rattle.std.specs.Prelude.{◌≡◌, ◌++◌, IfOk, IsTrue, List, OnOk, Some, option_copied, option_map, option_to_list};
+ghost use Rattle.std.specs.Prelude.{◌≡◌, ◌++◌, IfOk, IsTrue, List, OnOk, Some, option_copied};
+ghost use Rattle.std.specs.Prelude.{option_map, option_to_list};
 ghost use Rattle.std.specs.List.{list_any};
 ghost use Rattle.fedi_address.specs.Recipients.{add_new};
 ghost use Rattle.fedi_town.specs.declared.act.Act.{Act};
@@ -8,12 +9,12 @@ ghost use Rattle.fedi_town.specs.declared.addition.Addition.TheVariants as addit
 ghost use Rattle.fedi_town.specs.Lists.{PassesOnce};
 ghost use Rattle.fedi_town.specs.Relations.{has_activity_id};
 ghost use Rattle.fedi_register.specs.Changes.{longer_of};
-ghost use Rattle.fedi_effects.specs.Additions.{CanAdd, FitsActs, acts_in, addition_in, inbox_in, with_answerer, with_authors};
+ghost use Rattle.fedi_effects.specs.Additions.{CanAdd, FitsActs, acts_in, addition_in, inbox_in};
+ghost use Rattle.fedi_effects.specs.Additions.{with_answerer, with_authors};
 
 use crate::facts::Facts;
 use fedi_address::{Host, Iri};
-use fedi_kept::{Iris, Kept, Pool, Spare};
-use fedi_register::Register;
+use fedi_register::{Iris, Kept, Pool, Register, Spare};
 use fedi_town::{Acceptance, Act, Actor, Addition, Attempt, Effect, Peer};
 use std::alloc::{AllocError, Global};
 

@@ -1,9 +1,11 @@
 //! What a delivery of another server adds to the town.
 
-ghost use Rattle.std.specs.Prelude.{◌≡◌, ◌∷◌, [], IfOk, OnOk, Some, codes, option_copied, unwrap_or};
+ghost use Rattle.std.specs.Prelude.{◌≡◌, ◌∷◌, [], IfOk, OnOk, Some, codes, option_copied};
+ghost use Rattle.std.specs.Prelude.{unwrap_or};
 ghost use Rattle.fedi_objects.specs.Forms.{is_tombstone};
 ghost use Rattle.fedi_text.specs.Dates.{moment_text};
-ghost use Rattle.fedi_town.specs.Activities.{attribute, complete_tombstone, receive_object, receive_ref, remote_act};
+ghost use Rattle.fedi_town.specs.Activities.{attribute, complete_tombstone, receive_object};
+ghost use Rattle.fedi_town.specs.Activities.{receive_ref, remote_act};
 ghost use Rattle.fedi_town.specs.Deeds.{deed_of};
 ghost use Rattle.fedi_town.specs.Effects.{acceptance};
 ghost use Rattle.fedi_town.specs.Histories.{delivery_addition, inbox_addition, is_known};
@@ -17,8 +19,8 @@ use crate::forwarding::forwards_of;
 use crate::states::state_of;
 use crate::subjects::subject_of;
 use fedi_address::{Iri, Items, LocalName};
-use fedi_kept::Kept;
 use fedi_objects::{Activity, Boxed, Object, ObjectRef, TOMBSTONE, set};
+use fedi_register::Kept;
 use fedi_text::{Moment, Text};
 use fedi_town::{Acceptance, Act, Addition, Deed};
 use std::alloc::{AllocError, Global};
@@ -44,8 +46,8 @@ fn set_deleted(alloc: Global, field: &mut Option<Text>, moment: Moment) -> Resul
     Ok(())
 }
 
-// A Tombstone tells its former type and when it was deleted (ActivityStreams 2.0 Vocabulary, section
-// 3.3).
+// A Tombstone tells its former type and when it was deleted (ActivityStreams 2.0 Vocabulary,
+// section 3.3).
 fn complete_tombstone(alloc: Global, object: &mut Object, moment: Moment) -> Result<(), AllocError>
     ensures { OnOk result (object.new ≡ complete_tombstone moment object.old) }
 {
@@ -182,8 +184,8 @@ fn is_known(facts: &Facts, id: &Iri) -> bool
     facts.activity_of(id).is_some()
 }
 
-// What a delivery to this owner's inbox makes: one more inbox if the id is known, and else the activity
-// (ActivityPub, section 7.1).
+// What a delivery to this owner's inbox makes: one more inbox if the id is known, and else the
+// activity (ActivityPub, section 7.1).
 fn inbox_addition(
     alloc: Global,
     facts: &Facts,
@@ -205,8 +207,8 @@ fn inbox_addition(
     Ok(Addition::Activity(accepted))
 }
 
-/// What a delivery makes that has an id and an actor, and goes to a member's inbox. The error is out of
-/// memory.
+/// What a delivery makes that has an id and an actor, and goes to a member's inbox. The error is
+/// out of memory.
 pub(crate) fn delivery_addition(
     alloc: Global,
     facts: &Facts,
@@ -215,7 +217,8 @@ pub(crate) fn delivery_addition(
     moment: Moment,
 ) -> Result<Addition, AllocError>
     ensures { IfOk result (λ a. a ≡ delivery_addition facts.now.town
-        (id_of facts.now.town inbox.now) delivered.now.actor delivered.now.id delivered.now moment) }
+        (id_of facts.now.town inbox.now) delivered.now.actor delivered.now.id
+        delivered.now moment) }
 {
     let read = delivered.get();
     let Some(owner) = facts.id_of(inbox) else {

@@ -6,12 +6,13 @@ ghost use Rattle.std.specs.List.{list_any};
 ghost use Rattle.fedi_register.specs.Marks.{Decides};
 ghost use Rattle.fedi_register.specs.Registers.{IsNarrower, relates_by_key};
 ghost use Rattle.fedi_town.specs.declared.act.Act.{Act};
-ghost use Rattle.fedi_town.specs.Relations.{blocks, followers, follows, has_block_between, is_following};
+ghost use Rattle.fedi_town.specs.Relations.{blocks, followers, follows, has_block_between};
+ghost use Rattle.fedi_town.specs.Relations.{is_following};
 ghost use Rattle.fedi_town.specs.States.{is_announce_of, is_like_of};
 
 use crate::facts::Facts;
 use fedi_address::Iri;
-use fedi_kept::Kept;
+use fedi_register::Kept;
 use std::alloc::{AllocError, Global};
 
 impl Facts {
@@ -38,8 +39,8 @@ impl Facts {
         self.register().follows(a, b)
     }
 
-    /// Whether a Follow of b that was accepted passes the test (ActivityPub, section 5.3), which nothing else
-    /// may pass.
+    /// Whether a Follow of b that was accepted passes the test (ActivityPub, section 5.3), which
+    /// nothing else may pass.
     pub fn is_followed_by<F: Fn(&Kept) -> bool>(&self, b: &Iri, passes: F) -> bool
         requires { F.IsAlwaysCallable passes }
         ensures { (p : Act → Bool) → Decides (FnReturnsAt F.Fn passes) p
@@ -48,9 +49,9 @@ impl Facts {
         self.register().is_followed_by(b, passes)
     }
 
-    /// Whether an activity before this place, a Follow, a Like, an Announce or a Block by the author about
-    /// this, passes the test, which nothing else may pass. What has no object counts as about the empty
-    /// text.
+    /// Whether an activity before this place, a Follow, a Like, an Announce or a Block by the
+    /// author about this, passes the test, which nothing else may pass. What has no object counts
+    /// as about the empty text.
     pub fn is_related_before<F: Fn(&Kept) -> bool>(
         &self,
         place: usize,
@@ -81,8 +82,8 @@ impl Facts {
         self.register().shares(a, id)
     }
 
-    /// Those who follow b, in the order of their Follows (ActivityPub, section 5.3). The error is out of
-    /// memory.
+    /// Those who follow b, in the order of their Follows (ActivityPub, section 5.3). The error is
+    /// out of memory.
     #[tactic(auto, unfolding(fedi_town::specs::Relations::followers, fedi_register::specs::Following::followers_in))]
     pub fn followers_of(&self, alloc: Global, b: &Iri) -> Result<Vec<Iri>, AllocError>
         ensures { IfOk result (λ found. found.items ≡ followers self.now.town b.now) }

@@ -9,12 +9,12 @@ ghost use Rattle.fedi_effects.specs.Repeats.{repeat_in};
 
 use crate::facts::Facts;
 use fedi_address::Iri;
-use fedi_kept::Kept;
 use fedi_objects::RepeatKey;
+use fedi_register::Kept;
 use std::marker::Model;
 
-/// What a member posted under a key. A contract sees it as the key with the digest of the posted body,
-/// and the id of the activity.
+/// What a member posted under a key. A contract sees it as the key with the digest of the posted
+/// body, and the id of the activity.
 #[derive(Drop)]
 pub struct Repeat<'a> {
     pair: &'a (RepeatKey, [u8; 32]),

@@ -7,7 +7,9 @@ ghost use Rattle.fedi_town.specs.declared.refusal.Refusal.TheVariants.{Blocked, 
 ghost use Rattle.fedi_town.specs.Addressing.{is_nobody_here};
 ghost use Rattle.fedi_town.specs.Deeds.{deed_of, is_follow, is_open, is_pending};
 ghost use Rattle.fedi_town.specs.Relations.{has_block_between, ref_id};
-ghost use Rattle.fedi_town.specs.Rules.{announce_rule, answer_rule, broken, broken_about, broken_post, change_rule, like_rule, number_rule, refuse_if, seen_act, seen_maker, undo_rule};
+ghost use Rattle.fedi_town.specs.Rules.{announce_rule, answer_rule, broken, broken_about};
+ghost use Rattle.fedi_town.specs.Rules.{broken_post, change_rule, like_rule, number_rule};
+ghost use Rattle.fedi_town.specs.Rules.{refuse_if, seen_act, seen_maker, undo_rule};
 ghost use Rattle.fedi_town.specs.Towns.{id_of};
 
 use crate::addressing::is_nobody_here;
@@ -16,9 +18,8 @@ use crate::seeing::sees_as;
 use crate::states::has_next;
 use crate::subjects::ref_id;
 use fedi_address::Iri;
-use fedi_kept::Kept;
 use fedi_objects::Activity;
-use fedi_register::{can_be_undone, is_about, is_by, is_follow, is_open, is_pending};
+use fedi_register::{Kept, can_be_undone, is_about, is_by, is_follow, is_open, is_pending};
 use fedi_town::{Deed, Refusal};
 
 // ---- what the author sees
@@ -183,11 +184,12 @@ fn judge_number(facts: &Facts, author: &Iri) -> Result<(), Refusal>
     }
 }
 
-/// Whether a member, who is the author with this id, may post the activity (ActivityPub, section 6).
-/// What the author does not see is missing to the author. The error is the first rule that the
-/// activity breaks: it is about nothing that is there, about what somebody else made or did, about an
-/// object that was deleted or that may not be shared, about an actor behind a Block, it answers or
-/// undoes what is in another state, or the author has 4,294,967,295 activities. It takes no memory.
+/// Whether a member, who is the author with this id, may post the activity (ActivityPub, section
+/// 6). What the author does not see is missing to the author. The error is the first rule that the
+/// activity breaks: it is about nothing that is there, about what somebody else made or did, about
+/// an object that was deleted or that may not be shared, about an actor behind a Block, it answers
+/// or undoes what is in another state, or the author has 4,294,967,295 activities. It takes no
+/// memory.
 pub fn judge_local(facts: &Facts, author: &Iri, activity: &Activity) -> Result<(), Refusal>
     ensures { (name : List ℕ) → id_of facts.now.town name ≡ Some author.now
         → result_err result

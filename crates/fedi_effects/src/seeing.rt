@@ -5,13 +5,12 @@ ghost use Rattle.fedi_town.specs.Seeing.{sees_as};
 
 use crate::facts::Facts;
 use fedi_address::{Iri, is_among};
-use fedi_kept::Kept;
-use fedi_register::is_by;
+use fedi_register::{Kept, is_by};
 
-/// Whether the actor of this id sees the activity (ActivityPub, sections 5, 6 and 6.9): its own, and
-/// where no Block stands between it and the author what is public, what goes to it, and what is for the
-/// author's followers while it is one. A Follow is looked up for the latter alone, and a Block last, for
-/// what would be seen without it.
+/// Whether the actor of this id sees the activity (ActivityPub, sections 5, 6 and 6.9): its own,
+/// and where no Block stands between it and the author what is public, what goes to it, and what is
+/// for the author's followers while it is one. A Follow is looked up for the latter alone, and a
+/// Block last, for what would be seen without it.
 #[tactic(auto, unfolding(fedi_town::specs::Seeing::sees_as, fedi_town::specs::Seeing::is_for_follower))]
 pub fn sees_as(facts: &Facts, id: &Iri, act: &Kept) -> bool
     ensures { result ≡ sees_as facts.now.town id.now act.now }

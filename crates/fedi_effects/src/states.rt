@@ -5,7 +5,9 @@ ghost use Rattle.std.specs.List.{list_any};
 ghost use Rattle.fedi_town.specs.Deeds.{is_open, is_pending};
 ghost use Rattle.fedi_town.specs.Objects.{makes};
 ghost use Rattle.fedi_town.specs.Relations.{ref_id};
-ghost use Rattle.fedi_town.specs.States.{can_be_undone, follow_state, has_room, is_follow_for, is_live_to, is_locked, is_own_live, is_own_undoable, is_public_act, only_where, state_about, state_of};
+ghost use Rattle.fedi_town.specs.States.{can_be_undone, follow_state, has_room, is_follow_for};
+ghost use Rattle.fedi_town.specs.States.{is_live_to, is_locked, is_own_live, is_own_undoable};
+ghost use Rattle.fedi_town.specs.States.{is_public_act, only_where, state_about, state_of};
 ghost use Rattle.fedi_town.specs.Towns.{count_after, has_next};
 ghost use Rattle.fedi_effects.specs.Subjects.{subject_of};
 
@@ -13,9 +15,8 @@ use crate::facts::Facts;
 use crate::seeing::sees_as;
 use crate::subjects::{is_whole, ref_id};
 use fedi_address::Iri;
-use fedi_kept::Kept;
 use fedi_objects::{ObjectRef, State};
-use fedi_register::{can_be_undone, is_about, is_by, is_follow, is_open, is_pending};
+use fedi_register::{Kept, can_be_undone, is_about, is_by, is_follow, is_open, is_pending};
 use fedi_town::{Deed, MOST_ACTIVITIES};
 
 // The state where the condition holds, and else Plain.
@@ -98,8 +99,8 @@ fn is_locked(facts: &Facts, id: &Iri) -> bool
     facts.members().has_locked(id)
 }
 
-// What becomes of a Follow of this member: a Block refuses it, and else it is accepted at once, where
-// the member is not locked and has room for the Accept (ActivityPub, section 7.5).
+// What becomes of a Follow of this member: a Block refuses it, and else it is accepted at once,
+// where the member is not locked and has room for the Accept (ActivityPub, section 7.5).
 #[tactic(auto, unfolding(fedi_town::specs::States::follow_state))]
 fn follow_state(facts: &Facts, author: &Iri, id: &Iri) -> State
     ensures { result ≡ follow_state facts.now.town author.now id.now }

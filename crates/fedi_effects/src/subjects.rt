@@ -7,8 +7,8 @@ ghost use Rattle.fedi_effects.specs.Subjects.{subject_of};
 
 use crate::facts::Facts;
 use fedi_address::Iri;
-use fedi_kept::Kept;
 use fedi_objects::ObjectRef;
+use fedi_register::Kept;
 use fedi_town::Deed;
 
 /// The id of what an activity is about.
@@ -33,9 +33,9 @@ pub fn is_whole(object: &ObjectRef) -> bool
     }
 }
 
-/// The earlier activity that an activity about this acts on: the Create of the object that it changes,
-/// deletes, likes or shares, or the activity that it accepts, rejects or undoes. State, effect and
-/// recipients depend on it, so it is found once.
+/// The earlier activity that an activity about this acts on: the Create of the object that it
+/// changes, deletes, likes or shares, or the activity that it accepts, rejects or undoes. State,
+/// effect and recipients depend on it, so it is found once.
 pub fn subject_of<'a>(facts: &'a Facts, deed: Deed, object: &ObjectRef) -> Option<&'a Kept>
     ensures { option_copied result ≡ subject_of facts.now.town deed (ref_id object.now) }
 {

@@ -9,8 +9,7 @@ ghost use Rattle.fedi_register.specs.Marks.{every, marks_from};
 
 use crate::progress::{Standing, after_attempt};
 use fedi_address::Iri;
-use fedi_kept::Trace;
-use fedi_register::{MOST_ITEMS, Marks, Seed};
+use fedi_register::{MOST_ITEMS, Marks, Seed, Trace};
 use fedi_text::Moment;
 use fedi_town::Attempt;
 use std::alloc::{AllocError, Global};

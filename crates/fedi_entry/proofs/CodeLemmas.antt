@@ -14,7 +14,8 @@ use Rattle.fedi_entry.specs.Codes.{u16_code, u32_code, u64_code, bool_code, text
 abbrev pub IsShort : List ℕ → Type 0
 IsShort xs = length xs < 2 ^ 32
 
--- the code tells the value, whatever follows: two codes with what follows them are alike only where the values are
+-- the code tells the value, whatever follows: two codes with what follows them are alike only where
+-- the values are
 pub record Tells {X : Type 0} (code : X → List ℕ) : Type 0 where
   pub back : (a b : X) (s t : List ℕ) → IsShort (code a ++ s) → code a ++ s ≡ code b ++ t → (a ≡ b) × (s ≡ t)
 

@@ -1,4 +1,5 @@
--- Where each field has its form, digests and keys have 32 bytes, numbers the bits that they are written in, and it keeps its limit.
+-- Where each field has its form, digests and keys have 32 bytes, numbers the bits that they are
+-- written in, and it keeps its limit.
 use Rattle.std.proofs.Common.{ℕ, ◌<◌, ◌^◌, Bool, List, [], ◌∷◌, Option, Some, None, arith}
 use Rattle.std.specs.List.{AllByRecursion}
 use Rattle.std.specs.Prelude.{IfSome}

@@ -1,4 +1,5 @@
--- What is read is the code of what was read, and a code is read again: for numbers, keys and texts, and for what is made of these.
+-- What is read is the code of what was read, and a code is read again: for numbers, keys and texts,
+-- and for what is made of these.
 use Rattle.std.proofs.Common.{◌≡◌, ◌⊎◌, ℕ, zero, suc, ◌+◌, ◌^◌, ◌<◌, ◌≤◌, Bool, true, false, cond, ltb, List, [], ◌∷◌, ◌++◌, length, get_or, take, drop, Option, Some, None, Result, Ok, Err, refl, sym, ap, subst, ◌∙◌, append_assoc, arith, inl, inr}
 use Rattle.std.specs.Prelude.{IfSome, IsTrue, ◌&&◌, ◌==◌, nat_le}
 use Rattle.std.specs.List.{flat_map, AllByRecursion}

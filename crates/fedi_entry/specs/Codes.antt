@@ -1,5 +1,6 @@
 -- How an entry of a history is written as bytes. The format is this server's own.
-use Rattle.std.specs.Prelude.{◌≡◌, ◌<◌, ◌^◌, ℕ, Bool, true, false, List, [], ◌∷◌, ◌++◌, length, Option, Some, None}
+use Rattle.std.specs.Prelude.{◌≡◌, ◌<◌, ◌^◌, ℕ, Bool, true, false, List, [], ◌∷◌, ◌++◌, length}
+use Rattle.std.specs.Prelude.{Option, Some, None}
 use Rattle.std.specs.List.{flat_map}
 use Rattle.std.specs.Int.{to_be_bytes, w16, w32, w64}
 use Rattle.fedi_address.specs.declared.recipients.Recipients.{Recipients}
@@ -9,7 +10,8 @@ use Rattle.fedi_objects.specs.declared.activity.ObjectRef.{ObjectRef}
 use Rattle.fedi_objects.specs.declared.activity.ObjectRef.TheVariants.{Nothing, Id, Whole, Changed}
 use Rattle.fedi_objects.specs.declared.entry.Came.{Came}
 use Rattle.fedi_objects.specs.declared.entry.Entry.{Entry}
-use Rattle.fedi_objects.specs.declared.entry.Entry.TheVariants.{Hosted, Made, PeerSet, Local, Remote, Tried}
+use Rattle.fedi_objects.specs.declared.entry.Entry.TheVariants.{Hosted, Made, PeerSet, Local}
+use Rattle.fedi_objects.specs.declared.entry.Entry.TheVariants.{Remote, Tried}
 use Rattle.fedi_objects.specs.declared.entry.Sent.{Sent}
 use Rattle.fedi_objects.specs.declared.entry.Sent.TheVariants.{Lookup, Post}
 use Rattle.fedi_objects.specs.declared.entry.What.{What}
@@ -62,7 +64,8 @@ tag_code tag = text_code tag.href ++ text_code tag.name
 
 -- the last three fields of recipients: bto, bcc, audience
 unfoldable pub hidden_code : Recipients → List ℕ
-hidden_code r = list_code text_code r.bto ++ (list_code text_code r.bcc ++ list_code text_code r.audience)
+hidden_code r =
+    list_code text_code r.bto ++ (list_code text_code r.bcc ++ list_code text_code r.audience)
 
 -- the five fields of recipients: to, cc, bto, bcc, audience
 unfoldable pub recipients_code : Recipients → List ℕ
@@ -70,35 +73,45 @@ recipients_code r = list_code text_code r.to ++ (list_code text_code r.cc ++ hid
 
 -- three texts that may be absent
 unfoldable pub words_code : Option (List ℕ) → Option (List ℕ) → Option (List ℕ) → List ℕ
-words_code content summary name = option_code text_code content ++ (option_code text_code summary ++ option_code text_code name)
+words_code content summary name =
+    option_code text_code content ++ (option_code text_code summary ++ option_code text_code name)
 
 -- the first part of an object: id, type, attributedTo
 unfoldable pub object_head : Object → List ℕ
-object_head o = option_code text_code o.id ++ (text_code o.kind ++ option_code text_code o.attributed_to)
+object_head o =
+    option_code text_code o.id ++ (text_code o.kind ++ option_code text_code o.attributed_to)
 
 -- what an object says: inReplyTo, content, summary, name, url
 unfoldable pub object_words : Object → List ℕ
-object_words o = option_code text_code o.in_reply_to ++ (words_code o.content o.summary o.name ++ option_code text_code o.url)
+object_words o =
+    option_code text_code o.in_reply_to
+    ++ (words_code o.content o.summary o.name ++ option_code text_code o.url)
 
 -- what became of an object, and when: published, updated, formerType, deleted
 unfoldable pub object_times : Object → List ℕ
 object_times o =
-    option_code text_code o.published ++ (option_code text_code o.updated ++ (option_code text_code o.former_kind ++ option_code text_code o.deleted))
+    option_code text_code o.published ++ (option_code text_code o.updated
+    ++ (option_code text_code o.former_kind ++ option_code text_code o.deleted))
 
 -- an object: its first part, the recipients, what it says, what became of it, tag
 unfoldable pub object_code : Object → List ℕ
-object_code o = object_head o ++ (recipients_code o.recipients ++ (object_words o ++ (object_times o ++ list_code tag_code o.tags)))
+object_code o =
+    object_head o ++ (recipients_code o.recipients
+    ++ (object_words o ++ (object_times o ++ list_code tag_code o.tags)))
 
 -- what is done to three texts: content, summary, name
 unfoldable pub edits_code : Edit (List ℕ) → Edit (List ℕ) → Edit (List ℕ) → List ℕ
-edits_code content summary name = edit_code text_code content ++ (edit_code text_code summary ++ edit_code text_code name)
+edits_code content summary name =
+    edit_code text_code content ++ (edit_code text_code summary ++ edit_code text_code name)
 
--- what is changed in an object: its id, and what is done to content, summary, name, url, inReplyTo, tag
+-- what is changed in an object: its id, and what is done to content, summary, name, url, inReplyTo,
+-- tag
 unfoldable pub change_code : Change → List ℕ
 change_code c =
     text_code c.id
     ++ (edits_code c.content c.summary c.name
-    ++ (edit_code text_code c.url ++ (edit_code text_code c.in_reply_to ++ edit_code (list_code tag_code) c.tags)))
+    ++ (edit_code text_code c.url
+    ++ (edit_code text_code c.in_reply_to ++ edit_code (list_code tag_code) c.tags)))
 
 -- what an activity is about: nothing, an address, a whole object or a change
 unfoldable pub object_ref_code : ObjectRef → List ℕ
@@ -115,13 +128,15 @@ activity_head a = option_code text_code a.id ++ (kind_number a.kind ∷ option_c
 unfoldable pub activity_words : Activity → List ℕ
 activity_words a =
     option_code text_code a.in_reply_to
-    ++ (words_code a.content a.summary a.name ++ (option_code text_code a.published ++ list_code tag_code a.tags))
+    ++ (words_code a.content a.summary a.name
+    ++ (option_code text_code a.published ++ list_code tag_code a.tags))
 
 -- an activity: its first part, object, target, the recipients, what it says
 unfoldable pub activity_code : Activity → List ℕ
 activity_code a =
     activity_head a
-    ++ (object_ref_code a.object ++ (option_code text_code a.target ++ (recipients_code a.recipients ++ activity_words a)))
+    ++ (object_ref_code a.object
+    ++ (option_code text_code a.target ++ (recipients_code a.recipients ++ activity_words a)))
 
 -- a key for repeats, and the digest of what was posted under it
 unfoldable pub repeat_code : List ℕ × List ℕ → List ℕ
@@ -155,13 +170,17 @@ entry_number (Tried _ _ _ _) = 6
 -- the fields of an entry
 unfoldable pub fields_code : Entry → List ℕ
 fields_code (Hosted host moment) = text_code host ++ u64_code moment
-fields_code (Made name digest locked moment) = text_code name ++ (digest ++ (bool_code locked ++ u64_code moment))
+fields_code (Made name digest locked moment) =
+    text_code name ++ (digest ++ (bool_code locked ++ u64_code moment))
 fields_code (PeerSet host key address relay moment) =
     text_code host ++ (key ++ (text_code address ++ (bool_code relay ++ u64_code moment)))
 fields_code (Local name repeat activity moment) =
-    text_code name ++ (option_code repeat_code repeat ++ (activity_code activity ++ u64_code moment))
-fields_code (Remote peer inbox activity moment) = text_code peer ++ (text_code inbox ++ (activity_code activity ++ u64_code moment))
-fields_code (Tried activity recipient came moment) = text_code activity ++ (text_code recipient ++ (came_code came ++ u64_code moment))
+    text_code name
+    ++ (option_code repeat_code repeat ++ (activity_code activity ++ u64_code moment))
+fields_code (Remote peer inbox activity moment) =
+    text_code peer ++ (text_code inbox ++ (activity_code activity ++ u64_code moment))
+fields_code (Tried activity recipient came moment) =
+    text_code activity ++ (text_code recipient ++ (came_code came ++ u64_code moment))
 
 -- an entry: which kind, and its fields
 unfoldable pub code_of : Entry → List ℕ
@@ -186,7 +205,8 @@ HasSizes (Local name repeat activity moment) = HasDigest repeat × (moment < 2 ^
 HasSizes (Remote peer inbox activity moment) = moment < 2 ^ 64
 HasSizes (Tried activity recipient came moment) = HasStatus came.what × (moment < 2 ^ 64)
 
--- nothing in the entry is too large for its bytes: each length and each count counts bytes of the code, of which there are fewer than 2 ^ 32
+-- nothing in the entry is too large for its bytes: each length and each count counts bytes of the
+-- code, of which there are fewer than 2 ^ 32
 pub record Fits (entry : Entry) : Type 0 where
   pub sizes : HasSizes entry
   pub short : length (code_of entry) < 2 ^ 32

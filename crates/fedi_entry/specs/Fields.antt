@@ -1,5 +1,6 @@
 -- What the fields of an entry have to look like, each by itself.
-use Rattle.std.specs.Prelude.{◌≡◌, ◌<◌, ◌≤◌, ◌^◌, ℕ, Bool, false, ◌&&◌, nat_le, List, length, Option, Some, None, IfSome, IsTrue, codes, bytes_eq}
+use Rattle.std.specs.Prelude.{◌≡◌, ◌<◌, ◌≤◌, ◌^◌, ℕ, Bool, false, ◌&&◌, nat_le, List, length}
+use Rattle.std.specs.Prelude.{Option, Some, None, IfSome, IsTrue, codes, bytes_eq}
 use Rattle.std.specs.List.{AllByRecursion}
 use Rattle.std.specs.Str.{is_utf8}
 use Rattle.fedi_address.specs.declared.recipients.Recipients.{Recipients}
@@ -14,7 +15,8 @@ use Rattle.fedi_objects.specs.declared.activity.Activity.{Activity}
 use Rattle.fedi_objects.specs.declared.activity.ObjectRef.{ObjectRef}
 use Rattle.fedi_objects.specs.declared.activity.ObjectRef.TheVariants.{Nothing, Id, Whole, Changed}
 use Rattle.fedi_objects.specs.declared.entry.Entry.{Entry}
-use Rattle.fedi_objects.specs.declared.entry.Entry.TheVariants.{Hosted, Made, PeerSet, Local, Remote, Tried}
+use Rattle.fedi_objects.specs.declared.entry.Entry.TheVariants.{Hosted, Made, PeerSet, Local}
+use Rattle.fedi_objects.specs.declared.entry.Entry.TheVariants.{Remote, Tried}
 use Rattle.fedi_objects.specs.declared.entry.Sent.{Sent}
 use Rattle.fedi_objects.specs.declared.entry.Sent.TheVariants.{Lookup, Post}
 use Rattle.fedi_objects.specs.declared.entry.What.{What}
@@ -38,7 +40,8 @@ is_iri text = is_own (normal text) text && nat_le (length text) 2048
 
 -- a host: `https://HOST/` is its own normal text (URL Standard, 4.5)
 unfoldable pub is_host : List ℕ → Bool
-is_host text = is_host_text text && is_own (normal (address text (codes "/"))) (address text (codes "/"))
+is_host text =
+    is_host_text text && is_own (normal (address text (codes "/"))) (address text (codes "/"))
 
 -- which test a text passes that has these limits
 abbrev pub test_of : Limit → List ℕ → Bool
@@ -90,7 +93,8 @@ IsTag tag = IsText is_iri tag.href × IsText is_text tag.name
 abbrev pub AreRecipients : Recipients → Type 0
 AreRecipients r =
     IsList (IsText is_iri) r.to × (IsList (IsText is_iri) r.cc
-    × (IsList (IsText is_iri) r.bto × (IsList (IsText is_iri) r.bcc × IsList (IsText is_iri) r.audience)))
+    × (IsList (IsText is_iri) r.bto
+    × (IsList (IsText is_iri) r.bcc × IsList (IsText is_iri) r.audience)))
 
 -- content, summary and name
 abbrev pub AreWords : Option (List ℕ) → Option (List ℕ) → Option (List ℕ) → Type 0
@@ -102,7 +106,8 @@ AreObjectWords o = IfIri o.in_reply_to × (AreWords o.content o.summary o.name �
 
 -- what became of an object, and when
 abbrev pub AreObjectTimes : Object → Type 0
-AreObjectTimes o = IfDate o.published × (IfDate o.updated × (IfKind o.former_kind × IfDate o.deleted))
+AreObjectTimes o =
+    IfDate o.published × (IfDate o.updated × (IfKind o.former_kind × IfDate o.deleted))
 
 -- an object
 abbrev pub IsObject : Object → Type 0
@@ -114,8 +119,10 @@ IsObject o =
 abbrev pub IsChange : Change → Type 0
 IsChange c =
     IsText is_iri c.id
-    × ((IfGiven (IsText is_text) c.content × (IfGiven (IsText is_text) c.summary × IfGiven (IsText is_text) c.name))
-    × (IfGiven (IsText is_iri) c.url × (IfGiven (IsText is_iri) c.in_reply_to × IfGiven (IsList IsTag) c.tags)))
+    × ((IfGiven (IsText is_text) c.content
+    × (IfGiven (IsText is_text) c.summary × IfGiven (IsText is_text) c.name))
+    × (IfGiven (IsText is_iri) c.url
+    × (IfGiven (IsText is_iri) c.in_reply_to × IfGiven (IsList IsTag) c.tags)))
 
 -- what an activity is about
 abbrev pub IsObjectRef : ObjectRef → Type 0
@@ -127,7 +134,8 @@ IsObjectRef (Changed change) = IsChange change
 -- what an activity itself says
 abbrev pub AreActivityWords : Activity → Type 0
 AreActivityWords a =
-    IfIri a.in_reply_to × (AreWords a.content a.summary a.name × (IfDate a.published × IsList IsTag a.tags))
+    IfIri a.in_reply_to
+    × (AreWords a.content a.summary a.name × (IfDate a.published × IsList IsTag a.tags))
 
 -- an activity
 abbrev pub IsActivity : Activity → Type 0
@@ -168,4 +176,5 @@ IsFormed (Local name repeat activity moment) =
 IsFormed (Remote peer inbox activity moment) =
     IsText is_host peer × (IsText is_name inbox × (IsActivity activity × IsMoment moment))
 IsFormed (Tried activity recipient came moment) =
-    IsText is_iri activity × (IsText is_iri recipient × (MayCome came.step came.what × IsMoment moment))
+    IsText is_iri activity
+    × (IsText is_iri recipient × (MayCome came.step came.what × IsMoment moment))

@@ -1,5 +1,5 @@
--- The limits that no type of a field tells. An address, a host, a name or a moment is one by its type; a text may be too long for
--- where it is, and a status no status.
+-- The limits that no type of a field tells. An address, a host, a name or a moment is one by its
+-- type; a text may be too long for where it is, and a status no status.
 use Rattle.std.specs.Prelude.{ℕ, Bool, List, Option, IfSome, IsTrue}
 use Rattle.std.specs.List.{AllByRecursion}
 use Rattle.fedi_objects.specs.Limits.{is_address, is_date, is_text, is_type}
@@ -7,7 +7,8 @@ use Rattle.fedi_objects.specs.declared.activity.Activity.{Activity}
 use Rattle.fedi_objects.specs.declared.activity.ObjectRef.{ObjectRef}
 use Rattle.fedi_objects.specs.declared.activity.ObjectRef.TheVariants.{Nothing, Id, Whole, Changed}
 use Rattle.fedi_objects.specs.declared.entry.Entry.{Entry}
-use Rattle.fedi_objects.specs.declared.entry.Entry.TheVariants.{Hosted, Made, PeerSet, Local, Remote, Tried}
+use Rattle.fedi_objects.specs.declared.entry.Entry.TheVariants.{Hosted, Made, PeerSet, Local}
+use Rattle.fedi_objects.specs.declared.entry.Entry.TheVariants.{Remote, Tried}
 use Rattle.fedi_objects.specs.declared.object.Change.{Change}
 use Rattle.fedi_objects.specs.declared.object.Object.{Object}
 use Rattle.fedi_objects.specs.declared.object.Tag.{Tag}
@@ -31,21 +32,27 @@ AreTagsWithin tags = AllByRecursion IsTagWithin tags
 
 -- content, summary and name
 abbrev pub AreWordsWithin : Option (List ℕ) → Option (List ℕ) → Option (List ℕ) → Type 0
-AreWordsWithin content summary name = IfPasses is_text content × (IfPasses is_text summary × IfPasses is_text name)
+AreWordsWithin content summary name =
+    IfPasses is_text content × (IfPasses is_text summary × IfPasses is_text name)
 
 -- what became of an object, and when
 abbrev pub AreTimesWithin : Object → Type 0
-AreTimesWithin o = IfPasses is_date o.published × (IfPasses is_date o.updated × (IfPasses is_type o.former_kind × IfPasses is_date o.deleted))
+AreTimesWithin o =
+    IfPasses is_date o.published
+    × (IfPasses is_date o.updated × (IfPasses is_type o.former_kind × IfPasses is_date o.deleted))
 
 -- an object
 abbrev pub IsObjectWithin : Object → Type 0
-IsObjectWithin o = Passes is_type o.kind × (AreWordsWithin o.content o.summary o.name × (AreTimesWithin o × AreTagsWithin o.tags))
+IsObjectWithin o =
+    Passes is_type o.kind
+    × (AreWordsWithin o.content o.summary o.name × (AreTimesWithin o × AreTagsWithin o.tags))
 
 -- a change of an object
 abbrev pub IsChangeWithin : Change → Type 0
 IsChangeWithin c =
     IfGiven (Passes is_text) c.content
-    × (IfGiven (Passes is_text) c.summary × (IfGiven (Passes is_text) c.name × IfGiven AreTagsWithin c.tags))
+    × (IfGiven (Passes is_text) c.summary
+    × (IfGiven (Passes is_text) c.name × IfGiven AreTagsWithin c.tags))
 
 -- what an activity is about
 abbrev pub IsObjectRefWithin : ObjectRef → Type 0
@@ -56,7 +63,9 @@ IsObjectRefWithin (Changed change) = IsChangeWithin change
 
 -- what an activity itself says
 abbrev pub IsSaidWithin : Activity → Type 0
-IsSaidWithin a = AreWordsWithin a.content a.summary a.name × (IfPasses is_date a.published × AreTagsWithin a.tags)
+IsSaidWithin a =
+    AreWordsWithin a.content a.summary a.name
+    × (IfPasses is_date a.published × AreTagsWithin a.tags)
 
 -- an activity
 abbrev pub IsActivityWithin : Activity → Type 0

@@ -1,6 +1,9 @@
--- Reading the code of an entry from left to right, up to the first field that cannot be read. A field is a number, a key, a
--- text or one of the bytes that say what follows. Where one cannot be read, what comes out is how many bytes are left there.
-use Rattle.std.specs.Prelude.{◌≡◌, ◌-◌, ◌==◌, ℕ, zero, suc, Bool, true, false, ◌&&◌, nat_lt, nat_le, if◌then◌else◌, List, [], ◌∷◌, length, take, drop, find, Option, Some, None, Result, Ok, Err}
+-- Reading the code of an entry from left to right, up to the first field that cannot be read. A
+-- field is a number, a key, a text or one of the bytes that say what follows. Where one cannot be
+-- read, what comes out is how many bytes are left there.
+use Rattle.std.specs.Prelude.{◌≡◌, ◌-◌, ◌==◌, ℕ, zero, suc, Bool, true, false, ◌&&◌, nat_lt, nat_le}
+use Rattle.std.specs.Prelude.{if◌then◌else◌, List, [], ◌∷◌, length, take, drop, find, Option, Some}
+use Rattle.std.specs.Prelude.{None, Result, Ok, Err}
 use Rattle.std.specs.Int.{Width, byte_len, from_be_bytes, w16, w32, w64}
 use Rattle.std.specs.Str.{is_utf8}
 use Rattle.fedi_address.specs.declared.recipients.Recipients.{Recipients}
@@ -12,7 +15,8 @@ use Rattle.fedi_objects.specs.declared.activity.ObjectRef.{ObjectRef}
 use Rattle.fedi_objects.specs.declared.activity.ObjectRef.TheVariants.{Nothing, Id, Whole, Changed}
 use Rattle.fedi_objects.specs.declared.entry.Came.{Came}
 use Rattle.fedi_objects.specs.declared.entry.Entry.{Entry}
-use Rattle.fedi_objects.specs.declared.entry.Entry.TheVariants.{Hosted, Made, PeerSet, Local, Remote, Tried}
+use Rattle.fedi_objects.specs.declared.entry.Entry.TheVariants.{Hosted, Made, PeerSet, Local}
+use Rattle.fedi_objects.specs.declared.entry.Entry.TheVariants.{Remote, Tried}
 use Rattle.fedi_objects.specs.declared.entry.Sent.{Sent}
 use Rattle.fedi_objects.specs.declared.entry.Sent.TheVariants.{Lookup, Post}
 use Rattle.fedi_objects.specs.declared.entry.What.{What}
@@ -37,7 +41,8 @@ use Rattle.fedi_entry.specs.declared.read_objects.ObjectTimes.{ObjectTimes}
 use Rattle.fedi_entry.specs.declared.read_objects.ObjectWords.{ObjectWords}
 use Rattle.fedi_entry.specs.declared.read_objects.Words.{Words}
 
--- what is read at the front of bytes, and the bytes after it; or how many are left where the field begins that cannot be read
+-- what is read at the front of bytes, and the bytes after it; or how many are left where the field
+-- begins that cannot be read
 abbrev pub Read : Type 0 → Type 0
 Read X = Result (X × List ℕ) ℕ
 
@@ -75,13 +80,15 @@ number_at w bytes =
 
 -- so many bytes
 abbrev pub bytes_at : ℕ → Reader (List ℕ)
-bytes_at n bytes = if nat_lt (length bytes) n then Err (length bytes) else Ok (take n bytes, drop n bytes)
+bytes_at n bytes =
+    if nat_lt (length bytes) n then Err (length bytes) else Ok (take n bytes, drop n bytes)
 
 -- a length, and so many bytes
 abbrev pub slice_at : Reader (List ℕ)
 slice_at bytes = do
   len ← number_at w32 bytes
-  if nat_lt (length len.1) len.0 then Err (length bytes) else Ok (take len.0 len.1, drop len.0 len.1)
+  if nat_lt (length len.1) len.0 then Err (length bytes)
+      else Ok (take len.0 len.1, drop len.0 len.1)
 
 -- a text in UTF-8
 unfoldable pub utf8_at : Reader (List ℕ)
@@ -170,7 +177,8 @@ tag_at = made_of (λ p. record { href = p.0; name = p.1 }) (iri_at & content_at)
 -- the five fields of recipients
 unfoldable pub recipients_at : Reader Recipients
 recipients_at =
-    made_of (λ p. record { to = p.0; cc = p.1.0; bto = p.1.1.0; bcc = p.1.1.1.0; audience = p.1.1.1.1 })
+    made_of
+    (λ p. record { to = p.0; cc = p.1.0; bto = p.1.1.0; bcc = p.1.1.1.0; audience = p.1.1.1.1 })
     (list_at iri_at & list_at iri_at & list_at iri_at & list_at iri_at & list_at iri_at)
 
 -- content, summary, name
@@ -194,7 +202,8 @@ object_words_at =
 -- what became of an object, and when
 unfoldable pub object_times_at : Reader ObjectTimes
 object_times_at =
-    made_of (λ p. record { published = p.0; updated = p.1.0; former_kind = p.1.1.0; deleted = p.1.1.1 })
+    made_of
+    (λ p. record { published = p.0; updated = p.1.0; former_kind = p.1.1.0; deleted = p.1.1.1 })
     (option_at date_at & option_at date_at & option_at (text_at is_type) & option_at date_at)
 
 -- the object of these parts
@@ -229,7 +238,8 @@ changed_words_at =
     (edit_at content_at & edit_at content_at & edit_at content_at)
 
 -- the change of these parts
-abbrev pub change_of : List ℕ → ChangedWords → Edit (List ℕ) → Edit (List ℕ) → Edit (List Tag) → Change
+abbrev pub change_of : List ℕ → ChangedWords → Edit (List ℕ) → Edit (List ℕ)
+    → Edit (List Tag) → Change
 change_of id words url in_reply_to tags = record {
   id = id;
   content = words.content;
@@ -274,7 +284,8 @@ kind_at bytes = do
 -- the first part of an activity
 unfoldable pub activity_head_at : Reader ActivityHead
 activity_head_at =
-    made_of (λ p. record { id = p.0; kind = p.1.0; actor = p.1.1 }) (option_at iri_at & kind_at & option_at iri_at)
+    made_of (λ p. record { id = p.0; kind = p.1.0; actor = p.1.1 })
+    (option_at iri_at & kind_at & option_at iri_at)
 
 -- what an activity says
 unfoldable pub activity_words_at : Reader ActivityWords
@@ -283,7 +294,8 @@ activity_words_at =
     (option_at iri_at & words_at & option_at date_at & list_at tag_at)
 
 -- the activity of these parts
-abbrev pub activity_of : ActivityHead → ObjectRef → Option (List ℕ) → Recipients → ActivityWords → Activity
+abbrev pub activity_of : ActivityHead → ObjectRef → Option (List ℕ) → Recipients
+    → ActivityWords → Activity
 activity_of head object target recipients says = record {
   id = head.id;
   kind = head.kind;
@@ -346,7 +358,8 @@ hosted_at = made_of (λ p. Hosted p.0 p.1) (text_at is_host & moment_at)
 -- a member was made
 unfoldable pub made_at : Reader Entry
 made_at =
-    made_of (λ p. Made p.0 p.1.0 p.1.1.0 p.1.1.1) (text_at is_name & bytes_at 32 & flag_at & moment_at)
+    made_of (λ p. Made p.0 p.1.0 p.1.1.0 p.1.1.1)
+    (text_at is_name & bytes_at 32 & flag_at & moment_at)
 
 -- another server became a peer
 unfoldable pub peer_set_at : Reader Entry
@@ -357,12 +370,14 @@ peer_set_at =
 -- a member's post
 unfoldable pub local_at : Reader Entry
 local_at =
-    made_of (λ p. Local p.0 p.1.0 p.1.1.0 p.1.1.1) (text_at is_name & option_at repeat_at & activity_at & moment_at)
+    made_of (λ p. Local p.0 p.1.0 p.1.1.0 p.1.1.1)
+    (text_at is_name & option_at repeat_at & activity_at & moment_at)
 
 -- a peer's delivery
 unfoldable pub remote_at : Reader Entry
 remote_at =
-    made_of (λ p. Remote p.0 p.1.0 p.1.1.0 p.1.1.1) (text_at is_host & text_at is_name & activity_at & moment_at)
+    made_of (λ p. Remote p.0 p.1.0 p.1.1.0 p.1.1.1)
+    (text_at is_host & text_at is_name & activity_at & moment_at)
 
 -- an attempt to deliver
 unfoldable pub tried_at : Reader Entry
@@ -392,7 +407,8 @@ abbrev pub placed : {X : Type 0} → ℕ → Result X ℕ → Result X ℕ
 placed len (Ok x) = Ok x
 placed len (Err left) = Err (len - left)
 
--- the entry of these bytes; or where the first field begins that cannot be read, or the entry ends, if bytes follow it
+-- the entry of these bytes; or where the first field begins that cannot be read, or the entry ends,
+-- if bytes follow it
 unfoldable pub read_entry : List ℕ → Result Entry ℕ
 read_entry bytes = placed (length bytes) (last_at bytes)
 
@@ -418,7 +434,8 @@ abbrev pub Ends : {X : Type 0} → Result X ReadFault → Result X ℕ → Type 
 Ends (Ok x) read = read ≡ Ok x
 Ends (Err fault) read = Fails fault read
 
--- it gives the entry that reading gives, or the place where reading stops, unless it ran out of memory
+-- it gives the entry that reading gives, or the place where reading stops, unless it ran out of
+-- memory
 abbrev pub Gives : Result Entry EntryFault → Result Entry ℕ → Type 0
 Gives (Ok entry) read = read ≡ Ok entry
 Gives (Err (ends.BadEntry place)) read = read ≡ Err place

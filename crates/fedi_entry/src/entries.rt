@@ -1,7 +1,8 @@
 //! Entries as bytes.
 
 ghost use Rattle.std.specs.Prelude.{◌≡◌, ◌++◌, ◌<◌, ◌^◌, length, IfOk, IfSome, OnOk};
-ghost use Rattle.fedi_entry.specs.Codes.{came_code, code_of, entry_number, fields_code, option_code, repeat_code, what_code, Fits};
+ghost use Rattle.fedi_entry.specs.Codes.{came_code, code_of, entry_number, fields_code};
+ghost use Rattle.fedi_entry.specs.Codes.{option_code, repeat_code, what_code, Fits};
 ghost use Rattle.fedi_entry.specs.Fields.{IsFormed, IsRepeat};
 ghost use Rattle.fedi_entry.specs.Limits.{KeepsLimits};
 
@@ -146,12 +147,13 @@ fn put_fields(bytes: &mut Vec<u8>, entry: &Entry) -> Result<(), AllocError>
     put_moment(bytes, *moment)
 }
 
-/// The bytes of an entry, from which the same entry is read again. Each of its fields has to keep its limit,
-/// as each does of an entry that may come next in a history.
+/// The bytes of an entry, from which the same entry is read again. Each of its fields has to keep
+/// its limit, as each does of an entry that may come next in a history.
 ///
-/// The error is out of memory. An entry that no record holds has it too: one of more than 4,294,967,295
-/// bytes, or with a list of more items, since no rule bounds the number of mentions. A caller can do no
-/// more about the one than about the other, and what can be posted or delivered is far smaller.
+/// The error is out of memory. An entry that no record holds has it too: one of more than
+/// 4,294,967,295 bytes, or with a list of more items, since no rule bounds the number of mentions.
+/// A caller can do no more about the one than about the other, and what can be posted or delivered
+/// is far smaller.
 #[tactic(auto, unfolding(crate::specs::Codes::code_of))]
 pub fn encode(alloc: Global, entry: &Entry) -> Result<Vec<u8>, AllocError>
     requires limits { KeepsLimits entry.now }

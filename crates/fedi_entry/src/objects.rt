@@ -2,7 +2,8 @@
 
 ghost use Rattle.std.specs.Prelude.{◌≡◌, ◌++◌, OnOk};
 ghost use Rattle.fedi_entry.specs.Codes.{activity_words, object_times, object_words, words_code};
-ghost use Rattle.fedi_entry.specs.Fields.{AreActivityWords, AreObjectTimes, AreObjectWords, AreWords};
+ghost use Rattle.fedi_entry.specs.Fields.{AreActivityWords, AreObjectTimes, AreObjectWords};
+ghost use Rattle.fedi_entry.specs.Fields.{AreWords};
 ghost use Rattle.fedi_entry.specs.Limits.{AreTimesWithin, AreWordsWithin, IsSaidWithin};
 
 use crate::values::{Encode, put_byte, put_text, put_text_option};

@@ -4,7 +4,9 @@ ghost use Rattle.std.specs.Prelude.{◌≡◌, ◌≢◌, ℕ, List, length, IfO
 ghost use Rattle.fedi_objects.specs.declared.entry.Entry.{Entry};
 ghost use Rattle.fedi_entry.specs.Codes.{code_of};
 ghost use Rattle.fedi_entry.specs.Fields.{IsFormed};
-ghost use Rattle.fedi_entry.specs.Reading.{entry_at, hosted_at, last_at, local_at, made_at, peer_set_at, read_entry, remote_at, sent_at, tried_at, what_at, Ends, Gives, Takes};
+ghost use Rattle.fedi_entry.specs.Reading.{entry_at, hosted_at, last_at, local_at, made_at};
+ghost use Rattle.fedi_entry.specs.Reading.{peer_set_at, read_entry, remote_at, sent_at, tried_at};
+ghost use Rattle.fedi_entry.specs.Reading.{what_at, Ends, Gives, Takes};
 
 use crate::fault::{EntryFault, ReadFault};
 use crate::known_hosts::KnownHosts;

@@ -3,7 +3,8 @@
 ghost use Rattle.std.specs.Prelude.{◌≡◌, length, IfOk, IfSome, None, false, true};
 ghost use Rattle.std.specs.Int.{w16, w32, w64};
 ghost use Rattle.fedi_entry.specs.Fields as fields;
-ghost use Rattle.fedi_entry.specs.Reading.{byte_at, bytes_at, iri_at, number_at, slice_at, status_at, text_at, utf8_at, Takes, TakesAs};
+ghost use Rattle.fedi_entry.specs.Reading.{byte_at, bytes_at, iri_at, number_at, slice_at};
+ghost use Rattle.fedi_entry.specs.Reading.{status_at, text_at, utf8_at, Takes, TakesAs};
 
 use crate::fault::ReadFault;
 use crate::known_hosts::KnownHosts;

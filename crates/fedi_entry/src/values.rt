@@ -1,12 +1,13 @@
 //! Appending values to a buffer.
 //!
-//! What is appended keeps its limits, so that nothing is tested but lengths and counts: one that does not
-//! fit in four bytes is refused as out of memory.
+//! What is appended keeps its limits, so that nothing is tested but lengths and counts: one that
+//! does not fit in four bytes is refused as out of memory.
 
 ghost use Rattle.std.specs.Prelude.{◌≡◌, ◌<◌, ◌^◌, ◌∷◌, [], ◌++◌, length, IfSome, IsTrue, OnOk};
 ghost use Rattle.std.specs.List.{flat_map, All};
 ghost use Rattle.std.specs.Str.{is_utf8};
-ghost use Rattle.fedi_entry.specs.Codes.{bool_code, option_code, text_code, u16_code, u32_code, u64_code};
+ghost use Rattle.fedi_entry.specs.Codes.{bool_code, option_code, text_code, u16_code, u32_code};
+ghost use Rattle.fedi_entry.specs.Codes.{u64_code};
 ghost use Rattle.fedi_entry.specs.Fields.{IsKey, IsMoment};
 
 use fedi_address::{Host, Iri, Items, LocalName};
@@ -14,7 +15,8 @@ use fedi_objects::Edit;
 use fedi_text::{Moment, Text};
 use std::alloc::AllocError;
 
-/// A value that has a code, limits that its type does not tell, and a form in which it is read again.
+/// A value that has a code, limits that its type does not tell, and a form in which it is read
+/// again.
 pub trait Encode {
     ghost use Rattle.std.specs.Prelude.{List, ℕ};
 
@@ -24,9 +26,9 @@ pub trait Encode {
 
     ghost form: { Self → Type 0 };
 
-    /// Appends the code of the value, which keeps its limits. The error is out of memory; it is given too
-    /// if a length or a count does not fit in four bytes. After an error the buffer ends with a part of
-    /// the code.
+    /// Appends the code of the value, which keeps its limits. The error is out of memory; it is
+    /// given too if a length or a count does not fit in four bytes. After an error the buffer ends
+    /// with a part of the code.
     fn put(&self, bytes: &mut Vec<u8>) -> Result<(), AllocError>
         requires limits { limits self.now }
         ensures code { OnOk result (bytes.new.items ≡ bytes.old.items ++ code self.now) }

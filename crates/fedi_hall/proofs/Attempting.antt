@@ -24,8 +24,8 @@ use Rattle.fedi_logged.proofs.Attempts.{exchanged_none, shown_begun}
 use Rattle.fedi_logged.proofs.Own.{own_one}
 use Rattle.fedi_objects.specs.declared.entry.Came.{Came}
 use Rattle.fedi_queue.specs.declared.rows.Claim.{Claim}
-use Rattle.fedi_talk.specs.Conversations.{IsNow, Setting}
-use Rattle.fedi_talk.specs.Turning.{setting_at}
+use Rattle.fedi_logged.specs.Conversations.{IsNow, Setting}
+use Rattle.fedi_logged.specs.Turning.{setting_at}
 use Rattle.fedi_town.specs.declared.act.Act.{Act}
 use Rattle.fedi_town.specs.Histories.{town}
 use Rattle.fedi_turn.specs.Record.{Continues, GrowsBy}

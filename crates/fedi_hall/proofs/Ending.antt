@@ -11,10 +11,10 @@ use Rattle.fedi_logged.specs.Logs.{AreSame, StandsFor}
 use Rattle.fedi_logged.proofs.Standing.{stands_first}
 use Rattle.fedi_delivery.specs.Exchanges.{Told}
 use Rattle.fedi_outside.specs.Doors.{Row}
-use Rattle.fedi_talk.specs.Conversations.{Setting}
+use Rattle.fedi_logged.specs.Conversations.{Setting}
 use Rattle.fedi_outside.specs.Keepers.{Crashes, KeeperState, LeavesRecords}
 use Rattle.fedi_outside.specs.declared.doors.Bench.{Bench}
-use Rattle.fedi_talk.specs.Turning.{setting_by}
+use Rattle.fedi_logged.specs.Turning.{setting_by}
 use Rattle.fedi_town.specs.Legal.{IsLegal}
 use Rattle.fedi_turn.specs.Record.{Continues}
 use Rattle.fedi_turn.specs.Turn.{AreNew, ContinuesEach, NamesOneOf, number_of, seen_of, start_of}

@@ -18,8 +18,8 @@ use Rattle.std.specs.contracts.alloc.Global as Global
 use Rattle.std.proofs.Crossing.{crosses}
 use Rattle.fedi_core.specs.contracts.machine.Core as Core
 use Rattle.fedi_core.specs.contracts.machine.Core.TheInside as CoreInside
-use Rattle.fedi_kept.proofs.trace.Trace.TheLaws.TheKnot.{crosses as traces_cross}
-use Rattle.fedi_kept.specs.contracts.trace.Trace as Trace
+use Rattle.fedi_register.proofs.trace.Trace.TheLaws.TheKnot.{crosses as traces_cross}
+use Rattle.fedi_register.specs.contracts.trace.Trace as Trace
 use Rattle.fedi_logged.specs.contracts.logged.Logged as Logged
 use Rattle.fedi_logged.specs.contracts.logged.Logged.TheInside as LoggedInside
 use Rattle.fedi_logged.specs.contracts.noted.Noted as Noted

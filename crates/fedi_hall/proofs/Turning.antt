@@ -5,7 +5,7 @@ use Rattle.fedi_log.specs.Log.{Goes, Log, NoEntry, Outcome, items_of}
 use Rattle.fedi_log.specs.declared.items.Item.{Item}
 use Rattle.fedi_logged.proofs.Own.{own_items}
 use Rattle.fedi_model.specs.declared.request.Request.{Request}
-use Rattle.fedi_talk.specs.Turning.{Tells, TurnTells}
+use Rattle.fedi_logged.specs.Turning.{Tells, TurnTells}
 use Rattle.fedi_turn.specs.Record.{Continues, GrowsBy}
 
 -- ---- what was added names the pass

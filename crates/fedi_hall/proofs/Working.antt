@@ -9,10 +9,10 @@ use Rattle.fedi_delivery.specs.Exchanges.{Told}
 use Rattle.fedi_logged.proofs.Attempts.{exchanged_more, exchanged_none}
 use Rattle.fedi_logged.specs.Attempts.{Exchange, HasExchanged}
 use Rattle.fedi_outside.specs.Doors.{Row, Spoken, with_row}
-use Rattle.fedi_talk.specs.Conversations.{Setting}
-use Rattle.fedi_talk.specs.Endings.{Faults, IsCaused, Output, Serves, faults_of, scene_of}
-use Rattle.fedi_talk.specs.Turning.{setting_at}
-use Rattle.fedi_talk.specs.declared.sessions.SessionEnd.{SessionEnd}
+use Rattle.fedi_logged.specs.Conversations.{Setting}
+use Rattle.fedi_logged.specs.Endings.{Faults, IsCaused, Output, Serves, faults_of, scene_of}
+use Rattle.fedi_logged.specs.Turning.{setting_at}
+use Rattle.fedi_logged.specs.declared.sessions.SessionEnd.{SessionEnd}
 use Rattle.fedi_turn.specs.Record.{Continues}
 use Rattle.fedi_hall.specs.Works.{HasWorked, IsServed, IsWorkOf, Works, output_after}
 
@@ -80,7 +80,8 @@ works_stay w seen now later xs [] goes more = (goes.0, goes_on w.by seen now lat
 works_stay w seen now later xs (r ∷ rows) works more =
     (works.0, works.1, works.2, works.3, works.4, works.5, works.6, works_stay w works.1 now later works.3 rows works.7 more)
 
--- what a worker did stays so over the log at the end, which goes on from what its pass has seen by items of others
+-- what a worker did stays so over the log at the end, which goes on from what its pass has seen by
+-- items of others
 pub worked_at_last : (w : Setting) (n : ℕ) (seen now log : Log) (before after : Option (List Row)) (asked heard : Told) → w.by ≡ Some n
     → Continues (λ (i : Item). i.pass) n now log → HasWorked w seen now before after asked heard → HasWorked w seen log before after asked heard
 worked_at_last w n seen now log before after asked heard is on held = record {

@@ -1,5 +1,7 @@
--- How a worker tries one delivery, over a log that others add to as well (ActivityPub, section 7.1).
-use Rattle.std.specs.Prelude.{◌≡◌, ◌⊎◌, ℕ, ◌≤◌, List, [], ◌∷◌, ◌++◌, length, Option, Result, Ok, Err}
+-- How a worker tries one delivery, over a log that others add to as well (ActivityPub, section
+-- 7.1).
+use Rattle.std.specs.Prelude.{◌≡◌, ◌⊎◌, ℕ, ◌≤◌, List, [], ◌∷◌, ◌++◌, length, Option, Result, Ok}
+use Rattle.std.specs.Prelude.{Err}
 use Rattle.std.specs.declared.alloc.AllocError.{AllocError}
 use Rattle.fedi_core.specs.declared.delivering.RecordFault.{RecordFault}
 use Rattle.fedi_core.specs.declared.delivering.RecordFault.TheVariants as records
@@ -16,36 +18,40 @@ use Rattle.fedi_objects.specs.declared.entry.Came.{Came}
 use Rattle.fedi_outside.specs.declared.turns.Rest.{Rest}
 use Rattle.fedi_outside.specs.declared.turns.Rest.TheVariants as rests
 use Rattle.fedi_queue.specs.declared.rows.Claim.{Claim}
-use Rattle.fedi_talk.specs.Conversations.{IsNow, Setting}
+use Rattle.fedi_logged.specs.Conversations.{IsNow, Setting}
 use Rattle.fedi_town.specs.Histories.{town}
 use Rattle.fedi_hall.specs.declared.delivering.Step.{Step}
 use Rattle.fedi_hall.specs.declared.delivering.Step.TheVariants.{Sent, Nothing, Fault, Full, Memory}
 
--- an attempt: the log at which its delivery was claimed, the delivery and the claim, and the log at which the attempt ended
+-- an attempt: the log at which its delivery was claimed, the delivery and the claim, and the log at
+-- which the attempt ended
 pub record Attempt : Type 0 where
   pub log : Log
   pub pair : Pair
   pub claim : Claim
   pub back : Log
 
--- The delivery is the first that was due and that nobody had claimed, at a moment that the clock gave, at a log that goes on from
--- what was seen; and the log at its end goes on from the claim by items of others.
+-- The delivery is the first that was due and that nobody had claimed, at a moment that the clock
+-- gave, at a log that goes on from what was seen; and the log at its end goes on from the claim by
+-- items of others.
 pub record IsAttempt (w : Setting) (seen : Log) (a : Attempt) : Type 0 where
   pub later : Goes w.by seen a.log
   pub first : IsFirst a.pair.activity a.pair.recipient (free_in a.log a.claim.moment)
   pub now : IsNow w.told a.claim.moment
   pub back : Goes w.by (a.log ++ claim_item w.by a.pair a.claim ∷ []) a.back
 
--- What came of it is what its exchanges show, with the requests at the history at which it was claimed; and it was recorded so, or
--- not, at the later of two moments that the clock gave.
-pub record Ends (w : Setting) (now : Log) (exchanges : List Exchange) (a : Attempt) (came : Came) (moment : ℕ) (recorded : Result (Unit {0}) RecordFault) : Type 0 where
+-- What came of it is what its exchanges show, with the requests at the history at which it was
+-- claimed; and it was recorded so, or not, at the later of two moments that the clock gave.
+pub record Ends (w : Setting) (now : Log) (exchanges : List Exchange) (a : Attempt) (came : Came)
+    (moment : ℕ) (recorded : Result (Unit {0}) RecordFault) : Type 0 where
   pub shows : ShowsCame (town (history_of a.log)) a.pair.activity a.pair.recipient exchanges came
   pub now_is : IsNow w.told moment
   pub later : a.claim.moment ≤ moment
   pub records : Records w.base w.by a.back now a.pair came moment recorded
 
 -- an attempt that was recorded so, or not
-pub record Tries (w : Setting) (seen now : Log) (exchanges : List Exchange) (claimed front : ℕ) (came : Came) (recorded : Result (Unit {0}) RecordFault) : Type 0 where
+pub record Tries (w : Setting) (seen now : Log) (exchanges : List Exchange) (claimed front : ℕ)
+    (came : Came) (recorded : Result (Unit {0}) RecordFault) : Type 0 where
   pub attempt : Attempt
   pub is : IsAttempt w seen attempt
   pub claimed_at : claimed ≡ length attempt.log
@@ -57,18 +63,25 @@ pub record Tries (w : Setting) (seen now : Log) (exchanges : List Exchange) (cla
 pub record GivesUp (w : Setting) (seen now : Log) (exchanges : List Exchange) : Type 0 where
   pub attempt : Attempt
   pub is : IsAttempt w seen attempt
-  pub begun : IsBegun (town (history_of attempt.log)) attempt.pair.activity attempt.pair.recipient exchanges
+  pub begun :
+      IsBegun (town (history_of attempt.log)) attempt.pair.activity attempt.pair.recipient exchanges
   pub released : now ≡ attempt.back ++ made_by w.by (Released attempt.pair) ∷ []
 
--- From what was seen of the log to what was seen then, with these exchanges: what came of an attempt was kept, at `front`; or the
--- keeper failed to keep it; or it had no room for it; or nothing that was due was left to claim; or there was no memory.
+-- From what was seen of the log to what was seen then, with these exchanges: what came of an
+-- attempt was kept, at `front`; or the keeper failed to keep it; or it had no room for it; or
+-- nothing that was due was left to claim; or there was no memory.
 abbrev pub IsStep : Setting → Log → Log → List Exchange → Step → Type 0
-IsStep w seen now exchanges (Sent claimed came front) = Tries w seen now exchanges claimed front came (Ok tt)
-IsStep w seen now exchanges (Fault claimed front) = (came : Came) × Tries w seen now exchanges claimed front came (Err records.KeeperFault)
-IsStep w seen now exchanges (Full claimed front) = (came : Came) × Tries w seen now exchanges claimed front came (Err records.Full)
+IsStep w seen now exchanges (Sent claimed came front) =
+    Tries w seen now exchanges claimed front came (Ok tt)
+IsStep w seen now exchanges (Fault claimed front) =
+    (came : Came) × Tries w seen now exchanges claimed front came (Err records.KeeperFault)
+IsStep w seen now exchanges (Full claimed front) =
+    (came : Came) × Tries w seen now exchanges claimed front came (Err records.Full)
 IsStep w seen now exchanges (Nothing front moment) =
-    (exchanges ≡ []) × Goes w.by seen now × (front ≡ length now) × IsNow w.told moment × (free_in now moment ≡ [])
-IsStep w seen now exchanges Memory = ((exchanges ≡ []) × Goes w.by seen now) ⊎ GivesUp w seen now exchanges
+    (exchanges ≡ []) × Goes w.by seen now × (front ≡ length now) × IsNow w.told moment
+    × (free_in now moment ≡ [])
+IsStep w seen now exchanges Memory =
+    ((exchanges ≡ []) × Goes w.by seen now) ⊎ GivesUp w seen now exchanges
 
 -- the same, by what the link told before and after
 pub record Steps (w : Setting) (seen now : Log) (before after : Told) (step : Step) : Type 0 where
@@ -94,14 +107,19 @@ rest_of Memory = rests.Lost
 -- ---- turns of an attempt
 
 -- a delivery is taken up, or none is, at a log of this length that goes on from what was seen
-abbrev pub TakesUpInTurn : Option ℕ → ℕ → Log → Log → ℕ → Result (Option Sending) AllocError → Type 0
-TakesUpInTurn by moment seen now front result = (log : Log) × Goes by seen log × (front ≡ length log) × TakesUp by moment log now result
+abbrev pub TakesUpInTurn : Option ℕ → ℕ → Log → Log → ℕ
+    → Result (Option Sending) AllocError → Type 0
+TakesUpInTurn by moment seen now front result =
+    (log : Log) × Goes by seen log × (front ≡ length log) × TakesUp by moment log now result
 
 -- the delivery is released
 abbrev pub ReleasesInTurn : Option ℕ → Log → Log → Pair → Type 0
-ReleasesInTurn by seen now p = (back : Log) × Goes by seen back × (now ≡ back ++ made_by by (Released p) ∷ [])
+ReleasesInTurn by seen now p =
+    (back : Log) × Goes by seen back × (now ≡ back ++ made_by by (Released p) ∷ [])
 
 -- what came of an attempt is recorded, or not, at a log of this length
-abbrev pub RecordsInTurn : Base → Option ℕ → Log → Log → Pair → Came → ℕ → ℕ → Result (Unit {0}) RecordFault → Type 0
+abbrev pub RecordsInTurn : Base → Option ℕ → Log → Log → Pair → Came → ℕ → ℕ
+    → Result (Unit {0}) RecordFault → Type 0
 RecordsInTurn b by seen now p came moment front result =
-    (back : Log) × Goes by seen back × (front ≡ length back) × Records b by back now p came moment result
+    (back : Log) × Goes by seen back × (front ≡ length back)
+    × Records b by back now p came moment result

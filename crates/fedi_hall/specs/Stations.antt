@@ -7,7 +7,7 @@ use Rattle.fedi_log.specs.declared.items.Item.{Item}
 use Rattle.fedi_delivery.specs.Exchanges.{Told}
 use Rattle.fedi_outside.specs.Doors.{Coming, Row}
 use Rattle.fedi_outside.specs.declared.doors.Bench.{Bench}
-use Rattle.fedi_talk.specs.Turning.{setting_by}
+use Rattle.fedi_logged.specs.Turning.{setting_by}
 use Rattle.fedi_turn.specs.declared.lock.Pass.{Pass}
 use Rattle.fedi_turn.specs.declared.lock.TurnLock.{TurnLock}
 use Rattle.fedi_turn.specs.Turn.{number_of, seen_of}
@@ -34,14 +34,17 @@ abbrev pub ends_of : List WorkerEnd → WorkerEnd
 ends_of ends = fold both Closed ends
 
 -- a worker may begin at the station: its pass is idle, and its door waits to be asked
-abbrev pub IsReady : {V W K : Type 0} → (V → Log) → (W → Option Coming) → (W → Bool) → TurnLock V Item → Station W K → Type 0
+abbrev pub IsReady : {V W K : Type 0} → (V → Log) → (W → Option Coming) → (W → Bool)
+    → TurnLock V Item → Station W K → Type 0
 IsReady log out idle lock s = IsIdleBy log lock s.pass × IsWaiting out idle s.bench.door
 
 -- what a worker did at a station, over the machine that was opened so
 pub record IsLabor
-    {W K : Type 0} (growth room : ℕ → ℕ) (told : Option ℕ) (opened : State) (served : W → Option (List Row)) (tells : K → Told) (closed : W → Bool) (faults : W → ℕ)
+    {W K : Type 0} (growth room : ℕ → ℕ) (told : Option ℕ) (opened : State)
+    (served : W → Option (List Row)) (tells : K → Told) (closed : W → Bool) (faults : W → ℕ)
     (s t : Station W K) : Type 0 where
   pub same : number_of t.pass ≡ number_of s.pass
-  pub worked : HasWorked (setting_by growth room told (Some (number_of s.pass)) opened) (seen_of s.pass) (seen_of t.pass)
+  pub worked : HasWorked (setting_by growth room told (Some (number_of s.pass)) opened)
+      (seen_of s.pass) (seen_of t.pass)
       (served s.bench.door) (served t.bench.door) (tells s.bench.link) (tells t.bench.link)
   pub ends : EndsWork (closed t.bench.door) (faults s.bench.door) (faults t.bench.door) t.end

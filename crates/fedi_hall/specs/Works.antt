@@ -1,13 +1,14 @@
 -- What a worker does by the turns of its door, and over its link.
-use Rattle.std.specs.Prelude.{◌≡◌, ℕ, Bool, false, true, List, [], ◌∷◌, ◌++◌, Option, None, IfSome, option_map}
+use Rattle.std.specs.Prelude.{◌≡◌, ℕ, Bool, false, true, List, [], ◌∷◌, ◌++◌, Option, None, IfSome}
+use Rattle.std.specs.Prelude.{option_map}
 use Rattle.fedi_log.specs.Log.{Goes, Log}
 use Rattle.fedi_delivery.specs.Exchanges.{Told}
 use Rattle.fedi_logged.specs.Attempts.{Exchange, HasExchanged}
 use Rattle.fedi_outside.specs.Causes.{next_count}
 use Rattle.fedi_outside.specs.Doors.{Coming, Rested, Row, Served, Spoken}
-use Rattle.fedi_talk.specs.Conversations.{Setting}
-use Rattle.fedi_talk.specs.Endings.{IsCaused, Output, Serves, faults_of, scene_of}
-use Rattle.fedi_talk.specs.declared.sessions.SessionEnd.{SessionEnd}
+use Rattle.fedi_logged.specs.Conversations.{Setting}
+use Rattle.fedi_logged.specs.Endings.{IsCaused, Output, Serves, faults_of, scene_of}
+use Rattle.fedi_logged.specs.declared.sessions.SessionEnd.{SessionEnd}
 use Rattle.fedi_hall.specs.Delivering.{IsStep, rest_of}
 use Rattle.fedi_hall.specs.declared.delivering.Step.{Step}
 use Rattle.fedi_hall.specs.declared.workers.WorkerEnd.{WorkerEnd}
@@ -23,31 +24,39 @@ output_of came = record { sent = came.begun; faults = 0 }
 abbrev pub output_after : Spoken → Output
 output_after row = record { sent = row.sent; faults = row.writes }
 
--- The line of this row was one connection, from what was seen of the log to what was seen then. Nothing was sent on it before, and
--- its end has its cause in its own counts; and if its input is told, what was read and written is one conversation over that log.
+-- The line of this row was one connection, from what was seen of the log to what was seen then.
+-- Nothing was sent on it before, and its end has its cause in its own counts; and if its input is
+-- told, what was read and written is one conversation over that log.
 pub record IsServed (w : Setting) (seen now : Log) (row : Spoken) : Type 0 where
   pub fresh : IfSome row.came.begun (λ (text : List ℕ). text ≡ [])
   pub ending : SessionEnd
   pub caused : IsCaused (faults_of 0 0) (faults_of row.reads row.writes) ending
-  pub serves : IfSome row.came.input (Serves w seen (output_of row.came) (scene_of row.left (output_after row)) now ending)
+  pub serves : IfSome row.came.input
+      (Serves w seen (output_of row.came) (scene_of row.left (output_after row)) now ending)
 
--- What a row tells, from what was seen of the log to what was seen then, with these exchanges over the link: a line was served, and
--- nothing was asked; or none waited, and one step of delivery was made.
+-- What a row tells, from what was seen of the log to what was seen then, with these exchanges over
+-- the link: a line was served, and nothing was asked; or none waited, and one step of delivery was
+-- made.
 abbrev pub IsWorkOf : Setting → Log → Log → List Exchange → Row → Type 0
 IsWorkOf w seen now exchanges (Served row) = (exchanges ≡ []) × IsServed w seen now row
-IsWorkOf w seen now exchanges (Rested rest) = (step : Step) × (rest ≡ rest_of step) × IsStep w seen now exchanges step
+IsWorkOf w seen now exchanges (Rested rest) =
+    (step : Step) × (rest ≡ rest_of step) × IsStep w seen now exchanges step
 
 -- ---- rows one after the other
 
--- each row over a log that goes on from what was seen after the one before it, and with the exchanges that follow
+-- each row over a log that goes on from what was seen after the one before it, and with the
+-- exchanges that follow
 abbrev pub Works : Setting → Log → Log → List Exchange → List Row → Type 0
 Works w seen now exchanges [] = (exchanges ≡ []) × Goes w.by seen now
 Works w seen now exchanges (row ∷ rows) =
-    (start : Log) × (next : Log) × (own : List Exchange) × (others : List Exchange) × (exchanges ≡ own ++ others)
+    (start : Log) × (next : Log) × (own : List Exchange) × (others : List Exchange)
+    × (exchanges ≡ own ++ others)
     × Goes w.by seen start × IsWorkOf w start next own row × Works w next now others rows
 
--- the rows that were added to those of the door, if it tells them, and the exchanges of the link are those of this work
-pub record HasWorked (w : Setting) (seen now : Log) (before after : Option (List Row)) (asked heard : Told) : Type 0 where
+-- the rows that were added to those of the door, if it tells them, and the exchanges of the link
+-- are those of this work
+pub record HasWorked (w : Setting) (seen now : Log) (before after : Option (List Row))
+    (asked heard : Told) : Type 0 where
   pub rows : List Row
   pub exchanges : List Exchange
   pub added : after ≡ option_map (λ (rs : List Row). rs ++ rows) before

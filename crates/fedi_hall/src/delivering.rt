@@ -7,8 +7,9 @@ ghost use Rattle.fedi_log.specs.Log.{Goes, Log, history_of};
 ghost use Rattle.fedi_log.specs.declared.items.Pair.{Pair};
 ghost use Rattle.fedi_logged.specs.Attempts.{EndsAttempt, told_by};
 ghost use Rattle.fedi_logged.specs.Claiming.{IsClaimed, IsPostSince, IsSending};
-ghost use Rattle.fedi_hall.specs.Delivering.{RecordsInTurn, ReleasesInTurn, Steps, TakesUpInTurn, rest_of, step_after};
-ghost use Rattle.fedi_talk.specs.Turning.{setting_at, setting_by};
+ghost use Rattle.fedi_hall.specs.Delivering.{RecordsInTurn, ReleasesInTurn, Steps, TakesUpInTurn};
+ghost use Rattle.fedi_hall.specs.Delivering.{rest_of, step_after};
+ghost use Rattle.fedi_logged.specs.Turning.{setting_at, setting_by};
 ghost use Rattle.fedi_town.specs.Histories.{town};
 ghost use Rattle.fedi_turn.specs.Turn.{IsIdle, number_of, seen_of};
 
@@ -16,11 +17,10 @@ use fedi_address::Iri;
 use fedi_core::RecordFault;
 use fedi_delivery::{Found, Outgoing, look_up, post};
 use fedi_log::Item;
-use fedi_logged::{Logged, Opened, Sending};
+use fedi_logged::{Logged, Opened, Sending, Turns};
 use fedi_objects::Came;
 use fedi_outside::{Clock, Keeper, Link, REPLY_LENGTH, Rest};
 use fedi_queue::Claim;
-use fedi_talk::Turns;
 use fedi_text::Moment;
 use fedi_turn::{Grows, Pass, TurnLock};
 use fedi_visible::Shelf;
@@ -99,7 +99,8 @@ impl Step {
 
 /// A machine that delivers, too.
 pub trait Delivers: Turns {
-    /// Tries the first delivery that is due and that nobody has claimed, over the link, in turns of the machine.
+    /// Tries the first delivery that is due and that nobody has claimed, over the link, in turns of
+    /// the machine.
     fn deliver_one<K: Link, C: Clock>(&mut self, alloc: Global, link: &mut K, clock: &C) -> Step
         requires ready { Self.ready self.old }
         ensures ready { Self.ready self.new }
@@ -112,7 +113,8 @@ pub trait Delivers: Turns {
 
 // ---- turns
 
-// Takes up the first delivery that is due and that nobody has claimed. The number is the length of the log before.
+// Takes up the first delivery that is due and that nobody has claimed. The number is the length of
+// the log before.
 fn take_up_in_turn<R: Wait, S: Shelf + Drop, P: Keeper + Drop, O: Opened>(
     rt: &R,
     alloc: Global,
@@ -134,7 +136,8 @@ fn take_up_in_turn<R: Wait, S: Shelf + Drop, P: Keeper + Drop, O: Opened>(
     (front, taken)
 }
 
-// Makes the post of the body to the inbox, for the recipient of a delivery that the pass has claimed.
+// Makes the post of the body to the inbox, for the recipient of a delivery that the pass has
+// claimed.
 fn inbox_post_in_turn<R: Wait, S: Shelf + Drop, P: Keeper + Drop, O: Opened>(
     rt: &R,
     alloc: Global,
@@ -149,7 +152,8 @@ fn inbox_post_in_turn<R: Wait, S: Shelf + Drop, P: Keeper + Drop, O: Opened>(
     ensures idle { IsIdle ⟦<Logged<S, P, O> as Grows>⟧ lock.now pass.new }
     ensures same { number_of pass.new ≡ number_of pass.old }
     ensures goes { Goes (Some (number_of pass.old)) (seen_of pass.old) (seen_of pass.new) }
-    ensures post { (p : Pair) → HasClaimed (Some (number_of pass.old)) (seen_of pass.old) p claim.now
+    ensures post { (p : Pair)
+        → HasClaimed (Some (number_of pass.old)) (seen_of pass.old) p claim.now
         → IfOk result (λ text. IsPostSince (seen_of pass.new) p inbox.now body.now text.items) }
 {
     let held = lock.take(rt, pass);
@@ -169,7 +173,8 @@ fn release_in_turn<R: Wait, S: Shelf + Drop, P: Keeper + Drop, O: Opened>(
     requires claimed { IsClaimed (Some (number_of pass.old)) (seen_of pass.old) claim }
     ensures idle { IsIdle ⟦<Logged<S, P, O> as Grows>⟧ lock.now pass.new }
     ensures same { number_of pass.new ≡ number_of pass.old }
-    ensures released { (p : Pair) → HasClaimed (Some (number_of pass.old)) (seen_of pass.old) p claim
+    ensures released { (p : Pair)
+        → HasClaimed (Some (number_of pass.old)) (seen_of pass.old) p claim
         → ReleasesInTurn (Some (number_of pass.old)) (seen_of pass.old) (seen_of pass.new) p }
 {
     let by = pass.number();
@@ -178,8 +183,8 @@ fn release_in_turn<R: Wait, S: Shelf + Drop, P: Keeper + Drop, O: Opened>(
     lock.give(pass, held);
 }
 
-// Keeps what came of an attempt of a delivery that the pass has claimed, or releases it. The number is the length of the log
-// before.
+// Keeps what came of an attempt of a delivery that the pass has claimed, or releases it. The number
+// is the length of the log before.
 fn record_in_turn<R: Wait, S: Shelf + Drop, P: Keeper + Drop, O: Opened>(
     rt: &R,
     alloc: Global,
@@ -195,7 +200,8 @@ fn record_in_turn<R: Wait, S: Shelf + Drop, P: Keeper + Drop, O: Opened>(
     requires later { claim.moment ≤ moment }
     ensures idle { IsIdle ⟦<Logged<S, P, O> as Grows>⟧ lock.now pass.new }
     ensures same { number_of pass.new ≡ number_of pass.old }
-    ensures recorded { (p : Pair) → HasClaimed (Some (number_of pass.old)) (seen_of pass.old) p claim
+    ensures recorded { (p : Pair)
+        → HasClaimed (Some (number_of pass.old)) (seen_of pass.old) p claim
         → RecordsInTurn (base_of P.growth P.room O.state) (Some (number_of pass.old))
         (seen_of pass.old) (seen_of pass.new) p came moment result.0 result.1 }
 {
@@ -209,8 +215,9 @@ fn record_in_turn<R: Wait, S: Shelf + Drop, P: Keeper + Drop, O: Opened>(
 
 // ---- one attempt
 
-// Tries a delivery that the pass has claimed over the link (ActivityPub, section 7.1): looks the recipient up, and posts the activity to
-// the inbox that was found. Both exchanges are outside of turns. The error is out of memory, and what was sent until then is not undone.
+// Tries a delivery that the pass has claimed over the link (ActivityPub, section 7.1): looks the
+// recipient up, and posts the activity to the inbox that was found. Both exchanges are outside of
+// turns. The error is out of memory, and what was sent until then is not undone.
 fn attempt<R: Wait, S: Shelf + Drop, P: Keeper + Drop, O: Opened, K: Link>(
     rt: &R,
     alloc: Global,
@@ -254,9 +261,10 @@ fn attempt<R: Wait, S: Shelf + Drop, P: Keeper + Drop, O: Opened, K: Link>(
     }
 }
 
-/// Tries the first delivery that is due and that nobody has claimed (ActivityPub, sections 7.1 and 7.1.2): claims it in one turn of
-/// the pass, looks its recipient up and posts it outside of turns, and records what came of it in another. Until then it is given
-/// to nobody else. What is recorded is at the later of two readings of the clock.
+/// Tries the first delivery that is due and that nobody has claimed (ActivityPub, sections 7.1 and
+/// 7.1.2): claims it in one turn of the pass, looks its recipient up and posts it outside of turns,
+/// and records what came of it in another. Until then it is given to nobody else. What is recorded
+/// is at the later of two readings of the clock.
 pub fn deliver_one<R: Wait, S: Shelf + Drop, P: Keeper + Drop, O: Opened, K: Link, C: Clock>(
     rt: &R,
     alloc: Global,

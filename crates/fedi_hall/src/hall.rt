@@ -1,12 +1,14 @@
 //! A machine that many take turns with.
-ghost use Rattle.std.specs.Prelude.{◌≡◌, ◌<◌, ◌↔◌, All, IfErr, IfOk, IsErr, IsTrue, Some, is_some, option_copied, vec_len};
+ghost use Rattle.std.specs.Prelude.{◌≡◌, ◌<◌, ◌↔◌, All, IfErr, IfOk, IsErr, IsTrue, Some, is_some};
+ghost use Rattle.std.specs.Prelude.{option_copied, vec_len};
 ghost use Rattle.fedi_log.specs.Keeping.{state_of};
 ghost use Rattle.fedi_log.specs.Log.{Log, given};
 ghost use Rattle.fedi_logged.specs.Logs.{AreSame, StandsFor};
 ghost use Rattle.fedi_queue.specs.Rows.{rows_of};
 ghost use Rattle.fedi_town.specs.Histories.{town};
 ghost use Rattle.fedi_town.specs.Legal.{IsLegal};
-ghost use Rattle.fedi_turn.specs.Turn.{AreNew, ContinuesEach, IsIdle, NamesOneOf, seats_of, start_of};
+ghost use Rattle.fedi_turn.specs.Turn.{AreNew, ContinuesEach, IsIdle, NamesOneOf, seats_of};
+ghost use Rattle.fedi_turn.specs.Turn.{start_of};
 
 use fedi_address::Host;
 use fedi_core::Core;
@@ -19,7 +21,8 @@ use fedi_visible::Shelf;
 use std::alloc::{AllocError, Global};
 use std::sync::Wait;
 
-/// A machine with its log behind the turn lock, and what is needed outside of turns. Each worker has a pass of the lock.
+/// A machine with its log behind the turn lock, and what is needed outside of turns. Each worker
+/// has a pass of the lock.
 #[derive(Drop)]
 pub struct Hall<S: Shelf + Drop, P: Keeper + Drop, O: Opened> {
     pub lock: TurnLock<Logged<S, P, O>>,
@@ -40,8 +43,8 @@ fn host_of<S: Shelf + Drop, P: Keeper>(core: &Core<S, P>) -> Result<Host, AllocE
 }
 
 impl<S: Shelf + Drop, P: Keeper + Drop, O: Opened> Hall<S, P, O> {
-    /// The hall over a machine that was opened so, with as many passes, each of which has seen the history of the machine. The error
-    /// is out of memory, and hands the machine back.
+    /// The hall over a machine that was opened so, with as many passes, each of which has seen the
+    /// history of the machine. The error is out of memory, and hands the machine back.
     pub fn new(
         alloc: Global,
         core: Core<S, P>,
@@ -55,7 +58,8 @@ impl<S: Shelf + Drop, P: Keeper + Drop, O: Opened> Hall<S, P, O> {
         requires legal { IsLegal core.history }
         ensures start { IfOk result (λ r.
             start_of ⟦<Logged<S, P, O> as Grows>⟧ r.0.lock ≡ given core.history) }
-        ensures idle { IfOk result (λ r. All (IsIdle ⟦<Logged<S, P, O> as Grows>⟧ r.0.lock) r.1.items) }
+        ensures idle { IfOk result (λ r.
+            All (IsIdle ⟦<Logged<S, P, O> as Grows>⟧ r.0.lock) r.1.items) }
         ensures new { IfOk result (λ r. AreNew ⟦<Logged<S, P, O> as Grows>⟧ r.0.lock r.1.items) }
         ensures seats { IfOk result (λ r. (seats_of r.0.lock ≡ seats) × (vec_len r.1 ≡ seats)) }
         ensures host { IfOk result (λ r. (town core.history).host ≡ Some r.0.host) }
@@ -75,9 +79,10 @@ impl<S: Shelf + Drop, P: Keeper + Drop, O: Opened> Hall<S, P, O> {
 
     /// The machine, given back all passes, each idle. It waits for the machine as a turn does.
     ///
-    /// There is one log at the end, for which the machine stands. It goes on from what each pass has seen by items of others, and
-    /// each item past the history of the opening names one of the passes. If there are fewer passes than `new` gave, the hall and
-    /// the passes come back as they were.
+    /// There is one log at the end, for which the machine stands. It goes on from what each pass
+    /// has seen by items of others, and each item past the history of the opening names one of the
+    /// passes. If there are fewer passes than `new` gave, the hall and the passes come back as they
+    /// were.
     pub fn close<R: Wait>(
         self,
         rt: &R,

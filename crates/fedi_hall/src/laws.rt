@@ -4,12 +4,12 @@ ghost use Rattle.fedi_log.specs.Log.{Log};
 ghost use Rattle.fedi_log.specs.declared.items.Item.{Item};
 ghost use Rattle.fedi_delivery.specs.Exchanges.{Told};
 ghost use Rattle.fedi_outside.specs.Doors.{Row};
-ghost use Rattle.fedi_talk.specs.Conversations.{Setting};
+ghost use Rattle.fedi_logged.specs.Conversations.{Setting};
 ghost use Rattle.fedi_turn.specs.Record.{Continues};
 ghost use Rattle.fedi_hall.specs.Works.{HasWorked};
 
-/// What a worker did stays so over a log that goes on from what its pass has seen by items of others: so it stands over the log at
-/// the end.
+/// What a worker did stays so over a log that goes on from what its pass has seen by items of
+/// others: so it stands over the log at the end.
 pub fn work_stays()
     ensures { (w : Setting) (n : ℕ) (seen now log : Log) (before after : Option (List Row))
         (asked heard : Told)

@@ -1,4 +1,5 @@
-//! Many connections at once over one machine, and deliveries to other servers: workers that take turns with it, each at a bench.
+//! Many connections at once over one machine, and deliveries to other servers: workers that take
+//! turns with it, each at a bench.
 #![tactic(auto)]
 
 mod delivering;

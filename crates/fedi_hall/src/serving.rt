@@ -1,5 +1,6 @@
 //! Serving the connections of many doors at once.
-ghost use Rattle.std.specs.Prelude.{◌≡◌, ◌<◌, ℕ, All, IfOk, IsTrue, Option, [], is_some, vec_capacity, vec_len};
+ghost use Rattle.std.specs.Prelude.{◌≡◌, ◌<◌, ℕ, All, IfOk, IsTrue, Option, [], is_some};
+ghost use Rattle.std.specs.Prelude.{vec_capacity, vec_len};
 ghost use Rattle.fedi_log.specs.Keeping.{state_of};
 ghost use Rattle.fedi_logged.specs.Attempts.{told_by};
 ghost use Rattle.fedi_logged.specs.Logs.{AreSame};
@@ -156,8 +157,9 @@ fn serve_opened<
     }
 }
 
-/// Serves the connections of all benches at once over the machine, and delivers while none wait, by one worker for each bench, each
-/// in a thread of its own, until all have ended. It hands the machine and the benches back with how it ended.
+/// Serves the connections of all benches at once over the machine, and delivers while none wait, by
+/// one worker for each bench, each in a thread of its own, until all have ended. It hands the
+/// machine and the benches back with how it ended.
 pub fn serve_core<
     R: Threads + Wait + Sync,
     S: Shelf + Drop + Send,
@@ -177,9 +179,10 @@ pub fn serve_core<
     requires unclaimed { core.rows ≡ rows_of (town core.history) }
     requires hosted { IsTrue (is_some (town core.history).host) }
     requires legal { IsLegal core.history }
-    // There is one log at the end, for which the machine stands, and each item past the history that it had names one worker. What
-    // each worker read and wrote on the lines of its door are conversations over this log, one after the other, and what it asked and
-    // heard over its link are attempts of deliveries that were due and that nobody else had.
+    // There is one log at the end, for which the machine stands, and each item past the history
+    // that it had names one worker. What each worker read and wrote on the lines of its door are
+    // conversations over this log, one after the other, and what it asked and heard over its link
+    // are attempts of deliveries that were due and that nobody else had.
     ensures served { ServesAll P.growth P.room (C.told clock.now)
         (state_of core.history (P.shown core.keeper)) (P.crashes core.keeper)
         (state_of result.core.history (P.shown result.core.keeper)) (P.crashes result.core.keeper)

@@ -10,19 +10,18 @@ use crate::delivering::{Delivers, Step, deliver_one};
 use crate::turns::answer_in_turn;
 use fedi_address::Host;
 use fedi_log::Item;
-use fedi_logged::{Logged, Opened};
+use fedi_logged::{Logged, Opened, Turns};
 use fedi_model::Request;
 use fedi_outside::{Clock, Keeper, Link};
 use fedi_routes::{Routes, route};
-use fedi_talk::Turns;
 use fedi_text::Moment;
 use fedi_turn::{Pass, TurnLock};
 use fedi_visible::Shelf;
 use std::alloc::{AllocError, Global};
 use std::sync::Wait;
 
-/// What a worker has of a hall: its pass, which is its own, and the rest, which all share. What a request asks is found outside of
-/// the turn.
+/// What a worker has of a hall: its pass, which is its own, and the rest, which all share. What a
+/// request asks is found outside of the turn.
 #[derive(Drop)]
 pub struct Shared<'a, 'b, R, S: Shelf + Drop, P: Keeper + Drop, O: Opened> {
     pub rt: &'a R,

@@ -1,5 +1,6 @@
 //! Workers side by side.
-ghost use Rattle.std.specs.Prelude.{◌≡◌, ◌<◌, ◌≤◌, ℕ, All, Some, [], length, map, reverse, slice_index_or, vec_capacity, vec_len};
+ghost use Rattle.std.specs.Prelude.{◌≡◌, ◌<◌, ◌≤◌, ℕ, All, Some, [], length, map, reverse};
+ghost use Rattle.std.specs.Prelude.{slice_index_or, vec_capacity, vec_len};
 ghost use denote.Param.Send.{IsSend, IsSync};
 ghost use Rattle.fedi_logged.specs.Attempts.{told_by};
 ghost use Rattle.fedi_town.specs.Histories.{town};

@@ -3,7 +3,7 @@ ghost use Rattle.std.specs.Prelude.{◌≡◌, IfOk, IsTrue, OnErr, Some, is_som
 ghost use Rattle.fedi_log.specs.Keeping.{base_of};
 ghost use Rattle.fedi_log.specs.Log.{Goes};
 ghost use Rattle.fedi_model.specs.Routes.{Asks, IsPostableAt};
-ghost use Rattle.fedi_talk.specs.Turning.{TurnTells};
+ghost use Rattle.fedi_logged.specs.Turning.{TurnTells};
 ghost use Rattle.fedi_town.specs.Histories.{town};
 ghost use Rattle.fedi_turn.specs.Turn.{IsIdle, number_of, seen_of};
 
@@ -17,9 +17,10 @@ use fedi_visible::Shelf;
 use std::alloc::{AllocError, Global};
 use std::sync::Wait;
 
-/// Answers a request that has this body and asks this, in one turn of the pass: who asks, what becomes of a post or a delivery and keeping it.
-/// It hands back the text of the reply, which has no body if the method is HEAD; the connection is told to close if `closing`. The
-/// error is out of memory, and then nothing was kept, and the keeper did not fail.
+/// Answers a request that has this body and asks this, in one turn of the pass: who asks, what
+/// becomes of a post or a delivery and keeping it. It hands back the text of the reply, which has
+/// no body if the method is HEAD; the connection is told to close if `closing`. The error is out of
+/// memory, and then nothing was kept, and the keeper did not fail.
 pub fn answer_in_turn<R: Wait, S: Shelf + Drop, P: Keeper + Drop, O: Opened>(
     rt: &R,
     alloc: Global,

@@ -1,12 +1,12 @@
 //! Workers.
 ghost use Rattle.std.specs.Prelude.{◌≡◌};
 ghost use Rattle.fedi_logged.specs.Attempts.{told_by};
-ghost use Rattle.fedi_talk.specs.Turning.{setting_at};
+ghost use Rattle.fedi_logged.specs.Turning.{setting_at};
 ghost use Rattle.fedi_hall.specs.Works.{EndsWork, HasWorked, IsWaiting, both};
 
 use crate::delivering::Delivers;
+use fedi_logged::session;
 use fedi_outside::{Bench, Clock, Door, Link, Turn};
-use fedi_talk::session;
 use std::alloc::Global;
 use std::sync::Wait;
 
@@ -31,9 +31,10 @@ impl WorkerEnd {
     }
 }
 
-/// Serves the connections of the bench's door, one after the other, until it closes or fails. Each line that the door gave comes back
-/// to it, and a fault of a line ends that line alone. Each time that no connection waits, one delivery that is due is tried over the
-/// bench's link, and the door is told what was done.
+/// Serves the connections of the bench's door, one after the other, until it closes or fails. Each
+/// line that the door gave comes back to it, and a fault of a line ends that line alone. Each time
+/// that no connection waits, one delivery that is due is tried over the bench's link, and the door
+/// is told what was done.
 pub fn worker<R: Wait, T: Delivers, W: Door, K: Link, C: Clock>(
     rt: &R,
     alloc: Global,
@@ -46,8 +47,9 @@ pub fn worker<R: Wait, T: Delivers, W: Door, K: Link, C: Clock>(
     ensures ready { T.ready turns.new }
     ensures same { T.same turns.old turns.new }
     ensures waiting { IsWaiting W.out W.idle bench.new.door }
-    // The door has one row more for each line and for each rest, and the link one exchange more for each that a step of delivery
-    // tells of; and by each row the log goes on from what was seen before it.
+    // The door has one row more for each line and for each rest, and the link one exchange more for
+    // each that a step of delivery tells of; and by each row the log goes on from what was seen
+    // before it.
     ensures worked { HasWorked (setting_at (T.by turns.old) (C.told clock.now) T.base)
         (T.seen turns.old) (T.seen turns.new) (W.served bench.old.door) (W.served bench.new.door)
         (told_by K.asked K.heard K.link_faults bench.old.link)

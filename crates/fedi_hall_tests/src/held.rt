@@ -231,8 +231,8 @@ impl<'a, R: Wait + Clock + Sync> Door for HeldDoor<'a, R> {
 
 // ---- links
 
-/// A link in memory. It tells neither what it was asked nor what was heard; the link that it is made
-/// of has that.
+/// A link in memory. It tells neither what it was asked nor what was heard; the link that it is
+/// made of has that.
 #[derive(Drop)]
 pub struct HeldLink<'a, R> {
     rt: &'a R,

@@ -1,4 +1,5 @@
-//! Tests that need threads: of workers side by side, and of links over TCP with whoever answers them.
+//! Tests that need threads: of workers side by side, and of links over TCP with whoever answers
+//! them.
 #![tactic(auto)]
 
 #[cfg(test)]

@@ -1,5 +1,7 @@
--- What arrives at the front of a stream: a request with its body and the rest (RFC 9112, sections 2.1, 2.2 and 6), or why there is none.
-use Rattle.std.specs.Prelude.{ℕ, Bool, true, false, ◌≡◌, ◌<◌, List, [], length, drop, Result, Ok, Err, ◌⊎◌}
+-- What arrives at the front of a stream: a request with its body and the rest (RFC 9112, sections
+-- 2.1, 2.2 and 6), or why there is none.
+use Rattle.std.specs.Prelude.{ℕ, Bool, true, false, ◌≡◌, ◌<◌, List, [], length, drop, Result, Ok}
+use Rattle.std.specs.Prelude.{Err, ◌⊎◌}
 use Rattle.std.specs.List.{slice_range}
 use Rattle.fedi_town.specs.declared.refusal.Refusal.{Refusal}
 use Rattle.fedi_town.specs.declared.refusal.Refusal.TheVariants.{BadHead, HeadTooLong, TooLong}
@@ -14,13 +16,16 @@ use Rattle.fedi_http.specs.Chunks.{Ending, HasBody, Long, Part, Whole, Wrong}
 use Rattle.fedi_http.specs.Heads.{IsHeadAt, LacksHead, HasLongHead}
 
 -- the head of the first `limit` bytes takes `end` of them, and its text is read so
-pub record HasHead (limit most : ℕ) (bytes : List ℕ) (outcome : Result Request Refusal) (end : ℕ) : Type 0 where
+pub record HasHead (limit most : ℕ) (bytes : List ℕ) (outcome : Result Request Refusal)
+    (end : ℕ) : Type 0 where
   pub start : ℕ
   pub head : IsHeadAt limit bytes start end
   pub reads : ReadsAs most (slice_range bytes start end) outcome
 
--- a head is read as this request, and behind it stands its body, which ends so (RFC 9112, section 6)
-pub record HasRequest (limit most : ℕ) (bytes : List ℕ) (request : Request) (o : Ending) (body rest : List ℕ) : Type 0 where
+-- a head is read as this request, and behind it stands its body, which ends so (RFC 9112,
+-- section 6)
+pub record HasRequest (limit most : ℕ) (bytes : List ℕ) (request : Request) (o : Ending)
+    (body rest : List ℕ) : Type 0 where
   pub end : ℕ
   pub head : HasHead limit most bytes (Ok request) end
   pub content : HasBody BODY_LIMIT request.coding (drop end bytes) o body rest
@@ -28,36 +33,45 @@ pub record HasRequest (limit most : ℕ) (bytes : List ℕ) (request : Request) 
 -- behind the head of some request the body ends so
 abbrev pub BodyEnds : ℕ → ℕ → List ℕ → Ending → Type 0
 BodyEnds limit most bytes o =
-    (request : Request) × (body : List ℕ) × (rest : List ℕ) × HasRequest limit most bytes request o body rest
+    (request : Request) × (body : List ℕ) × (rest : List ℕ)
+    × HasRequest limit most bytes request o body rest
 
 -- a head is read as some request: it is not refused
 abbrev pub HasServedHead : ℕ → ℕ → List ℕ → Type 0
-HasServedHead limit most bytes = (request : Request) × (end : ℕ) × HasHead limit most bytes (Ok request) end
+HasServedHead limit most bytes =
+    (request : Request) × (end : ℕ) × HasHead limit most bytes (Ok request) end
 
--- the bytes hold no whole request and none that is refused, but more of them may: they end in the head or in the body
+-- the bytes hold no whole request and none that is refused, but more of them may: they end in the
+-- head or in the body
 abbrev pub LacksRequest : ℕ → ℕ → List ℕ → Type 0
 LacksRequest limit most bytes = LacksHead limit bytes ⊎ BodyEnds limit most bytes Part
 
 -- the head is refused for this reason; it is too long if none ends in the first `limit` bytes
 abbrev pub IsHeadRefused : ℕ → ℕ → List ℕ → Refusal → Type 0
 IsHeadRefused limit most bytes refusal =
-    ((end : ℕ) × HasHead limit most bytes (Err refusal) end) ⊎ ((refusal ≡ HeadTooLong) × HasLongHead limit bytes)
+    ((end : ℕ) × HasHead limit most bytes (Err refusal) end)
+    ⊎ ((refusal ≡ HeadTooLong) × HasLongHead limit bytes)
 
 -- the request is refused for this reason: that of its head, or its body is wrong or too long
 abbrev pub IsRefused : ℕ → ℕ → List ℕ → Refusal → Type 0
 IsRefused limit most bytes refusal =
     IsHeadRefused limit most bytes refusal
-    ⊎ (((refusal ≡ BadHead) × BodyEnds limit most bytes Wrong) ⊎ ((refusal ≡ TooLong) × BodyEnds limit most bytes Long))
+    ⊎ (((refusal ≡ BadHead) × BodyEnds limit most bytes Wrong)
+    ⊎ ((refusal ≡ TooLong) × BodyEnds limit most bytes Long))
 
--- what arrives at the front of the bytes, of which a head takes at most `limit` and has at most `most` lines; if it is a request,
--- its body, and the rest; memory is wanted for no head that is refused
+-- what arrives at the front of the bytes, of which a head takes at most `limit` and has at most
+-- `most` lines; if it is a request, its body, and the rest; memory is wanted for no head that is
+-- refused
 abbrev pub IsArrival : ℕ → ℕ → List ℕ → Arrived → List ℕ → List ℕ → Type 0
-IsArrival limit most bytes (arrived.Request request) body rest = HasRequest limit most bytes request Whole body rest
+IsArrival limit most bytes (arrived.Request request) body rest =
+    HasRequest limit most bytes request Whole body rest
 IsArrival limit most bytes arrived.End body rest = bytes ≡ []
-IsArrival limit most bytes arrived.CutShort body rest = (0 < length bytes) × LacksRequest limit most bytes
+IsArrival limit most bytes arrived.CutShort body rest =
+    (0 < length bytes) × LacksRequest limit most bytes
 IsArrival limit most bytes (arrived.Refused refusal) body rest = IsRefused limit most bytes refusal
 IsArrival limit most bytes arrived.ReadFault body rest = LacksRequest limit most bytes
-IsArrival limit most bytes arrived.Memory body rest = LacksHead limit bytes ⊎ HasServedHead limit most bytes
+IsArrival limit most bytes arrived.Memory body rest =
+    LacksHead limit bytes ⊎ HasServedHead limit most bytes
 
 -- a fact for the answers that come where the input ended
 abbrev pub OnInputEnd : Arrived → Type 0 → Type 0

@@ -1,7 +1,10 @@
 -- A body as it stands in a stream: by its length, or in chunks (RFC 9112, sections 6 and 7.1).
-use Rattle.std.specs.Prelude.{ℕ, ◌≡◌, ◌≢◌, ◌-◌, ◌<◌, ◌≤◌, Bool, true, false, ◌||◌, bytes_eq, List, [], ◌∷◌, ◌++◌, length, take, drop, Result, MatchResult, ◌⊎◌}
+use Rattle.std.specs.Prelude.{ℕ, ◌≡◌, ◌≢◌, ◌-◌, ◌<◌, ◌≤◌, Bool, true, false, ◌||◌, bytes_eq, List}
+use Rattle.std.specs.Prelude.{[], ◌∷◌, ◌++◌, length, take, drop, Result, MatchResult, ◌⊎◌}
 use Rattle.std.specs.List.{flat_map, AllByRecursion}
-use Rattle.httparse.specs.Grammar.{ChunkLine, IsChunkLine, ReadsChunkLine, HasNoChunkLine, NeverHasChunkLine, MayBecomeChunkLine, print_chunk_line, chunk_size}
+use Rattle.httparse.specs.Grammar.{ChunkLine, IsChunkLine, ReadsChunkLine, HasNoChunkLine}
+use Rattle.httparse.specs.Grammar.{NeverHasChunkLine, MayBecomeChunkLine, print_chunk_line}
+use Rattle.httparse.specs.Grammar.{chunk_size}
 use Rattle.fedi_town.specs.declared.refusal.Refusal.TheVariants.{BadHead, TooLong}
 use Rattle.fedi_model.specs.declared.request.Coding.{Coding}
 use Rattle.fedi_model.specs.declared.request.Coding.TheVariants.{Length, Chunked}
@@ -10,7 +13,8 @@ use Rattle.fedi_http.specs.declared.read_error.ReadError.{ReadError}
 use Rattle.fedi_http.specs.declared.read_error.ReadError.TheVariants as errors
 use Rattle.fedi_http.specs.Heads.{ends_in_empty_line}
 
--- how what is read of bytes ends: it is whole, it is wrong, it is longer than is read, or the bytes end in it
+-- how what is read of bytes ends: it is whole, it is wrong, it is longer than is read, or the bytes
+-- end in it
 pub data Ending : Type 0 where
   Whole : Ending
   Wrong : Ending
@@ -60,7 +64,8 @@ abbrev pub content_of : List Chunk → List ℕ
 content_of chunks = flat_map (λ c. c.content) chunks
 
 -- the bytes are these chunks and then the rest, and their data has at most `limit` bytes
-pub record HasChunks (limit : ℕ) (bytes : List ℕ) (chunks : List Chunk) (rest : List ℕ) : Type 0 where
+pub record HasChunks (limit : ℕ) (bytes : List ℕ) (chunks : List Chunk)
+    (rest : List ℕ) : Type 0 where
   pub each : AllByRecursion IsChunk chunks
   pub bytes_are : bytes ≡ print_chunks chunks ++ rest
   pub within : length (content_of chunks) ≤ limit
@@ -77,7 +82,9 @@ HasSize bytes size rest = (l : ChunkLine) × HasLine bytes l rest × (size ≡ c
 
 -- no line can end in the first `LINE_LIMIT` bytes, whatever follows
 abbrev pub HasWrongLine : List ℕ → Type 0
-HasWrongLine bytes = NeverHasChunkLine (take LINE_LIMIT bytes) ⊎ ((LINE_LIMIT ≤ length bytes) × HasNoChunkLine (take LINE_LIMIT bytes))
+HasWrongLine bytes =
+    NeverHasChunkLine (take LINE_LIMIT bytes)
+    ⊎ ((LINE_LIMIT ≤ length bytes) × HasNoChunkLine (take LINE_LIMIT bytes))
 
 -- no line ends here, but one may if more bytes follow
 abbrev pub HasPartOfLine : List ℕ → Type 0
@@ -111,17 +118,21 @@ HasWrongData size bytes = (size ≤ length bytes) × IsNoCrlf (drop size bytes)
 
 -- the bytes end in the data, or in the CR LF behind it
 abbrev pub HasPartOfData : ℕ → List ℕ → Type 0
-HasPartOfData size bytes = (length bytes < size) ⊎ ((size ≤ length bytes) × IsPartOfCrlf (drop size bytes))
+HasPartOfData size bytes =
+    (length bytes < size) ⊎ ((size ≤ length bytes) × IsPartOfCrlf (drop size bytes))
 
 -- how data ends that is not whole
 abbrev pub EndsInData : ℕ → List ℕ → Ending → Type 0
-EndsInData size bytes o = ((o ≡ Wrong) × HasWrongData size bytes) ⊎ ((o ≡ Part) × HasPartOfData size bytes)
+EndsInData size bytes o =
+    ((o ≡ Wrong) × HasWrongData size bytes) ⊎ ((o ≡ Part) × HasPartOfData size bytes)
 
 -- ---- the trailer
 
--- an empty line, or lines of which the last is empty; a line ends in LF, before which a CR may stand (RFC 9112, sections 2.2 and 7.1.2)
+-- an empty line, or lines of which the last is empty; a line ends in LF, before which a CR may
+-- stand (RFC 9112, sections 2.2 and 7.1.2)
 unfoldable pub is_trailer : List ℕ → Bool
-is_trailer text = bytes_eq text (10 ∷ []) || (bytes_eq text (13 ∷ 10 ∷ []) || ends_in_empty_line text)
+is_trailer text =
+    bytes_eq text (10 ∷ []) || (bytes_eq text (13 ∷ 10 ∷ []) || ends_in_empty_line text)
 
 -- none of the fronts of up to `count` bytes is a trailer
 abbrev pub LacksTrailer : ℕ → List ℕ → Type 0
@@ -147,33 +158,39 @@ HasPartOfTrailer bytes = (length bytes < TRAILER_LIMIT) × LacksTrailer (length 
 -- how a trailer ends
 abbrev pub EndsInTrailer : List ℕ → Ending → List ℕ → Type 0
 EndsInTrailer bytes o rest =
-    ((o ≡ Whole) × HasTrailer bytes rest) ⊎ (((o ≡ Wrong) × HasWrongTrailer bytes) ⊎ ((o ≡ Part) × HasPartOfTrailer bytes))
+    ((o ≡ Whole) × HasTrailer bytes rest)
+    ⊎ (((o ≡ Wrong) × HasWrongTrailer bytes) ⊎ ((o ≡ Part) × HasPartOfTrailer bytes))
 
 -- ---- the body
 
--- how the body ends behind a size line: the size is more than there is room for, or it is 0 and the trailer follows, or the data
--- is not whole
+-- how the body ends behind a size line: the size is more than there is room for, or it is 0 and the
+-- trailer follows, or the data is not whole
 abbrev pub EndsBehindSize : ℕ → ℕ → List ℕ → Ending → List ℕ → Type 0
 EndsBehindSize room size bytes o rest =
-    ((o ≡ Long) × (room < size)) ⊎ (((size ≡ 0) × EndsInTrailer bytes o rest) ⊎ ((0 < size) × (size ≤ room) × EndsInData size bytes o))
+    ((o ≡ Long) × (room < size)) ⊎ (((size ≡ 0) × EndsInTrailer bytes o rest)
+    ⊎ ((0 < size) × (size ≤ room) × EndsInData size bytes o))
 
 -- how the body ends where a further chunk may stand, whose data has room for so many bytes
 abbrev pub IsEndAt : ℕ → List ℕ → Ending → List ℕ → Type 0
 IsEndAt room bytes o rest =
-    EndsInLine bytes o ⊎ ((size : ℕ) × (tail : List ℕ) × HasSize bytes size tail × EndsBehindSize room size tail o rest)
+    EndsInLine bytes o ⊎ ((size : ℕ) × (tail : List ℕ) × HasSize bytes size tail
+    × EndsBehindSize room size tail o rest)
 
 -- a body in chunks stands in front of the rest, or none, for this reason (RFC 9112, section 7.1)
-pub record HasChunkedBody (limit : ℕ) (bytes : List ℕ) (o : Ending) (body rest : List ℕ) : Type 0 where
+pub record HasChunkedBody (limit : ℕ) (bytes : List ℕ) (o : Ending)
+    (body rest : List ℕ) : Type 0 where
   pub chunks : List Chunk
   pub at : List ℕ
   pub has : HasChunks limit bytes chunks at
   pub ends : IsEndAt (limit - length (content_of chunks)) at o rest
   pub joined : o ≡ Whole → body ≡ content_of chunks
 
--- a body of so many bytes stands in front of the rest, or the bytes end in it (RFC 9112, section 6.2)
+-- a body of so many bytes stands in front of the rest, or the bytes end in it (RFC 9112, section
+-- 6.2)
 abbrev pub HasMeasuredBody : ℕ → List ℕ → Ending → List ℕ → List ℕ → Type 0
 HasMeasuredBody size bytes o body rest =
-    ((o ≡ Whole) × (length body ≡ size) × (bytes ≡ body ++ rest)) ⊎ ((o ≡ Part) × (length bytes < size))
+    ((o ≡ Whole) × (length body ≡ size) × (bytes ≡ body ++ rest))
+    ⊎ ((o ≡ Part) × (length bytes < size))
 
 -- a body of this coding, whose chunks have at most `limit` bytes (RFC 9112, section 6.3)
 abbrev pub HasBody : ℕ → Coding → List ℕ → Ending → List ℕ → List ℕ → Type 0
@@ -182,4 +199,5 @@ HasBody limit Chunked bytes o body rest = HasChunkedBody limit bytes o body rest
 
 -- the bytes end in such a body
 abbrev pub HasPartOfBody : ℕ → Coding → List ℕ → Type 0
-HasPartOfBody limit coding bytes = (body : List ℕ) × (rest : List ℕ) × HasBody limit coding bytes Part body rest
+HasPartOfBody limit coding bytes =
+    (body : List ℕ) × (rest : List ℕ) × HasBody limit coding bytes Part body rest

@@ -1,5 +1,6 @@
 -- What is found of the fields of a head in one pass (RFC 9110, section 5).
-use Rattle.std.specs.Prelude.{◌≡◌, ℕ, ◌<◌, ◌≤◌, ◌⊎◌, List, Bool, true, false, not, ◌&&◌, ◌||◌, codes, is_some, option_copied}
+use Rattle.std.specs.Prelude.{◌≡◌, ℕ, ◌<◌, ◌≤◌, ◌⊎◌, List, Bool, true, false, not, ◌&&◌, ◌||◌}
+use Rattle.std.specs.Prelude.{codes, is_some, option_copied}
 use Rattle.std.specs.Str.Parse.{digits_value}
 use Rattle.fedi_town.specs.declared.refusal.Refusal.{Refusal}
 use Rattle.fedi_town.specs.declared.refusal.Refusal.TheVariants.{BadHead, TooLong}
@@ -41,12 +42,14 @@ has_no_repeats known =
 
 -- `Host` stands exactly once, if this version asks for it
 abbrev pub has_host : ℕ → KnownFields → Bool
-has_host minor known = not (is_latest minor) || (is_some known.host.value && not known.host.is_repeated)
+has_host minor known =
+    not (is_latest minor) || (is_some known.host.value && not known.host.is_repeated)
 
 -- the value of a `Content-Length` is a number that is not too large
 abbrev pub IsLength : List ℕ → Coding → Type 0
 IsLength value coding =
-    (is_decimal value ≡ true) × (digits_value 10 value ≤ BODY_LIMIT) × (coding ≡ Length (digits_value 10 value))
+    (is_decimal value ≡ true) × (digits_value 10 value ≤ BODY_LIMIT)
+    × (coding ≡ Length (digits_value 10 value))
 
 -- the value of a `Content-Length` is refused: it is no number, or one that is too large
 abbrev pub IsNoLength : List ℕ → Refusal → Type 0

@@ -1,15 +1,19 @@
 -- Where the head of a request ends.
-use Rattle.std.specs.Prelude.{ℕ, ◌≡◌, ◌≢◌, slice_index, ◌+◌, ◌<◌, ◌≤◌, Bool, ◌||◌, not, nat_eq, List, [], ◌∷◌, length, take, drop, find, Option, None, Some, option_map}
+use Rattle.std.specs.Prelude.{ℕ, ◌≡◌, ◌≢◌, slice_index, ◌+◌, ◌<◌, ◌≤◌, Bool, ◌||◌, not, nat_eq}
+use Rattle.std.specs.Prelude.{List, [], ◌∷◌, length, take, drop, find, Option, None, Some}
+use Rattle.std.specs.Prelude.{option_map}
 use Rattle.std.specs.List.{ends_with, position_or_len, range_with_len, slice_range}
 use Rattle.fedi_town.specs.declared.refusal.Refusal.TheVariants.{HeadTooLong}
 use Rattle.fedi_http.specs.declared.read_error.ReadError.{ReadError}
-use Rattle.fedi_http.specs.declared.read_error.ReadError.TheVariants.{End, CutShort, Refused, ReadFault, Memory}
+use Rattle.fedi_http.specs.declared.read_error.ReadError.TheVariants.{End, CutShort, Refused}
+use Rattle.fedi_http.specs.declared.read_error.ReadError.TheVariants.{ReadFault, Memory}
 
 -- CR and LF
 abbrev pub is_line_end : ℕ → Bool
 is_line_end byte = nat_eq byte 13 || nat_eq byte 10
 
--- the index of the first byte that is neither: empty lines may come before a request line (RFC 9112, section 2.2)
+-- the index of the first byte that is neither: empty lines may come before a request line (RFC
+-- 9112, section 2.2)
 unfoldable pub leading : List ℕ → ℕ
 leading bytes = position_or_len (λ byte. not (is_line_end byte)) bytes
 
@@ -17,15 +21,18 @@ leading bytes = position_or_len (λ byte. not (is_line_end byte)) bytes
 abbrev pub after_leading : List ℕ → List ℕ
 after_leading bytes = drop (leading bytes) bytes
 
--- a line ends in LF, before which a CR may stand (RFC 9112, section 2.2); so an empty line behind another ends in LF LF or in LF CR LF
+-- a line ends in LF, before which a CR may stand (RFC 9112, section 2.2); so an empty line behind
+-- another ends in LF LF or in LF CR LF
 abbrev pub ends_in_empty_line : List ℕ → Bool
-ends_in_empty_line text = ends_with nat_eq text (10 ∷ 10 ∷ []) || ends_with nat_eq text (10 ∷ 13 ∷ 10 ∷ [])
+ends_in_empty_line text =
+    ends_with nat_eq text (10 ∷ 10 ∷ []) || ends_with nat_eq text (10 ∷ 13 ∷ 10 ∷ [])
 
 -- whether the first `count` bytes, but for the line ends in front, end with an empty line
 unfoldable pub is_end : List ℕ → ℕ → Bool
 is_end bytes count = ends_in_empty_line (after_leading (take count bytes))
 
--- how many bytes the head takes from the front: the least number after which it ends with an empty line (RFC 9112, section 2.1)
+-- how many bytes the head takes from the front: the least number after which it ends with an empty
+-- line (RFC 9112, section 2.1)
 unfoldable pub head_end : List ℕ → Option ℕ
 head_end bytes = find (is_end bytes) (range_with_len 0 (length bytes + 1))
 
@@ -56,13 +63,15 @@ HasNoHead limit bytes (Refused refusal) = (refusal ≡ HeadTooLong) × HasLongHe
 HasNoHead limit bytes ReadFault = LacksHead limit bytes
 HasNoHead limit bytes Memory = LacksHead limit bytes
 
--- no head ends in the first `looked` bytes, and the first `start` of these are the line ends in front
+-- no head ends in the first `looked` bytes, and the first `start` of these are the line ends in
+-- front
 pub record IsLookedAt (bytes : List ℕ) (looked start : ℕ) : Type 0 where
   pub within : looked ≤ length bytes
   pub front : start ≡ leading (take looked bytes)
   pub none : head_end (take looked bytes) ≡ None
 
--- wherever the bytes are cut from `looked` to `upto` on, the line ends in front are the first `start`
+-- wherever the bytes are cut from `looked` to `upto` on, the line ends in front are the first
+-- `start`
 abbrev pub IsSettled : List ℕ → ℕ → ℕ → ℕ → Type 0
 IsSettled bytes looked upto start = (n : ℕ) → looked ≤ n → n ≤ upto → leading (take n bytes) ≡ start
 

@@ -1,11 +1,13 @@
 -- What reading does beside its answer.
-use Rattle.std.specs.Prelude.{ℕ, zero, suc, ◌≡◌, ◌⊎◌, List, [], ◌++◌, Bool, true, false, Option, Result, Ok, Err, if◌then◌else◌}
+use Rattle.std.specs.Prelude.{ℕ, zero, suc, ◌≡◌, ◌⊎◌, List, [], ◌++◌, Bool, true, false, Option}
+use Rattle.std.specs.Prelude.{Result, Ok, Err, if◌then◌else◌}
 use Rattle.std.specs.Io.KnownBytes.{Consumes}
 use Rattle.fedi_outside.specs.Causes.{next_count}
 use Rattle.fedi_town.specs.declared.refusal.Refusal.{Refusal}
 use Rattle.fedi_town.specs.declared.refusal.Refusal.TheVariants as refusals
 use Rattle.fedi_http.specs.declared.read_error.ReadError.{ReadError}
-use Rattle.fedi_http.specs.declared.read_error.ReadError.TheVariants.{End, CutShort, Refused, ReadFault, Memory}
+use Rattle.fedi_http.specs.declared.read_error.ReadError.TheVariants.{End, CutShort, Refused}
+use Rattle.fedi_http.specs.declared.read_error.ReadError.TheVariants.{ReadFault, Memory}
 
 -- what a buffer holds: a body, and the bytes behind it that were read and are not used up yet
 pub record Held : Type 0 where
@@ -23,9 +25,11 @@ pub record Reads {T : Type 0}
   pub more : List ℕ  -- those that were taken
   pub taken : Consumes (left_of before) (left_of after) more
   pub holds : P more
-  pub idle : Lacks ⊎ ((after ≡ before) × (more ≡ []))  -- nothing is read where what was at hand is enough
+  -- nothing is read where what was at hand is enough
+  pub idle : Lacks ⊎ ((after ≡ before) × (more ≡ []))
   pub beside : beside_of after ≡ beside_of before
-  pub faults : faults_of after ≡ (if failed then next_count (faults_of before) else faults_of before)
+  pub faults :
+      faults_of after ≡ (if failed then next_count (faults_of before) else faults_of before)
 
 -- the error is that a read failed
 abbrev pub is_fault : ReadError → Bool

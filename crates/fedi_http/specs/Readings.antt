@@ -1,22 +1,26 @@
 -- How the parts of a body in chunks are read (RFC 9112, section 7.1).
-use Rattle.std.specs.Prelude.{ℕ, ◌≡◌, ◌<◌, ◌≤◌, Bool, true, false, List, ◌++◌, length, drop, Option, Result, MatchOption, MatchResult}
+use Rattle.std.specs.Prelude.{ℕ, ◌≡◌, ◌<◌, ◌≤◌, Bool, true, false, List, ◌++◌, length, drop, Option}
+use Rattle.std.specs.Prelude.{Result, MatchOption, MatchResult}
 use Rattle.fedi_town.specs.declared.refusal.Refusal.{Refusal}
 use Rattle.fedi_town.specs.declared.refusal.Refusal.TheVariants.{BadHead}
 use Rattle.fedi_http.specs.declared.chunks.Line.{Line}
 use Rattle.fedi_http.specs.declared.read_error.ReadError.{ReadError}
-use Rattle.fedi_http.specs.Chunks.{EndsInCrlf, EndsInData, EndsInLine, HasPartOfLine, HasSize, HasWrongLine, IsNoCrlf, IsPartOfCrlf, Part, Tells, crlf}
+use Rattle.fedi_http.specs.Chunks.{EndsInCrlf, EndsInData, EndsInLine, HasPartOfLine, HasSize}
+use Rattle.fedi_http.specs.Chunks.{HasWrongLine, IsNoCrlf, IsPartOfCrlf, Part, Tells, crlf}
 use Rattle.fedi_http.specs.Moves.{Held}
 
 -- a size line stands in front of the bytes, or less than one, or what is none
 abbrev pub IsLineIn : List ℕ → Result (Option Line) Refusal → Type 0
 IsLineIn bytes result =
     MatchResult result
-    (λ found. MatchOption found (HasPartOfLine bytes) (λ line. (line.length ≤ length bytes) × HasSize bytes line.size (drop line.length bytes)))
+    (λ found. MatchOption found (HasPartOfLine bytes) (λ line. (line.length ≤ length bytes)
+    × HasSize bytes line.size (drop line.length bytes)))
     (λ refusal. (refusal ≡ BadHead) × HasWrongLine bytes)
 
 -- a size line was read
 abbrev pub IsLineRead : List ℕ → Result ℕ ReadError → List ℕ → Type 0
-IsLineRead bytes result rest = MatchResult result (λ size. HasSize bytes size rest) (λ e. Tells e (EndsInLine bytes))
+IsLineRead bytes result rest =
+    MatchResult result (λ size. HasSize bytes size rest) (λ e. Tells e (EndsInLine bytes))
 
 -- so many bytes stood in front of what is pending now, and were joined to the body
 pub record HasContent (size : ℕ) (bytes : List ℕ) (old new : Held) : Type 0 where
@@ -28,7 +32,8 @@ pub record HasContent (size : ℕ) (bytes : List ℕ) (old new : Held) : Type 0 
 -- so many bytes were read, and joined to the body
 abbrev pub IsContentRead : {T : Type 0} → ℕ → List ℕ → Result T ReadError → Held → Held → Type 0
 IsContentRead size bytes result old new =
-    MatchResult result (λ _. HasContent size bytes old new) (λ e. Tells e (λ o. (o ≡ Part) × (length bytes < size)))
+    MatchResult result (λ _. HasContent size bytes old new)
+    (λ e. Tells e (λ o. (o ≡ Part) × (length bytes < size)))
 
 -- CR LF stands in front of the bytes, or less than that
 abbrev pub IsCrlfFound : List ℕ → Bool → Type 0
@@ -37,13 +42,16 @@ IsCrlfFound bytes false = (length bytes < 2) × IsPartOfCrlf bytes
 
 -- it does, or what stands there is neither
 abbrev pub IsCrlfIn : List ℕ → Result Bool Refusal → Type 0
-IsCrlfIn bytes result = MatchResult result (IsCrlfFound bytes) (λ refusal. (refusal ≡ BadHead) × IsNoCrlf bytes)
+IsCrlfIn bytes result =
+    MatchResult result (IsCrlfFound bytes) (λ refusal. (refusal ≡ BadHead) × IsNoCrlf bytes)
 
 -- CR LF was read
 abbrev pub IsCrlfRead : {T : Type 0} → List ℕ → Result T ReadError → List ℕ → Type 0
-IsCrlfRead bytes result rest = MatchResult result (λ _. bytes ≡ crlf ++ rest) (λ e. Tells e (EndsInCrlf bytes))
+IsCrlfRead bytes result rest =
+    MatchResult result (λ _. bytes ≡ crlf ++ rest) (λ e. Tells e (EndsInCrlf bytes))
 
--- so many bytes and CR LF stood in front of what is pending now, and the bytes were joined to the body
+-- so many bytes and CR LF stood in front of what is pending now, and the bytes were joined to the
+-- body
 pub record HasData (size : ℕ) (bytes : List ℕ) (old new : Held) : Type 0 where
   pub content : List ℕ
   pub long : length content ≡ size
@@ -52,4 +60,5 @@ pub record HasData (size : ℕ) (bytes : List ℕ) (old new : Held) : Type 0 whe
 
 -- the data of a chunk and the CR LF behind it were read
 abbrev pub IsDataRead : {T : Type 0} → ℕ → List ℕ → Result T ReadError → Held → Held → Type 0
-IsDataRead size bytes result old new = MatchResult result (λ _. HasData size bytes old new) (λ e. Tells e (EndsInData size bytes))
+IsDataRead size bytes result old new =
+    MatchResult result (λ _. HasData size bytes old new) (λ e. Tells e (EndsInData size bytes))

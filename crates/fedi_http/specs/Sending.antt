@@ -5,4 +5,5 @@ use Rattle.std.specs.Io.KnownBytes.{Appends}
 -- all of the bytes were sent, or after an error a front of them
 abbrev pub Sends : {T E : Type 0} → Option (List ℕ) → Option (List ℕ) → List ℕ → Result T E → Type 0
 Sends old new bytes result =
-    MatchResult result (λ _. Appends old new bytes) (λ _. (n : ℕ) × (n < length bytes) × Appends old new (take n bytes))
+    MatchResult result (λ _. Appends old new bytes) (λ _. (n : ℕ) × (n < length bytes)
+    × Appends old new (take n bytes))

@@ -10,9 +10,11 @@ use Rattle.fedi_model.specs.Requests.{fields_at, refusal_with, request_with}
 -- why the head at these places is refused, if it is
 abbrev pub refusal_by : List ℕ → RequestSpans → List HeaderSpan → Option Refusal
 refusal_by text head spans =
-    refusal_with (span_bytes text head.method) (span_bytes text head.path) head.version (fields_at text spans)
+    refusal_with (span_bytes text head.method) (span_bytes text head.path) head.version
+    (fields_at text spans)
 
 -- the request of the head at these places
 abbrev pub request_by : List ℕ → RequestSpans → List HeaderSpan → Request
 request_by text head spans =
-    request_with (span_bytes text head.method) (span_bytes text head.path) head.version (fields_at text spans)
+    request_with (span_bytes text head.method) (span_bytes text head.path) head.version
+    (fields_at text spans)

@@ -2,7 +2,8 @@
 
 ghost use Rattle.std.specs.Prelude.{◌≡◌, ◌<◌, ◌++◌, ℕ, List, Some, IfErr, IfSome};
 ghost use Rattle.std.specs.Io.KnownBytes.{prepend_known, IsAtEnd};
-ghost use Rattle.fedi_http.specs.Arrivals.{IsArrival, LacksRequest, OnInputEnd, OnRequest, TellsOfStream, arrived_by, arrived_of, is_read_fault};
+ghost use Rattle.fedi_http.specs.Arrivals.{IsArrival, LacksRequest, OnInputEnd, OnRequest};
+ghost use Rattle.fedi_http.specs.Arrivals.{TellsOfStream, arrived_by, arrived_of, is_read_fault};
 ghost use Rattle.fedi_http.specs.Moves.{OnEnd, Reads, has_fault};
 
 use crate::buffer::{BUFFER_LIMIT, Buffer};

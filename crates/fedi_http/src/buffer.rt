@@ -1,5 +1,6 @@
 //! The bytes that were read.
-ghost use Rattle.std.specs.Prelude.{◌≡◌, ◌+◌, ◌<◌, ◌≤◌, ◌++◌, [], length, take, drop, IfOk, IfErr, OnOk, OnErr, if◌then◌else◌};
+ghost use Rattle.std.specs.Prelude.{◌≡◌, ◌+◌, ◌<◌, ◌≤◌, ◌++◌, [], length, take, drop, IfOk, IfErr};
+ghost use Rattle.std.specs.Prelude.{OnOk, OnErr, if◌then◌else◌};
 ghost use Rattle.std.specs.Io.KnownBytes.{Consumes, IsAtEnd};
 ghost use Rattle.fedi_outside.specs.Causes.{next_count};
 ghost use Rattle.fedi_http.specs.Moves.{OnEnd, Reads, ReadsBehind, StopsReading, has_fault};
@@ -139,8 +140,8 @@ fn move_down(bytes: &mut [u8], to: usize, from: usize, count: usize)
     }
 }
 
-// Moves the `count` bytes at `from` down to `to`. There is then room for `limit` bytes from there on,
-// and for a head as far as `BUFFER_LIMIT` allows.
+// Moves the `count` bytes at `from` down to `to`. There is then room for `limit` bytes from there
+// on, and for a head as far as `BUFFER_LIMIT` allows.
 fn make_room(
     bytes: &mut Vec<u8>,
     to: usize,

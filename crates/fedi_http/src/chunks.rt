@@ -1,10 +1,15 @@
 //! Reading bodies, by their length or in chunks (RFC 9112, sections 6 and 7.1).
-ghost use Rattle.std.specs.Prelude.{◌≡◌, ◌+◌, ◌<◌, ◌≤◌, ◌++◌, [], length, drop, min, IfErr, IfNone, IfSome, MatchOption, MatchResult};
+ghost use Rattle.std.specs.Prelude.{◌≡◌, ◌+◌, ◌<◌, ◌≤◌, ◌++◌, [], length, drop, min, IfErr, IfNone};
+ghost use Rattle.std.specs.Prelude.{IfSome, MatchOption, MatchResult};
 ghost use Rattle.std.specs.Io.KnownBytes.{IsAtEnd};
 ghost use Rattle.fedi_model.specs.Requests.{length_in};
-ghost use Rattle.fedi_http.specs.Chunks.{EndsInTrailer, HasBody, HasPartOfBody, HasPartOfData, HasPartOfLine, HasPartOfTrailer, HasTrailer, IsNoCrlf, IsPartOfCrlf, LacksTrailer, TellsEnding, crlf, is_trailer as trailer_test};
+ghost use Rattle.fedi_http.specs.Chunks.{EndsInTrailer, HasBody, HasPartOfBody, HasPartOfData};
+ghost use Rattle.fedi_http.specs.Chunks.{HasPartOfLine, HasPartOfTrailer, HasTrailer, IsNoCrlf};
+ghost use Rattle.fedi_http.specs.Chunks.{IsPartOfCrlf, LacksTrailer, TellsEnding, crlf};
+ghost use Rattle.fedi_http.specs.Chunks.{is_trailer as trailer_test};
 ghost use Rattle.fedi_http.specs.Moves.{OnEnd, Reads, has_fault};
-ghost use Rattle.fedi_http.specs.Readings.{IsContentRead, IsCrlfIn, IsCrlfRead, IsDataRead, IsLineIn, IsLineRead};
+ghost use Rattle.fedi_http.specs.Readings.{IsContentRead, IsCrlfIn, IsCrlfRead, IsDataRead};
+ghost use Rattle.fedi_http.specs.Readings.{IsLineIn, IsLineRead};
 
 use crate::buffer::Buffer;
 use crate::heads::ends_in_empty_line;

@@ -1,6 +1,7 @@
 //! How long a request is, and whether another may follow it (RFC 9112, sections 6 and 9).
 
-ghost use Rattle.std.specs.Prelude.{◌≡◌, ◌≢◌, ◌≤◌, List, not, Some, None, IfOk, IfErr, MatchResult, position};
+ghost use Rattle.std.specs.Prelude.{◌≡◌, ◌≢◌, ◌≤◌, List, not, Some, None, IfOk, IfErr, MatchResult};
+ghost use Rattle.std.specs.Prelude.{position};
 ghost use Rattle.fedi_model.specs.Requests as model;
 ghost use Rattle.fedi_model.specs.Requests.{Field};
 ghost use Rattle.fedi_http.specs.Fields.{AreKnown, IsLength, IsNoLength};
@@ -10,11 +11,11 @@ use fedi_model::{BODY_LIMIT, Coding, Refusal};
 use fedi_text::read_decimal;
 
 /// How the end of the body is found of a request with a method of this name, this version and these
-/// fields, or why it is refused. It is `BadHead` unless `Host` stands exactly once or the version is HTTP/1.0, no field
-/// is repeated that stands once at most, the body is not measured by both `Content-Length` and
-/// `Transfer-Encoding`, and the length is a number of 1 to 19 digits. Then it is `NoCoding` unless
-/// `Transfer-Encoding` is `chunked`, in any case, `NoLength` for a POST with neither, and `TooLong`
-/// for a length over `BODY_LIMIT`.
+/// fields, or why it is refused. It is `BadHead` unless `Host` stands exactly once or the version
+/// is HTTP/1.0, no field is repeated that stands once at most, the body is not measured by both
+/// `Content-Length` and `Transfer-Encoding`, and the length is a number of 1 to 19 digits. Then it
+/// is `NoCoding` unless `Transfer-Encoding` is `chunked`, in any case, `NoLength` for a POST with
+/// neither, and `TooLong` for a length over `BODY_LIMIT`.
 pub(crate) fn coding_of(method: &[u8], minor: u8, known: &KnownFields) -> Result<Coding, Refusal>
     ensures coding { (fields : List Field) → AreKnown fields known.now → MatchResult result
         (λ coding. (model.fields_refusal method.now minor fields ≡ None)

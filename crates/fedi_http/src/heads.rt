@@ -1,7 +1,10 @@
 //! Reading the head of a request from the bytes that were read.
-ghost use Rattle.std.specs.Prelude.{◌≡◌, ◌+◌, ◌<◌, ◌≤◌, ◌++◌, length, min, IfOk, IfErr, IfSome, IfNone, MatchOption};
+ghost use Rattle.std.specs.Prelude.{◌≡◌, ◌+◌, ◌<◌, ◌≤◌, ◌++◌, length, min, IfOk, IfErr, IfSome};
+ghost use Rattle.std.specs.Prelude.{IfNone, MatchOption};
 ghost use Rattle.std.specs.Io.KnownBytes.{IsAtEnd};
-ghost use Rattle.fedi_http.specs.Heads.{is_line_end as line_end, ends_in_empty_line as empty_line, HasNoHead, IsHeadAt, IsLookedAt, IsSettled, LacksHead, LacksLineFeed};
+ghost use Rattle.fedi_http.specs.Heads.{is_line_end as line_end, ends_in_empty_line as empty_line};
+ghost use Rattle.fedi_http.specs.Heads.{HasNoHead, IsHeadAt, IsLookedAt, IsSettled, LacksHead};
+ghost use Rattle.fedi_http.specs.Heads.{LacksLineFeed};
 ghost use Rattle.fedi_http.specs.Moves.{OnEnd, Reads, has_fault};
 
 use crate::buffer::Buffer;

@@ -1,6 +1,7 @@
 //! Writing replies (RFC 9112, section 4).
 
-ghost use Rattle.std.specs.Prelude.{◌≡◌, ◌+◌, ◌++◌, ◌≤◌, ◌<◌, List, OnOk, IfOk, length, codes, Some, None, option_map};
+ghost use Rattle.std.specs.Prelude.{◌≡◌, ◌+◌, ◌++◌, ◌≤◌, ◌<◌, List, OnOk, IfOk, length, codes};
+ghost use Rattle.std.specs.Prelude.{Some, None, option_map};
 ghost use Rattle.std.specs.List.{flat_map};
 ghost use Rattle.fedi_model.specs.ReplyText as model;
 
@@ -21,7 +22,8 @@ const END: &[u8] = b"\r\n";
 const MEMORY_TEXT: &[u8] =
     b"HTTP/1.1 507 Insufficient Storage\r\nContent-Length: 0\r\nConnection: close\r\n\r\n";
 
-/// The reply when there is no memory for another (RFC 4918, section 11.5): 507, which closes the connection. It takes no memory.
+/// The reply when there is no memory for another (RFC 4918, section 11.5): 507, which closes the
+/// connection. It takes no memory.
 #[tactic(auto, unfolding(fedi_model::specs::ReplyText::memory_text))]
 pub fn memory_text() -> &'static [u8]
     ensures { result.now ≡ model.memory_text }

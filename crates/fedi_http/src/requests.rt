@@ -1,6 +1,7 @@
 //! Reading the head of a request (RFC 9112, sections 2 to 5).
 
-ghost use Rattle.std.specs.Prelude.{◌≡◌, ◌≢◌, ℕ, ◌≤◌, List, MatchOption, true, false, ◌&&◌, length, All, IfOk, IfErr, IfSome, IsSome, if◌then◌else◌, option_copied};
+ghost use Rattle.std.specs.Prelude.{◌≡◌, ◌≢◌, ℕ, ◌≤◌, List, MatchOption, true, false, ◌&&◌, length};
+ghost use Rattle.std.specs.Prelude.{All, IfOk, IfErr, IfSome, IsSome, if◌then◌else◌, option_copied};
 ghost use Rattle.std.specs.Str.{is_utf8};
 ghost use Rattle.httparse.specs.Grammar.{RequestHead, IsToken};
 ghost use Rattle.httparse.specs.Spans.{IsRequestAt, IsRequestWithin, IsHeaderWithin, span_bytes};

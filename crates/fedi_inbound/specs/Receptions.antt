@@ -3,7 +3,8 @@ use Rattle.std.specs.Prelude.{None}
 use Rattle.fedi_model.specs.AnswerKinds.{Refuse, Misshape}
 use Rattle.fedi_model.specs.Posting.{Judgement, Stop, Repeat, Keep}
 use Rattle.fedi_inbound.specs.declared.receiving.Received.{Received}
-use Rattle.fedi_inbound.specs.declared.receiving.Received.TheVariants.{Refused, Misshapen, Repeated, Kept}
+use Rattle.fedi_inbound.specs.declared.receiving.Received.TheVariants.{Refused, Misshapen, Repeated}
+use Rattle.fedi_inbound.specs.declared.receiving.Received.TheVariants.{Kept}
 
 -- the judgement
 abbrev pub judgement_in : Received → Judgement

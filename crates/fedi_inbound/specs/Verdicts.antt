@@ -8,7 +8,8 @@ use Rattle.fedi_town.specs.Origins.{is_foreign, has_inbox}
 use Rattle.fedi_town.specs.Histories.{is_known}
 use Rattle.fedi_town.specs.Towns.{Town}
 use Rattle.fedi_inbound.specs.declared.judging.Verdict.{Verdict}
-use Rattle.fedi_inbound.specs.declared.judging.Verdict.TheVariants.{New, AddInbox, Repeat, NotOrigin}
+use Rattle.fedi_inbound.specs.declared.judging.Verdict.TheVariants.{New, AddInbox, Repeat}
+use Rattle.fedi_inbound.specs.declared.judging.Verdict.TheVariants.{NotOrigin}
 
 -- the activity goes to this owner
 unfoldable pub is_recipient : List ℕ → Act → Bool
@@ -19,8 +20,9 @@ abbrev pub is_known_by : Town → Option (List ℕ) → Bool
 is_known_by t None = false
 is_known_by t (Some id) = is_known t id
 
--- What becomes of a peer's delivery to the inbox of this owner: one that the peer may not deliver is refused, one that the inbox
--- has changes nothing, one that is known comes to one more inbox, and one that is new is accepted.
+-- What becomes of a peer's delivery to the inbox of this owner: one that the peer may not deliver
+-- is refused, one that the inbox has changes nothing, one that is known comes to one more inbox,
+-- and one that is new is accepted.
 abbrev pub verdict : Town → Peer → List ℕ → Activity → Verdict
 verdict t p owner a =
     if is_foreign t.host p a.actor a.id a.object then NotOrigin else (

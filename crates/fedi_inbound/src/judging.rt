@@ -10,8 +10,8 @@ ghost use Rattle.fedi_inbound.specs.Verdicts.{is_known_by, is_recipient, verdict
 use crate::origins::is_foreign;
 use fedi_address::{Iri, is_among};
 use fedi_effects::Facts;
-use fedi_kept::Kept;
 use fedi_objects::Activity;
+use fedi_register::Kept;
 use fedi_town::Peer;
 
 /// What becomes of a delivery to one inbox.
@@ -71,8 +71,8 @@ fn is_known_by(facts: &Facts, id: Option<&Iri>) -> bool
     }
 }
 
-/// What becomes of the peer's delivery of an activity to the inbox of this owner (ActivityPub, section
-/// 7.1). It takes no memory.
+/// What becomes of the peer's delivery of an activity to the inbox of this owner (ActivityPub,
+/// section 7.1). It takes no memory.
 pub fn judge_remote(facts: &Facts, peer: &Peer, owner: &Iri, activity: &Activity) -> Verdict
     ensures { result ≡ verdict facts.now.town peer.now owner.now activity.now }
 {
@@ -88,8 +88,8 @@ pub fn judge_remote(facts: &Facts, peer: &Peer, owner: &Iri, activity: &Activity
     }
 }
 
-/// Whether the activity of this id does not go to this member's inbox yet. It is false without an id, which
-/// each delivery has, and without a member.
+/// Whether the activity of this id does not go to this member's inbox yet. It is false without an
+/// id, which each delivery has, and without a member.
 pub fn lacks(facts: &Facts, id: Option<&Iri>, owner: Option<&Iri>) -> bool
     ensures { result ≡ lacks facts.now.town (option_copied id.entry) (option_copied owner.entry) }
 {

@@ -46,8 +46,8 @@ fn is_object_of_another(author: &Iri, object: &Object) -> bool
     !is_beside(author, &object.id) || is_another(author, &object.attributed_to)
 }
 
-// Whether the activity carries an object that is of another host than the author, or is attributed to
-// somebody else.
+// Whether the activity carries an object that is of another host than the author, or is attributed
+// to somebody else.
 fn is_of_another(author: &Iri, object: &ObjectRef) -> bool
     ensures { result ≡ is_of_another author.now object.now }
 {
@@ -57,8 +57,9 @@ fn is_of_another(author: &Iri, object: &ObjectRef) -> bool
     }
 }
 
-/// Whether the peer may not deliver the activity: its actor is of this host, or of a host that is not the
-/// peer's although the peer is no relay; or its id or the object that it carries is not of its actor's host.
+/// Whether the peer may not deliver the activity: its actor is of this host, or of a host that is
+/// not the peer's although the peer is no relay; or its id or the object that it carries is not of
+/// its actor's host.
 pub fn is_foreign(facts: &Facts, peer: &Peer, activity: &Activity) -> bool
     ensures { result ≡ is_foreign facts.now.town.host peer.now activity.now.actor
         activity.now.id activity.now.object }

@@ -51,9 +51,10 @@ fn receive_from(facts: &Facts, peer: Option<&Peer>, owner: &Iri, read: Read) -> 
     }
 }
 
-/// What becomes of a post to the inbox of this owner (ActivityPub, section 7). It is refused if nobody is
-/// known to deliver it or it is no peer, for another media type, for what is no JSON or has not the shape
-/// of a delivery, or if the peer may not deliver it. The first reason counts. It takes no memory.
+/// What becomes of a post to the inbox of this owner (ActivityPub, section 7). It is refused if
+/// nobody is known to deliver it or it is no peer, for another media type, for what is no JSON or
+/// has not the shape of a delivery, or if the peer may not deliver it. The first reason counts. It
+/// takes no memory.
 pub fn receive(facts: &Facts, caller: &Caller, owner: &Iri, post: Post) -> Received
     ensures { judgement_in result ≡ judge_inbox facts.now.town caller.now owner.now post }
 {

@@ -259,7 +259,8 @@ object_lists Reject = (refl, refl, refl, refl, refl, refl, refl)
 object_lists Undo = (refl, refl, refl, refl, refl, refl, refl)
 object_lists Other = (refl, refl, refl, refl, refl, refl, refl)
 
--- where the activity stands: in the outbox, in the list of its author, in that of its object, and in the inboxes
+-- where the activity stands: in the outbox, in the list of its author, in that of its object, and
+-- in the inboxes
 abbrev pub lists_of : Option (List ℕ) → Act → Collection → List ℕ → Bool
 lists_of host x k o =
     ((is_one host (Some Outbox) (Some x.author) k o || is_one host (list_of_author (deed x)) (Some x.author) k o)

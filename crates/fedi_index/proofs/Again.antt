@@ -4,7 +4,7 @@ use Rattle.std.specs.Prelude.{◌&&◌}
 use Rattle.std.specs.Str.{bytes_eq}
 use Rattle.std.proofs.lemmas.Bool.{and_parts}
 use Rattle.fedi_register.specs.Registers.{IsNarrower, is_relation, relates, relates_by_key}
-use Rattle.fedi_store.specs.Places.{can_come_again, is_same_seen}
+use Rattle.fedi_visible.specs.Places.{can_come_again, is_same_seen}
 use Rattle.fedi_town.specs.declared.act.Act.{Act}
 use Rattle.fedi_town.specs.declared.caller.Caller.{Caller}
 use Rattle.fedi_town.specs.declared.caller.Which.{Which}

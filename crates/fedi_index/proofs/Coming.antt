@@ -1,4 +1,5 @@
--- What the entry brings for which there is room: activities, or one inbox more for an activity that is known.
+-- What the entry brings for which there is room: activities, or one inbox more for an activity that
+-- is known.
 use Rattle.std.proofs.Common.{◌≡◌, ℕ, ◌≤◌, List, [], ◌++◌, Option, Some, None, refl, sym, subst, ◌∙◌}
 use Rattle.std.specs.Prelude.{⊤, map}
 use Rattle.std.proofs.lemmas.List.{append-nil}

@@ -1,4 +1,5 @@
--- A known activity goes to one more inbox: the list of that inbox gets its position, in order, and no other list changes.
+-- A known activity goes to one more inbox: the list of that inbox gets its position, in order, and
+-- no other list changes.
 use Rattle.std.proofs.Common.{◌≡◌, ℕ, suc, zero, ◌+◌, ◌<◌, ◌≤◌, arith, Bool, true, false, List, [], ◌∷◌, ◌++◌, Option, Some, None, refl, sym, ap, subst, ◌∙◌, get_or, length, ltb}
 use Rattle.std.specs.Prelude.{◌&&◌, ◌||◌, map, nat_lt, if◌then◌else◌}
 use Rattle.std.specs.List.{insert, list_any, position_or_len}

@@ -1,11 +1,13 @@
--- The candidates of a collection: the activities that match its rule, whatever their state and whoever sees them.
+-- The candidates of a collection: the activities that match its rule, whatever their state and
+-- whoever sees them.
 use Rattle.std.specs.Prelude.{ℕ, suc, Bool, true, false, ◌&&◌, List, [], ◌∷◌, if◌then◌else◌}
 use Rattle.fedi_address.specs.Recipients.{is_among}
 use Rattle.fedi_index.specs.declared.collection.Collection.{Collection}
 use Rattle.fedi_index.specs.declared.collection.Collection.TheVariants as kinds
 use Rattle.fedi_town.specs.declared.act.Act.{Act}
 use Rattle.fedi_town.specs.declared.caller.Which.{Which}
-use Rattle.fedi_town.specs.declared.caller.Which.TheVariants.{Inbox, Outbox, Followers, Following, Liked, Likes, Shares}
+use Rattle.fedi_town.specs.declared.caller.Which.TheVariants.{Inbox, Outbox, Followers, Following}
+use Rattle.fedi_town.specs.declared.caller.Which.TheVariants.{Liked, Likes, Shares}
 use Rattle.fedi_town.specs.Deeds.{is_announce, is_follow, is_like}
 use Rattle.fedi_town.specs.Relations.{is_about}
 use Rattle.fedi_town.specs.Towns.{deed, is_by}
@@ -31,8 +33,9 @@ is_same kinds.Likes kinds.Likes = true
 is_same kinds.Shares kinds.Shares = true
 is_same _ _ = false
 
--- The activity may stand in this collection of the owner: what the owner got or posted, the Follows of and by the owner, the
--- Likes by the owner, and the Likes and Announces of the owner, in whatever state.
+-- The activity may stand in this collection of the owner: what the owner got or posted, the Follows
+-- of and by the owner, the Likes by the owner, and the Likes and Announces of the owner, in
+-- whatever state.
 unfoldable pub belongs : Collection → List ℕ → Act → Bool
 belongs kinds.Inbox id x = is_among id x.recipients
 belongs kinds.Outbox id x = is_by id x

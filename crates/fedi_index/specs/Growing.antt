@@ -1,5 +1,6 @@
 -- The lists in which an activity stands, and what becomes of them when it comes.
-use Rattle.std.specs.Prelude.{◌≡◌, ℕ, ◌+◌, ◌≤◌, ⊤, IsTrue, Bool, true, false, not, ◌&&◌, nat_eq, nat_lt, List, [], ◌∷◌, ◌++◌, map, Option, Some, None, if◌then◌else◌}
+use Rattle.std.specs.Prelude.{◌≡◌, ℕ, ◌+◌, ◌≤◌, ⊤, IsTrue, Bool, true, false, not, ◌&&◌, nat_eq}
+use Rattle.std.specs.Prelude.{nat_lt, List, [], ◌∷◌, ◌++◌, map, Option, Some, None, if◌then◌else◌}
 use Rattle.fedi_address.specs.Recipients.{is_among}
 use Rattle.fedi_index.specs.declared.collection.Collection.{Collection}
 use Rattle.fedi_index.specs.declared.collection.Collection.TheVariants as kinds
@@ -20,8 +21,10 @@ unfoldable pub is_kept : Option (List ℕ) → Collection → List ℕ → Act �
 is_kept host k o x = is_of_town host o && belongs k o x
 
 -- the lists are those of the candidates of all collections whose owners are of this host
-pub record AreCandidates (host : Option (List ℕ)) (acts : List Act) (lists : List Listing) : Type 0 where
-  pub places : (k : Collection) (o : List ℕ) → places_of k o lists ≡ places_from (is_kept host k o) 0 acts
+pub record AreCandidates (host : Option (List ℕ)) (acts : List Act)
+    (lists : List Listing) : Type 0 where
+  pub places : (k : Collection) (o : List ℕ)
+      → places_of k o lists ≡ places_from (is_kept host k o) 0 acts
 
 -- ---- which lists
 
@@ -44,7 +47,8 @@ is_kind k None = false
 is_kind k (Some kind) = is_same kind k
 
 -- the list of this collection of the owner, where there are both, and the owner is of this host
-unfoldable pub is_one : Option (List ℕ) → Option Collection → Option (List ℕ) → Collection → List ℕ → Bool
+unfoldable pub is_one : Option (List ℕ) → Option Collection → Option (List ℕ) → Collection
+    → List ℕ → Bool
 is_one host kind owner k o = is_of_town host o && (is_kind k kind && is_id o owner)
 
 -- the inbox of one of these, who is of this host
@@ -64,29 +68,36 @@ abbrev pub is_lacking : ℕ → List ℕ → Bool → Bool
 is_lacking place places listed = listed && not (ends_in place places)
 
 -- these lists have this position, if not already, and the others are as they were
-pub record AddsOnce (listed : Collection → List ℕ → Bool) (place : ℕ) (old new : List Listing) : Type 0 where
-  pub places : (k : Collection) (o : List ℕ) → places_of k o new ≡ places_of k o old ++ (if is_lacking place (places_of k o old) (listed k o) then place ∷ [] else [])
-  pub room : (k : Collection) (o : List ℕ) → room_of k o old ≤ room_of k o new + (if is_lacking place (places_of k o old) (listed k o) then 1 else 0)
+pub record AddsOnce (listed : Collection → List ℕ → Bool) (place : ℕ)
+    (old new : List Listing) : Type 0 where
+  pub places : (k : Collection) (o : List ℕ) → places_of k o new ≡ places_of k o old
+      ++ (if is_lacking place (places_of k o old) (listed k o) then place ∷ [] else [])
+  pub room : (k : Collection) (o : List ℕ) → room_of k o old
+      ≤ room_of k o new + (if is_lacking place (places_of k o old) (listed k o) then 1 else 0)
 
 -- there is room for this position in these lists, unless they have it already
-pub record CanAdd (listed : Collection → List ℕ → Bool) (place : ℕ) (lists : List Listing) : Type 0 where
-  pub room : (k : Collection) (o : List ℕ) → is_lacking place (places_of k o lists) (listed k o) ≡ true → 1 ≤ room_of k o lists
+pub record CanAdd (listed : Collection → List ℕ → Bool) (place : ℕ)
+    (lists : List Listing) : Type 0 where
+  pub room : (k : Collection) (o : List ℕ)
+      → is_lacking place (places_of k o lists) (listed k o) ≡ true → 1 ≤ room_of k o lists
 
 -- ---- room
 
 -- there is room for so many more in these lists
-pub record HasRoom (listed : Collection → List ℕ → Bool) (n : ℕ) (lists : List Listing) : Type 0 where
+pub record HasRoom (listed : Collection → List ℕ → Bool) (n : ℕ)
+    (lists : List Listing) : Type 0 where
   pub room : (k : Collection) (o : List ℕ) → listed k o ≡ true → n ≤ room_of k o lists
 
 -- there is room for so many more in each list in which one of these activities may stand
 abbrev pub HasRooms : Option (List ℕ) → ℕ → List Act → List Listing → Type 0
 HasRooms host n [] lists = Unit {0}
-HasRooms host n (x ∷ xs) lists = HasRoom (λ k o. is_kept host k o x) n lists × HasRooms host n xs lists
+HasRooms host n (x ∷ xs) lists =
+    HasRoom (λ k o. is_kept host k o x) n lists × HasRooms host n xs lists
 
 -- ---- one inbox more
 
--- The activity of this id may go to this owner's inbox too: it is the only one of this id, it does not go there yet, and the
--- owner is of this host.
+-- The activity of this id may go to this owner's inbox too: it is the only one of this id, it does
+-- not go there yet, and the owner is of this host.
 pub record MayGo (t : Town) (id owner : List ℕ) : Type 0 where
   pub once : PassesOnce (has_activity_id id) t.acts
   pub lacking : IsTrue (lacks t (Some id) (Some owner))

@@ -1,5 +1,7 @@
 -- Lists of positions, each of a collection and an owner.
-use Rattle.std.specs.Prelude.{◌≡◌, ℕ, zero, suc, ◌+◌, ◌-◌, ◌≤◌, Bool, ◌&&◌, List, [], ◌∷◌, ◌++◌, map, Option, None, Some, slice_get, vec_len, vec_capacity, if◌then◌else◌}
+use Rattle.std.specs.Prelude.{◌≡◌, ℕ, zero, suc, ◌+◌, ◌-◌, ◌≤◌, Bool, ◌&&◌, List, [], ◌∷◌, ◌++◌}
+use Rattle.std.specs.Prelude.{map, Option, None, Some, slice_get, vec_len, vec_capacity}
+use Rattle.std.specs.Prelude.{if◌then◌else◌}
 use Rattle.std.specs.List.{find, insert}
 use Rattle.std.specs.Str.{bytes_eq}
 use Rattle.fedi_index.specs.declared.collection.Collection.{Collection}
@@ -59,9 +61,12 @@ abbrev pub at_index : ℕ → ℕ → List ℕ → List ℕ
 at_index index place places = insert places index place
 
 -- this one list has one position more, which was put where this says, and room for one less
-pub record HasOneMore (kind : Collection) (owner : List ℕ) (put : List ℕ → List ℕ) (old new : List Listing) : Type 0 where
-  pub places : (k : Collection) (o : List ℕ) → places_of k o new ≡ (if is_same_list k o kind owner then put (places_of k o old) else places_of k o old)
-  pub room : (k : Collection) (o : List ℕ) → room_of k o old ≤ room_of k o new + (if is_same_list k o kind owner then 1 else 0)
+pub record HasOneMore (kind : Collection) (owner : List ℕ) (put : List ℕ → List ℕ)
+    (old new : List Listing) : Type 0 where
+  pub places : (k : Collection) (o : List ℕ) → places_of k o new
+      ≡ (if is_same_list k o kind owner then put (places_of k o old) else places_of k o old)
+  pub room : (k : Collection) (o : List ℕ)
+      → room_of k o old ≤ room_of k o new + (if is_same_list k o kind owner then 1 else 0)
 
 -- ---- where they are
 
@@ -95,7 +100,8 @@ AreRoomier [] [] = Unit {0}
 AreRoomier [] (y ∷ ys) = ⊥
 AreRoomier (x ∷ xs) [] = ⊥
 AreRoomier (x ∷ xs) (y ∷ ys) =
-    (x.collection ≡ y.collection) × (x.owner ≡ y.owner) × (x.places ≡ y.places) × (x.room ≤ y.room) × AreRoomier xs ys
+    (x.collection ≡ y.collection) × (x.owner ≡ y.owner) × (x.places ≡ y.places) × (x.room ≤ y.room)
+    × AreRoomier xs ys
 
 -- a list without positions and room
 abbrev pub new_list : Collection → List ℕ → Listing
@@ -105,7 +111,12 @@ new_list kind owner = record { collection = kind; owner = owner; places = []; ro
 
 -- the list of a row
 abbrev pub listing_in : Row → Listing
-listing_in r = record { collection = r.collection; owner = r.owner; places = r.places.items; room = vec_capacity r.places - vec_len r.places }
+listing_in r = record {
+  collection = r.collection;
+  owner = r.owner;
+  places = r.places.items;
+  room = vec_capacity r.places - vec_len r.places;
+}
 
 -- the lists of the rows
 abbrev pub listings : List Row → List Listing

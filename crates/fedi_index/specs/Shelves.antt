@@ -6,7 +6,8 @@ use Rattle.fedi_index.specs.Growing.{AreCandidates, HasInboxRoom, HasRooms}
 use Rattle.fedi_index.specs.Lists.{Listing}
 use Rattle.fedi_objects.specs.declared.entry.Entry.{Entry}
 use Rattle.fedi_town.specs.declared.caller.Which.{Which}
-use Rattle.fedi_town.specs.declared.caller.Which.TheVariants.{Inbox, Outbox, Followers, Following, Liked, Likes, Shares}
+use Rattle.fedi_town.specs.declared.caller.Which.TheVariants.{Inbox, Outbox, Followers, Following}
+use Rattle.fedi_town.specs.declared.caller.Which.TheVariants.{Liked, Likes, Shares}
 use Rattle.fedi_town.specs.Histories.{town}
 use Rattle.fedi_town.specs.Legal.{IsLegal, is_admissible}
 use Rattle.fedi_town.specs.Towns.{Town}
@@ -26,8 +27,9 @@ abbrev pub MayCome : Town → Option Entry → Type 0
 MayCome t None = ⊤
 MayCome t (Some e) = IsTrue (is_admissible t e)
 
--- The history is legal, and the town what it has made; the entry for which there is room may come next; the lists are those of
--- the candidates of all collections of this host; and they have room for what the entry will add.
+-- The history is legal, and the town what it has made; the entry for which there is room may come
+-- next; the lists are those of the candidates of all collections of this host; and they have room
+-- for what the entry will add.
 pub record IsShelf (h : Holding) (lists : List Listing) : Type 0 where
   pub stands : h.town ≡ town h.history
   pub legal : IsLegal h.history

@@ -1,23 +1,27 @@
 //! The lists in which an activity stands: that of its author's outbox, those of the inboxes of its
-//! recipients, and where it is a Follow, a Like or an Announce those of its author and of what it is
-//! about. There are lists of owners of this host alone. An activity that comes again, to one more inbox,
-//! changes the list of that inbox alone.
+//! recipients, and where it is a Follow, a Like or an Announce those of its author and of what it
+//! is about. There are lists of owners of this host alone. An activity that comes again, to one
+//! more inbox, changes the list of that inbox alone.
 
-ghost use Rattle.std.specs.Prelude.{◌≡◌, List, ◌+◌, ◌++◌, ◌<◌, ◌≤◌, ◌^◌, ◌&&◌, not, OnOk, Some, length, map, option_copied, option_map, option_to_list};
+ghost use Rattle.std.specs.Prelude.{◌≡◌, List, ◌+◌, ◌++◌, ◌<◌, ◌≤◌, ◌^◌, ◌&&◌, not, OnOk, Some};
+ghost use Rattle.std.specs.Prelude.{length, map, option_copied, option_map, option_to_list};
 ghost use Rattle.std.specs.List.Sorted.{IsNonDecreasing};
 ghost use Rattle.fedi_town.specs.declared.act.Act.{Act};
 ghost use Rattle.fedi_town.specs.Addressing.{is_of_town};
 ghost use Rattle.fedi_town.specs.Histories.{with_recipient};
 ghost use Rattle.fedi_effects.specs.Holdings.{coming_in, coming_inbox_in};
 ghost use Rattle.fedi_index.specs.declared.collection.Collection.TheVariants.{Inbox};
-ghost use Rattle.fedi_index.specs.Growing.{AddsOnce, AreCandidates, CanAdd, HasInboxRoom, HasRoom, HasRooms, MayComeIn, MayGo, UsesOne, ends_in, in_order, is_inbox, is_kept, is_one, list_of_author, list_of_object, sent_on};
+ghost use Rattle.fedi_index.specs.Growing.{AddsOnce, AreCandidates, CanAdd, HasInboxRoom, HasRoom};
+ghost use Rattle.fedi_index.specs.Growing.{HasRooms, MayComeIn, MayGo, UsesOne, ends_in, in_order};
+ghost use Rattle.fedi_index.specs.Growing.{is_inbox, is_kept, is_one, list_of_author};
+ghost use Rattle.fedi_index.specs.Growing.{list_of_object, sent_on};
 ghost use Rattle.fedi_index.specs.Lists.{IsRoomier, at_index, places_of, room_of};
 
 use crate::collection::Collection;
 use crate::lists::Lists;
 use fedi_address::Iri;
 use fedi_effects::{Facts, is_of_town};
-use fedi_kept::Kept;
+use fedi_register::Kept;
 use fedi_town::Deed;
 use std::alloc::{AllocError, Global};
 
@@ -107,7 +111,8 @@ fn reserve_inboxes(
     Ok(())
 }
 
-// Makes room for two positions in each list in which the activity may stand. The error is out of memory.
+// Makes room for two positions in each list in which the activity may stand. The error is out of
+// memory.
 fn reserve_each(
     lists: &mut Lists,
     alloc: Global,
@@ -156,8 +161,8 @@ fn reserve_for(
     }
 }
 
-// Makes room in each list for the activities that the entry will add for which the facts have room. The
-// error is out of memory.
+// Makes room in each list for the activities that the entry will add for which the facts have room.
+// The error is out of memory.
 fn reserve_acts(lists: &mut Lists, alloc: Global, facts: &Facts) -> Result<(), AllocError>
     ensures roomier { IsRoomier lists.old lists.new }
     ensures room { OnOk result (HasRooms facts.now.town.host 2 (coming_in facts.now) lists.new) }
@@ -168,8 +173,8 @@ fn reserve_acts(lists: &mut Lists, alloc: Global, facts: &Facts) -> Result<(), A
     Ok(())
 }
 
-/// Makes room in each list for what the entry will add for which the facts have room: for its activities,
-/// or for one that goes to one more inbox. The error is out of memory.
+/// Makes room in each list for what the entry will add for which the facts have room: for its
+/// activities, or for one that goes to one more inbox. The error is out of memory.
 pub(crate) fn reserve_coming(
     lists: &mut Lists,
     alloc: Global,
@@ -187,7 +192,8 @@ pub(crate) fn reserve_coming(
 
 // ---- one position more
 
-// Whether the list is to get this position: its owner is of this host, and it does not end in it already.
+// Whether the list is to get this position: its owner is of this host, and it does not end in it
+// already.
 fn is_lacking(
     lists: &Lists,
     facts: &Facts,
@@ -266,8 +272,8 @@ fn add_to_each(lists: &mut Lists, facts: &Facts, act: &Kept, place: usize)
     add_to_inboxes(lists, facts, act.recipients(), place);
 }
 
-// Adds the activity, if there is one, to each list in which it may stand. Its position is the next after
-// those of the activities before it.
+// Adds the activity, if there is one, to each list in which it may stand. Its position is the next
+// after those of the activities before it.
 #[tactic(auto, using(crate::proofs::Positions::can_add, crate::proofs::Positions::none_added, crate::proofs::Positions::one_used, crate::proofs::Positions::none_used))]
 fn add_for(lists: &mut Lists, facts: &Facts, act: Option<&Kept>, place: usize)
     requires { HasRooms facts.now.town.host 1 (option_to_list (option_copied act)) lists.old }
@@ -315,8 +321,8 @@ fn count_below(places: &[usize], place: usize) -> usize
     places.partition_point(|p| *p < place)
 }
 
-// Adds the position of the activity of this id to the list of the owner's inbox, in order: an activity that
-// is known goes to one more inbox.
+// Adds the position of the activity of this id to the list of the owner's inbox, in order: an
+// activity that is known goes to one more inbox.
 fn add_to_inbox(lists: &mut Lists, facts: &Facts, id: &Iri, owner: &Iri)
     requires room { 1 ≤ room_of Inbox owner.now lists.old }
     requires may_go { MayGo facts.now.town id.now owner.now }
@@ -333,8 +339,8 @@ fn add_to_inbox(lists: &mut Lists, facts: &Facts, id: &Iri, owner: &Iri)
     }
 }
 
-/// Adds to the lists what the entry will add for which the facts have room: its activities, or one inbox
-/// more of an activity that is known. It takes no memory.
+/// Adds to the lists what the entry will add for which the facts have room: its activities, or one
+/// inbox more of an activity that is known. It takes no memory.
 pub(crate) fn add_coming(lists: &mut Lists, facts: &Facts)
     requires room { HasRooms facts.now.town.host 2 (coming_in facts.now) lists.old }
     requires inbox_room { HasInboxRoom (coming_inbox_in facts.now) lists.old }

@@ -1,11 +1,16 @@
 //! Lists of positions, each of a collection and an owner.
 
-ghost use Rattle.std.specs.Prelude.{◌≡◌, ◌∷◌, ◌++◌, [], ◌+◌, ◌-◌, ◌<◌, ◌≤◌, IfOk, OnErr, OnOk, Some, length, map, option_copied, set, slice_get, vec_capacity, vec_len};
+ghost use Rattle.std.specs.Prelude.{◌≡◌, ◌∷◌, ◌++◌, [], ◌+◌, ◌-◌, ◌<◌, ◌≤◌, IfOk, OnErr, OnOk};
+ghost use Rattle.std.specs.Prelude.{Some, length, map, option_copied, set, slice_get, vec_capacity};
+ghost use Rattle.std.specs.Prelude.{vec_len};
 ghost use Rattle.std.specs.List.{find};
 ghost use Rattle.fedi_register.specs.Changes.{place_where};
 ghost use Rattle.fedi_register.specs.Marks.{every, marks_from};
 ghost use Rattle.fedi_register.specs.Seeds.{mark_of};
-ghost use Rattle.fedi_index.specs.Lists.{AreRoomier, HasOneMore, IsRoomier, at_end, at_index, first_from, grown_at, is_list, is_row, list_mark, listing_in, listings, new_list, places_found, places_of, room_found, room_of, row_mark};
+ghost use Rattle.fedi_index.specs.Lists.{AreRoomier, HasOneMore, IsRoomier, at_end, at_index};
+ghost use Rattle.fedi_index.specs.Lists.{first_from, grown_at, is_list, is_row, list_mark};
+ghost use Rattle.fedi_index.specs.Lists.{listing_in, listings, new_list, places_found, places_of};
+ghost use Rattle.fedi_index.specs.Lists.{room_found, room_of, row_mark};
 
 use crate::collection::{Collection, is_same};
 use fedi_address::Iri;
@@ -20,8 +25,8 @@ struct Row {
     places: Vec<usize>,
 }
 
-/// Lists of positions, each of a collection and an owner. A list that is empty takes no memory, unless
-/// room was made in it.
+/// Lists of positions, each of a collection and an owner. A list that is empty takes no memory,
+/// unless room was made in it.
 #[derive(Drop)]
 pub(crate) struct Lists {
     seed: Seed,
@@ -99,7 +104,8 @@ fn push_at(rows: &mut Vec<Row>, at: usize, place: usize)
     rows[at].places.push_reserved(place);
 }
 
-// One position more in the list at this place, which has room for it, before the position at this index.
+// One position more in the list at this place, which has room for it, before the position at this
+// index.
 fn insert_at(rows: &mut Vec<Row>, at: usize, index: usize, place: usize)
     requires there { at < length rows.old.items }
     requires room { 1 ≤ room_found (slice_get (listings rows.old.items) at) }
@@ -152,8 +158,8 @@ impl Lists {
         }
     }
 
-    /// Adds a position to a list that has room for it, before the position at this index. It takes no
-    /// memory.
+    /// Adds a position to a list that has room for it, before the position at this index. It takes
+    /// no memory.
     pub(crate) fn insert(&mut self, collection: Collection, owner: &Iri, index: usize, place: usize)
         requires room { 1 ≤ room_of collection owner.now self.old }
         requires index { index ≤ length (places_of collection owner.now self.old) }
@@ -212,7 +218,8 @@ impl Lists {
         }
     }
 
-    /// Makes room for so many more positions of this collection of this owner. The error is out of memory.
+    /// Makes room for so many more positions of this collection of this owner. The error is out of
+    /// memory.
     pub(crate) fn reserve(
         &mut self,
         alloc: Global,

@@ -3,18 +3,17 @@
 ghost use Rattle.std.specs.Prelude.{◌≡◌, ◌+◌, ◌*◌, ◌<◌, ◌≤◌, drop, filter, length, take};
 ghost use Rattle.std.specs.List.{list_any};
 ghost use Rattle.fedi_index.specs.Candidates.{is_candidate, places_from};
-ghost use Rattle.fedi_store.specs.Places.{is_first, is_listed, is_same_seen};
+ghost use Rattle.fedi_visible.specs.Places.{is_first, is_listed, is_same_seen};
 
 use fedi_address::Iri;
 use fedi_effects::{Facts, Steps, object_key};
-use fedi_kept::Kept;
-use fedi_store::{is_same_seen, is_seen_item};
+use fedi_register::Kept;
 use fedi_town::{Caller, Which};
-use fedi_visible::VisiblePage;
+use fedi_visible::{VisiblePage, is_same_seen, is_seen_item};
 use std::sync::ledger::Ledger;
 
-// Whether an activity before this place is the same item, and the caller sees it: an earlier Follow of
-// the same two. The items of all other collections are different ones.
+// Whether an activity before this place is the same item, and the caller sees it: an earlier Follow
+// of the same two. The items of all other collections are different ones.
 fn comes_again(
     facts: &Facts,
     caller: &Caller,
@@ -37,8 +36,9 @@ fn comes_again(
     }
 }
 
-// Whether the activity is an item that the caller sees, and no activity before this place is the same.
-#[tactic(auto, unfolding(fedi_store::specs::Places::is_first))]
+// Whether the activity is an item that the caller sees, and no activity before this place is the
+// same.
+#[tactic(auto, unfolding(fedi_visible::specs::Places::is_first))]
 fn is_first(
     facts: &Facts,
     caller: &Caller,

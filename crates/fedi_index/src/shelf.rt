@@ -1,6 +1,7 @@
 //! A shelf that keeps the positions of the candidates of each collection.
 
-ghost use Rattle.std.specs.Prelude.{◌≡◌, ◌≤◌, ◌++◌, ◌∷◌, [], ◌+◌, ◌*◌, IfOk, IsTrue, None, OnErr, OnOk, Some, drop, length, map, slice_get, take};
+ghost use Rattle.std.specs.Prelude.{◌≡◌, ◌≤◌, ◌++◌, ◌∷◌, [], ◌+◌, ◌*◌, IfOk, IsTrue, None, OnErr};
+ghost use Rattle.std.specs.Prelude.{OnOk, Some, drop, length, map, slice_get, take};
 ghost use Rattle.fedi_effects.specs.Holdings.{Holding};
 ghost use Rattle.fedi_index.specs.Candidates.{is_candidate, places_from};
 ghost use Rattle.fedi_index.specs.Shelves.{IsNamed};
@@ -22,8 +23,8 @@ use std::alloc::{AllocError, Global};
 use std::marker::Model;
 use std::sync::ledger::Ledger;
 
-/// The facts of a legal history, and for each collection of this host the positions of its candidates, so
-/// that a page reads each of these once and no other activity.
+/// The facts of a legal history, and for each collection of this host the positions of its
+/// candidates, so that a page reads each of these once and no other activity.
 #[derive(Drop)]
 pub struct IndexedShelf {
     facts: Facts,
@@ -55,8 +56,8 @@ fn is_named(which: &Which)
 }
 
 impl IndexedShelf {
-    /// The shelf of no entry. The seed is for the numbers by which all is looked up. The error is out of
-    /// memory.
+    /// The shelf of no entry. The seed is for the numbers by which all is looked up. The error is
+    /// out of memory.
     pub fn empty(alloc: Global, seed: Seed) -> Result<IndexedShelf, AllocError>
         ensures { IfOk result (λ shelf.
             shelf ≡ record { history = []; town = empty_town; room = None }) }
@@ -68,9 +69,9 @@ impl IndexedShelf {
         })
     }
 
-    /// The positions, among the activities, of the candidates of the owner's collection, in order: of those
-    /// that match its rule (ActivityPub, section 5), in whatever state and whoever sees them. The owner is
-    /// the member or the object whose collection it is. It takes no memory.
+    /// The positions, among the activities, of the candidates of the owner's collection, in order:
+    /// of those that match its rule (ActivityPub, section 5), in whatever state and whoever sees
+    /// them. The owner is the member or the object whose collection it is. It takes no memory.
     pub fn candidates(&self, which: &Which, owner: &Iri) -> &[usize]
         requires { owner_of self.now.town which.now ≡ Some owner.now }
         ensures { result.now

@@ -5,12 +5,12 @@ use Rattle.std.specs.Int.{from_be_bytes, w64}
 use Rattle.std.proofs.lemmas.Nat.{from_be_bytes-to_be_bytes_8}
 use Rattle.std.proofs.lemmas.List.{drop_more, drop-take, take-take, append-nil}
 use Rattle.fedi_outside.specs.Disks.{DiskCrashes, DiskState, Elapses, LeavesOnly}
-use Rattle.fedi_images.specs.Images.{AreShort, IsClosedAfter, front, gates_of, kept_in, plain, record_code, size_at, size_code}
-use Rattle.fedi_images.specs.Known.{IsKnown, are_apart, records_told}
-use Rattle.fedi_images.specs.Opening.{IsDamagedAt, IsFound}
-use Rattle.fedi_images.proofs.ImageLemmas.{closed_intro, front_push, kept_image, length_front_push, plain_ok}
-use Rattle.fedi_images.proofs.Gates.{gates_grown, length_gates}
-use Rattle.fedi_images.proofs.Steps.{no_doubt}
+use Rattle.fedi_outside.specs.Images.{AreShort, IsClosedAfter, front, gates_of, kept_in, plain, record_code, size_at, size_code}
+use Rattle.fedi_outside.specs.Known.{IsKnown, are_apart, records_told}
+use Rattle.fedi_outside.specs.Opening.{IsDamagedAt, IsFound}
+use Rattle.fedi_outside.proofs.ImageLemmas.{closed_intro, front_push, kept_image, length_front_push, plain_ok}
+use Rattle.fedi_outside.proofs.Gates.{gates_grown, length_gates}
+use Rattle.fedi_outside.proofs.ImageSteps.{no_doubt}
 use Rattle.fedi_journal.specs.Finding.{IsGate, IsScanned}
 use Rattle.fedi_journal.specs.declared.finding.Gate.TheVariants.{Closed, Open, Bad}
 

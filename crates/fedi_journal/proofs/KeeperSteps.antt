@@ -5,11 +5,11 @@ use Rattle.std.specs.Int.{to_be_bytes, w64}
 use Rattle.std.proofs.lemmas.List.{append-nil, take_at}
 use Rattle.fedi_outside.specs.Disks.{DiskCrashes, DiskState}
 use Rattle.fedi_outside.specs.Keepers.{KeeperState}
-use Rattle.fedi_images.specs.Images.{kept_in, plain, record_code, size_code}
-use Rattle.fedi_images.specs.Known.{IsKnown, are_apart, records_told}
-use Rattle.fedi_images.proofs.Gates.{apart_at}
-use Rattle.fedi_images.proofs.ImageLemmas.{length_kept, plain_ok}
-use Rattle.fedi_images.proofs.Steps.{SpellsBlock, of_some, record_read}
+use Rattle.fedi_outside.specs.Images.{kept_in, plain, record_code, size_code}
+use Rattle.fedi_outside.specs.Known.{IsKnown, are_apart, records_told}
+use Rattle.fedi_outside.proofs.Gates.{apart_at}
+use Rattle.fedi_outside.proofs.ImageLemmas.{length_kept, plain_ok}
+use Rattle.fedi_outside.proofs.ImageSteps.{SpellsBlock, of_some, record_read}
 use Rattle.fedi_journal.specs.Blocks.{block_of, doubt_in, payload_of}
 
 pub on_err : {T E : Type 0} (r : Result T E) (P : Type 0) → P → OnErr r P

@@ -2,10 +2,10 @@
 use Rattle.std.proofs.Common.{◌≡◌, ℕ, ◌<◌, List, [], ◌∷◌, ◌++◌, length, drop, refl, sym, ◌∙◌, ap, subst, arith}
 use Rattle.std.specs.Prelude.{Option, Some, None, option_map, IfSome}
 use Rattle.fedi_outside.specs.Disks.{DiskCrashes, DiskState, LeavesOnly, spliced}
-use Rattle.fedi_images.specs.Images.{IsClosedAfter, front, gates_of, kept_in, plain}
-use Rattle.fedi_images.specs.Known.{IsKnown, records_told}
-use Rattle.fedi_images.proofs.ImageLemmas.{closed_intro, plain_ok}
-use Rattle.fedi_images.proofs.Steps.{no_doubt, of_some}
+use Rattle.fedi_outside.specs.Images.{IsClosedAfter, front, gates_of, kept_in, plain}
+use Rattle.fedi_outside.specs.Known.{IsKnown, records_told}
+use Rattle.fedi_outside.proofs.ImageLemmas.{closed_intro, plain_ok}
+use Rattle.fedi_outside.proofs.ImageSteps.{no_doubt, of_some}
 use Rattle.fedi_journal.specs.Making.{blank}
 
 -- bytes that are told after a write were told before

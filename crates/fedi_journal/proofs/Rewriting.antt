@@ -3,9 +3,9 @@ use Rattle.std.proofs.Common.{◌≡◌, inl, inr, ⊎_elim, ℕ, zero, suc, ◌
 use Rattle.std.specs.Prelude.{Option, Some, None, option_map, slice_get, IfSome, Result, Ok, Err, OnOk, OnErr}
 use Rattle.std.proofs.lemmas.List.{drop-drop}
 use Rattle.fedi_outside.specs.Disks.{DiskCrashes, DiskState, Elapses, HasTorn, IsTorn, IsUntouched, LeavesOnly, MayTear, TearsTold, after_write, spliced}
-use Rattle.fedi_images.specs.Known.{are_apart}
-use Rattle.fedi_images.proofs.Gates.{apart_at}
-use Rattle.fedi_images.proofs.Steps.{of_some}
+use Rattle.fedi_outside.specs.Known.{are_apart}
+use Rattle.fedi_outside.proofs.Gates.{apart_at}
+use Rattle.fedi_outside.proofs.ImageSteps.{of_some}
 use Rattle.fedi_outside.proofs.Untouched.{elapses_on, untouched_by, untouched_then}
 
 -- ---- what is untouched

@@ -1,18 +1,23 @@
 -- What is found at the gates of a disk that is opened.
-use Rattle.std.specs.Prelude.{ℕ, ◌≡◌, ◌≢◌, ◌<◌, ◌≤◌, ◌+◌, List, length, get_or, take, drop, Result, Ok, Err}
+use Rattle.std.specs.Prelude.{ℕ, ◌≡◌, ◌≢◌, ◌<◌, ◌≤◌, ◌+◌, List, length, get_or, take, drop, Result}
+use Rattle.std.specs.Prelude.{Ok, Err}
 use Rattle.fedi_outside.specs.Causes.{next_count}
-use Rattle.fedi_images.specs.Images.{gates_of, plain, size_at, size_code}
-use Rattle.fedi_images.specs.Opening.{Begins}
+use Rattle.fedi_outside.specs.Images.{gates_of, plain, size_at, size_code}
+use Rattle.fedi_outside.specs.Opening.{Begins}
 use Rattle.fedi_journal.specs.declared.faults.JournalFault.{JournalFault}
-use Rattle.fedi_journal.specs.declared.faults.JournalFault.TheVariants.{NotAStore, Damaged, Failed, Memory}
+use Rattle.fedi_journal.specs.declared.faults.JournalFault.TheVariants.{NotAStore, Damaged, Failed}
+use Rattle.fedi_journal.specs.declared.faults.JournalFault.TheVariants.{Memory}
 use Rattle.fedi_journal.specs.declared.finding.Gate.{Gate}
 use Rattle.fedi_journal.specs.declared.finding.Gate.TheVariants.{Closed, Open, Bad}
 
 -- a gate stands at the front of these bytes, and is so
 abbrev pub IsGate : List ℕ → Gate → Type 0
 IsGate bytes Closed = (0 < length bytes) × (get_or bytes 0 0 ≡ 0)
-IsGate bytes (Open size) = (get_or bytes 0 0 ≡ 1) × (take 8 (drop 1 bytes) ≡ size_code size) × (10 + size ≤ length bytes)
-IsGate bytes Bad = (0 < length bytes) × (get_or bytes 0 0 ≢ 0) × (get_or bytes 0 0 ≡ 1 → length bytes < 10 + size_at bytes)
+IsGate bytes (Open size) =
+    (get_or bytes 0 0 ≡ 1) × (take 8 (drop 1 bytes) ≡ size_code size) × (10 + size ≤ length bytes)
+IsGate bytes Bad =
+    (0 < length bytes) × (get_or bytes 0 0 ≢ 0)
+    × (get_or bytes 0 0 ≡ 1 → length bytes < 10 + size_at bytes)
 
 -- the record behind an open gate, and the gate behind that, do not pass this end
 abbrev pub IsInside : ℕ → ℕ → Gate → Type 0
@@ -22,7 +27,8 @@ IsInside gate size Bad = Unit {0}
 
 -- so far: the file begins with records that have these gates, and the next gate stands there
 abbrev pub IsScanned : List ℕ → ℕ → List ℕ → Type 0
-IsScanned gates gate bytes = (rs : List (List ℕ)) × Begins plain rs gate bytes × (gates ≡ gates_of plain 8 rs)
+IsScanned gates gate bytes =
+    (rs : List (List ℕ)) × Begins plain rs gate bytes × (gates ≡ gates_of plain 8 rs)
 
 -- how many faults were counted after this fault
 abbrev pub count_after : JournalFault → ℕ → ℕ

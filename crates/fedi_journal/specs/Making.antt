@@ -1,9 +1,10 @@
 -- What becomes of a disk that is made a journal.
-use Rattle.std.specs.Prelude.{ℕ, ◌≡◌, ◌<◌, List, [], ◌∷◌, ◌++◌, length, take, Some, None, option_map}
+use Rattle.std.specs.Prelude.{ℕ, ◌≡◌, ◌<◌, List, [], ◌∷◌, ◌++◌, length, take, Some, None}
+use Rattle.std.specs.Prelude.{option_map}
 use Rattle.fedi_outside.specs.Causes.{next_count}
 use Rattle.fedi_outside.specs.Disks.{DiskCrashes, DiskState, IsUntouched, TearsTold}
 use Rattle.fedi_outside.specs.Keepers.{KeeperState}
-use Rattle.fedi_images.specs.Images.{plain}
+use Rattle.fedi_outside.specs.Images.{plain}
 use Rattle.fedi_journal.specs.declared.faults.InitFault.{InitFault}
 use Rattle.fedi_journal.specs.declared.faults.InitFault.TheVariants.{Exists, Failed}
 
@@ -13,7 +14,14 @@ blank = plain.magic ++ 0 ∷ []
 
 -- what a journal without records shows, which was made of this disk
 abbrev pub blank_shown : DiskState → KeeperState
-blank_shown before = record { records = option_map (λ _. []) before.reads; held = 0; doubt = None; spare = 0; end = 8; faults = before.faults }
+blank_shown before = record {
+  records = option_map (λ _. []) before.reads;
+  held = 0;
+  doubt = None;
+  spare = 0;
+  end = 8;
+  faults = before.faults;
+}
 
 -- these are more bytes, and begin with others
 abbrev pub IsOther : List ℕ → Type 0
@@ -21,10 +29,14 @@ IsOther bytes = (9 < length bytes) × (take 9 bytes ≡ blank → ⊥)
 
 -- if these are its bytes, the disk is untouched
 abbrev pub KeepsOther : DiskState → DiskState → DiskCrashes → DiskCrashes → Type 0
-KeepsOther before after was now = (bytes : List ℕ) → before.reads ≡ Some bytes → IsOther bytes → IsUntouched before after was now
+KeepsOther before after was now =
+    (bytes : List ℕ) → before.reads ≡ Some bytes → IsOther bytes → IsUntouched before after was now
 
--- a disk was not made a journal: if it has other bytes, all is as before; if it failed, its first nine bytes may be torn
+-- a disk was not made a journal: if it has other bytes, all is as before; if it failed, its first
+-- nine bytes may be torn
 abbrev pub IsUnmade : InitFault → DiskState → DiskState → Type 0
 IsUnmade Exists before after =
-    (after.reads ≡ before.reads) × (after.faults ≡ before.faults) × ((bytes : List ℕ) → before.reads ≡ Some bytes → IsOther bytes)
-IsUnmade Failed before after = TearsTold 0 blank before.reads after.reads × (after.faults ≡ next_count before.faults)
+    (after.reads ≡ before.reads) × (after.faults ≡ before.faults)
+    × ((bytes : List ℕ) → before.reads ≡ Some bytes → IsOther bytes)
+IsUnmade Failed before after =
+    TearsTold 0 blank before.reads after.reads × (after.faults ≡ next_count before.faults)

@@ -1,10 +1,11 @@
 //! Finding the records of a disk.
-ghost use Rattle.std.specs.Prelude.{ℕ, ◌≡◌, ◌<◌, ◌≤◌, ◌+◌, ◌^◌, true, false, List, length, take, drop, get_or, Some, IfOk, IfSome, OnOk, OnErr, IsErrOf};
+ghost use Rattle.std.specs.Prelude.{ℕ, ◌≡◌, ◌<◌, ◌≤◌, ◌+◌, ◌^◌, true, false, List, length, take};
+ghost use Rattle.std.specs.Prelude.{drop, get_or, Some, IfOk, IfSome, OnOk, OnErr, IsErrOf};
 ghost use Rattle.fedi_outside.specs.Causes.{HasCause};
 ghost use Rattle.fedi_outside.specs.Disks.{Elapses, IsUntouched, LeavesOnly, after_reading};
-ghost use Rattle.fedi_images.specs.Images.{plain, size_code};
-ghost use Rattle.fedi_images.specs.Known.{are_apart};
-ghost use Rattle.fedi_images.specs.Opening.{IsDamagedAt, IsFound, IsNoStore};
+ghost use Rattle.fedi_outside.specs.Images.{plain, size_code};
+ghost use Rattle.fedi_outside.specs.Known.{are_apart};
+ghost use Rattle.fedi_outside.specs.Opening.{IsDamagedAt, IsFound, IsNoStore};
 ghost use Rattle.fedi_journal.specs.Finding.{IsGate, IsInside, faults_found};
 
 use crate::blocks::number_of;
@@ -85,7 +86,8 @@ fn look<D: Disk>(disk: &mut D, gate: u64, size: u64) -> Result<Gate, Failed>
     Ok(Gate::Open(length))
 }
 
-// The gates of the records of a disk of this size that begins with the magic, and where the closed gate stands.
+// The gates of the records of a disk of this size that begins with the magic, and where the closed
+// gate stands.
 fn scan<D: Disk>(alloc: Global, disk: &mut D, size: u64) -> Result<(Vec<u64>, u64), JournalFault>
     requires size { size ≡ (D.shown disk.old).size }
     requires long { 8 < size }
@@ -152,8 +154,8 @@ fn synced_size<D: Disk>(disk: &mut D) -> Result<u64, Failed>
     disk.len()
 }
 
-// The gates of the records of a disk, and where the closed gate stands. It syncs before it reads, so that a crash leaves what it
-// finds.
+// The gates of the records of a disk, and where the closed gate stands. It syncs before it reads,
+// so that a crash leaves what it finds.
 fn find_gates<D: Disk>(alloc: Global, disk: &mut D) -> Result<(Vec<u64>, u64), JournalFault>
     ensures found { IfOk result (λ found. (bytes : List ℕ) → (D.shown disk.old).reads ≡ Some bytes
         → IsFound plain found.0.items found.1 bytes) }
@@ -193,8 +195,9 @@ fn rewrite<D: Disk>(disk: &mut D, at: u64) -> Result<(), Failed>
     disk.write_at(at, &byte)
 }
 
-// Writes the last open gate and the closed one again, and syncs. An earlier process may have failed to sync one of them: then reads
-// give it, and the disk may not have it, though the next sync succeeds.
+// Writes the last open gate and the closed one again, and syncs. An earlier process may have failed
+// to sync one of them: then reads give it, and the disk may not have it, though the next sync
+// succeeds.
 fn rewrite_gates<D: Disk>(disk: &mut D, gates: &[u64], end: u64) -> Result<(), Failed>
     requires apart { are_apart 9 gates.now end ≡ true }
     requires inside { end < (D.shown disk.old).size }
@@ -212,8 +215,9 @@ fn rewrite_gates<D: Disk>(disk: &mut D, gates: &[u64], end: u64) -> Result<(), F
     disk.sync()
 }
 
-/// The gates of the records of a disk, and where the closed gate stands. It syncs before it reads, and again what it found, so that a
-/// crash leaves that. Whatever the answer, reads give the same bytes, and a crash leaves nothing new.
+/// The gates of the records of a disk, and where the closed gate stands. It syncs before it reads,
+/// and again what it found, so that a crash leaves that. Whatever the answer, reads give the same
+/// bytes, and a crash leaves nothing new.
 pub fn find<D: Disk>(alloc: Global, disk: &mut D) -> Result<(Vec<u64>, u64), JournalFault>
     ensures found { IfOk result (λ found. (bytes : List ℕ) → (D.shown disk.old).reads ≡ Some bytes
         → IsFound plain found.0.items found.1 bytes) }

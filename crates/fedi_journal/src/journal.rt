@@ -1,9 +1,10 @@
 //! A keeper of records on a disk.
-ghost use Rattle.std.specs.Prelude.{ℕ, ◌≡◌, ◌<◌, ◌≤◌, ◌+◌, ◌-◌, ◌^◌, true, nat_lt, length, get_or, is_some, IfSome, vec_len, vec_capacity};
-ghost use Rattle.fedi_images.specs.Images.{plain};
-ghost use Rattle.fedi_images.specs.Known.{IsKnown, are_apart, record_crashes, records_told};
-ghost use Rattle.fedi_images.proofs.ImageLemmas.{plain_ok};
-ghost use Rattle.fedi_images.proofs.Steps.{leaves_records, told_count};
+ghost use Rattle.std.specs.Prelude.{ℕ, ◌≡◌, ◌<◌, ◌≤◌, ◌+◌, ◌-◌, ◌^◌, true, nat_lt, length, get_or};
+ghost use Rattle.std.specs.Prelude.{is_some, IfSome, vec_len, vec_capacity};
+ghost use Rattle.fedi_outside.specs.Images.{plain};
+ghost use Rattle.fedi_outside.specs.Known.{IsKnown, are_apart, record_crashes, records_told};
+ghost use Rattle.fedi_outside.proofs.ImageLemmas.{plain_ok};
+ghost use Rattle.fedi_outside.proofs.ImageSteps.{leaves_records, told_count};
 ghost use Rattle.fedi_journal.specs.Blocks.{doubt_in};
 ghost use Rattle.fedi_outside.proofs.Untouched.{untouched_now, untouched_then};
 ghost use Rattle.fedi_outside.specs.Disks.{IsUntouched};
@@ -18,17 +19,20 @@ use std::alloc::Global;
 /// The last end of a keeper.
 const LIMIT: u64 = 1 << 62;
 
-/// By how much more than its length a record moves the end: its gate, and its length in eight bytes.
+/// By how much more than its length a record moves the end: its gate, and its length in eight
+/// bytes.
 const GROWTH: u64 = 9;
 
 /// How much more than its length a record needs below the limit: the next gate too.
 const ROOM: u64 = 10;
 
-/// A keeper of records on a disk. It tells its records, and what a crash may leave of them, if the disk tells its bytes.
+/// A keeper of records on a disk. It tells its records, and what a crash may leave of them, if the
+/// disk tells its bytes.
 ///
-/// Behind the magic stands a gate for each record: a byte 1, the length of the record in eight bytes, the highest first, and the
-/// record. Behind the last one stands a gate that is closed, a byte 0, and then anything. So what is written behind the closed gate
-/// counts for nothing until the gate is opened, by a write of one byte, which no crash can tear.
+/// Behind the magic stands a gate for each record: a byte 1, the length of the record in eight
+/// bytes, the highest first, and the record. Behind the last one stands a gate that is closed, a
+/// byte 0, and then anything. So what is written behind the closed gate counts for nothing until
+/// the gate is opened, by a write of one byte, which no crash can tear.
 #[derive(Drop)]
 pub struct Journal<D: Disk> {
     disk: D,
@@ -36,7 +40,8 @@ pub struct Journal<D: Disk> {
     gates: Vec<u64>,
     // Where the closed gate stands.
     end: u64,
-    // What was last written behind the closed gate: the length of a record, the record, and a closed gate.
+    // What was last written behind the closed gate: the length of a record, the record, and a
+    // closed gate.
     block: Vec<u8>,
     // Whether the gate before it may have been opened.
     in_doubt: bool,
@@ -52,19 +57,21 @@ impl<D: Disk> Journal<D> {
     ghost use Rattle.std.specs.Prelude.{List, Some, None, option_map, take, IfOk, IfErr};
     ghost use Rattle.fedi_outside.specs.Disks.{Elapses, LeavesOnly, MayTear, spliced};
     ghost use Rattle.fedi_outside.specs.Keepers.{MayLeave};
-    ghost use Rattle.fedi_images.specs.Images.{IsImage, front};
-    ghost use Rattle.fedi_images.specs.Opening.{IsDamagedAt, IsNoStore};
+    ghost use Rattle.fedi_outside.specs.Images.{IsImage, front};
+    ghost use Rattle.fedi_outside.specs.Opening.{IsDamagedAt, IsNoStore};
     ghost use Rattle.fedi_journal.specs.Finding.{faults_after};
     ghost use Rattle.fedi_journal.specs.Making.{IsOther, IsUnmade, KeepsOther, blank, blank_shown};
     ghost use Rattle.fedi_journal.specs.Opening.{disk_after, disk_of};
 
-    /// Opens the records of a disk. It syncs before it reads, so that a crash leaves what it finds. Then it writes the last open gate
-    /// and the closed one again, which an earlier process may have failed to sync, and syncs once more. Whatever the answer, reads
-    /// give the same bytes, and a crash leaves nothing new.
+    /// Opens the records of a disk. It syncs before it reads, so that a crash leaves what it finds.
+    /// Then it writes the last open gate and the closed one again, which an earlier process may
+    /// have failed to sync, and syncs once more. Whatever the answer, reads give the same bytes,
+    /// and a crash leaves nothing new.
     ///
-    /// Each error hands the disk back: `NotAStore` if it has fewer than 9 bytes or does not begin with the magic, `Damaged` with the
-    /// place of the first gate that is not as it should be, `Failed` if the disk failed, and `Memory`, only if it begins with the
-    /// magic, if out of memory.
+    /// Each error hands the disk back: `NotAStore` if it has fewer than 9 bytes or does not begin
+    /// with the magic, `Damaged` with the place of the first gate that is not as it should be,
+    /// `Failed` if the disk failed, and `Memory`, only if it begins with the magic, if out of
+    /// memory.
     pub fn open(alloc: Global, disk: D) -> Result<Journal<D>, (JournalFault, D)>
         ensures found { IfOk result (λ journal. (bytes : List ℕ) → (D.shown disk).reads ≡ Some bytes
             → (rs : List (List ℕ)) × IsImage plain rs bytes
@@ -75,7 +82,8 @@ impl<D: Disk> Journal<D> {
         ensures only { IfOk result (λ journal. (bytes : List ℕ) → (D.shown disk).reads ≡ Some bytes
             → LeavesOnly (D.crashes (disk_of journal)) bytes) }
         ensures damaged { (place : ℕ) → IfErr result (λ back. back.0 ≡ JournalFault.Damaged place
-            → (bytes : List ℕ) → (D.shown disk).reads ≡ Some bytes → IsDamagedAt plain place bytes) }
+            → (bytes : List ℕ) → (D.shown disk).reads ≡ Some bytes
+            → IsDamagedAt plain place bytes) }
         ensures store { IfErr result (λ back. back.0 ≡ JournalFault.NotAStore
             → (bytes : List ℕ) → (D.shown disk).reads ≡ Some bytes → IsNoStore plain bytes) }
         ensures memory { IfErr result (λ back. back.0 ≡ JournalFault.Memory
@@ -99,10 +107,11 @@ impl<D: Disk> Journal<D> {
         }
     }
 
-    /// Makes a disk a journal without records, and syncs it. Each error hands the disk back: `Exists` if it has more than 9 bytes and
-    /// does not begin with the magic and a closed gate, and its bytes are as before; `Failed` if the disk failed, and then its first
-    /// nine bytes may be torn, so that it can be made a journal again. But other bytes stay, whatever the answer: reads give the same,
-    /// and a crash leaves nothing new. It takes no memory.
+    /// Makes a disk a journal without records, and syncs it. Each error hands the disk back:
+    /// `Exists` if it has more than 9 bytes and does not begin with the magic and a closed gate,
+    /// and its bytes are as before; `Failed` if the disk failed, and then its first nine bytes may
+    /// be torn, so that it can be made a journal again. But other bytes stay, whatever the answer:
+    /// reads give the same, and a crash leaves nothing new. It takes no memory.
     pub fn init(alloc: Global, disk: D) -> Result<Journal<D>, (InitFault, D)>
         ensures shown { IfOk result (λ journal. ⟦<Journal<D> as Keeper>⟧.shown journal
             ≡ blank_shown (D.shown disk)) }
@@ -132,7 +141,8 @@ impl<D: Disk> Journal<D> {
         }
     }
 
-    /// Its disk. Each image that a crash may leave of it is a file of the records, or of these with the one in doubt.
+    /// Its disk. Each image that a crash may leave of it is a file of the records, or of these with
+    /// the one in doubt.
     pub fn into_disk(self) -> D
         ensures disk { result ≡ disk_of self }
         ensures images { (kept : List (List ℕ))
@@ -145,7 +155,8 @@ impl<D: Disk> Journal<D> {
     }
 }
 
-// Where the record at this place begins, and how many bytes it has, by the gates of all records and the closed gate behind them.
+// Where the record at this place begins, and how many bytes it has, by the gates of all records and
+// the closed gate behind them.
 fn span_of(gates: &[u64], end: u64, place: u64) -> Option<(u64, u64)>
     requires apart { are_apart 9 gates.now end ≡ true }
     requires fits { end < 2 ^ 64 }
@@ -242,7 +253,8 @@ impl<D: Disk> Keeper for Journal<D> {
             (⟦<Journal<D> as Keeper>⟧.shown self.old) (⟦<Journal<D> as Keeper>⟧.shown self.new)) }
         ensures time { PassesTime (⟦<Journal<D> as Keeper>⟧.shown self.old).records
             (Some payload.now)
-            (⟦<Journal<D> as Keeper>⟧.crashes self.old) (⟦<Journal<D> as Keeper>⟧.crashes self.new) }
+            (⟦<Journal<D> as Keeper>⟧.crashes self.old)
+            (⟦<Journal<D> as Keeper>⟧.crashes self.new) }
         // A crash on the way leaves an image from before, or a file of the records, or of these
         // and the payload.
         ensures images { (kept : List (List ℕ))

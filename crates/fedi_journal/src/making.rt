@@ -1,5 +1,6 @@
 //! Making a disk a journal.
-ghost use Rattle.std.specs.Prelude.{ℕ, ◌≡◌, ◌<◌, true, List, take, Some, option_map, IfSome, IfOk, IfErr, OnOk};
+ghost use Rattle.std.specs.Prelude.{ℕ, ◌≡◌, ◌<◌, true, List, take, Some, option_map, IfSome, IfOk};
+ghost use Rattle.std.specs.Prelude.{IfErr, OnOk};
 ghost use Rattle.fedi_outside.specs.Disks.{Elapses, LeavesOnly, MayTear, after_reading, spliced};
 ghost use Rattle.fedi_journal.specs.Making.{IsOther, IsUnmade, KeepsOther, blank};
 
@@ -29,9 +30,10 @@ fn is_blank<D: Disk>(disk: &mut D, size: u64) -> Result<bool, Failed>
     Ok(first == BLANK)
 }
 
-/// Makes a disk a journal without records: writes the magic and a closed gate and syncs, or only syncs if they are there. `Exists` if
-/// it has more than 9 bytes that begin with others; `Failed` if the disk failed, and then its first nine bytes may be torn. But other
-/// bytes stay, whatever the answer: reads give the same, and a crash leaves nothing new.
+/// Makes a disk a journal without records: writes the magic and a closed gate and syncs, or only
+/// syncs if they are there. `Exists` if it has more than 9 bytes that begin with others; `Failed`
+/// if the disk failed, and then its first nine bytes may be torn. But other bytes stay, whatever
+/// the answer: reads give the same, and a crash leaves nothing new.
 pub fn make<D: Disk>(disk: &mut D) -> Result<(), InitFault>
     ensures written { OnOk result
         ((D.shown disk.new).reads ≡ option_map (spliced 0 blank) (D.shown disk.old).reads) }

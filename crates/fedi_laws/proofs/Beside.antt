@@ -1,4 +1,5 @@
--- What a caller knows does not depend on the attempts to deliver, nor on peers other than the caller.
+-- What a caller knows does not depend on the attempts to deliver, nor on peers other than the
+-- caller.
 use Rattle.std.proofs.Common.{◌≡◌, ℕ, Bool, false, List, [], ◌∷◌, ◌++◌, Option, Some, None, refl, sym, ap, subst, ◌∙◌}
 use Rattle.std.specs.Prelude.{map}
 use Rattle.std.specs.List.{find}

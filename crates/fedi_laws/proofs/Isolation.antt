@@ -117,7 +117,8 @@ as_known : (t : Town) (owner author id : List ℕ) (a : Activity) (moment : ℕ)
     → Agree (record t { acts = map (with_recipient id owner) t.acts }) t c → Agree (after_inbox t owner author id a moment) t c
 as_known t owner author id a moment c known agree = rw known agree
 
--- A delivery of a new id, of a kind that changes nothing earlier and is no Follow, which the caller does not see.
+-- A delivery of a new id, of a kind that changes nothing earlier and is no Follow, which the caller
+-- does not see.
 pub unseen_deliveries : (history : List Entry) (peer inbox owner author id : List ℕ) (a : Activity) (moment : ℕ) (c : Caller)
     → id_of (town history) inbox ≡ Some owner → a.actor ≡ Some author → a.id ≡ Some id → is_known (town history) id ≡ false
     → changes_nothing (deed_of a.kind) ≡ true → is_follow (deed_of a.kind) ≡ false

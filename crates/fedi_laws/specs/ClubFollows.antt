@@ -6,7 +6,8 @@ use Rattle.fedi_address.specs.Iris.{public_iri}
 use Rattle.fedi_objects.specs.declared.activity.ObjectRef.TheVariants.{Id, Whole}
 use Rattle.fedi_objects.specs.declared.entry.Entry.{Entry}
 use Rattle.fedi_objects.specs.declared.kind.Kind.TheVariants as kinds
-use Rattle.fedi_objects.specs.declared.kind.State.TheVariants.{Done, Pending, Accepted, Standing, Undone}
+use Rattle.fedi_objects.specs.declared.kind.State.TheVariants.{Done, Pending, Accepted, Standing}
+use Rattle.fedi_objects.specs.declared.kind.State.TheVariants.{Undone}
 use Rattle.fedi_town.specs.declared.caller.Caller.TheVariants.{Nobody, Actor}
 use Rattle.fedi_town.specs.declared.caller.Which.TheVariants.{Inbox, Outbox, Followers, Following}
 use Rattle.fedi_town.specs.declared.deed.Deed.TheVariants.{Follow, Accept, Undo}
@@ -15,9 +16,12 @@ use Rattle.fedi_town.specs.Histories.{town}
 use Rattle.fedi_town.specs.Relations.{followers, follows}
 use Rattle.fedi_town.specs.States.{has_room}
 use Rattle.fedi_town.specs.Towns.{Town, count_of}
-use Rattle.fedi_laws.specs.Fixture.{ana, ben, cleo, dan, member, activity_number, object_number, start, to, activity, note, posts, is_legal, states, recipients, sight, total, rule}
+use Rattle.fedi_laws.specs.Fixture.{ana, ben, cleo, dan, member, activity_number, object_number}
+use Rattle.fedi_laws.specs.Fixture.{start, to, activity, note, posts, is_legal, states, recipients}
+use Rattle.fedi_laws.specs.Fixture.{sight, total, rule}
 
--- ---- ana follows dan, who is locked and accepts; she takes it back, and follows ben, who is not locked
+-- ---- ana follows dan, who is locked and accepts; she takes it back, and follows ben, who is not
+-- locked
 
 -- ana asked to follow dan
 abbrev pub after_follow : List Entry
@@ -25,15 +29,20 @@ after_follow = start ++ posts ana (activity kinds.Follow (Id (member dan)) no_re
 
 -- dan accepted
 abbrev pub after_accept : List Entry
-after_accept = after_follow ++ posts dan (activity kinds.Accept (Id (activity_number ana (codes "1"))) no_recipients) ∷ []
+after_accept =
+    after_follow
+    ++ posts dan (activity kinds.Accept (Id (activity_number ana (codes "1"))) no_recipients) ∷ []
 
 -- ana took it back
 abbrev pub after_undo : List Entry
-after_undo = after_accept ++ posts ana (activity kinds.Undo (Id (activity_number ana (codes "1"))) no_recipients) ∷ []
+after_undo =
+    after_accept
+    ++ posts ana (activity kinds.Undo (Id (activity_number ana (codes "1"))) no_recipients) ∷ []
 
 -- ana followed ben
 abbrev pub after_second_follow : List Entry
-after_second_follow = after_undo ++ posts ana (activity kinds.Follow (Id (member ben)) no_recipients) ∷ []
+after_second_follow =
+    after_undo ++ posts ana (activity kinds.Follow (Id (member ben)) no_recipients) ∷ []
 
 -- the Follow waits, is accepted once, and is taken back once; ben's Accept follows at once
 pub record LockedFollow : Type 0 where
@@ -43,7 +52,8 @@ pub record LockedFollow : Type 0 where
   pub follows_not_yet : follows (town after_follow) (member ana) (member dan) ≡ false
   pub follows_now : follows (town after_accept) (member ana) (member dan) ≡ true
   pub follows_no_more : follows (town after_undo) (member ana) (member dan) ≡ false
-  pub accepted_once : rule after_accept dan Accept (activity_number ana (codes "1")) ≡ Some NotStanding
+  pub accepted_once :
+      rule after_accept dan Accept (activity_number ana (codes "1")) ≡ Some NotStanding
   pub following : total after_accept (Actor ana) (Following ana) ≡ Some 1
   pub hidden : total after_accept (Actor cleo) (Following ana) ≡ Some 0
   pub ended : states after_undo ≡ Undone ∷ Done ∷ Done ∷ []
@@ -51,7 +61,8 @@ pub record LockedFollow : Type 0 where
   pub ended_once : rule after_undo ana Undo (activity_number ana (codes "1")) ≡ Some NotStanding
   pub sent : recipients after_undo ≡ (member dan ∷ []) ∷ (member ana ∷ []) ∷ (member dan ∷ []) ∷ []
   pub answered : states after_second_follow ≡ Undone ∷ Done ∷ Done ∷ Accepted ∷ Done ∷ []
-  pub answer : sight after_second_follow (Actor ben) ≡ Some (activity_number ana (codes "3")) ∷ Some (activity_number ben (codes "1")) ∷ []
+  pub answer : sight after_second_follow (Actor ben)
+      ≡ Some (activity_number ana (codes "3")) ∷ Some (activity_number ben (codes "1")) ∷ []
   pub in_outbox : total after_second_follow (Actor ben) (Outbox ben) ≡ Some 1
 
 -- ---- ben follows ana; she posts a public Note, blocks ben, and takes the Block back
@@ -59,7 +70,8 @@ pub record LockedFollow : Type 0 where
 -- ben followed ana, and she posted a public Note
 abbrev pub before_block : List Entry
 before_block = start ++ (posts ben (activity kinds.Follow (Id (member ana)) no_recipients)
-    ∷ posts ana (activity kinds.Create (Whole (note (to (public_iri ∷ [])))) (to (public_iri ∷ []))) ∷ [])
+    ∷ posts ana (activity kinds.Create (Whole (note (to (public_iri ∷ [])))) (to (public_iri ∷ [])))
+    ∷ [])
 
 -- she blocked him
 abbrev pub after_block : List Entry
@@ -67,10 +79,12 @@ after_block = before_block ++ posts ana (activity kinds.Block (Id (member ben)) 
 
 -- she took the Block back
 abbrev pub after_unblock : List Entry
-after_unblock = after_block ++ posts ana (activity kinds.Undo (Id (activity_number ana (codes "3"))) no_recipients) ∷ []
+after_unblock =
+    after_block
+    ++ posts ana (activity kinds.Undo (Id (activity_number ana (codes "3"))) no_recipients) ∷ []
 
--- the Block ends the Follow and hides the Note from ben, and from ben alone; its Undo shows the Note again, and brings no
--- Follow back; neither goes to anybody
+-- the Block ends the Follow and hides the Note from ben, and from ben alone; its Undo shows the
+-- Note again, and brings no Follow back; neither goes to anybody
 pub record BlockAndUndo : Type 0 where
   pub legal : is_legal after_unblock ≡ true
   pub before : states before_block ≡ Accepted ∷ Done ∷ Done ∷ []
@@ -81,7 +95,8 @@ pub record BlockAndUndo : Type 0 where
   pub public : sight after_block Nobody ≡ Some (activity_number ana (codes "2")) ∷ []
   pub silent : recipients after_unblock ≡ (member ana ∷ []) ∷ (member ben ∷ []) ∷ [] ∷ [] ∷ [] ∷ []
   pub again : sight after_unblock (Actor ben)
-      ≡ Some (activity_number ben (codes "1")) ∷ Some (activity_number ana (codes "1")) ∷ Some (activity_number ana (codes "2")) ∷ []
+      ≡ Some (activity_number ben (codes "1")) ∷ Some (activity_number ana (codes "1"))
+      ∷ Some (activity_number ana (codes "2")) ∷ []
   pub still_none : total after_unblock (Actor ana) (Followers ana) ≡ Some 0
 
 -- ---- ben follows ana, who posts to her followers; cleo follows her afterwards
@@ -97,72 +112,91 @@ after_note = start ++ (posts ben (activity kinds.Follow (Id (member ana)) no_rec
 
 -- cleo followed her afterwards
 abbrev pub after_late_follow : List Entry
-after_late_follow = after_note ++ posts cleo (activity kinds.Follow (Id (member ana)) no_recipients) ∷ []
+after_late_follow =
+    after_note ++ posts cleo (activity kinds.Follow (Id (member ana)) no_recipients) ∷ []
 
 -- the Note goes to those who follow when it is accepted, and those who follow later see it too
 pub record PostToFollowers : Type 0 where
   pub legal : is_legal after_late_follow ≡ true
   pub sent : recipients after_note ≡ (member ana ∷ []) ∷ (member ben ∷ []) ∷ (member ben ∷ []) ∷ []
   pub follower : sight after_note (Actor ben)
-      ≡ Some (activity_number ben (codes "1")) ∷ Some (activity_number ana (codes "1")) ∷ Some (activity_number ana (codes "2")) ∷ []
+      ≡ Some (activity_number ben (codes "1")) ∷ Some (activity_number ana (codes "1"))
+      ∷ Some (activity_number ana (codes "2")) ∷ []
   pub stranger : sight after_note (Actor cleo) ≡ []
   pub both : followers (town after_late_follow) (member ana) ≡ member ben ∷ member cleo ∷ []
   pub later : sight after_late_follow (Actor cleo)
-      ≡ Some (activity_number ana (codes "2")) ∷ Some (activity_number cleo (codes "1")) ∷ Some (activity_number ana (codes "3")) ∷ []
+      ≡ Some (activity_number ana (codes "2")) ∷ Some (activity_number cleo (codes "1"))
+      ∷ Some (activity_number ana (codes "3")) ∷ []
 
 -- ---- ana posts to her followers before there is one; ben follows her afterwards
 
 -- she posted the Note
 abbrev pub before_first_follow : List Entry
-before_first_follow = start ++ posts ana (activity kinds.Create (Whole (note (to fans))) (to fans)) ∷ []
+before_first_follow =
+    start ++ posts ana (activity kinds.Create (Whole (note (to fans))) (to fans)) ∷ []
 
 -- ben followed her
 abbrev pub after_first_follow : List Entry
-after_first_follow = before_first_follow ++ posts ben (activity kinds.Follow (Id (member ana)) no_recipients) ∷ []
+after_first_follow =
+    before_first_follow ++ posts ben (activity kinds.Follow (Id (member ana)) no_recipients) ∷ []
 
 -- he took it back
 abbrev pub after_unfollow : List Entry
-after_unfollow = after_first_follow ++ posts ben (activity kinds.Undo (Id (activity_number ben (codes "1"))) no_recipients) ∷ []
+after_unfollow =
+    after_first_follow
+    ++ posts ben (activity kinds.Undo (Id (activity_number ben (codes "1"))) no_recipients) ∷ []
 
 -- she ended it
 abbrev pub after_reject : List Entry
-after_reject = after_first_follow ++ posts ana (activity kinds.Reject (Id (activity_number ben (codes "1"))) no_recipients) ∷ []
+after_reject =
+    after_first_follow
+    ++ posts ana (activity kinds.Reject (Id (activity_number ben (codes "1"))) no_recipients) ∷ []
 
 -- she blocked him
 abbrev pub after_parting : List Entry
-after_parting = after_first_follow ++ posts ana (activity kinds.Block (Id (member ben)) no_recipients) ∷ []
+after_parting =
+    after_first_follow ++ posts ana (activity kinds.Block (Id (member ben)) no_recipients) ∷ []
 
 -- ana deleted the object, of which ben is told as he follows her
 abbrev pub after_delete : List Entry
-after_delete = after_first_follow ++ posts ana (activity kinds.Delete (Id (object_number ana (codes "1"))) no_recipients) ∷ []
+after_delete =
+    after_first_follow
+    ++ posts ana (activity kinds.Delete (Id (object_number ana (codes "1"))) no_recipients) ∷ []
 
--- The Note went to nobody. Ben sees it from his Follow on, in ana's outbox and not in his inbox, until the Follow ends by
--- his Undo, by ana's Reject or by a Block; and so he sees its Delete. Nobody else sees it.
+-- The Note went to nobody. Ben sees it from his Follow on, in ana's outbox and not in his inbox,
+-- until the Follow ends by his Undo, by ana's Reject or by a Block; and so he sees its Delete.
+-- Nobody else sees it.
 pub record LateFollower : Type 0 where
   pub legal : is_legal after_unfollow ≡ true
   pub sent : recipients after_first_follow ≡ [] ∷ (member ana ∷ []) ∷ (member ben ∷ []) ∷ []
   pub before : sight before_first_follow (Actor ben) ≡ []
   pub after : sight after_first_follow (Actor ben)
-      ≡ Some (activity_number ana (codes "1")) ∷ Some (activity_number ben (codes "1")) ∷ Some (activity_number ana (codes "2")) ∷ []
+      ≡ Some (activity_number ana (codes "1")) ∷ Some (activity_number ben (codes "1"))
+      ∷ Some (activity_number ana (codes "2")) ∷ []
   pub in_outbox : total after_first_follow (Actor ben) (Outbox ana) ≡ Some 2
   pub in_inbox : total after_first_follow (Actor ben) (Inbox ben) ≡ Some 1
   pub stranger : sight after_first_follow (Actor cleo) ≡ []
   pub nobody : sight after_first_follow Nobody ≡ []
   pub undone : sight after_unfollow (Actor ben)
-      ≡ Some (activity_number ben (codes "1")) ∷ Some (activity_number ana (codes "2")) ∷ Some (activity_number ben (codes "2")) ∷ []
+      ≡ Some (activity_number ben (codes "1")) ∷ Some (activity_number ana (codes "2"))
+      ∷ Some (activity_number ben (codes "2")) ∷ []
   pub legal_reject : is_legal after_reject ≡ true
   pub rejected : sight after_reject (Actor ben)
-      ≡ Some (activity_number ben (codes "1")) ∷ Some (activity_number ana (codes "2")) ∷ Some (activity_number ana (codes "3")) ∷ []
+      ≡ Some (activity_number ben (codes "1")) ∷ Some (activity_number ana (codes "2"))
+      ∷ Some (activity_number ana (codes "3")) ∷ []
   pub legal_block : is_legal after_parting ≡ true
   pub blocked : sight after_parting (Actor ben) ≡ Some (activity_number ben (codes "1")) ∷ []
   pub legal_delete : is_legal after_delete ≡ true
   pub deleted : sight after_delete (Actor ben)
-      ≡ Some (activity_number ana (codes "1")) ∷ Some (activity_number ben (codes "1")) ∷ Some (activity_number ana (codes "2"))
+      ≡ Some (activity_number ana (codes "1")) ∷ Some (activity_number ben (codes "1"))
+      ∷ Some (activity_number ana (codes "2"))
       ∷ Some (activity_number ana (codes "3")) ∷ []
 
 -- ---- the last number
 
--- whoever has the last number but one can answer the Follow of another, and whoever has the last can not
+-- whoever has the last number but one can answer the Follow of another, and whoever has the last
+-- can not
 pub record LastNumber : Type 0 where
-  pub last : (t : Town) (a b : List ℕ) → count_of t b ≡ 4294967294 → bytes_eq a b ≡ false → has_room t a b ≡ true
+  pub last : (t : Town) (a b : List ℕ) → count_of t b ≡ 4294967294 → bytes_eq a b ≡ false
+      → has_room t a b ≡ true
   pub full : (t : Town) (a b : List ℕ) → count_of t b ≡ 4294967295 → has_room t a b ≡ false

@@ -1,5 +1,6 @@
 -- What other servers deliver to the club, and what goes to them.
-use Rattle.std.specs.Prelude.{◌≡◌, ℕ, true, false, List, [], ◌∷◌, ◌++◌, map, codes, Some, None, option_map}
+use Rattle.std.specs.Prelude.{◌≡◌, ℕ, true, false, List, [], ◌∷◌, ◌++◌, map, codes, Some, None}
+use Rattle.std.specs.Prelude.{option_map}
 use Rattle.fedi_address.specs.declared.recipients.Recipients.{Recipients}
 use Rattle.fedi_town.specs.declared.refusal.Refusal.TheVariants.{NotFound}
 use Rattle.fedi_address.specs.Iris.{public_iri}
@@ -19,7 +20,9 @@ use Rattle.fedi_town.specs.Objects.{object_at}
 use Rattle.fedi_town.specs.Queues.{Due, queue}
 use Rattle.fedi_town.specs.Relations.{followers}
 use Rattle.fedi_laws.specs.ClubFollows.{fans}
-use Rattle.fedi_laws.specs.Fixture.{ana, ben, dan, member, activity_number, object_number, hill, lake, dora, eve, with_peers, to, activity, note, posts, delivers, is_legal, states, recipients, sight, total, rule}
+use Rattle.fedi_laws.specs.Fixture.{ana, ben, dan, member, activity_number, object_number, hill}
+use Rattle.fedi_laws.specs.Fixture.{lake, dora, eve, with_peers, to, activity, note, posts}
+use Rattle.fedi_laws.specs.Fixture.{delivers, is_legal, states, recipients, sight, total, rule}
 
 -- an id of dora's
 abbrev pub by_dora : List ℕ → List ℕ
@@ -33,7 +36,10 @@ note_of_dora id o r = activity kinds.Create (Whole (record o { id = Some id })) 
 
 -- to whom it goes
 abbrev pub dora_says : Recipients
-dora_says = record no_recipients { to = public_iri ∷ []; cc = by_dora (codes "/followers") ∷ member ana ∷ [] }
+dora_says = record no_recipients {
+  to = public_iri ∷ [];
+  cc = by_dora (codes "/followers") ∷ member ana ∷ [];
+}
 
 -- the Create
 abbrev pub hi : Activity
@@ -52,19 +58,26 @@ pub record DeliveredNote : Type 0 where
   pub legal : is_legal after_second_inbox ≡ true
   pub done : states after_second_inbox ≡ Done ∷ []
   pub inboxes : recipients after_second_inbox ≡ (member ana ∷ member ben ∷ []) ∷ []
-  pub not_again : is_legal (after_delivery ++ delivers hill ana dora (by_dora (codes "/a/7")) hi ∷ []) ≡ false
+  pub not_again :
+      is_legal (after_delivery ++ delivers hill ana dora (by_dora (codes "/a/7")) hi ∷ []) ≡ false
   pub with_ana : total after_second_inbox (Actor ana) (Inbox ana) ≡ Some 1
   pub with_ben : total after_second_inbox (Actor ben) (Inbox ben) ≡ Some 1
-  pub author : option_map (λ o. o.attributed_to) (object_at (town after_second_inbox) (by_dora (codes "/o/7"))) ≡ Some (Some dora)
+  pub author : option_map (λ o. o.attributed_to)
+      (object_at (town after_second_inbox) (by_dora (codes "/o/7"))) ≡ Some (Some dora)
 
 -- ---- who may deliver
 
--- a peer delivers what its own actors do, a relay what others do too, and neither what a member does
+-- a peer delivers what its own actors do, a relay what others do too, and neither what a member
+-- does
 pub record PeersAndRelays : Type 0 where
-  pub other_host : is_legal (with_peers ++ delivers hill ana eve (eve ++ codes "/a/1") (activity kinds.Listen (Id dora) no_recipients) ∷ []) ≡ false
-  pub own_host : is_legal (with_peers ++ delivers lake ana eve (eve ++ codes "/a/1") (activity kinds.Listen (Id dora) no_recipients) ∷ []) ≡ true
-  pub by_relay : is_legal (with_peers ++ delivers lake ana dora (by_dora (codes "/a/7")) hi ∷ []) ≡ true
-  pub of_member : is_legal (with_peers ++ delivers lake ana (member ana) (member ana ++ codes "/a/1") (activity kinds.Listen (Id dora) no_recipients) ∷ []) ≡ false
+  pub other_host : is_legal (with_peers ++ delivers hill ana eve (eve ++ codes "/a/1")
+      (activity kinds.Listen (Id dora) no_recipients) ∷ []) ≡ false
+  pub own_host : is_legal (with_peers ++ delivers lake ana eve (eve ++ codes "/a/1")
+      (activity kinds.Listen (Id dora) no_recipients) ∷ []) ≡ true
+  pub by_relay :
+      is_legal (with_peers ++ delivers lake ana dora (by_dora (codes "/a/7")) hi ∷ []) ≡ true
+  pub of_member : is_legal (with_peers ++ delivers lake ana (member ana)
+      (member ana ++ codes "/a/1") (activity kinds.Listen (Id dora) no_recipients) ∷ []) ≡ false
 
 -- ---- dora's Tombstone
 
@@ -74,34 +87,48 @@ late_note = record (note no_recipients) { kind = codes "Tombstone"; content = No
 
 -- it came to ana
 abbrev pub after_tombstone : List Entry
-after_tombstone = with_peers ++ delivers hill ana dora (by_dora (codes "/a/9")) (note_of_dora (by_dora (codes "/o/9")) late_note no_recipients) ∷ []
+after_tombstone =
+    with_peers ++ delivers hill ana dora (by_dora (codes "/a/9"))
+    (note_of_dora (by_dora (codes "/o/9")) late_note no_recipients) ∷ []
 
 -- a Tombstone that does not tell what it was and since when is completed
 pub record DeliveredTombstone : Type 0 where
   pub legal : is_legal after_tombstone ≡ true
-  pub former : option_map (λ o. o.former_kind) (object_at (town after_tombstone) (by_dora (codes "/o/9"))) ≡ Some (Some (codes "Object"))
-  pub deleted : option_map (λ o. o.deleted) (object_at (town after_tombstone) (by_dora (codes "/o/9"))) ≡ Some (Some (moment_text 2))
+  pub former :
+      option_map (λ o. o.former_kind) (object_at (town after_tombstone) (by_dora (codes "/o/9")))
+      ≡ Some (Some (codes "Object"))
+  pub deleted :
+      option_map (λ o. o.deleted) (object_at (town after_tombstone) (by_dora (codes "/o/9")))
+      ≡ Some (Some (moment_text 2))
 
 -- ---- dora follows ana, and dan, who is locked and accepts
 
 -- dora followed ana
 abbrev pub after_remote_follow : List Entry
-after_remote_follow = with_peers ++ delivers hill ana dora (by_dora (codes "/a/1")) (activity kinds.Follow (Id (member ana)) no_recipients) ∷ []
+after_remote_follow =
+    with_peers ++ delivers hill ana dora (by_dora (codes "/a/1"))
+    (activity kinds.Follow (Id (member ana)) no_recipients) ∷ []
 
 -- dora asked to follow dan
 abbrev pub before_answer : List Entry
-before_answer = with_peers ++ delivers hill dan dora (by_dora (codes "/a/1")) (activity kinds.Follow (Id (member dan)) no_recipients) ∷ []
+before_answer =
+    with_peers ++ delivers hill dan dora (by_dora (codes "/a/1"))
+    (activity kinds.Follow (Id (member dan)) no_recipients) ∷ []
 
 -- dan accepted
 abbrev pub after_answer : List Entry
-after_answer = before_answer ++ posts dan (activity kinds.Accept (Id (by_dora (codes "/a/1"))) no_recipients) ∷ []
+after_answer =
+    before_answer
+    ++ posts dan (activity kinds.Accept (Id (by_dora (codes "/a/1"))) no_recipients) ∷ []
 
 -- the Follow is accepted at once, or when dan says so; and it is not delivered to ana again
 pub record DeliveredFollow : Type 0 where
   pub legal : is_legal after_remote_follow ≡ true
-  pub not_again : is_legal (after_remote_follow ++ delivers hill ana dora (by_dora (codes "/a/1")) (activity kinds.Follow (Id (member ana)) no_recipients) ∷ []) ≡ false
+  pub not_again : is_legal (after_remote_follow ++ delivers hill ana dora (by_dora (codes "/a/1"))
+      (activity kinds.Follow (Id (member ana)) no_recipients) ∷ []) ≡ false
   pub accepted : states after_remote_follow ≡ Accepted ∷ Done ∷ []
-  pub answer : sight after_remote_follow (Peer hill) ≡ Some (by_dora (codes "/a/1")) ∷ Some (activity_number ana (codes "1")) ∷ []
+  pub answer : sight after_remote_follow (Peer hill)
+      ≡ Some (by_dora (codes "/a/1")) ∷ Some (activity_number ana (codes "1")) ∷ []
   pub one : total after_remote_follow (Actor ana) (Followers ana) ≡ Some 1
   pub waits : states before_answer ≡ Pending ∷ []
   pub legal_too : is_legal after_answer ≡ true
@@ -112,22 +139,28 @@ pub record DeliveredFollow : Type 0 where
 
 -- it came to ben
 abbrev pub after_stray_follow : List Entry
-after_stray_follow = with_peers ++ delivers hill ben dora (by_dora (codes "/a/1")) (activity kinds.Follow (Id (member ana)) no_recipients) ∷ []
+after_stray_follow =
+    with_peers ++ delivers hill ben dora (by_dora (codes "/a/1"))
+    (activity kinds.Follow (Id (member ana)) no_recipients) ∷ []
 
 -- it is accepted in ana's name, who sees her Accept and not the Follow, and cannot reject it
 pub record StrayFollow : Type 0 where
   pub legal : is_legal after_stray_follow ≡ true
   pub accepted : states after_stray_follow ≡ Accepted ∷ Done ∷ []
   pub follows : followers (town after_stray_follow) (member ana) ≡ dora ∷ []
-  pub seen_by_ana : sight after_stray_follow (Actor ana) ≡ Some (activity_number ana (codes "1")) ∷ []
+  pub seen_by_ana :
+      sight after_stray_follow (Actor ana) ≡ Some (activity_number ana (codes "1")) ∷ []
   pub not_found : rule after_stray_follow ana Reject (by_dora (codes "/a/1")) ≡ Some NotFound
 
 -- ---- eve follows ana, who posts a public Note; dora replies to ana's followers
 
 -- eve followed ana, who posted a Note
 abbrev pub before_reply : List Entry
-before_reply = with_peers ++ (delivers lake ana eve (eve ++ codes "/a/1") (activity kinds.Follow (Id (member ana)) no_recipients)
-    ∷ posts ana (activity kinds.Create (Whole (note (to (public_iri ∷ [])))) (to (public_iri ∷ []))) ∷ [])
+before_reply =
+    with_peers ++ (delivers lake ana eve (eve ++ codes "/a/1")
+    (activity kinds.Follow (Id (member ana)) no_recipients)
+    ∷ posts ana (activity kinds.Create (Whole (note (to (public_iri ∷ [])))) (to (public_iri ∷ [])))
+    ∷ [])
 
 -- a Note that replies to it
 abbrev pub reply : Object
@@ -136,35 +169,49 @@ reply = record (note no_recipients) { in_reply_to = Some (object_number ana (cod
 -- dora's reply, which goes to these
 abbrev pub reply_to : List (List ℕ) → Entry
 reply_to names =
-    delivers hill ana dora (by_dora (codes "/a/8")) (note_of_dora (by_dora (codes "/o/8")) reply (record no_recipients { cc = names }))
+    delivers hill ana dora (by_dora (codes "/a/8"))
+    (note_of_dora (by_dora (codes "/o/8")) reply (record no_recipients { cc = names }))
 
 -- dora's reply to ana's followers came to ana
 abbrev pub after_reply : List Entry
 after_reply = before_reply ++ reply_to ((member ana ++ codes "/followers") ∷ []) ∷ []
 
--- the Accept goes to eve, and so does dora's reply, as ana's followers are named; else it does not, nor to a follower of
--- dora's own host
+-- the Accept goes to eve, and so does dora's reply, as ana's followers are named; else it does not,
+-- nor to a follower of dora's own host
 pub record ForwardedReply : Type 0 where
   pub legal : is_legal after_reply ≡ true
   pub due : queue (town after_reply)
-      ≡ record { activity = Some (activity_number ana (codes "1")); recipient = eve; progress = Due 0 2 }
-      ∷ record { activity = Some (by_dora (codes "/a/8")); recipient = eve; progress = Due 0 2 } ∷ []
-  pub unnamed : map (λ x. x.forwards) (town (before_reply ++ reply_to [] ∷ [])).acts ≡ [] ∷ [] ∷ [] ∷ [] ∷ []
-  pub near : map (λ x. x.forwards) (town (after_remote_follow ++ reply_to ((member ana ++ codes "/followers") ∷ []) ∷ [])).acts ≡ [] ∷ [] ∷ [] ∷ []
+      ≡ record {
+        activity = Some (activity_number ana (codes "1"));
+        recipient = eve;
+        progress = Due 0 2;
+      }
+      ∷ record { activity = Some (by_dora (codes "/a/8")); recipient = eve; progress = Due 0 2 }
+      ∷ []
+  pub unnamed :
+      map (λ x. x.forwards) (town (before_reply ++ reply_to [] ∷ [])).acts ≡ [] ∷ [] ∷ [] ∷ [] ∷ []
+  pub near : map (λ x. x.forwards)
+      (town (after_remote_follow ++ reply_to ((member ana ++ codes "/followers") ∷ []) ∷ [])).acts
+      ≡ [] ∷ [] ∷ [] ∷ []
 
 -- ---- ana posts to her followers before there is one; eve of lake follows her afterwards
 
 -- she posted the Note
 abbrev pub before_far_follow : List Entry
-before_far_follow = with_peers ++ posts ana (activity kinds.Create (Whole (note (to fans))) (to fans)) ∷ []
+before_far_follow =
+    with_peers ++ posts ana (activity kinds.Create (Whole (note (to fans))) (to fans)) ∷ []
 
 -- eve followed her
 abbrev pub after_far_follow : List Entry
-after_far_follow = before_far_follow ++ delivers lake ana eve (eve ++ codes "/a/1") (activity kinds.Follow (Id (member ana)) no_recipients) ∷ []
+after_far_follow =
+    before_far_follow ++ delivers lake ana eve (eve ++ codes "/a/1")
+    (activity kinds.Follow (Id (member ana)) no_recipients) ∷ []
 
 -- eve took it back
 abbrev pub after_far_undo : List Entry
-after_far_undo = after_far_follow ++ delivers lake ana eve (eve ++ codes "/a/2") (activity kinds.Undo (Id (eve ++ codes "/a/1")) no_recipients) ∷ []
+after_far_undo =
+    after_far_follow ++ delivers lake ana eve (eve ++ codes "/a/2")
+    (activity kinds.Undo (Id (eve ++ codes "/a/1")) no_recipients) ∷ []
 
 -- ana blocked her
 abbrev pub after_far_block : List Entry
@@ -175,9 +222,11 @@ pub record FarFollower : Type 0 where
   pub legal : is_legal after_far_undo ≡ true
   pub before : sight before_far_follow (Peer lake) ≡ []
   pub after : sight after_far_follow (Peer lake)
-      ≡ Some (activity_number ana (codes "1")) ∷ Some (eve ++ codes "/a/1") ∷ Some (activity_number ana (codes "2")) ∷ []
+      ≡ Some (activity_number ana (codes "1")) ∷ Some (eve ++ codes "/a/1")
+      ∷ Some (activity_number ana (codes "2")) ∷ []
   pub other : sight after_far_follow (Peer hill) ≡ []
   pub undone : sight after_far_undo (Peer lake)
-      ≡ Some (eve ++ codes "/a/1") ∷ Some (activity_number ana (codes "2")) ∷ Some (eve ++ codes "/a/2") ∷ []
+      ≡ Some (eve ++ codes "/a/1") ∷ Some (activity_number ana (codes "2"))
+      ∷ Some (eve ++ codes "/a/2") ∷ []
   pub legal_block : is_legal after_far_block ≡ true
   pub blocked : sight after_far_block (Peer lake) ≡ Some (eve ++ codes "/a/1") ∷ []

@@ -1,10 +1,12 @@
 -- A small club: what happens in it is computed from the definitions.
-use Rattle.std.specs.Prelude.{ℕ, Bool, true, false, List, [], ◌∷◌, ◌++◌, map, length, codes, Option, Some, None, option_map}
+use Rattle.std.specs.Prelude.{ℕ, Bool, true, false, List, [], ◌∷◌, ◌++◌, map, length, codes, Option}
+use Rattle.std.specs.Prelude.{Some, None, option_map}
 use Rattle.fedi_address.specs.declared.recipients.Recipients.{Recipients}
 use Rattle.fedi_objects.specs.declared.activity.Activity.{Activity}
 use Rattle.fedi_objects.specs.declared.activity.ObjectRef.{ObjectRef}
 use Rattle.fedi_objects.specs.declared.entry.Entry.{Entry}
-use Rattle.fedi_objects.specs.declared.entry.Entry.TheVariants.{Hosted, Made, PeerSet, Local, Remote}
+use Rattle.fedi_objects.specs.declared.entry.Entry.TheVariants.{Hosted, Made, PeerSet, Local}
+use Rattle.fedi_objects.specs.declared.entry.Entry.TheVariants.{Remote}
 use Rattle.fedi_objects.specs.declared.kind.Kind.{Kind}
 use Rattle.fedi_objects.specs.declared.kind.State.{State}
 use Rattle.fedi_objects.specs.declared.object.Object.{Object}
@@ -74,12 +76,15 @@ eve = codes "https://lake.example/users/eve"
 -- the club with its members
 abbrev pub start : List Entry
 start =
-    Hosted club 1 ∷ Made ana (codes "0") false 1 ∷ Made ben (codes "1") false 1 ∷ Made cleo (codes "2") false 1
+    Hosted club 1 ∷ Made ana (codes "0") false 1 ∷ Made ben (codes "1") false 1
+    ∷ Made cleo (codes "2") false 1
     ∷ Made dan (codes "3") true 1 ∷ []
 
 -- and with its peers
 abbrev pub with_peers : List Entry
-with_peers = start ++ (PeerSet hill (codes "4") (codes "hill") false 1 ∷ PeerSet lake (codes "5") (codes "lake") true 1 ∷ [])
+with_peers =
+    start ++ (PeerSet hill (codes "4") (codes "hill") false 1
+    ∷ PeerSet lake (codes "5") (codes "lake") true 1 ∷ [])
 
 -- ---- what they do
 
@@ -151,7 +156,8 @@ sight history c = map (λ x. x.activity.id) (seen (town history) c)
 
 -- how many items of a collection a caller sees
 abbrev pub total : List Entry → Caller → Which → Option ℕ
-total history c which = option_map (λ id. length (items (town history) c which id)) (owner_of (town history) which)
+total history c which =
+    option_map (λ id. length (items (town history) c which id)) (owner_of (town history) which)
 
 -- the first rule that a member's activity about this would break
 abbrev pub rule : List Entry → List ℕ → Deed → List ℕ → Option Refusal

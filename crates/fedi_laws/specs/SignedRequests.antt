@@ -1,5 +1,6 @@
 -- A request that another server signs, and what it is changed to.
-use Rattle.std.specs.Prelude.{◌≡◌, ℕ, true, false, List, [], ◌∷◌, replicate, codes, Option, Some, None, Ok, Err}
+use Rattle.std.specs.Prelude.{◌≡◌, ℕ, true, false, List, [], ◌∷◌, replicate, codes, Option, Some}
+use Rattle.std.specs.Prelude.{None, Ok, Err}
 use Rattle.fedi_town.specs.declared.act.Peer.{Peer}
 use Rattle.fedi_town.specs.declared.caller.Caller.TheVariants.{Nobody, Peer as ByPeer}
 use Rattle.fedi_town.specs.declared.refusal.Refusal.TheVariants.{WrongKey, WrongMac}
@@ -14,7 +15,8 @@ hill = codes "hill.example"
 
 -- what is known of it: the key that both have is 32 times the byte 7
 abbrev pub hill_peer : Peer
-hill_peer = record { host = hill; key = replicate 32 7; address = codes "192.0.2.1:80"; relay = false }
+hill_peer =
+    record { host = hill; key = replicate 32 7; address = codes "192.0.2.1:80"; relay = false }
 
 -- a server that has this peer alone
 abbrev pub club : Town
@@ -25,7 +27,13 @@ abbrev pub delivery : Option (List ℕ) → Option (List ℕ) → Option (List �
 delivery key host code = record {
   method = codes "POST";
   target = codes "/users/ana/inbox";
-  fields = record { authorization = key; peer_host = host; peer_mac = code; content_type = None; idempotency_key = None };
+  fields = record {
+    authorization = key;
+    peer_host = host;
+    peer_mac = code;
+    content_type = None;
+    idempotency_key = None;
+  };
   coding = Length 2;
   keep_alive = true;
   head_only = false;
@@ -51,10 +59,14 @@ upper_code = codes "3222B174C4ABED0557DD53C5DECFC0A93FFA9E43AD4CF0E14876D8DB5784
 pub record SignedDelivery : Type 0 where
   pub signed : caller_of club (delivery None (Some hill) (Some code)) body ≡ Ok (ByPeer hill)
   pub changed : caller_of club (delivery None (Some hill) (Some changed_code)) body ≡ Err WrongMac
-  pub in_upper_case : caller_of club (delivery None (Some hill) (Some upper_code)) body ≡ Err WrongMac
-  pub of_another_body : caller_of club (delivery None (Some hill) (Some code)) (codes "[]") ≡ Err WrongMac
-  pub of_a_stranger : caller_of club (delivery None (Some (codes "lake.example")) (Some code)) body ≡ Err WrongMac
+  pub in_upper_case :
+      caller_of club (delivery None (Some hill) (Some upper_code)) body ≡ Err WrongMac
+  pub of_another_body :
+      caller_of club (delivery None (Some hill) (Some code)) (codes "[]") ≡ Err WrongMac
+  pub of_a_stranger :
+      caller_of club (delivery None (Some (codes "lake.example")) (Some code)) body ≡ Err WrongMac
   pub without_host : caller_of club (delivery None None (Some code)) body ≡ Err WrongMac
   pub without_code : caller_of club (delivery None (Some hill) None) body ≡ Err WrongMac
   pub without_fields : caller_of club (delivery None None None) body ≡ Ok Nobody
-  pub with_key : caller_of club (delivery (Some (codes "Bearer x")) (Some hill) (Some code)) body ≡ Err WrongKey
+  pub with_key : caller_of club (delivery (Some (codes "Bearer x")) (Some hill) (Some code)) body
+      ≡ Err WrongKey

@@ -1,5 +1,6 @@
 -- The laws of what a history means.
-use Rattle.std.specs.Prelude.{◌≡◌, ℕ, ◌+◌, ◌≤◌, Bool, true, false, ◌||◌, if◌then◌else◌, List, [], ◌∷◌, ◌++◌, map, IsTrue, Option, Some}
+use Rattle.std.specs.Prelude.{◌≡◌, ℕ, ◌+◌, ◌≤◌, Bool, true, false, ◌||◌, if◌then◌else◌, List, []}
+use Rattle.std.specs.Prelude.{◌∷◌, ◌++◌, map, IsTrue, Option, Some}
 use Rattle.std.specs.List.{list_any}
 use Rattle.std.specs.Str.{bytes_eq}
 use Rattle.fedi_address.specs.Names.{is_name}
@@ -7,7 +8,8 @@ use Rattle.fedi_objects.specs.declared.activity.Activity.{Activity}
 use Rattle.fedi_objects.specs.declared.activity.ObjectRef.TheVariants.{Id, Whole}
 use Rattle.fedi_objects.specs.declared.entry.Came.{Came}
 use Rattle.fedi_objects.specs.declared.entry.Entry.{Entry}
-use Rattle.fedi_objects.specs.declared.entry.Entry.TheVariants.{Hosted, Made, PeerSet, Local, Remote, Tried}
+use Rattle.fedi_objects.specs.declared.entry.Entry.TheVariants.{Hosted, Made, PeerSet, Local}
+use Rattle.fedi_objects.specs.declared.entry.Entry.TheVariants.{Remote, Tried}
 use Rattle.fedi_objects.specs.declared.kind.Kind.TheVariants as kinds
 use Rattle.fedi_objects.specs.declared.object.Object.{Object}
 use Rattle.fedi_objects.specs.Forms.{is_tombstone}
@@ -38,7 +40,8 @@ use Rattle.fedi_model.specs.Reading.{is_self}
 
 -- ---- what a caller may learn
 
--- Legal histories that agree for a caller give the caller the same answer, whatever else stands in them.
+-- Legal histories that agree for a caller give the caller the same answer, whatever else stands in
+-- them.
 abbrev pub AnswersArePrivate : Type 0
 AnswersArePrivate =
     (g h : List Entry) (c : Caller) (ask : Ask) → IsLegal g → IsLegal h → Agree (town g) (town h) c
@@ -53,7 +56,8 @@ is_of_profiles ask = false
 -- Who a member is depends on the host and on the members' names alone, and is told to everybody.
 abbrev pub ProfilesTellNamesAlone : Type 0
 ProfilesTellNamesAlone =
-    (g h : List Entry) (c d : Caller) (ask : Ask) → IsLegal g → IsLegal h → (town g).host ≡ (town h).host
+    (g h : List Entry) (c d : Caller) (ask : Ask) → IsLegal g → IsLegal h
+    → (town g).host ≡ (town h).host
     → member_names (town g) ≡ member_names (town h) → is_of_profiles ask ≡ true
     → answer_of (town g) c ask ≡ answer_of (town h) d ask
 
@@ -61,19 +65,24 @@ ProfilesTellNamesAlone =
 abbrev pub PostsOfNobodyAreUnread : Type 0
 PostsOfNobodyAreUnread =
     (t : Town) (name : List ℕ) (post other : Post) → is_bad_key post.key ≡ is_bad_key other.key
-    → answer_of t callers.Nobody (asks.Outbox name post) ≡ answer_of t callers.Nobody (asks.Outbox name other)
+    → answer_of t callers.Nobody (asks.Outbox name post)
+    ≡ answer_of t callers.Nobody (asks.Outbox name other)
 
 -- What is answered to nobody for a delivery depends on nothing of it.
 abbrev pub DeliveriesOfNobodyAreUnread : Type 0
 DeliveriesOfNobodyAreUnread =
-    (t : Town) (name : List ℕ) (post other : Post) → answer_of t callers.Nobody (asks.Inbox name post) ≡ answer_of t callers.Nobody (asks.Inbox name other)
+    (t : Town) (name : List ℕ) (post other : Post)
+    → answer_of t callers.Nobody (asks.Inbox name post)
+    ≡ answer_of t callers.Nobody (asks.Inbox name other)
 
--- A member's post that changes nothing earlier changes nothing that a caller knows who does not see it. So the agreement is
--- no empty one: a private post changes no answer to a stranger.
+-- A member's post that changes nothing earlier changes nothing that a caller knows who does not see
+-- it. So the agreement is no empty one: a private post changes no answer to a stranger.
 abbrev pub UnseenPostsTellNothing : Type 0
 UnseenPostsTellNothing =
-    (history : List Entry) (host name : List ℕ) (repeat : Option (List ℕ × List ℕ)) (a : Activity) (moment : ℕ) (c : Caller)
-    → IsLegal history → (town history).host ≡ Some host → list_any (has_name name) (town history).actors ≡ true
+    (history : List Entry) (host name : List ℕ) (repeat : Option (List ℕ × List ℕ)) (a : Activity)
+    (moment : ℕ) (c : Caller)
+    → IsLegal history → (town history).host ≡ Some host
+    → list_any (has_name name) (town history).actors ≡ true
     → changes_nothing (deed_of a.kind) ≡ true
     → sees (town history) c (local_act (town history) host name repeat a moment) ≡ false
     → Agree (town (history ++ Local name repeat a moment ∷ [])) (town history) c
@@ -81,8 +90,10 @@ UnseenPostsTellNothing =
 -- The same holds of a delivery of a new id that changes nothing earlier and is no Follow.
 abbrev pub UnseenDeliveriesTellNothing : Type 0
 UnseenDeliveriesTellNothing =
-    (history : List Entry) (peer inbox owner author id : List ℕ) (a : Activity) (moment : ℕ) (c : Caller)
-    → id_of (town history) inbox ≡ Some owner → a.actor ≡ Some author → a.id ≡ Some id → is_known (town history) id ≡ false
+    (history : List Entry) (peer inbox owner author id : List ℕ) (a : Activity) (moment : ℕ)
+    (c : Caller)
+    → id_of (town history) inbox ≡ Some owner → a.actor ≡ Some author → a.id ≡ Some id
+    → is_known (town history) id ≡ false
     → changes_nothing (deed_of a.kind) ≡ true → is_follow (deed_of a.kind) ≡ false
     → sees (town history) c (remote_act (town history) owner author a moment) ≡ false
     → Agree (town (history ++ Remote peer inbox a moment ∷ [])) (town history) c
@@ -90,8 +101,10 @@ UnseenDeliveriesTellNothing =
 -- A delivery of a known id tells its inbox's owner alone.
 abbrev pub AddedInboxesTellTheirOwners : Type 0
 AddedInboxesTellTheirOwners =
-    (history : List Entry) (host peer inbox author id : List ℕ) (a : Activity) (moment : ℕ) (c : Caller)
-    → IsLegal history → (town history).host ≡ Some host → list_any (has_name inbox) (town history).actors ≡ true
+    (history : List Entry) (host peer inbox author id : List ℕ) (a : Activity) (moment : ℕ)
+    (c : Caller)
+    → IsLegal history → (town history).host ≡ Some host
+    → list_any (has_name inbox) (town history).actors ≡ true
     → a.actor ≡ Some author → a.id ≡ Some id → is_known (town history) id ≡ true
     → is_caller (town history) c ≡ true → is_self c inbox ≡ false
     → Agree (town (history ++ Remote peer inbox a moment ∷ [])) (town history) c
@@ -105,7 +118,8 @@ is_peer_of host (callers.Peer own) = bytes_eq host own
 -- A peer that is added changes nothing that any caller knows but the peer itself.
 abbrev pub AddedPeersTellThemselves : Type 0
 AddedPeersTellThemselves =
-    (history : List Entry) (host key address : List ℕ) (relay : Bool) (moment : ℕ) (c : Caller) → is_peer_of host c ≡ false
+    (history : List Entry) (host key address : List ℕ) (relay : Bool) (moment : ℕ) (c : Caller)
+    → is_peer_of host c ≡ false
     → Agree (town (history ++ PeerSet host key address relay moment ∷ [])) (town history) c
 
 -- An attempt to deliver changes nothing that any caller knows.
@@ -122,10 +136,12 @@ bare_object o = if is_tombstone o then bare_tombstone o else o
 abbrev pub without_deleted : Town → Town
 without_deleted t = record t { acts = map (rewrite_act bare_object) t.acts }
 
--- Histories that differ in nothing but what lies behind Tombstones agree for everybody, so that nobody is told of it.
+-- Histories that differ in nothing but what lies behind Tombstones agree for everybody, so that
+-- nobody is told of it.
 abbrev pub DeletedContentIsToldToNobody : Type 0
 DeletedContentIsToldToNobody =
-    (g h : List Entry) (c : Caller) → without_deleted (town g) ≡ without_deleted (town h) → Agree (town g) (town h) c
+    (g h : List Entry) (c : Caller) → without_deleted (town g) ≡ without_deleted (town h)
+    → Agree (town g) (town h) c
 
 -- the caller is nobody or a member
 abbrev pub is_no_peer : Caller → Bool
@@ -133,32 +149,38 @@ is_no_peer callers.Nobody = true
 is_no_peer (callers.Actor name) = true
 is_no_peer (callers.Peer host) = false
 
--- Who sees the Create of an object sees each Update and Delete of it that its author may post. Who is parted from the author
--- by a Block sees neither.
+-- Who sees the Create of an object sees each Update and Delete of it that its author may post. Who
+-- is parted from the author by a Block sees neither.
 abbrev pub ChangesReachTheReaders : Type 0
 ChangesReachTheReaders =
-    (history : List Entry) (host name id : List ℕ) (repeat : Option (List ℕ × List ℕ)) (a : Activity) (moment : ℕ) (m : Act) (c : Caller)
+    (history : List Entry) (host name id : List ℕ) (repeat : Option (List ℕ × List ℕ))
+    (a : Activity) (moment : ℕ) (m : Act) (c : Caller)
     → IsLegal (history ++ Local name repeat a moment ∷ []) → (town history).host ≡ Some host
     → (is_update (deed_of a.kind) || is_delete (deed_of a.kind)) ≡ true
-    → ref_id (local_act (town history) host name repeat a moment).activity.object ≡ Some id → maker (town history) id ≡ Some m
+    → ref_id (local_act (town history) host name repeat a moment).activity.object ≡ Some id
+    → maker (town history) id ≡ Some m
     → m.author ≡ actor_id host name → is_no_peer c ≡ true → sees (town history) c m ≡ true
     → sees (town history) c (local_act (town history) host name repeat a moment) ≡ true
 
--- No answer, to whomever and for whatever, names those whom `bto` and `bcc` hide (ActivityPub, section 6).
+-- No answer, to whomever and for whatever, names those whom `bto` and `bcc` hide (ActivityPub,
+-- section 6).
 abbrev pub AnswersAreClean : Type 0
 AnswersAreClean = (t : Town) (c : Caller) (ask : Ask) → is_clean_answer (answer_of t c ask) ≡ true
 
 -- ---- objects and activities
 
--- An object as it stands is the object that its Create made, changed by each Update that was done, one after the other, and
--- a Tombstone from the Delete on that was done (ActivityPub, sections 6.2 to 6.4 and 7.2 to 7.4).
+-- An object as it stands is the object that its Create made, changed by each Update that was done,
+-- one after the other, and a Tombstone from the Delete on that was done (ActivityPub, sections 6.2
+-- to 6.4 and 7.2 to 7.4).
 abbrev pub ObjectsAreReplayed : Type 0
-ObjectsAreReplayed = (history : List Entry) (id : List ℕ) → object_at (town history) id ≡ replay id (acts_of history)
+ObjectsAreReplayed =
+    (history : List Entry) (id : List ℕ) → object_at (town history) id ≡ replay id (acts_of history)
 
 -- Whatever comes after it, a Tombstone stays as it is.
 abbrev pub TombstonesStay : Type 0
 TombstonesStay =
-    (history later : List Entry) (id : List ℕ) (o : Object) → object_at (town history) id ≡ Some o → is_tombstone o ≡ true
+    (history later : List Entry) (id : List ℕ) (o : Object) → object_at (town history) id ≡ Some o
+    → is_tombstone o ≡ true
     → object_at (town (history ++ later)) id ≡ Some o
 
 -- a Create of this object
@@ -169,23 +191,32 @@ creates o a = record a { kind = kinds.Create; object = Whole o }
 abbrev pub deletes : List ℕ → Activity → Activity
 deletes id a = record a { kind = kinds.Delete; object = Id id }
 
--- What a deleted object said leaves no trace: after its Delete the town is the same whatever was in the properties that an
--- Update may set, and so is all that anybody is told from then on.
+-- What a deleted object said leaves no trace: after its Delete the town is the same whatever was in
+-- the properties that an Update may set, and so is all that anybody is told from then on.
 abbrev pub DeletedContentLeavesNoTrace : Type 0
 DeletedContentLeavesNoTrace =
-    (history later : List Entry) (host name id : List ℕ) (first second : Option (List ℕ × List ℕ)) (a b : Activity) (o other : Object) (m n : ℕ)
-    → (town history).host ≡ Some host → id ≡ object_id host name (count_of (town history) (actor_id host name) + 1)
-    → list_any (makes id) (town history).acts ≡ false → is_tombstone o ≡ false → emptied o ≡ emptied other
-    → town (history ++ Local name first (creates o a) m ∷ Local name second (deletes id b) n ∷ later)
-    ≡ town (history ++ Local name first (creates other a) m ∷ Local name second (deletes id b) n ∷ later)
+    (history later : List Entry) (host name id : List ℕ) (first second : Option (List ℕ × List ℕ))
+    (a b : Activity) (o other : Object) (m n : ℕ)
+    → (town history).host ≡ Some host
+    → id ≡ object_id host name (count_of (town history) (actor_id host name) + 1)
+    → list_any (makes id) (town history).acts ≡ false → is_tombstone o ≡ false
+    → emptied o ≡ emptied other
+    → town (history ++ Local name first (creates o a) m
+    ∷ Local name second (deletes id b) n ∷ later)
+    ≡ town (history ++ Local name first (creates other a) m
+    ∷ Local name second (deletes id b) n ∷ later)
 
 -- No object is made twice.
 abbrev pub ObjectsAreMadeOnce : Type 0
-ObjectsAreMadeOnce = (history : List Entry) (id : List ℕ) → PassesOnce (makes id) (town history).acts
+ObjectsAreMadeOnce =
+    (history : List Entry) (id : List ℕ) → PassesOnce (makes id) (town history).acts
 
--- In a legal history no two activities have one id: an activity that comes again acts no second time.
+-- In a legal history no two activities have one id: an activity that comes again acts no second
+-- time.
 abbrev pub ActivitiesAreThereOnce : Type 0
-ActivitiesAreThereOnce = (history : List Entry) → IsLegal history → (id : List ℕ) → PassesOnce (has_activity_id id) (town history).acts
+ActivitiesAreThereOnce =
+    (history : List Entry) → IsLegal history → (id : List ℕ)
+    → PassesOnce (has_activity_id id) (town history).acts
 
 -- ---- the next entry
 
@@ -193,7 +224,8 @@ ActivitiesAreThereOnce = (history : List Entry) → IsLegal history → (id : Li
 abbrev pub AsksKeepHistoriesLegal : Type 0
 AsksKeepHistoriesLegal =
     (history : List Entry) (c : Caller) (ask : Ask) (moment : ℕ) (e : Entry) → IsLegal history
-    → IsPostable (town history) ask → entry_of (town history) c ask moment ≡ Some e → IsLegal (history ++ e ∷ [])
+    → IsPostable (town history) ask → entry_of (town history) c ask moment ≡ Some e
+    → IsLegal (history ++ e ∷ [])
 
 -- the entry is an attempt to deliver this activity to this recipient
 abbrev pub is_attempt_of : List ℕ → List ℕ → Entry → Bool
@@ -203,14 +235,16 @@ is_attempt_of id recipient (PeerSet host key address relay moment) = false
 is_attempt_of id recipient (Local name repeat a moment) = false
 is_attempt_of id recipient (Remote peer inbox a moment) = false
 is_attempt_of id recipient (Tried activity other came moment) =
-    is_of_pair id recipient (record { activity = activity; recipient = other; came = came; moment = moment })
+    is_of_pair id recipient
+    (record { activity = activity; recipient = other; came = came; moment = moment })
 
 -- A delivery that is due stays due until it is tried.
 abbrev pub DueDeliveriesStayDue : Type 0
 DueDeliveriesStayDue =
     (history later : List Entry) (id recipient : List ℕ) (m n : ℕ) → IsLegal (history ++ later)
     → list_any (is_attempt_of id recipient) later ≡ false → m ≤ n
-    → is_due (town history) id recipient m ≡ true → is_due (town (history ++ later)) id recipient n ≡ true
+    → is_due (town history) id recipient m ≡ true
+    → is_due (town (history ++ later)) id recipient n ≡ true
 
 -- What is due is in the queue, and is due there.
 abbrev pub DueDeliveriesAreQueued : Type 0
@@ -220,8 +254,10 @@ DueDeliveriesAreQueued =
 
 -- ---- members
 
--- In a legal history the name of a member is one, and the member's id is that of the name at the host.
+-- In a legal history the name of a member is one, and the member's id is that of the name at the
+-- host.
 abbrev pub MembersHaveTheirIds : Type 0
 MembersHaveTheirIds =
-    (history : List Entry) (host name id : List ℕ) → IsLegal history → (town history).host ≡ Some host
+    (history : List Entry) (host name id : List ℕ) → IsLegal history
+    → (town history).host ≡ Some host
     → id_of (town history) name ≡ Some id → (is_name name ≡ true) × (id ≡ actor_id host name)

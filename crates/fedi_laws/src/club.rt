@@ -1,8 +1,11 @@
 //! What happens in a small club, computed from the definitions.
 
-ghost use Rattle.fedi_laws.specs.ClubFollows.{BlockAndUndo, LastNumber, LateFollower, LockedFollow, PostToFollowers};
+ghost use Rattle.fedi_laws.specs.ClubFollows.{BlockAndUndo, LastNumber, LateFollower, LockedFollow};
+ghost use Rattle.fedi_laws.specs.ClubFollows.{PostToFollowers};
 ghost use Rattle.fedi_laws.specs.ClubObjects.{ChangedNote, DeletedNote, OpenNote, SecretNote};
-ghost use Rattle.fedi_laws.specs.ClubPeers.{DeliveredFollow, DeliveredNote, DeliveredTombstone, FarFollower, ForwardedReply, PeersAndRelays, StrayFollow};
+ghost use Rattle.fedi_laws.specs.ClubPeers.{DeliveredFollow, DeliveredNote, DeliveredTombstone};
+ghost use Rattle.fedi_laws.specs.ClubPeers.{FarFollower, ForwardedReply, PeersAndRelays};
+ghost use Rattle.fedi_laws.specs.ClubPeers.{StrayFollow};
 
 /// A Follow of a locked member waits for the Accept.
 #[tactic(auto, using(crate::proofs::ClubFollows::locked_follow))]
@@ -16,8 +19,8 @@ pub fn a_follower_is_blocked()
     ensures { BlockAndUndo }
 {}
 
-/// A Note to followers goes to those who follow when it is accepted, and is seen by those who follow
-/// later.
+/// A Note to followers goes to those who follow when it is accepted, and is seen by those who
+/// follow later.
 #[tactic(auto, using(crate::proofs::ClubFollows::post_to_followers))]
 pub fn followers_get_a_note()
     ensures { PostToFollowers }

@@ -1,6 +1,7 @@
 //! What stays true of a history that grows.
 
-ghost use Rattle.fedi_laws.specs.Statements.{AsksKeepHistoriesLegal, DueDeliveriesAreQueued, DueDeliveriesStayDue, MembersHaveTheirIds};
+ghost use Rattle.fedi_laws.specs.Statements.{AsksKeepHistoriesLegal, DueDeliveriesAreQueued};
+ghost use Rattle.fedi_laws.specs.Statements.{DueDeliveriesStayDue, MembersHaveTheirIds};
 
 /// The entry that an ask makes may come next, so a legal history stays legal.
 #[tactic(auto, using(crate::proofs::Legality::asks_keep_legal))]

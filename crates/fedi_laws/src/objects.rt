@@ -1,9 +1,11 @@
 //! What stands of objects and activities.
 
-ghost use Rattle.fedi_laws.specs.Statements.{ActivitiesAreThereOnce, DeletedContentLeavesNoTrace, ObjectsAreMadeOnce, ObjectsAreReplayed, TombstonesStay};
+ghost use Rattle.fedi_laws.specs.Statements.{ActivitiesAreThereOnce, DeletedContentLeavesNoTrace};
+ghost use Rattle.fedi_laws.specs.Statements.{ObjectsAreMadeOnce, ObjectsAreReplayed};
+ghost use Rattle.fedi_laws.specs.Statements.{TombstonesStay};
 
-/// An object as it stands is that of its Create, changed by each Update that was done, and a Tombstone
-/// from its Delete on (ActivityPub, sections 6.2 to 6.4).
+/// An object as it stands is that of its Create, changed by each Update that was done, and a
+/// Tombstone from its Delete on (ActivityPub, sections 6.2 to 6.4).
 #[tactic(auto, using(crate::proofs::Replaying::town_replays))]
 pub fn objects_are_replayed()
     ensures { ObjectsAreReplayed }

@@ -1,6 +1,19 @@
 //! What a caller may learn.
 
-ghost use Rattle.fedi_laws.specs.Statements.{AddedInboxesTellTheirOwners, AddedPeersTellThemselves, AnswersAreClean, AnswersArePrivate, AttemptsTellNothing, ChangesReachTheReaders, DeletedContentIsToldToNobody, DeliveriesOfNobodyAreUnread, PostsOfNobodyAreUnread, ProfilesTellNamesAlone, UnseenDeliveriesTellNothing, UnseenPostsTellNothing};
+ghost use Rattle.fedi_laws.specs.Statements.{
+  AddedInboxesTellTheirOwners,
+  AddedPeersTellThemselves,
+  AnswersAreClean,
+  AnswersArePrivate,
+  AttemptsTellNothing,
+  ChangesReachTheReaders,
+  DeletedContentIsToldToNobody,
+  DeliveriesOfNobodyAreUnread,
+  PostsOfNobodyAreUnread,
+  ProfilesTellNamesAlone,
+  UnseenDeliveriesTellNothing,
+  UnseenPostsTellNothing,
+};
 
 /// Histories that agree for a caller give the caller the same answer, whatever else stands in them.
 #[tactic(auto, using(crate::proofs::Isolation::private_answers))]
@@ -8,8 +21,8 @@ pub fn answers_are_private()
     ensures { AnswersArePrivate }
 {}
 
-/// Who a member is (an actor document, or WebFinger) depends on the host and on the members' names alone,
-/// and everybody is told the same.
+/// Who a member is (an actor document, or WebFinger) depends on the host and on the members' names
+/// alone, and everybody is told the same.
 #[tactic(auto, using(crate::proofs::Isolation::public_profiles))]
 pub fn profiles_tell_names_alone()
     ensures { ProfilesTellNamesAlone }
@@ -21,14 +34,15 @@ pub fn posts_of_nobody_are_unread()
     ensures { PostsOfNobodyAreUnread }
 {}
 
-/// What is answered to nobody for a delivery depends on nothing of it, so its body need not be read.
+/// What is answered to nobody for a delivery depends on nothing of it, so its body need not be
+/// read.
 #[tactic(auto, using(crate::proofs::Nobody::nobody_delivers))]
 pub fn deliveries_of_nobody_are_unread()
     ensures { DeliveriesOfNobodyAreUnread }
 {}
 
-/// A post that changes nothing earlier, as a Create, a Follow or a Like, changes nothing that a caller
-/// knows who does not see it.
+/// A post that changes nothing earlier, as a Create, a Follow or a Like, changes nothing that a
+/// caller knows who does not see it.
 #[tactic(auto, using(crate::proofs::Isolation::unseen_posts))]
 pub fn unseen_posts_tell_nothing()
     ensures { UnseenPostsTellNothing }
@@ -44,8 +58,8 @@ pub fn added_inboxes_tell_their_owners()
     ensures { AddedInboxesTellTheirOwners }
 {}
 
-/// A peer that is added changes nothing that any caller knows but the peer itself: neither a member nor
-/// nobody nor another peer is told of it.
+/// A peer that is added changes nothing that any caller knows but the peer itself: neither a member
+/// nor nobody nor another peer is told of it.
 pub fn added_peers_tell_themselves()
     ensures { AddedPeersTellThemselves }
 {}
@@ -55,14 +69,15 @@ pub fn attempts_tell_nothing()
     ensures { AttemptsTellNothing }
 {}
 
-/// What lies behind a Tombstone is told to nobody: histories that differ in it alone agree for everybody
-/// (ActivityPub, section 6.4).
+/// What lies behind a Tombstone is told to nobody: histories that differ in it alone agree for
+/// everybody (ActivityPub, section 6.4).
 pub fn deleted_content_is_told_to_nobody()
     ensures { DeletedContentIsToldToNobody }
 {}
 
-/// Who sees an object's Create sees each Update and Delete of it by its author (ActivityPub, sections 6.3
-/// and 6.4), and so does everybody where the Create is public. A Block hides all of them.
+/// Who sees an object's Create sees each Update and Delete of it by its author (ActivityPub,
+/// sections 6.3 and 6.4), and so does everybody where the Create is public. A Block hides all of
+/// them.
 #[tactic(auto, using(crate::proofs::Readers::changes_are_seen))]
 pub fn changes_reach_the_readers()
     ensures { ChangesReachTheReaders }

@@ -19,15 +19,16 @@ ghost use Rattle.fedi_model.specs.Refusing.{refused};
 ghost use Rattle.fedi_model.specs.Replies.{reply};
 ghost use Rattle.fedi_laws.specs.SignedRequests.{SignedDelivery};
 
-/// Legal histories that agree for a caller give the caller the same reply, whatever else stands in them.
+/// Legal histories that agree for a caller give the caller the same reply, whatever else stands in
+/// them.
 #[tactic(auto, using(crate::proofs::PrivateReplies::replies_agree))]
 pub fn replies_are_private()
     ensures { (g h : List Entry) (c : Caller) (ask : Ask) → IsLegal g → IsLegal h
         → Agree (town g) (town h) c → reply (town g) c ask ≡ reply (town h) c ask }
 {}
 
-/// No reply, to whomever and for whatever, names those whom `bto` and `bcc` hide (ActivityPub, section
-/// 6).
+/// No reply, to whomever and for whatever, names those whom `bto` and `bcc` hide (ActivityPub,
+/// section 6).
 #[tactic(auto, using(crate::proofs::CleanReplies::reply_is_clean))]
 pub fn replies_are_clean()
     ensures { (t : Town) (c : Caller) (ask : Ask) → IsCleanBody (reply t c ask).body }
@@ -52,8 +53,8 @@ pub fn what_is_read_may_be_delivered()
     ensures { (d : Data) (a : Activity) → reads_delivered d ≡ Ok a → IsTrue (is_delivered a) }
 {}
 
-/// A peer is the caller of a request that it signed. With another code, another body, another host or
-/// one field less the request is refused.
+/// A peer is the caller of a request that it signed. With another code, another body, another host
+/// or one field less the request is refused.
 #[tactic(auto, using(crate::proofs::SignedRequests::signed_delivery))]
 pub fn a_delivery_is_signed()
     ensures { SignedDelivery }

@@ -1,4 +1,5 @@
--- The rows of a queue, of which some are claimed: each is of a delivery of its own, at a place of its own.
+-- The rows of a queue, of which some are claimed: each is of a delivery of its own, at a place of
+-- its own.
 use Rattle.std.proofs.Common.{inl, inr, ◌⊎◌, ◌≡◌, ◌≤◌, ℕ, zero, suc, arith, Bool, true, false, List, [], ◌∷◌, ◌++◌, length, Option, Some, None, refl, sym, ap, subst, ◌∙◌, append_assoc}
 use Rattle.std.specs.Prelude.{◌&&◌, is_some, map, nat_eq, option_and_then, option_to_list, slice_get, if◌then◌else◌}
 use Rattle.std.specs.List.{list_all, list_any}

@@ -1,8 +1,8 @@
 -- What a crash leaves on a disk with a file of records.
 use Rattle.std.proofs.Common.{ℕ, ◌+◌, ◌≤◌, List, length, inl, inr, ◌⊎◌, arith}
-use Rattle.fedi_images.specs.Images.{Format, IsFormat, IsImage}
-use Rattle.fedi_images.specs.Known.{record_crashes}
-use Rattle.fedi_images.proofs.Finding.{images_known}
+use Rattle.fedi_outside.specs.Images.{Format, IsFormat, IsImage}
+use Rattle.fedi_outside.specs.Known.{record_crashes}
+use Rattle.fedi_outside.proofs.Finding.{images_known}
 use Rattle.fedi_outside.specs.Disks.{DiskCrashes, DiskState}
 use Rattle.fedi_outside.specs.Keepers.{Adds, MayLeave}
 use Rattle.fedi_log.specs.Keeping.{Base}

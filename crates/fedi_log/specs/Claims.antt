@@ -1,10 +1,12 @@
--- What is claimed along a log (ActivityPub, section 7.1): a delivery is given to one pass, which tries it, and to no other until what
--- came of it is recorded or the delivery is released.
-use Rattle.std.specs.Prelude.{◌≡◌, ℕ, ◌&&◌, ◌||◌, Bool, false, not, List, [], ◌∷◌, filter, Option, None, Some, option_map, if◌then◌else◌}
+-- What is claimed along a log (ActivityPub, section 7.1): a delivery is given to one pass, which
+-- tries it, and to no other until what came of it is recorded or the delivery is released.
+use Rattle.std.specs.Prelude.{◌≡◌, ℕ, ◌&&◌, ◌||◌, Bool, false, not, List, [], ◌∷◌, filter, Option}
+use Rattle.std.specs.Prelude.{None, Some, option_map, if◌then◌else◌}
 use Rattle.std.specs.List.{find, fold, list_any}
 use Rattle.std.specs.Str.{bytes_eq}
 use Rattle.fedi_objects.specs.declared.entry.Entry.{Entry}
-use Rattle.fedi_objects.specs.declared.entry.Entry.TheVariants.{Hosted, Made, PeerSet, Local, Remote, Tried}
+use Rattle.fedi_objects.specs.declared.entry.Entry.TheVariants.{Hosted, Made, PeerSet, Local}
+use Rattle.fedi_objects.specs.declared.entry.Entry.TheVariants.{Remote, Tried}
 use Rattle.fedi_queue.specs.declared.rows.Claim.{Claim}
 use Rattle.fedi_queue.specs.declared.rows.QueueRow.{QueueRow}
 use Rattle.fedi_queue.specs.Claims.{is_claimed_at}
@@ -33,10 +35,11 @@ tries p (Made name digest locked moment) = false
 tries p (PeerSet host key address relay moment) = false
 tries p (Local name repeat a moment) = false
 tries p (Remote peer inbox a moment) = false
-tries p (Tried activity recipient came moment) = is_same_pair p (record { activity = activity; recipient = recipient })
+tries p (Tried activity recipient came moment) =
+    is_same_pair p (record { activity = activity; recipient = recipient })
 
--- Whether the delivery is claimed after this, where it was so before or not: from its claim on, until it is released, or until
--- what came of an attempt of it is kept or fails to be kept.
+-- Whether the delivery is claimed after this, where it was so before or not: from its claim on,
+-- until it is released, or until what came of an attempt of it is kept or fails to be kept.
 abbrev pub claimed_after : Pair → Bool → What → Bool
 claimed_after p held (Entered e) = held && not (tries p e)
 claimed_after p held (Marked e) = held && not (tries p e)
@@ -50,11 +53,14 @@ is_claimed_in log p = fold (λ (held : Bool) (i : Item). claimed_after p held i.
 -- likewise of an activity and a recipient, if the activity has an id
 abbrev pub is_taken_in : Log → Option (List ℕ) → List ℕ → Bool
 is_taken_in log None recipient = false
-is_taken_in log (Some id) recipient = is_claimed_in log (record { activity = id; recipient = recipient })
+is_taken_in log (Some id) recipient =
+    is_claimed_in log (record { activity = id; recipient = recipient })
 
 -- the deliveries that are due at this moment and that nobody has claimed, in the order of the queue
 abbrev pub free_in : Log → ℕ → List Delivery
-free_in log moment = filter (λ (d : Delivery). not (is_taken_in log d.activity d.recipient)) (due_in (town (history_of log)) moment)
+free_in log moment =
+    filter (λ (d : Delivery). not (is_taken_in log d.activity d.recipient))
+    (due_in (town (history_of log)) moment)
 
 -- the first of these is the delivery of the activity with this id to this recipient
 abbrev pub IsFirst : List ℕ → List ℕ → List Delivery → Type 0
@@ -65,7 +71,9 @@ IsFirst id recipient (d ∷ left) = IsTo id recipient d
 
 -- the last that this pass did
 abbrev pub last_of : Option ℕ → Log → Option What
-last_of by log = fold (λ (last : Option What) (i : Item). if is_same_pass by i.pass then Some i.what else last) None log
+last_of by log =
+    fold (λ (last : Option What) (i : Item).
+    if is_same_pass by i.pass then Some i.what else last) None log
 
 -- this delivery is claimed so
 abbrev pub claimed_by : Pair → Claim → What
@@ -85,11 +93,14 @@ is_claimed_for acts p row = row.claimed && is_row_of acts p.activity p.recipient
 pub record IsClaimFor (acts : List Act) (rows : List QueueRow) (p : Pair) (c : Claim) : Type 0 where
   pub held : IsHeld c rows
   pub named : id_at acts c.activity ≡ Some p.activity
-  pub sent_to : option_map (λ (row : QueueRow). row.recipient) (find (is_claimed_at c.activity c.recipient) rows) ≡ Some p.recipient
+  pub sent_to : option_map (λ (row : QueueRow). row.recipient)
+      (find (is_claimed_at c.activity c.recipient) rows) ≡ Some p.recipient
 
--- The rows of a queue are claimed as the log says: those of the deliveries that are claimed in it; what a pass has claimed is held for
--- it; and no two passes have claimed one delivery.
+-- The rows of a queue are claimed as the log says: those of the deliveries that are claimed in it;
+-- what a pass has claimed is held for it; and no two passes have claimed one delivery.
 pub record ClaimsStand (acts : List Act) (rows : List QueueRow) (log : Log) : Type 0 where
   pub claimed : (p : Pair) → is_claimed_in log p ≡ list_any (is_claimed_for acts p) rows
-  pub held : (by : Option ℕ) (p : Pair) (c : Claim) → HasClaimed by log p c → IsClaimFor acts rows p c
-  pub apart : (by other : Option ℕ) (p : Pair) (c d : Claim) → HasClaimed by log p c → HasClaimed other log p d → by ≡ other
+  pub held : (by : Option ℕ) (p : Pair) (c : Claim) → HasClaimed by log p c
+      → IsClaimFor acts rows p c
+  pub apart : (by other : Option ℕ) (p : Pair) (c d : Claim) → HasClaimed by log p c
+      → HasClaimed other log p d → by ≡ other

@@ -1,17 +1,20 @@
 -- A machine and its keeper stand for a log.
-use Rattle.std.specs.Prelude.{◌≡◌, ◌⊎◌, ℕ, ◌+◌, ◌-◌, ◌^◌, ◌≤◌, min, max, List, [], ◌∷◌, ◌++◌, length, map, drop, All, Option, Some, None, option_map, option_to_list, IfSome, Contains}
+use Rattle.std.specs.Prelude.{◌≡◌, ◌⊎◌, ℕ, ◌+◌, ◌-◌, ◌^◌, ◌≤◌, min, max, List, [], ◌∷◌, ◌++◌}
+use Rattle.std.specs.Prelude.{length, map, drop, All, Option, Some, None, option_map}
+use Rattle.std.specs.Prelude.{option_to_list, IfSome, Contains}
 use Rattle.std.specs.List.{sum_by}
 use Rattle.fedi_entry.specs.Codes.{code_of}
 use Rattle.fedi_objects.specs.declared.entry.Entry.{Entry}
 use Rattle.fedi_outside.specs.Causes.{next_count}
 use Rattle.fedi_outside.specs.Keepers.{KeeperState}
 use Rattle.fedi_log.specs.declared.items.Item.{Item}
-use Rattle.fedi_log.specs.Log.{Failed, Full, Kept, Log, NoEntry, Outcome, doubts_of, given, history_of, kept_in, marks_of}
+use Rattle.fedi_log.specs.Log.{Failed, Full, Kept, Log, NoEntry, Outcome, doubts_of, given}
+use Rattle.fedi_log.specs.Log.{history_of, kept_in, marks_of}
 
 -- ---- a keeper
 
--- a keeper at an opening: how many entries it had, each an item of the log, and what it showed; how far a record of a
--- length moves its end, and how far from the limit that has to be
+-- a keeper at an opening: how many entries it had, each an item of the log, and what it showed; how
+-- far a record of a length moves its end, and how far from the limit that has to be
 pub record Base : Type 0 where
   pub kept : ℕ
   pub shown : KeeperState
@@ -32,7 +35,8 @@ end_of b log = b.shown.end + growth_of b.growth (history_of (since b log))
 
 -- a list of records, if it is known, with those of these entries behind them
 abbrev pub with_records : Option (List (List ℕ)) → List Entry → Option (List (List ℕ))
-with_records records entries = option_map (λ (rs : List (List ℕ)). rs ++ map code_of entries) records
+with_records records entries =
+    option_map (λ (rs : List (List ℕ)). rs ++ map code_of entries) records
 
 -- one of these records is in doubt, or none
 abbrev pub IsDoubted : List (List ℕ) → Option (List ℕ) → Type 0
@@ -42,9 +46,9 @@ IsDoubted doubts doubt = IfSome doubt (λ (d : List ℕ). Contains doubts d)
 abbrev pub counted : ℕ → ℕ → ℕ
 counted n more = max n (min (n + more) (2 ^ 64 - 1))
 
--- A keeper that shows this keeps the log: it has the records of the log's entries since the opening, each once and in
--- order; what may be in doubt is one of the log's doubts, which begin with that of the opening; and it counted a fault for
--- each mark, and no other.
+-- A keeper that shows this keeps the log: it has the records of the log's entries since the
+-- opening, each once and in order; what may be in doubt is one of the log's doubts, which begin
+-- with that of the opening; and it counted a fault for each mark, and no other.
 pub record Keeps (b : Base) (now : KeeperState) (log : Log) : Type 0 where
   pub opened : b.kept ≤ length log
   pub records : now.records ≡ with_records b.shown.records (history_of (since b log))
@@ -65,7 +69,8 @@ state_of history keeper = record { history = history; keeper = keeper }
 
 -- the keeper of a machine that is opened so
 abbrev pub base_of : (ℕ → ℕ) → (ℕ → ℕ) → State → Base
-base_of growth room opened = record { kept = length opened.history; shown = opened.keeper; growth = growth; room = room }
+base_of growth room opened =
+    record { kept = length opened.history; shown = opened.keeper; growth = growth; room = room }
 
 -- the machine stands for this log
 pub record Holds (b : Base) (now : State) (log : Log) : Type 0 where
@@ -74,12 +79,14 @@ pub record Holds (b : Base) (now : State) (log : Log) : Type 0 where
 
 -- ---- one turn
 
--- what may be in doubt then: what was, if the keeper was not asked, and after a failure also the record of its entry
+-- what may be in doubt then: what was, if the keeper was not asked, and after a failure also the
+-- record of its entry
 abbrev pub DoubtAfter : Option (List ℕ) → Option (List ℕ) → Outcome → Type 0
 DoubtAfter before after NoEntry = after ≡ before
 DoubtAfter before after (Kept e) = after ≡ None
 DoubtAfter before after (Full e) = after ≡ before
-DoubtAfter before after (Failed e) = (after ≡ before) ⊎ ((after ≡ None) ⊎ (after ≡ Some (code_of e)))
+DoubtAfter before after (Failed e) =
+    (after ≡ before) ⊎ ((after ≡ None) ⊎ (after ≡ Some (code_of e)))
 
 -- a failure is a fault that is counted, and nothing else is
 abbrev pub FaultsAfter : ℕ → ℕ → Outcome → Type 0
@@ -111,6 +118,7 @@ pub record GoesAlone (by : Option ℕ) (seen log : Log) : Type 0 where
   pub own : All (λ (i : Item). i.pass ≡ by) past
 
 -- the machine stands for a log that goes on so
-pub record HoldsSince (b : Base) (by : Option ℕ) (seen : Log) (now : State) (log : Log) : Type 0 where
+pub record HoldsSince (b : Base) (by : Option ℕ) (seen : Log) (now : State)
+    (log : Log) : Type 0 where
   pub grown : GoesAlone by seen log
   pub holds : Holds b now log

@@ -1,4 +1,5 @@
--- Lives of a store, one after another: each goes from an opening to an end or a crash, and the next one opens what was left.
+-- Lives of a store, one after another: each goes from an opening to an end or a crash, and the next
+-- one opens what was left.
 use Rattle.std.specs.Prelude.{◌≡◌, ◌⊎◌, ℕ, List, [], ◌∷◌, ◌++◌, map, option_to_list, Contains}
 use Rattle.std.specs.List.{AllByRecursion}
 use Rattle.fedi_entry.specs.Codes.{code_of}
@@ -23,8 +24,9 @@ history_at_end l = l.opened ++ history_of l.log
 abbrev pub doubts : Life → List (List ℕ)
 doubts l = doubts_of (option_to_list l.base.shown.doubt) l.log
 
--- A life goes so: the entries that were opened, and those that were kept, have fields of the right forms, and what is left are the
--- records of the first, then those of the others, and behind them at most one that is in doubt.
+-- A life goes so: the entries that were opened, and those that were kept, have fields of the right
+-- forms, and what is left are the records of the first, then those of the others, and behind them
+-- at most one that is in doubt.
 pub record IsLife (l : Life) : Type 0 where
   pub formed : AllByRecursion IsFormed (history_at_end l)
   pub leaves : LeavesAfter l.base (map code_of l.opened) l.log l.left
@@ -39,6 +41,9 @@ abbrev pub AreLives : List Life → Type 0
 AreLives [] = Unit {0}
 AreLives (l ∷ later) = IsLife l × IsFollowed l later × AreLives later
 
--- what the next opening finds: the history at the end of this life, and behind it at most one entry, whose record was in doubt
+-- what the next opening finds: the history at the end of this life, and behind it at most one
+-- entry, whose record was in doubt
 abbrev pub IsFoundAfter : Life → List Entry → Type 0
-IsFoundAfter l found = (found ≡ history_at_end l) ⊎ ((e : Entry) × Contains (doubts l) (code_of e) × (found ≡ history_at_end l ++ e ∷ []))
+IsFoundAfter l found =
+    (found ≡ history_at_end l)
+    ⊎ ((e : Entry) × Contains (doubts l) (code_of e) × (found ≡ history_at_end l ++ e ∷ []))

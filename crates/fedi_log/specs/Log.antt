@@ -1,5 +1,7 @@
--- A log: what was kept, what the keeper failed to keep, and which deliveries were claimed and released, in order.
-use Rattle.std.specs.Prelude.{◌≡◌, ◌≢◌, ℕ, ◌==◌, Bool, false, true, List, [], ◌∷◌, ◌++◌, map, Option, Some, None, All}
+-- A log: what was kept, what the keeper failed to keep, and which deliveries were claimed and
+-- released, in order.
+use Rattle.std.specs.Prelude.{◌≡◌, ◌≢◌, ℕ, ◌==◌, Bool, false, true, List, [], ◌∷◌, ◌++◌, map}
+use Rattle.std.specs.Prelude.{Option, Some, None, All}
 use Rattle.std.specs.List.{filter, flat_map, fold}
 use Rattle.fedi_entry.specs.Codes.{code_of}
 use Rattle.fedi_objects.specs.declared.entry.Entry.{Entry}
@@ -52,7 +54,8 @@ doubts_after doubts (Released p) = doubts
 
 -- the records of which one may be in doubt after these items, where these were before them
 abbrev pub doubts_of : List (List ℕ) → Log → List (List ℕ)
-doubts_of before log = fold (λ (doubts : List (List ℕ)) (i : Item). doubts_after doubts i.what) before log
+doubts_of before log =
+    fold (λ (doubts : List (List ℕ)) (i : Item). doubts_after doubts i.what) before log
 
 -- ---- what a request adds
 

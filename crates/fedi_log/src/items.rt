@@ -37,6 +37,7 @@ pub enum What {
 #[derive(Drop)]
 pub struct Item {
     pub what: What,
-    /// The number of the pass that added it, or none if it was there at the opening or nobody else adds any.
+    /// The number of the pass that added it, or none if it was there at the opening or nobody else
+    /// adds any.
     pub pass: Option<u64>,
 }

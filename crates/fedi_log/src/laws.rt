@@ -6,7 +6,8 @@ ghost use Rattle.fedi_entry.specs.Codes.{code_of};
 ghost use Rattle.fedi_objects.specs.declared.entry.Entry.{Entry};
 ghost use Rattle.fedi_log.specs.declared.items.What.{What};
 ghost use Rattle.fedi_log.specs.Keeping.{Base, Follows, Holds, HoldsSince, State, base_of};
-ghost use Rattle.fedi_log.specs.Log.{Added, Goes, IsOthers, Log, Outcome, doubts_of, failed_in, given, history_of, items_of, made_by, marks_of};
+ghost use Rattle.fedi_log.specs.Log.{Added, Goes, IsOthers, Log, Outcome, doubts_of, failed_in};
+ghost use Rattle.fedi_log.specs.Log.{given, history_of, items_of, made_by, marks_of};
 
 /// The log of a history that was kept before has this history, and no marks.
 pub fn given_logs_hold_their_history()
@@ -31,8 +32,8 @@ pub fn items_past_are_added()
         → Added by a c (xs ++ ys) }
 {}
 
-/// What a request adds to a log is told by its outcome: a kept entry ends all doubts, and one that the
-/// keeper failed to keep has its mark and may be in doubt.
+/// What a request adds to a log is told by its outcome: a kept entry ends all doubts, and one that
+/// the keeper failed to keep has its mark and may be in doubt.
 pub fn doubts_are_marked()
     ensures marks { (by : Option ℕ) (o : Outcome) (log : Log) → marks_of (log ++ items_of by o)
         ≡ marks_of log ++ failed_in o }
@@ -43,11 +44,12 @@ pub fn doubts_are_marked()
         ≡ doubts_of before log ++ code_of e ∷ [] }
 {}
 
-/// A machine that is opened stands for the log of its history. A turn leaves it standing for the log with
-/// the item that the turn added, and turns follow one another.
+/// A machine that is opened stands for the log of its history. A turn leaves it standing for the
+/// log with the item that the turn added, and turns follow one another.
 pub fn machines_stand_for_logs()
     ensures opened { (growth room : ℕ → ℕ) (by : Option ℕ) (opened : State)
-        → HoldsSince (base_of growth room opened) by (given opened.history) opened (given opened.history) }
+        → HoldsSince (base_of growth room opened) by (given opened.history) opened
+        (given opened.history) }
     ensures more { (b : Base) (by : Option ℕ) (before after : State) (log : Log) (o : Outcome)
         → Holds b before log
         → Follows b.growth before after o → HoldsSince b by log after (log ++ items_of by o) }

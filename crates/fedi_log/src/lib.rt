@@ -1,6 +1,6 @@
-//! The log under every connection: which entries were kept, which the keeper failed to keep, and which
-//! deliveries were claimed and released, in order. No log is kept in memory: contracts speak of it. And
-//! what lasts over the lives of a store: runs, crashes and openings, one after another.
+//! The log under every connection: which entries were kept, which the keeper failed to keep, and
+//! which deliveries were claimed and released, in order. No log is kept in memory: contracts speak
+//! of it. And what lasts over the lives of a store: runs, crashes and openings, one after another.
 #![tactic(auto)]
 
 mod items;

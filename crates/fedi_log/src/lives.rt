@@ -4,20 +4,21 @@ ghost use Rattle.std.specs.Prelude.{◌≡◌, ◌≤◌, ℕ, List, [], ◌∷�
 ghost use Rattle.std.specs.List.{AllByRecursion};
 ghost use Rattle.fedi_entry.specs.Codes.{code_of};
 ghost use Rattle.fedi_entry.specs.Fields.{IsFormed};
-ghost use Rattle.fedi_images.specs.Images.{Format, IsFormat, IsImage};
-ghost use Rattle.fedi_images.specs.Known.{record_crashes};
+ghost use Rattle.fedi_outside.specs.Images.{Format, IsFormat, IsImage};
+ghost use Rattle.fedi_outside.specs.Known.{record_crashes};
 ghost use Rattle.fedi_objects.specs.declared.entry.Entry.{Entry};
 ghost use Rattle.fedi_outside.specs.Keepers.{Adds, MayLeave};
 ghost use Rattle.fedi_log.specs.Keeping.{Base, since};
 ghost use Rattle.fedi_log.specs.Leaving.{IsLeft, IsLeftAfter};
 ghost use Rattle.fedi_log.specs.Log.{Log, history_of};
-ghost use Rattle.fedi_log.specs.Lives.{AreLives, IsFollowed, IsFoundAfter, IsLife, Life, history_at_end};
+ghost use Rattle.fedi_log.specs.Lives.{AreLives, IsFollowed, IsFoundAfter, IsLife, Life};
+ghost use Rattle.fedi_log.specs.Lives.{history_at_end};
 
 use fedi_outside::Disk;
 
-/// Whatever a crash since the opening leaves on a disk is a file: of the records of the opening, those of
-/// the first of the entries that were kept since, and behind them at most one that was in doubt. It
-/// follows from what a keeper on that disk tells of lists of records alone.
+/// Whatever a crash since the opening leaves on a disk is a file: of the records of the opening,
+/// those of the first of the entries that were kept since, and behind them at most one that was in
+/// doubt. It follows from what a keeper on that disk tells of lists of records alone.
 pub fn crashes_leave_files<D: Disk>()
     ensures { (f : Format) (opened now : D) (base : Base) (log : Log) (kept : List (List ℕ))
         → let before = D.crashes opened in let after = D.crashes now in
@@ -30,8 +31,8 @@ pub fn crashes_leave_files<D: Disk>()
         → (left : List (List ℕ)) × IsImage f left image × IsLeft base log kept left }
 {}
 
-/// A crash at any moment of a run ends a life, whose log is the run's up to that moment, since the fields
-/// of all that a run keeps have their forms.
+/// A crash at any moment of a run ends a life, whose log is the run's up to that moment, since the
+/// fields of all that a run keeps have their forms.
 pub fn crashes_end_lives()
     ensures { (base : Base) (opened : List Entry) (log : Log) (left : List (List ℕ))
         → AllByRecursion IsFormed (opened ++ history_of (since base log))
@@ -39,8 +40,8 @@ pub fn crashes_end_lives()
         → IsLife (record { base = base; opened = opened; log = crash.past; left = left }) }
 {}
 
-/// A crash at any moment since an exchange was over ends a life, whose log is that up to the crash, and begins
-/// with all that the exchange found and added: so what was acknowledged is in it.
+/// A crash at any moment since an exchange was over ends a life, whose log is that up to the crash,
+/// and begins with all that the exchange found and added: so what was acknowledged is in it.
 pub fn later_crashes_end_lives()
     ensures life { (base : Base) (opened : List Entry) (seen log : Log) (left : List (List ℕ))
         → AllByRecursion IsFormed (opened ++ history_of (since base log))
@@ -63,17 +64,17 @@ pub fn files_join_lives()
         → IsFollowed life (next ∷ []) }
 {}
 
-/// No record that was kept is lost, none is torn and none changes its place: the records that a life
-/// had at its end are the first of those that each later life opens.
+/// No record that was kept is lost, none is torn and none changes its place: the records that a
+/// life had at its end are the first of those that each later life opens.
 pub fn kept_records_stay()
     ensures { (before between after : List Life) (life later : Life)
         → AreLives (before ++ life ∷ (between ++ later ∷ after)) → (more : List (List ℕ))
         × (map code_of later.opened ≡ map code_of (history_at_end life) ++ more) }
 {}
 
-/// No entry that was kept is lost, none is torn and none changes its place: the history of a life at its
-/// end is the front of the history that each later life opens. What the next life finds behind it is at
-/// most the one entry that was in doubt.
+/// No entry that was kept is lost, none is torn and none changes its place: the history of a life
+/// at its end is the front of the history that each later life opens. What the next life finds
+/// behind it is at most the one entry that was in doubt.
 pub fn kept_entries_stay()
     ensures history { (before between after : List Life) (life later : Life)
         → AreLives (before ++ life ∷ (between ++ later ∷ after))

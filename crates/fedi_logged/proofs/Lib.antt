@@ -1,7 +1,9 @@
 pub mod Attempts
 pub mod Claimed
 pub mod Claiming
+pub mod Conversing
 pub mod Crashing
+pub mod Determined
 pub mod Hosted
 pub mod Hosts
 pub mod Marks
@@ -10,8 +12,10 @@ pub mod Own
 pub mod Peers
 pub mod Recording
 pub mod Replying
+pub mod SessionLemmas
 pub mod Silent
 pub mod Standing
+pub mod Talks
 pub mod Telling
 pub mod Turning
 pub mod Untried

@@ -24,7 +24,7 @@ use Rattle.fedi_model.specs.Asks.{entry_of}
 use Rattle.fedi_model.specs.Replies.{IsPrivate, reply}
 use Rattle.fedi_model.specs.Routes.{Asks}
 use Rattle.fedi_town.specs.Towns.{Town}
-use Rattle.fedi_talk.specs.Conversations.{IsPrivateReply, IsReply, Settles}
+use Rattle.fedi_logged.specs.Conversations.{IsPrivateReply, IsReply, Settles}
 
 -- ---- who may not be taken for a caller
 

@@ -8,8 +8,8 @@ use Rattle.fedi_model.specs.ReplyText.{reply_text}
 use Rattle.fedi_objects.specs.declared.entry.Entry.{Entry}
 use Rattle.fedi_core.specs.Machines.{Machine}
 use Rattle.fedi_outside.specs.Keepers.{Crashes, KeeperState}
-use Rattle.fedi_talk.specs.Conversations.{IsReply}
-use Rattle.fedi_talk.specs.Turning.{IsReplyAt, Tells}
+use Rattle.fedi_logged.specs.Conversations.{IsReply}
+use Rattle.fedi_logged.specs.Turning.{IsReplyAt, Tells}
 use Rattle.fedi_logged.specs.Logs.{MachineLog, TurnsOn}
 use Rattle.fedi_logged.specs.Turns.{standing_by}
 

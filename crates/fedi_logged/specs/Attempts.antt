@@ -1,6 +1,7 @@
--- An attempt to deliver an activity to a recipient (ActivityPub, section 7.1): what is asked of a link, what is heard, and what came
--- of it.
-use Rattle.std.specs.Prelude.{◌≡◌, ℕ, List, [], ◌∷◌, ◌++◌, map, Option, Some, None, Result, Ok, Err, slice_get}
+-- An attempt to deliver an activity to a recipient (ActivityPub, section 7.1): what is asked of a
+-- link, what is heard, and what came of it.
+use Rattle.std.specs.Prelude.{◌≡◌, ℕ, List, [], ◌∷◌, ◌++◌, map, Option, Some, None, Result, Ok, Err}
+use Rattle.std.specs.Prelude.{slice_get}
 use Rattle.std.specs.List.{fold}
 use Rattle.std.specs.declared.alloc.AllocError.{AllocError}
 use Rattle.fedi_delivery.specs.Deliveries.{address_to, body_of, lookup_to, post_to}
@@ -27,7 +28,8 @@ AddsRows (Some before) (Some told) rows = told ≡ before ++ rows
 
 -- the count of faults after these exchanges: one more for each that has no reply
 abbrev pub count_after_each : ℕ → List Exchange → ℕ
-count_after_each count exchanges = fold (λ (n : ℕ) (x : Exchange). count_after x.heard n) count exchanges
+count_after_each count exchanges =
+    fold (λ (n : ℕ) (x : Exchange). count_after x.heard n) count exchanges
 
 -- the link had these exchanges in order and no others
 pub record HasExchanged (before now : Told) (exchanges : List Exchange) : Type 0 where
@@ -36,26 +38,32 @@ pub record HasExchanged (before now : Told) (exchanges : List Exchange) : Type 0
   pub faults : now.faults ≡ count_after_each before.faults exchanges
 
 -- what this link tells, by what tells of such
-abbrev pub told_by : {K : Type 0} → (K → Option (List Asking)) → (K → Option (List (Option (List ℕ)))) → (K → ℕ) → K → Told
-told_by asked heard faults link = record { asked = asked link; heard = heard link; faults = faults link }
+abbrev pub told_by : {K : Type 0} → (K → Option (List Asking))
+    → (K → Option (List (Option (List ℕ)))) → (K → ℕ) → K → Told
+told_by asked heard faults link =
+    record { asked = asked link; heard = heard link; faults = faults link }
 
 -- ---- one attempt
 
 -- the recipient was looked up at its server
 abbrev pub IsLookup : Town → List ℕ → Exchange → Type 0
-IsLookup t recipient x = (address_to t recipient ≡ Some x.asking.address) × (lookup_to t recipient ≡ Some x.asking.request)
+IsLookup t recipient x =
+    (address_to t recipient ≡ Some x.asking.address)
+    × (lookup_to t recipient ≡ Some x.asking.request)
 
 -- the activity of this id was posted to the inbox, at the server of the recipient
 abbrev pub IsPost : Town → List ℕ → List ℕ → List ℕ → Exchange → Type 0
 IsPost t id recipient inbox x =
     (k : ℕ) × (a : Act) × (slice_get t.acts k ≡ Some a) × (a.activity.id ≡ Some id)
-    × (address_to t recipient ≡ Some x.asking.address) × (post_to t recipient inbox (body_of t a) ≡ Some x.asking.request)
+    × (address_to t recipient ≡ Some x.asking.address)
+    × (post_to t recipient inbox (body_of t a) ≡ Some x.asking.request)
 
--- The exchanges of an attempt, and what came of it is what the last of them shows: the lookup alone, if it ended the attempt; or
--- the lookup, which found the inbox, and the post to it.
+-- The exchanges of an attempt, and what came of it is what the last of them shows: the lookup
+-- alone, if it ended the attempt; or the lookup, which found the inbox, and the post to it.
 abbrev pub ShowsCame : Town → (id recipient : List ℕ) → List Exchange → Came → Type 0
 ShowsCame t id recipient [] came = ⊥
-ShowsCame t id recipient (l ∷ []) came = IsLookup t recipient l × IsFoundIn recipient l.heard (Ended came)
+ShowsCame t id recipient (l ∷ []) came =
+    IsLookup t recipient l × IsFoundIn recipient l.heard (Ended came)
 ShowsCame t id recipient (l ∷ p ∷ []) came =
     (inbox : List ℕ) × IsLookup t recipient l × IsFoundIn recipient l.heard (Inbox inbox)
     × IsPost t id recipient inbox p × IsCameOfPost p.heard came
@@ -66,12 +74,16 @@ abbrev pub IsBegun : Town → (id recipient : List ℕ) → List Exchange → Ty
 IsBegun t id recipient [] = Unit {0}
 IsBegun t id recipient (l ∷ []) = IsLookup t recipient l
 IsBegun t id recipient (l ∷ p ∷ []) =
-    (inbox : List ℕ) × IsLookup t recipient l × IsFoundIn recipient l.heard (Inbox inbox) × IsPost t id recipient inbox p
+    (inbox : List ℕ) × IsLookup t recipient l × IsFoundIn recipient l.heard (Inbox inbox)
+    × IsPost t id recipient inbox p
 IsBegun t id recipient (l ∷ p ∷ x ∷ xs) = ⊥
 
 -- what came of the attempt is what its exchanges show, or there was no memory to end it
-abbrev pub EndsAttempt : Town → (id recipient : List ℕ) → (asked heard : Told) → Result Came AllocError → Type 0
+abbrev pub EndsAttempt : Town → (id recipient : List ℕ) → (asked heard : Told)
+    → Result Came AllocError → Type 0
 EndsAttempt t id recipient asked heard (Ok came) =
-    (exchanges : List Exchange) × ShowsCame t id recipient exchanges came × HasExchanged asked heard exchanges
+    (exchanges : List Exchange) × ShowsCame t id recipient exchanges came
+    × HasExchanged asked heard exchanges
 EndsAttempt t id recipient asked heard (Err e) =
-    (exchanges : List Exchange) × IsBegun t id recipient exchanges × HasExchanged asked heard exchanges
+    (exchanges : List Exchange) × IsBegun t id recipient exchanges
+    × HasExchanged asked heard exchanges

@@ -1,6 +1,10 @@
 pub mod Attempts
+pub mod Channels
 pub mod Claiming
+pub mod Conversations
+pub mod Endings
 pub mod Logs
 pub mod Marks
 pub mod Sessions
+pub mod Turning
 pub mod Turns

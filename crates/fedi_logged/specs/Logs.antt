@@ -21,10 +21,12 @@ use Rattle.fedi_logged.specs.declared.noted.Noted.{Noted}
 
 -- ---- what a machine stands for
 
--- The log begins with the history of the opening. The machine holds it, and its history is legal: its keeper has the record of each
--- entry that was kept since, once and in order, and counted a fault for each mark and no other. Crashes were so along it, and each
--- entry that is marked in it may come where its mark stands.
-pub record StandsFor (growth room : ℕ → ℕ) (opened : State) (first : Crashes) (now : State) (crashes : Crashes) (log : Log) : Type 0 where
+-- The log begins with the history of the opening. The machine holds it, and its history is legal:
+-- its keeper has the record of each entry that was kept since, once and in order, and counted a
+-- fault for each mark and no other. Crashes were so along it, and each entry that is marked in it
+-- may come where its mark stands.
+pub record StandsFor (growth room : ℕ → ℕ) (opened : State) (first : Crashes) (now : State)
+    (crashes : Crashes) (log : Log) : Type 0 where
   pub past : Log
   pub begins : log ≡ given opened.history ++ past
   pub holds : Holds (base_of growth room opened) now log
@@ -41,12 +43,15 @@ pub record MachineLog (P : Type 0) : Type 0 where
 pub record AreSame (a b : Crashes) : Type 0 where
   pub clock : a.clock ≡ b.clock
   pub told : a.told ≡ b.told
-  pub there : (moment : ℕ) (left : List (List ℕ)) → a.left_since moment left → b.left_since moment left
-  pub back : (moment : ℕ) (left : List (List ℕ)) → b.left_since moment left → a.left_since moment left
+  pub there : (moment : ℕ) (left : List (List ℕ)) → a.left_since moment left
+      → b.left_since moment left
+  pub back : (moment : ℕ) (left : List (List ℕ)) → b.left_since moment left
+      → a.left_since moment left
 
 -- one turn of the machine with some outcome, which is added to the log
 abbrev pub TurnsOn : (ℕ → ℕ) → Option ℕ → Standing → Standing → Log → Log → Type 0
-TurnsOn growth by before after log now = (o : Outcome) × Turns growth before after o × (now ≡ log ++ items_of by o)
+TurnsOn growth by before after log now =
+    (o : Outcome) × Turns growth before after o × (now ≡ log ++ items_of by o)
 
 -- ---- what is noted of it
 
@@ -63,7 +68,8 @@ pair_of d = record { activity = d.activity.value; recipient = d.recipient.value 
 abbrev pub what_of : Deed → What
 what_of (deeds.Entry e kept) = became kept e.value
 what_of (deeds.Claimed d place moment) = Claimed (pair_of d) place moment
-what_of (deeds.Tried d came moment kept) = became kept (Tried d.activity.value d.recipient.value came moment)
+what_of (deeds.Tried d came moment kept) =
+    became kept (Tried d.activity.value d.recipient.value came moment)
 what_of (deeds.Released d) = Released (pair_of d)
 
 -- the item that was noted

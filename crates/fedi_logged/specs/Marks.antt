@@ -1,5 +1,5 @@
--- The marks of a log: entries that the keeper failed to keep. Each may come where its mark stands, so that a record in doubt can be
--- read when the store is opened again.
+-- The marks of a log: entries that the keeper failed to keep. Each may come where its mark stands,
+-- so that a record in doubt can be read when the store is opened again.
 use Rattle.std.specs.Prelude.{ℕ, ◌++◌, List, [], ◌∷◌, Option}
 use Rattle.fedi_log.specs.declared.items.What.{What}
 use Rattle.fedi_log.specs.declared.items.What.TheVariants.{Entered, Marked, Claimed, Released}
@@ -21,15 +21,18 @@ MayCome history (Released p) = Unit {0}
 -- behind this history, each entry that is marked may come where its mark stands
 abbrev pub MarksMayCome : List Entry → Log → Type 0
 MarksMayCome history [] = Unit {0}
-MarksMayCome history (i ∷ log) = MayCome history i.what × MarksMayCome (history ++ entry_in i.what) log
+MarksMayCome history (i ∷ log) =
+    MayCome history i.what × MarksMayCome (history ++ entry_in i.what) log
 
--- The machine stands for this log, which goes on from what was seen; crashes were so along it, and each entry that is marked in
--- it may come where its mark is.
-pub record Survives (b : Base) (by : Option ℕ) (seen log : Log) (state : State) (before after : Crashes) : Type 0 where
+-- The machine stands for this log, which goes on from what was seen; crashes were so along it, and
+-- each entry that is marked in it may come where its mark is.
+pub record Survives (b : Base) (by : Option ℕ) (seen log : Log) (state : State)
+    (before after : Crashes) : Type 0 where
   pub holds : HoldsSince b by seen state log
   pub crashes : CrashesAlong b log before after
   pub marks : MarksMayCome [] log
 
 -- some log is so
 abbrev pub SurvivesMarked : Base → Option ℕ → Log → State → Crashes → Crashes → Type 0
-SurvivesMarked b by seen state before after = (log : Log) × Survives b by seen log state before after
+SurvivesMarked b by seen state before after =
+    (log : Log) × Survives b by seen log state before after

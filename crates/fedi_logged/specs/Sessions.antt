@@ -3,13 +3,16 @@ use Rattle.std.specs.Prelude.{IfSome}
 use Rattle.fedi_log.specs.Keeping.{State}
 use Rattle.fedi_log.specs.Log.{Log}
 use Rattle.fedi_outside.specs.Keepers.{Crashes}
-use Rattle.fedi_talk.specs.Conversations.{Setting}
-use Rattle.fedi_talk.specs.Endings.{Scene, Serves}
-use Rattle.fedi_talk.specs.declared.sessions.SessionEnd.{SessionEnd}
+use Rattle.fedi_logged.specs.Conversations.{Setting}
+use Rattle.fedi_logged.specs.Endings.{Scene, Serves}
+use Rattle.fedi_logged.specs.declared.sessions.SessionEnd.{SessionEnd}
 use Rattle.fedi_logged.specs.Marks.{Survives}
 
--- A session ended so: the machine stands for a log that goes on from what was seen, along which crashes were so; and if the
--- input is told, what was read and written is one conversation over this log.
-abbrev pub EndsSession : Setting → Log → Scene → Scene → Crashes → State → Crashes → SessionEnd → Type 0
+-- A session ended so: the machine stands for a log that goes on from what was seen, along which
+-- crashes were so; and if the input is told, what was read and written is one conversation over
+-- this log.
+abbrev pub EndsSession : Setting → Log → Scene → Scene → Crashes → State → Crashes
+    → SessionEnd → Type 0
 EndsSession w seen first now before state after ending =
-    (log : Log) × Survives w.base w.by seen log state before after × IfSome first.input (Serves w seen first.output now log ending)
+    (log : Log) × Survives w.base w.by seen log state before after
+    × IfSome first.input (Serves w seen first.output now log ending)

@@ -4,21 +4,23 @@ ghost use Rattle.std.proofs.Common.{refl};
 ghost use Rattle.fedi_log.specs.Keeping.{GoesAlone, base_of, state_of};
 ghost use Rattle.fedi_log.specs.Log.{Goes, given};
 ghost use Rattle.fedi_queue.specs.Rows.{rows_of};
-ghost use Rattle.fedi_talk.specs.Endings.{IsCaused, faults_on, scene_on};
-ghost use Rattle.fedi_talk.specs.Turning.{TurnTells, setting_by};
+ghost use Rattle.fedi_logged.specs.Endings.{IsCaused, faults_on, scene_on};
+ghost use Rattle.fedi_logged.specs.Turning.{TurnTells, setting_by};
 ghost use Rattle.fedi_town.specs.Histories.{town};
 ghost use Rattle.fedi_town.specs.Legal.{IsLegal};
 ghost use Rattle.fedi_logged.specs.Logs.{AreSame};
 ghost use Rattle.fedi_logged.specs.Marks.{Survives};
 ghost use Rattle.fedi_logged.specs.Sessions.{EndsSession};
 
+use crate::channels::Channel;
 use crate::logged::Logged;
 use crate::opened::Opened;
+use crate::sessions::{SessionEnd, session};
+use crate::turns::Turns;
 use fedi_core::Core;
 use fedi_model::Request;
 use fedi_outside::{Clock, Keeper};
 use fedi_routes::{Routes, route};
-use fedi_talk::{Channel, SessionEnd, Turns, session};
 use fedi_text::Moment;
 use fedi_visible::Shelf;
 use std::alloc::{AllocError, Global};
@@ -116,7 +118,8 @@ fn serve_opened<S: Shelf + Drop, P: Keeper, O: Opened, H: Channel, C: Clock>(
     (end, alone.into_core())
 }
 
-/// Serves one connection by a machine that nobody else takes turns with, and hands the machine back with how the session ended.
+/// Serves one connection by a machine that nobody else takes turns with, and hands the machine back
+/// with how the session ended.
 pub fn serve_alone<S: Shelf + Drop, P: Keeper, H: Channel, C: Clock>(
     alloc: Global,
     core: Core<S, P>,
@@ -127,9 +130,10 @@ pub fn serve_alone<S: Shelf + Drop, P: Keeper, H: Channel, C: Clock>(
     requires unclaimed { core.rows ≡ rows_of (town core.history) }
     requires hosted { IsTrue (is_some (town core.history).host) }
     requires legal { IsLegal core.history }
-    // From the history that the machine has, the log goes on by what is kept and what the keeper fails to keep. If the input is
-    // told, what was read and written is one conversation over this log. A crash at any moment leaves the records, then the first
-    // of those that were kept since, and then at most one that was in doubt at that moment of the log.
+    // From the history that the machine has, the log goes on by what is kept and what the keeper
+    // fails to keep. If the input is told, what was read and written is one conversation over this
+    // log. A crash at any moment leaves the records, then the first of those that were kept since,
+    // and then at most one that was in doubt at that moment of the log.
     ensures ends { let opened = state_of core.history (P.shown core.keeper) in EndsSession
         (setting_by P.growth P.room (C.told clock.now) None opened) (given core.history)
         (scene_on H.left H.sent H.write_faults channel.old)

@@ -4,7 +4,7 @@ ghost use Rattle.fedi_log.specs.Keeping.{base_of, state_of};
 ghost use Rattle.fedi_log.specs.Log.{given};
 ghost use Rattle.fedi_model.specs.Routes.{Asks, IsPostableAt};
 ghost use Rattle.fedi_queue.specs.Rows.{rows_of};
-ghost use Rattle.fedi_talk.specs.Turning.{Tells};
+ghost use Rattle.fedi_logged.specs.Turning.{Tells};
 ghost use Rattle.fedi_town.specs.Histories.{town};
 ghost use Rattle.fedi_town.specs.Legal.{IsLegal};
 ghost use Rattle.fedi_logged.specs.Logs.{AreSame, StandsFor, TurnsOn};
@@ -13,15 +13,15 @@ ghost use Rattle.fedi_logged.specs.Turns.{standing_by};
 use crate::logged::Logged;
 use crate::noted::{Deed, Noted};
 use crate::opened::Opened;
+use crate::refusals::refusal_text;
 use fedi_address::Host;
 use fedi_core::{Core, Decision, KeepError, KeepFault};
 use fedi_http::reply_bytes;
-use fedi_kept::Trace;
 use fedi_log::Item;
 use fedi_model::{Ask, Refusal, Request};
 use fedi_outside::Keeper;
+use fedi_register::Trace;
 use fedi_routes::credentials;
-use fedi_talk::refusal_text;
 use fedi_text::Moment;
 use fedi_turn::Grows;
 use fedi_visible::Shelf;
@@ -44,7 +44,8 @@ impl<S: Shelf + Drop, P: Keeper + Drop, O: Opened> Grows for Logged<S, P, O> {
 }
 
 impl<S: Shelf + Drop, P: Keeper, O: Opened> Logged<S, P, O> {
-    /// The machine that was opened so, with the log of its history. None of its deliveries may be claimed.
+    /// The machine that was opened so, with the log of its history. None of its deliveries may be
+    /// claimed.
     pub fn of(core: Core<S, P>) -> Self
         requires unclaimed { core.rows ≡ rows_of (town core.history) }
         requires opened { O.state ≡ state_of core.history (P.shown core.keeper) }
@@ -80,13 +81,14 @@ impl<S: Shelf + Drop, P: Keeper, O: Opened> Logged<S, P, O> {
         self.core.host()
     }
 
-    /// Answers a request that has this body and asks this, in one turn of the machine by the pass of this number, or by none if
-    /// nobody else adds to the log. It hands back the text of the reply, which has no body if the method is HEAD; the connection is
-    /// told to close if `closing`. The reply to a post or a delivery is made before its entry is kept, and so is the one that reports
-    /// a keeper that failed.
+    /// Answers a request that has this body and asks this, in one turn of the machine by the pass
+    /// of this number, or by none if nobody else adds to the log. It hands back the text of the
+    /// reply, which has no body if the method is HEAD; the connection is told to close if
+    /// `closing`. The reply to a post or a delivery is made before its entry is kept, and so is the
+    /// one that reports a keeper that failed.
     ///
-    /// The error is out of memory, and then nothing was kept, and the keeper did not fail. It also comes once the log has 2^64 - 1
-    /// items, with one for each delivery that is claimed.
+    /// The error is out of memory, and then nothing was kept, and the keeper did not fail. It also
+    /// comes once the log has 2^64 - 1 items, with one for each delivery that is claimed.
     pub fn answer(
         &mut self,
         alloc: Global,
@@ -103,7 +105,8 @@ impl<S: Shelf + Drop, P: Keeper, O: Opened> Logged<S, P, O> {
         ensures text { IfOk result (λ text. Tells (base_of P.growth P.room O.state) by
             self.old.log self.new.log moment request.now body.now closing text.items) }
         ensures lacking { OnErr result (self.new.log ≡ self.old.log) }
-        // A crash on the way leaves the records, with at most one more: the one in doubt, or the entry's.
+        // A crash on the way leaves the records, with at most one more: the one in doubt, or the
+        // entry's.
         ensures turn { TurnsOn P.growth by (standing_by P.shown P.crashes self.old.core)
             (standing_by P.shown P.crashes self.new.core) self.old.log self.new.log }
     {

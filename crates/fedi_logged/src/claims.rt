@@ -7,7 +7,8 @@ ghost use Rattle.fedi_log.specs.Keeping.{base_of};
 ghost use Rattle.fedi_log.specs.Log.{history_of, made_by};
 ghost use Rattle.fedi_log.specs.declared.items.Pair.{Pair};
 ghost use Rattle.fedi_log.specs.declared.items.What.TheVariants.{Released};
-ghost use Rattle.fedi_logged.specs.Claiming.{Claims, IsClaimed, IsPostSince, IsSending, Records, TakesUp, what_after};
+ghost use Rattle.fedi_logged.specs.Claiming.{Claims, IsClaimed, IsPostSince, IsSending, Records};
+ghost use Rattle.fedi_logged.specs.Claiming.{TakesUp, what_after};
 ghost use Rattle.fedi_logged.specs.Logs.{pair_of, what_of};
 ghost use Rattle.fedi_queue.specs.Queues.{IsHeld};
 ghost use Rattle.fedi_town.specs.Histories.{town};
@@ -77,8 +78,8 @@ fn deed_after(
 }
 
 impl<S: Shelf + Drop, P: Keeper, O: Opened> Logged<S, P, O> {
-    // Claims the first delivery that is due at this moment and that nobody has claimed. The error comes if the log has no room
-    // for the claim and for what ends it.
+    // Claims the first delivery that is due at this moment and that nobody has claimed. The error
+    // comes if the log has no room for the claim and for what ends it.
     fn claim(&mut self, by: Option<u64>, moment: Moment) -> Result<Option<Claim>, AllocError>
         ensures claimed { IfOk result (Claims by moment self.old.log self.new.log) }
         ensures lacking { OnErr result (self.new.log ≡ self.old.log) }
@@ -119,12 +120,14 @@ impl<S: Shelf + Drop, P: Keeper, O: Opened> Logged<S, P, O> {
         Ok((recipient, outgoing))
     }
 
-    /// Claims the first delivery that is due at this moment and that nobody has claimed, for the pass of this number, and makes
-    /// what is sent to deliver it (ActivityPub, section 7.1): there is none exactly if it returns none. Until the pass records what
-    /// came of it or releases it, nobody else is given it.
+    /// Claims the first delivery that is due at this moment and that nobody has claimed, for the
+    /// pass of this number, and makes what is sent to deliver it (ActivityPub, section 7.1): there
+    /// is none exactly if it returns none. Until the pass records what came of it or releases it,
+    /// nobody else is given it.
     ///
-    /// The error is out of memory, and then nothing is claimed by this call. It also comes once the log has 2^64 - 2 items, with
-    /// one for each delivery that is claimed: room for what ends a claim is made before it.
+    /// The error is out of memory, and then nothing is claimed by this call. It also comes once the
+    /// log has 2^64 - 2 items, with one for each delivery that is claimed: room for what ends a
+    /// claim is made before it.
     pub fn take_up(
         &mut self,
         alloc: Global,
@@ -149,8 +152,8 @@ impl<S: Shelf + Drop, P: Keeper, O: Opened> Logged<S, P, O> {
         }
     }
 
-    /// The post of the body to the inbox, for the recipient of a delivery that some pass has claimed (ActivityPub, section 7.1).
-    /// The error is out of memory.
+    /// The post of the body to the inbox, for the recipient of a delivery that some pass has
+    /// claimed (ActivityPub, section 7.1). The error is out of memory.
     pub fn inbox_post(
         &self,
         alloc: Global,
@@ -165,7 +168,8 @@ impl<S: Shelf + Drop, P: Keeper, O: Opened> Logged<S, P, O> {
         self.core.inbox_post(alloc, claim, inbox, body)
     }
 
-    /// Gives up a delivery that the pass of this number has claimed, so that it may be claimed again. It takes no memory.
+    /// Gives up a delivery that the pass of this number has claimed, so that it may be claimed
+    /// again. It takes no memory.
     pub fn release(&mut self, by: Option<u64>, claim: Claim)
         requires claimed { IsClaimed by self.old.log claim }
         ensures released { (p : Pair) → HasClaimed by self.old.log p claim
@@ -181,9 +185,10 @@ impl<S: Shelf + Drop, P: Keeper, O: Opened> Logged<S, P, O> {
         self.claimed -= 1;
     }
 
-    /// Keeps what came of an attempt of a delivery that the pass of this number has claimed, and ends the claim (ActivityPub,
-    /// section 7.1). After an error the history is as before and the delivery may be claimed again: `Full` if the keeper has no
-    /// room for the entry, `KeeperFault` if the keeper failed, and `Memory` if out of memory.
+    /// Keeps what came of an attempt of a delivery that the pass of this number has claimed, and
+    /// ends the claim (ActivityPub, section 7.1). After an error the history is as before and the
+    /// delivery may be claimed again: `Full` if the keeper has no room for the entry, `KeeperFault`
+    /// if the keeper failed, and `Memory` if out of memory.
     pub fn record(
         &mut self,
         alloc: Global,

@@ -1,19 +1,35 @@
-//! A machine with its log: which entries were kept and which the keeper failed to keep since the opening, and which deliveries were
-//! claimed and released, in order, and by whom.
-//! Nothing is held of the log but its length: contracts see it.
+//! A machine with its log: which entries were kept and which the keeper failed to keep since the
+//! opening, and which deliveries were claimed and released, in order, and by whom. Nothing is held
+//! of the log but its length: contracts see it.
+//!
+//! And what a connection reads and writes, request by request, over any machine and any log,
+//! whether others add to the log or not.
 #![tactic(auto)]
 
 mod alone;
 mod answers;
+mod channels;
 mod claims;
+mod conversations;
 mod laws;
 mod logged;
 mod noted;
 mod opened;
+mod refusals;
+mod sessions;
+mod turns;
 
 pub use alone::{Alone, serve_alone};
+pub use channels::{Channel, Joined};
 pub use claims::Sending;
+pub use conversations::{
+    conversations_are_determined, conversations_have_no_gaps, conversations_own_their_items,
+    conversations_stand_in_the_log, conversations_stay, failures_are_marked,
+};
 pub use laws::acknowledged_entries_survive;
 pub use logged::Logged;
 pub use noted::{Deed, Delivery, Noted};
 pub use opened::Opened;
+pub use refusals::refusal_text;
+pub use sessions::{SessionEnd, exchange, session};
+pub use turns::Turns;

@@ -2,20 +2,21 @@
 use crate::noted::Noted;
 use crate::opened::Opened;
 use fedi_core::Core;
-use fedi_kept::Trace;
 use fedi_outside::Keeper;
+use fedi_register::Trace;
 use fedi_visible::Shelf;
 use std::marker::{Model, PhantomData};
 
-/// A machine with the log for which it stands, from the opening on. A contract sees it as both. Nothing is held of the log but its
-/// length.
+/// A machine with the log for which it stands, from the opening on. A contract sees it as both.
+/// Nothing is held of the log but its length.
 #[derive(Drop)]
 pub struct Logged<S: Shelf, P: Keeper, O: Opened> {
     pub(crate) core: Core<S, P>,
     pub(crate) noted: Trace<Noted>,
     // The length of the log.
     pub(crate) front: u64,
-    // How many deliveries are claimed: for each there is room in the log for the item that ends its claim.
+    // How many deliveries are claimed: for each there is room in the log for the item that ends its
+    // claim.
     pub(crate) claimed: u64,
     pub(crate) of: PhantomData<O>,
 }

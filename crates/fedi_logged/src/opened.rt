@@ -5,8 +5,8 @@ ghost use Rattle.fedi_outside.specs.Keepers.{Crashes};
 
 use std::marker::Brand;
 
-/// The machine as it was opened, for contracts alone. A call that opens a machine picks `Brand` for it, and says of which machine
-/// it speaks.
+/// The machine as it was opened, for contracts alone. A call that opens a machine picks `Brand` for
+/// it, and says of which machine it speaks.
 pub trait Opened {
     /// The history, and what its keeper showed.
     ghost state: { State };

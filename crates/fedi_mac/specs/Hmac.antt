@@ -1,5 +1,6 @@
 -- HMAC with SHA-256 (RFC 2104, section 2).
-use Rattle.std.specs.Prelude.{ℕ, ◌-◌, nat_lt, bit_xor, List, ◌++◌, map, length, replicate, if◌then◌else◌}
+use Rattle.std.specs.Prelude.{ℕ, ◌-◌, nat_lt, bit_xor, List, ◌++◌, map, length, replicate}
+use Rattle.std.specs.Prelude.{if◌then◌else◌}
 use Rattle.sha2.specs.Sha256.{sha256}
 
 -- a key that is longer than a block, which has 64 bytes, is replaced by its digest

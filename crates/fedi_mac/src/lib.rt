@@ -1,5 +1,5 @@
-//! What the authentication of messages rests on: keys, their digests and their texts, and the codes of
-//! messages. Nothing here takes memory.
+//! What the authentication of messages rests on: keys, their digests and their texts, and the codes
+//! of messages. Nothing here takes memory.
 #![tactic(auto)]
 
 ghost use Rattle.std.specs.Prelude.{◌≡◌, ◌↔◌, length, IsTrue, IsSome, IfSome};
@@ -25,10 +25,10 @@ pub fn digest(bytes: &[u8]) -> [u8; 32]
     Sha256::digest(bytes)
 }
 
-/// Whether the two are equal. Each byte is compared whatever the bytes before it were, so that the time
-/// does not tell where a wrong code first differs. It is for codes that a caller shows and the server
-/// computes by `Mac`. A key is found by its SHA-256 digest, of which the time tells nothing that helps to
-/// guess the key, so digests are compared by `==`. No clause speaks of time.
+/// Whether the two are equal. Each byte is compared whatever the bytes before it were, so that the
+/// time does not tell where a wrong code first differs. It is for codes that a caller shows and the
+/// server computes by `Mac`. A key is found by its SHA-256 digest, of which the time tells nothing
+/// that helps to guess the key, so digests are compared by `==`. No clause speaks of time.
 pub fn matches(a: &[u8; 32], b: &[u8; 32]) -> bool
     ensures { IsTrue result ↔ (a.now ≡ b.now) }
 {

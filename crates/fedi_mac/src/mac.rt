@@ -14,8 +14,8 @@ const INNER_PAD: u8 = 0x36;
 
 const OUTER_PAD: u8 = 0x5c;
 
-/// The HMAC-SHA-256 under way of a text that comes in pieces, under one key (RFC 2104, section 2). The
-/// key itself is not kept.
+/// The HMAC-SHA-256 under way of a text that comes in pieces, under one key (RFC 2104, section 2).
+/// The key itself is not kept.
 #[derive(Drop)]
 pub struct Mac {
     inner: Sha256,

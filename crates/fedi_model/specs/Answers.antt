@@ -1,5 +1,5 @@
--- The answer to a request: the refusal of its caller, or the reply to the caller for what it asks. A body is that of the
--- request, and is empty where it has none.
+-- The answer to a request: the refusal of its caller, or the reply to the caller for what it asks.
+-- A body is that of the request, and is empty where it has none.
 use Rattle.std.specs.Prelude.{◌≡◌, ℕ, List, Option, None, Result, Ok, Err}
 use Rattle.fedi_town.specs.declared.refusal.Refusal.{Refusal}
 use Rattle.fedi_objects.specs.declared.entry.Entry.{Entry}
@@ -23,8 +23,10 @@ abbrev pub caller_of : Town → Request → List ℕ → Result Caller Refusal
 caller_of t q body = caller_by t (credentials_of q body)
 
 -- the reply to this caller for what the request asks, and the entry that it makes at this moment
-abbrev pub AnswersTo : Town → ℕ → Result Caller Refusal → Request → List ℕ → Reply → Option Entry → Type 0
-AnswersTo t moment (Ok c) q body r made = (ask : Ask) × Asks t.host q body ask × (r ≡ reply t c ask) × (made ≡ entry_of t c ask moment)
+abbrev pub AnswersTo : Town → ℕ → Result Caller Refusal → Request → List ℕ → Reply
+    → Option Entry → Type 0
+AnswersTo t moment (Ok c) q body r made =
+    (ask : Ask) × Asks t.host q body ask × (r ≡ reply t c ask) × (made ≡ entry_of t c ask moment)
 AnswersTo t moment (Err e) q body r made = (r ≡ refused e) × (made ≡ None)
 
 -- the answer to the request, and the entry that it makes
@@ -43,7 +45,9 @@ pub record AgreeOn (g h : Town) (q : Request) (body : List ℕ) : Type 0 where
   pub caller : caller_of g q body ≡ caller_of h q body
   pub known : AgreeFor g h (caller_of h q body)
 
--- the reply is the answer of each legal history that agrees with this one for the caller of the request
+-- the reply is the answer of each legal history that agrees with this one for the caller of the
+-- request
 abbrev pub IsPrivateAnswer : List Entry → ℕ → Request → List ℕ → Reply → Type 0
 IsPrivateAnswer history moment q body r =
-    (g : List Entry) → IsLegal g → AgreeOn (town g) (town history) q body → (made : Option Entry) × Answers (town g) moment q body r made
+    (g : List Entry) → IsLegal g → AgreeOn (town g) (town history) q body
+    → (made : Option Entry) × Answers (town g) moment q body r made

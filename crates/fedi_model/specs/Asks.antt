@@ -8,12 +8,15 @@ use Rattle.fedi_town.specs.Ids.{activity_id, object_id}
 use Rattle.fedi_town.specs.Shapes.{is_posted, is_delivered}
 use Rattle.fedi_town.specs.Towns.{Town, id_of}
 use Rattle.fedi_model.specs.declared.ask.Ask.{Ask}
-use Rattle.fedi_model.specs.declared.ask.Ask.TheVariants.{Nowhere, WrongMethod, Webfinger, Actor, Collection, Activity, Object, Outbox, Inbox}
+use Rattle.fedi_model.specs.declared.ask.Ask.TheVariants.{Nowhere, WrongMethod, Webfinger, Actor}
+use Rattle.fedi_model.specs.declared.ask.Ask.TheVariants.{Collection, Activity, Object, Outbox}
+use Rattle.fedi_model.specs.declared.ask.Ask.TheVariants.{Inbox}
 use Rattle.fedi_model.specs.declared.post.Read.{Read}
 use Rattle.fedi_model.specs.declared.post.Read.TheVariants.{NotJson, Bad, Ready}
 use Rattle.fedi_model.specs.AnswerKinds.{Answer, Refuse, Disallow}
 use Rattle.fedi_model.specs.Posting.{post_answer, delivery_answer, entry_at, inbox_entry_at}
-use Rattle.fedi_model.specs.Reading.{actor_or_missing, webfinger_answer, activity_answer, object_answer, collection_answer}
+use Rattle.fedi_model.specs.Reading.{actor_or_missing, webfinger_answer, activity_answer}
+use Rattle.fedi_model.specs.Reading.{object_answer, collection_answer}
 
 -- the id of this number at the host, once the server was set up
 abbrev pub id_at : Option (List ℕ) → (List ℕ → List ℕ → ℕ → List ℕ) → List ℕ → ℕ → Option (List ℕ)

@@ -3,7 +3,8 @@ use Rattle.std.specs.Prelude.{◌≡◌, ◌⊎◌, ℕ, Bool, true, List, []}
 use Rattle.serde_json.specs.Data.{Data}
 use Rattle.serde_json.specs.Written.{compact_text}
 use Rattle.fedi_objects.specs.Forms.{is_clean}
-use Rattle.fedi_model.specs.AnswerKinds.{Answer, Refuse, Misshape, Disallow, Document, Profile, Tombstone, Created, Accepted}
+use Rattle.fedi_model.specs.AnswerKinds.{Answer, Refuse, Misshape, Disallow, Document, Profile}
+use Rattle.fedi_model.specs.AnswerKinds.{Tombstone, Created, Accepted}
 
 -- in what is answered no member at any depth is named `bto` or `bcc`
 abbrev pub is_clean_answer : Answer → Bool
@@ -16,6 +17,7 @@ is_clean_answer (Tombstone d) = is_clean d
 is_clean_answer (Created id) = true
 is_clean_answer Accepted = true
 
--- there is no body, or it is the JSON of a value in which no member at any depth is named `bto` or `bcc`
+-- there is no body, or it is the JSON of a value in which no member at any depth is named `bto` or
+-- `bcc`
 abbrev pub IsCleanBody : List ℕ → Type 0
 IsCleanBody body = (body ≡ []) ⊎ ((d : Data) × (is_clean d ≡ true) × (body ≡ compact_text d))

@@ -1,16 +1,20 @@
--- The JSON of actors (ActivityPub, section 4.1), of WebFinger (RFC 7033, section 4.4) and of collections and their pages
--- (ActivityPub, section 5; ActivityStreams 2.0 Core, section 5).
-use Rattle.std.specs.Prelude.{ℕ, zero, suc, ◌+◌, ◌==◌, true, false, ◌||◌, nat_le, List, [], ◌∷◌, ◌++◌, length, codes, decimal, if◌then◌else◌}
-use Rattle.serde_json.specs.Data.{Data, unsigned, number, string, array, object, Members, no_members, put}
+-- The JSON of actors (ActivityPub, section 4.1), of WebFinger (RFC 7033, section 4.4) and of
+-- collections and their pages (ActivityPub, section 5; ActivityStreams 2.0 Core, section 5).
+use Rattle.std.specs.Prelude.{ℕ, zero, suc, ◌+◌, ◌==◌, true, false, ◌||◌, nat_le, List, [], ◌∷◌}
+use Rattle.std.specs.Prelude.{◌++◌, length, codes, decimal, if◌then◌else◌}
+use Rattle.serde_json.specs.Data.{Data, unsigned, number, string, array, object, Members}
+use Rattle.serde_json.specs.Data.{no_members, put}
 use Rattle.serde_json.specs.View.{items_of}
 use Rattle.fedi_address.specs.Recipients.{is_among}
 use Rattle.fedi_objects.specs.Forms.{activity_form, with_context}
 use Rattle.fedi_town.specs.declared.act.Act.{Act}
 use Rattle.fedi_town.specs.declared.caller.Which.{Which}
-use Rattle.fedi_town.specs.declared.caller.Which.TheVariants.{Inbox, Outbox, Followers, Following, Liked, Likes, Shares}
+use Rattle.fedi_town.specs.declared.caller.Which.TheVariants.{Inbox, Outbox, Followers, Following}
+use Rattle.fedi_town.specs.declared.caller.Which.TheVariants.{Liked, Likes, Shares}
 use Rattle.fedi_town.specs.Addressing.{is_of_town}
 use Rattle.fedi_town.specs.Collections.{highest, object_key, text_of}
-use Rattle.fedi_town.specs.Ids.{actor_id, inbox_id, outbox_id, followers_id, following_id, liked_id, likes_id, shares_id}
+use Rattle.fedi_town.specs.Ids.{actor_id, inbox_id, outbox_id, followers_id, following_id, liked_id}
+use Rattle.fedi_town.specs.Ids.{likes_id, shares_id}
 use Rattle.fedi_town.specs.Showing.{shown_activity}
 use Rattle.fedi_town.specs.Towns.{Town}
 
@@ -40,7 +44,8 @@ self_link id =
 
 -- the links of the relations that are asked for, or all where none is (RFC 7033, section 4.3)
 abbrev pub links_of : List ℕ → List (List ℕ) → List Data
-links_of id rels = if length rels == 0 || is_among (codes "self") rels then self_link id ∷ [] else []
+links_of id rels =
+    if length rels == 0 || is_among (codes "self") rels then self_link id ∷ [] else []
 
 -- a member as WebFinger describes it (RFC 7033, section 4.4)
 unfoldable pub jrd_form : List ℕ → List ℕ → List (List ℕ) → Data
@@ -85,13 +90,15 @@ page_id id k = id ++ (codes "?page=" ++ decimal k)
 abbrev pub with_ends : List ℕ → ℕ → Members → Members
 with_ends id zero ms = ms
 with_ends id (suc n) ms =
-    put (codes "first") (string (page_id id (highest (suc n)))) (put (codes "last") (string (page_id id 0)) ms)
+    put (codes "first") (string (page_id id (highest (suc n))))
+    (put (codes "last") (string (page_id id 0)) ms)
 
 -- a collection without its items
 unfoldable pub summary_form : List ℕ → ℕ → Data
 summary_form id total =
     object (with_context true (put (codes "id") (string id) (with_ends id total
-    (put (codes "totalItems") (number (unsigned total)) (put (codes "type") (string (codes "OrderedCollection")) no_members)))))
+    (put (codes "totalItems") (number (unsigned total))
+    (put (codes "type") (string (codes "OrderedCollection")) no_members)))))
 
 -- the members, with the page of older items
 abbrev pub with_next : List ℕ → ℕ → Members → Members
@@ -100,11 +107,13 @@ with_next id (suc k) ms = put (codes "next") (string (page_id id k)) ms
 
 -- the members, with the page of newer items
 abbrev pub with_prev : List ℕ → ℕ → ℕ → Members → Members
-with_prev id k top ms = if nat_le (k + 1) top then put (codes "prev") (string (page_id id (k + 1))) ms else ms
+with_prev id k top ms =
+    if nat_le (k + 1) top then put (codes "prev") (string (page_id id (k + 1))) ms else ms
 
 -- a page of a collection of so many items
 unfoldable pub page_form : List ℕ → ℕ → ℕ → List Data → Data
 page_form id k total ds =
     object (with_context true (put (codes "id") (string (page_id id k)) (with_next id k
     (put (codes "orderedItems") (array (items_of ds)) (put (codes "partOf") (string id)
-    (with_prev id k (highest total) (put (codes "type") (string (codes "OrderedCollectionPage")) no_members)))))))
+    (with_prev id k (highest total)
+    (put (codes "type") (string (codes "OrderedCollectionPage")) no_members)))))))

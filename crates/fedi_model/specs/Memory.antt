@@ -1,17 +1,23 @@
 -- Which callers take memory to be found, and which asks to be answered.
-use Rattle.std.specs.Prelude.{ℕ, List, Bool, true, false, not, ◌||◌, Option, None, Some, Result, Ok, Err}
+use Rattle.std.specs.Prelude.{ℕ, List, Bool, true, false, not, ◌||◌, Option, None, Some, Result, Ok}
+use Rattle.std.specs.Prelude.{Err}
 use Rattle.fedi_model.specs.declared.ask.Ask.{Ask}
-use Rattle.fedi_model.specs.declared.ask.Ask.TheVariants.{Nowhere, WrongMethod, Webfinger, Actor, Collection, Activity, Object, Outbox, Inbox}
+use Rattle.fedi_model.specs.declared.ask.Ask.TheVariants.{Nowhere, WrongMethod, Webfinger, Actor}
+use Rattle.fedi_model.specs.declared.ask.Ask.TheVariants.{Collection, Activity, Object, Outbox}
+use Rattle.fedi_model.specs.declared.ask.Ask.TheVariants.{Inbox}
 use Rattle.fedi_model.specs.declared.ask.PageAsk.{PageAsk}
 use Rattle.fedi_model.specs.declared.post.Post.{Post}
-use Rattle.fedi_model.specs.AnswerKinds.{Answer, Refuse, Misshape, Disallow, Document, Profile, Tombstone, Created, Accepted}
+use Rattle.fedi_model.specs.AnswerKinds.{Answer, Refuse, Misshape, Disallow, Document, Profile}
+use Rattle.fedi_model.specs.AnswerKinds.{Tombstone, Created, Accepted}
 use Rattle.fedi_model.specs.Asks.{answer_of}
 use Rattle.fedi_model.specs.Posting.{Judgement, Stop, Repeat, Keep, judge_inbox}
 use Rattle.fedi_model.specs.Reading.{is_malformed, is_peer}
 use Rattle.fedi_town.specs.declared.refusal.Refusal.{Refusal}
 use Rattle.fedi_town.specs.declared.caller.Caller.{Caller}
 use Rattle.fedi_town.specs.declared.caller.Which.{Which}
-use Rattle.fedi_town.specs.declared.caller.Which.TheVariants.{Inbox as inbox, Outbox as outbox, Followers, Following, Liked, Likes, Shares}
+use Rattle.fedi_town.specs.declared.caller.Which.TheVariants.{Inbox as inbox, Outbox as outbox}
+use Rattle.fedi_town.specs.declared.caller.Which.TheVariants.{Followers, Following, Liked, Likes}
+use Rattle.fedi_town.specs.declared.caller.Which.TheVariants.{Shares}
 use Rattle.fedi_town.specs.Towns.{Town, id_of}
 
 -- the caller is a peer, whose host is copied
@@ -30,7 +36,8 @@ is_refused (Tombstone d) = false
 is_refused (Created id) = false
 is_refused Accepted = false
 
--- the Likes or the Announces of an object, whose id is made to find it, unless the page is no number
+-- the Likes or the Announces of an object, whose id is made to find it, unless the page is no
+-- number
 abbrev pub finds_marked : Which → PageAsk → Bool
 finds_marked (inbox name) part = false
 finds_marked (outbox name) part = false
@@ -51,13 +58,15 @@ abbrev pub keeps_delivery : Town → Caller → Post → Option (List ℕ) → B
 keeps_delivery t c post None = false
 keeps_delivery t c post (Some owner) = is_kept (judge_inbox t c owner post)
 
--- The answer takes memory: an id is made to find what is asked for, or it is not refused. A delivery takes memory for its entry alone.
+-- The answer takes memory: an id is made to find what is asked for, or it is not refused. A
+-- delivery takes memory for its entry alone.
 abbrev pub takes_memory : Town → Caller → Ask → Bool
 takes_memory t c Nowhere = false
 takes_memory t c (WrongMethod allow) = false
 takes_memory t c (Webfinger resource) = not (is_refused (answer_of t c (Webfinger resource)))
 takes_memory t c (Actor name) = not (is_refused (answer_of t c (Actor name)))
-takes_memory t c (Collection which part) = finds_marked which part || not (is_refused (answer_of t c (Collection which part)))
+takes_memory t c (Collection which part) =
+    finds_marked which part || not (is_refused (answer_of t c (Collection which part)))
 takes_memory t c (Activity name number) = true
 takes_memory t c (Object name number) = true
 takes_memory t c (Outbox name post) = not (is_refused (answer_of t c (Outbox name post)))

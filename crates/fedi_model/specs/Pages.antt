@@ -9,7 +9,8 @@ use Rattle.fedi_model.specs.Queries.{values_of}
 
 -- the number of a page is written with 1 to 10 digits
 abbrev pub is_page_number : List ℕ → Bool
-is_page_number text = nat_le 1 (length text) && nat_le (length text) 10 && list_all is_ascii_digit text
+is_page_number text =
+    nat_le 1 (length text) && nat_le (length text) 10 && list_all is_ascii_digit text
 
 -- the page of the number that the text writes
 abbrev pub page_of_text : List ℕ → PageAsk

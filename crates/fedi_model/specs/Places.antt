@@ -1,5 +1,5 @@
--- The paths of the server (RFC 3986, section 3.3), and the methods that each has (RFC 9110, section 9.1). Paths are compared byte
--- for byte and never decoded.
+-- The paths of the server (RFC 3986, section 3.3), and the methods that each has (RFC 9110, section
+-- 9.1). Paths are compared byte for byte and never decoded.
 use Rattle.std.specs.Prelude.{◌≡◌, ℕ, ◌≤◌, ◌<◌, ◌^◌, List, codes, IsTrue}
 use Rattle.fedi_address.specs.Names.{is_name}
 use Rattle.fedi_model.specs.declared.ask.Allow.{Allow}
@@ -10,7 +10,8 @@ use Rattle.fedi_town.specs.Ids.{actor_path, activity_path, object_path}
 use Rattle.fedi_town.specs.declared.caller.Which.{Which}
 use Rattle.fedi_town.specs.declared.caller.Which.TheVariants.{Inbox, Outbox, Likes, Shares}
 use Rattle.fedi_model.specs.declared.place.Place.{Place}
-use Rattle.fedi_model.specs.declared.place.Place.TheVariants.{Webfinger, Actor, Collection, Activity, Object}
+use Rattle.fedi_model.specs.declared.place.Place.TheVariants.{Webfinger, Actor, Collection}
+use Rattle.fedi_model.specs.declared.place.Place.TheVariants.{Activity, Object}
 
 -- a number that activities may have
 abbrev pub IsNumber : ℕ → Type 0
@@ -49,7 +50,8 @@ pub record LeadsTo (path : List ℕ) (place : Place) : Type 0 where
   pub there : IsPlace place
   pub spelled : path ≡ place_path place
 
--- the methods of the place: all are read, and an outbox and an inbox are posted to (ActivityPub, sections 3.2, 6 and 7)
+-- the methods of the place: all are read, and an outbox and an inbox are posted to (ActivityPub,
+-- sections 3.2, 6 and 7)
 abbrev pub allow_of : Place → Allow
 allow_of (Collection (Outbox name)) = GetHeadPost
 allow_of (Collection (Inbox name)) = GetHeadPost

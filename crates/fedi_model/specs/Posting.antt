@@ -1,9 +1,13 @@
--- What becomes of a post to an outbox (ActivityPub, section 6) and of a delivery to an inbox (section 7).
-use Rattle.std.specs.Prelude.{ℕ, ◌+◌, Bool, true, false, not, List, Option, Some, None, option_map, if◌then◌else◌}
+-- What becomes of a post to an outbox (ActivityPub, section 6) and of a delivery to an inbox
+-- (section 7).
+use Rattle.std.specs.Prelude.{ℕ, ◌+◌, Bool, true, false, not, List, Option, Some, None, option_map}
+use Rattle.std.specs.Prelude.{if◌then◌else◌}
 use Rattle.std.specs.List.{find}
 use Rattle.std.specs.Str.{bytes_eq}
 use Rattle.fedi_town.specs.declared.refusal.Refusal.{Refusal}
-use Rattle.fedi_town.specs.declared.refusal.Refusal.TheVariants.{NotFound, BadQuery, NoKey, NotOwner, WrongType, BadBody, KeyReused, NotOrigin}
+use Rattle.fedi_town.specs.declared.refusal.Refusal.TheVariants.{NotFound, BadQuery, NoKey}
+use Rattle.fedi_town.specs.declared.refusal.Refusal.TheVariants.{NotOwner, WrongType, BadBody}
+use Rattle.fedi_town.specs.declared.refusal.Refusal.TheVariants.{KeyReused, NotOrigin}
 use Rattle.fedi_objects.specs.declared.activity.Activity.{Activity}
 use Rattle.fedi_objects.specs.declared.entry.Entry.{Entry}
 use Rattle.fedi_objects.specs.declared.entry.Entry.TheVariants.{Local, Remote}
@@ -36,8 +40,8 @@ abbrev pub unless_broken : Option Refusal → Judgement → Judgement
 unless_broken None j = j
 unless_broken (Some r) j = Stop (Refuse r)
 
--- the steps before a body is looked at, in their order: the key, whether somebody is known, whether that is who may post
--- here, and the media type
+-- the steps before a body is looked at, in their order: the key, whether somebody is known, whether
+-- that is who may post here, and the media type
 abbrev pub by_steps : Bool → Bool → Bool → Bool → Judgement → Judgement
 by_steps bad_key nobody allowed typed j =
     if bad_key then Stop (Refuse BadQuery) else (
@@ -58,37 +62,46 @@ is_bad_key Malformed = true
 is_bad_key (Given key) = false
 
 -- of the author's keys with digests and ids the one that is asked under
-abbrev pub repeat_under : List ((List ℕ × List ℕ) × Option (List ℕ)) → KeyAsk → Option ((List ℕ × List ℕ) × Option (List ℕ))
+abbrev pub repeat_under : List ((List ℕ × List ℕ) × Option (List ℕ)) → KeyAsk
+    → Option ((List ℕ × List ℕ) × Option (List ℕ))
 repeat_under rs Absent = None
 repeat_under rs Malformed = None
 repeat_under rs (Given key) = find (λ r. bytes_eq r.0.0 key) rs
 
--- a post under a key that is kept is the repeat of the one with the same body, and with another body refused
-abbrev pub unless_repeat : List ℕ → Option ((List ℕ × List ℕ) × Option (List ℕ)) → Judgement → Judgement
+-- a post under a key that is kept is the repeat of the one with the same body, and with another
+-- body refused
+abbrev pub unless_repeat : List ℕ → Option ((List ℕ × List ℕ) × Option (List ℕ))
+    → Judgement → Judgement
 unless_repeat digest None j = j
-unless_repeat digest (Some k) j = if bytes_eq k.0.1 digest then Repeat k.1 else Stop (Refuse KeyReused)
+unless_repeat digest (Some k) j =
+    if bytes_eq k.0.1 digest then Repeat k.1 else Stop (Refuse KeyReused)
 
 -- what was read of the author's post
 abbrev pub judge_read : Town → Caller → List ℕ → Post → Read → Judgement
 judge_read t c author post NotJson = Stop (Refuse BadBody)
 judge_read t c author post (Bad fault) = Stop (Misshape fault)
-judge_read t c author post (Ready a) = unless_repeat post.digest (repeat_under (repeats_of t author) post.key) (judge_activity t c author a)
+judge_read t c author post (Ready a) =
+    unless_repeat post.digest (repeat_under (repeats_of t author) post.key)
+    (judge_activity t c author a)
 
 -- the post at this name, of the author with this id
 abbrev pub judge_post : Town → Caller → List ℕ → List ℕ → Post → Judgement
 judge_post t c name author post =
-    by_steps (is_bad_key post.key) (is_nobody c) (is_self c name) post.is_typed (judge_read t c author post post.read)
+    by_steps (is_bad_key post.key) (is_nobody c) (is_self c name) post.is_typed
+    (judge_read t c author post post.read)
 
 -- the answer to a member's post: the id of what it made, now or earlier (ActivityPub, section 6)
 abbrev pub answer_post : Town → List ℕ → List ℕ → Judgement → Answer
 answer_post t name author (Stop a) = a
 answer_post t name author (Repeat id) = Created id
-answer_post t name author (Keep a) = Created (option_map (λ host. activity_id host name (count_of t author + 1)) t.host)
+answer_post t name author (Keep a) =
+    Created (option_map (λ host. activity_id host name (count_of t author + 1)) t.host)
 
 -- the answer to a post at a name, whose member was found or not
 abbrev pub post_answer : Town → Caller → List ℕ → Post → Option (List ℕ) → Answer
 post_answer t c name post None = Refuse NotFound
-post_answer t c name post (Some author) = answer_post t name author (judge_post t c name author post)
+post_answer t c name post (Some author) =
+    answer_post t name author (judge_post t c name author post)
 
 -- ---- a delivery
 
@@ -98,7 +111,8 @@ judge_delivery host None there read = Stop (Refuse NotOwner)
 judge_delivery host (Some p) there NotJson = Stop (Refuse BadBody)
 judge_delivery host (Some p) there (Bad fault) = Stop (Misshape fault)
 judge_delivery host (Some p) there (Ready a) =
-    if is_foreign host p a.actor a.id a.object then Stop (Refuse NotOrigin) else (if there then Repeat None else Keep a)
+    if is_foreign host p a.actor a.id a.object then Stop (Refuse NotOrigin)
+    else (if there then Repeat None else Keep a)
 
 -- the activity that was read goes to this owner's inbox already
 abbrev pub is_there : Town → List ℕ → Read → Bool
@@ -109,7 +123,8 @@ is_there t owner (Ready a) = has_inbox t a.id owner
 -- the delivery to this owner's inbox
 abbrev pub judge_inbox : Town → Caller → List ℕ → Post → Judgement
 judge_inbox t c owner post =
-    by_steps false (is_nobody c) (is_peer c) post.is_typed (judge_delivery t.host (peer_of t c) (is_there t owner post.read) post.read)
+    by_steps false (is_nobody c) (is_peer c) post.is_typed
+    (judge_delivery t.host (peer_of t c) (is_there t owner post.read) post.read)
 
 -- the answer to a delivery, which does not tell whether the activity was known
 abbrev pub answer_delivery : Judgement → Answer
@@ -139,7 +154,8 @@ post_entry name post moment (Keep a) = Some (Local name (repeat_by post.digest p
 -- the entry of a post at a name, whose member was found or not
 abbrev pub entry_at : Town → Caller → List ℕ → Post → ℕ → Option (List ℕ) → Option Entry
 entry_at t c name post moment None = None
-entry_at t c name post moment (Some author) = post_entry name post moment (judge_post t c name author post)
+entry_at t c name post moment (Some author) =
+    post_entry name post moment (judge_post t c name author post)
 
 -- the entry of this caller's delivery
 abbrev pub delivery_of : Caller → List ℕ → Activity → ℕ → Option Entry
@@ -156,4 +172,5 @@ inbox_entry c name moment (Keep a) = delivery_of c name a moment
 -- the entry of a delivery to an inbox, whose owner was found or not
 abbrev pub inbox_entry_at : Town → Caller → List ℕ → Post → ℕ → Option (List ℕ) → Option Entry
 inbox_entry_at t c name post moment None = None
-inbox_entry_at t c name post moment (Some owner) = inbox_entry c name moment (judge_inbox t c owner post)
+inbox_entry_at t c name post moment (Some owner) =
+    inbox_entry c name moment (judge_inbox t c owner post)

@@ -1,16 +1,20 @@
--- What a reader is answered (ActivityPub, sections 3.2 and 5). What the reader does not see is missing to the reader.
-use Rattle.std.specs.Prelude.{ℕ, Bool, true, false, nat_le, List, map, length, Option, Some, None, if◌then◌else◌}
+-- What a reader is answered (ActivityPub, sections 3.2 and 5). What the reader does not see is
+-- missing to the reader.
+use Rattle.std.specs.Prelude.{ℕ, Bool, true, false, nat_le, List, map, length, Option, Some, None}
+use Rattle.std.specs.Prelude.{if◌then◌else◌}
 use Rattle.std.specs.Str.{bytes_eq}
 use Rattle.serde_json.specs.Data.{Data}
 use Rattle.fedi_town.specs.declared.refusal.Refusal.{Refusal}
-use Rattle.fedi_town.specs.declared.refusal.Refusal.TheVariants.{NotFound, BadQuery, NoKey, NotOwner, Gone}
+use Rattle.fedi_town.specs.declared.refusal.Refusal.TheVariants.{NotFound, BadQuery, NoKey}
+use Rattle.fedi_town.specs.declared.refusal.Refusal.TheVariants.{NotOwner, Gone}
 use Rattle.fedi_objects.specs.declared.object.Object.{Object}
 use Rattle.fedi_objects.specs.Forms.{activity_form, object_form, is_tombstone}
 use Rattle.fedi_town.specs.declared.act.Act.{Act}
 use Rattle.fedi_town.specs.declared.caller.Caller.{Caller}
 use Rattle.fedi_town.specs.declared.caller.Caller.TheVariants as callers
 use Rattle.fedi_town.specs.declared.caller.Which.{Which}
-use Rattle.fedi_town.specs.declared.caller.Which.TheVariants.{Inbox, Outbox, Followers, Following, Liked, Likes, Shares}
+use Rattle.fedi_town.specs.declared.caller.Which.TheVariants.{Inbox, Outbox, Followers, Following}
+use Rattle.fedi_town.specs.declared.caller.Which.TheVariants.{Liked, Likes, Shares}
 use Rattle.fedi_town.specs.Addressing.{is_of_town}
 use Rattle.fedi_town.specs.Collections.{items, owner_of, highest, page_of}
 use Rattle.fedi_town.specs.Objects.{is_deleted, whole_of}
@@ -20,8 +24,10 @@ use Rattle.fedi_town.specs.Towns.{Town, id_of}
 use Rattle.fedi_model.specs.declared.ask.PageAsk.{PageAsk}
 use Rattle.fedi_model.specs.declared.ask.PageAsk.TheVariants.{Summary, Page, Malformed}
 use Rattle.fedi_model.specs.declared.ask.Resource.{Resource}
-use Rattle.fedi_model.specs.AnswerKinds.{Answer, Refuse, Document, Profile, Tombstone, unless_refused}
-use Rattle.fedi_model.specs.Documents.{actor_form, jrd_form, item_form, collection_id, summary_form, page_form}
+use Rattle.fedi_model.specs.AnswerKinds.{Answer, Refuse, Document, Profile, Tombstone}
+use Rattle.fedi_model.specs.AnswerKinds.{unless_refused}
+use Rattle.fedi_model.specs.Documents.{actor_form, jrd_form, item_form, collection_id, summary_form}
+use Rattle.fedi_model.specs.Documents.{page_form}
 
 -- ---- callers
 
@@ -71,7 +77,8 @@ webfinger_answer t (Some r) = resource_answer t r.name r.rels
 
 -- the document of an activity (ActivityPub, section 3.2)
 unfoldable pub activity_document : Town → Act → Answer
-activity_document t x = Document (activity_form (is_of_town t.host x.author) true x.author (shown_activity t x))
+activity_document t x =
+    Document (activity_form (is_of_town t.host x.author) true x.author (shown_activity t x))
 
 -- the document of the activity that was found, or that there is none
 abbrev pub activity_or_missing : Town → Option Act → Answer
@@ -86,7 +93,9 @@ activity_answer t c (Some id) = activity_or_missing t (seen_act t c id)
 -- the document of an object, or what is left of it (ActivityPub, section 6.4)
 abbrev pub object_document : Option Object → Answer
 object_document None = Refuse NotFound
-object_document (Some o) = if is_tombstone o then Tombstone (object_form true true o) else Document (object_form true true o)
+object_document (Some o) =
+    if is_tombstone o then Tombstone (object_form true true o)
+    else Document (object_form true true o)
 
 -- the document of the object that the activity made
 unfoldable pub maker_document : Town → Act → Answer
@@ -116,7 +125,8 @@ name_of (Shares name n) = name
 
 -- an inbox is read by its owner alone (ActivityPub, section 5.2)
 abbrev pub reading_rule : Caller → Which → Option Refusal
-reading_rule c (Inbox name) = if is_nobody c then Some NoKey else (if is_self c name then None else Some NotOwner)
+reading_rule c (Inbox name) =
+    if is_nobody c then Some NoKey else (if is_self c name then None else Some NotOwner)
 reading_rule c (Outbox name) = None
 reading_rule c (Followers name) = None
 reading_rule c (Following name) = None
@@ -139,23 +149,26 @@ object_rule t c (Liked name) id = None
 object_rule t c (Likes name n) id = marks_rule (seen_maker t c id)
 object_rule t c (Shares name n) id = marks_rule (seen_maker t c id)
 
--- the part that is asked for, of the collection of this id with so many items, where `at` gives those of a page; a page
--- above the highest is missing
+-- the part that is asked for, of the collection of this id with so many items, where `at` gives
+-- those of a page; a page above the highest is missing
 abbrev pub part_answer : PageAsk → List ℕ → ℕ → (ℕ → List Data) → Answer
 part_answer Summary id total at = Document (summary_form id total)
-part_answer (Page k) id total at = if nat_le k (highest total) then Document (page_form id k total (at k)) else Refuse NotFound
+part_answer (Page k) id total at =
+    if nat_le k (highest total) then Document (page_form id k total (at k)) else Refuse NotFound
 part_answer Malformed id total at = Refuse BadQuery
 
 -- the part that is asked for, of what the caller sees of the owner's collection
 unfoldable pub items_answer : Town → Caller → Which → List ℕ → PageAsk → Answer
 items_answer t c which id ask =
-    part_answer ask (collection_id which id) (length (items t c which id)) (λ k. map (item_form t which) (page_of k (items t c which id)))
+    part_answer ask (collection_id which id) (length (items t c which id))
+    (λ k. map (item_form t which) (page_of k (items t c which id)))
 
 -- the same, where there is such an owner and the rules hold
 abbrev pub owner_answer : Town → Caller → Which → PageAsk → Option (List ℕ) → Answer
 owner_answer t c which ask None = Refuse NotFound
 owner_answer t c which ask (Some id) =
-    unless_refused (reading_rule c which) (unless_refused (object_rule t c which id) (items_answer t c which id ask))
+    unless_refused (reading_rule c which)
+    (unless_refused (object_rule t c which id) (items_answer t c which id ask))
 
 -- no page is asked for by what is no number
 abbrev pub is_malformed : PageAsk → Bool

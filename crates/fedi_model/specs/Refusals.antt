@@ -1,9 +1,36 @@
 -- What a reply says of each reason for a refusal.
 use Rattle.std.specs.Prelude.{ℕ, List, ◌++◌, codes}
 use Rattle.fedi_town.specs.declared.refusal.Refusal.{Refusal}
-use Rattle.fedi_town.specs.declared.refusal.Refusal.TheVariants.{BadHead, BadBody, BadQuery, NoKey, WrongKey, WrongMac, NotOwner, Blocked, NotOrigin, NotPublic, NotFound, WrongMethod, KeyReused, NotStanding, Gone, NoLength, TooLong, WrongType, BadShape, HeadTooLong, NoCoding, ActorFull, KeeperFault, Memory, JournalFull}
+use Rattle.fedi_town.specs.declared.refusal.Refusal.TheVariants.{
+  BadHead,
+  BadBody,
+  BadQuery,
+  NoKey,
+  WrongKey,
+  WrongMac,
+  NotOwner,
+  Blocked,
+  NotOrigin,
+  NotPublic,
+  NotFound,
+  WrongMethod,
+  KeyReused,
+  NotStanding,
+  Gone,
+  NoLength,
+  TooLong,
+  WrongType,
+  BadShape,
+  HeadTooLong,
+  NoCoding,
+  ActorFull,
+  KeeperFault,
+  Memory,
+  JournalFull,
+}
 
--- the status code (RFC 9110, section 15; RFC 6585, section 5 for 431; RFC 4918, section 11 for 422 and 507)
+-- the status code (RFC 9110, section 15; RFC 6585, section 5 for 431; RFC 4918, section 11 for 422
+-- and 507)
 abbrev pub status_of : Refusal → ℕ
 status_of BadHead = 400
 status_of BadBody = 400

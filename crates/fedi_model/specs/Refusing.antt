@@ -9,7 +9,8 @@ use Rattle.fedi_model.specs.Refusals.{refusal_body, status_of}
 
 -- a reply that tells in JSON what is wrong
 abbrev pub telling : ℕ → List ℕ → Reply
-telling status body = record { status = status; form = forms.Json; location = None; allow = None; body = body }
+telling status body =
+    record { status = status; form = forms.Json; location = None; allow = None; body = body }
 
 -- the reply to what is refused
 abbrev pub refused : Refusal → Reply

@@ -4,7 +4,8 @@ use Rattle.serde_json.specs.Data.{Data}
 use Rattle.serde_json.specs.Written.{compact_text}
 use Rattle.fedi_model.specs.declared.ask.Allow.{Allow}
 use Rattle.fedi_model.specs.declared.ask.Ask.{Ask}
-use Rattle.fedi_model.specs.AnswerKinds.{Answer, Refuse, Misshape, Disallow, Document, Profile, Tombstone, Created, Accepted}
+use Rattle.fedi_model.specs.AnswerKinds.{Answer, Refuse, Misshape, Disallow, Document, Profile}
+use Rattle.fedi_model.specs.AnswerKinds.{Tombstone, Created, Accepted}
 use Rattle.fedi_model.specs.Asks.{answer_of}
 use Rattle.fedi_objects.specs.declared.entry.Entry.{Entry}
 use Rattle.fedi_town.specs.declared.caller.Caller.{Caller}
@@ -24,16 +25,19 @@ disallowed allow = record (refused WrongMethod) { allow = Some allow }
 
 -- a document of this media type, with this status
 abbrev pub showing : ℕ → Form → Data → Reply
-showing status form d = record { status = status; form = form; location = None; allow = None; body = compact_text d }
+showing status form d =
+    record { status = status; form = form; location = None; allow = None; body = compact_text d }
 
 -- no document, with this status
 abbrev pub without_body : ℕ → Option (List ℕ) → Reply
-without_body status location = record { status = status; form = forms.None; location = location; allow = None; body = [] }
+without_body status location =
+    record { status = status; form = forms.None; location = location; allow = None; body = [] }
 
--- The answer as a reply: a document (RFC 9110, section 15.3.1; as ActivityStreams, ActivityPub, section 3.2, or as JRD,
--- RFC 7033, section 10.2); what is left of what was deleted (RFC 9110, section 15.5.11; ActivityPub, section 6.4); where
--- the thing that was made stands (RFC 9110, sections 10.2.2 and 15.3.2; ActivityPub, section 6); or that a delivery was
--- taken (RFC 9110, section 15.3.3).
+-- The answer as a reply: a document (RFC 9110, section 15.3.1; as ActivityStreams, ActivityPub,
+-- section 3.2, or as JRD, RFC 7033, section 10.2); what is left of what was deleted (RFC 9110,
+-- section 15.5.11; ActivityPub, section 6.4); where the thing that was made stands (RFC 9110,
+-- sections 10.2.2 and 15.3.2; ActivityPub, section 6); or that a delivery was taken (RFC 9110,
+-- section 15.3.3).
 abbrev pub reply_of : Answer → Reply
 reply_of (Refuse r) = refused r
 reply_of (Misshape fault) = misshapen fault
@@ -50,4 +54,5 @@ reply t c ask = reply_of (answer_of t c ask)
 
 -- the reply is that of each legal history that agrees with this one for the caller
 abbrev pub IsPrivate : List Entry → Caller → Ask → Reply → Type 0
-IsPrivate history c ask r = (g : List Entry) → IsLegal g → Agree (town g) (town history) c → reply (town g) c ask ≡ r
+IsPrivate history c ask r =
+    (g : List Entry) → IsLegal g → Agree (town g) (town history) c → reply (town g) c ask ≡ r

@@ -1,5 +1,6 @@
 -- The text of a reply (RFC 9112, section 4). Its lines end in CR LF.
-use Rattle.std.specs.Prelude.{ℕ, Bool, true, false, ◌&&◌, ◌==◌, List, [], ◌++◌, length, codes, decimal, Option, Some, None, unwrap_or, if◌then◌else◌}
+use Rattle.std.specs.Prelude.{ℕ, Bool, true, false, ◌&&◌, ◌==◌, List, [], ◌++◌, length, codes}
+use Rattle.std.specs.Prelude.{decimal, Option, Some, None, unwrap_or, if◌then◌else◌}
 use Rattle.http.specs.StatusCode.{reason_phrase}
 use Rattle.fedi_text.specs.Dates.{http_date_text}
 use Rattle.fedi_model.specs.declared.ask.Allow.{Allow}
@@ -14,7 +15,8 @@ reason_of status = unwrap_or (reason_phrase status) (codes "<unknown status code
 
 -- the status line (RFC 9112, section 4)
 unfoldable pub status_line : ℕ → List ℕ
-status_line status = codes "HTTP/1.1 " ++ (decimal status ++ (codes " " ++ (reason_of status ++ codes "\r\n")))
+status_line status =
+    codes "HTTP/1.1 " ++ (decimal status ++ (codes " " ++ (reason_of status ++ codes "\r\n")))
 
 -- when the reply was made (RFC 9110, section 6.6.1)
 unfoldable pub date_line : ℕ → List ℕ
@@ -44,7 +46,8 @@ is_jrd Json = false
 
 -- a JRD may be read from each site (RFC 7033, section 5; Fetch Standard, section 3.3)
 unfoldable pub origin_line : Form → ℕ → List ℕ
-origin_line form status = if is_jrd form && status == 200 then codes "Access-Control-Allow-Origin: *\r\n" else []
+origin_line form status =
+    if is_jrd form && status == 200 then codes "Access-Control-Allow-Origin: *\r\n" else []
 
 -- the media type (RFC 9110, section 8.3)
 abbrev pub type_of : Form → List ℕ
@@ -90,6 +93,8 @@ reply_text moment head_only closing r =
     ++ (codes "\r\n"
     ++ body_text head_only r.body)))
 
--- the reply of a server that is out of memory (RFC 4918, section 11.5), of which no part is computed
+-- the reply of a server that is out of memory (RFC 4918, section 11.5), of which no part is
+-- computed
 unfoldable pub memory_text : List ℕ
-memory_text = codes "HTTP/1.1 507 Insufficient Storage\r\nContent-Length: 0\r\nConnection: close\r\n\r\n"
+memory_text =
+    codes "HTTP/1.1 507 Insufficient Storage\r\nContent-Length: 0\r\nConnection: close\r\n\r\n"

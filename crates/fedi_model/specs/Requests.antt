@@ -1,5 +1,9 @@
--- What the head of a request asks, and which requests are served (RFC 9112, sections 2 to 6 and 9; RFC 9110, sections 5 and 7 to 9).
-use Rattle.std.specs.Prelude.{◌≡◌, ℕ, ◌≤◌, ◌<◌, ◌-◌, Bool, true, not, ◌&&◌, ◌||◌, ◌==◌, nat_eq, nat_le, List, [], length, take, drop, map, find, count_by, codes, bytes_eq, Option, Some, None, option_map, ◌⊎◌, if◌then◌else◌, Result, Ok, Err}
+-- What the head of a request asks, and which requests are served (RFC 9112, sections 2 to 6 and 9;
+-- RFC 9110, sections 5 and 7 to 9).
+use Rattle.std.specs.Prelude.{◌≡◌, ℕ, ◌≤◌, ◌<◌, ◌-◌, Bool, true, not, ◌&&◌, ◌||◌, ◌==◌, nat_eq}
+use Rattle.std.specs.Prelude.{nat_le, List, [], length, take, drop, map, find, count_by, codes}
+use Rattle.std.specs.Prelude.{bytes_eq, Option, Some, None, option_map, ◌⊎◌, if◌then◌else◌, Result}
+use Rattle.std.specs.Prelude.{Ok, Err}
 use Rattle.std.specs.List.{starts_with, list_any, slice_split, position_or_len, suffix_len}
 use Rattle.std.specs.Char.{to_ascii_lowercase}
 use Rattle.std.specs.Str.Parse.{digits_value}
@@ -8,7 +12,8 @@ use Rattle.httparse.specs.Spans.{name_and_value, header_bytes}
 use Rattle.httparse.specs.declared.spans.HeaderSpan.{HeaderSpan}
 use Rattle.fedi_text.specs.Decimals.{is_decimal}
 use Rattle.fedi_town.specs.declared.refusal.Refusal.{Refusal}
-use Rattle.fedi_town.specs.declared.refusal.Refusal.TheVariants.{BadHead, HeadTooLong, NoCoding, NoLength, TooLong}
+use Rattle.fedi_town.specs.declared.refusal.Refusal.TheVariants.{BadHead, HeadTooLong, NoCoding}
+use Rattle.fedi_town.specs.declared.refusal.Refusal.TheVariants.{NoLength, TooLong}
 use Rattle.fedi_model.specs.declared.request.Coding.{Coding}
 use Rattle.fedi_model.specs.declared.request.Coding.TheVariants.{Length, Chunked}
 use Rattle.fedi_model.specs.declared.request.Fields.{Fields}
@@ -21,7 +26,8 @@ IsHead most text h = ReadsRequest text h [] × (length h.fields ≤ most)
 
 -- ---- the fields
 
--- one field: its name as it was written, and its value without the white space around it (RFC 9110, sections 5.1 and 5.5)
+-- one field: its name as it was written, and its value without the white space around it (RFC 9110,
+-- sections 5.1 and 5.5)
 pub record Field : Type 0 where
   pub name : List ℕ
   pub value : List ℕ
@@ -64,7 +70,8 @@ is_single name fields = nat_le (count_named name fields) 1
 
 -- ---- the length of the body
 
--- a value that is there is one digit or more, of which there are so few that the number has 64 bits (RFC 9110, section 8.6)
+-- a value that is there is one digit or more, of which there are so few that the number has 64 bits
+-- (RFC 9110, section 8.6)
 abbrev pub is_length_if_any : Option (List ℕ) → Bool
 is_length_if_any None = true
 is_length_if_any (Some value) = is_decimal value
@@ -74,8 +81,8 @@ abbrev pub length_by : Option (List ℕ) → ℕ
 length_by None = 0
 length_by (Some value) = digits_value 10 value
 
--- how many bytes the body has that does not come in chunks: as many as `Content-Length` says, and none if it is missing
--- (RFC 9112, section 6.2)
+-- how many bytes the body has that does not come in chunks: as many as `Content-Length` says, and
+-- none if it is missing (RFC 9112, section 6.2)
 unfoldable pub body_length : List Field → ℕ
 body_length fields = length_by (field_value (codes "Content-Length") fields)
 
@@ -88,9 +95,11 @@ abbrev pub is_chunked_if_any : Option (List ℕ) → Bool
 is_chunked_if_any None = true
 is_chunked_if_any (Some value) = is_chunked value
 
--- how the end of the body is found: by its chunks if its transfer is coded, and else by its length (RFC 9112, section 6.3)
+-- how the end of the body is found: by its chunks if its transfer is coded, and else by its length
+-- (RFC 9112, section 6.3)
 unfoldable pub coding_of : List Field → Coding
-coding_of fields = if is_missing (codes "Transfer-Encoding") fields then Length (body_length fields) else Chunked
+coding_of fields =
+    if is_missing (codes "Transfer-Encoding") fields then Length (body_length fields) else Chunked
 
 -- the number of bytes that is told in front of the body, if it is
 abbrev pub length_in : Coding → ℕ
@@ -113,7 +122,9 @@ without_back_blanks text = take (length text - suffix_len is_blank text) text
 
 -- the element of a list is `close`, in any case (RFC 9110, sections 5.6.1 and 7.6.1)
 unfoldable pub is_close : List ℕ → Bool
-is_close element = bytes_eq (map to_ascii_lowercase (without_back_blanks (without_front_blanks element))) (codes "close")
+is_close element =
+    bytes_eq (map to_ascii_lowercase (without_back_blanks (without_front_blanks element)))
+    (codes "close")
 
 -- one of the elements between the commas is `close` (RFC 9110, section 5.6.1)
 unfoldable pub lists_close : List ℕ → Bool
@@ -197,7 +208,8 @@ has_single_content fields =
 -- no field is repeated that stands once at most
 unfoldable pub has_no_repeats : List Field → Bool
 has_no_repeats fields =
-    has_single_credentials fields && has_single_content fields && is_single (codes "Idempotency-Key") fields
+    has_single_credentials fields && has_single_content fields
+    && is_single (codes "Idempotency-Key") fields
 
 -- `Host` stands exactly once, unless the version is HTTP/1.0 (RFC 9112, section 3.2)
 abbrev pub has_host : ℕ → List Field → Bool
@@ -205,7 +217,8 @@ has_host minor fields = not (is_latest minor) || is_once (codes "Host") fields
 
 -- the body is not measured in both ways (RFC 9112, section 6.3)
 unfoldable pub has_one_measure : List Field → Bool
-has_one_measure fields = is_missing (codes "Content-Length") fields || is_missing (codes "Transfer-Encoding") fields
+has_one_measure fields =
+    is_missing (codes "Content-Length") fields || is_missing (codes "Transfer-Encoding") fields
 
 -- a `Content-Length` that is there is a number (RFC 9112, section 6.3)
 unfoldable pub has_plain_length : List Field → Bool
@@ -214,7 +227,8 @@ has_plain_length fields = is_length_if_any (field_value (codes "Content-Length")
 -- the fields are those of a good head of this version
 unfoldable pub has_served_fields : ℕ → List Field → Bool
 has_served_fields minor fields =
-    has_host minor fields && has_no_repeats fields && has_one_measure fields && has_plain_length fields
+    has_host minor fields && has_no_repeats fields && has_one_measure fields
+    && has_plain_length fields
 
 -- ---- why a head is refused
 
@@ -224,10 +238,12 @@ has_served_coding fields = is_chunked_if_any (field_value (codes "Transfer-Encod
 
 -- nothing says where the body ends
 abbrev pub has_no_measure : List Field → Bool
-has_no_measure fields = is_missing (codes "Content-Length") fields && is_missing (codes "Transfer-Encoding") fields
+has_no_measure fields =
+    is_missing (codes "Content-Length") fields && is_missing (codes "Transfer-Encoding") fields
 
--- why no body is read after the good fields of a request with this method: for its coding (RFC 9112, section 6.1), for want of
--- a length (RFC 9110, section 15.5.12), or for the length (RFC 9110, section 15.5.14)
+-- why no body is read after the good fields of a request with this method: for its coding (RFC
+-- 9112, section 6.1), for want of a length (RFC 9110, section 15.5.12), or for the length (RFC
+-- 9110, section 15.5.14)
 abbrev pub body_refusal : List ℕ → List Field → Option Refusal
 body_refusal method fields =
     if not (has_served_coding fields) then Some NoCoding
@@ -236,31 +252,40 @@ body_refusal method fields =
 
 -- why a request with this method and version is refused by its fields
 abbrev pub fields_refusal : List ℕ → ℕ → List Field → Option Refusal
-fields_refusal method minor fields = if has_served_fields minor fields then body_refusal method fields else Some BadHead
+fields_refusal method minor fields =
+    if has_served_fields minor fields then body_refusal method fields else Some BadHead
 
 -- why a request of these parts is refused
 abbrev pub refusal_with : List ℕ → List ℕ → ℕ → List Field → Option Refusal
-refusal_with method target minor fields = if is_served_target target then fields_refusal method minor fields else Some BadHead
+refusal_with method target minor fields =
+    if is_served_target target then fields_refusal method minor fields else Some BadHead
 
 -- why a head is refused, if it is
 abbrev pub head_refusal : RequestHead → Option Refusal
 head_refusal h = refusal_with h.method h.target h.minor (fields_of h)
 
--- how many lines stand between the first line of a head and the empty line that ends it: a line ends in LF
+-- how many lines stand between the first line of a head and the empty line that ends it: a line
+-- ends in LF
 unfoldable pub line_count : List ℕ → ℕ
 line_count text = count_by (λ byte. byte == 10) text - 2
 
--- what a text of few lines is read as: the request of the head that it is, or why that head is refused; what is no head is bad
+-- what a text of few lines is read as: the request of the head that it is, or why that head is
+-- refused; what is no head is bad
 abbrev pub ReadsHead : ℕ → List ℕ → Result Request Refusal → Type 0
-ReadsHead most text (Ok q) = (h : RequestHead) × IsHead most text h × (head_refusal h ≡ None) × (q ≡ request_of h)
+ReadsHead most text (Ok q) =
+    (h : RequestHead) × IsHead most text h × (head_refusal h ≡ None) × (q ≡ request_of h)
 ReadsHead most text (Err e) =
-    ((h : RequestHead) × IsHead most text h × (head_refusal h ≡ Some e)) ⊎ ((e ≡ BadHead) × ((h : RequestHead) → ¬ (IsHead most text h)))
+    ((h : RequestHead) × IsHead most text h × (head_refusal h ≡ Some e))
+    ⊎ ((e ≡ BadHead) × ((h : RequestHead) → ¬ (IsHead most text h)))
 
--- what a text is read as; with more than `most` lines it is too long, whatever they are (RFC 6585, section 5)
+-- what a text is read as; with more than `most` lines it is too long, whatever they are (RFC 6585,
+-- section 5)
 abbrev pub ReadsAs : ℕ → List ℕ → Result Request Refusal → Type 0
 ReadsAs most text outcome =
-    ((line_count text ≤ most) × ReadsHead most text outcome) ⊎ ((most < line_count text) × (outcome ≡ Err HeadTooLong))
+    ((line_count text ≤ most) × ReadsHead most text outcome)
+    ⊎ ((most < line_count text) × (outcome ≡ Err HeadTooLong))
 
 -- a text is read in one way at most
 abbrev pub IsReadOnce : ℕ → List ℕ → Type 0
-IsReadOnce most text = (a b : Result Request Refusal) → ReadsAs most text a → ReadsAs most text b → a ≡ b
+IsReadOnce most text =
+    (a b : Result Request Refusal) → ReadsAs most text a → ReadsAs most text b → a ≡ b

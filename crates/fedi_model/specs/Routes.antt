@@ -1,12 +1,17 @@
--- What a request asks for, by its path and then by its method (RFC 9110, section 9.3; ActivityPub, sections 3.2 and 6).
-use Rattle.std.specs.Prelude.{◌≡◌, ℕ, ◌==◌, Bool, false, ◌&&◌, ◌||◌, ◌⊎◌, is_none, if◌then◌else◌, List, map, replicate, codes, bytes_eq, MatchBool, Option, Some, None, Result, Ok, Err}
+-- What a request asks for, by its path and then by its method (RFC 9110, section 9.3; ActivityPub,
+-- sections 3.2 and 6).
+use Rattle.std.specs.Prelude.{◌≡◌, ℕ, ◌==◌, Bool, false, ◌&&◌, ◌||◌, ◌⊎◌, is_none, if◌then◌else◌}
+use Rattle.std.specs.Prelude.{List, map, replicate, codes, bytes_eq, MatchBool, Option, Some, None}
+use Rattle.std.specs.Prelude.{Result, Ok, Err}
 use Rattle.std.specs.Char.{to_ascii_lowercase}
 use Rattle.std.specs.List.{before_first}
 use Rattle.serde_json.specs.Data.{Data}
 use Rattle.sha2.specs.Sha256.{sha256}
 use Rattle.fedi_model.specs.Asks.{IsPostable}
 use Rattle.fedi_model.specs.declared.ask.Ask.{Ask}
-use Rattle.fedi_model.specs.declared.ask.Ask.TheVariants.{Nowhere, WrongMethod, Webfinger, Actor, Collection, Activity, Object, Outbox, Inbox}
+use Rattle.fedi_model.specs.declared.ask.Ask.TheVariants.{Nowhere, WrongMethod, Webfinger, Actor}
+use Rattle.fedi_model.specs.declared.ask.Ask.TheVariants.{Collection, Activity, Object, Outbox}
+use Rattle.fedi_model.specs.declared.ask.Ask.TheVariants.{Inbox}
 use Rattle.fedi_model.specs.declared.post.KeyAsk.{KeyAsk}
 use Rattle.fedi_model.specs.declared.post.KeyAsk.TheVariants.{Absent, Malformed, Given}
 use Rattle.fedi_model.specs.declared.post.Post.{Post}
@@ -42,7 +47,8 @@ path_of target = before_first (λ b. b == 63) target
 unfoldable pub media_type : List ℕ → List ℕ
 media_type value = map to_ascii_lowercase (without_back_blanks (before_first (λ b. b == 59) value))
 
--- the types of JSON and of ActivityStreams (ActivityPub, section 3.2; ActivityStreams 2.0 Core, section 2; RFC 8259, section 11)
+-- the types of JSON and of ActivityStreams (ActivityPub, section 3.2; ActivityStreams 2.0 Core,
+-- section 2; RFC 8259, section 11)
 unfoldable pub is_read_type : List ℕ → Bool
 is_read_type type =
     bytes_eq type (codes "application/activity+json")
@@ -53,7 +59,8 @@ abbrev pub is_typed : Option (List ℕ) → Bool
 is_typed None = false
 is_typed (Some value) = is_read_type (media_type value)
 
--- what is read of a body that is no JSON, or whose value this reading gives an activity or a fault of its shape
+-- what is read of a body that is no JSON, or whose value this reading gives an activity or a fault
+-- of its shape
 abbrev pub ReadsBody : (Data → Result activities.Activity ShapeFault) → List ℕ → Read → Type 0
 ReadsBody reads body NotJson = (d : Data) → ¬ (IsBodyOf body d)
 ReadsBody reads body (Bad fault) = (d : Data) × IsBodyOf body d × (reads d ≡ Err fault)
@@ -61,11 +68,15 @@ ReadsBody reads body (Ready a) = (d : Data) × IsBodyOf body d × (reads d ≡ O
 
 -- the request shows nothing of who makes it
 abbrev pub is_anonymous : Request → Bool
-is_anonymous q = is_none q.fields.authorization && (is_none q.fields.peer_host && is_none q.fields.peer_mac)
+is_anonymous q =
+    is_none q.fields.authorization && (is_none q.fields.peer_host && is_none q.fields.peer_mac)
 
--- What is read of a post. Of one that shows nothing of who makes it nothing is: nobody may post, whatever it holds.
-abbrev pub ReadsPost : (Data → Result activities.Activity ShapeFault) → Request → List ℕ → Read → Type 0
-ReadsPost reads q body read = MatchBool (is_anonymous q) (read ≡ NotJson) (ReadsBody reads body read)
+-- What is read of a post. Of one that shows nothing of who makes it nothing is: nobody may post,
+-- whatever it holds.
+abbrev pub ReadsPost : (Data → Result activities.Activity ShapeFault) → Request → List ℕ
+    → Read → Type 0
+ReadsPost reads q body read =
+    MatchBool (is_anonymous q) (read ≡ NotJson) (ReadsBody reads body read)
 
 -- the key under which the post is repeated (the field Idempotency-Key): 1 to 64 bytes 33 to 126
 abbrev pub repeat_key : Option (List ℕ) → KeyAsk
@@ -89,8 +100,8 @@ pub record IsPost (q : Request) (author body : List ℕ) (post : Post) : Type 0 
   pub digest : post.digest ≡ digest_under post.key body
   pub read : ReadsPost (reads_activity author) q body post.read
 
--- The delivery that a request with this body makes (ActivityPub, section 7). It has no key: the id of its activity tells
--- whether it is a repeat.
+-- The delivery that a request with this body makes (ActivityPub, section 7). It has no key: the id
+-- of its activity tells whether it is a repeat.
 pub record IsDelivery (q : Request) (body : List ℕ) (post : Post) : Type 0 where
   pub typed : post.is_typed ≡ is_typed q.fields.content_type
   pub key : post.key ≡ Absent
@@ -111,17 +122,19 @@ read_at host query (place.Object name number) = Object name number
 abbrev pub refused_at : Place → Ask
 refused_at there = WrongMethod (allow_of there)
 
--- what is asked for by posting to the outbox of this name: before the server was set up nobody has one
+-- what is asked for by posting to the outbox of this name: before the server was set up nobody has
+-- one
 abbrev pub PostsAs : Option (List ℕ) → Request → List ℕ → List ℕ → Ask → Type 0
 PostsAs None q body name ask = ask ≡ Nowhere
-PostsAs (Some host) q body name ask = (post : Post) × IsPost q (actor_id host name) body post × (ask ≡ Outbox name post)
+PostsAs (Some host) q body name ask =
+    (post : Post) × IsPost q (actor_id host name) body post × (ask ≡ Outbox name post)
 
 -- what is asked for by posting to the inbox of this name
 abbrev pub DeliversTo : Request → List ℕ → List ℕ → Ask → Type 0
 DeliversTo q body name ask = (post : Post) × IsDelivery q body post × (ask ≡ Inbox name post)
 
--- What is asked for by posting to what stands there: members post to their outboxes (ActivityPub, section 6), and other
--- servers deliver to inboxes (section 7).
+-- What is asked for by posting to what stands there: members post to their outboxes (ActivityPub,
+-- section 6), and other servers deliver to inboxes (section 7).
 abbrev pub PostsTo : Option (List ℕ) → Request → List ℕ → Place → Ask → Type 0
 PostsTo host q body (place.Collection (which.Outbox name)) ask = PostsAs host q body name ask
 PostsTo host q body (place.Collection (which.Inbox name)) ask = DeliversTo q body name ask
@@ -133,7 +146,8 @@ AsksAt host q body there ask =
     MatchBool (is_reading q.method) (ask ≡ read_at host (query_of q.target) there)
     (MatchBool (is_post q.method) (PostsTo host q body there ask) (ask ≡ refused_at there))
 
--- what a request with this body asks for at the server of this host: its path leads somewhere, or it asks for nothing
+-- what a request with this body asks for at the server of this host: its path leads somewhere, or
+-- it asks for nothing
 abbrev pub Asks : Option (List ℕ) → Request → List ℕ → Ask → Type 0
 Asks host q body ask =
     (((there : Place) → ¬ (LeadsTo (path_of q.target) there)) × (ask ≡ Nowhere))
@@ -143,6 +157,9 @@ Asks host q body ask =
 abbrev pub IsAskedOnce : Option (List ℕ) → Request → List ℕ → Type 0
 IsAskedOnce host q body = (a b : Ask) → Asks host q body a → Asks host q body b → a ≡ b
 
--- it holds what the members of a legal history at this host may post, or what other servers may deliver
+-- it holds what the members of a legal history at this host may post, or what other servers may
+-- deliver
 abbrev pub IsPostableAt : Option (List ℕ) → Ask → Type 0
-IsPostableAt host ask = (history : List Entry) → IsLegal history → (town history).host ≡ host → IsPostable (town history) ask
+IsPostableAt host ask =
+    (history : List Entry) → IsLegal history → (town history).host ≡ host
+    → IsPostable (town history) ask

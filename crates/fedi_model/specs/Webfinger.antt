@@ -1,5 +1,6 @@
 -- Whom a query asks for by WebFinger (RFC 7033, sections 4.1 to 4.3).
-use Rattle.std.specs.Prelude.{ℕ, ◌&&◌, Bool, nat_eq, nat_lt, nat_le, List, [], ◌∷◌, length, drop, codes, bytes_eq, Option, None, Some, option_map, if◌then◌else◌}
+use Rattle.std.specs.Prelude.{ℕ, ◌&&◌, Bool, nat_eq, nat_lt, nat_le, List, [], ◌∷◌, length, drop}
+use Rattle.std.specs.Prelude.{codes, bytes_eq, Option, None, Some, option_map, if◌then◌else◌}
 use Rattle.std.specs.List.{starts_with, before_last, after_last}
 use Rattle.fedi_address.specs.Iris.{is_at, normal}
 use Rattle.fedi_address.specs.Names.{is_name}
@@ -9,18 +10,22 @@ use Rattle.fedi_model.specs.Queries.{values_of}
 
 -- what follows this front of a text, if it begins so
 abbrev pub after_front : List ℕ → List ℕ → Option (List ℕ)
-after_front front text = if starts_with nat_eq text front then Some (drop (length front) text) else None
+after_front front text =
+    if starts_with nat_eq text front then Some (drop (length front) text) else None
 
 -- the text, if there is one and it is a name that members may have
 abbrev pub as_name : Option (List ℕ) → Option (List ℕ)
 as_name None = None
 as_name (Some text) = if is_name text then Some text else None
 
--- an account is cut at its last `@` into a user and a host, of which neither is empty (RFC 7565, section 7)
+-- an account is cut at its last `@` into a user and a host, of which neither is empty (RFC 7565,
+-- section 7)
 abbrev pub is_account : List ℕ → Bool
-is_account account = nat_lt 0 (length (before_last is_at account)) && nat_lt 0 (length (after_last is_at account))
+is_account account =
+    nat_lt 0 (length (before_last is_at account)) && nat_lt 0 (length (after_last is_at account))
 
--- the member who has the account of this user at this domain: it has to be the server's host, once that is set
+-- the member who has the account of this user at this domain: it has to be the server's host, once
+-- that is set
 abbrev pub account_name : Option (List ℕ) → List ℕ → List ℕ → Option (List ℕ)
 account_name None user domain = None
 account_name (Some host) user domain = if bytes_eq domain host then as_name (Some user) else None
@@ -28,7 +33,8 @@ account_name (Some host) user domain = if bytes_eq domain host then as_name (Som
 -- whom an account names, if it is one: a member or nobody
 abbrev pub name_of_account : Option (List ℕ) → List ℕ → Option (Option (List ℕ))
 name_of_account host account =
-    if is_account account then Some (account_name host (before_last is_at account) (after_last is_at account)) else None
+    if is_account account
+    then Some (account_name host (before_last is_at account) (after_last is_at account)) else None
 
 -- the member whose id it is
 abbrev pub id_name : Option (List ℕ) → List ℕ → Option (List ℕ)
@@ -40,20 +46,24 @@ abbrev pub name_of_iri : Option (List ℕ) → Option (List ℕ) → Option (Opt
 name_of_iri host None = None
 name_of_iri host (Some iri) = if nat_le (length iri) 2048 then Some (id_name host iri) else None
 
--- whom a text names: what follows `acct:` is an account, and a text that does not begin so is read as an IRI
+-- whom a text names: what follows `acct:` is an account, and a text that does not begin so is read
+-- as an IRI
 abbrev pub name_by : Option (List ℕ) → Option (List ℕ) → Option (List ℕ) → Option (Option (List ℕ))
 name_by host (Some account) iri = name_of_account host account
 name_by host None iri = name_of_iri host iri
 
--- whom a resource names: a member, or nobody here for certain; and nothing at all if it is malformed
+-- whom a resource names: a member, or nobody here for certain; and nothing at all if it is
+-- malformed
 unfoldable pub resource_name : Option (List ℕ) → List ℕ → Option (Option (List ℕ))
 resource_name host text = name_by host (after_front (codes "acct:") text) (normal text)
 
 -- the resource, where exactly one stands, with these relations
 abbrev pub resource_with : Option (List ℕ) → List (List ℕ) → List (List ℕ) → Option Resource
-resource_with host (text ∷ []) rels = option_map (λ name. record { name = name; rels = rels }) (resource_name host text)
+resource_with host (text ∷ []) rels =
+    option_map (λ name. record { name = name; rels = rels }) (resource_name host text)
 resource_with host texts rels = None
 
 -- the resource that a query asks for, at the server of this host
 unfoldable pub resource_in : Option (List ℕ) → List ℕ → Option Resource
-resource_in host query = resource_with host (values_of (codes "resource") query) (values_of (codes "rel") query)
+resource_in host query =
+    resource_with host (values_of (codes "resource") query) (values_of (codes "rel") query)

@@ -22,6 +22,7 @@ pub enum Credentials<'a> {
     Nothing,
     /// A bearer key (RFC 6750, section 2.1), or none where the field has another form.
     Bearer(Option<[u8; 32]>),
-    /// A peer's code over the request, or none where one of its fields is missing or has another form.
+    /// A peer's code over the request, or none where one of its fields is missing or has another
+    /// form.
     Mac(Option<Signed<'a>>),
 }

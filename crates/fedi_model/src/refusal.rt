@@ -6,8 +6,8 @@ ghost use Rattle.fedi_model.specs.Refusals.{refusal_body, status_of};
 use fedi_town::Refusal;
 use http::StatusCode;
 
-/// The status code of the reply to what is refused (RFC 9110, section 15; RFC 6585 for 431 and RFC 4918
-/// for 422 and 507).
+/// The status code of the reply to what is refused (RFC 9110, section 15; RFC 6585 for 431 and RFC
+/// 4918 for 422 and 507).
 pub fn refusal_status(refusal: Refusal) -> StatusCode
     ensures { result ≡ status_of refusal }
 {
@@ -35,8 +35,8 @@ pub fn refusal_status(refusal: Refusal) -> StatusCode
     }
 }
 
-/// The body of the reply to what is refused: a JSON object that names the reason (RFC 8259). It takes no
-/// memory.
+/// The body of the reply to what is refused: a JSON object that names the reason (RFC 8259). It
+/// takes no memory.
 pub fn refusal_body(refusal: Refusal) -> &'static [u8]
     ensures { result.now ≡ refusal_body refusal }
 {

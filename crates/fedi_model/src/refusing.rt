@@ -33,8 +33,8 @@ fn fault_body(fault: ShapeFault) -> &'static [u8]
     }
 }
 
-/// The reply that reports a refusal: its status (RFC 9110, section 15), and its name as JSON. It takes
-/// no memory.
+/// The reply that reports a refusal: its status (RFC 9110, section 15), and its name as JSON. It
+/// takes no memory.
 pub fn refusal_reply(refusal: Refusal) -> Reply
     ensures { result ≡ refused refusal }
 {

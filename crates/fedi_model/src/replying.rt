@@ -53,8 +53,8 @@ impl Reply {
         Reply::with_body(status, form, Body::from(text))
     }
 
-    /// The reply that says where the thing is that was made, now or before (RFC 9110, sections 10.2.2
-    /// and 15.3.2). It takes no memory.
+    /// The reply that says where the thing is that was made, now or before (RFC 9110, sections
+    /// 10.2.2 and 15.3.2). It takes no memory.
     pub fn created(location: Option<Iri>) -> Reply
         ensures { result ≡ without_body 201 location }
     {

@@ -3,8 +3,8 @@
 use fedi_text::Bytes;
 use http::Method;
 
-/// The values of the fields of a head that are read after it, each of the first field of its name (RFC 9110, section 5.1), without the
-/// white space around it (RFC 9110, section 5.5).
+/// The values of the fields of a head that are read after it, each of the first field of its name
+/// (RFC 9110, section 5.1), without the white space around it (RFC 9110, section 5.5).
 #[derive(Drop)]
 pub struct Fields {
     /// `Authorization`: a key (RFC 9110, section 11.6.2).
@@ -42,8 +42,8 @@ pub struct Request {
     pub fields: Fields,
     /// How the end of the body is found.
     pub coding: Coding,
-    /// Whether the connection goes on after the reply, as far as the head says: the version is HTTP/1.1, and no `Connection` lists
-    /// `close` (RFC 9112, section 9.3).
+    /// Whether the connection goes on after the reply, as far as the head says: the version is
+    /// HTTP/1.1, and no `Connection` lists `close` (RFC 9112, section 9.3).
     pub keep_alive: bool,
     /// Whether the reply has no body: the method is HEAD (RFC 9110, section 9.3.2).
     pub head_only: bool,

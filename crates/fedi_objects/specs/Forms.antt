@@ -1,7 +1,9 @@
--- The JSON in which objects are shown (ActivityStreams 2.0 Core, sections 2 to 4). A property that is
--- absent is not written, and neither is an empty list.
-use Rattle.std.specs.Prelude.{ℕ, List, [], ◌++◌, map, length, Bool, true, false, not, ◌&&◌, ◌==◌, Option, Some, None, if◌then◌else◌, codes, bytes_eq}
-use Rattle.serde_json.specs.Data.{Data, null, boolean, number, string, array, object, Items, no_items, item, Members, no_members, member, put}
+-- The JSON in which objects are shown (ActivityStreams 2.0 Core, sections 2 to 4). A property that
+-- is absent is not written, and neither is an empty list.
+use Rattle.std.specs.Prelude.{ℕ, List, [], ◌++◌, map, length, Bool, true, false, not, ◌&&◌, ◌==◌}
+use Rattle.std.specs.Prelude.{Option, Some, None, if◌then◌else◌, codes, bytes_eq}
+use Rattle.serde_json.specs.Data.{Data, null, boolean, number, string, array, object, Items}
+use Rattle.serde_json.specs.Data.{no_items, item, Members, no_members, member, put}
 use Rattle.serde_json.specs.View.{items_of}
 use Rattle.std.specs.Option.{option_copied}
 use Rattle.fedi_objects.specs.Kinds.{kind_name}
@@ -25,13 +27,16 @@ with_list key ds ms = if length ds == 0 then ms else put key (array (items_of ds
 
 -- the members, with the one context at the top of a document (Core, section 2.1)
 unfoldable pub with_context : Bool → Members → Members
-with_context true ms = put (codes "@context") (string (codes "https://www.w3.org/ns/activitystreams")) ms
+with_context true ms =
+    put (codes "@context") (string (codes "https://www.w3.org/ns/activitystreams")) ms
 with_context false ms = ms
 
--- the members, with the addresses of an object's likes and shares (ActivityPub, sections 5.7 and 5.8)
+-- the members, with the addresses of an object's likes and shares (ActivityPub, sections 5.7 and
+-- 5.8)
 unfoldable pub with_collections : Bool → Option (List ℕ) → Members → Members
 with_collections true (Some id) ms =
-    put (codes "likes") (string (id ++ codes "/likes")) (put (codes "shares") (string (id ++ codes "/shares")) ms)
+    put (codes "likes") (string (id ++ codes "/likes"))
+    (put (codes "shares") (string (id ++ codes "/shares")) ms)
 with_collections true None ms = ms
 with_collections false id ms = ms
 
@@ -48,7 +53,8 @@ with_audience to cc audience ms =
     (with_list (codes "cc") (map string cc) (with_list (codes "to") (map string to) ms))
 
 -- the members, with what it says
-unfoldable pub with_words : Option (List ℕ) → Option (List ℕ) → Option (List ℕ) → List Tag → Members → Members
+unfoldable pub with_words : Option (List ℕ) → Option (List ℕ) → Option (List ℕ) → List Tag
+    → Members → Members
 with_words content summary name tags ms =
     with_text (codes "content") content
     (with_text (codes "name") name
@@ -108,7 +114,8 @@ with_object local (refs.Changed change) ms = ms
 -- an activity's type and time
 unfoldable pub activity_kind_members : Activity → Members
 activity_kind_members a =
-    with_text (codes "published") a.published (put (codes "type") (string (kind_name a.kind)) no_members)
+    with_text (codes "published") a.published
+    (put (codes "type") (string (kind_name a.kind)) no_members)
 
 -- the members, with an activity's author, its own address and those that it names
 unfoldable pub with_activity_links : List ℕ → Activity → Members → Members
@@ -126,10 +133,11 @@ activity_members local author a =
     (with_audience a.recipients.to a.recipients.cc a.recipients.audience
     (with_words a.content a.summary a.name a.tags (activity_kind_members a))))
 
--- an author's activity alone (Core, section 4.2), by whether it is one of this server's, and whether it is a
--- document of its own
+-- an author's activity alone (Core, section 4.2), by whether it is one of this server's, and
+-- whether it is a document of its own
 unfoldable pub activity_form : Bool → Bool → List ℕ → Activity → Data
-activity_form local context author a = object (with_context context (activity_members local author a))
+activity_form local context author a =
+    object (with_context context (activity_members local author a))
 
 -- what a shown activity is about
 abbrev pub object_in : ShownObject → ObjectRef
@@ -145,7 +153,8 @@ shown_in s = record {
   actor = Some s.author.now;
   object = object_in s.object;
   target = option_copied s.target;
-  recipients = record { to = s.to.now; cc = s.cc.now; bto = []; bcc = []; audience = s.audience.now };
+  recipients =
+      record { to = s.to.now; cc = s.cc.now; bto = []; bcc = []; audience = s.audience.now };
   in_reply_to = option_copied s.in_reply_to;
   content = option_copied s.content;
   summary = option_copied s.summary;

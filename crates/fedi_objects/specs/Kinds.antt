@@ -1,16 +1,47 @@
--- The types of activities (ActivityStreams 2.0 Vocabulary, section 3.1), and the names of the states.
+-- The types of activities (ActivityStreams 2.0 Vocabulary, section 3.1), and the names of the
+-- states.
 use Rattle.std.specs.Prelude.{ℕ, List, [], ◌∷◌, codes, Bool, true, false}
 use Rattle.fedi_objects.specs.declared.kind.Kind.{Kind}
-use Rattle.fedi_objects.specs.declared.kind.Kind.TheVariants.{Accept, Add, Announce, Arrive, Block, Create, Delete, Dislike, Flag, Follow, Ignore, Invite, Join, Leave, Like, Listen, Move, Offer, Question, Read, Reject, Remove, TentativeAccept, TentativeReject, Travel, Undo, Update, View}
+use Rattle.fedi_objects.specs.declared.kind.Kind.TheVariants.{
+  Accept,
+  Add,
+  Announce,
+  Arrive,
+  Block,
+  Create,
+  Delete,
+  Dislike,
+  Flag,
+  Follow,
+  Ignore,
+  Invite,
+  Join,
+  Leave,
+  Like,
+  Listen,
+  Move,
+  Offer,
+  Question,
+  Read,
+  Reject,
+  Remove,
+  TentativeAccept,
+  TentativeReject,
+  Travel,
+  Undo,
+  Update,
+  View,
+}
 use Rattle.fedi_objects.specs.declared.kind.State.{State}
-use Rattle.fedi_objects.specs.declared.kind.State.TheVariants.{Plain, Done, Pending, Accepted, Rejected, Standing, Undone}
+use Rattle.fedi_objects.specs.declared.kind.State.TheVariants.{Plain, Done, Pending, Accepted}
+use Rattle.fedi_objects.specs.declared.kind.State.TheVariants.{Rejected, Standing, Undone}
 
 -- the types, in the order of the alphabet
 abbrev pub kinds : List Kind
 kinds =
-    Accept ∷ Add ∷ Announce ∷ Arrive ∷ Block ∷ Create ∷ Delete ∷ Dislike ∷ Flag ∷ Follow ∷ Ignore ∷ Invite ∷ Join ∷ Leave
-    ∷ Like ∷ Listen ∷ Move ∷ Offer ∷ Question ∷ Read ∷ Reject ∷ Remove ∷ TentativeAccept ∷ TentativeReject ∷ Travel ∷ Undo
-    ∷ Update ∷ View ∷ []
+    Accept ∷ Add ∷ Announce ∷ Arrive ∷ Block ∷ Create ∷ Delete ∷ Dislike ∷ Flag ∷ Follow ∷ Ignore
+    ∷ Invite ∷ Join ∷ Leave ∷ Like ∷ Listen ∷ Move ∷ Offer ∷ Question ∷ Read ∷ Reject ∷ Remove
+    ∷ TentativeAccept ∷ TentativeReject ∷ Travel ∷ Undo ∷ Update ∷ View ∷ []
 
 -- the place of a type among the 28, in the order of the alphabet
 abbrev pub kind_number : Kind → ℕ

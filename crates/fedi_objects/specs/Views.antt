@@ -10,7 +10,8 @@ viewed v = record {
   id = option_copied v.id;
   kind = v.kind.now;
   attributed_to = option_copied v.attributed_to;
-  recipients = record { to = v.to.now; cc = v.cc.now; bto = []; bcc = []; audience = v.audience.now };
+  recipients =
+      record { to = v.to.now; cc = v.cc.now; bto = []; bcc = []; audience = v.audience.now };
   in_reply_to = option_copied v.in_reply_to;
   content = option_copied v.content;
   summary = option_copied v.summary;

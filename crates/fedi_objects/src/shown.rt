@@ -74,7 +74,8 @@ impl<'a> StrippedObject<'a> {
         })
     }
 
-    /// Whether it is what is left of a deleted object (ActivityStreams 2.0 Vocabulary, section 3.3).
+    /// Whether it is what is left of a deleted object (ActivityStreams 2.0 Vocabulary, section
+    /// 3.3).
     pub fn is_tombstone(&self) -> bool
         ensures { result ≡ is_tombstone self.now }
     {

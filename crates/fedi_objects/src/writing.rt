@@ -3,9 +3,11 @@
 ghost use Rattle.std.specs.Prelude.{◌≤◌, length, codes, map, OnOk};
 ghost use Rattle.std.specs.Option.{option_copied};
 ghost use Rattle.serde_json.specs.Data.{object};
-ghost use Rattle.fedi_objects.specs.Forms.{activity_form, live_members, object_form, object_in, shown_in, tag_form, tombstone_members, with_context};
+ghost use Rattle.fedi_objects.specs.Forms.{activity_form, live_members, object_form, object_in};
+ghost use Rattle.fedi_objects.specs.Forms.{shown_in, tag_form, tombstone_members, with_context};
 ghost use Rattle.fedi_objects.specs.Views.{viewed};
-ghost use Rattle.fedi_objects.specs.Writing.{Adds, IsWritten, collection_of, context_of, listed, member_tokens, object_value};
+ghost use Rattle.fedi_objects.specs.Writing.{Adds, IsWritten, collection_of, context_of, listed};
+ghost use Rattle.fedi_objects.specs.Writing.{member_tokens, object_value};
 
 use crate::members::{write_iri, write_iris, write_joined, write_str, write_text};
 use crate::object::{TOMBSTONE, Tag};
@@ -58,8 +60,8 @@ fn write_tag(out: &mut Writer, tag: &Tag) -> Result<(), AllocError>
     out.end_object()
 }
 
-// Writes the address of a collection of a local object that has an id (ActivityPub, sections 5.7 and
-// 5.8).
+// Writes the address of a collection of a local object that has an id (ActivityPub, sections 5.7
+// and 5.8).
 #[tactic(auto, unfolding(crate::specs::Writing::collection_of))]
 fn write_collection(
     out: &mut Writer,
@@ -124,11 +126,11 @@ fn write_tombstone(out: &mut Writer, view: &ObjectView, context: bool) -> Result
     out.end_object()
 }
 
-/// Writes an object as everybody who may see it sees it (ActivityStreams 2.0 Core, sections 2 to 4):
-/// never with `bto` and `bcc` (ActivityPub, section 6). `likes` and `shares` stand on a local object
-/// that has an id, and `@context` if it is a document of its own. What is left of a deleted object, of
-/// the type `Tombstone`, has its id, its types and the time of the deletion alone. The error is out
-/// of memory.
+/// Writes an object as everybody who may see it sees it (ActivityStreams 2.0 Core, sections 2 to
+/// 4): never with `bto` and `bcc` (ActivityPub, section 6). `likes` and `shares` stand on a local
+/// object that has an id, and `@context` if it is a document of its own. What is left of a deleted
+/// object, of the type `Tombstone`, has its id, its types and the time of the deletion alone. The
+/// error is out of memory.
 #[tactic(auto, unfolding(crate::specs::Forms::object_form))]
 pub fn write_object(
     out: &mut Writer,

@@ -28,7 +28,8 @@ one_history (x ∷ a) (y ∷ b) formed_a formed_b same =
     let tail = one_history a b formed_a.1 formed_b.1 others in
     rw (head, tail) refl
 
--- behind the history of a front of the records there comes the entry of the next record, if the records are those of more
+-- behind the history of a front of the records there comes the entry of the next record, if the
+-- records are those of more
 further : (t : Town) (records : List (List ℕ)) (a b : List Entry) → AllByRecursion IsFormed a → AllByRecursion IsFormed b
     → is_legal_from t b ≡ true → map code_of a ≡ take (length a) records → map code_of b ≡ take (length b) records
     → length a < length b → (e : Entry) × IsNext (fold step t a) e × (slice_get records (length a) ≡ Some (code_of e))

@@ -1,5 +1,6 @@
 -- What an opening finds of the records that a keeper holds.
-use Rattle.std.specs.Prelude.{◌≡◌, ◌≢◌, ◌<◌, ℕ, IfSome, IsTrue, List, length, map, Option, Some, Result, Ok, Err, slice_get, take}
+use Rattle.std.specs.Prelude.{◌≡◌, ◌≢◌, ◌<◌, ℕ, IfSome, IsTrue, List, length, map, Option, Some}
+use Rattle.std.specs.Prelude.{Result, Ok, Err, slice_get, take}
 use Rattle.std.specs.List.{AllByRecursion}
 use Rattle.fedi_entry.specs.Codes.{code_of}
 use Rattle.fedi_entry.specs.Fields.{IsFormed}
@@ -16,9 +17,10 @@ pub record IsNext (t : Town) (e : Entry) : Type 0 where
   pub formed : IsFormed e
   pub admissible : IsTrue (is_admissible t e)
 
--- The history is that of the first so many records: it is legal, the fields of its entries have their forms, and if the records
--- are told, they are the codes of its entries in order.
-pub record IsRead (records : Option (List (List ℕ))) (count : ℕ) (history : List Entry) : Type 0 where
+-- The history is that of the first so many records: it is legal, the fields of its entries have
+-- their forms, and if the records are told, they are the codes of its entries in order.
+pub record IsRead (records : Option (List (List ℕ))) (count : ℕ)
+    (history : List Entry) : Type 0 where
   pub legal : IsLegal history
   pub formed : AllByRecursion IsFormed history
   pub counted : length history ≡ count
@@ -28,9 +30,10 @@ pub record IsRead (records : Option (List (List ℕ))) (count : ℕ) (history : 
 abbrev pub IsOfNone : Town → List (List ℕ) → ℕ → Type 0
 IsOfNone t records place = (e : Entry) → IsNext t e → slice_get records place ≢ Some (code_of e)
 
--- The first record that is damaged is at this place: the history is that of those before it, and if the records are told, this
--- one is the code of no entry that may come next.
-pub record IsDamaged (records : Option (List (List ℕ))) (held place : ℕ) (history : List Entry) : Type 0 where
+-- The first record that is damaged is at this place: the history is that of those before it, and if
+-- the records are told, this one is the code of no entry that may come next.
+pub record IsDamaged (records : Option (List (List ℕ))) (held place : ℕ)
+    (history : List Entry) : Type 0 where
   pub there : place < held
   pub read : IsRead records place history
   pub damaged : IfSome records (λ told. IsOfNone (town history) told place)

@@ -9,8 +9,8 @@ use fedi_address::Iri;
 use fedi_objects::{Activity, Object, ObjectRef};
 use fedi_town::Deed;
 
-/// The most recipients that the five fields of a delivery name, and those of its object: one more than
-/// of a post, since another server may have added one that was implied.
+/// The most recipients that the five fields of a delivery name, and those of its object: one more
+/// than of a post, since another server may have added one that was implied.
 const MOST_RECIPIENTS: usize = 501;
 
 // Whether a delivery may carry the object, which has an id and keeps the limits.
@@ -20,8 +20,8 @@ fn is_carried(object: &Object) -> bool
     object.id.is_some() && is_object_within(MOST_RECIPIENTS, object)
 }
 
-// Whether the deed may be about this: a Create and an Update may carry an object (ActivityPub, section
-// 7.3), and each other deed with a side effect is about an id.
+// Whether the deed may be about this: a Create and an Update may carry an object (ActivityPub,
+// section 7.3), and each other deed with a side effect is about an id.
 fn is_delivered_ref(deed: Deed, object: &ObjectRef) -> bool
     ensures { result ≡ shapes.is_delivered_ref deed object.now }
 {
@@ -45,11 +45,11 @@ fn is_actor_target(actor: &Option<Iri>, activity: &Activity) -> bool
     }
 }
 
-/// Whether the activity has the shape in which reading leaves a delivery (ActivityPub, section 7): it has
-/// an id and an actor; it is about what its type asks for, and not about its actor if it is a Follow or a
-/// Block; its texts have at most 65,536 bytes, and its five fields name at most 501 recipients in all, and
-/// nobody twice in one field. Only a Create and an Update carry an object, which has an id and keeps the
-/// same limits. It takes no memory.
+/// Whether the activity has the shape in which reading leaves a delivery (ActivityPub, section 7):
+/// it has an id and an actor; it is about what its type asks for, and not about its actor if it is
+/// a Follow or a Block; its texts have at most 65,536 bytes, and its five fields name at most 501
+/// recipients in all, and nobody twice in one field. Only a Create and an Update carry an object,
+/// which has an id and keeps the same limits. It takes no memory.
 pub fn is_delivered(activity: &Activity) -> bool
     ensures { result ≡ shapes.is_delivered activity.now }
 {

@@ -5,7 +5,8 @@ ghost use Rattle.std.specs.List.{find};
 ghost use Rattle.fedi_address.specs.Hosts.{IsHost, is_host_text};
 ghost use Rattle.fedi_address.specs.Names.{is_name};
 ghost use Rattle.fedi_town.specs.declared.caller.Caller.TheVariants.{Actor};
-ghost use Rattle.fedi_town.specs.Legal.{broken_command, is_admissible, is_new_key, lacks, may_deliver, may_post};
+ghost use Rattle.fedi_town.specs.Legal.{broken_command, is_admissible, is_new_key, lacks};
+ghost use Rattle.fedi_town.specs.Legal.{may_deliver, may_post};
 ghost use Rattle.fedi_town.specs.Rules.{broken_post};
 ghost use Rattle.fedi_town.specs.Shapes.{is_delivered};
 ghost use Rattle.fedi_town.specs.Towns.{has_host, id_of, is_by};
@@ -17,14 +18,16 @@ use fedi_effects::{Facts, judge_local, judge_tried};
 use fedi_inbound::{lacks, may_deliver};
 use fedi_objects::{Activity, Entry, RepeatKey};
 
-// For the proof: shows that a host has no other text than that of one. It does nothing when it runs.
+// For the proof: shows that a host has no other text than that of one. It does nothing when it
+// runs.
 fn show_host(host: &Host)
     ensures { IsHost host.now }
 {
     let _ = host.text();
 }
 
-// For the proof: shows that a name has no other text than that of one. It does nothing when it runs.
+// For the proof: shows that a name has no other text than that of one. It does nothing when it
+// runs.
 fn show_name(name: &LocalName)
     ensures { IsTrue (is_name name.now) }
 {
@@ -96,12 +99,12 @@ fn may_be_delivered(facts: &Facts, peer: &Host, inbox: &LocalName, activity: &Ac
         && lacks(facts, activity.id.as_ref(), facts.id_of(inbox))
 }
 
-/// Whether an entry may come next in the history of these facts. The server is set up once and first. A
-/// member has a name and a key that no member had before, and a peer another host than the server and any
-/// peer before, and an address. A post is a member's, has the shape of one, breaks no rule (ActivityPub,
-/// section 6; that its author has fewer than 4,294,967,295 activities is the last), and comes under a key
-/// that is new. A delivery has the shape of one, its peer may deliver it (section 7), and the member's inbox
-/// lacks it. An attempt is one to deliver what is due.
+/// Whether an entry may come next in the history of these facts. The server is set up once and
+/// first. A member has a name and a key that no member had before, and a peer another host than the
+/// server and any peer before, and an address. A post is a member's, has the shape of one, breaks
+/// no rule (ActivityPub, section 6; that its author has fewer than 4,294,967,295 activities is the
+/// last), and comes under a key that is new. A delivery has the shape of one, its peer may deliver
+/// it (section 7), and the member's inbox lacks it. An attempt is one to deliver what is due.
 pub fn may_come(facts: &Facts, entry: &Entry) -> bool
     ensures { result ≡ is_admissible facts.now.town entry.now }
 {

@@ -61,8 +61,8 @@ fn is_each_once(iris: &[Iri]) -> bool
     true
 }
 
-// Whether the five fields name at most so many, and none of them anybody twice. How many they are is
-// tested first, since the time to look for a name twice grows with the square.
+// Whether the five fields name at most so many, and none of them anybody twice. How many they are
+// is tested first, since the time to look for a name twice grows with the square.
 fn are_addressed(limit: usize, recipients: &Recipients) -> bool
     ensures { result ≡ shapes.are_addressed limit recipients.now }
 {

@@ -1,6 +1,7 @@
 //! A history opened.
 
-ghost use Rattle.std.specs.Prelude.{◌≡◌, ◌↔◌, ◌+◌, ◌<◌, [], IfErr, IfOk, IfSome, IsErrOf, OnOk, Some, map, slice_get};
+ghost use Rattle.std.specs.Prelude.{◌≡◌, ◌↔◌, ◌+◌, ◌<◌, [], IfErr, IfOk, IfSome, IsErrOf, OnOk};
+ghost use Rattle.std.specs.Prelude.{Some, map, slice_get};
 ghost use Rattle.fedi_entry.specs.Codes.{code_of};
 ghost use Rattle.fedi_outside.specs.Keepers.{PassesTime};
 ghost use Rattle.fedi_opening.specs.Opening.{IsRead, IsStopped, IsUnloaded, after_open};
@@ -57,14 +58,15 @@ fn open_record<S: Shelf, P: Keeper>(
     Ok(())
 }
 
-/// Opens the history of the records that the keeper holds: each is read as the entry of which it is the
-/// code, which has to be one that may come there. The shelf, which held no history, then holds this one.
+/// Opens the history of the records that the keeper holds: each is read as the entry of which it is
+/// the code, which has to be one that may come there. The shelf, which held no history, then holds
+/// this one.
 ///
-/// The errors are `Empty`, exactly if there is no record; `Damaged`, with the place of the first record
-/// that is the code of no entry that may come there; `Failed`, if the keeper failed, which it counts once;
-/// and `Memory`, out of memory. After an error the shelf holds the history of the records before that. The
-/// keeper's records, what is in doubt and the end of it are as before, whatever comes, and what lies outside
-/// is read and not written.
+/// The errors are `Empty`, exactly if there is no record; `Damaged`, with the place of the first
+/// record that is the code of no entry that may come there; `Failed`, if the keeper failed, which
+/// it counts once; and `Memory`, out of memory. After an error the shelf holds the history of the
+/// records before that. The keeper's records, what is in doubt and the end of it are as before,
+/// whatever comes, and what lies outside is read and not written.
 pub fn open_history<S: Shelf, P: Keeper>(
     alloc: Global,
     keeper: &mut P,

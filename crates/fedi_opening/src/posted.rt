@@ -26,7 +26,8 @@ fn is_unset_object(object: &Object) -> bool
         && object.kind.text() != TOMBSTONE
 }
 
-// Whether a Create may carry the object, which names the same recipients (ActivityPub, section 6.2).
+// Whether a Create may carry the object, which names the same recipients (ActivityPub, section
+// 6.2).
 fn is_new_object(object: &Object, recipients: &Recipients) -> bool
     ensures { result ≡ (shapes.is_unset_object object.now
         && (shapes.is_object_within 500 object.now
@@ -72,11 +73,11 @@ pub(crate) fn is_self_target(author: &Iri, activity: &Activity) -> bool
     }
 }
 
-/// Whether the activity has the shape in which reading leaves the author's post (ActivityPub, section 6):
-/// it has neither an id nor an actor nor a date, which the server sets; it is about what its type asks for,
-/// and not about the author if it is a Follow or a Block; its texts have at most 65,536 bytes, and its five
-/// fields name at most 500 recipients, none of them anybody twice. The object of a Create names the same,
-/// keeps the same limits and is no Tombstone.
+/// Whether the activity has the shape in which reading leaves the author's post (ActivityPub,
+/// section 6): it has neither an id nor an actor nor a date, which the server sets; it is about
+/// what its type asks for, and not about the author if it is a Follow or a Block; its texts have at
+/// most 65,536 bytes, and its five fields name at most 500 recipients, none of them anybody twice.
+/// The object of a Create names the same, keeps the same limits and is no Tombstone.
 pub fn is_posted(author: &Iri, activity: &Activity) -> bool
     ensures { result ≡ shapes.is_posted author.now activity.now }
 {

@@ -1,4 +1,9 @@
 pub mod DiskSteps
+pub mod Finding
+pub mod Gates
+pub mod ImageLemmas
+pub mod ImageSteps
 pub mod MemoryDiskSteps
 pub mod MemoryDoorSteps
+pub mod Openings
 pub mod Untouched

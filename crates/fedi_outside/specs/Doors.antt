@@ -1,5 +1,6 @@
 -- What a door gives, what it is told, and the rows that it tells.
-use Rattle.std.specs.Prelude.{◌≡◌, ℕ, Bool, false, true, List, [], ◌∷◌, ◌++◌, Option, Some, None, IfSome, option_map}
+use Rattle.std.specs.Prelude.{◌≡◌, ℕ, Bool, false, true, List, [], ◌∷◌, ◌++◌, Option, Some, None}
+use Rattle.std.specs.Prelude.{IfSome, option_map}
 use Rattle.fedi_outside.specs.Causes.{next_count}
 use Rattle.fedi_outside.specs.declared.turns.Rest.{Rest}
 use Rattle.fedi_outside.specs.declared.turns.Turn.{Turn}
@@ -30,8 +31,15 @@ abbrev pub coming_by : {L : Type 0} → (L → Option (List ℕ)) → (L → Opt
 coming_by left sent line = record { input = left line; begun = sent line }
 
 -- the line that came so and is now this one, by these meanings of a line
-abbrev pub spoken_by : {L : Type 0} → (L → Option (List ℕ)) → (L → Option (List ℕ)) → (L → ℕ) → (L → ℕ) → Coming → L → Spoken
-spoken_by left sent reads writes came line = record { came = came; left = left line; sent = sent line; reads = reads line; writes = writes line }
+abbrev pub spoken_by : {L : Type 0} → (L → Option (List ℕ)) → (L → Option (List ℕ)) → (L → ℕ)
+    → (L → ℕ) → Coming → L → Spoken
+spoken_by left sent reads writes came line = record {
+  came = came;
+  left = left line;
+  sent = sent line;
+  reads = reads line;
+  writes = writes line;
+}
 
 -- one row more, if rows are told
 abbrev pub with_row : Row → Option (List Row) → Option (List Row)
@@ -41,15 +49,21 @@ with_row row rows = option_map (λ (rs : List Row). rs ++ row ∷ []) rows
 
 -- nothing was sent on the line, and no call of it has failed
 abbrev pub IsNewLine : {L : Type 0} → (L → Option (List ℕ)) → (L → ℕ) → (L → ℕ) → L → Type 0
-IsNewLine sent reads writes line = IfSome (sent line) (λ (text : List ℕ). text ≡ []) × (reads line ≡ 0) × (writes line ≡ 0)
+IsNewLine sent reads writes line =
+    IfSome (sent line) (λ (text : List ℕ). text ≡ []) × (reads line ≡ 0) × (writes line ≡ 0)
 
--- which line is out, whether the door waits to be told of a rest, and whether it is closed, after it gave this turn
-abbrev pub Gives : {L : Type 0} → (L → Option (List ℕ)) → (L → Option (List ℕ)) → (L → ℕ) → (L → ℕ) → Option Coming → Bool → Bool → Turn L → Type 0
+-- which line is out, whether the door waits to be told of a rest, and whether it is closed, after
+-- it gave this turn
+abbrev pub Gives : {L : Type 0} → (L → Option (List ℕ)) → (L → Option (List ℕ)) → (L → ℕ) → (L → ℕ)
+    → Option Coming → Bool → Bool → Turn L → Type 0
 Gives left sent reads writes out idle closed (Line l) =
-    (out ≡ Some (coming_by left sent l)) × (idle ≡ false) × (closed ≡ false) × IsNewLine sent reads writes l
+    (out ≡ Some (coming_by left sent l)) × (idle ≡ false) × (closed ≡ false)
+    × IsNewLine sent reads writes l
 Gives left sent reads writes out idle closed Idle = (out ≡ None) × (idle ≡ true) × (closed ≡ false)
-Gives left sent reads writes out idle closed Closed = (out ≡ None) × (idle ≡ false) × (closed ≡ true)
-Gives left sent reads writes out idle closed Failed = (out ≡ None) × (idle ≡ false) × (closed ≡ false)
+Gives left sent reads writes out idle closed Closed =
+    (out ≡ None) × (idle ≡ false) × (closed ≡ true)
+Gives left sent reads writes out idle closed Failed =
+    (out ≡ None) × (idle ≡ false) × (closed ≡ false)
 
 -- a turn that failed is counted, and no other
 abbrev pub IsTurnCounted : {L : Type 0} → ℕ → ℕ → Turn L → Type 0

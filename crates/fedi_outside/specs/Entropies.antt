@@ -4,8 +4,10 @@ use Rattle.std.specs.Io.KnownBytes.{Consumes, Keeps}
 use Rattle.fedi_outside.specs.Plans.{Plan}
 
 -- the bytes to come, if they are told, began with these and lost them; a fill that failed took none
-abbrev pub FillConsumes : {T E : Type 0} → Option (List ℕ) → Option (List ℕ) → Result T E → List ℕ → Type 0
-FillConsumes before after result filled = MatchResult result (λ _. Consumes before after filled) (λ _. Keeps before after)
+abbrev pub FillConsumes : {T E : Type 0} → Option (List ℕ) → Option (List ℕ) → Result T E
+    → List ℕ → Type 0
+FillConsumes before after result filled =
+    MatchResult result (λ _. Consumes before after filled) (λ _. Keeps before after)
 
 -- what an entropy in memory is to give, and which calls fail
 pub record MemoryEntropyState : Type 0 where

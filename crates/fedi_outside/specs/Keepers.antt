@@ -1,5 +1,7 @@
 -- What a keeper shows of itself, what its calls change, and what a crash leaves of its records.
-use Rattle.std.specs.Prelude.{ℕ, ◌≡◌, ◌⊎◌, ◌+◌, ◌^◌, ◌<◌, ◌≤◌, Bool, true, false, List, [], ◌∷◌, ◌++◌, length, slice_get, Option, None, Some, option_map, Result, Ok, Err, Vec}
+use Rattle.std.specs.Prelude.{ℕ, ◌≡◌, ◌⊎◌, ◌+◌, ◌^◌, ◌<◌, ◌≤◌, Bool, true, false, List, [], ◌∷◌}
+use Rattle.std.specs.Prelude.{◌++◌, length, slice_get, Option, None, Some, option_map, Result, Ok}
+use Rattle.std.specs.Prelude.{Err, Vec}
 use Rattle.fedi_outside.specs.Causes.{next_count}
 use Rattle.fedi_outside.specs.declared.keepers.LoadFault.{LoadFault}
 use Rattle.fedi_outside.specs.declared.keepers.LoadFault.TheVariants.{Failed, Memory}
@@ -70,7 +72,8 @@ pub record HasFailed (refused : List ℕ) (before after : KeeperState) : Type 0 
 pub record Crashes : Type 1 where
   pub clock : ℕ  -- a moment, as a number that never falls
   pub told : Bool
-  pub left_since : ℕ → List (List ℕ) → Type 0  -- a crash at some moment since that one might have left these records
+  -- a crash at some moment since that one might have left these records
+  pub left_since : ℕ → List (List ℕ) → Type 0
 
 -- what a crash may leave of these records, if one more may be there
 abbrev pub MayLeave : List (List ℕ) → Option (List ℕ) → List (List ℕ) → Type 0
@@ -83,18 +86,26 @@ IfTold false records P = Unit {0}
 IfTold true None P = ⊥
 IfTold true (Some records) P = P records
 
--- the moments of a call add this alone to what a crash since an earlier moment might have left, and take nothing away
-pub record Adds (before : ℕ) (past since : ℕ → List (List ℕ) → Type 0) (added : List (List ℕ) → Type 0) : Type 0 where
-  pub nothing_else : (moment : ℕ) (left : List (List ℕ)) → moment ≤ before → since moment left → past moment left ⊎ added left
-  pub keeps : (moment : ℕ) (left : List (List ℕ)) → moment ≤ before → past moment left → since moment left
+-- the moments of a call add this alone to what a crash since an earlier moment might have left, and
+-- take nothing away
+pub record Adds (before : ℕ) (past since : ℕ → List (List ℕ) → Type 0)
+    (added : List (List ℕ) → Type 0) : Type 0 where
+  pub nothing_else : (moment : ℕ) (left : List (List ℕ)) → moment ≤ before → since moment left
+      → past moment left ⊎ added left
+  pub keeps : (moment : ℕ) (left : List (List ℕ)) → moment ≤ before → past moment left
+      → since moment left
 
--- the clock does not fall, and a crash during the call leaves the records, or these with the one in doubt
-pub record PassesTime (records : Option (List (List ℕ))) (doubt : Option (List ℕ)) (before after : Crashes) : Type 0 where
+-- the clock does not fall, and a crash during the call leaves the records, or these with the one in
+-- doubt
+pub record PassesTime (records : Option (List (List ℕ))) (doubt : Option (List ℕ))
+    (before after : Crashes) : Type 0 where
   pub clock : before.clock ≤ after.clock
   pub told : after.told ≡ before.told
-  pub crash : IfTold before.told records (λ kept. Adds before.clock before.left_since after.left_since (MayLeave kept doubt))
+  pub crash : IfTold before.told records
+      (λ kept. Adds before.clock before.left_since after.left_since (MayLeave kept doubt))
 
 -- a crash now leaves the records, or these with the one in doubt
 abbrev pub LeavesRecords : KeeperState → Crashes → Type 0
 LeavesRecords k crashes =
-    IfTold crashes.told k.records (λ kept. (left : List (List ℕ)) → crashes.left_since crashes.clock left → MayLeave kept k.doubt left)
+    IfTold crashes.told k.records (λ kept. (left : List (List ℕ))
+    → crashes.left_since crashes.clock left → MayLeave kept k.doubt left)

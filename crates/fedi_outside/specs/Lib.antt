@@ -2,12 +2,15 @@ pub mod Causes
 pub mod Disks
 pub mod Doors
 pub mod Entropies
+pub mod Images
 pub mod Keepers
+pub mod Known
 pub mod Links
 pub mod MemoryDiskLaws
 pub mod MemoryDisks
 pub mod MemoryDoors
 pub mod MemoryKeepers
+pub mod Opening
 pub mod Plans
 pub mod Sinks
 pub mod Sources

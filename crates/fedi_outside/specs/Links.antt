@@ -1,5 +1,6 @@
 -- What a link to other servers tells.
-use Rattle.std.specs.Prelude.{◌≡◌, ℕ, ⊤, Bool, true, false, List, [], ◌∷◌, ◌++◌, take, Option, Some, None, Result, Ok, Err}
+use Rattle.std.specs.Prelude.{◌≡◌, ℕ, ⊤, Bool, true, false, List, [], ◌∷◌, ◌++◌, take, Option, Some}
+use Rattle.std.specs.Prelude.{None, Result, Ok, Err}
 use Rattle.fedi_outside.specs.declared.failure.Failed.{Failed}
 use Rattle.fedi_outside.specs.declared.memory_links.Asked.{Asked}
 use Rattle.fedi_outside.specs.declared.memory_links.Heard.{Heard}
@@ -10,7 +11,8 @@ pub record Asking : Type 0 where
   pub address : List ℕ
   pub request : List ℕ
 
--- One more row is told, if rows still are: a link that finds no memory for a row tells none from then on.
+-- One more row is told, if rows still are: a link that finds no memory for a row tells none from
+-- then on.
 abbrev pub AddsRow : {A : Type 0} → Option (List A) → Option (List A) → A → Type 0
 AddsRow before None row = ⊤
 AddsRow None (Some rows) row = ⊥

@@ -45,7 +45,9 @@ out_of d = option_map (coming_by line_left line_sent) d.out
 
 -- the row that this one in memory is
 abbrev pub row_of : MemoryRow → Row
-row_of (rows.Spoken came line) = Served (spoken_by line_left line_sent line_reads line_writes (coming_by line_left line_sent came.value) line)
+row_of (rows.Spoken came line) =
+    Served (spoken_by line_left line_sent line_reads line_writes
+    (coming_by line_left line_sent came.value) line)
 row_of (rows.Rested rest) = Rested rest
 
 -- how many rows are owed: one for a line that is out, and one for a rest that is to be told

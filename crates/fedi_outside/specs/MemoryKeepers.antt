@@ -6,7 +6,8 @@ use Rattle.fedi_outside.specs.Plans.{Plan}
 -- a keeper in memory that never fails
 pub record CalmKeeperState : Type 0 where
   pub records : List (List ℕ)
-  pub doubt : Option (List ℕ)  -- the record of the last append, if that failed and nothing was settled since
+  -- the record of the last append, if that failed and nothing was settled since
+  pub doubt : Option (List ℕ)
   pub spare : ℕ  -- a record that is shorter has room
   pub end : ℕ
 
@@ -26,7 +27,14 @@ doubt_of false bytes = None
 
 -- what a keeper in memory shows, with this count of faults
 abbrev pub shown_with : ℕ → CalmKeeperState → KeeperState
-shown_with faults k = record { records = Some k.records; held = length k.records; doubt = k.doubt; spare = k.spare; end = k.end; faults = faults }
+shown_with faults k = record {
+  records = Some k.records;
+  held = length k.records;
+  doubt = k.doubt;
+  spare = k.spare;
+  end = k.end;
+  faults = faults;
+}
 
 -- a keeper in memory tells nothing of crashes
 abbrev pub no_crashes : Crashes

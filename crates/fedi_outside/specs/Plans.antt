@@ -1,5 +1,6 @@
 -- When an object in memory is to fail, and how many bytes one of its calls moves.
-use Rattle.std.specs.Prelude.{ℕ, min, max, Bool, nat_eq, List, [], Option, None, Some, if◌then◌else◌}
+use Rattle.std.specs.Prelude.{ℕ, min, max, Bool, nat_eq, List, [], Option, None, Some}
+use Rattle.std.specs.Prelude.{if◌then◌else◌}
 use Rattle.std.specs.List.{list_any}
 use Rattle.fedi_outside.specs.Causes.{next_count}
 
@@ -19,7 +20,10 @@ is_to_fail p = list_any (λ n. nat_eq n p.calls) p.failing
 
 -- after one more call, which is counted, and its fault too if it is to fail
 abbrev pub after_call : Plan → Plan
-after_call p = record p { calls = next_count p.calls; faults = if is_to_fail p then next_count p.faults else p.faults }
+after_call p = record p {
+  calls = next_count p.calls;
+  faults = if is_to_fail p then next_count p.faults else p.faults;
+}
 
 -- how many bytes one call moves if there is room for so many: a limit of 0 counts as 1
 abbrev pub moved : Option ℕ → ℕ → ℕ

@@ -1,5 +1,6 @@
 -- A sink in memory, as its callers see it.
-use Rattle.std.specs.Prelude.{ℕ, ◌≡◌, ◌+◌, ◌≤◌, true, List, length, not, Option, Result, IsErr, is_ok}
+use Rattle.std.specs.Prelude.{ℕ, ◌≡◌, ◌+◌, ◌≤◌, true, List, length, not, Option, Result, IsErr}
+use Rattle.std.specs.Prelude.{is_ok}
 use Rattle.fedi_outside.specs.Plans.{Plan, is_to_fail, moved}
 
 -- what a sink in memory has taken, and which writes fail
@@ -10,6 +11,8 @@ pub record MemorySinkState : Type 0 where
   pub plan : Plan
 
 -- a write of so many bytes fails if it is to, and if not, then only for want of room
-pub record FailsByPlan {T E : Type 0} (before : MemorySinkState) (count : ℕ) (result : Result T E) : Type 0 where
+pub record FailsByPlan {T E : Type 0} (before : MemorySinkState) (count : ℕ)
+    (result : Result T E) : Type 0 where
   pub planned : is_to_fail before.plan ≡ true → IsErr result
-  pub has_room : length before.sent + moved before.limit count ≤ before.capacity → is_ok result ≡ not (is_to_fail before.plan)
+  pub has_room : length before.sent + moved before.limit count ≤ before.capacity
+      → is_ok result ≡ not (is_to_fail before.plan)

@@ -1,5 +1,7 @@
 //! A keeper in memory that never fails.
-ghost use Rattle.std.specs.Prelude.{ℕ, ◌≡◌, ◌↔◌, ◌+◌, ◌^◌, ◌<◌, ◌≤◌, max, List, [], ◌∷◌, ◌++◌, length, Some, None, IsOk, IfOk, IfErr, OnOk, OnErr, IsErr, IsErrOf, vec_capacity};
+ghost use Rattle.std.specs.Prelude.{ℕ, ◌≡◌, ◌↔◌, ◌+◌, ◌^◌, ◌<◌, ◌≤◌, max, List, [], ◌∷◌, ◌++◌};
+ghost use Rattle.std.specs.Prelude.{length, Some, None, IsOk, IfOk, IfErr, OnOk, OnErr, IsErr};
+ghost use Rattle.std.specs.Prelude.{IsErrOf, vec_capacity};
 ghost use Rattle.fedi_outside.specs.Keepers.{Finds};
 ghost use Rattle.fedi_outside.specs.MemoryKeepers.{no_crashes, no_records, shown_with};
 ghost use Rattle.std.proofs.Common.{refl, ◌∙◌};
@@ -40,7 +42,8 @@ impl Record {
     }
 }
 
-/// A keeper in memory that never fails. It tells its records, and its count of faults is 0. Only `reserve` and `load` take memory.
+/// A keeper in memory that never fails. It tells its records, and its count of faults is 0. Only
+/// `reserve` and `load` take memory.
 #[derive(Drop)]
 pub struct CalmKeeper {
     alloc: Global,
@@ -100,7 +103,8 @@ impl CalmKeeper {
         &self.records
     }
 
-    /// Leaves these bytes in doubt, as an append of them that failed does. There is room for them, which stays.
+    /// Leaves these bytes in doubt, as an append of them that failed does. There is room for them,
+    /// which stays.
     pub(crate) fn leave_in_doubt(&mut self, payload: &[u8])
         requires { length payload.now < self.old.spare }
         ensures { self.new ≡ record self.old { doubt = Some payload.now } }

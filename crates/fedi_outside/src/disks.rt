@@ -1,14 +1,17 @@
 //! Where bytes are kept that are to outlive the program.
-ghost use Rattle.std.specs.Prelude.{ℕ, ◌≡◌, ◌+◌, ◌≤◌, List, length, take, drop, IfSome, OnOk, OnErr};
-ghost use Rattle.fedi_outside.specs.Disks.{DiskCrashes, DiskState, Elapses, HasTorn, LeavesOnly, MayTear, after_len, after_reading, after_write};
+ghost use Rattle.std.specs.Prelude.{ℕ, ◌≡◌, ◌+◌, ◌≤◌, List, length, take, drop, IfSome, OnOk};
+ghost use Rattle.std.specs.Prelude.{OnErr};
+ghost use Rattle.fedi_outside.specs.Disks.{DiskCrashes, DiskState, Elapses, HasTorn, LeavesOnly};
+ghost use Rattle.fedi_outside.specs.Disks.{MayTear, after_len, after_reading, after_write};
 
 use crate::Failed;
 
 /// Bytes that outlive the program, as far as they are synced.
 ///
-/// Between two syncs that succeed, a crash may leave any bytes in the range of each write, and past the old end; other bytes stay. A
-/// single byte that is written inside the disk is the exception: a crash, and a write that fails, leave the old one or the new one.
-/// After a sync that succeeds a crash leaves what reads give.
+/// Between two syncs that succeed, a crash may leave any bytes in the range of each write, and past
+/// the old end; other bytes stay. A single byte that is written inside the disk is the exception: a
+/// crash, and a write that fails, leave the old one or the new one. After a sync that succeeds a
+/// crash leaves what reads give.
 pub trait Disk {
     /// The disk, as its callers see it.
     ghost shown: { Self → DiskState };
@@ -21,7 +24,8 @@ pub trait Disk {
         ensures shown { shown self.new ≡ after_len result (shown self.old) }
         ensures time { Elapses (crashes self.old) (crashes self.new) (crashes self.old).may_leave };
 
-    /// Reads the bytes at this offset, as many as there is room for. After an error `into` holds any bytes.
+    /// Reads the bytes at this offset, as many as there is room for. After an error `into` holds
+    /// any bytes.
     fn read_at(&mut self, at: u64, into: &mut [u8]) -> Result<(), Failed>
         requires inside { at + length into.old ≤ (shown self.old).size }
         ensures bytes { OnOk result (IfSome (shown self.old).reads
@@ -29,8 +33,8 @@ pub trait Disk {
         ensures shown { shown self.new ≡ after_reading result (shown self.old) }
         ensures time { Elapses (crashes self.old) (crashes self.new) (crashes self.old).may_leave };
 
-    /// Writes these bytes at this offset, in the place of those that are there, and past the end. After an error the range holds any
-    /// bytes, or the single byte in it the old or the new one.
+    /// Writes these bytes at this offset, in the place of those that are there, and past the end.
+    /// After an error the range holds any bytes, or the single byte in it the old or the new one.
     fn write_at(&mut self, at: u64, from: &[u8]) -> Result<(), Failed>
         requires inside { at ≤ (shown self.old).size }
         ensures written { OnOk result (shown self.new ≡ after_write at from.now (shown self.old)) }
@@ -38,8 +42,8 @@ pub trait Disk {
         ensures time { Elapses (crashes self.old) (crashes self.new)
             (MayTear at from.now (crashes self.old)) };
 
-    /// Makes all that was written last: a crash then leaves what reads give. After an error a crash leaves what it might have left
-    /// before.
+    /// Makes all that was written last: a crash then leaves what reads give. After an error a crash
+    /// leaves what it might have left before.
     fn sync(&mut self) -> Result<(), Failed>
         ensures durable { OnOk result
             (IfSome (shown self.old).reads (LeavesOnly (crashes self.new))) }
@@ -62,8 +66,8 @@ pub trait Disk {
         → (crashes disk).left_since (crashes disk).clock image → (crashes disk).may_leave image };
 }
 
-/// Writes these bytes at this offset, and syncs: a crash then leaves what reads give. After an error the range holds any bytes, as
-/// after a write that failed, also if only the sync did.
+/// Writes these bytes at this offset, and syncs: a crash then leaves what reads give. After an
+/// error the range holds any bytes, as after a write that failed, also if only the sync did.
 #[tactic(auto, using(crate::proofs::DiskSteps::torn_unsynced))]
 pub fn write_synced<D: Disk>(disk: &mut D, at: u64, from: &[u8]) -> Result<(), Failed>
     requires inside { at ≤ (D.shown disk.old).size }

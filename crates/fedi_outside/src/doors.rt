@@ -1,11 +1,12 @@
 //! Where connections come from.
 ghost use Rattle.std.specs.Prelude.{◌≡◌, ℕ, Bool, List, None, Option, Some, false, is_some, true};
-ghost use Rattle.fedi_outside.specs.Doors.{Coming, Gives, IsTurnCounted, Rested, Row, Served, spoken_by, with_row};
+ghost use Rattle.fedi_outside.specs.Doors.{Coming, Gives, IsTurnCounted, Rested, Row, Served};
+ghost use Rattle.fedi_outside.specs.Doors.{spoken_by, with_row};
 
 use crate::{Line, Rest, Turn};
 
-/// Where connections come from, one after the other. Each line that it gives is handed back before it is asked again, and each time
-/// that none waits it is told what was done.
+/// Where connections come from, one after the other. Each line that it gives is handed back before
+/// it is asked again, and each time that none waits it is told what was done.
 pub trait Door {
     type L: Line + Drop + Send;
 
@@ -15,7 +16,8 @@ pub trait Door {
     /// Whether it said that no connection waits, and was not told yet what was done.
     ghost idle: { Self → Bool };
 
-    /// One row for each line that came back and for each rest that it was told, in order, if it tells them.
+    /// One row for each line that came back and for each rest that it was told, in order, if it
+    /// tells them.
     ghost served: { Self → Option (List Row) };
 
     /// Whether its last turn was that there will be no connection any more.

@@ -1,5 +1,6 @@
 //! Where random bytes come from.
-ghost use Rattle.std.specs.Prelude.{ℕ, ◌≡◌, ◌↔◌, ◌+◌, ◌≤◌, false, List, Option, Some, None, length, is_some, IsOk, OnOk, OnErr};
+ghost use Rattle.std.specs.Prelude.{ℕ, ◌≡◌, ◌↔◌, ◌+◌, ◌≤◌, false, List, Option, Some, None, length};
+ghost use Rattle.std.specs.Prelude.{is_some, IsOk, OnOk, OnErr};
 ghost use Rattle.fedi_outside.specs.Causes.{HasCause, next_count};
 ghost use Rattle.fedi_outside.specs.Entropies.{FillConsumes};
 ghost use Rattle.fedi_outside.specs.Plans.{is_to_fail, no_faults};
@@ -17,15 +18,16 @@ pub trait Entropy {
     /// How many calls failed. The count saturates at 2^64 - 1.
     ghost faults: { Self → ℕ };
 
-    /// Fills `into` with the next 32 bytes. After an error the bytes to come are as before, and `into` holds any bytes.
+    /// Fills `into` with the next 32 bytes. After an error the bytes to come are as before, and
+    /// `into` holds any bytes.
     fn fill(&mut self, into: &mut [u8; 32]) -> Result<(), Failed>
         ensures bytes { FillConsumes (next self.old) (next self.new) result into.new }
         ensures told { is_some (next self.new) ≡ is_some (next self.old) }
         ensures cause { HasCause (faults self.old) (faults self.new) result };
 }
 
-/// An entropy that never fails, and gives the same 32 bytes in each call. What it gives has no end, so it tells no bytes to come. Its
-/// count of faults is 0.
+/// An entropy that never fails, and gives the same 32 bytes in each call. What it gives has no end,
+/// so it tells no bytes to come. Its count of faults is 0.
 #[derive(Clone, Copy, Debug)]
 pub struct CalmEntropy {
     bytes: [u8; 32],
@@ -65,8 +67,8 @@ impl Entropy for CalmEntropy {
     }
 }
 
-/// An entropy over bytes in memory, which may be made to fail. It tells its bytes and counts its faults. If fewer than 32 bytes are
-/// left, a fill fails too.
+/// An entropy over bytes in memory, which may be made to fail. It tells its bytes and counts its
+/// faults. If fewer than 32 bytes are left, a fill fails too.
 #[derive(Drop)]
 pub struct MemoryEntropy {
     bytes: Vec<u8>,

@@ -1,7 +1,9 @@
 //! Where records are kept.
-ghost use Rattle.std.specs.Prelude.{ℕ, ◌≡◌, ◌↔◌, ◌<◌, ◌≤◌, length, is_some, nat_lt, Some, None, IfSome, IfOk, OnOk, OnErr, IsErrOf};
+ghost use Rattle.std.specs.Prelude.{ℕ, ◌≡◌, ◌↔◌, ◌<◌, ◌≤◌, length, is_some, nat_lt, Some, None};
+ghost use Rattle.std.specs.Prelude.{IfSome, IfOk, OnOk, OnErr, IsErrOf};
 ghost use Rattle.fedi_outside.specs.Keepers.{Crashes, KeeperState, LeavesRecords, PassesTime};
-ghost use Rattle.fedi_outside.specs.Keepers.{Finds, HasAdded, HasFailed, HasRoom, IsFull, OnlyRoomChanged, after_fault, after_load};
+ghost use Rattle.fedi_outside.specs.Keepers.{Finds, HasAdded, HasFailed, HasRoom, IsFull};
+ghost use Rattle.fedi_outside.specs.Keepers.{OnlyRoomChanged, after_fault, after_load};
 
 use crate::Failed;
 use std::alloc::{AllocError, Global};
@@ -49,8 +51,9 @@ impl From<AllocError> for ReserveFault {
     }
 }
 
-/// A list of records, each of them bytes, that only grows. A record goes in by three calls: `reserve` makes room, `settle` removes
-/// the doubt that a failed append left, and `append` adds it. The keeper ends at 2^62.
+/// A list of records, each of them bytes, that only grows. A record goes in by three calls:
+/// `reserve` makes room, `settle` removes the doubt that a failed append left, and `append` adds
+/// it. The keeper ends at 2^62.
 pub trait Keeper {
     /// The keeper, as its callers see it.
     ghost shown: { Self → KeeperState };
@@ -71,9 +74,9 @@ pub trait Keeper {
     fn count(&self) -> u64
         ensures { result ≡ (shown self.now).held };
 
-    /// The record at this place, counted from 0, or none exactly if the place is at least the count. All is as before, also after
-    /// an error: `Failed` if the keeper failed, `Memory` if there is such a record and no memory for it. What lies outside is read,
-    /// and not written.
+    /// The record at this place, counted from 0, or none exactly if the place is at least the
+    /// count. All is as before, also after an error: `Failed` if the keeper failed, `Memory` if
+    /// there is such a record and no memory for it. What lies outside is read, and not written.
     fn load(&mut self, alloc: Global, place: u64) -> Result<Option<Vec<u8>>, LoadFault>
         ensures found { IfSome (shown self.old).records
             (λ records. IfOk result (Finds records place)) }
@@ -84,9 +87,9 @@ pub trait Keeper {
         ensures time { PassesTime (shown self.old).records (shown self.old).doubt
             (crashes self.old) (crashes self.new) };
 
-    /// Makes room for a record of this length. `Full` exactly if the end and the room for it come to more than 2^62; `Memory` if
-    /// there was no such room yet and there is no memory for it. All else is as before, and after an error the room too. Nothing
-    /// outside is written.
+    /// Makes room for a record of this length. `Full` exactly if the end and the room for it come
+    /// to more than 2^62; `Memory` if there was no such room yet and there is no memory for it. All
+    /// else is as before, and after an error the room too. Nothing outside is written.
     fn reserve(&mut self, length: usize) -> Result<(), ReserveFault>
         ensures full { IsErrOf result ReserveFault.Full ↔ IsFull room (shown self.old).end length }
         ensures spare { OnOk result (length < (shown self.new).spare) }
@@ -97,16 +100,17 @@ pub trait Keeper {
         ensures time { PassesTime (shown self.old).records (shown self.old).doubt
             (crashes self.old) (crashes self.new) };
 
-    /// Removes what a failed append may have left, so that nothing is in doubt. It takes no memory, and after an error all is in
-    /// doubt as before.
+    /// Removes what a failed append may have left, so that nothing is in doubt. It takes no memory,
+    /// and after an error all is in doubt as before.
     fn settle(&mut self) -> Result<(), Failed>
         ensures settled { OnOk result (shown self.new ≡ record (shown self.old) { doubt = None }) }
         ensures refused { OnErr result (shown self.new ≡ after_fault (shown self.old)) }
         ensures time { PassesTime (shown self.old).records (shown self.old).doubt
             (crashes self.old) (crashes self.new) };
 
-    /// Adds the payload as the last record. It takes no memory: nothing is in doubt, and room was made. After an error the records
-    /// and the room are as before, and this record may be in doubt.
+    /// Adds the payload as the last record. It takes no memory: nothing is in doubt, and room was
+    /// made. After an error the records and the room are as before, and this record may be in
+    /// doubt.
     fn append(&mut self, payload: &[u8]) -> Result<(), Failed>
         requires settled { (shown self.old).doubt ≡ None }
         requires spare { length payload.now < (shown self.old).spare }
@@ -117,7 +121,8 @@ pub trait Keeper {
         ensures time { PassesTime (shown self.old).records (Some payload.now)
             (crashes self.old) (crashes self.new) };
 
-    /// A crash now leaves the records, or these with the one in doubt: after a call that settled, the records alone.
+    /// A crash now leaves the records, or these with the one in doubt: after a call that settled,
+    /// the records alone.
     ghost crash_now: { (keeper : Self) → LeavesRecords (shown keeper) (crashes keeper) };
 
     /// No call reads only.

@@ -1,8 +1,12 @@
-//! What lies outside the server: where bytes come from, where they go, where records are kept, what time it is, and what nobody can
-//! guess.
+//! What lies outside the server: where bytes come from, where they go, where records are kept, what
+//! time it is, and what nobody can guess.
 //!
-//! Each trait says what a caller may rely on. Its ghost members are what contracts see of a value: some are optional, and a value
-//! that has one is said to tell it. Each trait has an implementation in memory, which tells all that it does.
+//! Each trait says what a caller may rely on. Its ghost members are what contracts see of a value:
+//! some are optional, and a value that has one is said to tell it. Each trait has an implementation
+//! in memory, which tells all that it does.
+//!
+//! Beside the traits stands what a file of records is on a disk, in any format: what it looks like,
+//! what it is found to be when it is opened, and what is known of a disk with one.
 #![tactic(auto)]
 
 mod calm_keepers;
@@ -11,6 +15,7 @@ mod disks;
 mod doors;
 mod entropies;
 mod failure;
+mod images;
 mod keepers;
 mod lines;
 mod links;
@@ -30,6 +35,7 @@ pub use disks::{Disk, write_synced};
 pub use doors::{Bench, Door};
 pub use entropies::{CalmEntropy, Entropy, MemoryEntropy};
 pub use failure::Failed;
+pub use images::{files_have_one_list, openings_exclude_each_other, plain_is_a_format};
 pub use keepers::{Keeper, LoadFault, ReserveFault};
 pub use lines::Line;
 pub use links::{Link, REPLY_LENGTH};

@@ -3,7 +3,8 @@ ghost use Rattle.std.specs.Prelude.{◌≡◌};
 
 use crate::{Sink, Source};
 
-/// One connection. What stands beside a read of it is what was sent, and what stands beside a write is what is to be read.
+/// One connection. What stands beside a read of it is what was sent, and what stands beside a write
+/// is what is to be read.
 pub trait Line: Source + Sink {
     /// A read leaves the bytes that were sent and the count of failed writes.
     ghost reads_beside: { (line : Self) → Self.Source.beside_source line

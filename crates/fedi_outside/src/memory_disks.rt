@@ -1,9 +1,12 @@
 //! A disk in memory that may be made to fail.
-ghost use Rattle.std.specs.Prelude.{◌≡◌, ◌∷◌, [], ◌++◌, ◌+◌, ◌≤◌, length, take, drop, Some, IfOk, OnOk, OnErr};
+ghost use Rattle.std.specs.Prelude.{◌≡◌, ◌∷◌, [], ◌++◌, ◌+◌, ◌≤◌, length, take, drop, Some, IfOk};
+ghost use Rattle.std.specs.Prelude.{OnOk, OnErr};
 ghost use Rattle.std.proofs.Common.{inl, refl};
 ghost use Rattle.fedi_outside.specs.Causes.{next_count};
-ghost use Rattle.fedi_outside.specs.Disks.{Elapses, HasTorn, LeavesOnly, MayTear, after_len, after_reading, after_write, spliced};
-ghost use Rattle.fedi_outside.specs.MemoryDisks.{FailsByPlan, contents_of, disk_crashes, disk_shown, fresh_disk, is_failing};
+ghost use Rattle.fedi_outside.specs.Disks.{Elapses, HasTorn, LeavesOnly, MayTear, after_len};
+ghost use Rattle.fedi_outside.specs.Disks.{after_reading, after_write, spliced};
+ghost use Rattle.fedi_outside.specs.MemoryDisks.{FailsByPlan, contents_of, disk_crashes};
+ghost use Rattle.fedi_outside.specs.MemoryDisks.{disk_shown, fresh_disk, is_failing};
 ghost use Rattle.fedi_outside.specs.MemoryDiskLaws.{now_is_since, only_since};
 
 use crate::Failed;
@@ -24,9 +27,10 @@ pub enum Call {
     Sync { done: bool },
 }
 
-/// A disk in memory that may be made to fail. It tells its bytes and what a crash may leave, keeps a record of its calls, and counts
-/// its faults. A call fails by its plan alone, but for one that finds no memory for its record, which has no other effect and is not
-/// recorded. A write that fails leaves the bytes as they were.
+/// A disk in memory that may be made to fail. It tells its bytes and what a crash may leave, keeps
+/// a record of its calls, and counts its faults. A call fails by its plan alone, but for one that
+/// finds no memory for its record, which has no other effect and is not recorded. A write that
+/// fails leaves the bytes as they were.
 #[derive(Drop)]
 pub struct MemoryDisk {
     alloc: Global,
@@ -56,7 +60,8 @@ impl Model for MemoryDisk {
 }
 
 impl MemoryDisk {
-    /// A disk with these bytes, which count as synced. It fails only if out of memory. The error is out of memory.
+    /// A disk with these bytes, which count as synced. It fails only if out of memory. The error is
+    /// out of memory.
     pub fn new(alloc: Global, bytes: Vec<u8>) -> Result<Self, AllocError>
         ensures { IfOk result (λ disk. disk ≡ fresh_disk bytes.items) }
     {
@@ -127,7 +132,8 @@ impl MemoryDisk {
     }
 }
 
-// Puts bytes in the place of those at this offset, and past the end. The error is out of memory, and then nothing changes.
+// Puts bytes in the place of those at this offset, and past the end. The error is out of memory,
+// and then nothing changes.
 fn splice(bytes: &mut Vec<u8>, at: usize, from: &[u8]) -> Result<(), AllocError>
     requires { at ≤ length bytes.old.items }
     ensures ok { OnOk result (bytes.new.items ≡ spliced at from.now bytes.old.items) }

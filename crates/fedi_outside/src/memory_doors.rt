@@ -20,7 +20,8 @@ pub enum MemoryRow {
     Rested(Rest),
 }
 
-/// A door in memory that gives these turns, and is closed after them. It tells its rows, and counts the turns that failed.
+/// A door in memory that gives these turns, and is closed after them. It tells its rows, and counts
+/// the turns that failed.
 #[derive(Drop)]
 pub struct MemoryDoor {
     turns: IntoIter<Turn<MemoryLine>>,
@@ -47,14 +48,16 @@ impl Model for MemoryDoor {
       faults = d.faults;
     } };
 
-    // Each line that is to come is new, and there is room for a row of each turn to come and of the one that is open.
+    // Each line that is to come is new, and there is room for a row of each turn to come and of the
+    // one that is open.
     ghost invariant = { λ d. All IsNewTurn (into_iter_items d.turns)
         × (length d.rows.items + owed d.out d.idle + length (into_iter_items d.turns)
         ≤ vec_capacity d.rows) };
 }
 
 impl MemoryDoor {
-    /// A door that gives these turns, in order, and is closed after them. The error is out of memory.
+    /// A door that gives these turns, in order, and is closed after them. The error is out of
+    /// memory.
     pub fn new(alloc: Global, turns: Vec<Turn<MemoryLine>>) -> Result<Self, AllocError>
         requires { All IsNewTurn turns.items }
         ensures { IfOk result (λ door. door ≡ record {

@@ -1,5 +1,6 @@
 //! A keeper in memory that may be made to fail.
-ghost use Rattle.std.specs.Prelude.{◌≡◌, ◌↔◌, ◌+◌, ◌^◌, ◌<◌, ◌≤◌, max, not, [], ◌∷◌, ◌++◌, length, is_ok, Some, None, IsTrue, IfOk, OnOk, OnErr, IsErrOf};
+ghost use Rattle.std.specs.Prelude.{◌≡◌, ◌↔◌, ◌+◌, ◌^◌, ◌<◌, ◌≤◌, max, not, [], ◌∷◌, ◌++◌, length};
+ghost use Rattle.std.specs.Prelude.{is_ok, Some, None, IsTrue, IfOk, OnOk, OnErr, IsErrOf};
 ghost use Rattle.fedi_outside.specs.Keepers.{Finds};
 ghost use Rattle.fedi_outside.specs.MemoryKeepers.{no_crashes, no_records, shown_with};
 ghost use Rattle.fedi_outside.specs.Plans.{after_call, is_to_fail, no_faults};
@@ -12,8 +13,8 @@ use crate::plans::FaultPlan;
 use std::alloc::Global;
 use std::marker::Model;
 
-/// A keeper in memory that may be made to fail. It tells its records and counts its faults. Only `reserve` and `load` take memory. A
-/// failed append leaves its record in doubt.
+/// A keeper in memory that may be made to fail. It tells its records and counts its faults. Only
+/// `reserve` and `load` take memory. A failed append leaves its record in doubt.
 #[derive(Drop)]
 pub struct MemoryKeeper {
     keeper: CalmKeeper,
@@ -48,7 +49,8 @@ impl MemoryKeeper {
         }
     }
 
-    /// The same keeper, whose calls with these numbers fail. All calls of `load`, `settle` and `append` are counted, from 0.
+    /// The same keeper, whose calls with these numbers fail. All calls of `load`, `settle` and
+    /// `append` are counted, from 0.
     pub fn failing(self, calls: Vec<u64>) -> Self
         ensures { result ≡ record self { plan = record self.plan { failing = calls.items } } }
     {

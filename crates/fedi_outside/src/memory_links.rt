@@ -27,8 +27,8 @@ pub enum Heard {
 }
 
 /// A link in memory, which gives these replies in order, and may be made to fail; without any more
-/// it fails. It tells what it was asked and what was heard, unless it finds no memory for that: then
-/// it fails, and tells nothing from then on.
+/// it fails. It tells what it was asked and what was heard, unless it finds no memory for that:
+/// then it fails, and tells nothing from then on.
 #[derive(Drop)]
 pub struct MemoryLink {
     replies: Vec<Vec<u8>>,

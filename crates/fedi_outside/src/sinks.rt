@@ -1,5 +1,6 @@
 //! Where bytes go.
-ghost use Rattle.std.specs.Prelude.{ℕ, ◌≡◌, ◌<◌, ◌≤◌, List, Option, Some, None, [], length, is_some, IfOk};
+ghost use Rattle.std.specs.Prelude.{ℕ, ◌≡◌, ◌<◌, ◌≤◌, List, Option, Some, None, [], length};
+ghost use Rattle.std.specs.Prelude.{is_some, IfOk};
 ghost use Rattle.std.specs.Io.{WritesAtMost};
 ghost use Rattle.std.specs.Io.KnownBytes.{WriteAppends};
 ghost use Rattle.fedi_outside.specs.Causes.{HasCause, next_count};
@@ -19,10 +20,12 @@ pub trait Sink {
     /// How many writes failed. The count saturates at 2^64 - 1.
     ghost write_faults: { Self → ℕ };
 
-    /// A further meaning that a write leaves as it was: of a connection, what is to be read from it and its count of failed reads.
+    /// A further meaning that a write leaves as it was: of a connection, what is to be read from it
+    /// and its count of failed reads.
     ghost beside_sink: { Self → Option (List ℕ) × ℕ };
 
-    /// Takes bytes from the front of `from`, and returns how many: at least one if there is one. After an error none were taken.
+    /// Takes bytes from the front of `from`, and returns how many: at least one if there is one.
+    /// After an error none were taken.
     fn write(&mut self, from: &[u8]) -> Result<usize, Failed>
         ensures bound { WritesAtMost result from.now }
         ensures some { 0 < length from.now → IfOk result (λ count. 0 < count) }
@@ -32,8 +35,9 @@ pub trait Sink {
         ensures cause { HasCause (write_faults self.old) (write_faults self.new) result };
 }
 
-/// A sink that keeps what is written in memory, and may be made to take little at once and to fail. It tells its bytes and counts its
-/// faults. A write for which there is room fails by its plan alone; one that needs more room, and finds no memory for it, fails too.
+/// A sink that keeps what is written in memory, and may be made to take little at once and to fail.
+/// It tells its bytes and counts its faults. A write for which there is room fails by its plan
+/// alone; one that needs more room, and finds no memory for it, fails too.
 #[derive(Drop)]
 pub struct MemorySink {
     bytes: Vec<u8>,
@@ -87,7 +91,8 @@ impl MemorySink {
         sink
     }
 
-    /// The same sink, with room for so many bytes in all, those that were written among them. The error is out of memory.
+    /// The same sink, with room for so many bytes in all, those that were written among them. The
+    /// error is out of memory.
     pub fn with_room(self, bytes: usize) -> Result<Self, AllocError>
         ensures room { IfOk result (λ sink. bytes ≤ sink.capacity) }
         ensures same { IfOk result (λ sink. sink ≡ record self { capacity = sink.capacity }) }

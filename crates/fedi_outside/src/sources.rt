@@ -1,5 +1,6 @@
 //! Where bytes come from.
-ghost use Rattle.std.specs.Prelude.{ℕ, ◌≡◌, ◌≤◌, List, Option, Some, None, [], drop, length, is_some, is_ok, not, min, take, IsOkAnd, IfOk};
+ghost use Rattle.std.specs.Prelude.{ℕ, ◌≡◌, ◌≤◌, List, Option, Some, None, [], drop, length};
+ghost use Rattle.std.specs.Prelude.{is_some, is_ok, not, min, take, IsOkAnd, IfOk};
 ghost use Rattle.std.specs.Io.{ReadsAtMost};
 ghost use Rattle.std.specs.Io.KnownBytes.{ReadConsumes};
 ghost use Rattle.fedi_outside.specs.Causes.{HasCause};
@@ -19,11 +20,12 @@ pub trait Source {
     /// How many reads failed. The count saturates at 2^64 - 1.
     ghost read_faults: { Self → ℕ };
 
-    /// A further meaning that a read leaves as it was: of a connection, what was sent on it and its count of failed writes.
+    /// A further meaning that a read leaves as it was: of a connection, what was sent on it and its
+    /// count of failed writes.
     ghost beside_source: { Self → Option (List ℕ) × ℕ };
 
-    /// Writes the next bytes to the front of `into`, and returns how many. 0 for an `into` that is not empty is the end of the
-    /// input. After an error the bytes to come are as before.
+    /// Writes the next bytes to the front of `into`, and returns how many. 0 for an `into` that is
+    /// not empty is the end of the input. After an error the bytes to come are as before.
     fn read(&mut self, into: &mut [u8]) -> Result<usize, Failed>
         ensures bound { ReadsAtMost result into.new }
         ensures bytes { ReadConsumes (left self.old) (left self.new) result into.new }
@@ -90,7 +92,8 @@ impl Source for CalmSource {
     }
 }
 
-/// A source over bytes in memory, which may be made to give them in pieces and to fail. It tells its bytes and counts its faults.
+/// A source over bytes in memory, which may be made to give them in pieces and to fail. It tells
+/// its bytes and counts its faults.
 #[derive(Drop)]
 pub struct MemorySource {
     source: CalmSource,
@@ -120,8 +123,9 @@ impl MemorySource {
         }
     }
 
-    /// The same source, whose read with the number `k`, counted from 0 and with those that fail, gives at most `pieces[k]` bytes, of
-    /// which a 0 counts as 1. A read that has no piece gives as much as there is room for.
+    /// The same source, whose read with the number `k`, counted from 0 and with those that fail,
+    /// gives at most `pieces[k]` bytes, of which a 0 counts as 1. A read that has no piece gives as
+    /// much as there is room for.
     pub fn cut(self, pieces: Vec<usize>) -> Self
         ensures { result ≡ record self { pieces = pieces.items } }
     {

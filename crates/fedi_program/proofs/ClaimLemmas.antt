@@ -16,7 +16,7 @@ use Rattle.fedi_queue.specs.declared.rows.QueueRow.{QueueRow}
 use Rattle.fedi_queue.specs.Claims.{claim, claim_of, is_free_at, release}
 use Rattle.fedi_queue.specs.Queues.{is_claimed}
 use Rattle.fedi_queue.specs.Rows.{delivery_in, id_at, rows_of}
-use Rattle.fedi_talk.specs.Endings.{Output}
+use Rattle.fedi_logged.specs.Endings.{Output}
 use Rattle.fedi_town.specs.Collections.{text_of}
 use Rattle.fedi_town.specs.Histories.{town}
 use Rattle.fedi_town.specs.Legal.{IsLegal}

@@ -4,7 +4,7 @@ use Rattle.fedi_address.specs.Hosts.{IsHost}
 use Rattle.fedi_address.specs.Names.{is_name}
 use Rattle.fedi_core.specs.declared.keeping.KeepFault.TheVariants as keeps
 use Rattle.fedi_entry.specs.Codes.{code_of}
-use Rattle.fedi_images.proofs.Steps.{of_some}
+use Rattle.fedi_outside.proofs.ImageSteps.{of_some}
 use Rattle.fedi_log.specs.Keeping.{State}
 use Rattle.fedi_log.specs.Log.{Log}
 use Rattle.fedi_mac.specs.Keys.{key_of}
@@ -25,9 +25,9 @@ use Rattle.fedi_startup.specs.Surviving.{growth, room}
 use Rattle.fedi_startup.specs.declared.faults.MakeFault.TheVariants as makes
 use Rattle.fedi_startup.specs.declared.faults.StoreFault.{StoreFault}
 use Rattle.fedi_startup.specs.declared.faults.StoreFault.TheVariants as faults
-use Rattle.fedi_talk.specs.Conversations.{IsNow}
-use Rattle.fedi_talk.specs.Endings.{BreaksOff, Faults, Output, Scene, faults_of}
-use Rattle.fedi_talk.specs.declared.sessions.SessionEnd.TheVariants as sessions
+use Rattle.fedi_logged.specs.Conversations.{IsNow}
+use Rattle.fedi_logged.specs.Endings.{BreaksOff, Faults, Output, Scene, faults_of}
+use Rattle.fedi_logged.specs.declared.sessions.SessionEnd.TheVariants as sessions
 use Rattle.fedi_town.specs.declared.command_fault.CommandFault.{CommandFault}
 use Rattle.fedi_town.specs.declared.command_fault.CommandFault.TheVariants as commands
 use Rattle.fedi_town.specs.Histories.{town}

@@ -24,8 +24,8 @@ use Rattle.fedi_outside.specs.Keepers.{Crashes, OnlyRoomChanged, PassesTime, aft
 use Rattle.fedi_outside.specs.Causes.{next_count}
 use Rattle.fedi_outside.specs.Links.{AddsRow}
 use Rattle.fedi_startup.specs.Surviving.{growth, room}
-use Rattle.fedi_talk.specs.Conversations.{IsNow}
-use Rattle.fedi_talk.specs.Endings.{BreaksOff, Output, Writes, WritesUnlessFailed}
+use Rattle.fedi_logged.specs.Conversations.{IsNow}
+use Rattle.fedi_logged.specs.Endings.{BreaksOff, Output, Writes, WritesUnlessFailed}
 use Rattle.fedi_town.specs.Histories.{town}
 use Rattle.fedi_town.specs.Legal.{IsLegal}
 use Rattle.fedi_town.specs.Queues.{Delivery}
@@ -94,7 +94,8 @@ exchanges-more tried x =
 
 -- ---- while there is more to try
 
--- the first of the deliveries that were due were tried, those are left that are due now, and the line of each is printed
+-- the first of the deliveries that were due were tried, those are left that are due now, and the
+-- line of each is printed
 pub record IsTrying (growth room : ℕ → ℕ) (moment : ℕ) (opened now : State) (asked heard : Told) (first out : Output) : Type 0 where
   pub tried : List Trial
   pub each : TriesEach growth room moment opened tried now

@@ -6,7 +6,7 @@ use Rattle.std.specs.Io.KnownBytes.{Appends}
 use Rattle.std.proofs.Math.Seq.{drop-append_seam}
 use Rattle.std.proofs.lemmas.List.{append_cancel_left}
 use Rattle.std.proofs.lemmas.List.Elements.{All-head, All-tail}
-use Rattle.fedi_images.specs.Images.{IsImage, plain}
+use Rattle.fedi_outside.specs.Images.{IsImage, plain}
 use Rattle.fedi_journal.specs.Files.{HasRecords}
 use Rattle.fedi_log.specs.Keeping.{GoesAlone, HoldsFrom, HoldsSince, IsDoubted, Keeps, State, counted, since}
 use Rattle.fedi_log.specs.Log.{Added, Failed, Full, Goes, IsOthers, Kept, Log, NoEntry, Outcome, doubts_after, doubts_of, failed_in, given, history_of, mark_in, marks_of}
@@ -23,11 +23,11 @@ use Rattle.fedi_startup.proofs.Stored.{leaves_stores}
 use Rattle.fedi_startup.specs.Stores.{IsClosed, IsOpened, records_of}
 use Rattle.fedi_startup.specs.Stores as stores
 use Rattle.fedi_startup.specs.Surviving.{growth, opened_base, room}
-use Rattle.fedi_talk.proofs.Talks.{failures_marked, no_gaps, own_of_conversation}
-use Rattle.fedi_talk.specs.Conversations.{AreCalm, Exchange, IsCalm, Progress, beginning, failures, own_items, progress}
-use Rattle.fedi_talk.specs.Endings.{Scene, Serves, Talks}
-use Rattle.fedi_talk.specs.Turning.{setting_by}
-use Rattle.fedi_talk.specs.declared.sessions.SessionEnd.{SessionEnd}
+use Rattle.fedi_logged.proofs.Talks.{failures_marked, no_gaps, own_of_conversation}
+use Rattle.fedi_logged.specs.Conversations.{AreCalm, Exchange, IsCalm, Progress, beginning, failures, own_items, progress}
+use Rattle.fedi_logged.specs.Endings.{Scene, Serves, Talks}
+use Rattle.fedi_logged.specs.Turning.{setting_by}
+use Rattle.fedi_logged.specs.declared.sessions.SessionEnd.{SessionEnd}
 use Rattle.fedi_program.specs.Demonstrating.{HasStore, IsVisit, far_peer, founding, member, members, moment}
 use Rattle.fedi_program.specs.Demonstrating.{set_up, setting}
 use Rattle.fedi_program.specs.Endings.{RunsTo, status_of}
@@ -141,8 +141,8 @@ written_is before now text written first last adds =
     subst (λ (b : Option (List ℕ)). Appends b (Some text) written) first
     (subst (λ (n : Option (List ℕ)). Appends before n written) last adds)
 
--- All requests were answered, by a machine that was opened on the store of a disk and closed, and the
--- disk did not fail.
+-- All requests were answered, by a machine that was opened on the store of a disk and closed, and
+-- the disk did not fail.
 pub visited : (history : List Entry) (input text : List ℕ) (disk left : MemoryDiskState)
     (crashes : DiskCrashes) (opened closed : State) (log : Log) (first now : Scene) (status : ℕ)
     → HasStore history disk → IsOpened (disk_shown disk) opened

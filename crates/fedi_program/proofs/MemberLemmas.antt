@@ -1,4 +1,5 @@
--- What the making of a member or a peer leaves: a status that it may end with, and a machine that stands for a log.
+-- What the making of a member or a peer leaves: a status that it may end with, and a machine that
+-- stands for a log.
 use Rattle.std.proofs.Common.{◌≡◌, ◌⊎◌, ℕ, Bool, true, false, if◌then◌else◌, List, length, ◌++◌, Option, None, Some, Result, Ok, Err, OnOk, OnErr, inl, inr, refl, sym, ap, subst, ◌∙◌}
 use Rattle.std.specs.List.{list_any}
 use Rattle.fedi_core.specs.Commands.{IsCommand}
@@ -23,7 +24,7 @@ use Rattle.fedi_startup.specs.Surviving.{growth, room}
 use Rattle.fedi_program.specs.declared.commands.Table.{Table}
 use Rattle.fedi_program.specs.Commands.{AddActor, Init, Task, Export, Demo}
 use Rattle.fedi_logged.specs.Turns.{Standing, Turns}
-use Rattle.fedi_talk.specs.Endings.{Output}
+use Rattle.fedi_logged.specs.Endings.{Output}
 use Rattle.fedi_program.specs.Endings.{Prints}
 use Rattle.fedi_program.specs.Members.{Chance, EndsWith, IsSettled, IsUnmade, MakesMember, TellsFault, key_line, member_entry}
 use Rattle.fedi_program.specs.Runs.{is_status_of}

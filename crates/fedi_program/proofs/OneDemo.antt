@@ -31,8 +31,8 @@ use Rattle.fedi_model.specs.declared.request.Request.{Request}
 use Rattle.fedi_objects.specs.declared.entry.Entry.{Entry}
 use Rattle.fedi_startup.specs.Stores as stores
 use Rattle.fedi_startup.specs.Surviving.{growth, opened_base, room}
-use Rattle.fedi_talk.proofs.Determined.{one_conversation}
-use Rattle.fedi_talk.specs.Conversations.{
+use Rattle.fedi_logged.proofs.Determined.{one_conversation}
+use Rattle.fedi_logged.specs.Conversations.{
   Converses,
   Exchange,
   IsAnswered,

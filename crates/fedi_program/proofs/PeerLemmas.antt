@@ -4,8 +4,8 @@ use Rattle.fedi_address.specs.Hosts.{IsHost}
 use Rattle.fedi_log.specs.Keeping.{State}
 use Rattle.fedi_mac.specs.Keys.{key_of}
 use Rattle.fedi_startup.specs.Surviving.{growth, room}
-use Rattle.fedi_talk.specs.Conversations.{IsNow}
-use Rattle.fedi_talk.specs.Endings.{Output}
+use Rattle.fedi_logged.specs.Conversations.{IsNow}
+use Rattle.fedi_logged.specs.Endings.{Output}
 use Rattle.fedi_town.specs.Histories.{town}
 use Rattle.fedi_town.specs.Legal.{is_taken_host}
 use Rattle.fedi_town.specs.Towns.{Town}

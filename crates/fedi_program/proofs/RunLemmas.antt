@@ -5,8 +5,8 @@ use Rattle.fedi_startup.specs.Surviving.{growth, room}
 use Rattle.fedi_startup.specs.declared.faults.StoreFault.{StoreFault}
 use Rattle.fedi_startup.specs.declared.faults.StoreFault.TheVariants as faults
 use Rattle.fedi_log.specs.Keeping.{State}
-use Rattle.fedi_talk.specs.declared.sessions.SessionEnd.{SessionEnd}
-use Rattle.fedi_talk.specs.declared.sessions.SessionEnd.TheVariants.{End, CutShort, Closed, ReadFault, WriteFault, Memory}
+use Rattle.fedi_logged.specs.declared.sessions.SessionEnd.{SessionEnd}
+use Rattle.fedi_logged.specs.declared.sessions.SessionEnd.TheVariants.{End, CutShort, Closed, ReadFault, WriteFault, Memory}
 use Rattle.fedi_hall.specs.declared.serving.ServeEnd.{ServeEnd}
 use Rattle.fedi_hall.specs.declared.serving.ServeEnd.TheVariants as serves
 use Rattle.fedi_outside.specs.Doors.{Row}
@@ -14,10 +14,10 @@ use Rattle.fedi_outside.specs.declared.doors.Bench.{Bench}
 use Rattle.fedi_program.specs.Commands.{Inetd, Serve, Task}
 use Rattle.fedi_delivery.specs.Exchanges.{Told}
 use Rattle.fedi_program.specs.Serving.{ServesDoors, status_after}
-use Rattle.fedi_talk.specs.Conversations.{Setting}
-use Rattle.fedi_talk.specs.Endings.{Faults, IsCaused, Output, Scene, Serves, Talks}
+use Rattle.fedi_logged.specs.Conversations.{Setting}
+use Rattle.fedi_logged.specs.Endings.{Faults, IsCaused, Output, Scene, Serves, Talks}
 use Rattle.fedi_program.specs.Endings.{HasCauses, RunsTo, TalksIfTold, status_of}
-use Rattle.fedi_talk.specs.Turning.{setting_by}
+use Rattle.fedi_logged.specs.Turning.{setting_by}
 use Rattle.fedi_program.specs.Members.{Chance}
 use Rattle.fedi_program.specs.Runs.{is_status_of}
 use Rattle.fedi_program.specs.declared.commands.Table.{Table}

@@ -3,9 +3,9 @@ use Rattle.std.proofs.Common.{◌≡◌, ℕ, Bool, Option, Some, None, List, []
 use Rattle.std.specs.Prelude.{IfSome}
 use Rattle.fedi_address.specs.Hosts.{IsHost}
 use Rattle.fedi_entry.specs.Codes.{code_of}
-use Rattle.fedi_images.specs.Images.{plain}
-use Rattle.fedi_images.proofs.Steps.{of_some}
-use Rattle.fedi_images.specs.Known.{record_crashes, records_told}
+use Rattle.fedi_outside.specs.Images.{plain}
+use Rattle.fedi_outside.proofs.ImageSteps.{of_some}
+use Rattle.fedi_outside.specs.Known.{record_crashes, records_told}
 use Rattle.fedi_journal.specs.Making.{KeepsOther}
 use Rattle.fedi_log.specs.Keeping.{HoldsFrom, State, since}
 use Rattle.fedi_log.specs.Leaving.{CrashesAlong}
@@ -22,10 +22,10 @@ use Rattle.fedi_logged.specs.Marks.{MarksMayCome, Survives}
 use Rattle.fedi_startup.specs.Stores.{IsClosed, IsOpened, IsStoreOf, LeavesFiles, records_of}
 use Rattle.fedi_startup.specs.Surviving.{LeavesStoresAlong, LeavesStoresFound, SurvivesOnDisk, growth, opened_base, room}
 use Rattle.fedi_startup.specs.declared.faults.StoreFault.TheVariants as faults
-use Rattle.fedi_talk.specs.Conversations.{IsNow}
-use Rattle.fedi_talk.specs.Endings.{Output, Scene}
+use Rattle.fedi_logged.specs.Conversations.{IsNow}
+use Rattle.fedi_logged.specs.Endings.{Output, Scene}
 use Rattle.fedi_program.specs.Endings.{RunsTo}
-use Rattle.fedi_talk.specs.Turning.{setting_by}
+use Rattle.fedi_logged.specs.Turning.{setting_by}
 use Rattle.fedi_delivery.specs.Exchanges.{Told}
 use Rattle.fedi_hall.specs.Serving.{EndsServing, ServesAll}
 use Rattle.fedi_hall.specs.declared.serving.ServeEnd.{ServeEnd}

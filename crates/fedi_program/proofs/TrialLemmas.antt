@@ -15,7 +15,7 @@ use Rattle.fedi_objects.specs.declared.entry.Came.{Came}
 use Rattle.fedi_objects.specs.declared.entry.Entry.{Entry}
 use Rattle.fedi_objects.specs.declared.entry.Entry.TheVariants.{Tried}
 use Rattle.fedi_opening.specs.Opening.{IsNext}
-use Rattle.fedi_talk.specs.Endings.{Output}
+use Rattle.fedi_logged.specs.Endings.{Output}
 use Rattle.fedi_town.specs.Histories.{town}
 use Rattle.fedi_logged.specs.Attempts.{Exchange, HasExchanged, ShowsCame}
 use Rattle.fedi_program.specs.Delivering.{EndsTrial, TrialSurvives, stop_of}

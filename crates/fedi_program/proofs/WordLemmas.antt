@@ -12,7 +12,8 @@ abbrev counted : Bool → ℕ → ℕ
 counted false n = n
 counted true n = suc n
 
--- what is read where these are the positions so far, the flag was there or not, and these words are left
+-- what is read where these are the positions so far, the flag was there or not, and these words are
+-- left
 abbrev pub answer : Row → List (List ℕ) → Bool → List (List ℕ) → Option Reading
 answer row ps flagged rest =
     if (length (ps ++ positions_of row.flag rest) == row.positions) && list_all is_position (ps ++ positions_of row.flag rest)

@@ -1,5 +1,7 @@
 -- The arguments that the program takes.
-use Rattle.std.specs.Prelude.{ℕ, Bool, true, false, not, ◌&&◌, ◌==◌, nat_eq, nat_le, List, [], ◌∷◌, codes, length, map, bytes_eq, Option, Some, None, option_map, slice_index_or, if◌then◌else◌}
+use Rattle.std.specs.Prelude.{ℕ, Bool, true, false, not, ◌&&◌, ◌==◌, nat_eq, nat_le, List, [], ◌∷◌}
+use Rattle.std.specs.Prelude.{codes, length, map, bytes_eq, Option, Some, None, option_map}
+use Rattle.std.specs.Prelude.{slice_index_or, if◌then◌else◌}
 use Rattle.std.specs.List.{starts_with, filter, find, list_all, list_any}
 use Rattle.std.specs.Option.{option_and_then}
 use Rattle.std.specs.Str.Parse.{digits_value}
@@ -15,9 +17,9 @@ use Rattle.fedi_program.specs.declared.words.Verb.TheVariants as verbs
 
 -- What the program is asked to do: to print its usage, to begin a store for this host, to serve one
 -- connection, to serve those that come to this address, to make a member of this name, who is
--- locked or not, to make this host a peer with this key at this address, which is a relay or not, to
--- try each delivery that is due, to print this table of a store, to count what a store holds, or to
--- run the demonstration with this number.
+-- locked or not, to make this host a peer with this key at this address, which is a relay or not,
+-- to try each delivery that is due, to print this table of a store, to count what a store holds, or
+-- to run the demonstration with this number.
 pub data Task : Type 0 where
   Usage : Task
   Init : List ℕ → Task

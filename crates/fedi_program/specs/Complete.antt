@@ -1,5 +1,6 @@
 -- When a run does what it is asked: no call fails, no rule is broken, and the journal has room.
-use Rattle.std.specs.Prelude.{◌≡◌, ◌⊎◌, ◌<◌, ℕ, ◌+◌, Bool, true, List, [], ◌∷◌, length, slice_index_or, Option, None, Some}
+use Rattle.std.specs.Prelude.{◌≡◌, ◌⊎◌, ◌<◌, ℕ, ◌+◌, Bool, true, List, [], ◌∷◌, length}
+use Rattle.std.specs.Prelude.{slice_index_or, Option, None, Some}
 use Rattle.fedi_address.specs.Hosts.{IsHost}
 use Rattle.fedi_address.specs.Names.{is_name}
 use Rattle.fedi_entry.specs.Codes.{code_of}
@@ -15,12 +16,13 @@ use Rattle.fedi_outside.specs.declared.doors.Bench.{Bench}
 use Rattle.fedi_queue.specs.Due.{due_in}
 use Rattle.fedi_startup.specs.Stores.{IsStoreOf, end_of}
 use Rattle.fedi_startup.specs.Surviving.{growth, room}
-use Rattle.fedi_talk.specs.Conversations.{IsNow}
-use Rattle.fedi_talk.specs.Endings.{Faults}
+use Rattle.fedi_logged.specs.Conversations.{IsNow}
+use Rattle.fedi_logged.specs.Endings.{Faults}
 use Rattle.fedi_town.specs.Histories.{town}
 use Rattle.fedi_town.specs.Legal.{broken_command}
 use Rattle.fedi_town.specs.Queues.{Delivery}
-use Rattle.fedi_program.specs.Commands.{Task, Usage, Init, Inetd, Serve, AddActor, AddPeer, Deliver, Export, Check, Demo}
+use Rattle.fedi_program.specs.Commands.{Task, Usage, Init, Inetd, Serve, AddActor, AddPeer, Deliver}
+use Rattle.fedi_program.specs.Commands.{Export, Check, Demo}
 use Rattle.fedi_program.specs.Members.{Chance, Draws, member_entry}
 use Rattle.fedi_program.specs.Peers.{peer_entry}
 

@@ -1,5 +1,7 @@
--- Trying each delivery that is due once (ActivityPub, sections 7.1 and 7.1.2): the operator's command, and what is printed.
-use Rattle.std.specs.Prelude.{◌≡◌, ◌⊎◌, ℕ, List, [], ◌∷◌, ◌++◌, codes, decimal, length, map, Option, Result, Ok, Err}
+-- Trying each delivery that is due once (ActivityPub, sections 7.1 and 7.1.2): the operator's
+-- command, and what is printed.
+use Rattle.std.specs.Prelude.{◌≡◌, ◌⊎◌, ℕ, List, [], ◌∷◌, ◌++◌, codes, decimal, length, map, Option}
+use Rattle.std.specs.Prelude.{Result, Ok, Err}
 use Rattle.std.specs.List.{flat_map}
 use Rattle.fedi_address.specs.Iris.{host_of}
 use Rattle.fedi_core.specs.Keeping.{IsKept, Refuses}
@@ -21,8 +23,8 @@ use Rattle.fedi_outside.specs.Keepers.{OnlyRoomChanged}
 use Rattle.fedi_outside.specs.declared.doors.Bench.{Bench}
 use Rattle.fedi_startup.specs.declared.faults.StoreFault.{StoreFault}
 use Rattle.fedi_startup.specs.Surviving.{growth, room}
-use Rattle.fedi_talk.specs.Conversations.{IsNow}
-use Rattle.fedi_talk.specs.Endings.{BreaksOff, Output, Writes, WritesUnlessFailed}
+use Rattle.fedi_logged.specs.Conversations.{IsNow}
+use Rattle.fedi_logged.specs.Endings.{BreaksOff, Output, Writes, WritesUnlessFailed}
 use Rattle.fedi_town.specs.declared.outcome.Outcome.{Outcome}
 use Rattle.fedi_town.specs.declared.outcome.Outcome.TheVariants.{Delivered, Again, GivenUp}
 use Rattle.fedi_town.specs.Histories.{town}
@@ -31,11 +33,13 @@ use Rattle.fedi_town.specs.Towns.{Town}
 use Rattle.fedi_program.specs.Members.{IsSettled}
 use Rattle.fedi_program.specs.Stores.{IsRefused, IsRunAlone, Medium, TellsOfStore}
 use Rattle.fedi_program.specs.declared.delivering.Stop.{Stop}
-use Rattle.fedi_program.specs.declared.delivering.Stop.TheVariants.{WriteFault, KeeperFault, Full, Memory}
+use Rattle.fedi_program.specs.declared.delivering.Stop.TheVariants.{WriteFault, KeeperFault, Full}
+use Rattle.fedi_program.specs.declared.delivering.Stop.TheVariants.{Memory}
 
 -- ---- one attempt
 
--- an attempt to deliver the activity of this id to the recipient: its exchanges, and what came of it
+-- an attempt to deliver the activity of this id to the recipient: its exchanges, and what came of
+-- it
 pub record Trial : Type 0 where
   pub activity : List ℕ
   pub recipient : List ℕ
@@ -58,10 +62,12 @@ word_of Delivered = codes "delivered"
 word_of Again = codes "again"
 word_of GivenUp = codes "gave-up"
 
--- the line that tells of an attempt: the activity, the host of the recipient, who is not named, and the word
+-- the line that tells of an attempt: the activity, the host of the recipient, who is not named, and
+-- the word
 unfoldable pub attempt_line : (id recipient : List ℕ) → Came → List ℕ
 attempt_line id recipient came =
-    id ++ (codes " " ++ (host_of recipient ++ (codes " " ++ (word_of (outcome came) ++ codes "\n"))))
+    id
+    ++ (codes " " ++ (host_of recipient ++ (codes " " ++ (word_of (outcome came) ++ codes "\n"))))
 
 -- that of a trial
 abbrev pub line_of : Trial → List ℕ
@@ -81,8 +87,8 @@ done_line count = codes "done " ++ (decimal count ++ codes "\n")
 abbrev pub exchanges_of : List Trial → List Exchange
 exchanges_of tried = flat_map (λ (x : Trial). x.exchanges) tried
 
--- The machine went from the first state to the second by these attempts at this moment, one after the other, each at the history
--- that those before it left, and kept the entry of each.
+-- The machine went from the first state to the second by these attempts at this moment, one after
+-- the other, each at the history that those before it left, and kept the entry of each.
 abbrev pub TriesEach : (growth room : ℕ → ℕ) → ℕ → State → List Trial → State → Type 0
 TriesEach growth room moment before [] after = after ≡ before
 TriesEach growth room moment before (x ∷ xs) after =
@@ -107,32 +113,42 @@ TellsDone tried first now status =
 -- the line of the last that was tried was not printed, since its write failed (7)
 abbrev pub LosesLine : List Trial → Output → Output → ℕ → Type 0
 LosesLine tried first now status =
-    (status ≡ 7) × (earlier : List Trial) × (x : Trial) × (tried ≡ earlier ++ x ∷ []) × BreaksOff first now (lines_of earlier) (line_of x)
+    (status ≡ 7) × (earlier : List Trial) × (x : Trial) × (tried ≡ earlier ++ x ∷ [])
+    × BreaksOff first now (lines_of earlier) (line_of x)
 
--- the keeper had no room for the entry of one more attempt (13), or it failed and was asked once to settle (5), and this is told
-abbrev pub IsUnrecorded : (ℕ → ℕ) → State → State → Entry → List Trial → Output → Output → ℕ → Type 0
+-- the keeper had no room for the entry of one more attempt (13), or it failed and was asked once to
+-- settle (5), and this is told
+abbrev pub IsUnrecorded : (ℕ → ℕ) → State → State → Entry → List Trial → Output → Output
+    → ℕ → Type 0
 IsUnrecorded room last after e tried first now status =
-    ((status ≡ 13) × (after.history ≡ last.history) × Refuses room (code_of e) keeps.Full last.keeper after.keeper
+    ((status ≡ 13) × (after.history ≡ last.history)
+    × Refuses room (code_of e) keeps.Full last.keeper after.keeper
     × WritesUnlessFailed first now (lines_of tried) (codes "full\n"))
     ⊎ ((status ≡ 5) × (refused : State) × (refused.history ≡ last.history)
     × Refuses room (code_of e) keeps.Failed last.keeper refused.keeper × IsSettled refused after
     × WritesUnlessFailed first now (lines_of tried) (codes "disk fault\n"))
 
--- How the trying ends after the deliveries that were tried, with exchanges beyond theirs: nothing that is due is left; or a write
--- failed; or what came of one more attempt was not kept; or there was no memory to end the next attempt, or to begin any (12).
+-- How the trying ends after the deliveries that were tried, with exchanges beyond theirs: nothing
+-- that is due is left; or a write failed; or what came of one more attempt was not kept; or there
+-- was no memory to end the next attempt, or to begin any (12).
 abbrev pub EndsTrying :
-    (ℕ → ℕ) → ℕ → (last after : State) → List Trial → List Delivery → List Exchange → (first now : Output) → ℕ → Type 0
+    (ℕ → ℕ) → ℕ → (last after : State) → List Trial → List Delivery → List Exchange
+    → (first now : Output) → ℕ → Type 0
 EndsTrying room moment last after tried left beyond first now status =
     ((left ≡ []) × (beyond ≡ []) × (after ≡ last) × TellsDone tried first now status)
     ⊎ (((beyond ≡ []) × (after ≡ last) × LosesLine tried first now status)
-    ⊎ (((x : Trial) × IsFirst x.activity x.recipient left × IsAttempt (town last.history) x × (beyond ≡ x.exchanges)
+    ⊎ (((x : Trial) × IsFirst x.activity x.recipient left × IsAttempt (town last.history) x
+    × (beyond ≡ x.exchanges)
     × IsUnrecorded room last after (entry_of moment x) tried first now status)
-    ⊎ ((status ≡ 12) × (after.history ≡ last.history) × OnlyRoomChanged last.keeper after.keeper × Writes first now (lines_of tried)
-    × ((beyond ≡ []) ⊎ ((id : List ℕ) × (recipient : List ℕ) × IsFirst id recipient left × IsBegun (town last.history) id recipient beyond)))))
+    ⊎ ((status ≡ 12) × (after.history ≡ last.history) × OnlyRoomChanged last.keeper after.keeper
+    × Writes first now (lines_of tried)
+    × ((beyond ≡ []) ⊎ ((id : List ℕ) × (recipient : List ℕ) × IsFirst id recipient left
+    × IsBegun (town last.history) id recipient beyond)))))
 
--- The deliveries that were due at the one moment that was read were tried in order, each once: all of them at status 0, and else
--- the first of them.
-pub record TriesDue (growth room : ℕ → ℕ) (told : Option ℕ) (opened after : State) (before heard : Told) (first now : Output) (status : ℕ) : Type 0 where
+-- The deliveries that were due at the one moment that was read were tried in order, each once: all
+-- of them at status 0, and else the first of them.
+pub record TriesDue (growth room : ℕ → ℕ) (told : Option ℕ) (opened after : State)
+    (before heard : Told) (first now : Output) (status : ℕ) : Type 0 where
   pub moment : ℕ
   pub is_now : IsNow told moment
   pub tried : List Trial
@@ -144,10 +160,12 @@ pub record TriesDue (growth room : ℕ → ℕ) (told : Option ℕ) (opened afte
   pub exchanged : HasExchanged before heard (exchanges_of tried ++ beyond)
   pub ends : EndsTrying room moment last after tried left beyond first now status
 
--- How a run tries what is due of the store of a disk, over a link: it is not opened, and nothing is asked of the link; or it is.
+-- How a run tries what is due of the store of a disk, over a link: it is not opened, and nothing is
+-- asked of the link; or it is.
 abbrev pub DeliversStore : Option ℕ → Medium → Medium → Told → Told → Output → Output → ℕ → Type 0
 DeliversStore told before after asked heard first now status =
-    ((fault : StoreFault) × IsRefused before after fault × (heard ≡ asked) × TellsOfStore fault first now status)
+    ((fault : StoreFault) × IsRefused before after fault × (heard ≡ asked)
+    × TellsOfStore fault first now status)
     ⊎ ((opened : State) × (closed : State) × IsRunAlone before after opened closed
     × TriesDue growth room told opened closed asked heard first now status)
 
@@ -164,55 +182,71 @@ stop_of records.KeeperFault = KeeperFault
 stop_of records.Full = Full
 stop_of records.Memory = Memory
 
--- How one delivery that was claimed is tried: its entry is kept and its line printed; or that write failed; or the entry was not
--- kept; or there was no memory to end the attempt.
+-- How one delivery that was claimed is tried: its entry is kept and its line printed; or that write
+-- failed; or the entry was not kept; or there was no memory to end the attempt.
 abbrev pub EndsTrial :
-    (growth room : ℕ → ℕ) → ℕ → (id recipient : List ℕ) → (before after : State) → (asked heard : Told) → (first now : Output) → Result (Unit {0}) Stop → Type 0
+    (growth room : ℕ → ℕ) → ℕ → (id recipient : List ℕ) → (before after : State)
+    → (asked heard : Told) → (first now : Output) → Result (Unit {0}) Stop → Type 0
 EndsTrial growth room moment id recipient before after asked heard first now (Ok done) =
-    (exchanges : List Exchange) × (came : Came) × ShowsCame (town before.history) id recipient exchanges came
+    (exchanges : List Exchange) × (came : Came)
+    × ShowsCame (town before.history) id recipient exchanges came
     × HasExchanged asked heard exchanges
-    × IsKept growth room before.history (Tried id recipient came moment) before.keeper after.keeper after.history
+    × IsKept growth room before.history
+    (Tried id recipient came moment) before.keeper after.keeper after.history
     × Writes first now (attempt_line id recipient came)
 EndsTrial growth room moment id recipient before after asked heard first now (Err WriteFault) =
-    (exchanges : List Exchange) × (came : Came) × ShowsCame (town before.history) id recipient exchanges came
+    (exchanges : List Exchange) × (came : Came)
+    × ShowsCame (town before.history) id recipient exchanges came
     × HasExchanged asked heard exchanges
-    × IsKept growth room before.history (Tried id recipient came moment) before.keeper after.keeper after.history
+    × IsKept growth room before.history
+    (Tried id recipient came moment) before.keeper after.keeper after.history
     × BreaksOff first now [] (attempt_line id recipient came)
 EndsTrial growth room moment id recipient before after asked heard first now (Err KeeperFault) =
-    (exchanges : List Exchange) × (came : Came) × ShowsCame (town before.history) id recipient exchanges came
+    (exchanges : List Exchange) × (came : Came)
+    × ShowsCame (town before.history) id recipient exchanges came
     × HasExchanged asked heard exchanges × (after.history ≡ before.history)
-    × Refuses room (code_of (Tried id recipient came moment)) keeps.Failed before.keeper after.keeper × (now ≡ first)
+    × Refuses room (code_of (Tried id recipient came moment)) keeps.Failed before.keeper
+    after.keeper × (now ≡ first)
 EndsTrial growth room moment id recipient before after asked heard first now (Err Full) =
-    (exchanges : List Exchange) × (came : Came) × ShowsCame (town before.history) id recipient exchanges came
+    (exchanges : List Exchange) × (came : Came)
+    × ShowsCame (town before.history) id recipient exchanges came
     × HasExchanged asked heard exchanges × (after.history ≡ before.history)
-    × Refuses room (code_of (Tried id recipient came moment)) keeps.Full before.keeper after.keeper × (now ≡ first)
+    × Refuses room (code_of (Tried id recipient came moment)) keeps.Full before.keeper after.keeper
+    × (now ≡ first)
 EndsTrial growth room moment id recipient before after asked heard first now (Err Memory) =
-    (exchanges : List Exchange) × IsBegun (town before.history) id recipient exchanges × HasExchanged asked heard exchanges
+    (exchanges : List Exchange) × IsBegun (town before.history) id recipient exchanges
+    × HasExchanged asked heard exchanges
     × (after.history ≡ before.history) × OnlyRoomChanged before.keeper after.keeper × (now ≡ first)
 
 -- what a crash during it may leave: the keeper that failed may have left the entry
-abbrev pub TrialSurvives : (growth room : ℕ → ℕ) → (before after : Standing) → Result (Unit {0}) Stop → Type 0
+abbrev pub TrialSurvives : (growth room : ℕ → ℕ) → (before after : Standing)
+    → Result (Unit {0}) Stop → Type 0
 TrialSurvives growth room before after (Ok done) = SurvivesTurn growth before after
 TrialSurvives growth room before after (Err WriteFault) = SurvivesTurn growth before after
 TrialSurvives growth room before after (Err KeeperFault) =
-    (e : Entry) × Refuses room (code_of e) keeps.Failed before.state.keeper after.state.keeper × Turns growth before after (logs.Failed e)
+    (e : Entry) × Refuses room (code_of e) keeps.Failed before.state.keeper after.state.keeper
+    × Turns growth before after (logs.Failed e)
 TrialSurvives growth room before after (Err Full) = SurvivesTurn growth before after
 TrialSurvives growth room before after (Err Memory) = SurvivesTurn growth before after
 
--- What follows where no more is tried, and the status: it is told why, unless a write failed, or there is no memory; and a keeper
--- that failed is asked once to settle.
+-- What follows where no more is tried, and the status: it is told why, unless a write failed, or
+-- there is no memory; and a keeper that failed is asked once to settle.
 abbrev pub IsStopped : Stop → (before after : State) → (first now : Output) → ℕ → Type 0
 IsStopped WriteFault before after first now status = (status ≡ 7) × (after ≡ before) × (now ≡ first)
 IsStopped KeeperFault before after first now status =
     (status ≡ 5) × IsSettled before after × WritesUnlessFailed first now [] (codes "disk fault\n")
-IsStopped Full before after first now status = (status ≡ 13) × (after ≡ before) × WritesUnlessFailed first now [] (codes "full\n")
+IsStopped Full before after first now status =
+    (status ≡ 13) × (after ≡ before) × WritesUnlessFailed first now [] (codes "full\n")
 IsStopped Memory before after first now status = (status ≡ 12) × (after ≡ before) × (now ≡ first)
 
 -- ---- benches
 
--- How a run tries what is due by the link of the first of these benches: it alone is asked, and all else of the benches stays.
+-- How a run tries what is due by the link of the first of these benches: it alone is asked, and all
+-- else of the benches stays.
 abbrev pub DeliversBy :
-    {W K : Type 0} → (K → Told) → Option ℕ → Medium → Medium → (benches now : List (Bench W K)) → Output → Output → ℕ → Type 0
+    {W K : Type 0} → (K → Told) → Option ℕ → Medium → Medium → (benches now : List (Bench W K))
+    → Output → Output → ℕ → Type 0
 DeliversBy tells told before after [] now first out status = ⊥
 DeliversBy tells told before after (b ∷ benches) now first out status =
-    (link : _) × (now ≡ record b { link = link } ∷ benches) × DeliversStore told before after (tells b.link) (tells link) first out status
+    (link : _) × (now ≡ record b { link = link } ∷ benches)
+    × DeliversStore told before after (tells b.link) (tells link) first out status

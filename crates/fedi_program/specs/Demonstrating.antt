@@ -13,7 +13,7 @@ use Rattle.fedi_outside.specs.MemoryDisks.{MemoryDiskState, contents_of}
 use Rattle.fedi_report.specs.Reports.{waiting}
 use Rattle.fedi_startup.specs.Stores.{IsStoreOf, end_of}
 use Rattle.fedi_startup.specs.Surviving.{growth, room}
-use Rattle.fedi_talk.specs.Conversations.{
+use Rattle.fedi_logged.specs.Conversations.{
   AreCalm,
   Converses,
   Exchange,
@@ -24,8 +24,8 @@ use Rattle.fedi_talk.specs.Conversations.{
   beginning,
   progress,
 }
-use Rattle.fedi_talk.specs.Endings.{Output, Writes}
-use Rattle.fedi_talk.specs.Turning.{setting_by}
+use Rattle.fedi_logged.specs.Endings.{Output, Writes}
+use Rattle.fedi_logged.specs.Turning.{setting_by}
 use Rattle.fedi_town.specs.Histories.{town}
 use Rattle.fedi_program.specs.Endings.{Prints}
 

@@ -3,10 +3,12 @@ use Rattle.std.specs.Prelude.{◌≡◌, ◌⊎◌, ℕ, ◌==◌, List, [], IfS
 use Rattle.fedi_log.specs.Keeping.{State}
 use Rattle.fedi_log.specs.Log.{Log, given}
 use Rattle.fedi_outside.specs.Causes.{next_count}
-use Rattle.fedi_talk.specs.Conversations.{Setting}
-use Rattle.fedi_talk.specs.Endings.{BreaksOff, Faults, Output, Scene, Serves, Talks, Writes}
-use Rattle.fedi_talk.specs.declared.sessions.SessionEnd.{SessionEnd}
-use Rattle.fedi_talk.specs.declared.sessions.SessionEnd.TheVariants.{End, CutShort, Closed, ReadFault, WriteFault, Memory}
+use Rattle.fedi_logged.specs.Conversations.{Setting}
+use Rattle.fedi_logged.specs.Endings.{BreaksOff, Faults, Output, Scene, Serves, Talks, Writes}
+use Rattle.fedi_logged.specs.declared.sessions.SessionEnd.{SessionEnd}
+use Rattle.fedi_logged.specs.declared.sessions.SessionEnd.TheVariants.{End, CutShort, Closed}
+use Rattle.fedi_logged.specs.declared.sessions.SessionEnd.TheVariants.{ReadFault, WriteFault}
+use Rattle.fedi_logged.specs.declared.sessions.SessionEnd.TheVariants.{Memory}
 
 -- the status of each end of a session
 abbrev pub status_of : SessionEnd → ℕ
@@ -20,14 +22,16 @@ status_of Memory = 12
 -- a session over this log ended with this status
 abbrev pub RunsTo : Setting → State → Log → Scene → Scene → ℕ → Type 0
 RunsTo w opened log first now status =
-    (ending : SessionEnd) × (status ≡ status_of ending) × IfSome first.input (Serves w (given opened.history) first.output now log ending)
+    (ending : SessionEnd) × (status ≡ status_of ending)
+    × IfSome first.input (Serves w (given opened.history) first.output now log ending)
 
 -- the whole conversation over the input was held over this log, if the input is told
 abbrev pub TalksIfTold : Setting → State → Log → Scene → Scene → Type 0
-TalksIfTold w opened log first now = IfSome first.input (Talks w (given opened.history) first.output now log)
+TalksIfTold w opened log first now =
+    IfSome first.input (Talks w (given opened.history) first.output now log)
 
--- A run with this status has its cause: the count of failed reads rose exactly at 6, that of failed writes at 7 and not at
--- 0, 6 and 8.
+-- A run with this status has its cause: the count of failed reads rose exactly at 6, that of failed
+-- writes at 7 and not at 0, 6 and 8.
 pub record HasCauses (before now : Faults) (status : ℕ) : Type 0 where
   pub reads : now.reads ≡ (if status == 6 then next_count before.reads else before.reads)
   pub writes : (now.writes ≡ before.writes) ⊎ (now.writes ≡ next_count before.writes)
@@ -36,4 +40,5 @@ pub record HasCauses (before now : Faults) (status : ℕ) : Type 0 where
 
 -- a text was printed at status 0, and a prefix of it at 7, if a write failed
 abbrev pub Prints : Output → Output → List ℕ → ℕ → Type 0
-Prints before now text status = ((status ≡ 0) × Writes before now text) ⊎ ((status ≡ 7) × BreaksOff before now [] text)
+Prints before now text status =
+    ((status ≡ 0) × Writes before now text) ⊎ ((status ≡ 7) × BreaksOff before now [] text)

@@ -1,7 +1,8 @@
 -- What a run may do, by what it is asked.
 use Rattle.std.specs.Prelude.{ℕ, ◌==◌, Bool, true, false, List, [], ◌∷◌, Option, None, Some}
 use Rattle.std.specs.List.{list_any}
-use Rattle.fedi_program.specs.Commands.{Task, Usage, Init, Inetd, Serve, AddActor, AddPeer, Deliver, Export, Check, Demo}
+use Rattle.fedi_program.specs.Commands.{Task, Usage, Init, Inetd, Serve, AddActor, AddPeer, Deliver}
+use Rattle.fedi_program.specs.Commands.{Export, Check, Demo}
 
 -- the statuses with which it may end
 abbrev pub statuses_of : Option Task → List ℕ

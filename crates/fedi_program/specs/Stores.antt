@@ -1,5 +1,6 @@
 -- What a run does with the store of a disk, and what it prints of it.
-use Rattle.std.specs.Prelude.{◌≡◌, ◌⊎◌, ℕ, Bool, List, [], ◌∷◌, ◌++◌, codes, decimal, Option, None, IfSome}
+use Rattle.std.specs.Prelude.{◌≡◌, ◌⊎◌, ℕ, Bool, List, [], ◌∷◌, ◌++◌, codes, decimal, Option, None}
+use Rattle.std.specs.Prelude.{IfSome}
 use Rattle.fedi_address.specs.Hosts.{IsHost}
 use Rattle.fedi_log.specs.Keeping.{GoesAlone, HoldsFrom, State, since}
 use Rattle.fedi_log.specs.Log.{Log, given}
@@ -7,10 +8,10 @@ use Rattle.fedi_entry.specs.Codes.{code_of}
 use Rattle.fedi_objects.specs.declared.entry.Entry.{Entry}
 use Rattle.fedi_objects.specs.declared.entry.Entry.TheVariants.{Hosted}
 use Rattle.fedi_outside.specs.Disks.{DiskCrashes, DiskState, IsUntouched}
-use Rattle.fedi_talk.specs.Conversations.{IsNow}
-use Rattle.fedi_talk.specs.Endings.{BreaksOff, Output, Scene, Writes}
+use Rattle.fedi_logged.specs.Conversations.{IsNow}
+use Rattle.fedi_logged.specs.Endings.{BreaksOff, Output, Scene, Writes}
 use Rattle.fedi_program.specs.Endings.{Prints, RunsTo, TalksIfTold}
-use Rattle.fedi_talk.specs.Turning.{setting_by}
+use Rattle.fedi_logged.specs.Turning.{setting_by}
 use Rattle.fedi_program.specs.Members.{Chance, MakesMember, Tells, refusal_line}
 use Rattle.fedi_program.specs.Peers.{MakesPeer}
 use Rattle.fedi_program.specs.declared.commands.Table.{Table}
@@ -23,11 +24,13 @@ use Rattle.fedi_town.specs.Towns.{Town}
 use Rattle.fedi_logged.specs.Marks.{MarksMayCome}
 use Rattle.fedi_startup.specs.Making.{IsMade, IsNotMade, LeavesAtMost}
 use Rattle.fedi_startup.specs.Stores.{ComesBack, IsClosed, IsOpened, LeavesStores}
-use Rattle.fedi_startup.specs.Surviving.{LeavesStoresAlong, LeavesStoresFound, SurvivesOnDisk, growth, opened_base, room}
+use Rattle.fedi_startup.specs.Surviving.{LeavesStoresAlong, LeavesStoresFound, SurvivesOnDisk}
+use Rattle.fedi_startup.specs.Surviving.{growth, opened_base, room}
 use Rattle.fedi_startup.specs.declared.faults.MakeFault.{MakeFault}
 use Rattle.fedi_startup.specs.declared.faults.MakeFault.TheVariants as makes
 use Rattle.fedi_startup.specs.declared.faults.StoreFault.{StoreFault}
-use Rattle.fedi_startup.specs.declared.faults.StoreFault.TheVariants.{NotAStore, DamagedByte, DamagedRecord, Failed, Memory}
+use Rattle.fedi_startup.specs.declared.faults.StoreFault.TheVariants.{NotAStore, DamagedByte}
+use Rattle.fedi_startup.specs.declared.faults.StoreFault.TheVariants.{DamagedRecord, Failed, Memory}
 
 -- ---- disks
 
@@ -40,7 +43,8 @@ pub record Medium : Type 1 where
 abbrev pub medium_by : {D : Type 0} → (D → DiskState) → (D → DiskCrashes) → D → Medium
 medium_by shown crashes disk = record { shown = shown disk; crashes = crashes disk }
 
--- reads of the disk give the same bytes, and a crash on the way or afterwards leaves nothing new, image by image
+-- reads of the disk give the same bytes, and a crash on the way or afterwards leaves nothing new,
+-- image by image
 abbrev pub IsSame : Medium → Medium → Type 0
 IsSame before after = IsUntouched before.shown after.shown before.crashes after.crashes
 
@@ -49,23 +53,30 @@ pub record IsRefused (before after : Medium) (fault : StoreFault) : Type 0 where
   pub back : ComesBack fault before.shown after.shown
   pub same : IsSame before after
 
--- A machine was opened over the disk, in the first of these states, and closed in the second, and stands for this log, which begins
--- with the history of the opening. The disk's file has the records of its history. If its bytes are told, a crash after the run leaves a store of that history, or of it with
--- the entry in doubt; a crash on the way left files of the records along the log, if one before did, and these are stores; and
--- from some moment of the run on it left such stores whatever one before did.
+-- A machine was opened over the disk, in the first of these states, and closed in the second, and
+-- stands for this log, which begins with the history of the opening. The disk's file has the
+-- records of its history. If its bytes are told, a crash after the run leaves a store of that
+-- history, or of it with the entry in doubt; a crash on the way left files of the records along the
+-- log, if one before did, and these are stores; and from some moment of the run on it left such
+-- stores whatever one before did.
 pub record IsServed (before after : Medium) (opened closed : State) (log : Log) : Type 0 where
   pub opens : IsOpened before.shown opened
   pub closes : IsClosed after.shown after.crashes closed
   pub holds : HoldsFrom (opened_base opened) (given opened.history) closed log
   pub marks : MarksMayCome [] log
-  pub leaves : IfSome after.shown.reads (λ _. LeavesStores after.crashes closed.history closed.keeper.doubt)
-  pub files : IfSome before.shown.reads (λ _. SurvivesOnDisk before.crashes after.crashes opened log)
-  pub stores : IfSome before.shown.reads (λ _. LeavesStoresAlong before.crashes after.crashes opened.history (since (opened_base opened) log))
-  pub found : IfSome before.shown.reads (λ _. LeavesStoresFound before.crashes after.crashes opened.history (since (opened_base opened) log))
+  pub leaves :
+      IfSome after.shown.reads (λ _. LeavesStores after.crashes closed.history closed.keeper.doubt)
+  pub files :
+      IfSome before.shown.reads (λ _. SurvivesOnDisk before.crashes after.crashes opened log)
+  pub stores : IfSome before.shown.reads (λ _. LeavesStoresAlong before.crashes after.crashes
+      opened.history (since (opened_base opened) log))
+  pub found : IfSome before.shown.reads (λ _. LeavesStoresFound before.crashes after.crashes
+      opened.history (since (opened_base opened) log))
 
 -- and nobody else added to the log
 abbrev pub IsServedAlone : Medium → Medium → State → State → Log → Type 0
-IsServedAlone before after opened closed log = IsServed before after opened closed log × GoesAlone None (given opened.history) log
+IsServedAlone before after opened closed log =
+    IsServed before after opened closed log × GoesAlone None (given opened.history) log
 
 -- so with some log
 abbrev pub IsRunAlone : Medium → Medium → State → State → Type 0
@@ -81,7 +92,8 @@ IsKeptSafe before after =
 
 -- the line that tells where a store is damaged
 unfoldable pub damage_line : List ℕ → ℕ → List ℕ
-damage_line what place = (((codes "damaged at " ++ what) ++ codes " ") ++ decimal place) ++ codes "\n"
+damage_line what place =
+    (((codes "damaged at " ++ what) ++ codes " ") ++ decimal place) ++ codes "\n"
 
 -- the status of a run whose store is not opened
 abbrev pub status_by : StoreFault → ℕ
@@ -94,19 +106,23 @@ status_by Memory = 12
 -- and what is printed, but out of memory nothing
 abbrev pub TellsOfStore : StoreFault → Output → Output → ℕ → Type 0
 TellsOfStore NotAStore before now status = Tells before now 3 (codes "not a store\n") status
-TellsOfStore (DamagedByte place) before now status = Tells before now 4 (damage_line (codes "byte") place) status
-TellsOfStore (DamagedRecord place) before now status = Tells before now 4 (damage_line (codes "record") place) status
+TellsOfStore (DamagedByte place) before now status =
+    Tells before now 4 (damage_line (codes "byte") place) status
+TellsOfStore (DamagedRecord place) before now status =
+    Tells before now 4 (damage_line (codes "record") place) status
 TellsOfStore Failed before now status = Tells before now 5 (codes "disk fault\n") status
 TellsOfStore Memory before now status = (status ≡ 12) × Writes before now []
 
 -- ---- what a run does
 
--- How a run serves one connection over the store of a disk: it is not opened, or there is no memory to serve it, and nothing is
--- read or written; or it is, and a session is held.
+-- How a run serves one connection over the store of a disk: it is not opened, or there is no memory
+-- to serve it, and nothing is read or written; or it is, and a session is held.
 abbrev pub ServesStore : Option ℕ → Medium → Medium → Scene → Scene → ℕ → Type 0
 ServesStore told before after first now status =
-    ((fault : StoreFault) × IsRefused before after fault × (now ≡ first) × (status ≡ status_by fault))
-    ⊎ ((opened : State) × (closed : State) × (log : Log) × IsServedAlone before after opened closed log
+    ((fault : StoreFault) × IsRefused before after fault × (now ≡ first)
+    × (status ≡ status_by fault))
+    ⊎ ((opened : State) × (closed : State) × (log : Log)
+    × IsServedAlone before after opened closed log
     × RunsTo (setting_by growth room told None opened) opened log first now status)
 
 -- the whole conversation over the input was held, over the store of a disk
@@ -116,28 +132,34 @@ TalksOverStore told before after first now =
     × TalksIfTold (setting_by growth room told None opened) opened log first now
 
 -- how a run makes a member of the store of a disk
-abbrev pub AddsMember : Option ℕ → Medium → Medium → Chance → Chance → Output → Output → List ℕ → Bool → ℕ → Type 0
+abbrev pub AddsMember : Option ℕ → Medium → Medium → Chance → Chance → Output → Output → List ℕ
+    → Bool → ℕ → Type 0
 AddsMember told before after chance left first now name locked status =
-    ((fault : StoreFault) × IsRefused before after fault × (left ≡ chance) × TellsOfStore fault first now status)
+    ((fault : StoreFault) × IsRefused before after fault × (left ≡ chance)
+    × TellsOfStore fault first now status)
     ⊎ ((opened : State) × (closed : State) × IsRunAlone before after opened closed
     × MakesMember growth room told chance left opened closed first now name locked status)
 
 -- how a run makes a peer of the store of a disk
-abbrev pub AddsPeer : Option ℕ → Medium → Medium → Output → Output → List ℕ → List ℕ → List ℕ → Bool → ℕ → Type 0
+abbrev pub AddsPeer : Option ℕ → Medium → Medium → Output → Output → List ℕ → List ℕ → List ℕ → Bool
+    → ℕ → Type 0
 AddsPeer told before after first now host key address relay status =
     ((fault : StoreFault) × IsRefused before after fault × TellsOfStore fault first now status)
     ⊎ ((opened : State) × (closed : State) × IsRunAlone before after opened closed
     × MakesPeer growth room told opened closed first now host key address relay status)
 
--- it is printed how much this history has, unless there is no memory for the line (12) or a write failed (7)
+-- it is printed how much this history has, unless there is no memory for the line (12) or a write
+-- failed (7)
 abbrev pub Counts : Output → Output → List Entry → ℕ → Type 0
-Counts first now history status = Prints first now (check_text history) status ⊎ ((status ≡ 12) × Writes first now [])
+Counts first now history status =
+    Prints first now (check_text history) status ⊎ ((status ≡ 12) × Writes first now [])
 
 -- how a run counts what the store of a disk has, which is untouched
 abbrev pub ChecksStore : Medium → Medium → Output → Output → ℕ → Type 0
 ChecksStore before after first now status =
     ((fault : StoreFault) × IsRefused before after fault × TellsOfStore fault first now status)
-    ⊎ ((opened : State) × IsServed before after opened opened (given opened.history) × IsSame before after
+    ⊎ ((opened : State) × IsServed before after opened opened (given opened.history)
+    × IsSame before after
     × Counts first now opened.history status)
 
 -- the text of a table
@@ -146,16 +168,19 @@ table_text Actors t = actors_text t
 table_text Activities t = activities_text t
 table_text Queue t = queue_text t
 
--- the text was printed whole (0), or a proper prefix of it before a write failed (7), or a front of it before memory ran out (12)
+-- the text was printed whole (0), or a proper prefix of it before a write failed (7), or a front of
+-- it before memory ran out (12)
 abbrev pub PrintsTable : Output → Output → List ℕ → ℕ → Type 0
 PrintsTable first now text status =
-    ((status ≡ 0) × Writes first now text) ⊎ (((status ≡ 7) × BreaksOff first now [] text) ⊎ ((status ≡ 12) × Begins first now text))
+    ((status ≡ 0) × Writes first now text)
+    ⊎ (((status ≡ 7) × BreaksOff first now [] text) ⊎ ((status ≡ 12) × Begins first now text))
 
 -- how a run prints a table of what the store of a disk has, which is untouched
 abbrev pub ExportsStore : Table → Medium → Medium → Output → Output → ℕ → Type 0
 ExportsStore table before after first now status =
     ((fault : StoreFault) × IsRefused before after fault × TellsOfStore fault first now status)
-    ⊎ ((opened : State) × IsServed before after opened opened (given opened.history) × IsSame before after
+    ⊎ ((opened : State) × IsServed before after opened opened (given opened.history)
+    × IsSame before after
     × PrintsTable first now (table_text table (town opened.history)) status)
 
 -- ---- making a store
@@ -171,17 +196,23 @@ TellsOfMaking makes.Failed before now status = Tells before now 5 (codes "disk f
 TellsOfMaking makes.Memory before now status = (status ≡ 12) × Writes before now []
 
 -- how the making of a store ends whose first entry is this one
-abbrev pub EndsMaking : DiskState → DiskState → DiskCrashes → Output → Output → List ℕ → Entry → ℕ → Type 0
+abbrev pub EndsMaking : DiskState → DiskState → DiskCrashes → Output → Output → List ℕ → Entry
+    → ℕ → Type 0
 EndsMaking before after crashes first now host e status =
     (IsMade (e ∷ []) before after crashes × Prints first now (made_line host) status)
-    ⊎ ((fault : MakeFault) × IsNotMade (code_of e) fault before after × TellsOfMaking fault first now status)
+    ⊎ ((fault : MakeFault) × IsNotMade (code_of e) fault before after
+    × TellsOfMaking fault first now status)
 
--- How a run makes the disk a store for this host: out of memory (12) or for a text that is no host (10) the disk is not asked;
--- else the first entry says the host and the moment.
-abbrev pub MakesStore : {D : Type 0} → (D → DiskState) → (D → DiskCrashes) → Option ℕ → D → D → Output → Output → List ℕ → ℕ → Type 0
+-- How a run makes the disk a store for this host: out of memory (12) or for a text that is no host
+-- (10) the disk is not asked; else the first entry says the host and the moment.
+abbrev pub MakesStore : {D : Type 0} → (D → DiskState) → (D → DiskCrashes) → Option ℕ → D → D
+    → Output → Output → List ℕ → ℕ → Type 0
 MakesStore shown crashes told before after first now host status =
     ((status ≡ 12) × (after ≡ before) × Writes first now [])
-    ⊎ (((IsHost host → ⊥) × (after ≡ before) × Tells first now 10 (refusal_line (codes "bad host")) status)
+    ⊎ (((IsHost host → ⊥) × (after ≡ before)
+    × Tells first now 10 (refusal_line (codes "bad host")) status)
     ⊎ (IsHost host × (moment : ℕ) × IsNow told moment
-    × LeavesAtMost (code_of (Hosted host moment)) (shown before).reads (crashes before) (crashes after)
-    × EndsMaking (shown before) (shown after) (crashes after) first now host (Hosted host moment) status))
+    × LeavesAtMost (code_of (Hosted host moment)) (shown before).reads (crashes before)
+    (crashes after)
+    × EndsMaking (shown before) (shown after) (crashes after) first now host
+    (Hosted host moment) status))

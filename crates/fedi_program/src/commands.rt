@@ -1,7 +1,8 @@
 //! The arguments of the program.
 
 ghost use Rattle.std.specs.Prelude.{◌≡◌, map, is_some, option_map, string_bytes};
-ghost use Rattle.fedi_program.specs.Commands.{address_of, names_store, number_of, reading_of, store_in, table_of, task_by, task_in, task_of};
+ghost use Rattle.fedi_program.specs.Commands.{address_of, names_store, number_of, reading_of};
+ghost use Rattle.fedi_program.specs.Commands.{store_in, table_of, task_by, task_in, task_of};
 
 use crate::words::{Reading, Verb, read};
 use fedi_text::read_decimal;

@@ -4,17 +4,16 @@ ghost use Rattle.fedi_log.specs.Keeping.{state_of};
 ghost use Rattle.fedi_log.specs.Log.{given};
 ghost use Rattle.fedi_logged.specs.Sessions.{EndsSession};
 ghost use Rattle.fedi_queue.specs.Rows.{rows_of};
-ghost use Rattle.fedi_talk.specs.Endings.{IsCaused, faults_by, scene_by};
-ghost use Rattle.fedi_talk.specs.Turning.{setting_by};
+ghost use Rattle.fedi_logged.specs.Endings.{IsCaused, faults_by, scene_by};
+ghost use Rattle.fedi_logged.specs.Turning.{setting_by};
 ghost use Rattle.fedi_town.specs.Histories.{town};
 ghost use Rattle.fedi_town.specs.Legal.{IsLegal};
 
 use fedi_core::Core;
 use fedi_index::IndexedShelf;
-use fedi_logged::serve_alone;
+use fedi_logged::{Joined, SessionEnd, serve_alone};
 use fedi_outside::{Clock, Keeper, Sink, Source};
 use fedi_routes::Routes;
-use fedi_talk::{Joined, SessionEnd};
 use std::alloc::Global;
 
 /// A connection: where its requests come from, where its replies go, and the clock that dates them.
@@ -25,8 +24,8 @@ pub struct Connection<S, O, C> {
     pub clock: C,
 }
 
-/// Serves the connection by a machine that nobody else takes turns with, and hands the machine back with how
-/// the session ended.
+/// Serves the connection by a machine that nobody else takes turns with, and hands the machine back
+/// with how the session ended.
 pub fn serve_connection<S: Source, O: Sink, P: Keeper, C: Clock>(
     alloc: Global,
     core: Core<IndexedShelf, P>,

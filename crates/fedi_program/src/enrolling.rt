@@ -6,7 +6,7 @@ ghost use Rattle.fedi_core.specs.Keeping.{IsKept};
 ghost use Rattle.fedi_log.specs.Keeping.{base_of, state_of};
 ghost use Rattle.fedi_log.specs.Log.{given};
 ghost use Rattle.fedi_logged.specs.Marks.{SurvivesMarked};
-ghost use Rattle.fedi_talk.specs.Endings.{output_by};
+ghost use Rattle.fedi_logged.specs.Endings.{output_by};
 ghost use Rattle.fedi_program.specs.Members.{EndsWith, IsUnmade, TellsFault};
 ghost use Rattle.fedi_town.specs.Histories.{town};
 ghost use Rattle.fedi_town.specs.Legal.{broken_command};
@@ -36,10 +36,11 @@ fn tell_fault<O: Sink>(out: &mut O, fault: CommandFault) -> u8
     }
 }
 
-/// Keeps the entry of a new member or peer, and hands back the line that tells of it. The first rule that
-/// is broken is reported whatever memory is left, and there is a line before the entry is kept, so that
-/// nobody is kept of whom it cannot be told. A keeper that failed is asked once to settle what it may have
-/// left, so that the entry is not found by the next opening, unless that fails too.
+/// Keeps the entry of a new member or peer, and hands back the line that tells of it. The first
+/// rule that is broken is reported whatever memory is left, and there is a line before the entry is
+/// kept, so that nobody is kept of whom it cannot be told. A keeper that failed is asked once to
+/// settle what it may have left, so that the entry is not found by the next opening, unless that
+/// fails too.
 #[tactic(auto, using(fedi_core::proofs::Commanding::command_may))]
 fn keep_entry<P: Keeper>(
     alloc: Global,
@@ -55,7 +56,8 @@ fn keep_entry<P: Keeper>(
     ensures unmade { IfErr result (λ fault. IsUnmade P.room
         (state_of core.old.history (P.shown core.old.keeper))
         (state_of core.new.history (P.shown core.new.keeper)) entry fault) }
-    // A crash on the way leaves the records, with at most one more: the one in doubt, or the entry's.
+    // A crash on the way leaves the records, with at most one more: the one in doubt, or the
+    // entry's.
     ensures crashes { SurvivesMarked
         (base_of P.growth P.room (state_of core.old.history (P.shown core.old.keeper)))
         None (given core.old.history) (state_of core.new.history (P.shown core.new.keeper))
@@ -81,9 +83,11 @@ fn keep_entry<P: Keeper>(
     }
 }
 
-/// Keeps the entry of a new member or peer, and prints the line that tells of it, or why it was refused.
-/// Out of memory for the line, nothing is kept. The answer is the exit status: the entry was kept at 0 and
-/// 7. At 5 the disk failed: the entry was not kept, unless the disk failed again when it was to take back
+/// Keeps the entry of a new member or peer, and prints the line that tells of it, or why it was
+/// refused. Out of memory for the line, nothing is kept. The answer is the exit status: the entry
+/// was kept at 0 and
+/// 7. At 5 the disk failed: the entry was not kept, unless the disk failed again when it was to
+///    take back
 /// what it had of the entry, and then the next opening may find it.
 pub fn enroll<O: Sink, P: Keeper>(
     alloc: Global,

@@ -6,7 +6,7 @@ ghost use Rattle.fedi_log.specs.Log.{given};
 ghost use Rattle.fedi_logged.specs.Marks.{Survives};
 ghost use Rattle.fedi_program.specs.Stores.{ExportsStore, PrintsTable, medium_by, table_text};
 ghost use Rattle.fedi_report.specs.Tables.{Reports};
-ghost use Rattle.fedi_talk.specs.Endings.{output_by};
+ghost use Rattle.fedi_logged.specs.Endings.{output_by};
 ghost use Rattle.fedi_town.specs.Histories.{town};
 ghost use Rattle.fedi_town.specs.Legal.{IsLegal};
 

@@ -4,7 +4,7 @@ ghost use Rattle.std.specs.Prelude.{◌≡◌, IfOk, IsTrue, None, is_some};
 ghost use Rattle.fedi_log.specs.Keeping.{base_of, state_of};
 ghost use Rattle.fedi_log.specs.Log.{given};
 ghost use Rattle.fedi_logged.specs.Marks.{SurvivesMarked};
-ghost use Rattle.fedi_talk.specs.Endings.{output_by};
+ghost use Rattle.fedi_logged.specs.Endings.{output_by};
 ghost use Rattle.fedi_program.specs.Members.{MakesMember, chance_by, key_line};
 ghost use Rattle.fedi_town.specs.Histories.{town};
 
@@ -33,10 +33,11 @@ fn key_line(alloc: Global, name: &str, key: &[u8; 32]) -> Result<Vec<u8>, AllocE
     Ok(line)
 }
 
-/// Makes a member of this name, as an operator asks: draws a key, keeps an entry with the digest of the
-/// key, and prints the name with the key, which is told this once and never kept. The answer is the exit
-/// status: a member was made at 0 and 7. At 5 the disk failed: the member was not made, unless the disk
-/// failed again when it was to take back what it had of the entry, and then the next opening may find it.
+/// Makes a member of this name, as an operator asks: draws a key, keeps an entry with the digest of
+/// the key, and prints the name with the key, which is told this once and never kept. The answer is
+/// the exit status: a member was made at 0 and 7. At 5 the disk failed: the member was not made,
+/// unless the disk failed again when it was to take back what it had of the entry, and then the
+/// next opening may find it.
 pub fn make_member<O: Sink, P: Keeper, C: Clock, E: Entropy>(
     alloc: Global,
     core: &mut Core<IndexedShelf, P>,

@@ -5,7 +5,7 @@ ghost use Rattle.fedi_log.specs.Keeping.{base_of, state_of};
 ghost use Rattle.fedi_log.specs.Log.{given};
 ghost use Rattle.fedi_logged.specs.Marks.{SurvivesMarked};
 ghost use Rattle.fedi_program.specs.Peers.{MakesPeer, peer_line};
-ghost use Rattle.fedi_talk.specs.Endings.{output_by};
+ghost use Rattle.fedi_logged.specs.Endings.{output_by};
 ghost use Rattle.fedi_town.specs.Histories.{town};
 
 use crate::commands::NewPeer;
@@ -33,12 +33,12 @@ fn peer_line(alloc: Global, host: &str) -> Result<Vec<u8>, AllocError>
     Ok(line)
 }
 
-/// Makes another server a peer, as an operator asks: keeps an entry with its host, its key, its address and
-/// whether it is a relay, and prints its host. The answer is the exit status: the peer was made at 0 and 7.
-/// At 10 it is told which is the first that is wrong: the host is malformed, or is this server's or a
-/// peer's, the key is malformed, or the address is. At 5 the disk failed: the peer was not made, unless the
-/// disk failed again when it was to take back what it had of the entry, and then the next opening may find
-/// it.
+/// Makes another server a peer, as an operator asks: keeps an entry with its host, its key, its
+/// address and whether it is a relay, and prints its host. The answer is the exit status: the peer
+/// was made at 0 and 7. At 10 it is told which is the first that is wrong: the host is malformed,
+/// or is this server's or a peer's, the key is malformed, or the address is. At 5 the disk failed:
+/// the peer was not made, unless the disk failed again when it was to take back what it had of the
+/// entry, and then the next opening may find it.
 pub fn make_peer<O: Sink, P: Keeper, C: Clock>(
     alloc: Global,
     core: &mut Core<IndexedShelf, P>,

@@ -1,7 +1,7 @@
 //! What a run prints, and the status that it then ends with.
 
 ghost use Rattle.std.specs.Prelude.{OnErr, OnOk, []};
-ghost use Rattle.fedi_talk.specs.Endings.{BreaksOff, Writes, output_by};
+ghost use Rattle.fedi_logged.specs.Endings.{BreaksOff, Writes, output_by};
 ghost use Rattle.fedi_program.specs.Endings.{Prints};
 ghost use Rattle.fedi_program.specs.Members.{Tells};
 

@@ -1,8 +1,11 @@
 //! The whole program, over whatever lies outside.
 
-ghost use Rattle.std.specs.Prelude.{◌≡◌, ◌≢◌, ◌↔◌, ◌<◌, ℕ, All, Bool, false, true, List, [], IfSome, IsTrue, Some, None, length, map, string_bytes, vec_len};
-ghost use Rattle.fedi_program.specs.Commands.{AddActor, AddPeer, Check, Deliver, Demo, Export, Inetd, Init, Serve, Task, Usage, address_of, names_store, task_in};
-ghost use Rattle.fedi_talk.specs.Endings.{WritesUnlessFailed, faults_by, output_by, scene_by};
+ghost use Rattle.std.specs.Prelude.{◌≡◌, ◌≢◌, ◌↔◌, ◌<◌, ℕ, All, Bool, false, true, List, []};
+ghost use Rattle.std.specs.Prelude.{IfSome, IsTrue, Some, None, length, map, string_bytes, vec_len};
+ghost use Rattle.fedi_program.specs.Commands.{AddActor, AddPeer, Check, Deliver, Demo, Export};
+ghost use Rattle.fedi_program.specs.Commands.{Inetd, Init, Serve, Task, Usage, address_of};
+ghost use Rattle.fedi_program.specs.Commands.{names_store, task_in};
+ghost use Rattle.fedi_logged.specs.Endings.{WritesUnlessFailed, faults_by, output_by, scene_by};
 ghost use Rattle.fedi_logged.specs.Attempts.{told_by};
 ghost use Rattle.fedi_program.specs.Complete.{DoorsAreCalm, IsComplete, outside_of};
 ghost use Rattle.fedi_program.specs.Delivering.{DeliversBy, DeliversStore};
@@ -16,7 +19,9 @@ ghost use Rattle.fedi_log.specs.Keeping.{base_of, state_of};
 ghost use Rattle.fedi_log.specs.Log.{given};
 ghost use Rattle.fedi_logged.specs.Marks.{Survives};
 ghost use Rattle.fedi_program.specs.Serving.{ServesDoors};
-ghost use Rattle.fedi_program.specs.Stores.{AddsMember, AddsPeer, ChecksStore, Counts, ExportsStore, IsKeptSafe, MakesStore, ServesStore, TalksOverStore, medium_by};
+ghost use Rattle.fedi_program.specs.Stores.{AddsMember, AddsPeer, ChecksStore, Counts};
+ghost use Rattle.fedi_program.specs.Stores.{ExportsStore, IsKeptSafe, MakesStore, ServesStore};
+ghost use Rattle.fedi_program.specs.Stores.{TalksOverStore, medium_by};
 ghost use Rattle.fedi_program.specs.Usage.{usage_text};
 ghost use Rattle.fedi_program.specs.declared.commands.Table.{Table};
 ghost use Rattle.fedi_town.specs.Legal.{IsLegal};
@@ -36,11 +41,11 @@ use crate::usage::usage;
 use fedi_core::Core;
 use fedi_effects::Seed;
 use fedi_index::IndexedShelf;
+use fedi_logged::SessionEnd;
 use fedi_outside::{Bench, Clock, Disk, Door, Entropy, Keeper, Link, Sink, Source};
 use fedi_report::check_line;
 use fedi_routes::Routes;
 use fedi_startup::{close_store, open_store};
-use fedi_talk::SessionEnd;
 use std::alloc::{AllocError, Global};
 use std::sync::Wait;
 use std::thread::Threads;
@@ -69,8 +74,8 @@ fn status_of(end: SessionEnd) -> u8
     }
 }
 
-/// Serves the connection over the store of the disk. The store is opened first, so that what is no store is
-/// told even where memory is short.
+/// Serves the connection over the store of the disk. The store is opened first, so that what is no
+/// store is told even where memory is short.
 fn inetd<S: Source, O: Sink, D: Disk, C: Clock>(
     alloc: Global,
     seed: Seed,
@@ -253,23 +258,24 @@ pub fn run_alone<S: Source, O: Sink, D: Disk, W, K: Link, C: Clock, E: Entropy>(
     requires linked { task_in (map string_bytes arguments.now) ≡ Some Deliver
         → 0 < vec_len benches }
 
-    // The status is one that the task may end with, and 2 exactly if the arguments are not accepted.
+    // The status is one that the task may end with, and 2 exactly if the arguments are not
+    // accepted.
     ensures statuses { IsTrue
         (is_status_of (task_in (map string_bytes arguments.now)) result.status) }
     ensures arguments { (result.status ≡ 2) ↔ (task_in (map string_bytes arguments.now) ≡ None) }
 
-    // At 0 the whole conversation over the input was held, over the history of the disk's file: each
-    // request has the reply that the machine gives at the history so far, which each history that
-    // agrees on what the caller may know gives too, or one that tells of the disk and has its cause
-    // there. What was kept are the entries that were acknowledged.
+    // At 0 the whole conversation over the input was held, over the history of the disk's file:
+    // each request has the reply that the machine gives at the history so far, which each history
+    // that agrees on what the caller may know gives too, or one that tells of the disk and has its
+    // cause there. What was kept are the entries that were acknowledged.
     ensures talk { task_in (map string_bytes arguments.now) ≡ Some Inetd → result.status ≡ 0
         → TalksOverStore (C.told connection.old.clock)
         (medium_by D.shown D.crashes disk) (medium_by D.shown D.crashes result.disk)
         (scene_by S.left O.sent O.write_faults connection.old.input connection.old.out)
         (scene_by S.left O.sent O.write_faults connection.new.input connection.new.out) }
 
-    // At every other status, too, it is a conversation as far as it went, or the store was not opened,
-    // for a reason that is told, and nothing was read or written.
+    // At every other status, too, it is a conversation as far as it went, or the store was not
+    // opened, for a reason that is told, and nothing was read or written.
     ensures session { task_in (map string_bytes arguments.now) ≡ Some Inetd
         → ServesStore (C.told connection.old.clock)
         (medium_by D.shown D.crashes disk) (medium_by D.shown D.crashes result.disk)
@@ -287,8 +293,8 @@ pub fn run_alone<S: Source, O: Sink, D: Disk, W, K: Link, C: Clock, E: Entropy>(
         (output_by O.sent O.write_faults connection.old.out)
         (output_by O.sent O.write_faults connection.new.out) name locked result.status }
 
-    // A peer is made of the host, the key and the address, or the first reason not to is told, and each
-    // reason has its cause: at 7 a write failed, and at 5 the disk.
+    // A peer is made of the host, the key and the address, or the first reason not to is told, and
+    // each reason has its cause: at 7 a write failed, and at 5 the disk.
     ensures peered { (host key address : List ℕ) (relay : Bool)
         → task_in (map string_bytes arguments.now) ≡ Some (AddPeer host key address relay)
         → AddsPeer (C.told connection.old.clock)
@@ -304,8 +310,8 @@ pub fn run_alone<S: Source, O: Sink, D: Disk, W, K: Link, C: Clock, E: Entropy>(
         (output_by O.sent O.write_faults connection.old.out)
         (output_by O.sent O.write_faults connection.new.out) host result.status }
 
-    // Whatever comes of it, the bytes of a store that is there stay: reads give the same, and a crash at
-    // any moment of the run leaves nothing new.
+    // Whatever comes of it, the bytes of a store that is there stay: reads give the same, and a
+    // crash at any moment of the run leaves nothing new.
     ensures stays { (host : List ℕ)
         → task_in (map string_bytes arguments.now) ≡ Some (Init host)
         → KeepsOther (D.shown disk) (D.shown result.disk)
@@ -321,8 +327,8 @@ pub fn run_alone<S: Source, O: Sink, D: Disk, W, K: Link, C: Clock, E: Entropy>(
         (output_by O.sent O.write_faults connection.old.out)
         (output_by O.sent O.write_faults connection.new.out) result.status }
 
-    // What a store has is counted, and the disk is untouched: reads give the same bytes, and a crash at
-    // any moment of the run leaves nothing new.
+    // What a store has is counted, and the disk is untouched: reads give the same bytes, and a
+    // crash at any moment of the run leaves nothing new.
     ensures checked { task_in (map string_bytes arguments.now) ≡ Some Check
         → ChecksStore
         (medium_by D.shown D.crashes disk) (medium_by D.shown D.crashes result.disk)
@@ -337,19 +343,19 @@ pub fn run_alone<S: Source, O: Sink, D: Disk, W, K: Link, C: Clock, E: Entropy>(
         (output_by O.sent O.write_faults connection.old.out)
         (output_by O.sent O.write_faults connection.new.out) result.status }
 
-    // A demonstration prints the one text of its number, which depends on nothing else: at 7 a prefix
-    // of it, since a write failed, and at 12 nothing.
+    // A demonstration prints the one text of its number, which depends on nothing else: at 7 a
+    // prefix of it, since a write failed, and at 12 nothing.
     ensures demonstrated { (number : ℕ)
         → task_in (map string_bytes arguments.now) ≡ Some (Demo number)
         → Demonstrates number (output_by O.sent O.write_faults connection.old.out)
         (output_by O.sent O.write_faults connection.new.out) result.status }
 
-    // Whatever the task and the input, a store that is opened comes back with the records of a legal
-    // history: those that the opening found, and those of the entries that the run made. A crash at
-    // any moment of the run leaves the records of before the run, or those that the opening found with
-    // the first of these, none or more, and behind them at most one that was in doubt then. After the
-    // run it leaves the records of all of them, with at most the one in doubt. One that is not opened
-    // is untouched, image by image.
+    // Whatever the task and the input, a store that is opened comes back with the records of a
+    // legal history: those that the opening found, and those of the entries that the run made. A
+    // crash at any moment of the run leaves the records of before the run, or those that the
+    // opening found with the first of these, none or more, and behind them at most one that was in
+    // doubt then. After the run it leaves the records of all of them, with at most the one in
+    // doubt. One that is not opened is untouched, image by image.
     ensures crashes { opens_store (task_in (map string_bytes arguments.now)) ≡ true
         → IsKeptSafe (medium_by D.shown D.crashes disk) (medium_by D.shown D.crashes result.disk) }
 
@@ -361,8 +367,8 @@ pub fn run_alone<S: Source, O: Sink, D: Disk, W, K: Link, C: Clock, E: Entropy>(
         → WritesUnlessFailed (output_by O.sent O.write_faults connection.old.out)
         (output_by O.sent O.write_faults connection.new.out) [] usage_text }
 
-    // Only a connection is read from, only the tasks of a store ask the disk, and only the making of a
-    // member draws a key.
+    // Only a connection is read from, only the tasks of a store ask the disk, and only the making
+    // of a member draws a key.
     ensures idle { task_in (map string_bytes arguments.now) ≢ Some Inetd
         → connection.new.input ≡ connection.old.input }
     ensures unasked { names_store (task_in (map string_bytes arguments.now)) ≡ false
@@ -480,23 +486,23 @@ pub fn run_alone<S: Source, O: Sink, D: Disk, W, K: Link, C: Clock, E: Entropy>(
 /// `usage` prints the arguments that the program takes. `init STORE HOST` makes a store for the
 /// host, and prints `made HOST`. `add-actor STORE NAME` makes a member of this name, whose key is
 /// drawn from the entropy, and prints `NAME KEY`, the key in 64 digits; with `--locked`, which may
-/// stand anywhere behind the command, the member answers each Follow. `add-peer STORE HOST KEY
-/// ADDRESS` makes the server of this host a peer, which is reached at the address and has the same
-/// key, 64 digits, and prints `peer HOST`; with `--relay`, which may stand anywhere behind the
-/// command, the peer may deliver what actors of other hosts did. `inetd STORE` serves one
-/// connection: it answers the requests on the input one after the other, and keeps what they make.
-/// `serve STORE ADDRESS` serves the connections that the doors of the benches give, each door by a
-/// worker in a thread of its own, until all doors close; binding to the address is the doors' work.
-/// `deliver STORE` tries each delivery that is due at one moment once, by the link of the first
-/// bench, and prints `ACTIVITY HOST WORD` for each: the activity's id, the recipient's host, and
-/// `delivered`, `again` or `gave-up`; and then `done N`, the number of those that it tried. `export
-/// STORE TABLE` prints the members (`actors`), the `activities` or the deliveries that have not
-/// ended (`queue`) as comma-separated values (RFC 4180), and names no recipient. `check STORE` opens
-/// the store and prints how many entries, members, activities and deliveries that have not ended it
-/// has. `demo NUMBER` has eight members of a town in memory ask 2,000 requests, which are drawn from
-/// a number of one to four digits, and prints how many replies had each status, what the town then
-/// has, and the length and the digest of all replies. Other arguments are answered with the usage,
-/// and do not ask the disk.
+/// stand anywhere behind the command, the member answers each Follow.
+/// `add-peer STORE HOST KEY ADDRESS` makes the server of this host a peer, which is reached at the
+/// address and has the same key, 64 digits, and prints `peer HOST`; with `--relay`, which may stand
+/// anywhere behind the command, the peer may deliver what actors of other hosts did. `inetd STORE`
+/// serves one connection: it answers the requests on the input one after the other, and keeps what
+/// they make. `serve STORE ADDRESS` serves the connections that the doors of the benches give, each
+/// door by a worker in a thread of its own, until all doors close; binding to the address is the
+/// doors' work. `deliver STORE` tries each delivery that is due at one moment once, by the link of
+/// the first bench, and prints `ACTIVITY HOST WORD` for each: the activity's id, the recipient's
+/// host, and `delivered`, `again` or `gave-up`; and then `done N`, the number of those that it
+/// tried. `export STORE TABLE` prints the members (`actors`), the `activities` or the deliveries
+/// that have not ended (`queue`) as comma-separated values (RFC 4180), and names no recipient.
+/// `check STORE` opens the store and prints how many entries, members, activities and deliveries
+/// that have not ended it has. `demo NUMBER` has eight members of a town in memory ask 2,000
+/// requests, which are drawn from a number of one to four digits, and prints how many replies had
+/// each status, what the town then has, and the length and the digest of all replies. Other
+/// arguments are answered with the usage, and do not ask the disk.
 ///
 /// | Status | When | Printed, but by `inetd` and `serve` |
 /// |---|---|---|
@@ -515,7 +521,8 @@ pub fn run_alone<S: Source, O: Sink, D: Disk, W, K: Link, C: Clock, E: Entropy>(
 /// | 13 | the store has no room for a member or a peer, or for what came of an attempt | `full` |
 ///
 /// A status other than 0 stays if its text cannot be written. The disk comes back with all that was
-/// kept, and the benches come back too. The seed is what texts are looked up by: nothing that can be seen depends on it but time.
+/// kept, and the benches come back too. The seed is what texts are looked up by: nothing that can
+/// be seen depends on it but time.
 pub fn run<
     R: Threads + Wait + Sync,
     S: Source,
@@ -538,23 +545,24 @@ pub fn run<
     requires some { 0 < vec_len benches }
     requires waiting { All (λ b. IsWaiting W.out W.idle b.door) benches.items }
 
-    // The status is one that the task may end with, and 2 exactly if the arguments are not accepted.
+    // The status is one that the task may end with, and 2 exactly if the arguments are not
+    // accepted.
     ensures statuses { IsTrue
         (is_status_of (task_in (map string_bytes arguments.now)) result.status) }
     ensures arguments { (result.status ≡ 2) ↔ (task_in (map string_bytes arguments.now) ≡ None) }
 
-    // At 0 the whole conversation over the input was held, over the history of the disk's file: each
-    // request has the reply that the machine gives at the history so far, which each history that
-    // agrees on what the caller may know gives too, or one that tells of the disk and has its cause
-    // there. What was kept are the entries that were acknowledged.
+    // At 0 the whole conversation over the input was held, over the history of the disk's file:
+    // each request has the reply that the machine gives at the history so far, which each history
+    // that agrees on what the caller may know gives too, or one that tells of the disk and has its
+    // cause there. What was kept are the entries that were acknowledged.
     ensures talk { task_in (map string_bytes arguments.now) ≡ Some Inetd → result.status ≡ 0
         → TalksOverStore (C.told connection.old.clock)
         (medium_by D.shown D.crashes disk) (medium_by D.shown D.crashes result.disk)
         (scene_by S.left O.sent O.write_faults connection.old.input connection.old.out)
         (scene_by S.left O.sent O.write_faults connection.new.input connection.new.out) }
 
-    // At every other status, too, it is a conversation as far as it went, or the store was not opened,
-    // for a reason that is told, and nothing was read or written.
+    // At every other status, too, it is a conversation as far as it went, or the store was not
+    // opened, for a reason that is told, and nothing was read or written.
     ensures session { task_in (map string_bytes arguments.now) ≡ Some Inetd
         → ServesStore (C.told connection.old.clock)
         (medium_by D.shown D.crashes disk) (medium_by D.shown D.crashes result.disk)
@@ -572,8 +580,8 @@ pub fn run<
         (output_by O.sent O.write_faults connection.old.out)
         (output_by O.sent O.write_faults connection.new.out) name locked result.status }
 
-    // A peer is made of the host, the key and the address, or the first reason not to is told, and each
-    // reason has its cause: at 7 a write failed, and at 5 the disk.
+    // A peer is made of the host, the key and the address, or the first reason not to is told, and
+    // each reason has its cause: at 7 a write failed, and at 5 the disk.
     ensures peered { (host key address : List ℕ) (relay : Bool)
         → task_in (map string_bytes arguments.now) ≡ Some (AddPeer host key address relay)
         → AddsPeer (C.told connection.old.clock)
@@ -589,8 +597,8 @@ pub fn run<
         (output_by O.sent O.write_faults connection.old.out)
         (output_by O.sent O.write_faults connection.new.out) host result.status }
 
-    // Whatever comes of it, the bytes of a store that is there stay: reads give the same, and a crash at
-    // any moment of the run leaves nothing new.
+    // Whatever comes of it, the bytes of a store that is there stay: reads give the same, and a
+    // crash at any moment of the run leaves nothing new.
     ensures stays { (host : List ℕ)
         → task_in (map string_bytes arguments.now) ≡ Some (Init host)
         → KeepsOther (D.shown disk) (D.shown result.disk)
@@ -606,8 +614,8 @@ pub fn run<
         (output_by O.sent O.write_faults connection.old.out)
         (output_by O.sent O.write_faults connection.new.out) result.status }
 
-    // What a store has is counted, and the disk is untouched: reads give the same bytes, and a crash at
-    // any moment of the run leaves nothing new.
+    // What a store has is counted, and the disk is untouched: reads give the same bytes, and a
+    // crash at any moment of the run leaves nothing new.
     ensures checked { task_in (map string_bytes arguments.now) ≡ Some Check
         → ChecksStore
         (medium_by D.shown D.crashes disk) (medium_by D.shown D.crashes result.disk)
@@ -622,19 +630,19 @@ pub fn run<
         (output_by O.sent O.write_faults connection.old.out)
         (output_by O.sent O.write_faults connection.new.out) result.status }
 
-    // A demonstration prints the one text of its number, which depends on nothing else: at 7 a prefix
-    // of it, since a write failed, and at 12 nothing.
+    // A demonstration prints the one text of its number, which depends on nothing else: at 7 a
+    // prefix of it, since a write failed, and at 12 nothing.
     ensures demonstrated { (number : ℕ)
         → task_in (map string_bytes arguments.now) ≡ Some (Demo number)
         → Demonstrates number (output_by O.sent O.write_faults connection.old.out)
         (output_by O.sent O.write_faults connection.new.out) result.status }
 
-    // Whatever the task and the input, a store that is opened comes back with the records of a legal
-    // history: those that the opening found, and those of the entries that the run made. A crash at
-    // any moment of the run leaves the records of before the run, or those that the opening found with
-    // the first of these, none or more, and behind them at most one that was in doubt then. After the
-    // run it leaves the records of all of them, with at most the one in doubt. One that is not opened
-    // is untouched, image by image.
+    // Whatever the task and the input, a store that is opened comes back with the records of a
+    // legal history: those that the opening found, and those of the entries that the run made. A
+    // crash at any moment of the run leaves the records of before the run, or those that the
+    // opening found with the first of these, none or more, and behind them at most one that was in
+    // doubt then. After the run it leaves the records of all of them, with at most the one in
+    // doubt. One that is not opened is untouched, image by image.
     ensures crashes { opens_store (task_in (map string_bytes arguments.now)) ≡ true
         → IsKeptSafe (medium_by D.shown D.crashes disk) (medium_by D.shown D.crashes result.disk) }
 
@@ -646,8 +654,8 @@ pub fn run<
         → WritesUnlessFailed (output_by O.sent O.write_faults connection.old.out)
         (output_by O.sent O.write_faults connection.new.out) [] usage_text }
 
-    // Only a connection is read from, only the tasks of a store ask the disk, and only the making of a
-    // member draws a key.
+    // Only a connection is read from, only the tasks of a store ask the disk, and only the making
+    // of a member draws a key.
     ensures idle { task_in (map string_bytes arguments.now) ≢ Some Inetd
         → connection.new.input ≡ connection.old.input }
     ensures unasked { names_store (task_in (map string_bytes arguments.now)) ≡ false
@@ -665,11 +673,11 @@ pub fn run<
         result.status }
     ensures clock { connection.new.clock ≡ connection.old.clock }
 
-    // `serve` serves each connection that a door gives, over one log that begins with the history of the
-    // disk's file: each request has the reply that the machine gives at the log so far. Where a door is
-    // idle, its worker makes one step of delivery: it tries the first that is due and that nobody has
-    // claimed. Each item that was added is that of one request or one attempt of one worker. A door that
-    // failed is the cause of 11, and at 0 each door has closed.
+    // `serve` serves each connection that a door gives, over one log that begins with the history
+    // of the disk's file: each request has the reply that the machine gives at the log so far.
+    // Where a door is idle, its worker makes one step of delivery: it tries the first that is due
+    // and that nobody has claimed. Each item that was added is that of one request or one attempt
+    // of one worker. A door that failed is the cause of 11, and at 0 each door has closed.
     ensures doors { (address : List ℕ)
         → task_in (map string_bytes arguments.now) ≡ Some (Serve address)
         → ServesDoors (C.told connection.old.clock)

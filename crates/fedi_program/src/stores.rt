@@ -2,9 +2,10 @@
 
 ghost use Rattle.std.specs.Prelude.{◌≡◌, ◌≤◌, IfOk, length};
 ghost use Rattle.fedi_journal.specs.Making.{KeepsOther};
-ghost use Rattle.fedi_talk.specs.Endings.{output_by};
+ghost use Rattle.fedi_logged.specs.Endings.{output_by};
 ghost use Rattle.fedi_program.specs.Members.{Tells};
-ghost use Rattle.fedi_program.specs.Stores.{MakesStore, TellsOfMaking, TellsOfStore, damage_line, made_line, status_by};
+ghost use Rattle.fedi_program.specs.Stores.{MakesStore, TellsOfMaking, TellsOfStore, damage_line};
+ghost use Rattle.fedi_program.specs.Stores.{made_line, status_by};
 
 use crate::printing::{print, tell};
 use crate::statuses::{DAMAGED, DISK_FAULT, EXISTS, NOT_A_STORE, OUT_OF_MEMORY, REFUSED};
@@ -91,10 +92,11 @@ fn made_line(alloc: Global, host: &str) -> Result<Vec<u8>, AllocError>
     Ok(line)
 }
 
-/// Makes the disk a store for this host, as an operator asks, and prints that it was made. The line is
-/// made before the store, so that a store is not made of which this cannot be told, being out of memory.
-/// The answer is the exit status: a store was made at 0 and 7. The disk comes back. Whatever the answer,
-/// the bytes of a store that is there stay: reads give the same, and a crash leaves nothing new.
+/// Makes the disk a store for this host, as an operator asks, and prints that it was made. The line
+/// is made before the store, so that a store is not made of which this cannot be told, being out of
+/// memory. The answer is the exit status: a store was made at 0 and 7. The disk comes back.
+/// Whatever the answer, the bytes of a store that is there stay: reads give the same, and a crash
+/// leaves nothing new.
 #[tactic(auto, using(crate::proofs::StoreLemmas::not_asked))]
 pub fn begin_store<O: Sink, D: Disk, C: Clock>(
     alloc: Global,

@@ -1,7 +1,9 @@
 //! The words of the arguments, by one rule for all commands.
 
-ghost use Rattle.std.specs.Prelude.{◌≡◌, ◌≤◌, ℕ, List, IfSome, None, Some, map, option_map, string_bytes};
-ghost use Rattle.fedi_program.specs.Commands.{is_flag, is_position, read, read_by, reading_of, row_by, row_of, word};
+ghost use Rattle.std.specs.Prelude.{◌≡◌, ◌≤◌, ℕ, List, IfSome, None, Some, map, option_map};
+ghost use Rattle.std.specs.Prelude.{string_bytes};
+ghost use Rattle.fedi_program.specs.Commands.{is_flag, is_position, read, read_by, reading_of};
+ghost use Rattle.fedi_program.specs.Commands.{row_by, row_of, word};
 
 use arrayvec::ArrayVec;
 

@@ -1,4 +1,5 @@
--- In a legal history each activity has an id, that of a member's is of this host, and an activity is sent to nobody twice.
+-- In a legal history each activity has an id, that of a member's is of this host, and an activity
+-- is sent to nobody twice.
 use Rattle.std.proofs.Common.{◌≡◌, ℕ, suc, ◌+◌, Bool, true, false, List, [], ◌∷◌, ◌++◌, Option, Some, None, refl, sym, ap, subst, ◌∙◌, arith}
 use Rattle.std.specs.Prelude.{◌&&◌, ◌||◌, not, codes, decimal, is_none, nat_eq, map, option_to_list, if◌then◌else◌}
 use Rattle.std.specs.List.{before_first, find, fold, list_all, flat_map, list_any, position_or_len, starts_with}

@@ -1,4 +1,5 @@
--- A host that becomes a peer leaves what is claimed: the rows so far are among those after it, in order.
+-- A host that becomes a peer leaves what is claimed: the rows so far are among those after it, in
+-- order.
 use Rattle.std.proofs.Common.{◌≡◌, ◌⊎◌, inl, inr, ℕ, zero, suc, ◌+◌, ◌<◌, ◌≤◌, arith, Bool, true, false, List, [], ◌∷◌, ◌++◌, Option, Some, None, refl, sym, ap, subst, ◌∙◌, eq-eqb, drop, take, length, get_or, set, append_assoc}
 use Rattle.std.specs.Prelude.{⊤, ◌&&◌, ◌||◌, map, filter, nat_eq, nat_le, nat_lt, slice_get, if◌then◌else◌}
 use Rattle.std.specs.List.{list_all}

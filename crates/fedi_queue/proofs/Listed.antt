@@ -1,4 +1,5 @@
--- Rows of a queue: which is the first that passes, what a change of it leaves, and when none may be claimed.
+-- Rows of a queue: which is the first that passes, what a change of it leaves, and when none may be
+-- claimed.
 use Rattle.std.proofs.Common.{◌≡◌, ℕ, zero, suc, ◌+◌, ◌<◌, ◌≤◌, arith, Bool, true, false, List, [], ◌∷◌, ◌++◌, Option, Some, None, refl, sym, ap, ◌∙◌, set, get_or, length, take, ltb, min}
 use Rattle.std.specs.Prelude.{◌&&◌, ◌||◌, not, map, remove, nat_le, nat_lt, slice_get, IsTrue, if◌then◌else◌}
 use Rattle.std.specs.List.{find, list_all, list_any, position_or_len}

@@ -3,9 +3,9 @@ use denote.RattleType.{RattleType}
 use denote.Param.Send.{IsSend, view_send, sendable}
 use denote.Param.SendFields.{declared_send, variants_send}
 use Rattle.std.proofs.Crossing.{crosses}
-use Rattle.fedi_kept.proofs.Sent.{iri_send}
-use Rattle.fedi_kept.proofs.trace.Trace.TheLaws.TheKnot.{crosses as traces_cross}
-use Rattle.fedi_kept.specs.contracts.trace.Trace as Trace
+use Rattle.fedi_register.proofs.KeptSent.{iri_send}
+use Rattle.fedi_register.proofs.trace.Trace.TheLaws.TheKnot.{crosses as traces_cross}
+use Rattle.fedi_register.specs.contracts.trace.Trace as Trace
 use Rattle.fedi_objects.proofs.entry.Entry.TheSendSync.{the_send as entry_send}
 use Rattle.fedi_queue.specs.contracts.changes.Change as Change
 use Rattle.fedi_queue.specs.contracts.queue.Queue as Queue

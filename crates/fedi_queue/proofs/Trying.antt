@@ -1,4 +1,5 @@
--- The rows after an attempt: of its delivery there is one row at most, which is tried again or gone.
+-- The rows after an attempt: of its delivery there is one row at most, which is tried again or
+-- gone.
 use Rattle.std.proofs.Common.{◌≡◌, ℕ, suc, Bool, true, false, List, [], ◌∷◌, ◌++◌, length, Option, Some, None, refl, sym, ap, subst, ◌∙◌, append_assoc}
 use Rattle.std.specs.Prelude.{◌&&◌, ◌||◌, not, filter, slice_get, if◌then◌else◌}
 use Rattle.std.specs.List.{flat_map, fold, list_all, list_any}

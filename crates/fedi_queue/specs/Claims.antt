@@ -1,5 +1,8 @@
--- Rows of a queue, in order, of which some are claimed: given to one who tries the delivery, and to nobody else.
-use Rattle.std.specs.Prelude.{ℕ, zero, suc, ◌+◌, ◌-◌, Bool, true, false, not, ◌&&◌, ◌||◌, nat_eq, nat_le, nat_lt, IsTrue, List, [], ◌∷◌, ◌++◌, Option, Some, None, if◌then◌else◌, vec_len, vec_capacity}
+-- Rows of a queue, in order, of which some are claimed: given to one who tries the delivery, and to
+-- nobody else.
+use Rattle.std.specs.Prelude.{ℕ, zero, suc, ◌+◌, ◌-◌, Bool, true, false, not, ◌&&◌, ◌||◌, nat_eq}
+use Rattle.std.specs.Prelude.{nat_le, nat_lt, IsTrue, List, [], ◌∷◌, ◌++◌, Option, Some, None}
+use Rattle.std.specs.Prelude.{if◌then◌else◌, vec_len, vec_capacity}
 use Rattle.std.specs.List.{list_all}
 use Rattle.fedi_queue.specs.declared.rows.Claim.{Claim}
 use Rattle.fedi_queue.specs.declared.rows.QueueRow.{QueueRow}
@@ -41,12 +44,14 @@ abbrev pub change_first : {A : Type 0} → (A → Bool) → (A → A) → List A
 change_first p f [] = []
 change_first p f (x ∷ xs) = if p x then f x ∷ xs else x ∷ change_first p f xs
 
--- The second rows, of which those are claimed that are so among the first. Both are in one order, and the second have more.
+-- The second rows, of which those are claimed that are so among the first. Both are in one order,
+-- and the second have more.
 abbrev pub carried : List QueueRow → List QueueRow → List QueueRow
 carried rows [] = []
 carried [] (y ∷ ys) = y ∷ ys
 carried (x ∷ xs) (y ∷ ys) =
-    if is_at x.activity x.place y then record y { claimed = x.claimed } ∷ carried xs ys else y ∷ carried (x ∷ xs) ys
+    if is_at x.activity x.place y then record y { claimed = x.claimed } ∷ carried xs ys
+    else y ∷ carried (x ∷ xs) ys
 
 -- what the one at this place becomes
 abbrev pub replace_at : {A : Type 0} → ℕ → (A → List A) → List A → List A
@@ -75,4 +80,6 @@ listed_in q = record { rows = q.list.items; room = vec_capacity q.list - vec_len
 
 -- none may be claimed before the earliest moment, and each was tried fewer than eight times
 abbrev pub AreRows : Inside → Type 0
-AreRows q = IsTrue (list_all (is_not_before q.earliest) q.list.items) × IsTrue (list_all is_few q.list.items)
+AreRows q =
+    IsTrue (list_all (is_not_before q.earliest) q.list.items)
+    × IsTrue (list_all is_few q.list.items)

@@ -1,4 +1,5 @@
--- The deliveries that are due at a moment, and what an attempt at that moment leaves of them (ActivityPub, section 7.1).
+-- The deliveries that are due at a moment, and what an attempt at that moment leaves of them
+-- (ActivityPub, section 7.1).
 use Rattle.std.specs.Prelude.{◌≡◌, ℕ, Bool, List, [], ◌∷◌, ◌++◌, filter, Some}
 use Rattle.fedi_objects.specs.declared.entry.Came.{Came}
 use Rattle.fedi_objects.specs.declared.entry.Entry.{Entry}
@@ -20,10 +21,12 @@ due_in t moment = filter (is_due_by moment) (queue t)
 abbrev pub IsTo : List ℕ → List ℕ → Delivery → Type 0
 IsTo id recipient d = (d.activity ≡ Some id) × (d.recipient ≡ recipient)
 
--- Whatever comes of an attempt of the first delivery that is due at its moment, the others are due then and no more: the next
--- attempt is due later.
+-- Whatever comes of an attempt of the first delivery that is due at its moment, the others are due
+-- then and no more: the next attempt is due later.
 abbrev pub AttemptsLeaveTheRest : Type 0
 AttemptsLeaveTheRest =
-    (history : List Entry) (id recipient : List ℕ) (came : Came) (moment : ℕ) (d : Delivery) (rest : List Delivery)
-    → IsLegal (history ++ Tried id recipient came moment ∷ []) → due_in (town history) moment ≡ d ∷ rest → IsTo id recipient d
+    (history : List Entry) (id recipient : List ℕ) (came : Came) (moment : ℕ) (d : Delivery)
+    (rest : List Delivery)
+    → IsLegal (history ++ Tried id recipient came moment ∷ [])
+    → due_in (town history) moment ≡ d ∷ rest → IsTo id recipient d
     → due_in (town (history ++ Tried id recipient came moment ∷ [])) moment ≡ rest

@@ -30,7 +30,8 @@ queued_in q = record { history = history_in q; rows = q.rows.rows; room = entry_
 -- what was made ready fits, and there is room for it
 abbrev pub IsRoom : List Entry → Listed → Option Room → Type 0
 IsRoom history listed None = ⊤
-IsRoom history listed (Some r) = Fits (town history) r.entry.value r.change × HasRoom r.change (length listed.rows) listed.room
+IsRoom history listed (Some r) =
+    Fits (town history) r.entry.value r.change × HasRoom r.change (length listed.rows) listed.room
 
 -- the rows are those of the history
 pub record IsSound (history : List Entry) (listed : Listed) (coming : Option Room) : Type 0 where

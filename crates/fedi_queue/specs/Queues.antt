@@ -1,9 +1,11 @@
 -- The queue, as its callers see it, and what an entry makes of it.
-use Rattle.std.specs.Prelude.{◌≡◌, ℕ, ◌≤◌, ◌<◌, Bool, false, not, ◌&&◌, nat_eq, nat_le, ⊤, IsTrue, List, [], ◌++◌, map, filter, Option, Some, None, slice_get, vec_len}
+use Rattle.std.specs.Prelude.{◌≡◌, ℕ, ◌≤◌, ◌<◌, Bool, false, not, ◌&&◌, nat_eq, nat_le, ⊤, IsTrue}
+use Rattle.std.specs.Prelude.{List, [], ◌++◌, map, filter, Option, Some, None, slice_get, vec_len}
 use Rattle.std.specs.List.{list_any}
 use Rattle.std.specs.Str.{bytes_eq}
 use Rattle.fedi_objects.specs.declared.entry.Entry.{Entry}
-use Rattle.fedi_objects.specs.declared.entry.Entry.TheVariants.{Hosted, Made, PeerSet, Local, Remote, Tried}
+use Rattle.fedi_objects.specs.declared.entry.Entry.TheVariants.{Hosted, Made, PeerSet, Local}
+use Rattle.fedi_objects.specs.declared.entry.Entry.TheVariants.{Remote, Tried}
 use Rattle.fedi_objects.specs.declared.activity.Activity.{Activity}
 use Rattle.fedi_objects.specs.declared.entry.Came.{Came}
 use Rattle.fedi_queue.specs.declared.changes.Change.{Change}
@@ -20,7 +22,8 @@ use Rattle.fedi_town.specs.Queues.{Progress, after_outcome, outcome}
 use Rattle.fedi_town.specs.Queues.{Due, Ended}
 use Rattle.fedi_town.specs.Towns.{Town}
 
--- the history whose deliveries wait, the rows of these, of which some are claimed, and the entry that room was made for
+-- the history whose deliveries wait, the rows of these, of which some are claimed, and the entry
+-- that room was made for
 pub record Queued : Type 0 where
   pub history : List Entry
   pub rows : List QueueRow
@@ -56,12 +59,15 @@ stays_claimed acts e row = row.claimed && not (is_tried acts e row)
 -- A claim is held as long as its delivery is not tried.
 abbrev pub ClaimsAreHeld : Type 0
 ClaimsAreHeld =
-    (acts : List Act) (e : Entry) (rows new : List QueueRow) (c : Claim) → filter is_claimed new ≡ filter (stays_claimed acts e) rows
-    → list_any (λ row. is_held_by c row && is_tried acts e row) rows ≡ false → IsHeld c rows → IsHeld c new
+    (acts : List Act) (e : Entry) (rows new : List QueueRow) (c : Claim)
+    → filter is_claimed new ≡ filter (stays_claimed acts e) rows
+    → list_any (λ row. is_held_by c row && is_tried acts e row) rows ≡ false → IsHeld c rows
+    → IsHeld c new
 
 -- ---- forwards
 
--- to whom an activity of another server is forwarded, when it comes for the first time (ActivityPub, section 7.1.2)
+-- to whom an activity of another server is forwarded, when it comes for the first time
+-- (ActivityPub, section 7.1.2)
 abbrev pub forwards_by : Town → Option (List ℕ) → Activity → List (List ℕ)
 forwards_by t None a = []
 forwards_by t (Some author) a = forwards_of t author a
@@ -88,10 +94,11 @@ rows_with (changes.Added more) rows = rows ++ more.items
 rows_with (changes.Settled place due) rows = replace_at place (settled due) rows
 rows_with (changes.Rebuilt list) rows = carried rows list.items
 
--- Whatever is claimed: where the rows are those of the town, they are after the change those of the town after the entry, and
--- the same is claimed but for what was tried.
+-- Whatever is claimed: where the rows are those of the town, they are after the change those of the
+-- town after the entry, and the same is claimed but for what was tried.
 pub record Fits (t : Town) (e : Entry) (change : Change) : Type 0 where
-  pub rows : (rows : List QueueRow) → map release rows ≡ rows_of t → map release (rows_with change rows) ≡ rows_of (step t e)
+  pub rows : (rows : List QueueRow) → map release rows ≡ rows_of t
+      → map release (rows_with change rows) ≡ rows_of (step t e)
   pub claims :
       (rows : List QueueRow) → map release rows ≡ rows_of t
       → filter is_claimed (rows_with change rows) ≡ filter (stays_claimed t.acts e) rows
@@ -115,10 +122,13 @@ abbrev pub IsNext : Option ℕ → Came → ℕ → Option QueueRow → Type 0
 IsNext due came moment None = ⊥
 IsNext due came moment (Some row) = due ≡ due_of (after_outcome row.attempts moment (outcome came))
 
--- of these rows the first is settled that is of this activity to this recipient, by what came of the attempt
+-- of these rows the first is settled that is of this activity to this recipient, by what came of
+-- the attempt
 abbrev pub IsSettling : ℕ → List ℕ → Came → ℕ → List QueueRow → Change → Type 0
-IsSettling activity recipient came moment rows changes.Nothing = None ≡ place_where (is_row_for activity recipient) rows
+IsSettling activity recipient came moment rows changes.Nothing =
+    None ≡ place_where (is_row_for activity recipient) rows
 IsSettling activity recipient came moment rows (changes.Added more) = ⊥
 IsSettling activity recipient came moment rows (changes.Settled place due) =
-    (Some place ≡ place_where (is_row_for activity recipient) rows) × IsNext due came moment (slice_get rows place)
+    (Some place ≡ place_where (is_row_for activity recipient) rows)
+    × IsNext due came moment (slice_get rows place)
 IsSettling activity recipient came moment rows (changes.Rebuilt list) = ⊥

@@ -1,6 +1,8 @@
--- The deliveries that wait, as the rows of a queue (ActivityPub, sections 7.1 and 7.1.2): of which activity, to whom, after how
--- many attempts, and from when on the next one is due.
-use Rattle.std.specs.Prelude.{◌≡◌, ℕ, suc, ◌+◌, ◌≤◌, Bool, true, false, ◌&&◌, ◌||◌, List, [], ◌∷◌, ◌++◌, map, filter, length, Option, Some, None, option_and_then, option_to_list, slice_get, if◌then◌else◌}
+-- The deliveries that wait, as the rows of a queue (ActivityPub, sections 7.1 and 7.1.2): of which
+-- activity, to whom, after how many attempts, and from when on the next one is due.
+use Rattle.std.specs.Prelude.{◌≡◌, ℕ, suc, ◌+◌, ◌≤◌, Bool, true, false, ◌&&◌, ◌||◌, List, [], ◌∷◌}
+use Rattle.std.specs.Prelude.{◌++◌, map, filter, length, Option, Some, None, option_and_then}
+use Rattle.std.specs.Prelude.{option_to_list, slice_get, if◌then◌else◌}
 use Rattle.std.specs.List.{flat_map}
 use Rattle.std.specs.Str.{bytes_eq}
 use Rattle.fedi_address.specs.Iris.{host_of}
@@ -17,7 +19,8 @@ use Rattle.fedi_town.specs.Histories.{is_known, town}
 use Rattle.fedi_town.specs.Ids.{activity_id, actor_id}
 use Rattle.fedi_town.specs.Legal.{IsLegal}
 use Rattle.fedi_town.specs.Lists.{PassesOnce}
-use Rattle.fedi_town.specs.Queues.{Progress, Delivery, after_attempt, is_at_peer, is_due, progress_of, queue, sends}
+use Rattle.fedi_town.specs.Queues.{Progress, Delivery, after_attempt, is_at_peer, is_due}
+use Rattle.fedi_town.specs.Queues.{progress_of, queue, sends}
 use Rattle.fedi_town.specs.Queues.{Due, Ended}
 use Rattle.fedi_town.specs.Relations.{has_activity_id}
 use Rattle.fedi_town.specs.Towns.{Town, count_of, has_next}
@@ -27,7 +30,14 @@ use Rattle.fedi_town.specs.Towns.{Town, count_of, has_next}
 -- the row of a delivery that stands so, where another attempt is due
 abbrev pub row_of : ℕ → ℕ → List ℕ → Progress → List QueueRow
 row_of number place r (Due attempts from) =
-    record { activity = number; place = place; recipient = r; attempts = attempts; due = from; claimed = false } ∷ []
+    record {
+      activity = number;
+      place = place;
+      recipient = r;
+      attempts = attempts;
+      due = from;
+      claimed = false;
+    } ∷ []
 row_of number place r (Ended attempts) = []
 
 -- where the recipient is reached
@@ -39,10 +49,12 @@ row_where true number place r p = row_of number place r p
 abbrev pub rows_to : Town → (List ℕ → Bool) → ℕ → List ℕ → ℕ → ℕ → List (List ℕ) → List QueueRow
 rows_to t reached number id moment place [] = []
 rows_to t reached number id moment place (r ∷ rs) =
-    row_where (reached r) number place r (progress_of t id r moment) ++ rows_to t reached number id moment (suc place) rs
+    row_where (reached r) number place r (progress_of t id r moment)
+    ++ rows_to t reached number id moment (suc place) rs
 
 -- those of an activity that has an id
-abbrev pub rows_by : Town → (List ℕ → Bool) → ℕ → ℕ → List (List ℕ) → Option (List ℕ) → List QueueRow
+abbrev pub rows_by : Town → (List ℕ → Bool) → ℕ → ℕ → List (List ℕ) → Option (List ℕ)
+    → List QueueRow
 rows_by t reached number moment rs None = []
 rows_by t reached number moment rs (Some id) = rows_to t reached number id moment 0 rs
 
@@ -50,7 +62,8 @@ rows_by t reached number moment rs (Some id) = rows_to t reached number id momen
 abbrev pub rows_from : Town → (List ℕ → Bool) → ℕ → List Act → List QueueRow
 rows_from t reached number [] = []
 rows_from t reached number (x ∷ xs) =
-    rows_by t reached number x.moment (sends t x) x.activity.id ++ rows_from t reached (suc number) xs
+    rows_by t reached number x.moment (sends t x) x.activity.id
+    ++ rows_from t reached (suc number) xs
 
 -- all that wait, in the order of acceptance and of recipients: those whose recipients are of peers
 unfoldable pub rows_of : Town → List QueueRow
@@ -84,7 +97,8 @@ delivery_in acts row = record {
 abbrev pub RowsAreTheQueue : Type 0
 RowsAreTheQueue =
     (history : List Entry) → IsLegal history
-    → map (delivery_in (town history).acts) (rows_of (town history)) ≡ filter (λ d. is_waiting d.progress) (queue (town history))
+    → map (delivery_in (town history).acts) (rows_of (town history))
+    ≡ filter (λ d. is_waiting d.progress) (queue (town history))
 
 -- ---- what becomes of them
 
@@ -97,39 +111,50 @@ AcceptedActivitiesAddRows =
 
 -- the row is of the delivery of the activity of this id to this recipient
 unfoldable pub is_row_of : List Act → List ℕ → List ℕ → QueueRow → Bool
-is_row_of acts id recipient row = is_there (has_activity_id id) (slice_get acts row.activity) && bytes_eq row.recipient recipient
+is_row_of acts id recipient row =
+    is_there (has_activity_id id) (slice_get acts row.activity) && bytes_eq row.recipient recipient
 
 -- what becomes of a row by an attempt
 unfoldable pub retried : List Act → Attempt → QueueRow → List QueueRow
 retried acts a row =
     if is_row_of acts a.activity a.recipient row
-    then row_of row.activity row.place row.recipient (after_attempt (Due row.attempts row.due) a) else row ∷ []
+    then row_of row.activity row.place row.recipient (after_attempt (Due row.attempts row.due) a)
+    else row ∷ []
 
--- An activity from elsewhere that comes again adds no row: it is not forwarded a second time (ActivityPub, section 7.1.2).
+-- An activity from elsewhere that comes again adds no row: it is not forwarded a second time
+-- (ActivityPub, section 7.1.2).
 abbrev pub RepeatsAddNoRows : Type 0
 RepeatsAddNoRows =
-    (history : List Entry) (peer inbox id : List ℕ) (a : Activity) (moment : ℕ) → IsLegal (history ++ Remote peer inbox a moment ∷ [])
-    → a.id ≡ Some id → is_known (town history) id ≡ true → rows_of (town (history ++ Remote peer inbox a moment ∷ [])) ≡ rows_of (town history)
+    (history : List Entry) (peer inbox id : List ℕ) (a : Activity) (moment : ℕ)
+    → IsLegal (history ++ Remote peer inbox a moment ∷ [])
+    → a.id ≡ Some id → is_known (town history) id ≡ true
+    → rows_of (town (history ++ Remote peer inbox a moment ∷ [])) ≡ rows_of (town history)
 
 -- Of the delivery of an activity to a recipient there is one row at most.
 abbrev pub DeliveriesHaveOneRow : Type 0
 DeliveriesHaveOneRow =
-    (history : List Entry) (id recipient : List ℕ) → IsLegal history → PassesOnce (is_row_of (town history).acts id recipient) (rows_of (town history))
+    (history : List Entry) (id recipient : List ℕ) → IsLegal history
+    → PassesOnce (is_row_of (town history).acts id recipient) (rows_of (town history))
 
 -- A row that is due is of a delivery that is due.
 abbrev pub RowsAreDue : Type 0
 RowsAreDue =
-    (history : List Entry) (k : ℕ) (row : QueueRow) (id : List ℕ) (moment : ℕ) → IsLegal history → slice_get (rows_of (town history)) k ≡ Some row
-    → id_at (town history).acts row.activity ≡ Some id → row.due ≤ moment → is_due (town history) id row.recipient moment ≡ true
+    (history : List Entry) (k : ℕ) (row : QueueRow) (id : List ℕ) (moment : ℕ) → IsLegal history
+    → slice_get (rows_of (town history)) k ≡ Some row
+    → id_at (town history).acts row.activity ≡ Some id → row.due ≤ moment
+    → is_due (town history) id row.recipient moment ≡ true
 
 -- The id of a member's next activity is of no activity yet.
 abbrev pub NextIdsAreNew : Type 0
 NextIdsAreNew =
-    (history : List Entry) (host name : List ℕ) → IsLegal history → (town history).host ≡ Some host → is_name name ≡ true
+    (history : List Entry) (host name : List ℕ) → IsLegal history → (town history).host ≡ Some host
+    → is_name name ≡ true
     → has_next (count_of (town history) (actor_id host name)) ≡ true
-    → is_known (town history) (activity_id host name (count_of (town history) (actor_id host name) + 1)) ≡ false
+    → is_known (town history)
+    (activity_id host name (count_of (town history) (actor_id host name) + 1)) ≡ false
 
 -- An attempt changes the rows of its delivery alone.
 abbrev pub AttemptsChangeTheirRows : Type 0
 AttemptsChangeTheirRows =
-    (t : Town) (a : Attempt) → rows_of (record t { attempts = t.attempts ++ a ∷ [] }) ≡ flat_map (retried t.acts a) (rows_of t)
+    (t : Town) (a : Attempt) → rows_of (record t { attempts = t.attempts ++ a ∷ [] })
+    ≡ flat_map (retried t.acts a) (rows_of t)

@@ -1,12 +1,14 @@
 //! What an entry makes of the deliveries that wait, made ready so that it takes no memory.
 
-ghost use Rattle.std.specs.Prelude.{◌≡◌, ◌∷◌, ◌<◌, ◌≤◌, IfOk, IsTrue, List, OnOk, Some, drop, length, map, option_copied, slice_get};
+ghost use Rattle.std.specs.Prelude.{◌≡◌, ◌∷◌, ◌<◌, ◌≤◌, IfOk, IsTrue, List, OnOk, Some, drop};
+ghost use Rattle.std.specs.Prelude.{length, map, option_copied, slice_get};
 ghost use Rattle.std.specs.List.{list_all};
 ghost use Rattle.std.specs.Str.{bytes_eq};
 ghost use Rattle.fedi_objects.specs.declared.entry.Entry.TheVariants.{Tried};
 ghost use Rattle.fedi_queue.specs.declared.rows.QueueRow.{QueueRow};
 ghost use Rattle.fedi_queue.specs.Claims.{carried, is_at, is_few, release};
-ghost use Rattle.fedi_queue.specs.Queues.{Fits, HasRoom, IsSettling, IsWithin, due_of, is_row_for, rows_with};
+ghost use Rattle.fedi_queue.specs.Queues.{Fits, HasRoom, IsSettling, IsWithin, due_of, is_row_for};
+ghost use Rattle.fedi_queue.specs.Queues.{rows_with};
 ghost use Rattle.fedi_queue.specs.Rows.{rows_of};
 ghost use Rattle.fedi_register.specs.Changes.{place_where};
 ghost use Rattle.fedi_town.specs.Histories.{town};

@@ -2,7 +2,9 @@
 
 ghost use Rattle.fedi_queue.specs.Due.{AttemptsLeaveTheRest};
 ghost use Rattle.fedi_queue.specs.Queues.{ClaimsAreHeld};
-ghost use Rattle.fedi_queue.specs.Rows.{AcceptedActivitiesAddRows, AttemptsChangeTheirRows, DeliveriesHaveOneRow, NextIdsAreNew, RepeatsAddNoRows, RowsAreDue, RowsAreTheQueue};
+ghost use Rattle.fedi_queue.specs.Rows.{AcceptedActivitiesAddRows, AttemptsChangeTheirRows};
+ghost use Rattle.fedi_queue.specs.Rows.{DeliveriesHaveOneRow, NextIdsAreNew, RepeatsAddNoRows};
+ghost use Rattle.fedi_queue.specs.Rows.{RowsAreDue, RowsAreTheQueue};
 
 /// The rows are the deliveries that have not ended (ActivityPub, section 7.1).
 #[tactic(auto, using(crate::proofs::Queued::rows_are_queued))]

@@ -1,6 +1,7 @@
 //! The rows of activities.
 
-ghost use Rattle.std.specs.Prelude.{◌≡◌, ◌++◌, ◌+◌, ◌<◌, ◌^◌, ℕ, IfOk, OnOk, length, option_copied, option_to_list};
+ghost use Rattle.std.specs.Prelude.{◌≡◌, ◌++◌, ◌+◌, ◌<◌, ◌^◌, ℕ, IfOk, OnOk, length, option_copied};
+ghost use Rattle.std.specs.Prelude.{option_to_list};
 ghost use Rattle.fedi_effects.specs.Holdings.{coming_in};
 ghost use Rattle.fedi_queue.specs.Rows.{is_reached, row_where, rows_by, rows_from, rows_to};
 ghost use Rattle.fedi_town.specs.Queues.{is_at_peer, progress_of, sends};
@@ -8,7 +9,7 @@ ghost use Rattle.fedi_town.specs.Queues.{is_at_peer, progress_of, sends};
 use crate::rows::QueueRow;
 use fedi_address::{Host, Iri};
 use fedi_effects::{Facts, Standing, Steps, is_at_peer, progress_of, sends};
-use fedi_kept::Kept;
+use fedi_register::Kept;
 use fedi_text::Moment;
 use std::alloc::{AllocError, Global};
 use std::marker::Brand;

@@ -1,9 +1,12 @@
 //! The deliveries that this server owes to others.
 
-ghost use Rattle.std.specs.Prelude.{◌≡◌, ◌∷◌, ◌++◌, [], IfOk, IfSome, IsTrue, None, OnErr, OnOk, Some, filter, length, map, option_copied, option_map};
+ghost use Rattle.std.specs.Prelude.{◌≡◌, ◌∷◌, ◌++◌, [], IfOk, IfSome, IsTrue, None, OnErr, OnOk};
+ghost use Rattle.std.specs.Prelude.{Some, filter, length, map, option_copied, option_map};
 ghost use Rattle.std.specs.List.{find};
-ghost use Rattle.fedi_queue.specs.Claims.{change_first, claim, claim_of, is_claimed_at, is_free_at, release};
-ghost use Rattle.fedi_queue.specs.Queues.{Fits, HasRoom, IsHeld, IsWithin, is_claimed, stays_claimed};
+ghost use Rattle.fedi_queue.specs.Claims.{change_first, claim, claim_of, is_claimed_at, is_free_at};
+ghost use Rattle.fedi_queue.specs.Claims.{release};
+ghost use Rattle.fedi_queue.specs.Queues.{Fits, HasRoom, IsHeld, IsWithin, is_claimed};
+ghost use Rattle.fedi_queue.specs.Queues.{stays_claimed};
 ghost use Rattle.fedi_queue.specs.Rows.{rows_of};
 ghost use Rattle.fedi_town.specs.Histories.{town};
 ghost use Rattle.fedi_town.specs.Legal.{IsLegal, is_admissible};
@@ -13,8 +16,8 @@ use crate::making::rows_of_all;
 use crate::rows::{Claim, QueueRow, Rows};
 use fedi_address::Iri;
 use fedi_effects::Facts;
-use fedi_kept::Trace;
 use fedi_objects::Entry;
+use fedi_register::Trace;
 use fedi_text::Moment;
 use std::alloc::{AllocError, Global};
 use std::marker::Model;

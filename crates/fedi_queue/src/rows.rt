@@ -1,8 +1,10 @@
 //! Deliveries that wait, in order.
 
-ghost use Rattle.std.specs.Prelude.{◌≡◌, ◌∷◌, ◌++◌, [], ◌+◌, ◌-◌, ◌<◌, ◌≤◌, ◌^◌, IsTrue, OnOk, OnErr, None, Some, length, option_copied, option_map, vec_len};
+ghost use Rattle.std.specs.Prelude.{◌≡◌, ◌∷◌, ◌++◌, [], ◌+◌, ◌-◌, ◌<◌, ◌≤◌, ◌^◌, IsTrue, OnOk};
+ghost use Rattle.std.specs.Prelude.{OnErr, None, Some, length, option_copied, option_map, vec_len};
 ghost use Rattle.std.specs.List.{find, list_all};
-ghost use Rattle.fedi_queue.specs.Claims.{change_first, claim, claim_of, is_claimed_at, is_few, is_free_at, is_not_before, release, replace_at, settled};
+ghost use Rattle.fedi_queue.specs.Claims.{change_first, claim, claim_of, is_claimed_at, is_few};
+ghost use Rattle.fedi_queue.specs.Claims.{is_free_at, is_not_before, release, replace_at, settled};
 ghost use Rattle.fedi_register.specs.Changes.{place_where};
 
 use fedi_address::Iri;

@@ -154,7 +154,8 @@ changes_fault d o =
     (λ words. then_fault (reads_words o) _ _ None (words_fault o) (λ object_words. refl) ∙ or_none _)))))
     ∙ in_order_update (is_none (reference_at (codes "id") o)) _ _ (is_bad_reply o) (is_bad_reply d) (has_bad_entry d) (has_fault d TooManyRecipients) (has_fault d BadText) (has_fault o BadText)
 
--- the tests of another activity: object, address, target, reply and entries, crowd, words, the author
+-- the tests of another activity: object, address, target, reply and entries, crowd, words, the
+-- author
 in_order_other : (n i g rd bad m wd self : Bool) → option_or (cond n (Some NoObject) (only i BadIri)) (option_or (only g BadIri) (option_or (cond (rd || bad) (Some BadIri) (only m TooManyRecipients)) (option_or (only wd BadText) (only self SelfTarget))))
     ≡ cond n (Some NoObject) (cond (i || (g || (false || (rd || (bad || false))))) (Some BadIri) (cond (m || false) (Some TooManyRecipients) (cond (wd || false) (Some BadText) (only self SelfTarget))))
 in_order_other true i g rd bad m wd self = refl

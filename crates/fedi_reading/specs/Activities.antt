@@ -1,7 +1,11 @@
--- What is read of an activity that a client posts (ActivityStreams 2.0 Vocabulary, sections 3 and 4; ActivityPub, section 6).
-use Rattle.std.specs.Prelude.{ℕ, List, length, find, Bool, true, false, ◌&&◌, nat_lt, Option, Some, None, is_none, is_some, option_and_then, if◌then◌else◌, codes, bytes_eq, Result, Ok, Err}
+-- What is read of an activity that a client posts (ActivityStreams 2.0 Vocabulary, sections 3 and
+-- 4; ActivityPub, section 6).
+use Rattle.std.specs.Prelude.{ℕ, List, length, find, Bool, true, false, ◌&&◌, nat_lt, Option, Some}
+use Rattle.std.specs.Prelude.{None, is_none, is_some, option_and_then, if◌then◌else◌, codes}
+use Rattle.std.specs.Prelude.{bytes_eq, Result, Ok, Err}
 use Rattle.std.specs.Option.{option_map_or}
-use Rattle.serde_json.specs.Data.{Data, null, boolean, number, string, array, object, Items, no_items, item}
+use Rattle.serde_json.specs.Data.{Data, null, boolean, number, string, array, object, Items}
+use Rattle.serde_json.specs.Data.{no_items, item}
 use Rattle.serde_json.specs.Find.{get, as_object}
 use Rattle.fedi_address.specs.Recipients.{all_of, union as joined}
 use Rattle.fedi_address.specs.declared.recipients.Recipients.{Recipients}
@@ -16,12 +20,16 @@ use Rattle.fedi_objects.specs.declared.object.Edit.{Edit}
 use Rattle.fedi_objects.specs.declared.object.Edit.TheVariants.{Keep, Remove, Give}
 use Rattle.fedi_objects.specs.declared.object.Tag.{Tag}
 use Rattle.fedi_reading.specs.Properties.{property, reference_at, has_context, type_of, iri}
-use Rattle.fedi_reading.specs.Reading.{reads_iri, reads_reply, reads_both, reads_people, reads_words, url_of, tags_of, made, reads_posted}
+use Rattle.fedi_reading.specs.Reading.{reads_iri, reads_reply, reads_both, reads_people}
+use Rattle.fedi_reading.specs.Reading.{reads_words, url_of, tags_of, made, reads_posted}
 use Rattle.fedi_reading.specs.Shapes.{◌>>=◌}
 use Rattle.fedi_reading.specs.declared.need.Need.{Need}
 use Rattle.fedi_reading.specs.declared.need.Need.TheVariants as needs
 use Rattle.fedi_reading.specs.declared.shape_fault.ShapeFault.{ShapeFault}
-use Rattle.fedi_reading.specs.declared.shape_fault.ShapeFault.TheVariants.{BadContext, NoType, NoObject, BadIri, TooManyRecipients, SelfTarget}
+use Rattle.fedi_reading.specs.declared.shape_fault.ShapeFault.TheVariants.{BadContext, NoType}
+use Rattle.fedi_reading.specs.declared.shape_fault.ShapeFault.TheVariants.{NoObject, BadIri}
+use Rattle.fedi_reading.specs.declared.shape_fault.ShapeFault.TheVariants.{TooManyRecipients}
+use Rattle.fedi_reading.specs.declared.shape_fault.ShapeFault.TheVariants.{SelfTarget}
 
 -- ---- the type
 
@@ -106,9 +114,11 @@ reads_address text = option_map_or Ok (iri text) (Err BadIri)
 unfoldable pub reads_target : Data → Result (Option (List ℕ)) ShapeFault
 reads_target d = reads_iri (reference_at (codes "target") d)
 
--- An activity of this type, about this, with its target, what it replies to, whom it is for, its words and its mentions: its
--- `id`, its actor and its time are the server's to give (ActivityPub, section 6).
-abbrev pub posted_activity : Kind → ObjectRef → Option (List ℕ) → Option (List ℕ) × Recipients → Option (List ℕ) × Option (List ℕ) × Option (List ℕ) → List Tag → Activity
+-- An activity of this type, about this, with its target, what it replies to, whom it is for, its
+-- words and its mentions: its `id`, its actor and its time are the server's to give (ActivityPub,
+-- section 6).
+abbrev pub posted_activity : Kind → ObjectRef → Option (List ℕ) → Option (List ℕ) × Recipients
+    → Option (List ℕ) × Option (List ℕ) × Option (List ℕ) → List Tag → Activity
 posted_activity kind about target people words tags = record {
   id = None;
   kind = kind;
@@ -135,11 +145,13 @@ new_type (Some text) = if bytes_eq text (codes "Tombstone") then Err NoType else
 unfoldable pub reads_new_type : Data → Result (List ℕ) ShapeFault
 reads_new_type o = new_type (type_of o)
 
--- Whom a Create and its object are for: each of the two names all that either names (ActivityPub, section 6.2).
+-- Whom a Create and its object are for: each of the two names all that either names (ActivityPub,
+-- section 6.2).
 unfoldable pub reads_audience : Data → Data → Result Recipients ShapeFault
 reads_audience d o = do
   both ← reads_both 500 d o
-  if nat_lt 500 (length (all_of (joined both.0 both.1))) then Err TooManyRecipients else Ok (joined both.0 both.1)
+  if nat_lt 500 (length (all_of (joined both.0 both.1))) then Err TooManyRecipients
+      else Ok (joined both.0 both.1)
 
 -- A Create of this object. The object's `id` must be an address, and is not kept.
 unfoldable pub reads_creation : Data → Data → Result Activity ShapeFault
@@ -152,7 +164,8 @@ reads_creation d o = do
   recipients ← reads_audience d o
   words ← reads_words d
   object_words ← reads_words o
-  Ok (posted_activity kinds.Create (Whole (made kind (object_reply, recipients) object_words (url_of o, tags_of o))) target (reply, recipients) words (tags_of d))
+  Ok (posted_activity kinds.Create (Whole (made kind (object_reply, recipients) object_words
+      (url_of o, tags_of o))) target (reply, recipients) words (tags_of d))
 
 -- a Create: it makes the object that stands in it
 abbrev pub reads_create : Data → Result Activity ShapeFault
@@ -165,7 +178,8 @@ abbrev pub is_null : Data → Bool
 is_null null = true
 is_null d = false
 
--- what is done to a property: what is given replaces it, null removes it (ActivityPub, section 6.3.1)
+-- what is done to a property: what is given replaces it, null removes it (ActivityPub, section
+-- 6.3.1)
 abbrev pub edit : {A : Type 0} → List ℕ → Data → Option A → Edit A
 edit key o (Some given) = Give given
 edit key o None = if option_map_or is_null (get key o) false then Remove else Keep
@@ -178,10 +192,12 @@ holds_tags d = false
 
 -- the mentions, if tags are given
 unfoldable pub given_tags : Data → Option (List Tag)
-given_tags o = if option_map_or holds_tags (get (codes "tag") o) false then Some (tags_of o) else None
+given_tags o =
+    if option_map_or holds_tags (get (codes "tag") o) false then Some (tags_of o) else None
 
 -- what is done to the object of this `id`
-abbrev pub change : List ℕ → Data → Option (List ℕ) → Option (List ℕ) × Option (List ℕ) × Option (List ℕ) → Change
+abbrev pub change : List ℕ → Data → Option (List ℕ)
+    → Option (List ℕ) × Option (List ℕ) × Option (List ℕ) → Change
 change id o reply words = record {
   id = id;
   content = edit (codes "content") o words.0;
@@ -205,7 +221,8 @@ reads_changes d o = do
   people ← reads_people d
   words ← reads_words d
   object_words ← reads_words o
-  Ok (posted_activity kinds.Update (Changed (change id o object_reply object_words)) target people words (tags_of d))
+  Ok (posted_activity kinds.Update
+      (Changed (change id o object_reply object_words)) target people words (tags_of d))
 
 -- an Update: the object whose `id` stands in it is changed
 abbrev pub reads_update : Data → Result Activity ShapeFault
@@ -220,7 +237,8 @@ needs_id need = true
 
 -- the `id` of what the activity is about
 unfoldable pub reads_id : Need → Option (List ℕ) → Result (Option (List ℕ)) ShapeFault
-reads_id need reference = if needs_id need && is_none reference then Err NoObject else reads_iri reference
+reads_id need reference =
+    if needs_id need && is_none reference then Err NoObject else reads_iri reference
 
 -- the author follows or blocks the author
 abbrev pub is_oneself : List ℕ → Need → Option (List ℕ) → Bool
@@ -239,7 +257,8 @@ reads_other author kind need d = do
   target ← reads_target d
   people ← reads_people d
   words ← reads_words d
-  if is_oneself author need id then Err SelfTarget else Ok (posted_activity kind (object_ref id) target people words (tags_of d))
+  if is_oneself author need id then Err SelfTarget
+      else Ok (posted_activity kind (object_ref id) target people words (tags_of d))
 
 -- ---- the whole
 
@@ -251,7 +270,8 @@ reads_by_need author kind need d = reads_other author kind need d
 
 -- an activity of this type
 abbrev pub reads_kind : List ℕ → Data → Kind → Result Activity ShapeFault
-reads_kind author d kind = if has_context d then reads_by_need author kind (need_of kind) d else Err BadContext
+reads_kind author d kind =
+    if has_context d then reads_by_need author kind (need_of kind) d else Err BadContext
 
 -- What a client posts: an activity, or an object alone, which is read as the Create of it.
 unfoldable pub reads_activity : List ℕ → Data → Result Activity ShapeFault

@@ -1,5 +1,7 @@
--- What is wrong with what a client posts, fault by fault: with an activity, or with an object alone.
-use Rattle.std.specs.Prelude.{ℕ, List, ◌++◌, length, find, Bool, true, false, ◌&&◌, ◌||◌, nat_lt, Option, is_none, option_and_then, codes, bytes_eq}
+-- What is wrong with what a client posts, fault by fault: with an activity, or with an object
+-- alone.
+use Rattle.std.specs.Prelude.{ℕ, List, ◌++◌, length, find, Bool, true, false, ◌&&◌, ◌||◌, nat_lt}
+use Rattle.std.specs.Prelude.{Option, is_none, option_and_then, codes, bytes_eq}
 use Rattle.std.specs.Option.{option_map_or}
 use Rattle.std.specs.List.{list_any, filter_map}
 use Rattle.serde_json.specs.Data.{Data}
@@ -12,7 +14,19 @@ use Rattle.fedi_reading.specs.Faults.{is_bad_reference, is_bad_reply, has_fault,
 use Rattle.fedi_reading.specs.declared.need.Need.{Need}
 use Rattle.fedi_reading.specs.declared.need.Need.TheVariants.{Whole, Change, Another}
 use Rattle.fedi_reading.specs.declared.shape_fault.ShapeFault.{ShapeFault}
-use Rattle.fedi_reading.specs.declared.shape_fault.ShapeFault.TheVariants.{NotObject, BadContext, NoType, NoId, NoActor, NoObject, BadIri, TooManyRecipients, BadText, SelfTarget, Memory}
+use Rattle.fedi_reading.specs.declared.shape_fault.ShapeFault.TheVariants.{
+  NotObject,
+  BadContext,
+  NoType,
+  NoId,
+  NoActor,
+  NoObject,
+  BadIri,
+  TooManyRecipients,
+  BadText,
+  SelfTarget,
+  Memory,
+}
 
 -- the activity makes the object that stands in it, and that is so
 abbrev pub has_made : (Data → Bool) → Need → Data → Bool
@@ -57,7 +71,8 @@ has_crowd d o = has_fault o TooManyRecipients || nat_lt 500 (length (all_of (uni
 
 -- the object is another's affair, and it is the author
 abbrev pub is_self : List ℕ → Need → Data → Bool
-is_self author Another d = option_map_or (λ id. bytes_eq id author) (option_and_then iri (object_id d)) false
+is_self author Another d =
+    option_map_or (λ id. bytes_eq id author) (option_and_then iri (object_id d)) false
 is_self author need d = false
 
 -- the fault holds of an activity that a client posts, which needs this
@@ -70,15 +85,20 @@ has_activity_fault author need d NoActor = false
 has_activity_fault author need d NoObject = lacks_object need d
 has_activity_fault author need d BadIri =
     is_bad_reference (object_id d) || (is_bad_reference (reference_at (codes "target") d)
-    || (has_read is_bad_reply need d || (is_bad_reply d || (has_bad_entry d || has_made has_bad_entry need d))))
-has_activity_fault author need d TooManyRecipients = has_fault d TooManyRecipients || has_made (has_crowd d) need d
-has_activity_fault author need d BadText = has_fault d BadText || has_read (λ o. has_fault o BadText) need d
+    || (has_read is_bad_reply need d
+    || (is_bad_reply d || (has_bad_entry d || has_made has_bad_entry need d))))
+has_activity_fault author need d TooManyRecipients =
+    has_fault d TooManyRecipients || has_made (has_crowd d) need d
+has_activity_fault author need d BadText =
+    has_fault d BadText || has_read (λ o. has_fault o BadText) need d
 has_activity_fault author need d SelfTarget = is_self author need d
 has_activity_fault author need d Memory = false
 
 -- The fault holds of what a client posts: an activity by its type, or an object alone.
 abbrev pub has_post_fault : List ℕ → Data → ShapeFault → Bool
-has_post_fault author d fault = option_map_or (λ kind. has_activity_fault author (need_of kind) d fault) (kind_of d) (has_fault d fault)
+has_post_fault author d fault =
+    option_map_or (λ kind. has_activity_fault author (need_of kind) d fault) (kind_of d)
+    (has_fault d fault)
 
 -- the fault with the least number that holds
 unfoldable pub first_post_fault : List ℕ → Data → Option ShapeFault

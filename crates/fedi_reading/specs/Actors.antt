@@ -1,5 +1,7 @@
--- What is read of an actor document (ActivityPub, section 4.1; ActivityStreams 2.0 Vocabulary, section 4).
-use Rattle.std.specs.Prelude.{ℕ, List, find, Bool, true, false, not, ◌||◌, Option, Some, None, is_some, codes, Result, Ok, Err}
+-- What is read of an actor document (ActivityPub, section 4.1; ActivityStreams 2.0 Vocabulary,
+-- section 4).
+use Rattle.std.specs.Prelude.{ℕ, List, find, Bool, true, false, not, ◌||◌, Option, Some, None}
+use Rattle.std.specs.Prelude.{is_some, codes, Result, Ok, Err}
 use Rattle.serde_json.specs.Data.{Data}
 use Rattle.serde_json.specs.Find.{as_object}
 use Rattle.fedi_reading.specs.Activities.{reads_address}
@@ -10,14 +12,30 @@ use Rattle.fedi_reading.specs.Properties.{reference_at, text_at}
 use Rattle.fedi_reading.specs.Shapes.{◌>>=◌}
 use Rattle.fedi_reading.specs.declared.actors.ActorDocument.{ActorDocument}
 use Rattle.fedi_reading.specs.declared.shape_fault.ShapeFault.{ShapeFault}
-use Rattle.fedi_reading.specs.declared.shape_fault.ShapeFault.TheVariants.{NotObject, BadContext, NoType, NoId, NoActor, NoObject, BadIri, TooManyRecipients, BadText, SelfTarget, Memory}
+use Rattle.fedi_reading.specs.declared.shape_fault.ShapeFault.TheVariants.{
+  NotObject,
+  BadContext,
+  NoType,
+  NoId,
+  NoActor,
+  NoObject,
+  BadIri,
+  TooManyRecipients,
+  BadText,
+  SelfTarget,
+  Memory,
+}
 
 -- what an actor is named by and where its inbox is, with the name that it prefers
 unfoldable pub reads_names : List ℕ → List ℕ → Data → Result ActorDocument ShapeFault
 reads_names id inbox d = do
   own ← reads_address id
   there ← reads_address inbox
-  Ok (record { id = own; inbox = there; preferred_username = text_at (codes "preferredUsername") d })
+  Ok (record {
+    id = own;
+    inbox = there;
+    preferred_username = text_at (codes "preferredUsername") d;
+  })
 
 -- an actor document with this `id`, of which the inbox is wanted
 abbrev pub reads_inbox : List ℕ → Data → Option (List ℕ) → Result ActorDocument ShapeFault

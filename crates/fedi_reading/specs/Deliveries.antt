@@ -1,6 +1,7 @@
--- What is read of an activity that another server delivers (ActivityStreams 2.0 Vocabulary, sections 3 and 4; ActivityPub,
--- section 7).
-use Rattle.std.specs.Prelude.{ℕ, List, Bool, false, not, ◌&&◌, ◌||◌, Option, Some, None, is_none, is_some, if◌then◌else◌, codes, Result, Ok, Err}
+-- What is read of an activity that another server delivers (ActivityStreams 2.0 Vocabulary,
+-- sections 3 and 4; ActivityPub, section 7).
+use Rattle.std.specs.Prelude.{ℕ, List, Bool, false, not, ◌&&◌, ◌||◌, Option, Some, None, is_none}
+use Rattle.std.specs.Prelude.{is_some, if◌then◌else◌, codes, Result, Ok, Err}
 use Rattle.std.specs.Option.{option_map_or}
 use Rattle.serde_json.specs.Data.{Data}
 use Rattle.serde_json.specs.Find.{as_object}
@@ -12,13 +13,17 @@ use Rattle.fedi_objects.specs.declared.activity.ObjectRef.{ObjectRef}
 use Rattle.fedi_objects.specs.declared.activity.ObjectRef.TheVariants.{Whole}
 use Rattle.fedi_objects.specs.declared.kind.Kind.{Kind}
 use Rattle.fedi_objects.specs.declared.object.Object.{Object}
-use Rattle.fedi_reading.specs.Activities.{carried, is_oneself, kind_of, need_of, needs_id, object_id, object_ref, reads_target}
+use Rattle.fedi_reading.specs.Activities.{carried, is_oneself, kind_of, need_of, needs_id}
+use Rattle.fedi_reading.specs.Activities.{object_id, object_ref, reads_target}
 use Rattle.fedi_reading.specs.Properties.{formed, has_context, reference_at, text_at, type_of}
-use Rattle.fedi_reading.specs.Reading.{reads_iri, reads_reply, reads_few, reads_both, reads_words, url_of, tags_of}
+use Rattle.fedi_reading.specs.Reading.{reads_iri, reads_reply, reads_few, reads_both, reads_words}
+use Rattle.fedi_reading.specs.Reading.{url_of, tags_of}
 use Rattle.fedi_reading.specs.Shapes.{◌>>=◌}
 use Rattle.fedi_reading.specs.declared.need.Need.{Need}
 use Rattle.fedi_reading.specs.declared.shape_fault.ShapeFault.{ShapeFault}
-use Rattle.fedi_reading.specs.declared.shape_fault.ShapeFault.TheVariants.{NotObject, BadContext, NoType, NoId, NoActor, NoObject, SelfTarget}
+use Rattle.fedi_reading.specs.declared.shape_fault.ShapeFault.TheVariants.{NotObject, BadContext}
+use Rattle.fedi_reading.specs.declared.shape_fault.ShapeFault.TheVariants.{NoType, NoId, NoActor}
+use Rattle.fedi_reading.specs.declared.shape_fault.ShapeFault.TheVariants.{NoObject, SelfTarget}
 
 -- ---- what a client does not set
 
@@ -56,7 +61,8 @@ reads_own_addresses made o = do
 -- ---- what else an activity and an object say
 
 -- the activity, which is about this and for these, with its words, its time and its mentions
-abbrev pub said : Activity → ObjectRef → Recipients → Option (List ℕ) × Option (List ℕ) × Option (List ℕ) → Data → Activity
+abbrev pub said : Activity → ObjectRef → Recipients
+    → Option (List ℕ) × Option (List ℕ) × Option (List ℕ) → Data → Activity
 said a about recipients words d = record a {
   object = about;
   recipients = recipients;
@@ -68,7 +74,8 @@ said a about recipients words d = record a {
 }
 
 -- the object, which is for these, with its words, its url, its times, what it was and its mentions
-abbrev pub told : Object → Recipients → Option (List ℕ) × Option (List ℕ) × Option (List ℕ) → Data → Object
+abbrev pub told : Object → Recipients → Option (List ℕ) × Option (List ℕ) × Option (List ℕ)
+    → Data → Object
 told made recipients words o = record made {
   recipients = recipients;
   content = words.0;
@@ -95,7 +102,8 @@ reads_bare a need d = do
   about ← reads_iri (object_id d)
   recipients ← reads_few 501 d
   words ← reads_words d
-  if is_own_target addressed.actor need about then Err SelfTarget else Ok (said addressed (object_ref about) recipients words d)
+  if is_own_target addressed.actor need about then Err SelfTarget
+      else Ok (said addressed (object_ref about) recipients words d)
 
 -- nothing is named by this property
 abbrev pub has_no : List ℕ → Data → Bool
@@ -106,12 +114,13 @@ unfoldable pub reads_without : Kind → Data → Result Activity ShapeFault
 reads_without kind d =
     if has_no (codes "id") d then Err NoId else (
     if has_no (codes "actor") d then Err NoActor else (
-    if needs_id (need_of kind) && is_none (object_id d) then Err NoObject else reads_bare (activity_of_kind kind) (need_of kind) d))
+    if needs_id (need_of kind) && is_none (object_id d) then Err NoObject
+    else reads_bare (activity_of_kind kind) (need_of kind) d))
 
 -- ---- one that carries its object
 
--- The activity and its object as they are delivered. Each may have one entry more than a post: another server may have
--- added a recipient that was implied.
+-- The activity and its object as they are delivered. Each may have one entry more than a post:
+-- another server may have added a recipient that was implied.
 unfoldable pub reads_full : Activity → Object → Data → Data → Result Activity ShapeFault
 reads_full a made d o = do
   addressed ← reads_addresses a d
@@ -126,7 +135,8 @@ abbrev pub reads_with : Kind → Data → Data → Option (List ℕ) → Result 
 reads_with kind d o None = Err NoType
 reads_with kind d o (Some type) =
     if has_no (codes "id") d || has_no (codes "id") o then Err NoId else (
-    if has_no (codes "actor") d then Err NoActor else reads_full (activity_of_kind kind) (object_of_kind type) d o)
+    if has_no (codes "actor") d then Err NoActor
+    else reads_full (activity_of_kind kind) (object_of_kind type) d o)
 
 -- ---- the whole
 

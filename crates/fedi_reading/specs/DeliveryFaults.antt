@@ -1,5 +1,6 @@
 -- What is wrong with what another server delivers, fault by fault.
-use Rattle.std.specs.Prelude.{ℕ, List, find, Bool, false, ◌&&◌, ◌||◌, Option, is_none, option_and_then, codes}
+use Rattle.std.specs.Prelude.{ℕ, List, find, Bool, false, ◌&&◌, ◌||◌, Option, is_none}
+use Rattle.std.specs.Prelude.{option_and_then, codes}
 use Rattle.std.specs.Option.{option_map_or}
 use Rattle.serde_json.specs.Data.{Data}
 use Rattle.fedi_reading.specs.Activities.{carried, kind_of, need_of, needs_id, object_id}
@@ -11,7 +12,19 @@ use Rattle.fedi_reading.specs.Reading.{is_crowded}
 use Rattle.fedi_reading.specs.declared.need.Need.{Need}
 use Rattle.fedi_reading.specs.declared.need.Need.TheVariants.{Anything}
 use Rattle.fedi_reading.specs.declared.shape_fault.ShapeFault.{ShapeFault}
-use Rattle.fedi_reading.specs.declared.shape_fault.ShapeFault.TheVariants.{NotObject, BadContext, NoType, NoId, NoActor, NoObject, BadIri, TooManyRecipients, BadText, SelfTarget, Memory}
+use Rattle.fedi_reading.specs.declared.shape_fault.ShapeFault.TheVariants.{
+  NotObject,
+  BadContext,
+  NoType,
+  NoId,
+  NoActor,
+  NoObject,
+  BadIri,
+  TooManyRecipients,
+  BadText,
+  SelfTarget,
+  Memory,
+}
 
 -- what an activity needs as its object: what is none needs nothing
 abbrev pub needed : Data → Need
@@ -21,9 +34,12 @@ needed d = option_map_or need_of (kind_of d) Anything
 abbrev pub is_bad_at : List ℕ → Data → Bool
 is_bad_at key d = is_bad_reference (reference_at key d)
 
--- the activity says by no address what its `id` is, who its actor is, what its target is or what it replies to
+-- the activity says by no address what its `id` is, who its actor is, what its target is or what it
+-- replies to
 abbrev pub has_bad_address : Data → Bool
-has_bad_address d = is_bad_at (codes "id") d || (is_bad_at (codes "actor") d || (is_bad_at (codes "target") d || is_bad_reply d))
+has_bad_address d =
+    is_bad_at (codes "id") d
+    || (is_bad_at (codes "actor") d || (is_bad_at (codes "target") d || is_bad_reply d))
 
 -- the object says by no address to whom it is attributed or what it replies to
 abbrev pub has_bad_source : Data → Bool
@@ -36,14 +52,17 @@ has_delivery_fault need d BadContext = has_fault d BadContext
 has_delivery_fault need d NoType = is_none (kind_of d) || has_read (λ o. is_none (type_of o)) need d
 has_delivery_fault need d NoId = has_no (codes "id") d || has_read (has_no (codes "id")) need d
 has_delivery_fault need d NoActor = has_no (codes "actor") d
-has_delivery_fault need d NoObject = is_none (carried need d) && (needs_id need && is_none (object_id d))
+has_delivery_fault need d NoObject =
+    is_none (carried need d) && (needs_id need && is_none (object_id d))
 has_delivery_fault need d BadIri =
     has_bad_address d || (is_bad_reference (object_id d) || (has_read has_bad_source need d
     || (has_bad_entry d || has_read has_bad_entry need d)))
 has_delivery_fault need d TooManyRecipients = is_crowded 501 d || has_read (is_crowded 501) need d
-has_delivery_fault need d BadText = has_fault d BadText || has_read (λ o. has_fault o BadText) need d
+has_delivery_fault need d BadText =
+    has_fault d BadText || has_read (λ o. has_fault o BadText) need d
 has_delivery_fault need d SelfTarget =
-    option_map_or (λ actor. is_self actor need d) (option_and_then iri (reference_at (codes "actor") d)) false
+    option_map_or (λ actor. is_self actor need d)
+    (option_and_then iri (reference_at (codes "actor") d)) false
 has_delivery_fault need d Memory = false
 
 -- the fault with the least number that holds

@@ -1,13 +1,27 @@
 -- What is wrong with an object that a client posts, fault by fault.
-use Rattle.std.specs.Prelude.{ℕ, List, [], ◌∷◌, length, find, Bool, true, false, not, ◌||◌, nat_lt, Option, is_some, is_none, codes}
+use Rattle.std.specs.Prelude.{ℕ, List, [], ◌∷◌, length, find, Bool, true, false, not, ◌||◌, nat_lt}
+use Rattle.std.specs.Prelude.{Option, is_some, is_none, codes}
 use Rattle.std.specs.Option.{option_map_or}
 use Rattle.std.specs.List.{list_any}
 use Rattle.serde_json.specs.Data.{Data}
 use Rattle.serde_json.specs.Find.{as_object}
-use Rattle.fedi_reading.specs.Properties.{text_at, reference_at, has_context, type_of, makes_nothing, iri}
+use Rattle.fedi_reading.specs.Properties.{text_at, reference_at, has_context, type_of}
+use Rattle.fedi_reading.specs.Properties.{makes_nothing, iri}
 use Rattle.fedi_reading.specs.Reading.{is_bad, all_entries, is_crowded}
 use Rattle.fedi_reading.specs.declared.shape_fault.ShapeFault.{ShapeFault}
-use Rattle.fedi_reading.specs.declared.shape_fault.ShapeFault.TheVariants.{NotObject, BadContext, NoType, NoId, NoActor, NoObject, BadIri, TooManyRecipients, BadText, SelfTarget, Memory}
+use Rattle.fedi_reading.specs.declared.shape_fault.ShapeFault.TheVariants.{
+  NotObject,
+  BadContext,
+  NoType,
+  NoId,
+  NoActor,
+  NoObject,
+  BadIri,
+  TooManyRecipients,
+  BadText,
+  SelfTarget,
+  Memory,
+}
 
 -- something is named, but by no address
 abbrev pub is_bad_reference : Option (List ℕ) → Bool
@@ -31,13 +45,17 @@ has_fault d NoActor = false
 has_fault d NoObject = false
 has_fault d BadIri = is_bad_reply d || list_any is_bad (all_entries d)
 has_fault d TooManyRecipients = is_crowded 500 d
-has_fault d BadText = list_any is_long (text_at (codes "content") d ∷ text_at (codes "summary") d ∷ text_at (codes "name") d ∷ [])
+has_fault d BadText =
+    list_any is_long
+    (text_at (codes "content") d ∷ text_at (codes "summary") d ∷ text_at (codes "name") d ∷ [])
 has_fault d SelfTarget = false
 has_fault d Memory = false
 
 -- the faults, by their numbers
 abbrev pub faults : List ShapeFault
-faults = NotObject ∷ BadContext ∷ NoType ∷ NoId ∷ NoActor ∷ NoObject ∷ BadIri ∷ TooManyRecipients ∷ BadText ∷ SelfTarget ∷ []
+faults =
+    NotObject ∷ BadContext ∷ NoType ∷ NoId ∷ NoActor ∷ NoObject ∷ BadIri ∷ TooManyRecipients
+    ∷ BadText ∷ SelfTarget ∷ []
 
 -- the fault with the least number that holds
 unfoldable pub first_fault : Data → Option ShapeFault

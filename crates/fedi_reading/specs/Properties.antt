@@ -1,5 +1,7 @@
 -- How the properties of ActivityStreams stand in JSON (ActivityStreams 2.0 Core, sections 2 and 4).
-use Rattle.std.specs.Prelude.{ℕ, List, [], ◌∷◌, length, Bool, true, false, ◌||◌, nat_le, nat_lt, Option, Some, None, unwrap_or, option_and_then, if◌then◌else◌, codes, bytes_eq, Result, Ok, Err}
+use Rattle.std.specs.Prelude.{ℕ, List, [], ◌∷◌, length, Bool, true, false, ◌||◌, nat_le, nat_lt}
+use Rattle.std.specs.Prelude.{Option, Some, None, unwrap_or, option_and_then, if◌then◌else◌, codes}
+use Rattle.std.specs.Prelude.{bytes_eq, Result, Ok, Err}
 use Rattle.std.specs.Option.{option_map_or}
 use Rattle.std.specs.List.{list_any}
 use Rattle.serde_json.specs.Data.{Data, null, string, Items, no_items, item}
@@ -28,7 +30,8 @@ abbrev pub list_of : Items → List Data
 list_of no_items = []
 list_of (item d ds) = d ∷ list_of ds
 
--- the values of a property that may have many: the entries of a list, or the one value (Core, section 4)
+-- the values of a property that may have many: the entries of a list, or the one value (Core,
+-- section 4)
 unfoldable pub entries : Data → List Data
 entries d = option_map_or list_of (as_array d) (d ∷ [])
 
@@ -56,7 +59,9 @@ is_context d = false
 
 -- a document without a context is read as one with it (Core, section 2.1)
 unfoldable pub has_context : Data → Bool
-has_context d = option_map_or (λ value. list_any is_context (entries value)) (property (codes "@context") d) true
+has_context d =
+    option_map_or (λ value. list_any is_context (entries value))
+    (property (codes "@context") d) true
 
 -- a text of this form: another one is skipped
 abbrev pub formed : (List ℕ → Bool) → Option (List ℕ) → Option (List ℕ)
@@ -65,13 +70,15 @@ formed test (Some text) = if test text then Some text else None
 
 -- the type of a thing: the first, if it has many, of 1 to 64 bytes (Core, section 4.1)
 unfoldable pub type_of : Data → Option (List ℕ)
-type_of d = formed is_type (option_and_then (λ value. as_str (first_of value)) (property (codes "type") d))
+type_of d =
+    formed is_type (option_and_then (λ value. as_str (first_of value)) (property (codes "type") d))
 
 -- the text is one of these types
 unfoldable pub is_activity_type : List ℕ → Bool
 is_activity_type text = list_any (λ kind. bytes_eq (kind_name kind) text) kinds
 
--- a type of which a client posts no object: one of activities, or that of what was deleted (Vocabulary, section 3.3)
+-- a type of which a client posts no object: one of activities, or that of what was deleted
+-- (Vocabulary, section 3.3)
 unfoldable pub makes_nothing : List ℕ → Bool
 makes_nothing text = is_activity_type text || bytes_eq text (codes "Tombstone")
 

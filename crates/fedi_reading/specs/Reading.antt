@@ -1,5 +1,9 @@
--- What is read of an object that a client posts (ActivityStreams 2.0 Vocabulary, section 4; ActivityPub, sections 5.6 and 6.2).
-use Rattle.std.specs.Prelude.{◌≡◌, ◌≢◌, ℕ, List, [], ◌++◌, length, fold, Bool, true, false, not, ◌&&◌, ◌||◌, nat_le, nat_lt, Option, Some, None, is_some, is_none, option_and_then, option_map, if◌then◌else◌, codes, bytes_eq, Result, Ok, Err}
+-- What is read of an object that a client posts (ActivityStreams 2.0 Vocabulary, section 4;
+-- ActivityPub, sections 5.6 and 6.2).
+use Rattle.std.specs.Prelude.{◌≡◌, ◌≢◌, ℕ, List, [], ◌++◌, length, fold, Bool, true, false, not}
+use Rattle.std.specs.Prelude.{◌&&◌, ◌||◌, nat_le, nat_lt, Option, Some, None, is_some, is_none}
+use Rattle.std.specs.Prelude.{option_and_then, option_map, if◌then◌else◌, codes, bytes_eq, Result}
+use Rattle.std.specs.Prelude.{Ok, Err}
 use Rattle.std.specs.Option.{option_map_or}
 use Rattle.std.specs.List.{list_any, filter_map}
 use Rattle.serde_json.specs.Data.{Data}
@@ -7,14 +11,18 @@ use Rattle.serde_json.specs.Find.{as_object}
 use Rattle.fedi_address.specs.Iris.{public_iri}
 use Rattle.fedi_address.specs.Recipients.{add_new, distinct}
 use Rattle.fedi_address.specs.declared.recipients.Recipients.{Recipients}
-use Rattle.fedi_reading.specs.Properties.{text_at, entries_at, named, reference_at, has_context, reads_type, reads_text, iri}
+use Rattle.fedi_reading.specs.Properties.{text_at, entries_at, named, reference_at, has_context}
+use Rattle.fedi_reading.specs.Properties.{reads_type, reads_text, iri}
 use Rattle.fedi_reading.specs.Shapes.{◌>>=◌}
 use Rattle.fedi_objects.specs.declared.object.Tag.{Tag}
 use Rattle.fedi_objects.specs.declared.object.Object.{Object}
 use Rattle.fedi_objects.specs.declared.activity.Activity.{Activity}
 use Rattle.fedi_objects.specs.Objects.{creation}
 use Rattle.fedi_reading.specs.declared.shape_fault.ShapeFault.{ShapeFault}
-use Rattle.fedi_reading.specs.declared.shape_fault.ShapeFault.TheVariants.{NotObject, BadContext, BadIri, TooManyRecipients, Memory}
+use Rattle.fedi_reading.specs.declared.shape_fault.ShapeFault.TheVariants.{NotObject, BadContext}
+use Rattle.fedi_reading.specs.declared.shape_fault.ShapeFault.TheVariants.{BadIri}
+use Rattle.fedi_reading.specs.declared.shape_fault.ShapeFault.TheVariants.{TooManyRecipients}
+use Rattle.fedi_reading.specs.declared.shape_fault.ShapeFault.TheVariants.{Memory}
 
 -- the short names of the collection of everyone (ActivityPub, section 5.6)
 unfoldable pub is_everyone : List ℕ → Bool
@@ -42,10 +50,12 @@ add_all kept ds = fold add_new kept (filter_map recipient_of ds)
 
 -- a field of recipients, by its entries (ActivityPub, section 6; Vocabulary, section 4)
 unfoldable pub reads_entries : List Data → Result (List (List ℕ)) ShapeFault
-reads_entries ds = if list_any is_bad ds then Err BadIri else Ok (distinct (filter_map recipient_of ds))
+reads_entries ds =
+    if list_any is_bad ds then Err BadIri else Ok (distinct (filter_map recipient_of ds))
 
 -- two fields of recipients
-unfoldable pub reads_fields : List ℕ → List ℕ → Data → Result (List (List ℕ) × List (List ℕ)) ShapeFault
+unfoldable pub reads_fields : List ℕ → List ℕ → Data
+    → Result (List (List ℕ) × List (List ℕ)) ShapeFault
 reads_fields first second d = do
   a ← reads_entries (entries_at first d)
   b ← reads_entries (entries_at second d)
@@ -104,7 +114,8 @@ reads_people d = do
   Ok (in_reply_to, recipients)
 
 -- the content, the summary and the name (Vocabulary, section 4; Core, section 4.7)
-unfoldable pub reads_words : Data → Result (Option (List ℕ) × Option (List ℕ) × Option (List ℕ)) ShapeFault
+unfoldable pub reads_words : Data
+    → Result (Option (List ℕ) × Option (List ℕ) × Option (List ℕ)) ShapeFault
 reads_words d = do
   content ← reads_text (codes "content") d
   summary ← reads_text (codes "summary") d
@@ -130,20 +141,25 @@ mention name href = record { href = href; name = name }
 
 -- the type of a tag is that of mentions (Vocabulary, section 5.5)
 abbrev pub is_mention : Data → Bool
-is_mention d = option_map_or (λ text. bytes_eq text (codes "Mention")) (text_at (codes "type") d) false
+is_mention d =
+    option_map_or (λ text. bytes_eq text (codes "Mention")) (text_at (codes "type") d) false
 
 -- a mention with an address: every other tag is skipped
 unfoldable pub tag_of : Data → Option Tag
 tag_of d =
-    if is_mention d then option_map (mention (short_text (text_at (codes "name") d))) (iri_at (codes "href") d) else None
+    if is_mention d
+    then option_map (mention (short_text (text_at (codes "name") d))) (iri_at (codes "href") d)
+    else None
 
 -- the mentions of an object
 unfoldable pub tags_of : Data → List Tag
 tags_of d = filter_map tag_of (entries_at (codes "tag") d)
 
--- An object that a client posts, of its type, what it replies to, whom it is for, its words, its url and its mentions:
--- its `id`, its author and its times are the server's to give (ActivityPub, section 6).
-abbrev pub made : List ℕ → Option (List ℕ) × Recipients → Option (List ℕ) × Option (List ℕ) × Option (List ℕ) → Option (List ℕ) × List Tag → Object
+-- An object that a client posts, of its type, what it replies to, whom it is for, its words, its
+-- url and its mentions: its `id`, its author and its times are the server's to give (ActivityPub,
+-- section 6).
+abbrev pub made : List ℕ → Option (List ℕ) × Recipients
+    → Option (List ℕ) × Option (List ℕ) × Option (List ℕ) → Option (List ℕ) × List Tag → Object
 made kind people words links = record {
   id = None;
   kind = kind;
@@ -169,11 +185,13 @@ reads_object d = do
   words ← reads_words d
   Ok (made kind people words (url_of d, tags_of d))
 
--- the Create that an object alone is wrapped in, for the same recipients (ActivityPub, section 6.2.1)
+-- the Create that an object alone is wrapped in, for the same recipients (ActivityPub, section
+-- 6.2.1)
 abbrev pub wrapped : Object → Activity
 wrapped o = creation o
 
--- What a client posts, read as an activity: the first fault, in the order of the faults' numbers, or the Create.
+-- What a client posts, read as an activity: the first fault, in the order of the faults' numbers,
+-- or the Create.
 unfoldable pub reads_posted : Data → Result Activity ShapeFault
 reads_posted d =
     if not (is_some (as_object d)) then Err NotObject else (

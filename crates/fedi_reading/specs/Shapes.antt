@@ -1,7 +1,19 @@
 -- What is wrong with a posted thing, and what a reader gives.
 use Rattle.std.specs.Prelude.{◌≡◌, ◌≢◌, ℕ, List, codes, Option, Some, None, Result, Ok, Err}
 use Rattle.fedi_reading.specs.declared.shape_fault.ShapeFault.{ShapeFault}
-use Rattle.fedi_reading.specs.declared.shape_fault.ShapeFault.TheVariants.{NotObject, BadContext, NoType, NoId, NoActor, NoObject, BadIri, TooManyRecipients, BadText, SelfTarget, Memory}
+use Rattle.fedi_reading.specs.declared.shape_fault.ShapeFault.TheVariants.{
+  NotObject,
+  BadContext,
+  NoType,
+  NoId,
+  NoActor,
+  NoObject,
+  BadIri,
+  TooManyRecipients,
+  BadText,
+  SelfTarget,
+  Memory,
+}
 
 -- the place of a fault in the order in which they are looked for: `Memory` has none
 abbrev pub fault_number : ShapeFault → Option ℕ
@@ -33,7 +45,8 @@ fault_name Memory = codes "Memory"
 
 -- what is read next, unless a fault came first
 infixl 10 ◌>>=◌
-abbrev pub ◌>>=◌ : {A B : Type 0} → Result A ShapeFault → (A → Result B ShapeFault) → Result B ShapeFault
+abbrev pub ◌>>=◌ : {A B : Type 0} → Result A ShapeFault → (A → Result B ShapeFault)
+    → Result B ShapeFault
 (Ok x) >>= f = f x
 (Err e) >>= f = Err e
 

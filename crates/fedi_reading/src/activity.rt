@@ -1,6 +1,7 @@
 //! Activities, as a client posts them.
 
-ghost use Rattle.std.specs.Prelude.{◌≡◌, ◌≢◌, ℕ, List, Some, None, Ok, option_map, IfOk, IfErr, OnOk};
+ghost use Rattle.std.specs.Prelude.{◌≡◌, ◌≢◌, ℕ, List, Some, None, Ok, option_map, IfOk, IfErr};
+ghost use Rattle.std.specs.Prelude.{OnOk};
 ghost use Rattle.std.specs.Option.{option_copied};
 ghost use Rattle.serde_json.specs.Data.{Data};
 ghost use Rattle.serde_json.specs.View.{view};
@@ -261,8 +262,8 @@ fn given_tags(alloc: Global, object: &Value) -> Result<Option<Items<Tag>>, Alloc
     }
 }
 
-// Reads an Update into one that is empty, and what it changes into a change of nothing. The Update's
-// object is left.
+// Reads an Update into one that is empty, and what it changes into a change of nothing. The
+// Update's object is left.
 #[tactic(auto, unfolding(crate::specs::Activities::reads_changes, crate::specs::Reading::url_of))]
 fn fill_update(
     alloc: Global,
@@ -333,8 +334,8 @@ fn read_kind(alloc: Global, value: &Value, author: &Iri, kind: Kind) -> Result<A
     }
 }
 
-/// Reads what a client posts to the outbox of this author: an activity of one of the 28 types, or an
-/// object, which is wrapped in a Create as `read_posted` does (ActivityPub, section 6.2.1).
+/// Reads what a client posts to the outbox of this author: an activity of one of the 28 types, or
+/// an object, which is wrapped in a Create as `read_posted` does (ActivityPub, section 6.2.1).
 ///
 /// Of an activity its target, the five fields of recipients, what it replies to, its words and its
 /// mentions are kept, and its object: whole for a `Create`, as a change for an `Update` (section

@@ -54,12 +54,12 @@ fn read_names(
     })
 }
 
-/// Reads an actor document (ActivityPub, section 4.1): its `id`, its `inbox` and its `preferredUsername`.
-/// Every other property is skipped.
+/// Reads an actor document (ActivityPub, section 4.1): its `id`, its `inbox` and its
+/// `preferredUsername`. Every other property is skipped.
 ///
-/// The error is the first fault that holds, in this order. `NotObject`: the value is no JSON object.
-/// `NoId`: there is no `id`. `NoObject`: there is no `inbox`. `BadIri`: a text for one of these is no web
-/// address of at most 2,048 bytes. `Memory`, out of memory, may come at any time.
+/// The error is the first fault that holds, in this order. `NotObject`: the value is no JSON
+/// object. `NoId`: there is no `id`. `NoObject`: there is no `inbox`. `BadIri`: a text for one of
+/// these is no web address of at most 2,048 bytes. `Memory`, out of memory, may come at any time.
 #[tactic(auto, unfolding(crate::specs::Actors::reads_actor))]
 pub fn read_actor(alloc: Global, value: &Value) -> Result<ActorDocument, ShapeFault>
     ensures exact { Gives result (reads_actor (view value.now)) }

@@ -125,8 +125,8 @@ fn entry_count(value: &Value) -> usize
         + entries_at(value, "audience").len()
 }
 
-// The five fields of recipients, if they have at most so many entries. The time grows with the entries
-// alone, however many they are.
+// The five fields of recipients, if they have at most so many entries. The time grows with the
+// entries alone, however many they are.
 #[tactic(auto, unfolding(crate::specs::Reading::reads_few))]
 pub(crate) fn read_few(alloc: Global, value: &Value, most: usize) -> Result<Recipients, ShapeFault>
     ensures { Gives result (reading.reads_few most (view value.now)) }
@@ -138,8 +138,8 @@ pub(crate) fn read_few(alloc: Global, value: &Value, most: usize) -> Result<Reci
     read_recipients(alloc, value)
 }
 
-// Those of an activity and those of its object, if each have at most so many entries. The time grows
-// with the entries alone, however many they are.
+// Those of an activity and those of its object, if each have at most so many entries. The time
+// grows with the entries alone, however many they are.
 #[tactic(auto, unfolding(crate::specs::Reading::reads_both))]
 pub(crate) fn read_both(
     alloc: Global,
@@ -159,8 +159,8 @@ pub(crate) fn read_both(
     Ok((recipients, others))
 }
 
-// Whom a Create and its object are for: each field has what the Create says and then the rest of what
-// its object says.
+// Whom a Create and its object are for: each field has what the Create says and then the rest of
+// what its object says.
 #[tactic(auto, unfolding(crate::specs::Activities::reads_audience))]
 pub(crate) fn read_audience(
     alloc: Global,

@@ -23,8 +23,8 @@ use fedi_text::Text;
 use serde_json::Value;
 use std::alloc::{AllocError, Global};
 
-/// The most entries that the five fields of recipients may have, as they are written: one more than in
-/// a post, since another server may have added a recipient that was implied.
+/// The most entries that the five fields of recipients may have, as they are written: one more than
+/// in a post, since another server may have added a recipient that was implied.
 const MOST_DELIVERED: usize = 501;
 
 // A time, as the other server writes it.
@@ -149,8 +149,8 @@ fn fill_links(alloc: Global, value: &Value, object: &mut Object) -> Result<(), A
     Ok(())
 }
 
-// Reads into an activity what a delivery says, and into the other its object. The activity's object is
-// left.
+// Reads into an activity what a delivery says, and into the other its object. The activity's object
+// is left.
 #[tactic(auto, unfolding(crate::specs::Deliveries::reads_full))]
 fn fill_full(
     alloc: Global,
@@ -269,25 +269,26 @@ fn read_sent(alloc: Global, value: &Value, kind: Kind) -> Result<Activity, Shape
     }
 }
 
-/// Reads what another server delivers: an activity of one of the 28 types (ActivityPub, section 7). Its
-/// time grows with the value alone, however many recipients it names.
+/// Reads what another server delivers: an activity of one of the 28 types (ActivityPub, section 7).
+/// Its time grows with the value alone, however many recipients it names.
 ///
-/// Of an activity its `id`, its actor, its target, the five fields of recipients, what it replies to,
-/// its words, its time and its mentions are kept, and its object: whole, as another server keeps it, if
-/// it is in a `Create` or an `Update` (section 7.3), and else by its `id`. A time and a former type
-/// that are not well formed are skipped.
+/// Of an activity its `id`, its actor, its target, the five fields of recipients, what it replies
+/// to, its words, its time and its mentions are kept, and its object: whole, as another server
+/// keeps it, if it is in a `Create` or an `Update` (section 7.3), and else by its `id`. A time and
+/// a former type that are not well formed are skipped.
 ///
 /// The error is the first fault that holds, in this order; what is said of properties holds of the
 /// activity, and of the object that is kept whole. `NotObject`: the value is no JSON object.
-/// `BadContext`: `@context` is there and is neither the one of ActivityStreams nor a list that holds it.
-/// `NoType`: the type is no text of 1 to 64 bytes, nor a list whose first entry is one, or the
-/// activity's is none of the 28. `NoId`: there is no `id`. `NoActor`: the activity has no actor.
-/// `NoObject`: a `Create`, an `Update`, an `Accept`, `Announce`, `Block`, `Delete`, `Follow`, `Like`,
-/// `Reject` or `Undo` names no object. `BadIri`: a text for the `id`, the actor, the object, the target,
-/// to whom an object is attributed, what is replied to or a recipient is no web address of at most 2,048
-/// bytes. `TooManyRecipients`: the five fields have more than 501 entries as written. `BadText`: the
-/// content, the summary or the name has more than 65,536 bytes. `SelfTarget`: a `Follow` or `Block` is
-/// of its actor. `Memory`, out of memory, may come at any time.
+/// `BadContext`: `@context` is there and is neither the one of ActivityStreams nor a list that
+/// holds it. `NoType`: the type is no text of 1 to 64 bytes, nor a list whose first entry is one,
+/// or the activity's is none of the 28. `NoId`: there is no `id`. `NoActor`: the activity has no
+/// actor. `NoObject`: a `Create`, an `Update`, an `Accept`, `Announce`, `Block`, `Delete`,
+/// `Follow`, `Like`, `Reject` or `Undo` names no object. `BadIri`: a text for the `id`, the actor,
+/// the object, the target, to whom an object is attributed, what is replied to or a recipient is no
+/// web address of at most 2,048 bytes. `TooManyRecipients`: the five fields have more than 501
+/// entries as written. `BadText`: the content, the summary or the name has more than 65,536 bytes.
+/// `SelfTarget`: a `Follow` or `Block` is of its actor. `Memory`, out of memory, may come at any
+/// time.
 #[tactic(auto, unfolding(crate::specs::Deliveries::reads_delivered))]
 pub fn read_delivered(alloc: Global, value: &Value) -> Result<Activity, ShapeFault>
     ensures exact { Gives result (deliveries.reads_delivered (view value.now)) }

@@ -123,7 +123,8 @@ pub(crate) fn read_words(
     Ok((content, summary, name))
 }
 
-// Reads an object that a client posts into one that is bare. What the server gives itself is skipped.
+// Reads an object that a client posts into one that is bare. What the server gives itself is
+// skipped.
 #[tactic(auto, unfolding(crate::specs::Reading::reads_object, crate::specs::Reading::url_of))]
 fn fill_object(alloc: Global, value: &Value, object: &mut Object) -> Result<(), ShapeFault>
     requires bare { object.old ≡ object_of_kind object.old.kind }

@@ -6,8 +6,8 @@ ghost use Rattle.fedi_reading.specs.declared.shape_fault.ShapeFault.TheVariants.
 use std::alloc::AllocError;
 use thiserror::Error;
 
-/// Why a thing that was posted or delivered is refused for its shape. If several faults hold, the answer
-/// is the first of them in this order.
+/// Why a thing that was posted or delivered is refused for its shape. If several faults hold, the
+/// answer is the first of them in this order.
 #[derive(Clone, Copy, Debug, PartialEq, Eq, Error)]
 pub enum ShapeFault {
     /// It is no JSON object.

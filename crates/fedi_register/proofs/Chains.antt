@@ -241,7 +241,8 @@ found_newest n q mark marks k =
     first-same q mark (take k marks) ∙ ap (λ (ms : List Mark). first_place q mark ms) (same_newest n mark marks k)
     ∙ sym (first-same q mark (take (newest n (chain_of n mark) marks k) marks))
 
--- along a chain: the step that comes next is of the chain, and what is found among all is found from it on or was found
+-- along a chain: the step that comes next is of the chain, and what is found among all is found
+-- from it on or was found
 pub record IsAlong (n : ℕ) (says : ℕ → Bool → Type 0) (steps : List Step) (mark next : ℕ) (found : Option ℕ) : Type 0 where
   pub own : (k : ℕ) → next ≡ suc k → is_of n (chain_of n mark) (slice_get (marks_of steps) k) ≡ true
   pub rest : (q : ℕ → Bool) → Decides says q → first_place q mark (marks_of steps) ≡ option_or (found_in q mark (marks_of steps) next) found
@@ -317,7 +318,8 @@ along_hit n says steps mark (suc k) x h got q decides hit =
 abbrev places_in : List Mark → List ℕ
 places_in marks = map (λ m. m.place) marks
 
--- along a chain: the step that comes next is of the chain, and the places of the mark are those from it on, and before them those that were found, which are the newest first
+-- along a chain: the step that comes next is of the chain, and the places of the mark are those
+-- from it on, and before them those that were found, which are the newest first
 pub record IsGathering (n : ℕ) (steps : List Step) (mark next : ℕ) (found : List ℕ) : Type 0 where
   pub own : (k : ℕ) → next ≡ suc k → is_of n (chain_of n mark) (slice_get (marks_of steps) k) ≡ true
   pub rest : places_of mark (marks_of steps) ≡ places_in (same_in mark (marks_of steps) next) ++ reverse found

@@ -100,7 +100,8 @@ marks-set p mark (x ∷ xs) n (suc place) y z got passes same = rw (marks-set p 
 
 -- ---- a loop that gives a state to what passes
 
--- how far such a loop has come: all edits make of the activities what they make of those at first, and the marks are theirs
+-- how far such a loop has come: all edits make of the activities what they make of those at first,
+-- and the marks are theirs
 pub record IsEditing (p : Act → Bool) (f : Act → Act) (q : Act → Bool) (mark : Act → ℕ) (marks : List Mark) (first now : List Act) : Type 0 where
   pub edits : map (where_passes p f) now ≡ map (where_passes p f) first
   pub kept : marks ≡ marks_from q mark 0 now

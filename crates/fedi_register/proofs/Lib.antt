@@ -4,6 +4,7 @@ pub mod Edited
 pub mod Found
 pub mod Inboxes
 pub mod Indexed
+pub mod KeptSent
 pub mod Once
 pub mod Places
 pub mod Sent

@@ -1,4 +1,5 @@
--- What is looked up is marked so that it is found, and what is gathered at places is what is gathered among all.
+-- What is looked up is marked so that it is found, and what is gathered at places is what is
+-- gathered among all.
 use Rattle.std.proofs.Common.{◌≡◌, ℕ, suc, Bool, true, false, List, [], ◌∷◌, ◌++◌, Option, Some, None, refl, sym, ap, subst, ◌∙◌, append_assoc, eq-eqb, length}
 use Rattle.std.specs.Prelude.{not, ◌&&◌, ◌||◌, filter, is_some, map, nat_eq, option_map, slice_get, if◌then◌else◌}
 use Rattle.std.specs.List.{fold, list_any}

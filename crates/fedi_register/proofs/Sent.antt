@@ -1,7 +1,7 @@
 -- A register may cross threads.
 use denote.Param.Send.{IsSend, sendable}
 use Rattle.std.proofs.Crossing.{crosses}
-use Rattle.fedi_kept.proofs.Sent.{kept_send}
+use Rattle.fedi_register.proofs.KeptSent.{kept_send}
 use Rattle.fedi_register.specs.contracts.register.Register as Register
 
 pub register_send : IsSend Register.the_row

@@ -35,7 +35,8 @@ pub record SameCounts (old new : List Author) : Type 0 where
 
 -- of this author one more was counted
 pub record CountsOne (old new : List Author) (author : List ℕ) : Type 0 where
-  pub count : (id : List ℕ) → count_in new id ≡ count_in old id + (if bytes_eq author id then 1 else 0)
+  pub count : (id : List ℕ)
+      → count_in new id ≡ count_in old id + (if bytes_eq author id then 1 else 0)
 
 -- the authors, as those see them who look up
 abbrev pub authors_in : Inside → List Author

@@ -1,5 +1,7 @@
 -- The chains in which marks are kept.
-use Rattle.std.specs.Prelude.{◌≡◌, ℕ, zero, suc, ◌+◌, ◌%◌, ◌<◌, ◌≤◌, ◌^◌, Bool, false, nat_eq, List, map, length, Option, None, Some, slice_get, slice_index, vec_len, vec_capacity, if◌then◌else◌}
+use Rattle.std.specs.Prelude.{◌≡◌, ℕ, zero, suc, ◌+◌, ◌%◌, ◌<◌, ◌≤◌, ◌^◌, Bool, false, nat_eq, List}
+use Rattle.std.specs.Prelude.{map, length, Option, None, Some, slice_get, slice_index, vec_len}
+use Rattle.std.specs.Prelude.{vec_capacity, if◌then◌else◌}
 use Rattle.fedi_register.specs.declared.marks.Step.{Step}
 use Rattle.fedi_register.specs.declared.marks.Marks.TheInside.{Inside}
 use Rattle.fedi_register.specs.Marks.{Mark, Marked}
@@ -20,7 +22,8 @@ is_of n chain (Some m) = nat_eq (chain_of n m.mark) chain
 -- one more than the number of the newest of this chain among the first k, or 0 where there is none
 abbrev pub newest : ℕ → ℕ → List Mark → ℕ → ℕ
 newest n chain marks zero = zero
-newest n chain marks (suc k) = if is_of n chain (slice_get marks k) then suc k else newest n chain marks k
+newest n chain marks (suc k) =
+    if is_of n chain (slice_get marks k) then suc k else newest n chain marks k
 
 -- the step to which such a number leads
 abbrev pub step_before : List Step → ℕ → Option Step
@@ -33,7 +36,8 @@ marks_of steps = map mark_in steps
 
 -- each of the first k steps leads to the newest before it of its chain
 pub record IsChained (n : ℕ) (steps : List Step) (k : ℕ) : Type 0 where
-  pub before : (j : ℕ) (x : Step) → j < k → slice_get steps j ≡ Some x → x.before ≡ newest n (chain_of n x.mark) (marks_of steps) j
+  pub before : (j : ℕ) (x : Step) → j < k → slice_get steps j ≡ Some x
+      → x.before ≡ newest n (chain_of n x.mark) (marks_of steps) j
 
 -- each chain begins at its newest step among the first k
 pub record HasHeads (n : ℕ) (marks : List Mark) (heads : List ℕ) (k : ℕ) : Type 0 where
@@ -43,7 +47,8 @@ pub record HasHeads (n : ℕ) (marks : List Mark) (heads : List ℕ) (k : ℕ) :
 abbrev pub marked_in : Inside → Marked
 marked_in m = record { marks = marks_of m.steps.items; room = m.room }
 
--- the steps are kept in chains, there is at least one chain where there is a step or room for one, and a number of a step fits its field
+-- the steps are kept in chains, there is at least one chain where there is a step or room for one,
+-- and a number of a step fits its field
 abbrev pub AreMarks : Inside → Type 0
 AreMarks m =
     IsChained (length m.heads.items) m.steps.items (length m.steps.items)

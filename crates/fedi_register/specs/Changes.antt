@@ -1,8 +1,10 @@
 -- What becomes of one earlier activity, effect by effect.
-use Rattle.std.specs.Prelude.{ℕ, Bool, true, false, not, ◌&&◌, nat_lt, List, [], ◌∷◌, ◌++◌, length, Option, Some, None, option_map, if◌then◌else◌}
+use Rattle.std.specs.Prelude.{ℕ, Bool, true, false, not, ◌&&◌, nat_lt, List, [], ◌∷◌, ◌++◌, length}
+use Rattle.std.specs.Prelude.{Option, Some, None, option_map, if◌then◌else◌}
 use Rattle.std.specs.List.{find, position_or_len}
 use Rattle.fedi_objects.specs.declared.kind.State.{State}
-use Rattle.fedi_objects.specs.declared.kind.State.TheVariants.{Plain, Done, Pending, Accepted, Rejected, Standing, Undone}
+use Rattle.fedi_objects.specs.declared.kind.State.TheVariants.{Plain, Done, Pending, Accepted}
+use Rattle.fedi_objects.specs.declared.kind.State.TheVariants.{Rejected, Standing, Undone}
 use Rattle.fedi_town.specs.declared.act.Act.{Act}
 use Rattle.fedi_town.specs.declared.effect.Effect.TheVariants as effects
 use Rattle.fedi_town.specs.Effects.{affect}
@@ -30,7 +32,8 @@ AreMadeOnce acts = (id : List ℕ) → PassesOnce (makes id) acts
 
 -- the place of the first that passes, where one passes
 abbrev pub place_where : {A : Type 0} → (A → Bool) → List A → Option ℕ
-place_where p xs = if nat_lt (position_or_len p xs) (length xs) then Some (position_or_len p xs) else None
+place_where p xs =
+    if nat_lt (position_or_len p xs) (length xs) then Some (position_or_len p xs) else None
 
 -- two states are the same
 abbrev pub is_state : State → State → Bool
@@ -51,4 +54,5 @@ is_unended a b s y = is_open_follow a b y && not (is_state y.state s)
 
 -- to whom the activity of this id goes, where it goes to one more
 abbrev pub longer_of : List ℕ → List ℕ → List Act → Option (List (List ℕ))
-longer_of id owner acts = option_map (λ x. x.recipients ++ owner ∷ []) (find (has_activity_id id) acts)
+longer_of id owner acts =
+    option_map (λ x. x.recipients ++ owner ∷ []) (find (has_activity_id id) acts)

@@ -3,6 +3,11 @@ pub mod Chains
 pub mod Changes
 pub mod Following
 pub mod Keys
+pub mod Lists
 pub mod Marks
+pub mod Mentions
+pub mod Parts
 pub mod Registers
 pub mod Seeds
+pub mod Seen
+pub mod Traces

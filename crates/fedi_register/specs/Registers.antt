@@ -1,5 +1,7 @@
 -- The accepted activities, with what is looked up among them.
-use Rattle.std.specs.Prelude.{◌≡◌, ℕ, ◌+◌, ◌<◌, ◌≤◌, ◌^◌, Bool, true, false, ◌&&◌, List, filter, length, Option, Some, None, is_some, option_map, vec_len, vec_capacity}
+use Rattle.std.specs.Prelude.{◌≡◌, ℕ, ◌+◌, ◌<◌, ◌≤◌, ◌^◌, Bool, true, false, ◌&&◌, List, filter}
+use Rattle.std.specs.Prelude.{length, Option, Some, None, is_some, option_map, vec_len}
+use Rattle.std.specs.Prelude.{vec_capacity}
 use Rattle.std.specs.Str.{bytes_eq}
 use Rattle.fedi_town.specs.declared.act.Act.{Act}
 use Rattle.fedi_town.specs.declared.deed.Deed.{Deed}
@@ -99,7 +101,8 @@ abbrev pub registered_in : Inside → Registered
 registered_in r = record { acts = r.acts.items; known = ids_of r.authors; room = r.room }
 
 -- each look-up finds what stands among the activities
-pub record IsIndexed (seed : Seed) (acts : List Act) (keyed made ids pairs followed : List Mark) (authors : List Author) : Type 0 where
+pub record IsIndexed (seed : Seed) (acts : List Act) (keyed made ids pairs followed : List Mark)
+    (authors : List Author) : Type 0 where
   pub key : keyed ≡ marks_from is_keyed (key_mark seed) 0 acts
   pub object : made ≡ marks_from is_making (object_mark seed) 0 acts
   pub id : ids ≡ marks_from has_own_id (own_mark seed) 0 acts
@@ -110,7 +113,8 @@ pub record IsIndexed (seed : Seed) (acts : List Act) (keyed made ids pairs follo
 -- and there is room in each list, and a place fits its field
 abbrev pub IsRegister : Inside → Type 0
 IsRegister r =
-    IsIndexed r.seed r.acts.items r.keyed.marks r.made.marks r.ids.marks r.pairs.marks r.followed.marks r.authors
+    IsIndexed r.seed r.acts.items r.keyed.marks r.made.marks r.ids.marks r.pairs.marks
+    r.followed.marks r.authors
     × (vec_len r.acts + r.room ≤ vec_capacity r.acts)
     × (vec_len r.acts + r.room < 2 ^ 32)
     × (r.room ≤ r.keyed.room)

@@ -2,14 +2,17 @@
 
 ghost use Rattle.std.specs.Prelude.{◌≡◌, option_copied};
 ghost use Rattle.fedi_town.specs.Collections.{object_key};
-ghost use Rattle.fedi_town.specs.Deeds.{deed_of, is_accepted, is_announce, is_block, is_create, is_done, is_follow, is_like, is_open, is_pending, is_standing};
+ghost use Rattle.fedi_town.specs.Deeds.{deed_of, is_accepted, is_announce, is_block, is_create};
+ghost use Rattle.fedi_town.specs.Deeds.{is_done, is_follow, is_like, is_open, is_pending};
+ghost use Rattle.fedi_town.specs.Deeds.{is_standing};
 ghost use Rattle.fedi_town.specs.Objects.{makes};
-ghost use Rattle.fedi_town.specs.Relations.{has_activity_id, is_about, is_block_of, is_follow_of, is_following, is_id, is_open_follow};
+ghost use Rattle.fedi_town.specs.Relations.{has_activity_id, is_about, is_block_of, is_follow_of};
+ghost use Rattle.fedi_town.specs.Relations.{is_following, is_id, is_open_follow};
 ghost use Rattle.fedi_town.specs.States.{can_be_undone, is_announce_of, is_like_of};
 ghost use Rattle.fedi_town.specs.Towns.{is_by};
 
+use crate::kept::Kept;
 use fedi_address::Iri;
-use fedi_kept::Kept;
 use fedi_objects::State;
 use fedi_town::Deed;
 
@@ -129,7 +132,8 @@ pub fn is_block_of(act: &Kept, a: &Iri, b: &Iri) -> bool
     is_block(act) && is_standing(act.state()) && is_by(act, a) && is_about(act, b)
 }
 
-/// Whether the activity is a Follow of b by a that waits or was accepted (ActivityPub, section 6.5).
+/// Whether the activity is a Follow of b by a that waits or was accepted (ActivityPub, section
+/// 6.5).
 #[tactic(auto, unfolding(fedi_town::specs::Relations::is_open_follow))]
 pub fn is_open_follow(act: &Kept, a: &Iri, b: &Iri) -> bool
     ensures { result ≡ is_open_follow a.now b.now act.now }
@@ -175,7 +179,8 @@ pub fn is_like_of(act: &Kept, author: &Iri, id: &Iri) -> bool
     is_like(act) && is_standing(act.state()) && is_by(act, author) && is_about(act, id)
 }
 
-/// Whether the activity is an Announce of this by this author that stands (ActivityPub, section 7.11).
+/// Whether the activity is an Announce of this by this author that stands (ActivityPub, section
+/// 7.11).
 #[tactic(auto, unfolding(fedi_town::specs::States::is_announce_of))]
 pub fn is_announce_of(act: &Kept, author: &Iri, id: &Iri) -> bool
     ensures { result ≡ is_announce_of author.now id.now act.now }
@@ -183,8 +188,8 @@ pub fn is_announce_of(act: &Kept, author: &Iri, id: &Iri) -> bool
     is_announce(act) && is_standing(act.state()) && is_by(act, author) && is_about(act, id)
 }
 
-/// Whether the activity can be undone: a Follow that waits or was accepted, or a Like, an Announce or
-/// a Block that stands (ActivityPub, section 6.10).
+/// Whether the activity can be undone: a Follow that waits or was accepted, or a Like, an Announce
+/// or a Block that stands (ActivityPub, section 6.10).
 #[tactic(auto, unfolding(fedi_town::specs::States::can_be_undone))]
 pub fn can_be_undone(act: &Kept) -> bool
     ensures { result ≡ can_be_undone act.now }

@@ -1,23 +1,28 @@
-//! What an accepted activity does to earlier ones: to those alone that it concerns, which are found by
-//! their marks. Nothing here takes memory but what is spare, so that a change which was made ready cannot
-//! fail.
+//! What an accepted activity does to earlier ones: to those alone that it concerns, which are found
+//! by their marks. Nothing here takes memory but what is spare, so that a change which was made
+//! ready cannot fail.
 
 ghost use Rattle.std.specs.Prelude.{◌≡◌, ◌<◌, Some, length, map, set, slice_get};
 ghost use Rattle.fedi_town.specs.declared.act.Act.{Act};
-ghost use Rattle.fedi_town.specs.Effects.{affect, end_follow, in_state, is_pending_follow, is_standing_activity, where_passes};
+ghost use Rattle.fedi_town.specs.Effects.{affect, end_follow, in_state, is_pending_follow};
+ghost use Rattle.fedi_town.specs.Effects.{is_standing_activity, where_passes};
 ghost use Rattle.fedi_town.specs.Histories.{with_recipient};
 ghost use Rattle.fedi_town.specs.Lists.{PassesOnce};
 ghost use Rattle.fedi_town.specs.Objects.{makes, rewrite_act, tombstone_of, update_object};
 ghost use Rattle.fedi_town.specs.Relations.{has_activity_id};
-ghost use Rattle.fedi_register.specs.Changes.{AreMadeOnce, accept_one, end_both, is_state, is_unended, longer_of, place_where, undo_one};
+ghost use Rattle.fedi_register.specs.Changes.{AreMadeOnce, accept_one, end_both, is_state};
+ghost use Rattle.fedi_register.specs.Changes.{is_unended, longer_of, place_where, undo_one};
 ghost use Rattle.fedi_register.specs.Marks.{marks_from};
-ghost use Rattle.fedi_register.specs.Registers.{has_own_id, is_making, object_mark, own_mark, relates, relation_mark};
+ghost use Rattle.fedi_register.specs.Registers.{has_own_id, is_making, object_mark, own_mark};
+ghost use Rattle.fedi_register.specs.Registers.{relates, relation_mark};
 
 use crate::acts::{has_activity_id, is_follow, is_open_follow, is_pending, is_standing, makes};
+use crate::extras::Spare;
+use crate::iris::Iris;
+use crate::kept::Kept;
 use crate::marks::Marks;
 use crate::seeds::Seed;
 use fedi_address::Iri;
-use fedi_kept::{Iris, Kept, Spare};
 use fedi_objects::{ObjectRef, State};
 use fedi_text::Text;
 use fedi_town::Effect;
@@ -55,7 +60,8 @@ fn is_unended(act: &Kept, follower: &Iri, followee: &Iri, state: State) -> bool
     is_open_follow(act, follower, followee) && !is_state(act.state(), state)
 }
 
-// The place of the first Follow of the one by the other that waits or was accepted, and has not ended so.
+// The place of the first Follow of the one by the other that waits or was accepted, and has not
+// ended so.
 fn unended_follow(
     acts: &[Kept],
     seed: &Seed,
@@ -248,8 +254,8 @@ pub(crate) fn place_of_id(acts: &[Kept], seed: &Seed, ids: &Marks, id: &Iri) -> 
     ids.place_of(acts, seed.mark_of_iri(id), |act| has_activity_id(act, id))
 }
 
-/// The activity of this id goes to one more owner of an inbox: `recipients` are those to whom it goes
-/// then.
+/// The activity of this id goes to one more owner of an inbox: `recipients` are those to whom it
+/// goes then.
 pub(crate) fn add_inbox(
     acts: &mut [Kept],
     seed: &Seed,

@@ -103,8 +103,8 @@ impl Authors {
         self.find(id).is_some()
     }
 
-    /// Adds the author with no activities, unless the author is there. The error is out of memory, and
-    /// then all is as before.
+    /// Adds the author with no activities, unless the author is there. The error is out of memory,
+    /// and then all is as before.
     pub(crate) fn add(&mut self, id: &Iri) -> Result<(), AllocError>
         ensures known { OnOk result (ids_of self.new ≡ add_new (ids_of self.old) id.now) }
         ensures counts { SameCounts self.old self.new }

@@ -1,12 +1,14 @@
 //! Which activities are looked up by what, and the numbers by which they are.
 
 ghost use Rattle.std.specs.Prelude.{◌≡◌, option_copied, option_map};
-ghost use Rattle.fedi_register.specs.Registers.{asks_to_follow, has_own_id, is_keyed, is_making, key_mark, object_mark, own_mark, ref_mark, relates, relation_mark};
+ghost use Rattle.fedi_register.specs.Registers.{asks_to_follow, has_own_id, is_keyed, is_making};
+ghost use Rattle.fedi_register.specs.Registers.{key_mark, object_mark, own_mark, ref_mark, relates};
+ghost use Rattle.fedi_register.specs.Registers.{relation_mark};
 
 use crate::acts::{is_create, is_follow, object_key};
+use crate::kept::Kept;
 use crate::seeds::Seed;
 use fedi_address::Iri;
-use fedi_kept::Kept;
 use fedi_objects::RepeatKey;
 use fedi_town::Deed;
 

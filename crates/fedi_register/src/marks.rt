@@ -1,10 +1,13 @@
-//! Marks of the items of a list, by which they are looked up: a mark is a number for what is looked up
-//! of an item. Marks are kept in chains, about as many as there are marks, so that a look-up goes only
-//! through the few marks that are like the one it looks for.
+//! Marks of the items of a list, by which they are looked up: a mark is a number for what is looked
+//! up of an item. Marks are kept in chains, about as many as there are marks, so that a look-up
+//! goes only through the few marks that are like the one it looks for.
 
-ghost use Rattle.std.specs.Prelude.{◌≡◌, ℕ, Bool, ◌∷◌, [], ◌+◌, ◌-◌, ◌^◌, ◌<◌, ◌≤◌, ◌++◌, OnErr, OnOk, IfOk, is_some, length, option_copied, set, slice_index, vec_capacity, vec_len};
+ghost use Rattle.std.specs.Prelude.{◌≡◌, ℕ, Bool, ◌∷◌, [], ◌+◌, ◌-◌, ◌^◌, ◌<◌, ◌≤◌, ◌++◌, OnErr};
+ghost use Rattle.std.specs.Prelude.{OnOk, IfOk, is_some, length, option_copied, set, slice_index};
+ghost use Rattle.std.specs.Prelude.{vec_capacity, vec_len};
 ghost use Rattle.std.specs.Fn.{FnReturnsAt};
-ghost use Rattle.fedi_register.specs.Chains.{HasHeads, IsChained, chain_of, marks_of, newest, step_before};
+ghost use Rattle.fedi_register.specs.Chains.{HasHeads, IsChained, chain_of, marks_of, newest};
+ghost use Rattle.fedi_register.specs.Chains.{step_before};
 ghost use Rattle.fedi_register.specs.Marks.{Decides, first_place, item_at, passes_at, places_of};
 
 use std::alloc::{AllocError, Global};
@@ -13,11 +16,12 @@ use std::marker::Model;
 // How many chains there are at first.
 const FEWEST_CHAINS: usize = 16;
 
-/// A list of more items than this gets no room for one more, so that the place of each fits a `u32`.
+/// A list of more items than this gets no room for one more, so that the place of each fits a
+/// `u32`.
 pub const MOST_ITEMS: usize = 4_294_967_290;
 
-// A mark with its place, and one more than the number of the newest step before it in its chain, or 0
-// where it is the chain's first.
+// A mark with its place, and one more than the number of the newest step before it in its chain, or
+// 0 where it is the chain's first.
 #[derive(Drop)]
 struct Step {
     mark: u32,
@@ -29,8 +33,8 @@ struct Step {
 #[derive(Drop)]
 pub struct Marks {
     steps: Vec<Step>,
-    // One more than the number of each chain's newest step, or 0 where the chain has none. There are no
-    // heads before room is made, so that an empty list takes no memory.
+    // One more than the number of each chain's newest step, or 0 where the chain has none. There
+    // are no heads before room is made, so that an empty list takes no memory.
     heads: Vec<u32>,
     // How many more marks there is room for.
     room: usize,
@@ -134,8 +138,8 @@ fn link_anew(steps: &mut Vec<Step>, heads: &mut Vec<u32>)
     link_all(steps.as_mut_slice(), heads.as_mut_slice());
 }
 
-// Makes twice as many chains, at least the fewest, and puts each step into its chain anew. The error is
-// out of memory, and then all is as before.
+// Makes twice as many chains, at least the fewest, and puts each step into its chain anew. The
+// error is out of memory, and then all is as before.
 fn add_chains(steps: &mut Vec<Step>, heads: &mut Vec<u32>) -> Result<(), AllocError>
     requires few { length steps.old.items < 2 ^ 32 }
     ensures marks { marks_of steps.new.items ≡ marks_of steps.old.items }
@@ -170,8 +174,8 @@ fn step_before(steps: &[Step], number: u32) -> Option<&Step>
     steps.get(number as usize - 1)
 }
 
-// The place of the first of this mark that passes. A chain goes from its newest step to its first, so
-// the last that is found along it is the one.
+// The place of the first of this mark that passes. A chain goes from its newest step to its first,
+// so the last that is found along it is the one.
 fn first_in_chain<F: Fn(usize) -> bool>(
     steps: &[Step],
     chains: usize,
@@ -272,7 +276,8 @@ impl Marks {
         }
     }
 
-    /// Makes room for two more marks. The error is out of memory, as it is for more than [`MOST_ITEMS`] marks.
+    /// Makes room for two more marks. The error is out of memory, as it is for more than
+    /// [`MOST_ITEMS`] marks.
     pub fn reserve(&mut self) -> Result<(), AllocError>
         ensures marks { self.new.marks ≡ self.old.marks }
         ensures room { OnOk result (2 ≤ self.new.room) }
@@ -336,8 +341,8 @@ impl Marks {
         places_in_chain(alloc, &self.steps, self.heads.len(), head, mark)
     }
 
-    /// Whether one of these items has this mark and passes the test. The items may end before those that
-    /// are marked.
+    /// Whether one of these items has this mark and passes the test. The items may end before those
+    /// that are marked.
     pub fn any_of<T, F: Fn(&T) -> bool>(&self, items: &[T], mark: u32, passes: F) -> bool
         requires { F.IsAlwaysCallable passes }
         ensures { (p : T → Bool) → Decides (FnReturnsAt F.Fn passes) p

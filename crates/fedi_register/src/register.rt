@@ -1,6 +1,8 @@
 //! The accepted activities, with what is looked up among them.
 
-ghost use Rattle.std.specs.Prelude.{◌≡◌, ◌∷◌, Bool, [], ◌+◌, ◌-◌, ◌&&◌, ◌^◌, ◌<◌, ◌≤◌, ◌++◌, IfOk, IsTrue, OnOk, Some, map, take, vec_len, vec_capacity, option_copied, option_map, if◌then◌else◌};
+ghost use Rattle.std.specs.Prelude.{◌≡◌, ◌∷◌, Bool, [], ◌+◌, ◌-◌, ◌&&◌, ◌^◌, ◌<◌, ◌≤◌, ◌++◌, IfOk};
+ghost use Rattle.std.specs.Prelude.{IsTrue, OnOk, Some, map, take, vec_len, vec_capacity};
+ghost use Rattle.std.specs.Prelude.{option_copied, option_map, if◌then◌else◌};
 ghost use Rattle.std.specs.Fn.{FnReturnsAt};
 ghost use Rattle.std.specs.List.{find, fold, list_any};
 ghost use Rattle.fedi_address.specs.Recipients.{add_new, is_among};
@@ -9,19 +11,26 @@ ghost use Rattle.fedi_town.specs.Effects.{affect};
 ghost use Rattle.fedi_town.specs.Histories.{with_recipient};
 ghost use Rattle.fedi_town.specs.Lists.{PassesOnce};
 ghost use Rattle.fedi_town.specs.Objects.{makes};
-ghost use Rattle.fedi_town.specs.Relations.{has_activity_id, is_block_of, is_follow_of, is_following};
+ghost use Rattle.fedi_town.specs.Relations.{has_activity_id, is_block_of, is_follow_of};
+ghost use Rattle.fedi_town.specs.Relations.{is_following};
 ghost use Rattle.fedi_town.specs.States.{is_announce_of, is_like_of};
 ghost use Rattle.fedi_register.specs.Changes.{AreMadeOnce, longer_of, place_where};
 ghost use Rattle.fedi_register.specs.Following.{followers_in, is_first_follow, with_follower_at};
 ghost use Rattle.fedi_register.specs.Keys.{is_repeat};
 ghost use Rattle.fedi_register.specs.Marks.{Decides, marks_from};
-ghost use Rattle.fedi_register.specs.Registers.{IsNarrower, asks_to_follow, count_by, has_own_id, is_keyed, is_making, key_mark, object_mark, own_mark, ref_mark, relates, relates_by_key, relation_mark};
+ghost use Rattle.fedi_register.specs.Registers.{IsNarrower, asks_to_follow, count_by, has_own_id};
+ghost use Rattle.fedi_register.specs.Registers.{is_keyed, is_making, key_mark, object_mark};
+ghost use Rattle.fedi_register.specs.Registers.{own_mark, ref_mark, relates, relates_by_key};
+ghost use Rattle.fedi_register.specs.Registers.{relation_mark};
 
 use crate::acts::{
     has_activity_id, is_announce_of, is_block_of, is_follow_of, is_following, is_like_of, makes,
 };
 use crate::applying::{add_inbox, apply_effect, place_of_id};
 use crate::authors::Authors;
+use crate::extras::Spare;
+use crate::iris::Iris;
+use crate::kept::Kept;
 use crate::marking::{
     asks_to_follow, has_own_id, is_keyed, is_making, key_mark, object_mark, own_mark, relates,
     relation_mark,
@@ -30,7 +39,6 @@ use crate::marks::{MOST_ITEMS, Marks};
 use crate::repeats::is_repeat;
 use crate::seeds::Seed;
 use fedi_address::Iri;
-use fedi_kept::{Iris, Kept, Spare};
 use fedi_objects::RepeatKey;
 use fedi_town::Effect;
 use std::alloc::{AllocError, Global};
@@ -38,9 +46,9 @@ use std::marker::Model;
 use std::snapshot::Snapshot;
 
 /// The accepted activities in order, with what is looked up for each post, so that it is not sought
-/// among all of them: marks of the keys under which posts were made, of the objects that were made, of the
-/// activities' own ids, of who follows, likes, shares or blocks what, and of whom somebody follows; and how
-/// many activities each author has.
+/// among all of them: marks of the keys under which posts were made, of the objects that were made,
+/// of the activities' own ids, of who follows, likes, shares or blocks what, and of whom somebody
+/// follows; and how many activities each author has.
 #[derive(Drop)]
 pub struct Register {
     seed: Seed,
@@ -107,7 +115,8 @@ fn apply_in_place(
     requires once { AreMadeOnce acts.old.items }
     requires made { made.now.marks ≡ marks_from is_making (object_mark seed.now) 0 acts.old.items }
     requires ids { ids.now.marks ≡ marks_from has_own_id (own_mark seed.now) 0 acts.old.items }
-    requires pairs { pairs.now.marks ≡ marks_from relates (relation_mark seed.now) 0 acts.old.items }
+    requires pairs { pairs.now.marks
+        ≡ marks_from relates (relation_mark seed.now) 0 acts.old.items }
     ensures items { acts.new.items ≡ map (affect effect) acts.old.items }
     ensures len { vec_len acts.new ≡ vec_len acts.old }
     ensures capacity { vec_capacity acts.new ≡ vec_capacity acts.old }
@@ -158,9 +167,9 @@ impl Register {
         self.acts.as_slice()
     }
 
-    /// Whether an activity before this place passes the test: a Follow, a Like, an Announce or a Block by the
-    /// author about this. What has no object counts as about the empty text. The test must let nothing
-    /// else pass.
+    /// Whether an activity before this place passes the test: a Follow, a Like, an Announce or a
+    /// Block by the author about this. What has no object counts as about the empty text. The test
+    /// must let nothing else pass.
     pub fn is_related_before<F: Fn(&Kept) -> bool>(
         &self,
         place: usize,
@@ -283,7 +292,8 @@ impl Register {
         self.is_related_before(place, a, b.text(), |act| is_follow_of(act, a, b))
     }
 
-    // Whether the activity at this place is a Follow of b that was accepted, and its author's first.
+    // Whether the activity at this place is a Follow of b that was accepted, and its author's
+    // first.
     #[tactic(auto, unfolding(crate::specs::Following::is_first_follow))]
     fn is_first_follow(&self, place: usize, act: &Kept, b: &Iri) -> bool
         ensures { result ≡ is_first_follow self.now.acts b.now place act.now }
@@ -320,8 +330,8 @@ impl Register {
         Ok(())
     }
 
-    /// Those who follow b, in the order of their Follows (ActivityPub, section 5.3). The error is out of
-    /// memory.
+    /// Those who follow b, in the order of their Follows (ActivityPub, section 5.3). The error is
+    /// out of memory.
     pub fn followers_of(&self, alloc: Global, b: &Iri) -> Result<Vec<Iri>, AllocError>
         ensures { IfOk result (λ found. found.items ≡ followers_in b.now self.now.acts) }
     {
@@ -350,8 +360,8 @@ impl Register {
         self.authors.count_of(author)
     }
 
-    /// Makes room for two more activities in each list. The error is out of memory, as it is for more
-    /// than [`MOST_ITEMS`] activities.
+    /// Makes room for two more activities in each list. The error is out of memory, as it is for
+    /// more than [`MOST_ITEMS`] activities.
     pub fn reserve(&mut self) -> Result<(), AllocError>
         ensures acts { self.new.acts ≡ self.old.acts }
         ensures known { self.new.known ≡ self.old.known }
@@ -371,8 +381,8 @@ impl Register {
         Ok(())
     }
 
-    /// Begins to count the activities of the author, if they are not counted yet. The error is out of
-    /// memory.
+    /// Begins to count the activities of the author, if they are not counted yet. The error is out
+    /// of memory.
     pub fn know(&mut self, author: &Iri) -> Result<(), AllocError>
         ensures acts { self.new.acts ≡ self.old.acts }
         ensures room { self.new.room ≡ self.old.room }
@@ -398,8 +408,9 @@ impl Register {
         );
     }
 
-    /// The activity of this id goes to one more owner of an inbox (ActivityPub, section 7.1): `recipients`
-    /// are those to whom it goes then. The owner is for contracts alone. It takes no memory.
+    /// The activity of this id goes to one more owner of an inbox (ActivityPub, section 7.1):
+    /// `recipients` are those to whom it goes then. The owner is for contracts alone. It takes no
+    /// memory.
     pub fn add_inbox(&mut self, id: &Iri, owner: &Snapshot<Iri>, recipients: Iris)
         requires once { PassesOnce (has_activity_id id.now) self.old.acts }
         requires longer { longer_of id.now owner.now.value self.old.acts ≡ Some recipients }

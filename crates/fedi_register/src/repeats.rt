@@ -5,8 +5,8 @@ ghost use Rattle.fedi_town.specs.Legal.{has_key};
 ghost use Rattle.fedi_register.specs.Keys.{is_repeat};
 
 use crate::acts::is_by;
+use crate::kept::Kept;
 use fedi_address::Iri;
-use fedi_kept::Kept;
 use fedi_objects::RepeatKey;
 
 fn has_key(pair: Option<&(RepeatKey, [u8; 32])>, key: &RepeatKey) -> bool

@@ -9,8 +9,8 @@ use std::hash::{DefaultHasher, Hasher};
 // A byte that is in no text, to part two.
 const SEPARATOR: u8 = 0xff;
 
-/// A secret, with which texts are given their numbers by SipHash. Who does not know it cannot choose
-/// many texts of one number, which would make look-ups slow.
+/// A secret, with which texts are given their numbers by SipHash. Who does not know it cannot
+/// choose many texts of one number, which would make look-ups slow.
 #[derive(Clone, Copy)]
 pub struct Seed {
     // The hasher after the secret bytes.

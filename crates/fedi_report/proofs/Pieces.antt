@@ -4,7 +4,7 @@ use Rattle.std.proofs.Math.Seq.{take-append-add}
 use Rattle.std.proofs.lemmas.List.{append_assoc, length-append, take-append-le}
 use Rattle.std.specs.Io.KnownBytes.{Appends}
 use Rattle.std.proofs.KnownBytes.{Appends-nil, Appends-trans}
-use Rattle.fedi_talk.specs.Endings.{Output, Writes}
+use Rattle.fedi_logged.specs.Endings.{Output, Writes}
 use Rattle.fedi_outside.specs.Causes.{next_count}
 use Rattle.fedi_report.specs.Tables.{Stops}
 use Rattle.fedi_report.specs.declared.tables.ReportFault.{ReportFault}

@@ -10,9 +10,12 @@ use Rattle.fedi_town.specs.Towns.{Town}
 abbrev pub waiting : Town → ℕ
 waiting t = length (filter (λ (d : Delivery). is_waiting d.progress) (queue t))
 
--- how many entries a history has, how many members and activities they have made, and how many deliveries have not ended
+-- how many entries a history has, how many members and activities they have made, and how many
+-- deliveries have not ended
 abbrev pub check_text : List Entry → List ℕ
 check_text history =
-    codes "entries " ++ decimal (length history) ++ codes " actors " ++ decimal (length (town history).actors)
-    ++ codes " activities " ++ decimal (length (town history).acts) ++ codes " queue " ++ decimal (waiting (town history))
+    codes "entries " ++ decimal (length history)
+    ++ codes " actors " ++ decimal (length (town history).actors)
+    ++ codes " activities " ++ decimal (length (town history).acts)
+    ++ codes " queue " ++ decimal (waiting (town history))
     ++ codes "\n"

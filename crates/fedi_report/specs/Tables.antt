@@ -1,17 +1,19 @@
 -- Tables as comma-separated values (RFC 4180), and what becomes of one that is written.
-use Rattle.std.specs.Prelude.{◌≡◌, ◌≤◌, ℕ, List, [], ◌++◌, drop, flat_map, length, slice_get, take, Option, None, Some, Result, MatchResult, false}
+use Rattle.std.specs.Prelude.{◌≡◌, ◌≤◌, ℕ, List, [], ◌++◌, drop, flat_map, length, slice_get, take}
+use Rattle.std.specs.Prelude.{Option, None, Some, Result, MatchResult, false}
 use Rattle.std.specs.Io.KnownBytes.{Appends}
-use Rattle.csv.specs.Writing.{default_writer, fields_written, has_written, row_text, writer_pending, writer_setup, writer_under}
+use Rattle.csv.specs.Writing.{default_writer, fields_written, has_written, row_text, writer_pending}
+use Rattle.csv.specs.Writing.{writer_setup, writer_under}
 use Rattle.csv.specs.declared.writer.Writer.{Writer}
 use Rattle.std.specs.declared.vec.Vec.{Vec}
-use Rattle.fedi_talk.specs.Endings.{Output, BreaksOff, Writes}
+use Rattle.fedi_logged.specs.Endings.{Output, BreaksOff, Writes}
 use Rattle.fedi_report.specs.declared.tables.ReportFault.{ReportFault}
 use Rattle.fedi_report.specs.declared.tables.ReportFault.TheVariants.{WriteFault, Memory}
 
 -- ---- the text of a table
 
--- the rows of a table, each by its fields: a field is in quotes where it has a comma, a quote or a line break, and each row ends
--- with a line feed
+-- the rows of a table, each by its fields: a field is in quotes where it has a comma, a quote or a
+-- line break, and each row ends with a line feed
 abbrev pub rows_text : List (List (List ℕ)) → List ℕ
 rows_text rows = flat_map (row_text default_writer) rows
 
@@ -56,4 +58,5 @@ Stops before now text Memory = Begins before now text
 
 -- the text was sent whole, or in part for a reason
 abbrev pub Reports : {T : Type 0} → Output → Output → List ℕ → Result T ReportFault → Type 0
-Reports before now text result = MatchResult result (λ _. Writes before now text) (Stops before now text)
+Reports before now text result =
+    MatchResult result (λ _. Writes before now text) (Stops before now text)

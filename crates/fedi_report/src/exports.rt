@@ -1,12 +1,16 @@
 //! The tables that an operator takes out of a store. None of them names a recipient.
 
-ghost use Rattle.std.specs.Prelude.{◌≡◌, ◌∷◌, ◌++◌, ◌<◌, OnOk, length, map, option_copied, slice_get};
+ghost use Rattle.std.specs.Prelude.{◌≡◌, ◌∷◌, ◌++◌, ◌<◌, OnOk, length, map, option_copied};
+ghost use Rattle.std.specs.Prelude.{slice_get};
 ghost use Rattle.csv.specs.Writing.{default_writer, row_text};
 ghost use Rattle.fedi_objects.specs.Kinds.{kind_name, state_name};
 ghost use Rattle.fedi_queue.specs.Rows.{id_at};
-ghost use Rattle.fedi_report.specs.Exports.{activities_text, activity_columns, activity_row, activity_rows, actors_text, delivery_columns, member_columns, member_row, queue_text, queued_row, yes_or_no};
+ghost use Rattle.fedi_report.specs.Exports.{activities_text, activity_columns, activity_row};
+ghost use Rattle.fedi_report.specs.Exports.{activity_rows, actors_text, delivery_columns};
+ghost use Rattle.fedi_report.specs.Exports.{member_columns, member_row, queue_text, queued_row};
+ghost use Rattle.fedi_report.specs.Exports.{yes_or_no};
 ghost use Rattle.fedi_report.specs.Tables.{IsBetweenRows, Reports, rows_text, written};
-ghost use Rattle.fedi_talk.specs.Endings.{output_by};
+ghost use Rattle.fedi_logged.specs.Endings.{output_by};
 ghost use Rattle.fedi_town.specs.Collections.{text_of};
 ghost use Rattle.fedi_town.specs.Histories.{town};
 ghost use Rattle.fedi_town.specs.Legal.{IsLegal};
@@ -16,9 +20,9 @@ use csv::Writer;
 use fedi_address::Iri;
 use fedi_core::Core;
 use fedi_effects::{Facts, Steps};
-use fedi_kept::Kept;
 use fedi_outside::{Keeper, Sink};
 use fedi_queue::QueueRow;
+use fedi_register::Kept;
 use fedi_town::Actor;
 use fedi_visible::Shelf;
 use itoa::Buffer;

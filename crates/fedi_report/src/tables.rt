@@ -2,8 +2,9 @@
 
 ghost use Rattle.std.specs.Prelude.{◌≡◌, ◌≤◌, ◌-◌, ◌++◌, ◌∷◌, [], ℕ, List, IfOk, OnOk, length, map};
 ghost use Rattle.csv.specs.Writing.{default_writer, row_text};
-ghost use Rattle.fedi_talk.specs.Endings.{output_by};
-ghost use Rattle.fedi_report.specs.Tables.{IsBetweenRows, Reports, row_at, rows_from, rows_text, written};
+ghost use Rattle.fedi_logged.specs.Endings.{output_by};
+ghost use Rattle.fedi_report.specs.Tables.{IsBetweenRows, Reports, row_at, rows_from, rows_text};
+ghost use Rattle.fedi_report.specs.Tables.{written};
 
 use csv::Writer;
 use fedi_http::send;

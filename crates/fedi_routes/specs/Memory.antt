@@ -22,8 +22,10 @@ has_posts there = false
 
 -- a query of WebFinger or of a collection, and a post to an outbox or an inbox
 abbrev pub needs_memory : List ℕ → Place → Bool
-needs_memory method there = (is_reading method && has_query there) || (is_post method && has_posts there)
+needs_memory method there =
+    (is_reading method && has_query there) || (is_post method && has_posts there)
 
 -- the request is such a one
 abbrev pub MayNeedMemory : Request → Type 0
-MayNeedMemory q = (there : Place) × LeadsTo (path_of q.target) there × IsTrue (needs_memory q.method there)
+MayNeedMemory q =
+    (there : Place) × LeadsTo (path_of q.target) there × IsTrue (needs_memory q.method there)

@@ -1,6 +1,8 @@
--- The paths that a route's pattern fits, where each of its parameters is a whole segment (RFC 3986, section 3.3). A pattern is a
--- list of tokens, as `matchit` keeps it: the bytes of the route, and one token for each parameter.
-use Rattle.std.specs.Prelude.{◌≡◌, ℕ, ◌<◌, Bool, true, false, ◌==◌, ◌&&◌, not, nat_lt, if◌then◌else◌, List, [], ◌∷◌, ◌++◌, length, drop, slice_index_or}
+-- The paths that a route's pattern fits, where each of its parameters is a whole segment (RFC 3986,
+-- section 3.3). A pattern is a list of tokens, as `matchit` keeps it: the bytes of the route, and
+-- one token for each parameter.
+use Rattle.std.specs.Prelude.{◌≡◌, ℕ, ◌<◌, Bool, true, false, ◌==◌, ◌&&◌, not, nat_lt}
+use Rattle.std.specs.Prelude.{if◌then◌else◌, List, [], ◌∷◌, ◌++◌, length, drop, slice_index_or}
 use Rattle.std.specs.List.{list_all}
 use Rattle.matchit.specs.Rows.{RowsOf, param_token}
 use Rattle.matchit.specs.Seek.{slash}
@@ -46,7 +48,8 @@ ends_segment (x ∷ pattern) = x == slash
 -- each token is a character of ASCII, or a parameter that takes the rest of its segment
 abbrev pub is_plain : List ℕ → Bool
 is_plain [] = true
-is_plain (x ∷ pattern) = (if x == param_token then ends_segment pattern else nat_lt x 128) && is_plain pattern
+is_plain (x ∷ pattern) =
+    (if x == param_token then ends_segment pattern else nat_lt x 128) && is_plain pattern
 
 -- where the patterns part, if they do, both have a byte
 abbrev pub part_at_bytes : List ℕ → List ℕ → Bool

@@ -1,5 +1,6 @@
 -- What is read of a post.
-use Rattle.std.specs.Prelude.{◌≡◌, ℕ, Bool, true, false, List, Option, Some, None, Result, Ok, Err, MatchBool}
+use Rattle.std.specs.Prelude.{◌≡◌, ℕ, Bool, true, false, List, Option, Some, None, Result, Ok, Err}
+use Rattle.std.specs.Prelude.{MatchBool}
 use Rattle.serde_json.specs.Data.{Data}
 use Rattle.fedi_model.specs.declared.post.Read.{Read}
 use Rattle.fedi_model.specs.declared.post.Read.TheVariants.{NotJson, Bad, Ready}
@@ -10,7 +11,8 @@ use Rattle.fedi_reading.specs.declared.shape_fault.ShapeFault.TheVariants.{Memor
 use Rattle.fedi_model.specs.declared.request.Request.{Request}
 use Rattle.fedi_model.specs.Routes.{is_anonymous}
 
--- The value of the body, or none where the request shows nothing of who makes it or the body is no JSON.
+-- The value of the body, or none where the request shows nothing of who makes it or the body is no
+-- JSON.
 abbrev pub HoldsValue : Request → List ℕ → Option Data → Type 0
 HoldsValue q body None = MatchBool (is_anonymous q) (Unit {0}) ((d : Data) → ¬ (IsBodyOf body d))
 HoldsValue q body (Some d) = (is_anonymous q ≡ false) × IsBodyOf body d

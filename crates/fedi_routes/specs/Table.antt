@@ -10,9 +10,11 @@ use Rattle.fedi_model.specs.Places.{IsNumber}
 use Rattle.fedi_routes.specs.declared.kinds.Kind.{Kind}
 use Rattle.fedi_routes.specs.declared.kinds.Kind.TheVariants.{Webfinger, Member, Numbered}
 use Rattle.fedi_routes.specs.declared.kinds.Part.{Part}
-use Rattle.fedi_routes.specs.declared.kinds.Part.TheVariants.{Actor, Inbox, Outbox, Followers, Following, Liked}
+use Rattle.fedi_routes.specs.declared.kinds.Part.TheVariants.{Actor, Inbox, Outbox, Followers}
+use Rattle.fedi_routes.specs.declared.kinds.Part.TheVariants.{Following, Liked}
 use Rattle.fedi_routes.specs.declared.kinds.NumberedPart.{NumberedPart}
-use Rattle.fedi_routes.specs.declared.kinds.NumberedPart.TheVariants.{Activity, Object, Likes, Shares}
+use Rattle.fedi_routes.specs.declared.kinds.NumberedPart.TheVariants.{Activity, Object, Likes}
+use Rattle.fedi_routes.specs.declared.kinds.NumberedPart.TheVariants.{Shares}
 use Rattle.fedi_model.specs.declared.place.Place.{Place}
 use Rattle.fedi_model.specs.declared.place.Place.TheVariants as place
 
@@ -43,13 +45,15 @@ last_of Shares = codes "/shares"
 abbrev pub route_text : Kind → List ℕ
 route_text Webfinger = codes "/.well-known/webfinger"
 route_text (Member part) = codes "/users/{name}" ++ end_of part
-route_text (Numbered part) = codes "/users/{name}" ++ (middle_of part ++ (codes "{number}" ++ last_of part))
+route_text (Numbered part) =
+    codes "/users/{name}" ++ (middle_of part ++ (codes "{number}" ++ last_of part))
 
 -- its pattern
 abbrev pub pattern_of : Kind → List ℕ
 pattern_of Webfinger = codes "/.well-known/webfinger"
 pattern_of (Member part) = codes "/users/" ++ param_token ∷ end_of part
-pattern_of (Numbered part) = codes "/users/" ++ param_token ∷ (middle_of part ++ param_token ∷ last_of part)
+pattern_of (Numbered part) =
+    codes "/users/" ++ param_token ∷ (middle_of part ++ param_token ∷ last_of part)
 
 -- where the names of its parameters stand in the text
 abbrev pub names_of : Kind → List (ℕ × ℕ)
@@ -59,15 +63,20 @@ names_of (Numbered part) = (8, 12) ∷ (17, 23) ∷ []
 
 -- the route
 abbrev pub route_of : Kind → RouteOf Kind
-route_of kind = record { pattern = pattern_of kind; text = route_text kind; names = names_of kind; value = kind }
+route_of kind = record {
+  pattern = pattern_of kind;
+  text = route_text kind;
+  names = names_of kind;
+  value = kind;
+}
 
 -- ---- the rows of the router
 
 -- all kinds
 abbrev pub kinds : List Kind
 kinds =
-    Webfinger ∷ Member Actor ∷ Member Inbox ∷ Member Outbox ∷ Member Followers ∷ Member Following ∷ Member Liked
-    ∷ Numbered Activity ∷ Numbered Object ∷ Numbered Likes ∷ Numbered Shares ∷ []
+    Webfinger ∷ Member Actor ∷ Member Inbox ∷ Member Outbox ∷ Member Followers ∷ Member Following
+    ∷ Member Liked ∷ Numbered Activity ∷ Numbered Object ∷ Numbered Likes ∷ Numbered Shares ∷ []
 
 -- the rows with the routes of these kinds put in, one after another
 abbrev pub added : List Kind → RowsOf (RouteOf Kind) → RowsOf (RouteOf Kind)
@@ -106,4 +115,5 @@ abbrev pub IsAt : Kind → List ℕ → List ℕ → Place → Type 0
 IsAt Webfinger name number there = there ≡ place.Webfinger
 IsAt (Member part) name number there = IsTrue (is_name name) × (there ≡ member_place part name)
 IsAt (Numbered part) name number there =
-    IsTrue (is_name name) × ((n : ℕ) × IsNumber n × (number ≡ decimal n) × (there ≡ numbered_place part name n))
+    IsTrue (is_name name)
+    × ((n : ℕ) × IsNumber n × (number ≡ decimal n) × (there ≡ numbered_place part name n))

@@ -6,7 +6,8 @@ ghost use Rattle.std.specs.String.{string_bytes};
 ghost use Rattle.serde_json.specs.Data.{array, object, string, no_members, put};
 ghost use Rattle.serde_json.specs.View.{items_of};
 ghost use Rattle.fedi_address.specs.Recipients.{is_among};
-ghost use Rattle.fedi_model.specs.Documents.{actor_form, actor_members, jrd_form, links_of, self_link};
+ghost use Rattle.fedi_model.specs.Documents.{actor_form, actor_members, jrd_form, links_of};
+ghost use Rattle.fedi_model.specs.Documents.{self_link};
 ghost use Rattle.fedi_objects.specs.Forms.{with_context};
 ghost use Rattle.fedi_objects.specs.Writing.{IsWritten};
 ghost use Rattle.fedi_town.specs.Ids.{actor_id};
@@ -53,8 +54,8 @@ fn write_person(out: &mut Writer, id: &str, name: &str) -> Result<(), AllocError
     out.end_object()
 }
 
-/// Writes what WebFinger says of the member, with the links of these relations alone, or with all if
-/// there is none. The error is out of memory.
+/// Writes what WebFinger says of the member, with the links of these relations alone, or with all
+/// if there is none. The error is out of memory.
 #[tactic(auto, unfolding(fedi_model::specs::Documents::jrd_form))]
 pub fn write_jrd(
     out: &mut Writer,

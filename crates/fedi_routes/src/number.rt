@@ -1,6 +1,7 @@
 //! Numbers in paths.
 
-ghost use Rattle.std.specs.Prelude.{◌≡◌, ◌≢◌, ◌↔◌, ℕ, ◌<◌, decimal, IsTrue, MatchOption, slice_index};
+ghost use Rattle.std.specs.Prelude.{◌≡◌, ◌≢◌, ◌↔◌, ℕ, ◌<◌, decimal, IsTrue, MatchOption};
+ghost use Rattle.std.specs.Prelude.{slice_index};
 ghost use Rattle.fedi_model.specs.Places.{IsNumber};
 
 /// The number, from 1 to 4,294,967,295, that these digits write without a zero in front.

@@ -9,8 +9,8 @@ use fedi_text::read_decimal;
 use std::alloc::{AllocError, Global};
 
 /// The part that the query asks for: the page of the number that `page` has, or without one the
-/// collection without its items. `Malformed` if `page` stands there twice, or is not 1 to 10 digits.
-/// The error is out of memory.
+/// collection without its items. `Malformed` if `page` stands there twice, or is not 1 to 10
+/// digits. The error is out of memory.
 #[tactic(auto, unfolding(fedi_model::specs::Pages::page_in))]
 pub(crate) fn page_in(alloc: Global, query: &[u8]) -> Result<PageAsk, AllocError>
     ensures { IfOk result (λ part. part ≡ pages.page_in query.now) }

@@ -16,8 +16,8 @@ use fedi_reading::{BodyFault, ShapeFault, read_activity, read_body, read_deliver
 use serde_json::Value;
 use std::alloc::{AllocError, Global};
 
-/// The post that the request with this body makes for the author's outbox. The error is that there is
-/// no memory for it.
+/// The post that the request with this body makes for the author's outbox. The error is that there
+/// is no memory for it.
 #[tactic(auto, using(crate::proofs::PostLemmas::value_read, crate::proofs::PostLemmas::nothing_read))]
 pub(crate) fn post_of(
     alloc: Global,
@@ -41,8 +41,8 @@ pub(crate) fn post_of(
     })
 }
 
-/// The delivery that the request with this body makes to an inbox (ActivityPub, section 7). The error is
-/// that there is no memory for it.
+/// The delivery that the request with this body makes to an inbox (ActivityPub, section 7). The
+/// error is that there is no memory for it.
 #[tactic(auto, using(crate::proofs::PostLemmas::value_read, crate::proofs::PostLemmas::nothing_read))]
 pub(crate) fn delivery_of(alloc: Global, request: &Request, body: &[u8]) -> Result<Post, AllocError>
     ensures { IfOk result (λ post. model.IsDelivery request.now body.now post) }

@@ -22,13 +22,15 @@ use std::alloc::{AllocError, Global};
 /// What the request with this body asks for, at the server of this host, once that is set: by the
 /// place to which its path leads, and then by its method.
 ///
-/// Members, activities, objects, collections and WebFinger are read by GET and HEAD, and outboxes and
-/// inboxes are posted to. Another method asks for `Ask::WrongMethod`. A path that leads nowhere asks for
-/// `Ask::Nowhere`, and so does a post to an outbox before the host is set. The path is the target up to
-/// its first question mark (RFC 3986, section 3.3). It is compared byte for byte and never decoded.
+/// Members, activities, objects, collections and WebFinger are read by GET and HEAD, and outboxes
+/// and inboxes are posted to. Another method asks for `Ask::WrongMethod`. A path that leads nowhere
+/// asks for `Ask::Nowhere`, and so does a post to an outbox before the host is set. The path is the
+/// target up to its first question mark (RFC 3986, section 3.3). It is compared byte for byte and
+/// never decoded.
 ///
-/// The error is out of memory. It comes only of a query of WebFinger or of a collection, and of a post to
-/// an outbox or an inbox, whose body is read unless the request shows nothing of who makes it.
+/// The error is out of memory. It comes only of a query of WebFinger or of a collection, and of a
+/// post to an outbox or an inbox, whose body is read unless the request shows nothing of who makes
+/// it.
 #[tactic(auto, using(crate::proofs::AskLemmas::asked_once))]
 pub fn route(
     alloc: Global,
@@ -40,8 +42,8 @@ pub fn route(
     ensures asks { IfOk result (λ ask.
         model.Asks (option_copied host.entry) request.now body.now ask) }
     ensures once { model.IsAskedOnce (option_copied host.entry) request.now body.now }
-    // An activity to be posted is one that a history at this host may take from its author, and one that
-    // is delivered has the shape of a delivery.
+    // An activity to be posted is one that a history at this host may take from its author, and one
+    // that is delivered has the shape of a delivery.
     ensures postable { IfOk result (λ ask. model.IsPostableAt (option_copied host.entry) ask) }
     ensures memory { OnErr result (MayNeedMemory request.now) }
 {

@@ -11,10 +11,10 @@ use fedi_model::{Credentials, Request, Signed};
 /// The scheme of a bearer key and the one space after it.
 const SCHEME: &[u8] = b"bearer ";
 
-/// What the request with this body shows of who makes it, by the fields `Authorization`, `Peer-Host`
-/// and `Peer-Mac`. If `Authorization` stands, it alone counts: the key is there exactly if the
-/// value is `Bearer`, in any case, one space and 64 hexadecimal digits (RFC 6750, section 2.1). A
-/// code is there exactly if both other fields stand, the host is UTF-8 and the code has 64
+/// What the request with this body shows of who makes it, by the fields `Authorization`,
+/// `Peer-Host` and `Peer-Mac`. If `Authorization` stands, it alone counts: the key is there exactly
+/// if the value is `Bearer`, in any case, one space and 64 hexadecimal digits (RFC 6750, section
+/// 2.1). A code is there exactly if both other fields stand, the host is UTF-8 and the code has 64
 /// hexadecimal digits, none in upper case. It takes no memory.
 pub fn credentials<'a>(request: &'a Request, body: &'a [u8]) -> Credentials<'a>
     ensures { model.shown_by result ≡ model.credentials_of request.now body.now }
@@ -84,8 +84,8 @@ fn signed<'a>(
     })
 }
 
-/// Whether the code that a peer shows is that of the request under this key, which is the one that the
-/// peer and this server share. It takes no memory.
+/// Whether the code that a peer shows is that of the request under this key, which is the one that
+/// the peer and this server share. It takes no memory.
 #[tactic(auto, unfolding(fedi_model::specs::Callers::is_signed))]
 pub fn is_signed(key: &[u8; 32], signed: &Signed) -> bool
     ensures { result ≡ is_signed key.now (model.signature_in signed.now) }

@@ -11,9 +11,9 @@ use fedi_address::{Host, Iri, IriFault, LocalName};
 use fedi_model::Resource;
 use std::alloc::{AllocError, Global};
 
-/// The resource that the query asks for, at the server of this host, with the relations that it asks
-/// for. `None` if no resource stands there or several, or if it is malformed: neither an account
-/// (`acct:`, RFC 7565) nor an IRI. The error is out of memory.
+/// The resource that the query asks for, at the server of this host, with the relations that it
+/// asks for. `None` if no resource stands there or several, or if it is malformed: neither an
+/// account (`acct:`, RFC 7565) nor an IRI. The error is out of memory.
 #[tactic(auto, unfolding(fedi_model::specs::Webfinger::resource_in))]
 pub(crate) fn resource_in(
     alloc: Global,

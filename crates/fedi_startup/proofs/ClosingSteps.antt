@@ -2,9 +2,9 @@
 use Rattle.std.proofs.Common.{◌≡◌, ℕ, List, length, map, Option, Some, None, sym, ap, ◌∙◌}
 use Rattle.std.specs.Prelude.{IfSome, option_map}
 use Rattle.fedi_entry.specs.Codes.{code_of}
-use Rattle.fedi_images.proofs.Steps.{of_some}
-use Rattle.fedi_images.specs.Images.{IsImage, kept_in, plain}
-use Rattle.fedi_images.specs.Known.{records_told}
+use Rattle.fedi_outside.proofs.ImageSteps.{of_some}
+use Rattle.fedi_outside.specs.Images.{IsImage, kept_in, plain}
+use Rattle.fedi_outside.specs.Known.{records_told}
 use Rattle.fedi_log.specs.Keeping.{state_of}
 use Rattle.fedi_objects.specs.declared.entry.Entry.{Entry}
 use Rattle.fedi_outside.specs.Disks.{DiskCrashes, DiskState}

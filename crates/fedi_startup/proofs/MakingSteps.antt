@@ -9,10 +9,10 @@ use Rattle.std.proofs.lemmas.Str.{is_utf8-from_IsUtf8}
 use Rattle.fedi_address.specs.Hosts.{IsHost, address}
 use Rattle.fedi_address.specs.Iris.{normal}
 use Rattle.fedi_entry.specs.Fields.{IsFormed, is_host, is_own}
-use Rattle.fedi_images.proofs.ImageLemmas.{closed_intro, plain_ok}
-use Rattle.fedi_images.proofs.Steps.{of_some}
-use Rattle.fedi_images.specs.Images.{IsImage, front, kept_in, plain}
-use Rattle.fedi_images.specs.Known.{records_told}
+use Rattle.fedi_outside.proofs.ImageLemmas.{closed_intro, plain_ok}
+use Rattle.fedi_outside.proofs.ImageSteps.{of_some}
+use Rattle.fedi_outside.specs.Images.{IsImage, front, kept_in, plain}
+use Rattle.fedi_outside.specs.Known.{records_told}
 use Rattle.fedi_journal.specs.Files.{HasRecords}
 use Rattle.fedi_journal.specs.Making.{IsOther, IsUnmade, KeepsOther, blank, blank_shown}
 use Rattle.fedi_journal.specs.declared.faults.InitFault.{InitFault}
@@ -180,7 +180,8 @@ blank_file : (bytes : List ℕ) → IsImage plain [] (spliced 0 blank bytes)
 unfolding front
 blank_file bytes = record { short = tt; spelled = closed_intro plain plain_ok [] (spliced 0 blank bytes) (drop 9 bytes) refl }
 
--- What crashes may leave once a disk is a journal without records: what was left then, or a file of no record, or of this one.
+-- What crashes may leave once a disk is a journal without records: what was left then, or a file of
+-- no record, or of this one.
 abbrev MayLeaveSince : List ℕ → DiskCrashes → List ℕ → Type 0
 MayLeaveSince code begun image = begun.may_leave image ⊎ HasRecords [] (Some code) image
 

@@ -2,10 +2,10 @@
 use Rattle.std.proofs.Common.{◌≡◌, inl, inr, ℕ, ◌+◌, ◌<◌, List, [], ◌∷◌, ◌++◌, length, take, drop, Some, refl, sym, ap, subst, ◌∙◌, arith, length-append}
 use Rattle.std.proofs.lemmas.List.{length-map, take_all}
 use Rattle.fedi_entry.specs.Codes.{code_of}
-use Rattle.fedi_images.proofs.ImageLemmas.{one_image, plain_ok}
-use Rattle.fedi_images.proofs.Openings.{damaged_is_store, image_is_store, not_damaged}
-use Rattle.fedi_images.specs.Images.{blocks, front, plain, record_code}
-use Rattle.fedi_images.specs.Opening.{IsDamagedAt}
+use Rattle.fedi_outside.proofs.ImageLemmas.{one_image, plain_ok}
+use Rattle.fedi_outside.proofs.Openings.{damaged_is_store, image_is_store, not_damaged}
+use Rattle.fedi_outside.specs.Images.{blocks, front, plain, record_code}
+use Rattle.fedi_outside.specs.Opening.{IsDamagedAt}
 use Rattle.fedi_journal.specs.Making.{IsOther, blank}
 use Rattle.fedi_objects.specs.declared.entry.Entry.{Entry}
 use Rattle.fedi_opening.proofs.Answers.{damaged_once, read_once, read_or_damaged}

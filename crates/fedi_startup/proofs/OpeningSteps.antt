@@ -3,12 +3,12 @@ use Rattle.std.proofs.Common.{◌≡◌, ◌⊎◌, inl, inr, ℕ, ◌+◌, List
 use Rattle.std.specs.Prelude.{◌≢◌, Err, IfSome, is_some, option_map}
 use Rattle.std.proofs.lemmas.List.{take_at}
 use Rattle.fedi_entry.specs.Codes.{code_of}
-use Rattle.fedi_images.proofs.Finding.{images_left}
-use Rattle.fedi_images.proofs.ImageLemmas.{one_image, plain_ok}
-use Rattle.fedi_images.proofs.Steps.{of_some, images_left as files_left}
-use Rattle.fedi_images.specs.Images.{IsImage, blocks, front, kept_in, plain}
-use Rattle.fedi_images.specs.Known.{IsKnown, record_crashes, records_told}
-use Rattle.fedi_images.specs.Opening.{IsDamagedAt, IsNoStore}
+use Rattle.fedi_outside.proofs.Finding.{images_left}
+use Rattle.fedi_outside.proofs.ImageLemmas.{one_image, plain_ok}
+use Rattle.fedi_outside.proofs.ImageSteps.{of_some, images_left as files_left}
+use Rattle.fedi_outside.specs.Images.{IsImage, blocks, front, kept_in, plain}
+use Rattle.fedi_outside.specs.Known.{IsKnown, record_crashes, records_told}
+use Rattle.fedi_outside.specs.Opening.{IsDamagedAt, IsNoStore}
 use Rattle.fedi_journal.specs.Finding as journals
 use Rattle.fedi_journal.specs.Files.{HasRecords}
 use Rattle.fedi_journal.specs.declared.faults.JournalFault.{JournalFault}

@@ -10,8 +10,8 @@ use Rattle.std.proofs.lemmas.List.Elements.{All-contains, All-nil}
 use Rattle.fedi_core.specs.Machines.{IsNextCode}
 use Rattle.fedi_entry.specs.Codes.{code_of}
 use Rattle.fedi_entry.specs.Fields.{IsFormed}
-use Rattle.fedi_images.specs.Images.{IsImage, plain}
-use Rattle.fedi_images.specs.Known.{record_crashes, records_told}
+use Rattle.fedi_outside.specs.Images.{IsImage, plain}
+use Rattle.fedi_outside.specs.Known.{record_crashes, records_told}
 use Rattle.fedi_log.proofs.Growing.{given_history, history_append}
 use Rattle.fedi_log.specs.Keeping.{HoldsFrom, State, since}
 use Rattle.fedi_log.specs.Leaving.{CrashesAlong}
@@ -20,7 +20,7 @@ use Rattle.fedi_log.specs.Log.{Log, doubts_of, entry_in, given, history_of}
 use Rattle.fedi_objects.specs.declared.entry.Entry.{Entry}
 use Rattle.fedi_opening.proofs.Records.{read_more}
 use Rattle.fedi_opening.specs.Opening.{IsNext, IsRead}
-use Rattle.fedi_images.proofs.Steps.{of_some}
+use Rattle.fedi_outside.proofs.ImageSteps.{of_some}
 use Rattle.fedi_outside.specs.Disks.{DiskCrashes, DiskState}
 use Rattle.fedi_outside.specs.Keepers.{MayLeave}
 use Rattle.fedi_town.specs.Histories.{step, town}
@@ -176,7 +176,8 @@ marks_since opened now log holds marks =
     (subst (λ (h : List Entry). MarksMayCome h goes.past) (given_history opened.history)
     (marks_back [] (given opened.history) goes.past (subst (λ (l : Log). MarksMayCome [] l) goes.is marks)))
 
--- Files of lists of records are stores: of what was there before the run, or of the first part of what the run made.
+-- Files of lists of records are stores: of what was there before the run, or of the first part of
+-- what the run made.
 pub stores_along : (before after : DiskCrashes) (opened now : State) (log : Log) → opened.history ≢ [] → opened.keeper.doubt ≡ None → IsSound now.history
     → HoldsFrom (opened_base opened) (given opened.history) now log → MarksMayCome [] log → SurvivesOnDisk before after opened log
     → LeavesStoresAlong before after opened.history (since (opened_base opened) log)

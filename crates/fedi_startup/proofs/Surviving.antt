@@ -1,12 +1,12 @@
 -- From what a crash leaves as lists of records to what it leaves of a disk.
 use Rattle.std.proofs.Common.{◌≡◌, ◌⊎◌, inl, inr, ℕ, ◌+◌, ◌≤◌, List, [], length, map, Option, Some, None, refl, sym, ap, subst, ◌∙◌, append-nil, arith}
 use Rattle.std.specs.Prelude.{IfSome, is_some, option_map}
-use Rattle.fedi_images.proofs.Finding.{images_left}
-use Rattle.fedi_images.proofs.ImageLemmas.{plain_ok}
+use Rattle.fedi_outside.proofs.Finding.{images_left}
+use Rattle.fedi_outside.proofs.ImageLemmas.{plain_ok}
 use Rattle.fedi_entry.specs.Codes.{code_of}
-use Rattle.fedi_images.proofs.Steps.{of_some}
-use Rattle.fedi_images.specs.Images.{IsImage, kept_in, plain}
-use Rattle.fedi_images.specs.Known.{record_crashes, records_told}
+use Rattle.fedi_outside.proofs.ImageSteps.{of_some}
+use Rattle.fedi_outside.specs.Images.{IsImage, kept_in, plain}
+use Rattle.fedi_outside.specs.Known.{record_crashes, records_told}
 use Rattle.fedi_log.proofs.Leaving.{few_kept, few_left}
 use Rattle.fedi_log.specs.Keeping.{Base, State, since}
 use Rattle.fedi_log.specs.Leaving.{CrashesAlong, IsLeft}
@@ -22,7 +22,8 @@ use Rattle.fedi_startup.proofs.Told.{each_some, is_told, of_told}
 none_left : (b : Base) (log : Log) (kept left : List (List ℕ)) → left ≡ kept → IsLeft b log kept left
 none_left b log kept left is = record { past = []; rest = since b log; is = refl; leaves = inl (is ∙ sym (append-nil kept)) }
 
--- A machine was opened over a disk that tells its bytes, and then its keeper survived: the crashes since the opening.
+-- A machine was opened over a disk that tells its bytes, and then its keeper survived: the crashes
+-- since the opening.
 module _ (found later : DiskState) (middle after : DiskCrashes) (opened : State) (log : Log) (count : ℕ)
     (told : opened.keeper.records ≡ records_told plain count found)
     (held : opened.keeper.records ≡ Some (records_of opened.history))
@@ -51,8 +52,8 @@ module _ (found later : DiskState) (middle after : DiskCrashes) (opened : State)
 pub records_held : (start : DiskState) (opened : State) (bytes : List ℕ) → IsOpened start opened → start.reads ≡ Some bytes → opened.keeper.records ≡ Some (records_of opened.history)
 records_held start opened bytes opening is = opening.records ∙ ap (option_map (λ _. records_of opened.history)) is
 
--- What is known of the records that a machine's keeper has on its disk holds of the disk, if it tells its bytes. The disk was so
--- before the opening, the keeper found it so, and left it so.
+-- What is known of the records that a machine's keeper has on its disk holds of the disk, if it
+-- tells its bytes. The disk was so before the opening, the keeper found it so, and left it so.
 pub survives_on_disk : (start found later : DiskState) (before middle after : DiskCrashes) (opened : State) (log : Log) (count : ℕ)
     → IsOpened start opened → opened.keeper.records ≡ records_told plain count found → IsUntouched start found before middle
     → ((image : List ℕ) → before.left_since before.clock image → before.may_leave image)

@@ -1,8 +1,8 @@
 -- What follows where a disk tells its bytes.
 use Rattle.std.proofs.Common.{◌≡◌, ℕ, Bool, true, List, Option, Some, None, refl, sym, ap, subst}
 use Rattle.std.specs.Prelude.{IfSome, is_some, option_map}
-use Rattle.fedi_images.specs.Images.{plain}
-use Rattle.fedi_images.specs.Known.{records_told}
+use Rattle.fedi_outside.specs.Images.{plain}
+use Rattle.fedi_outside.specs.Known.{records_told}
 use Rattle.fedi_outside.specs.Disks.{DiskState}
 use Rattle.fedi_outside.specs.Keepers.{IfTold}
 

@@ -1,6 +1,6 @@
 -- What becomes of a disk that is made a store.
 use Rattle.std.specs.Prelude.{◌≡◌, ◌⊎◌, ℕ, List, [], IfSome, Option, Some, None, is_some}
-use Rattle.fedi_images.specs.Images.{IsImage, plain}
+use Rattle.fedi_outside.specs.Images.{IsImage, plain}
 use Rattle.fedi_journal.specs.Files.{HasRecords}
 use Rattle.fedi_journal.specs.Making.{IsOther, blank}
 use Rattle.fedi_objects.specs.declared.entry.Entry.{Entry}
@@ -15,7 +15,8 @@ abbrev pub WasFree : Option (List ℕ) → Type 0
 WasFree reads = IfSome reads (λ bytes. IsOther bytes → ⊥)
 
 -- the disk was made the store of this history, and a crash now leaves its records
-pub record IsMade (history : List Entry) (before after : DiskState) (crashes : DiskCrashes) : Type 0 where
+pub record IsMade (history : List Entry) (before after : DiskState)
+    (crashes : DiskCrashes) : Type 0 where
   pub free : WasFree before.reads
   pub told : is_some after.reads ≡ is_some before.reads
   pub stored : IfSome after.reads (IsStoreOf history)
@@ -26,35 +27,44 @@ pub record IsMade (history : List Entry) (before after : DiskState) (crashes : D
 abbrev pub MayBeEmpty : Option (List ℕ) → Option (List ℕ) → Type 0
 MayBeEmpty None after = after ≡ None
 MayBeEmpty (Some bytes) after =
-    (other : List ℕ) × (after ≡ Some other) × ((other ≡ bytes) ⊎ ((IsOther bytes → ⊥) × IsImage plain [] other))
+    (other : List ℕ) × (after ≡ Some other)
+    × ((other ≡ bytes) ⊎ ((IsOther bytes → ⊥) × IsImage plain [] other))
 
--- Reads give the same bytes. Or the disk was free, and the first nine are torn, or reads give those of a file without records, or
--- with this one.
+-- Reads give the same bytes. Or the disk was free, and the first nine are torn, or reads give those
+-- of a file without records, or with this one.
 abbrev pub MayBeBegun : List ℕ → Option (List ℕ) → Option (List ℕ) → Type 0
 MayBeBegun code None after = after ≡ None
 MayBeBegun code (Some bytes) after =
     (other : List ℕ) × (after ≡ Some other)
-    × ((other ≡ bytes) ⊎ ((IsOther bytes → ⊥) × (IsTorn 0 blank bytes other ⊎ HasRecords [] (Some code) other)))
+    × ((other ≡ bytes)
+    ⊎ ((IsOther bytes → ⊥) × (IsTorn 0 blank bytes other ⊎ HasRecords [] (Some code) other)))
 
 -- why the disk was not made a store whose first record is this one, and what became of it
 abbrev pub IsNotMade : List ℕ → MakeFault → DiskState → DiskState → Type 0
-IsNotMade code Exists before after = IfSome before.reads IsOther × (after.reads ≡ before.reads) × (after.faults ≡ before.faults)
-IsNotMade code Failed before after = MayBeBegun code before.reads after.reads × (after.faults ≡ next_count before.faults)
-IsNotMade code Memory before after = MayBeEmpty before.reads after.reads × (after.faults ≡ before.faults)
+IsNotMade code Exists before after =
+    IfSome before.reads IsOther × (after.reads ≡ before.reads) × (after.faults ≡ before.faults)
+IsNotMade code Failed before after =
+    MayBeBegun code before.reads after.reads × (after.faults ≡ next_count before.faults)
+IsNotMade code Memory before after =
+    MayBeEmpty before.reads after.reads × (after.faults ≡ before.faults)
 
--- an image that a crash before might have left, of which the first nine bytes may be torn, or a file of no record, or of this one
+-- an image that a crash before might have left, of which the first nine bytes may be torn, or a
+-- file of no record, or of this one
 abbrev pub MayBegin : List ℕ → DiskCrashes → List ℕ → Type 0
 MayBegin code before image = MayTear 0 blank before image ⊎ HasRecords [] (Some code) image
 
--- What crashes may leave once a disk that told its bytes has been a journal without records since this moment: such images, and
--- from that moment on files of no record, or of this one.
+-- What crashes may leave once a disk that told its bytes has been a journal without records since
+-- this moment: such images, and from that moment on files of no record, or of this one.
 abbrev pub LeavesFirst : List ℕ → ℕ → DiskCrashes → DiskCrashes → Type 0
-LeavesFirst code moment before after = Elapses before after (MayBegin code before) × LeftFiles moment after [] (Some code)
+LeavesFirst code moment before after =
+    Elapses before after (MayBegin code before) × LeftFiles moment after [] (Some code)
 
--- What a crash may leave while a disk of which reads gave these bytes is made a store whose first record is this one: an image
--- that one before might have left, of which the first nine bytes may be torn; or, if it came to that, a file of no record, or of
--- this one, and from some moment of the call on such a file alone.
+-- What a crash may leave while a disk of which reads gave these bytes is made a store whose first
+-- record is this one: an image that one before might have left, of which the first nine bytes may
+-- be torn; or, if it came to that, a file of no record, or of this one, and from some moment of the
+-- call on such a file alone.
 abbrev pub LeavesAtMost : List ℕ → Option (List ℕ) → DiskCrashes → DiskCrashes → Type 0
 LeavesAtMost code reads before after =
     Elapses before after (MayTear 0 blank before)
-    ⊎ ((moment : ℕ) × IsDuring before after moment × IfSome reads (λ _. LeavesFirst code moment before after))
+    ⊎ ((moment : ℕ) × IsDuring before after moment
+    × IfSome reads (λ _. LeavesFirst code moment before after))

@@ -1,11 +1,13 @@
--- Stores: disks with the file of the records of a history, and what becomes of a disk that is opened or closed as one.
-use Rattle.std.specs.Prelude.{◌≡◌, ◌∷◌, ◌++◌, ◌≢◌, ◌⊎◌, ◌≤◌, ℕ, List, [], length, map, take, IfSome, IsTrue, Option, Some, None, option_map, Result, Ok, Err}
+-- Stores: disks with the file of the records of a history, and what becomes of a disk that is
+-- opened or closed as one.
+use Rattle.std.specs.Prelude.{◌≡◌, ◌∷◌, ◌++◌, ◌≢◌, ◌⊎◌, ◌≤◌, ℕ, List, [], length, map, take, IfSome}
+use Rattle.std.specs.Prelude.{IsTrue, Option, Some, None, option_map, Result, Ok, Err}
 use Rattle.std.specs.List.{AllByRecursion}
 use Rattle.fedi_core.specs.Machines.{IsNextCode, Machine}
 use Rattle.fedi_entry.specs.Codes.{code_of}
 use Rattle.fedi_entry.specs.Fields.{IsFormed}
-use Rattle.fedi_images.specs.Images.{IsImage, front, plain}
-use Rattle.fedi_images.specs.Opening.{IsDamagedAt, IsNoStore}
+use Rattle.fedi_outside.specs.Images.{IsImage, front, plain}
+use Rattle.fedi_outside.specs.Opening.{IsDamagedAt, IsNoStore}
 use Rattle.fedi_journal.specs.Files.{HasRecords}
 use Rattle.fedi_journal.specs.Opening.{disk_of}
 use Rattle.fedi_journal.specs.declared.journal.Journal.{Journal}
@@ -16,7 +18,8 @@ use Rattle.fedi_outside.specs.Causes.{next_count}
 use Rattle.fedi_outside.specs.Disks.{DiskCrashes, DiskState}
 use Rattle.fedi_outside.specs.declared.disks.Disk.{Ghosts}
 use Rattle.fedi_startup.specs.declared.faults.StoreFault.{StoreFault}
-use Rattle.fedi_startup.specs.declared.faults.StoreFault.TheVariants.{NotAStore, DamagedByte, DamagedRecord, Failed, Memory}
+use Rattle.fedi_startup.specs.declared.faults.StoreFault.TheVariants.{NotAStore, DamagedByte}
+use Rattle.fedi_startup.specs.declared.faults.StoreFault.TheVariants.{DamagedRecord, Failed, Memory}
 use Rattle.fedi_town.specs.Legal.{IsLegal}
 
 -- ---- files
@@ -29,7 +32,8 @@ records_of history = map code_of history
 abbrev pub end_of : List Entry → ℕ
 end_of history = length (front plain (records_of history))
 
--- a machine may go on from this history: it is legal, and the fields of its entries have their forms
+-- a machine may go on from this history: it is legal, and the fields of its entries have their
+-- forms
 pub record IsSound (history : List Entry) : Type 0 where
   pub legal : IsLegal history
   pub formed : AllByRecursion IsFormed history
@@ -40,10 +44,12 @@ pub record IsStoreOf (history : List Entry) (bytes : List ℕ) : Type 0 where
   pub sound : IsSound history
   pub file : IsImage plain (records_of history) bytes
 
--- the bytes are a file of records, of which the one at this place is the first that is the code of no entry that may stand there
+-- the bytes are a file of records, of which the one at this place is the first that is the code of
+-- no entry that may stand there
 abbrev pub HasBadRecord : ℕ → List ℕ → Type 0
 HasBadRecord place bytes =
-    (rs : List (List ℕ)) × IsImage plain rs bytes × ((history : List Entry) × IsDamaged (Some rs) (length rs) place history)
+    (rs : List (List ℕ)) × IsImage plain rs bytes
+    × ((history : List Entry) × IsDamaged (Some rs) (length rs) place history)
 
 -- the bytes are no file of records, or a file of none
 abbrev pub HasNoRecord : List ℕ → Type 0
@@ -55,22 +61,28 @@ HasNoRecord bytes = IsNoStore plain bytes ⊎ IsImage plain [] bytes
 abbrev pub IsDuring : DiskCrashes → DiskCrashes → ℕ → Type 0
 IsDuring before after moment = (before.clock ≤ moment) × (moment ≤ after.clock)
 
--- each image that a crash now may leave is a file of these records, or of these with the one in doubt
+-- each image that a crash now may leave is a file of these records, or of these with the one in
+-- doubt
 abbrev pub LeavesFiles : DiskCrashes → List (List ℕ) → Option (List ℕ) → Type 0
-LeavesFiles crashes records doubt = (image : List ℕ) → crashes.may_leave image → HasRecords records doubt image
+LeavesFiles crashes records doubt =
+    (image : List ℕ) → crashes.may_leave image → HasRecords records doubt image
 
 -- each image that a crash at this moment or later may have left is such a file
 abbrev pub LeftFiles : ℕ → DiskCrashes → List (List ℕ) → Option (List ℕ) → Type 0
-LeftFiles moment crashes records doubt = (image : List ℕ) → crashes.left_since moment image → HasRecords records doubt image
+LeftFiles moment crashes records doubt =
+    (image : List ℕ) → crashes.left_since moment image → HasRecords records doubt image
 
 -- ---- which stores these files are
 
 -- this history, or it with the entry in doubt
 abbrev pub IsAround : List Entry → Option (List ℕ) → List Entry → Type 0
-IsAround history doubt left = (left ≡ history) ⊎ ((e : Entry) × (doubt ≡ Some (code_of e)) × (left ≡ history ++ e ∷ []))
+IsAround history doubt left =
+    (left ≡ history) ⊎ ((e : Entry) × (doubt ≡ Some (code_of e)) × (left ≡ history ++ e ∷ []))
 
--- each image that a crash now may leave is a store of this history, or of it with the entry in doubt, which may come next
-pub record LeavesStores (crashes : DiskCrashes) (history : List Entry) (doubt : Option (List ℕ)) : Type 0 where
+-- each image that a crash now may leave is a store of this history, or of it with the entry in
+-- doubt, which may come next
+pub record LeavesStores (crashes : DiskCrashes) (history : List Entry)
+    (doubt : Option (List ℕ)) : Type 0 where
   pub some : history ≢ []
   pub sound : IsSound history
   pub doubted : IfSome doubt (IsNextCode history)
@@ -78,7 +90,8 @@ pub record LeavesStores (crashes : DiskCrashes) (history : List Entry) (doubt : 
 
 -- ---- opening
 
--- The machine was opened over this disk: it has the history of the disk's file, and nothing is in doubt.
+-- The machine was opened over this disk: it has the history of the disk's file, and nothing is in
+-- doubt.
 pub record IsOpened (disk : DiskState) (s : State) : Type 0 where
   pub some : s.history ≢ []
   pub sound : IsSound s.history
@@ -111,14 +124,16 @@ pub record ComesBack (fault : StoreFault) (before after : DiskState) : Type 0 wh
   pub faults : after.faults ≡ count_after fault before.faults
 
 -- the disk of the machine, or the one that came back
-abbrev pub disk_left : {D E : Type 0} {ghosts : Ghosts D} → Result (Machine (Journal D ghosts)) (E × D) → D
+abbrev pub disk_left : {D E : Type 0} {ghosts : Ghosts D}
+    → Result (Machine (Journal D ghosts)) (E × D) → D
 disk_left (Ok core) = disk_of core.keeper
 disk_left (Err back) = back.1
 
 -- ---- closing
 
--- The disk keeps what this machine has: its file has the records of the machine's history, and behind them at most the one in
--- doubt, which may come next, and so has each image that a crash now may leave.
+-- The disk keeps what this machine has: its file has the records of the machine's history, and
+-- behind them at most the one in doubt, which may come next, and so has each image that a crash now
+-- may leave.
 pub record IsClosed (disk : DiskState) (crashes : DiskCrashes) (s : State) : Type 0 where
   pub sound : IsSound s.history
   pub doubted : IfSome s.keeper.doubt (IsNextCode s.history)

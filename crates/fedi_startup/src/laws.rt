@@ -1,7 +1,7 @@
 //! What an opening may answer excludes all else, and what was opened stays.
 ghost use Rattle.std.specs.Prelude.{◌≡◌, [], ℕ, List, None, Some};
-ghost use Rattle.fedi_images.specs.Images.{plain};
-ghost use Rattle.fedi_images.specs.Opening.{IsDamagedAt};
+ghost use Rattle.fedi_outside.specs.Images.{plain};
+ghost use Rattle.fedi_outside.specs.Opening.{IsDamagedAt};
 ghost use Rattle.fedi_journal.specs.Making.{IsOther};
 ghost use Rattle.fedi_journal.specs.Opening.{disk_of};
 ghost use Rattle.fedi_log.specs.Keeping.{HoldsFrom, since, state_of};
@@ -10,15 +10,16 @@ ghost use Rattle.fedi_log.specs.Log.{Log, given};
 ghost use Rattle.fedi_objects.specs.declared.entry.Entry.{Entry};
 ghost use Rattle.fedi_outside.specs.Disks.{DiskState};
 ghost use Rattle.fedi_logged.specs.Marks.{MarksMayCome};
-ghost use Rattle.fedi_startup.specs.Stores.{HasBadRecord, HasNoRecord, IsOpened, IsSound, IsStoreOf, LeavesFiles, records_of};
+ghost use Rattle.fedi_startup.specs.Stores.{HasBadRecord, HasNoRecord, IsOpened, IsSound};
+ghost use Rattle.fedi_startup.specs.Stores.{IsStoreOf, LeavesFiles, records_of};
 ghost use Rattle.fedi_startup.specs.Surviving.{LeavesStoresFrom, opened_base};
 
 use crate::opening::StoreCore;
 use fedi_journal::Journal;
 use fedi_outside::{Disk, Keeper};
 
-/// The bytes of a disk have one answer at most: they are the store of one history, they have no record,
-/// they are damaged at one byte, or they are damaged at one record.
+/// The bytes of a disk have one answer at most: they are the store of one history, they have no
+/// record, they are damaged at one byte, or they are damaged at one record.
 pub fn stores_have_one_answer()
     ensures history { (a b : List Entry) (bytes : List ℕ)
         → IsStoreOf a bytes → IsStoreOf b bytes → a ≡ b }
@@ -40,16 +41,18 @@ pub fn stores_have_one_answer()
         → IsDamagedAt plain here bytes → HasBadRecord there bytes → ⊥ }
 {}
 
-/// A store has other bytes than a journal without records, so that the making of a store leaves it as it is.
+/// A store has other bytes than a journal without records, so that the making of a store leaves it
+/// as it is.
 pub fn stores_are_not_made_anew()
     ensures { (history : List Entry) (bytes : List ℕ) → IsStoreOf history bytes → IsOther bytes }
 {}
 
-/// What was opened stays. From the moment at which `open_store` gave a machine over a disk that tells its
-/// bytes, whatever a crash before may have left, a crash leaves a store of the history that was opened, with
-/// the first of the entries that were kept since, none or more, and at most the one that was in doubt then.
-/// The premises on the first machine are what `open_store` says of it, and those on the last are what is
-/// said of it where its session ended, or those of all workers.
+/// What was opened stays. From the moment at which `open_store` gave a machine over a disk that
+/// tells its bytes, whatever a crash before may have left, a crash leaves a store of the history
+/// that was opened, with the first of the entries that were kept since, none or more, and at most
+/// the one that was in doubt then. The premises on the first machine are what `open_store` says of
+/// it, and those on the last are what is said of it where its session ended, or those of all
+/// workers.
 pub fn what_was_opened_stays<D: Disk>(opened: &StoreCore<D>, closed: &StoreCore<D>)
     ensures { (start : DiskState) (bytes : List ℕ) (log : Log)
         → let first = state_of opened.now.history

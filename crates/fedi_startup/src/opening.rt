@@ -8,7 +8,8 @@ ghost use Rattle.fedi_opening.specs.Opening.{IsRead, IsStopped, after_open};
 ghost use Rattle.fedi_outside.specs.Disks.{IsUntouched};
 ghost use Rattle.fedi_outside.specs.Keepers.{PassesTime};
 ghost use Rattle.fedi_queue.specs.Rows.{rows_of};
-ghost use Rattle.fedi_startup.specs.Stores.{ComesBack, IsOpened, LeavesFiles, disk_left, records_of};
+ghost use Rattle.fedi_startup.specs.Stores.{ComesBack, IsOpened, LeavesFiles, disk_left};
+ghost use Rattle.fedi_startup.specs.Stores.{records_of};
 ghost use Rattle.fedi_town.specs.Histories.{town};
 
 use crate::faults::StoreFault;
@@ -48,14 +49,15 @@ fn open_core<P: Keeper>(
     }
 }
 
-/// Opens the machine over the store of a disk: finds the records of its file, and the history that they
-/// are the codes of. No delivery is claimed. The disk is synced, and the gates that are found are written again, so that a crash
-/// leaves what is found. The seed is what texts are looked up by. Whatever the answer, reads give the same bytes, and a crash leaves nothing new.
+/// Opens the machine over the store of a disk: finds the records of its file, and the history that
+/// they are the codes of. No delivery is claimed. The disk is synced, and the gates that are found
+/// are written again, so that a crash leaves what is found. The seed is what texts are looked up
+/// by. Whatever the answer, reads give the same bytes, and a crash leaves nothing new.
 ///
-/// Each error hands the disk back. It is `NotAStore`, if the disk has fewer
-/// than 9 bytes, or does not begin with the magic, or has no record; `DamagedByte`, with the place of the
-/// first gate that is not as it should be; `DamagedRecord`, with the place of the first record that is the
-/// code of no entry that may stand there; `Failed`, if the disk failed, which it counts once; and `Memory`,
+/// Each error hands the disk back. It is `NotAStore`, if the disk has fewer than 9 bytes, or does
+/// not begin with the magic, or has no record; `DamagedByte`, with the place of the first gate that
+/// is not as it should be; `DamagedRecord`, with the place of the first record that is the code of
+/// no entry that may stand there; `Failed`, if the disk failed, which it counts once; and `Memory`,
 /// if out of memory, and only if the disk begins with the magic.
 pub fn open_store<D: Disk>(
     alloc: Global,

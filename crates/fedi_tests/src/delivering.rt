@@ -108,8 +108,11 @@ const COUNTS: [(&[&[u8]], &str); 5] = [
 ];
 
 /// The actor document of the follower.
-const EVE: &str =
-    "HTTP/1.1 200 OK\r\nContent-Length: 86\r\n\r\n{\"id\":\"https://lake.example/users/eve\",\"inbox\":\"https://lake.example/users/eve/inbox\"}";
+const EVE: &str = "\
+    HTTP/1.1 200 OK\r\n\
+    Content-Length: 86\r\n\r\n\
+    {\"id\":\"https://lake.example/users/eve\",\
+    \"inbox\":\"https://lake.example/users/eve/inbox\"}";
 
 /// A delivery was taken.
 const TAKEN: &str = "HTTP/1.1 202 Accepted\r\nContent-Length: 0\r\n\r\n";
@@ -118,22 +121,51 @@ const TAKEN: &str = "HTTP/1.1 202 Accepted\r\nContent-Length: 0\r\n\r\n";
 const GONE: &str = "HTTP/1.1 410 Gone\r\n\r\n";
 
 /// The requests by which the acceptance of the Follow is delivered.
-const LOOK_UP: &str =
-    "GET /users/eve HTTP/1.1\r\nHost: lake.example\r\nAccept: application/ld+json; profile=\"https://www.w3.org/ns/activitystreams\"\r\nPeer-Host: club.example\r\nPeer-Mac: 09ffc80b31fbd4d9d68914837bba0a8c38e2626c8d612fb4f5dc5a9c17d0190a\r\nConnection: close\r\n\r\n";
+const LOOK_UP: &str = "\
+    GET /users/eve HTTP/1.1\r\n\
+    Host: lake.example\r\n\
+    Accept: application/ld+json; profile=\"https://www.w3.org/ns/activitystreams\"\r\n\
+    Peer-Host: club.example\r\n\
+    Peer-Mac: 09ffc80b31fbd4d9d68914837bba0a8c38e2626c8d612fb4f5dc5a9c17d0190a\r\n\
+    Connection: close\r\n\r\n";
 
-const ACCEPT: &str =
-    "POST /users/eve/inbox HTTP/1.1\r\nHost: lake.example\r\nContent-Type: application/ld+json; profile=\"https://www.w3.org/ns/activitystreams\"\r\nPeer-Host: club.example\r\nPeer-Mac: 346aea3f82cfd4e62fa2a079e8024b2fdc7a99687ab5da546966e3c1bdb3f5a3\r\nContent-Length: 272\r\nConnection: close\r\n\r\n{\"@context\":\"https://www.w3.org/ns/activitystreams\",\"actor\":\"https://club.example/users/ana\",\"id\":\"https://club.example/users/ana/a/1\",\"object\":\"https://lake.example/users/eve/a/1\",\"published\":\"1994-11-06T08:49:37Z\",\"to\":[\"https://lake.example/users/eve\"],\"type\":\"Accept\"}";
+const ACCEPT: &str = "\
+    POST /users/eve/inbox HTTP/1.1\r\n\
+    Host: lake.example\r\n\
+    Content-Type: application/ld+json; profile=\"https://www.w3.org/ns/activitystreams\"\r\n\
+    Peer-Host: club.example\r\n\
+    Peer-Mac: 346aea3f82cfd4e62fa2a079e8024b2fdc7a99687ab5da546966e3c1bdb3f5a3\r\n\
+    Content-Length: 272\r\n\
+    Connection: close\r\n\r\n\
+    {\"@context\":\"https://www.w3.org/ns/activitystreams\",\
+    \"actor\":\"https://club.example/users/ana\",\"id\":\"https://club.example/users/ana/a/1\",\
+    \"object\":\"https://lake.example/users/eve/a/1\",\"published\":\"1994-11-06T08:49:37Z\",\
+    \"to\":[\"https://lake.example/users/eve\"],\"type\":\"Accept\"}";
 
 /// The requests by which the note is forwarded after that.
-const FORWARD: &str =
-    "POST /users/eve/inbox HTTP/1.1\r\nHost: lake.example\r\nContent-Type: application/ld+json; profile=\"https://www.w3.org/ns/activitystreams\"\r\nPeer-Host: club.example\r\nPeer-Mac: ea1570ba394276c82541885a522d27569d6196052d86b94d89b2af478dcd2955\r\nContent-Length: 387\r\nConnection: close\r\n\r\n{\"@context\":\"https://www.w3.org/ns/activitystreams\",\"actor\":\"https://hill.example/users/dora\",\"cc\":[\"https://club.example/users/ana/followers\"],\"id\":\"https://hill.example/users/dora/a/8\",\"object\":{\"attributedTo\":\"https://hill.example/users/dora\",\"content\":\"Hello\",\"id\":\"https://hill.example/users/dora/o/8\",\"inReplyTo\":\"https://club.example/users/ana/o/2\",\"type\":\"Note\"},\"type\":\"Create\"}";
+const FORWARD: &str = "\
+    POST /users/eve/inbox HTTP/1.1\r\n\
+    Host: lake.example\r\n\
+    Content-Type: application/ld+json; profile=\"https://www.w3.org/ns/activitystreams\"\r\n\
+    Peer-Host: club.example\r\n\
+    Peer-Mac: ea1570ba394276c82541885a522d27569d6196052d86b94d89b2af478dcd2955\r\n\
+    Content-Length: 387\r\n\
+    Connection: close\r\n\r\n\
+    {\"@context\":\"https://www.w3.org/ns/activitystreams\",\
+    \"actor\":\"https://hill.example/users/dora\",\
+    \"cc\":[\"https://club.example/users/ana/followers\"],\
+    \"id\":\"https://hill.example/users/dora/a/8\",\
+    \"object\":{\"attributedTo\":\"https://hill.example/users/dora\",\"content\":\"Hello\",\
+    \"id\":\"https://hill.example/users/dora/o/8\",\
+    \"inReplyTo\":\"https://club.example/users/ana/o/2\",\"type\":\"Note\"},\"type\":\"Create\"}";
 
 /// The beginnings of the lines that are printed, one for each attempt.
 const OWN: &str = "https://club.example/users/ana/a/1 lake.example ";
 
 const OTHER: &str = "https://hill.example/users/dora/a/8 lake.example ";
 
-/// What is shown, the replies, which exchanges fail, what is printed of both attempts, and what was asked.
+/// What is shown, the replies, which exchanges fail, what is printed of both attempts, and what was
+/// asked.
 const RUNS: [(&str, &[&str], &[u64], &[&str], &[&str]); 4] = [
     (
         "both are delivered",
@@ -180,14 +212,18 @@ const WORDS: [(&[&str], &[u64], &str); 19] = [
     (&["HTTP/1.1 200 OK\r\n\r\n{}"], &[], "again\n"),
     (
         &[
-            "HTTP/1.1 200 OK\r\n\r\n{\"id\":\"https://lake.example/users/eva\",\"inbox\":\"https://lake.example/users/eva/inbox\"}",
+            "HTTP/1.1 200 OK\r\n\r\n\
+             {\"id\":\"https://lake.example/users/eva\",\
+             \"inbox\":\"https://lake.example/users/eva/inbox\"}",
         ],
         &[],
         "again\n",
     ),
     (
         &[
-            "HTTP/1.1 200 OK\r\n\r\n{\"id\":\"https://lake.example/users/eve\",\"inbox\":\"https://hill.example/users/eve/inbox\"}",
+            "HTTP/1.1 200 OK\r\n\r\n\
+             {\"id\":\"https://lake.example/users/eve\",\
+             \"inbox\":\"https://hill.example/users/eve/inbox\"}",
         ],
         &[],
         "again\n",
@@ -206,8 +242,8 @@ const WORDS: [(&[&str], &[u64], &str); 19] = [
 /// How long after the first attempt each of the eight is due, the last of which ends the delivery.
 const DUE: [u64; 8] = [0, 60, 180, 420, 900, 1_860, 3_780, 7_620];
 
-/// Which calls of the disk fail, counted from the first append's first, which are four for each append, and
-/// which writes, and the status, what is printed, and how many attempts are kept.
+/// Which calls of the disk fail, counted from the first append's first, which are four for each
+/// append, and which writes, and the status, what is printed, and how many attempts are kept.
 const FAULTS: [(&[u64], &[u64], u8, &[&str], usize); 6] = [
     (&[0], &[], 5, &["disk fault\n"], 0),
     (&[2], &[], 5, &["disk fault\n"], 0),
@@ -230,7 +266,8 @@ fn has_count(alloc: Global, records: &[&[u8]], printed: &str) -> Result<bool, Al
     Ok(left.status == 0 && are_texts(&left.out, &[printed]))
 }
 
-// Whether the run over the records tries each delivery once, and the next one at the same moment none of them.
+// Whether the run over the records tries each delivery once, and the next one at the same moment
+// none of them.
 fn has_run(
     alloc: Global,
     row: &(&str, &[&str], &[u64], &[&str], &[&str]),

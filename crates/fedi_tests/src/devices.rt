@@ -8,7 +8,8 @@ use std::test::Fail;
 // What is no regular file.
 const OTHERS: [&str; 5] = [".", "/dev/null", "/dev/zero", "/dev/full", "/dev/tty"];
 
-// Whether no byte is written to this disk, and no sync believed. It is asked twice, since the first call opens the file.
+// Whether no byte is written to this disk, and no sync believed. It is asked twice, since the first
+// call opens the file.
 fn takes_nothing<D: Disk>(disk: &mut D) -> bool {
     let mut fails = || disk.write_at(0, b"FEDIJRN1") == Err(Failed) && disk.sync() == Err(Failed);
     fails() && fails()

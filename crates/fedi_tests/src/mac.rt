@@ -35,7 +35,8 @@ fn digests_are_those_of_the_standard(_rt: HostRuntime) -> Result<(), Fail> {
     Ok(())
 }
 
-// A key, a text, and the digits of the text's code under the key: test cases 1 to 4, 6 and 7 of RFC 4231.
+// A key, a text, and the digits of the text's code under the key: test cases 1 to 4, 6 and 7 of
+// RFC 4231.
 const CODES: [(&[u8], &[u8], &[u8; 64]); 6] = [
     (
         &[0x0b; 20],
@@ -67,7 +68,8 @@ const CODES: [(&[u8], &[u8], &[u8; 64]); 6] = [
     ),
     (
         &[0xaa; 131],
-        b"This is a test using a larger than block-size key and a larger than block-size data. The key needs to be hashed before being used by the HMAC algorithm.",
+        b"This is a test using a larger than block-size key and a larger than block-size data. \
+          The key needs to be hashed before being used by the HMAC algorithm.",
         b"9b09ffa71b942fcb27635fbcd5b0e944bfdc63644f0713938a7f51535c3a35e2",
     ),
 ];

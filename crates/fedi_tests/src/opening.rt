@@ -13,9 +13,8 @@ use fedi_address::LocalName;
 use fedi_effects::Steps;
 use fedi_opening::{OpenFault, open_history};
 use fedi_outside::{Keeper, MemoryKeeper};
-use fedi_store::PlainShelf;
 use fedi_town::{Caller, Which};
-use fedi_visible::Shelf;
+use fedi_visible::{PlainShelf, Shelf};
 use std::alloc::Global;
 use std::marker::Brand;
 use std::sync::ledger::{Blank, Ledger};
@@ -104,8 +103,8 @@ enum Wanted {
     Fault(OpenFault),
 }
 
-// Whether the shelf has the Create, the Follow with its Accept, and the Like, and those of the peer, where the
-// Like that came to two inboxes is there once.
+// Whether the shelf has the Create, the Follow with its Accept, and the Like, and those of the
+// peer, where the Like that came to two inboxes is there once.
 fn has_history(shelf: &PlainShelf) -> bool {
     let facts = shelf.facts();
     let is_hosted = facts

@@ -8,27 +8,31 @@ use crate::runs::{calls_after, calls_of_an_opening};
 use std::alloc::{AllocError, Global};
 use std::test::Fail;
 
-/// The record of lake's making: its host, the key, where it is reached, whether it is a relay, and the
-/// moment.
-const LAKE: &[u8] =
-    b"\x03\0\0\0\x0clake.example0123456789abcdefghijklmnopqrstuv\0\0\0\x0e127.0.0.1:8081\0\0\0\0\0\x2e\xbc\x98\xa1";
+/// The record of lake's making: its host, the key, where it is reached, whether it is a relay, and
+/// the moment.
+const LAKE: &[u8] = b"\
+    \x03\0\0\0\x0clake.example0123456789abcdefghijklmnopqrstuv\
+    \0\0\0\x0e127.0.0.1:8081\0\0\0\0\0\x2e\xbc\x98\xa1";
 
-const RELAY: &[u8] =
-    b"\x03\0\0\0\x0clake.example0123456789abcdefghijklmnopqrstuv\0\0\0\x0e127.0.0.1:8081\x01\0\0\0\0\x2e\xbc\x98\xa1";
+const RELAY: &[u8] = b"\
+    \x03\0\0\0\x0clake.example0123456789abcdefghijklmnopqrstuv\
+    \0\0\0\x0e127.0.0.1:8081\x01\0\0\0\0\x2e\xbc\x98\xa1";
 
 const MADE: &str = "peer lake.example\n";
 
 /// The command line that makes it.
-const MAKING: &str =
-    "fedi add-peer s lake.example 303132333435363738396162636465666768696a6b6c6d6e6f70717273747576 127.0.0.1:8081";
+const MAKING: &str = "\
+    fedi add-peer s lake.example \
+    303132333435363738396162636465666768696a6b6c6d6e6f70717273747576 127.0.0.1:8081";
 
-/// The command line, how much of the example town there is, and the status, what is printed, and the
-/// record that is kept.
+/// The command line, how much of the example town there is, and the status, what is printed, and
+/// the record that is kept.
 const ENDS: [(&str, usize, u8, &str, &[u8]); 9] = [
     (MAKING, 1, 0, MADE, LAKE),
     (MAKING, 7, 0, MADE, LAKE),
     (
-        "fedi add-peer s --relay lake.example 303132333435363738396162636465666768696A6B6C6D6E6F70717273747576 127.0.0.1:8081",
+        "fedi add-peer s --relay lake.example \
+         303132333435363738396162636465666768696A6B6C6D6E6F70717273747576 127.0.0.1:8081",
         5,
         0,
         MADE,
@@ -57,14 +61,16 @@ const ENDS: [(&str, usize, u8, &str, &[u8]); 9] = [
         NOTHING,
     ),
     (
-        "fedi add-peer s lake.example 303132333435363738396162636465666768696a6b6c6d6e6f70717273747576 \u{e9}",
+        "fedi add-peer s lake.example \
+         303132333435363738396162636465666768696a6b6c6d6e6f70717273747576 \u{e9}",
         5,
         10,
         "refused: bad address\n",
         NOTHING,
     ),
     (
-        "fedi add-peer s lake.example --relay 303132333435363738396162636465666768696a6b6c6d6e6f707172737475767 x",
+        "fedi add-peer s lake.example --relay \
+         303132333435363738396162636465666768696a6b6c6d6e6f707172737475767 x",
         5,
         10,
         "refused: bad key\n",
@@ -80,8 +86,8 @@ const ENDS: [(&str, usize, u8, &str, &[u8]); 9] = [
     ),
 ];
 
-/// Which calls of the disk fail, counted from the append's first, and which writes, and the status, what is
-/// printed, and the record that is kept.
+/// Which calls of the disk fail, counted from the append's first, and which writes, and the status,
+/// what is printed, and the record that is kept.
 const FAULTS: [(&[u64], &[u64], u8, &str, &[u8]); 5] = [
     (&[0], &[], 5, "disk fault\n", NOTHING),
     (&[3], &[], 5, "disk fault\n", NOTHING),

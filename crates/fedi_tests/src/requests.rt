@@ -8,8 +8,14 @@ use fedi_text::Moment;
 use std::alloc::{AllocError, Global};
 use std::test::Fail;
 
-const REFUSAL: &str =
-    "HTTP/1.1 401 Unauthorized\r\nDate: Sun, 06 Nov 1994 08:49:37 GMT\r\nWWW-Authenticate: Bearer\r\nContent-Type: application/json\r\nContent-Length: 20\r\nConnection: close\r\n\r\n{\"error\":\"WrongKey\"}";
+const REFUSAL: &str = "\
+    HTTP/1.1 401 Unauthorized\r\n\
+    Date: Sun, 06 Nov 1994 08:49:37 GMT\r\n\
+    WWW-Authenticate: Bearer\r\n\
+    Content-Type: application/json\r\n\
+    Content-Length: 20\r\n\
+    Connection: close\r\n\r\n\
+    {\"error\":\"WrongKey\"}";
 
 fn refusal_text(alloc: Global) -> Result<Vec<u8>, AllocError> {
     let reply = refusal_reply(Refusal::WrongKey);
@@ -145,15 +151,18 @@ const STREAMS: [(&str, &str); 8] = [
     // Bodies in chunks, with extensions and trailers, and what follows them (RFC 9112, section
     // 7.1).
     (
-        "PUT /a HTTP/1.1\nHost: a\nTransfer-Encoding: chunked\n\n3;x\r\nabc\r\n0A \t;y=\"z\"\r\n0123456789\r\n0;z\r\nA: b\r\nC:d\n\nGET /b HTTP/1.0\n\n",
+        "PUT /a HTTP/1.1\nHost: a\nTransfer-Encoding: chunked\n\n3;x\r\nabc\r\n0A \t;y=\"z\"\r\n\
+         0123456789\r\n0;z\r\nA: b\r\nC:d\n\nGET /b HTTP/1.0\n\n",
         "/a abc0123456789; /b ; End",
     ),
     (
-        "PUT /a HTTP/1.1\nHost: a\nTransfer-Encoding: chunked\n\n2\r\n\r\n\r\n1\r\nb\r\n00\r\n\nGET /b HTTP/1.0\n\n",
+        "PUT /a HTTP/1.1\nHost: a\nTransfer-Encoding: chunked\n\n2\r\n\r\n\r\n1\r\nb\r\n00\r\n\n\
+         GET /b HTTP/1.0\n\n",
         "/a \r\nb; /b ; End",
     ),
     (
-        "PUT /a HTTP/1.1\nHost: a\nTransfer-Encoding: chunked\n\n0\r\nGET /b HTTP/1.0\r\n\r\nGET /c HTTP/1.0\r\n\r\n",
+        "PUT /a HTTP/1.1\nHost: a\nTransfer-Encoding: chunked\n\n0\r\nGET /b HTTP/1.0\r\n\r\n\
+         GET /c HTTP/1.0\r\n\r\n",
         "/a ; /c ; End",
     ),
     (
@@ -179,8 +188,17 @@ fn expect_in_pieces(alloc: Global, row: &(&str, &str), size: usize) -> Result<()
 }
 
 /// Two requests, the second of them in chunks.
-const TWO: &str =
-    "POST /a HTTP/1.1\nHost: a\nContent-Length: 2\n\nhiPOST /b HTTP/1.1\nHost: a\nTransfer-Encoding: chunked\n\n2;x\r\nho\r\n0\r\nA: b\r\n\r\n";
+const TWO: &str = "\
+    POST /a HTTP/1.1\n\
+    Host: a\n\
+    Content-Length: 2\n\n\
+    hiPOST /b HTTP/1.1\n\
+    Host: a\n\
+    Transfer-Encoding: chunked\n\n\
+    2;x\r\n\
+    ho\r\n\
+    0\r\n\
+    A: b\r\n\r\n";
 
 /// What arrives of them up to the read of one byte that fails.
 fn wanted_up_to(fails: usize) -> &'static [u8] {

@@ -11,8 +11,8 @@ use fedi_outside::{
 use fedi_program::{Connection, OUT_OF_MEMORY, address_of, run_alone};
 use std::alloc::{AllocError, Global};
 
-/// What a run left: its status, what it wrote, the bytes of the disk, how many calls that was asked, and
-/// the requests that were sent to other servers, one after another.
+/// What a run left: its status, what it wrote, the bytes of the disk, how many calls that was
+/// asked, and the requests that were sent to other servers, one after another.
 #[derive(Drop)]
 pub struct Left {
     pub status: u8,

@@ -178,8 +178,12 @@ fn each_call_of_an_opening_may_fail(rt: HostRuntime) -> Result<(), Fail> {
     Ok(())
 }
 
-const FAULT: &str =
-    "HTTP/1.1 503 Service Unavailable\r\nDate: Sun, 06 Nov 1994 08:49:37 GMT\r\nContent-Type: application/json\r\nContent-Length: 23\r\n\r\n{\"error\":\"KeeperFault\"}";
+const FAULT: &str = "\
+    HTTP/1.1 503 Service Unavailable\r\n\
+    Date: Sun, 06 Nov 1994 08:49:37 GMT\r\n\
+    Content-Type: application/json\r\n\
+    Content-Length: 23\r\n\r\n\
+    {\"error\":\"KeeperFault\"}";
 
 /// Which calls of the disk fail, counted from the first after the opening, the replies to two
 /// posts, and how many records the disk has more. An append writes a record, syncs, opens its gate

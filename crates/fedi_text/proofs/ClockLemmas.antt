@@ -1,4 +1,5 @@
--- From 1970 on the calendar of `jiff` numbers the days as that of `httpdate` does, so its clock shows the date and the time of a moment.
+-- From 1970 on the calendar of `jiff` numbers the days as that of `httpdate` does, so its clock
+-- shows the date and the time of a moment.
 use Rattle.std.proofs.Common.{◌≡◌, ℕ, pos, zero, suc, ◌+◌, ◌-◌, ◌*◌, ◌/◌, ◌%◌, ◌+ℤ◌, ◌*ℤ◌, ◌<◌, ◌≤◌, unsigned_abs, length, ◌++◌, codes, false, None, refl, ap, sym, ◌∙◌, arith}
 use Rattle.httpdate.specs.Calendar.{days_in_year, days_in_month, days_of_years as http_years, days_of_months as http_months, days_from_civil as http_civil}
 use Rattle.jiff_core.specs.declared.civil.date.Date.{Date}
@@ -68,7 +69,8 @@ date_is days date bound number =
     let equal = epoch_day_injective date same (number ∙ sym numbered) in
     (equal.0, ap pos equal.1, ap pos equal.2)
 
--- and a clock of `jiff` with the nanoseconds of a second shows the date and the time of day of that second
+-- and a clock of `jiff` with the nanoseconds of a second shows the date and the time of day of that
+-- second
 pub clock_is : (n : ℕ) (clock : DateTime) → n < 253402300800 → civil_nanos clock ≡ pos n *ℤ pos 1000000000 → IsShownAs (parts_of n) clock
 unfolding parts_of
 clock_is n clock bound nanos =

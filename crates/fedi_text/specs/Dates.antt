@@ -1,5 +1,7 @@
--- The date and the time of day of a moment, as functions of its seconds since 1970 (POSIX time, without leap seconds).
-use Rattle.std.specs.Prelude.{ℕ, zero, suc, ◌+◌, ◌-◌, ◌/◌, ◌%◌, List, ◌++◌, nat_le, if◌then◌else◌, codes}
+-- The date and the time of day of a moment, as functions of its seconds since 1970 (POSIX time,
+-- without leap seconds).
+use Rattle.std.specs.Prelude.{ℕ, zero, suc, ◌+◌, ◌-◌, ◌/◌, ◌%◌, List, ◌++◌, nat_le, if◌then◌else◌}
+use Rattle.std.specs.Prelude.{codes}
 use Rattle.httpdate.specs.declared.parts.Parts.{Parts}
 use Rattle.httpdate.specs.Calendar.{days_of_years, days_of_months, weekday}
 use Rattle.httpdate.specs.Text.{two_digits, four_digits, time_of_day, imf_fixdate}
@@ -9,7 +11,8 @@ unfoldable pub greatest : (ℕ → ℕ) → ℕ → ℕ → ℕ
 greatest f x zero = 0
 greatest f x (suc n) = if nat_le (f (suc n)) x then suc n else greatest f x n
 
--- how many years since 1970 have passed, `days` after 1 January 1970: the year is the greatest whose first day is not later
+-- how many years since 1970 have passed, `days` after 1 January 1970: the year is the greatest
+-- whose first day is not later
 unfoldable pub years_before : ℕ → ℕ
 years_before days = greatest days_of_years days days
 
@@ -48,6 +51,7 @@ iso_text p =
 unfoldable pub moment_text : ℕ → List ℕ
 moment_text seconds = iso_text (parts_of seconds)
 
--- a moment as HTTP writes it: `Sun, 06 Nov 1994 08:49:37 GMT` (RFC 9110, section 5.6.7, IMF-fixdate)
+-- a moment as HTTP writes it: `Sun, 06 Nov 1994 08:49:37 GMT` (RFC 9110, section 5.6.7,
+-- IMF-fixdate)
 unfoldable pub http_date_text : ℕ → List ℕ
 http_date_text seconds = imf_fixdate (parts_of seconds)

@@ -48,7 +48,8 @@ impl Moment {
         }
     }
 
-    /// The moment this many seconds after 1970 began, or the last second of 9999 if that is earlier.
+    /// The moment this many seconds after 1970 began, or the last second of 9999 if that is
+    /// earlier.
     pub fn clamped(seconds: u64) -> Moment
         ensures { result ≡ min seconds 253_402_300_799 }
     {

@@ -1,4 +1,5 @@
--- Members: each has the id that its name gives, and no id of a member is a collection's or Public's.
+-- Members: each has the id that its name gives, and no id of a member is a collection's or
+-- Public's.
 use Rattle.std.proofs.Common.{◌≡◌, ℕ, Bool, true, false, leb, List, [], ◌∷◌, ◌++◌, length, Option, Some, None, refl, sym, ap, subst, ◌∙◌, arith, append_assoc}
 use Rattle.std.specs.Prelude.{◌&&◌, codes, slice_index}
 use Rattle.std.specs.List.{list_all, find}

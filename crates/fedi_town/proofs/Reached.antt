@@ -123,7 +123,8 @@ and_not_true : (a b : Bool) → b ≡ true → (a && not b) ≡ false
 and_not_true true b e = rw e refl
 and_not_true false b e = refl
 
--- the activity reaches this one: it is public, or this is its author, or it is a recipient and there is no Block
+-- the activity reaches this one: it is public, or this is its author, or it is a recipient and
+-- there is no Block
 pub record Reaches (t : Town) (author b : List ℕ) (x : Act) : Type 0 where
   pub is : (x.is_public ≡ true) ⊎ ((bytes_eq b author ≡ true) ⊎ (is_among b x.recipients ≡ true))
   pub free : has_block_between t b author ≡ false

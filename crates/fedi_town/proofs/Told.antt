@@ -95,7 +95,8 @@ told_quiet t x told =
       ) refl;
     }
 
--- An activity that the caller does not see, with an answer that the caller does not see, changes nothing for the caller.
+-- An activity that the caller does not see, with an answer that the caller does not see, changes
+-- nothing for the caller.
 pub told_agrees : (t : Town) (x : Act) (c : Caller) → AreGrounded t.acts → changes_nothing (deed x) ≡ true → list_any (sees t c) (with_answers t x) ≡ false → Agree (accept t x) t c
 told_agrees t x c g told unseen =
     subst (λ (u : Town). Agree u t c) (sym (accepted-told t x told)) (unseen_agree t (with_answers t x) c g (told_quiet t x told) unseen)

@@ -1,6 +1,7 @@
--- What the server makes of an activity when it accepts it: of a member's (ActivityPub, sections 6 and 6.2), and of one that
--- another server delivers (section 7).
-use Rattle.std.specs.Prelude.{ℕ, ◌+◌, true, false, ◌&&◌, ◌||◌, List, [], ◌∷◌, codes, Option, Some, None, unwrap_or, if◌then◌else◌}
+-- What the server makes of an activity when it accepts it: of a member's (ActivityPub, sections 6
+-- and 6.2), and of one that another server delivers (section 7).
+use Rattle.std.specs.Prelude.{ℕ, ◌+◌, true, false, ◌&&◌, ◌||◌, List, [], ◌∷◌, codes, Option, Some}
+use Rattle.std.specs.Prelude.{None, unwrap_or, if◌then◌else◌}
 use Rattle.fedi_address.specs.Recipients.{is_public, names}
 use Rattle.fedi_objects.specs.declared.activity.Activity.{Activity}
 use Rattle.fedi_objects.specs.declared.activity.ObjectRef.{ObjectRef}
@@ -9,7 +10,9 @@ use Rattle.fedi_objects.specs.declared.object.Object.{Object}
 use Rattle.fedi_text.specs.Dates.{moment_text}
 use Rattle.fedi_objects.specs.Forms.{is_tombstone}
 use Rattle.fedi_town.specs.declared.act.Act.{Act}
-use Rattle.fedi_town.specs.Addressing.{complete_recipients, recipients_with, original, original_recipients, is_original_public, is_original_for_followers}
+use Rattle.fedi_town.specs.Addressing.{complete_recipients, recipients_with, original}
+use Rattle.fedi_town.specs.Addressing.{original_recipients, is_original_public}
+use Rattle.fedi_town.specs.Addressing.{is_original_for_followers}
 use Rattle.fedi_town.specs.Deeds.{deed_of, is_done}
 use Rattle.fedi_town.specs.Forwarding.{forwards_of}
 use Rattle.fedi_town.specs.Ids.{actor_id, activity_id, object_id, followers_id}
@@ -19,7 +22,8 @@ use Rattle.fedi_town.specs.Towns.{Town, count_of}
 
 -- ---- a member's activity
 
--- the object of a member's Create: it gets the id of this number, the author, and the moment (ActivityPub, section 6.2)
+-- the object of a member's Create: it gets the id of this number, the author, and the moment
+-- (ActivityPub, section 6.2)
 abbrev pub complete_object : List ℕ → List ℕ → ℕ → ℕ → Object → Object
 complete_object host name number moment o = record o {
   id = Some (object_id host name number);
@@ -34,8 +38,8 @@ complete_ref host name number moment (Id iri) = Id iri
 complete_ref host name number moment (Whole o) = Whole (complete_object host name number moment o)
 complete_ref host name number moment (Changed change) = Changed change
 
--- the member's activity of this number: it gets its id, its actor, the moment, its object likewise, and whom it implies
--- (ActivityPub, section 6)
+-- the member's activity of this number: it gets its id, its actor, the moment, its object likewise,
+-- and whom it implies (ActivityPub, section 6)
 abbrev pub complete_activity : Town → List ℕ → List ℕ → ℕ → ℕ → Activity → Activity
 complete_activity t host name number moment a =
     let object = complete_ref host name number moment a.object in
@@ -44,11 +48,12 @@ complete_activity t host name number moment a =
       actor = Some (actor_id host name);
       published = Some (moment_text moment);
       object = object;
-      recipients = complete_recipients t (actor_id host name) (deed_of a.kind) (ref_id object) a.recipients;
+      recipients = complete_recipients t (actor_id host name) (deed_of a.kind)
+          (ref_id object) a.recipients;
     }
 
--- the author's activity as it is accepted, once it was completed; an Update and a Delete go to whom the Create of their
--- object went besides
+-- the author's activity as it is accepted, once it was completed; an Update and a Delete go to whom
+-- the Create of their object went besides
 abbrev pub act_by : Town → List ℕ → Option (List ℕ × List ℕ) → ℕ → Activity → Act
 act_by t author repeat moment a =
     let create = original t (deed_of a.kind) (ref_id a.object) in
@@ -61,7 +66,8 @@ act_by t author repeat moment a =
       recipients = recipients_with t author a.recipients (original_recipients create);
       forwards = [];
       is_public = is_public a.recipients || is_original_public create;
-      for_followers = names a.recipients (followers_id author) || (is_done state && is_original_for_followers create);
+      for_followers = names a.recipients (followers_id author)
+          || (is_done state && is_original_for_followers create);
       state = state;
     }
 
@@ -73,7 +79,8 @@ local_act t host name repeat a moment =
 
 -- ---- an activity of another server
 
--- a Tombstone tells its former type and when it was deleted (ActivityStreams 2.0 Vocabulary, section 3.3)
+-- a Tombstone tells its former type and when it was deleted (ActivityStreams 2.0 Vocabulary,
+-- section 3.3)
 abbrev pub complete_tombstone : ℕ → Object → Object
 complete_tombstone moment o = record o {
   former_kind = Some (unwrap_or o.former_kind (codes "Object"));
@@ -84,7 +91,8 @@ complete_tombstone moment o = record o {
 unfoldable pub receive_object : ℕ → Object → Object
 receive_object moment o = if is_tombstone o then complete_tombstone moment o else o
 
--- an object is attributed to the activity's author (ActivityStreams 2.0 Vocabulary, section 4, `attributedTo`)
+-- an object is attributed to the activity's author (ActivityStreams 2.0 Vocabulary, section 4,
+-- `attributedTo`)
 abbrev pub attribute : List ℕ → Object → Object
 attribute author o = record o { attributed_to = Some author }
 
@@ -95,7 +103,8 @@ receive_ref author moment (Id iri) = Id iri
 receive_ref author moment (Whole o) = Whole (attribute author (receive_object moment o))
 receive_ref author moment (Changed change) = Changed change
 
--- an activity of somebody elsewhere that was delivered to this member's inbox, and is new (ActivityPub, section 7)
+-- an activity of somebody elsewhere that was delivered to this member's inbox, and is new
+-- (ActivityPub, section 7)
 abbrev pub remote_act : Town → List ℕ → List ℕ → Activity → ℕ → Act
 remote_act t owner author a moment = record {
   author = author;

@@ -1,5 +1,6 @@
 -- Who gets a member's activity (ActivityPub, sections 6 and 7.1), and who is everybody (5.6).
-use Rattle.std.specs.Prelude.{ℕ, Bool, true, false, not, ◌&&◌, ◌||◌, List, [], ◌∷◌, ◌++◌, filter, Option, Some, None, option_map, option_and_then, if◌then◌else◌}
+use Rattle.std.specs.Prelude.{ℕ, Bool, true, false, not, ◌&&◌, ◌||◌, List, [], ◌∷◌, ◌++◌, filter}
+use Rattle.std.specs.Prelude.{Option, Some, None, option_map, option_and_then, if◌then◌else◌}
 use Rattle.std.specs.List.{find, flat_map}
 use Rattle.std.specs.Str.{bytes_eq}
 use Rattle.fedi_address.specs.declared.recipients.Recipients.{Recipients}
@@ -7,11 +8,14 @@ use Rattle.fedi_address.specs.Iris.{public_iri}
 use Rattle.fedi_address.specs.Recipients.{all_of, distinct, names}
 use Rattle.fedi_town.specs.declared.act.Act.{Act}
 use Rattle.fedi_town.specs.declared.deed.Deed.{Deed}
-use Rattle.fedi_town.specs.declared.deed.Deed.TheVariants.{Create, Update, Delete, Follow, Like, Announce, Block, Accept, Reject, Undo, Other}
+use Rattle.fedi_town.specs.declared.deed.Deed.TheVariants.{Create, Update, Delete, Follow, Like}
+use Rattle.fedi_town.specs.declared.deed.Deed.TheVariants.{Announce, Block, Accept, Reject, Undo}
+use Rattle.fedi_town.specs.declared.deed.Deed.TheVariants.{Other}
 use Rattle.fedi_town.specs.Deeds.{is_block}
 use Rattle.fedi_town.specs.Ids.{is_of_host, followers_id}
 use Rattle.fedi_town.specs.Objects.{maker_of}
-use Rattle.fedi_town.specs.Relations.{ref_id, has_activity_id, is_actor, has_block_between, followers}
+use Rattle.fedi_town.specs.Relations.{ref_id, has_activity_id, is_actor, has_block_between}
+use Rattle.fedi_town.specs.Relations.{followers}
 use Rattle.fedi_town.specs.Towns.{Town, deed}
 
 -- ---- recipients
@@ -25,19 +29,23 @@ is_of_town (Some host) iri = is_of_host host iri
 unfoldable pub is_nobody_here : Town → List ℕ → Bool
 is_nobody_here t iri = is_of_town t.host iri && not (is_actor t iri)
 
--- This one may get the author's activity. Public is everybody and nobody's address (ActivityPub, section 5.6), the author
--- needs no copy, what is of this host and no member's id has no inbox, and a Block keeps both sides away (6.9).
+-- This one may get the author's activity. Public is everybody and nobody's address (ActivityPub,
+-- section 5.6), the author needs no copy, what is of this host and no member's id has no inbox, and
+-- a Block keeps both sides away (6.9).
 unfoldable pub is_recipient : Town → List ℕ → List ℕ → Bool
 is_recipient t author iri =
     not (bytes_eq iri public_iri)
-    && (not (bytes_eq iri author) && (not (is_nobody_here t iri) && not (has_block_between t iri author)))
+    && (not (bytes_eq iri author)
+    && (not (is_nobody_here t iri) && not (has_block_between t iri author)))
 
--- for whom a name stands: that of the author's followers collection for the present followers, any other for itself
--- (ActivityPub, section 7.1)
+-- for whom a name stands: that of the author's followers collection for the present followers, any
+-- other for itself (ActivityPub, section 7.1)
 unfoldable pub addressees : Town → List ℕ → List ℕ → List (List ℕ)
-addressees t author iri = if bytes_eq iri (followers_id author) then followers t author else iri ∷ []
+addressees t author iri =
+    if bytes_eq iri (followers_id author) then followers t author else iri ∷ []
 
--- the recipients in the order `to`, `cc`, `bto`, `bcc`, `audience`, and then these others, each once
+-- the recipients in the order `to`, `cc`, `bto`, `bcc`, `audience`, and then these others, each
+-- once
 abbrev pub recipients_with : Town → List ℕ → Recipients → List (List ℕ) → List (List ℕ)
 recipients_with t author r others =
     distinct (filter (is_recipient t author) (flat_map (addressees t author) (all_of r) ++ others))
@@ -71,8 +79,8 @@ abbrev pub undo_recipient : Town → Option Act → Option (List ℕ)
 undo_recipient t None = None
 undo_recipient t (Some y) = relation_recipient t (deed y) (ref_id y.activity.object)
 
--- Whom an activity about this goes to although it may not name them: those whom its side effect concerns (ActivityPub,
--- sections 6.5, 6.8, 6.10, 7.6, 7.7 and 7.11).
+-- Whom an activity about this goes to although it may not name them: those whom its side effect
+-- concerns (ActivityPub, sections 6.5, 6.8, 6.10, 7.6, 7.7 and 7.11).
 unfoldable pub implied_recipient : Town → Deed → Option (List ℕ) → Option (List ℕ)
 implied_recipient t Follow id = relation_recipient t Follow id
 implied_recipient t Like id = relation_recipient t Like id
@@ -112,11 +120,14 @@ is_silent t Other id = false
 -- one more in `to`, unless it is named already or is the author
 abbrev pub with_implied : List ℕ → Option (List ℕ) → Recipients → Recipients
 with_implied author None r = r
-with_implied author (Some i) r = if names r i || bytes_eq i author then r else record r { to = r.to ++ i ∷ [] }
+with_implied author (Some i) r =
+    if names r i || bytes_eq i author then r else record r { to = r.to ++ i ∷ [] }
 
 -- whom a member's activity names once it is completed
-unfoldable pub complete_recipients : Town → List ℕ → Deed → Option (List ℕ) → Recipients → Recipients
-complete_recipients t author d id r = if is_silent t d id then no_recipients else with_implied author (implied_recipient t d id) r
+unfoldable pub complete_recipients : Town → List ℕ → Deed → Option (List ℕ) → Recipients
+    → Recipients
+complete_recipients t author d id r =
+    if is_silent t d id then no_recipients else with_implied author (implied_recipient t d id) r
 
 -- ---- whom an Update or a Delete reaches
 

@@ -14,7 +14,8 @@ member_names t = map (λ a. a.name) t.actors
 
 -- the author's keys for repeats, each with the digest and the id of its activity
 abbrev pub repeats_of : Town → List ℕ → List ((List ℕ × List ℕ) × Option (List ℕ))
-repeats_of t author = filter_map (λ x. option_map (λ r. (r, x.activity.id)) x.repeat) (filter (is_by author) t.acts)
+repeats_of t author =
+    filter_map (λ x. option_map (λ r. (r, x.activity.id)) x.repeat) (filter (is_by author) t.acts)
 
 -- a member's own: how many activities there are, the keys for repeats, and who blocks the member
 pub record SameOwn (g h : Town) (id : List ℕ) : Type 0 where

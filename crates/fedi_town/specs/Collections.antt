@@ -1,11 +1,13 @@
 -- Collections (ActivityPub, section 5) and their pages (ActivityStreams 2.0 Core, section 5).
-use Rattle.std.specs.Prelude.{ℕ, ◌*◌, ◌-◌, ◌/◌, Bool, false, ◌&&◌, List, [], filter, take, drop, reverse, Option, Some, None, option_map}
+use Rattle.std.specs.Prelude.{ℕ, ◌*◌, ◌-◌, ◌/◌, Bool, false, ◌&&◌, List, [], filter, take, drop}
+use Rattle.std.specs.Prelude.{reverse, Option, Some, None, option_map}
 use Rattle.std.specs.Str.{bytes_eq}
 use Rattle.fedi_address.specs.Recipients.{is_among}
 use Rattle.fedi_town.specs.declared.act.Act.{Act}
 use Rattle.fedi_town.specs.declared.caller.Caller.{Caller}
 use Rattle.fedi_town.specs.declared.caller.Which.{Which}
-use Rattle.fedi_town.specs.declared.caller.Which.TheVariants.{Inbox, Outbox, Followers, Following, Liked, Likes, Shares}
+use Rattle.fedi_town.specs.declared.caller.Which.TheVariants.{Inbox, Outbox, Followers, Following}
+use Rattle.fedi_town.specs.declared.caller.Which.TheVariants.{Liked, Likes, Shares}
 use Rattle.fedi_town.specs.Deeds.{is_follow, is_like, is_announce, is_accepted, is_standing}
 use Rattle.fedi_town.specs.Ids.{object_id}
 use Rattle.fedi_town.specs.Lists.{firsts}
@@ -32,8 +34,9 @@ owner_of t (Liked name) = id_of t name
 owner_of t (Likes name number) = option_map (λ host. object_id host name number) t.host
 owner_of t (Shares name number) = option_map (λ host. object_id host name number) t.host
 
--- The activity stands in this collection of the owner: what the owner got or posted, the Follows of and by the owner that
--- were accepted, the Likes by the owner and the Likes and Announces of the owner that stand.
+-- The activity stands in this collection of the owner: what the owner got or posted, the Follows of
+-- and by the owner that were accepted, the Likes by the owner and the Likes and Announces of the
+-- owner that stand.
 unfoldable pub is_item : Which → List ℕ → Act → Bool
 is_item (Inbox name) id x = is_among id x.recipients
 is_item (Outbox name) id x = is_by id x
@@ -43,7 +46,8 @@ is_item (Liked name) id x = (is_like (deed x) && is_standing x.state) && is_by i
 is_item (Likes name number) id x = (is_like (deed x) && is_standing x.state) && is_about id x
 is_item (Shares name number) id x = (is_announce (deed x) && is_standing x.state) && is_about id x
 
--- two activities of the collection stand for the same item: the same follower, or the same one that is followed
+-- two activities of the collection stand for the same item: the same follower, or the same one that
+-- is followed
 unfoldable pub is_same_item : Which → Act → Act → Bool
 is_same_item (Inbox name) x y = false
 is_same_item (Outbox name) x y = false
@@ -53,7 +57,8 @@ is_same_item (Liked name) x y = false
 is_same_item (Likes name number) x y = false
 is_same_item (Shares name number) x y = false
 
--- what of the owner's collection the caller sees, the first of each item, in the order of acceptance
+-- what of the owner's collection the caller sees, the first of each item, in the order of
+-- acceptance
 abbrev pub items : Town → Caller → Which → List ℕ → List Act
 items t c which id = firsts (is_same_item which) (filter (is_item which id) (seen t c))
 

@@ -1,12 +1,14 @@
--- What an activity does, by its type (ActivityStreams 2.0 Vocabulary, section 3.1; ActivityPub, sections 6 and 7), and what
--- its state says.
+-- What an activity does, by its type (ActivityStreams 2.0 Vocabulary, section 3.1; ActivityPub,
+-- sections 6 and 7), and what its state says.
 use Rattle.std.specs.Prelude.{Bool, true, false}
 use Rattle.fedi_objects.specs.declared.kind.Kind.{Kind}
 use Rattle.fedi_objects.specs.declared.kind.Kind.TheVariants as kinds
 use Rattle.fedi_objects.specs.declared.kind.State.{State}
 use Rattle.fedi_objects.specs.declared.kind.State.TheVariants.{Done, Pending, Accepted, Standing}
 use Rattle.fedi_town.specs.declared.deed.Deed.{Deed}
-use Rattle.fedi_town.specs.declared.deed.Deed.TheVariants.{Create, Update, Delete, Follow, Like, Announce, Block, Accept, Reject, Undo, Other}
+use Rattle.fedi_town.specs.declared.deed.Deed.TheVariants.{Create, Update, Delete, Follow, Like}
+use Rattle.fedi_town.specs.declared.deed.Deed.TheVariants.{Announce, Block, Accept, Reject, Undo}
+use Rattle.fedi_town.specs.declared.deed.Deed.TheVariants.{Other}
 
 -- what an activity of this type does
 abbrev pub deed_of : Kind → Deed

@@ -1,6 +1,8 @@
--- What an accepted activity does to earlier ones (ActivityPub, sections 6 and 7), and the Accept that follows a Follow. All
--- of it is a function of the town before the activity, so it can be made ready before the activity is kept.
-use Rattle.std.specs.Prelude.{ℕ, ◌+◌, Bool, false, ◌&&◌, List, [], ◌∷◌, ◌++◌, map, codes, Option, Some, None, option_to_list, if◌then◌else◌}
+-- What an accepted activity does to earlier ones (ActivityPub, sections 6 and 7), and the Accept
+-- that follows a Follow. All of it is a function of the town before the activity, so it can be made
+-- ready before the activity is kept.
+use Rattle.std.specs.Prelude.{ℕ, ◌+◌, Bool, false, ◌&&◌, List, [], ◌∷◌, ◌++◌, map, codes, Option}
+use Rattle.std.specs.Prelude.{Some, None, option_to_list, if◌then◌else◌}
 use Rattle.std.specs.List.{find}
 use Rattle.fedi_address.specs.declared.recipients.Recipients.{Recipients}
 use Rattle.fedi_address.specs.Recipients.{is_public}
@@ -13,7 +15,9 @@ use Rattle.fedi_town.specs.declared.act.Act.{Act}
 use Rattle.fedi_town.specs.declared.act.Actor.{Actor}
 use Rattle.fedi_town.specs.declared.addition.Acceptance.{Acceptance}
 use Rattle.fedi_town.specs.declared.deed.Deed.{Deed}
-use Rattle.fedi_town.specs.declared.deed.Deed.TheVariants.{Create, Update, Delete, Follow, Like, Announce, Block, Accept, Reject, Undo, Other}
+use Rattle.fedi_town.specs.declared.deed.Deed.TheVariants.{Create, Update, Delete, Follow, Like}
+use Rattle.fedi_town.specs.declared.deed.Deed.TheVariants.{Announce, Block, Accept, Reject, Undo}
+use Rattle.fedi_town.specs.declared.deed.Deed.TheVariants.{Other}
 use Rattle.fedi_town.specs.declared.effect.Effect.{Effect}
 use Rattle.fedi_town.specs.declared.effect.Effect.TheVariants as effects
 use Rattle.fedi_town.specs.Addressing.{act_of, recipients_with, no_recipients}
@@ -49,8 +53,10 @@ end_follow a b s y = where_passes (is_open_follow a b) (in_state s) y
 -- an earlier activity after this effect
 abbrev pub affect : Effect → Act → Act
 affect effects.Nothing y = y
-affect (effects.Update id by stamp) y = where_passes (makes id) (rewrite_act (update_object by stamp)) y
-affect (effects.Delete id kind stamp) y = where_passes (makes id) (rewrite_act (tombstone_of kind stamp)) y
+affect (effects.Update id by stamp) y =
+    where_passes (makes id) (rewrite_act (update_object by stamp)) y
+affect (effects.Delete id kind stamp) y =
+    where_passes (makes id) (rewrite_act (tombstone_of kind stamp)) y
 affect (effects.Accept id) y = where_passes (is_pending_follow id) (in_state Accepted) y
 affect (effects.EndFollows a b s) y = end_follow a b s y
 affect (effects.EndBoth a b) y = end_follow a b Undone (end_follow b a Undone y)
@@ -68,10 +74,12 @@ abbrev pub follow_ends : State → Option Act → Effect
 follow_ends s None = effects.Nothing
 follow_ends s (Some f) = pair_ends s f (ref_id f.activity.object)
 
--- the Undo of this: each Follow of its pair ends, or the one activity is taken back (ActivityPub, sections 6.10 and 7.12)
+-- the Undo of this: each Follow of its pair ends, or the one activity is taken back (ActivityPub,
+-- sections 6.10 and 7.12)
 abbrev pub undo_effect : List ℕ → Option Act → Effect
 undo_effect id None = effects.Nothing
-undo_effect id (Some z) = if is_follow (deed z) then follow_ends Undone (Some z) else effects.Undo id
+undo_effect id (Some z) =
+    if is_follow (deed z) then follow_ends Undone (Some z) else effects.Undo id
 
 -- what an activity about this id does, where its side effect happens
 abbrev pub effect_about : Town → Act → Deed → List ℕ → Effect
@@ -92,7 +100,8 @@ abbrev pub effect_with : Town → Act → Option (List ℕ) → Effect
 effect_with t x None = effects.Nothing
 effect_with t x (Some id) = effect_about t x (deed x) id
 
--- the side effect happens: that of a Block where it stands, that of any other activity where it is done
+-- the side effect happens: that of a Block where it stands, that of any other activity where it is
+-- done
 abbrev pub takes_effect : Deed → State → Bool
 takes_effect Block s = is_standing s
 takes_effect Create s = is_done s
@@ -108,7 +117,9 @@ takes_effect Other s = is_done s
 
 -- what an accepted activity does to those before it
 unfoldable pub effect_of : Town → Act → Effect
-effect_of t x = if takes_effect (deed x) x.state then effect_with t x (ref_id x.activity.object) else effects.Nothing
+effect_of t x =
+    if takes_effect (deed x) x.state then effect_with t x (ref_id x.activity.object)
+    else effects.Nothing
 
 -- ---- the Accept of a member who is not locked (ActivityPub, section 7.5)
 
@@ -137,7 +148,9 @@ accept_activity id b x = record {
 unfoldable pub accept_by : Town → List ℕ → Act → Actor → Act
 accept_by t host x member = record {
   author = member.id;
-  activity = accept_activity (activity_id host member.name (count_after t x.author member.id + 1)) member.id x;
+  activity =
+      accept_activity
+      (activity_id host member.name (count_after t x.author member.id + 1)) member.id x;
   repeat = None;
   moment = x.moment;
   recipients = recipients_with t member.id (to_one x.author) [];
@@ -161,7 +174,8 @@ followee t (Some id) = find (has_id id) t.actors
 -- the Accept that follows a Follow which is accepted
 abbrev pub answer_to : Town → Act → Option Act
 answer_to t x =
-    if is_follow (deed x) && is_accepted x.state then accept_for t.host t x (followee t (ref_id x.activity.object)) else None
+    if is_follow (deed x) && is_accepted x.state
+    then accept_for t.host t x (followee t (ref_id x.activity.object)) else None
 
 -- ---- an activity that is accepted
 
@@ -171,4 +185,5 @@ acceptance t x = record { act = x; effect = effect_of t x; answer = answer_to t 
 
 -- the town after it: the earlier ones as they are now, the activity, and its answer
 abbrev pub with_acceptance : Town → Acceptance → Town
-with_acceptance t a = record t { acts = map (affect a.effect) t.acts ++ a.act ∷ option_to_list a.answer }
+with_acceptance t a =
+    record t { acts = map (affect a.effect) t.acts ++ a.act ∷ option_to_list a.answer }

@@ -1,5 +1,6 @@
 -- To whom an activity of another server is forwarded (ActivityPub, section 7.1.2).
-use Rattle.std.specs.Prelude.{ℕ, Bool, false, not, ◌&&◌, ◌||◌, List, [], ◌++◌, map, filter, Option, Some, None, option_to_list, if◌then◌else◌}
+use Rattle.std.specs.Prelude.{ℕ, Bool, false, not, ◌&&◌, ◌||◌, List, [], ◌++◌, map, filter, Option}
+use Rattle.std.specs.Prelude.{Some, None, option_to_list, if◌then◌else◌}
 use Rattle.std.specs.List.{list_any, find, flat_map}
 use Rattle.std.specs.Str.{bytes_eq}
 use Rattle.fedi_address.specs.Iris.{host_of}
@@ -21,12 +22,14 @@ abbrev pub object_mentions : Option Object → List (List ℕ)
 object_mentions None = []
 object_mentions (Some o) = option_to_list o.in_reply_to ++ map (λ g. g.href) o.tags
 
--- what an activity refers to: by `inReplyTo`, `object`, `target` and `tag`, by those of the object that it carries, and by
--- those of the object as it is kept
+-- what an activity refers to: by `inReplyTo`, `object`, `target` and `tag`, by those of the object
+-- that it carries, and by those of the object as it is kept
 abbrev pub mentions : Town → Activity → List (List ℕ)
 mentions t a =
-    option_to_list a.in_reply_to ++ (option_to_list (ref_id a.object) ++ (option_to_list a.target ++ (map (λ g. g.href) a.tags
-    ++ (object_mentions (whole_of a.object) ++ object_mentions (object_of (maker_of t (ref_id a.object)))))))
+    option_to_list a.in_reply_to
+    ++ (option_to_list (ref_id a.object) ++ (option_to_list a.target
+    ++ (map (λ g. g.href) a.tags ++ (object_mentions (whole_of a.object)
+    ++ object_mentions (object_of (maker_of t (ref_id a.object)))))))
 
 -- the activity is a member's
 abbrev pub is_local : Town → Option Act → Bool
@@ -50,15 +53,18 @@ has_followers_at iri b = bytes_eq (followers_id b.id) iri
 -- the far followers of the member, where the member does not block the author
 abbrev pub far_followers : Town → List ℕ → Option Actor → List (List ℕ)
 far_followers t author None = []
-far_followers t author (Some b) = if blocks t b.id author then [] else filter (is_far t author) (followers t b.id)
+far_followers t author (Some b) =
+    if blocks t b.id author then [] else filter (is_far t author) (followers t b.id)
 
 -- the far followers of the member whose followers collection this is
 unfoldable pub forwards_at : Town → List ℕ → List ℕ → List (List ℕ)
 forwards_at t author iri = far_followers t author (find (has_followers_at iri) t.actors)
 
--- To whom the author's activity is forwarded, when it comes for the first time: where it refers to what is of this server,
--- to the far followers of each member whose followers it is addressed to, each once.
+-- To whom the author's activity is forwarded, when it comes for the first time: where it refers to
+-- what is of this server, to the far followers of each member whose followers it is addressed to,
+-- each once.
 unfoldable pub forwards_of : Town → List ℕ → Activity → List (List ℕ)
 forwards_of t author a =
     if list_any (is_ours t) (mentions t a)
-    then distinct (flat_map (forwards_at t author) (a.recipients.to ++ (a.recipients.cc ++ a.recipients.audience))) else []
+    then distinct (flat_map (forwards_at t author)
+    (a.recipients.to ++ (a.recipients.cc ++ a.recipients.audience))) else []

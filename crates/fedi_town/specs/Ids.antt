@@ -1,5 +1,5 @@
--- The ids of this server's actors, activities, objects and collections (ActivityPub, sections 3.1 and 5), and whose an IRI
--- is.
+-- The ids of this server's actors, activities, objects and collections (ActivityPub, sections 3.1
+-- and 5), and whose an IRI is.
 use Rattle.std.specs.Prelude.{ℕ, Bool, ◌&&◌, List, ◌++◌, codes, decimal, nat_eq}
 use Rattle.std.specs.List.{starts_with}
 use Rattle.std.specs.Str.{bytes_eq}

@@ -1,19 +1,22 @@
 -- Which entries may come next, and which histories are legal.
-use Rattle.std.specs.Prelude.{ℕ, Bool, true, false, not, ◌&&◌, ◌||◌, if◌then◌else◌, IsTrue, List, [], ◌∷◌, filter, Option, Some, None, is_some, is_none}
+use Rattle.std.specs.Prelude.{ℕ, Bool, true, false, not, ◌&&◌, ◌||◌, if◌then◌else◌, IsTrue, List}
+use Rattle.std.specs.Prelude.{[], ◌∷◌, filter, Option, Some, None, is_some, is_none}
 use Rattle.std.specs.List.{list_any, find}
 use Rattle.std.specs.Str.{bytes_eq}
 use Rattle.fedi_address.specs.Hosts.{is_host_text}
 use Rattle.fedi_address.specs.Names.{is_name}
 use Rattle.fedi_objects.specs.declared.activity.Activity.{Activity}
 use Rattle.fedi_objects.specs.declared.entry.Entry.{Entry}
-use Rattle.fedi_objects.specs.declared.entry.Entry.TheVariants.{Hosted, Made, PeerSet, Local, Remote, Tried}
+use Rattle.fedi_objects.specs.declared.entry.Entry.TheVariants.{Hosted, Made, PeerSet, Local}
+use Rattle.fedi_objects.specs.declared.entry.Entry.TheVariants.{Remote, Tried}
 use Rattle.fedi_objects.specs.Limits.{is_address}
 use Rattle.fedi_town.specs.declared.act.Act.{Act}
 use Rattle.fedi_town.specs.declared.act.Peer.{Peer}
 use Rattle.fedi_town.specs.declared.caller.Caller.{Caller}
 use Rattle.fedi_town.specs.declared.caller.Caller.TheVariants as callers
 use Rattle.fedi_town.specs.declared.command_fault.CommandFault.{CommandFault}
-use Rattle.fedi_town.specs.declared.command_fault.CommandFault.TheVariants.{NameTaken, KeyTaken, HostTaken, BadAddress}
+use Rattle.fedi_town.specs.declared.command_fault.CommandFault.TheVariants.{NameTaken, KeyTaken}
+use Rattle.fedi_town.specs.declared.command_fault.CommandFault.TheVariants.{HostTaken, BadAddress}
 use Rattle.fedi_town.specs.Origins.{is_foreign, has_inbox}
 use Rattle.fedi_town.specs.Histories.{step}
 use Rattle.fedi_town.specs.Queues.{is_due}
@@ -33,13 +36,14 @@ abbrev pub is_new_key : List Act → Option (List ℕ × List ℕ) → Bool
 is_new_key acts None = true
 is_new_key acts (Some r) = not (list_any (λ x. has_key r.0 x.repeat) acts)
 
--- the post is a member's; its shape is that of a post; none of the author's activities was posted under the same key; and it
--- breaks no rule
+-- the post is a member's; its shape is that of a post; none of the author's activities was posted
+-- under the same key; and it breaks no rule
 abbrev pub may_post : Town → List ℕ → Option (List ℕ × List ℕ) → Activity → Option (List ℕ) → Bool
 may_post t name repeat a None = false
 may_post t name repeat a (Some author) =
     is_posted author a
-    && (is_new_key (filter (is_by author) t.acts) repeat && is_none (broken_post t (callers.Actor name) author a))
+    && (is_new_key (filter (is_by author) t.acts) repeat
+    && is_none (broken_post t (callers.Actor name) author a))
 
 -- ---- a delivery
 
@@ -66,32 +70,38 @@ is_other_host (Some own) host = not (bytes_eq host own)
 abbrev pub is_taken_host : Town → List ℕ → Bool
 is_taken_host t host = not (is_other_host t.host host) || list_any (has_host host) t.peers
 
--- The first rule that an operator's command breaks: the server is set up once; a member's name and key are new; a peer is
--- another host that is new, and is reached at an address. Other entries are no commands and break none.
+-- The first rule that an operator's command breaks: the server is set up once; a member's name and
+-- key are new; a peer is another host that is new, and is reached at an address. Other entries are
+-- no commands and break none.
 abbrev pub broken_command : Town → Entry → Option CommandFault
 broken_command t (Hosted host moment) = if is_none t.host then None else Some HostTaken
 broken_command t (Made name digest locked moment) =
     if list_any (has_name name) t.actors then Some NameTaken else (
     if list_any (has_digest digest) t.actors then Some KeyTaken else None)
 broken_command t (PeerSet host key address relay moment) =
-    if is_taken_host t host then Some HostTaken else (if is_address address then None else Some BadAddress)
+    if is_taken_host t host then Some HostTaken
+    else (if is_address address then None else Some BadAddress)
 broken_command t (Local name repeat a moment) = None
 broken_command t (Remote peer inbox a moment) = None
 broken_command t (Tried activity recipient came moment) = None
 
 -- ---- entries
 
--- The server is set up for a host, first. A member's name is one, and a peer's host. None of these breaks the rules of
--- commands. A post and a delivery may come as said above. An attempt is made when it is due.
+-- The server is set up for a host, first. A member's name is one, and a peer's host. None of these
+-- breaks the rules of commands. A post and a delivery may come as said above. An attempt is made
+-- when it is due.
 abbrev pub is_admissible : Town → Entry → Bool
-is_admissible t (Hosted host moment) = is_none (broken_command t (Hosted host moment)) && is_host_text host
+is_admissible t (Hosted host moment) =
+    is_none (broken_command t (Hosted host moment)) && is_host_text host
 is_admissible t (Made name digest locked moment) =
     (is_some t.host && is_name name) && is_none (broken_command t (Made name digest locked moment))
 is_admissible t (PeerSet host key address relay moment) =
-    (is_some t.host && is_host_text host) && is_none (broken_command t (PeerSet host key address relay moment))
+    (is_some t.host && is_host_text host)
+    && is_none (broken_command t (PeerSet host key address relay moment))
 is_admissible t (Local name repeat a moment) = may_post t name repeat a (id_of t name)
 is_admissible t (Remote peer inbox a moment) =
-    is_delivered a && (may_deliver t (find (has_host peer) t.peers) a && lacks t a.id (id_of t inbox))
+    is_delivered a
+    && (may_deliver t (find (has_host peer) t.peers) a && lacks t a.id (id_of t inbox))
 is_admissible t (Tried activity recipient came moment) = is_due t activity recipient moment
 
 -- ---- histories

@@ -1,5 +1,7 @@
--- Objects: who made them, and how they stand after an Update or a Delete (ActivityPub, sections 6.2 to 6.4 and 7.2 to 7.4).
-use Rattle.std.specs.Prelude.{ℕ, Bool, true, false, ◌&&◌, List, [], Option, Some, None, option_and_then}
+-- Objects: who made them, and how they stand after an Update or a Delete (ActivityPub, sections 6.2
+-- to 6.4 and 7.2 to 7.4).
+use Rattle.std.specs.Prelude.{ℕ, Bool, true, false, ◌&&◌, List, [], Option, Some, None}
+use Rattle.std.specs.Prelude.{option_and_then}
 use Rattle.std.specs.List.{find}
 use Rattle.fedi_objects.specs.declared.activity.ObjectRef.{ObjectRef}
 use Rattle.fedi_objects.specs.declared.activity.ObjectRef.TheVariants.{Nothing, Id, Whole, Changed}
@@ -57,11 +59,13 @@ is_tombstone_in (Some o) = is_tombstone o
 
 -- it made an object, which was deleted
 unfoldable pub is_deleted : Act → Bool
-is_deleted x = (is_create (deed x) && is_done x.state) && is_tombstone_in (whole_of x.activity.object)
+is_deleted x =
+    (is_create (deed x) && is_done x.state) && is_tombstone_in (whole_of x.activity.object)
 
 -- ---- what becomes of an object
 
--- a property after a client's Update: kept, removed by null, or replaced (ActivityPub, section 6.3.1)
+-- a property after a client's Update: kept, removed by null, or replaced (ActivityPub, section
+-- 6.3.1)
 abbrev pub edit : {A : Type 0} → Edit A → Option A → Option A
 edit edits.Keep old = old
 edit edits.Remove old = None
@@ -106,11 +110,20 @@ update_object (Changed c) stamp o = change_object c stamp o
 
 -- an object without the properties that an Update may set (ActivityPub, section 6.3)
 abbrev pub emptied : Object → Object
-emptied o = record o { content = None; summary = None; name = None; url = None; in_reply_to = None; tags = [] }
+emptied o = record o {
+  content = None;
+  summary = None;
+  name = None;
+  url = None;
+  in_reply_to = None;
+  tags = [];
+}
 
--- what is left of an object after a Delete (ActivityPub, section 6.4; ActivityStreams 2.0 Vocabulary, section 3.3)
+-- what is left of an object after a Delete (ActivityPub, section 6.4; ActivityStreams 2.0
+-- Vocabulary, section 3.3)
 unfoldable pub tombstone_of : List ℕ → List ℕ → Object → Object
-tombstone_of kind stamp o = record (emptied o) { kind = kind; former_kind = Some o.kind; deleted = Some stamp }
+tombstone_of kind stamp o =
+    record (emptied o) { kind = kind; former_kind = Some o.kind; deleted = Some stamp }
 
 -- what an activity carries, after a change of the object
 abbrev pub rewrite_ref : (Object → Object) → ObjectRef → ObjectRef
@@ -121,4 +134,5 @@ rewrite_ref f (Changed c) = Changed c
 
 -- the activity, after a change of its object
 unfoldable pub rewrite_act : (Object → Object) → Act → Act
-rewrite_act f x = record x { activity = record x.activity { object = rewrite_ref f x.activity.object } }
+rewrite_act f x =
+    record x { activity = record x.activity { object = rewrite_ref f x.activity.object } }

@@ -1,5 +1,5 @@
--- Which activities another server may deliver (ActivityPub, section 7): by hosts alone, so that no answer tells the server
--- of anything else.
+-- Which activities another server may deliver (ActivityPub, section 7): by hosts alone, so that no
+-- answer tells the server of anything else.
 use Rattle.std.specs.Prelude.{ℕ, Bool, true, false, not, ◌&&◌, ◌||◌, List, Option, Some, None}
 use Rattle.std.specs.List.{list_any}
 use Rattle.std.specs.Str.{bytes_eq}
@@ -26,22 +26,26 @@ abbrev pub is_another : List ℕ → Option (List ℕ) → Bool
 is_another author None = false
 is_another author (Some id) = not (bytes_eq id author)
 
--- an object that the activity carries is of another host than the author, or is attributed to another
+-- an object that the activity carries is of another host than the author, or is attributed to
+-- another
 abbrev pub is_of_another : List ℕ → ObjectRef → Bool
 is_of_another author Nothing = false
 is_of_another author (Id iri) = false
 is_of_another author (Whole o) = not (is_beside author o.id) || is_another author o.attributed_to
 is_of_another author (Changed change) = false
 
--- The peer may not deliver it: its actor is of this host; or of a host that is not the peer's, and the peer is no relay; or
--- its id or its object is not of its actor's host.
-abbrev pub is_foreign : Option (List ℕ) → Peer → Option (List ℕ) → Option (List ℕ) → ObjectRef → Bool
+-- The peer may not deliver it: its actor is of this host; or of a host that is not the peer's, and
+-- the peer is no relay; or its id or its object is not of its actor's host.
+abbrev pub is_foreign : Option (List ℕ) → Peer → Option (List ℕ) → Option (List ℕ)
+    → ObjectRef → Bool
 is_foreign host peer None id object = true
 is_foreign host peer (Some actor) id object =
     is_at host actor
-    || ((not (bytes_eq (host_of actor) peer.host) && not peer.relay) || (not (is_beside actor id) || is_of_another actor object))
+    || ((not (bytes_eq (host_of actor) peer.host) && not peer.relay)
+    || (not (is_beside actor id) || is_of_another actor object))
 
 -- the activity of this id goes to this owner's inbox already
 abbrev pub has_inbox : Town → Option (List ℕ) → List ℕ → Bool
 has_inbox t None owner = true
-has_inbox t (Some id) owner = list_any (λ x. has_activity_id id x && is_among owner x.recipients) t.acts
+has_inbox t (Some id) owner =
+    list_any (λ x. has_activity_id id x && is_among owner x.recipients) t.acts

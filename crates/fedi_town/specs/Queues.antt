@@ -1,5 +1,6 @@
 -- What is to be delivered (ActivityPub, section 7.1), and when.
-use Rattle.std.specs.Prelude.{ℕ, ◌+◌, ◌*◌, ◌^◌, ◌==◌, Bool, false, ◌&&◌, ◌||◌, nat_le, nat_lt, List, Option, map, filter, if◌then◌else◌}
+use Rattle.std.specs.Prelude.{ℕ, ◌+◌, ◌*◌, ◌^◌, ◌==◌, Bool, false, ◌&&◌, ◌||◌, nat_le, nat_lt, List}
+use Rattle.std.specs.Prelude.{Option, map, filter, if◌then◌else◌}
 use Rattle.std.specs.List.{list_any, fold, flat_map}
 use Rattle.std.specs.Str.{bytes_eq}
 use Rattle.fedi_address.specs.Iris.{host_of}
@@ -27,7 +28,8 @@ step_outcome Post status = if nat_le 200 status && nat_lt status 300 then Delive
 
 -- whoever is not found or gone gets no further attempt (RFC 9110, sections 15.5.5 and 15.5.11)
 abbrev pub status_outcome : Sent → ℕ → Outcome
-status_outcome sent status = if status == 404 || status == 410 then GivenUp else step_outcome sent status
+status_outcome sent status =
+    if status == 404 || status == 410 then GivenUp else step_outcome sent status
 
 -- what came of one request
 abbrev pub request_outcome : Sent → What → Outcome
@@ -47,9 +49,11 @@ pub data Progress : Type 0 where
   Due : ℕ → ℕ → Progress
   Ended : ℕ → Progress
 
--- The next attempt is due 60, 120, 240, 480, 960, 1920 and 3840 seconds after the one before it. The eighth is the last.
+-- The next attempt is due 60, 120, 240, 480, 960, 1920 and 3840 seconds after the one before it.
+-- The eighth is the last.
 abbrev pub next_attempt : ℕ → ℕ → Progress
-next_attempt before moment = if before + 1 == 8 then Ended (before + 1) else Due (before + 1) (moment + 60 * 2 ^ before)
+next_attempt before moment =
+    if before + 1 == 8 then Ended (before + 1) else Due (before + 1) (moment + 60 * 2 ^ before)
 
 -- after one more attempt at this moment
 abbrev pub after_outcome : ℕ → ℕ → Outcome → Progress
@@ -68,12 +72,13 @@ is_of_pair id recipient a = bytes_eq a.activity id && bytes_eq a.recipient recip
 
 -- how a delivery stands whose activity was accepted at this moment: first it is due from then on
 unfoldable pub progress_of : Town → List ℕ → List ℕ → ℕ → Progress
-progress_of t id recipient moment = fold after_attempt (Due 0 moment) (filter (is_of_pair id recipient) t.attempts)
+progress_of t id recipient moment =
+    fold after_attempt (Due 0 moment) (filter (is_of_pair id recipient) t.attempts)
 
 -- ---- the queue
 
--- to whom this server sends the activity: a member's to its recipients, any other to those to whom it is forwarded
--- (ActivityPub, section 7.1.2)
+-- to whom this server sends the activity: a member's to its recipients, any other to those to whom
+-- it is forwarded (ActivityPub, section 7.1.2)
 unfoldable pub sends : Town → Act → List (List ℕ)
 sends t x = if is_of_town t.host x.author then x.recipients else x.forwards
 
@@ -112,13 +117,16 @@ is_due_at moment (Ended attempts) = false
 
 -- the delivery is of the activity with this id, to this recipient, and due at this moment
 unfoldable pub is_due_delivery : List ℕ → List ℕ → ℕ → Delivery → Bool
-is_due_delivery id recipient moment d = is_id id d.activity && (bytes_eq d.recipient recipient && is_due_at moment d.progress)
+is_due_delivery id recipient moment d =
+    is_id id d.activity && (bytes_eq d.recipient recipient && is_due_at moment d.progress)
 
--- the activity has this id, goes to this recipient at a peer, and the delivery is due at this moment
+-- the activity has this id, goes to this recipient at a peer, and the delivery is due at this
+-- moment
 unfoldable pub is_due_in : Town → List ℕ → List ℕ → ℕ → Act → Bool
 is_due_in t id recipient moment x =
     has_activity_id id x
-    && (is_among recipient (sends t x) && (is_at_peer t recipient && is_due_at moment (progress_of t id recipient x.moment)))
+    && (is_among recipient (sends t x)
+    && (is_at_peer t recipient && is_due_at moment (progress_of t id recipient x.moment)))
 
 -- the delivery of this activity to this recipient is due at this moment
 abbrev pub is_due : Town → List ℕ → List ℕ → ℕ → Bool

@@ -1,7 +1,33 @@
 -- The number of each reason for a refusal.
 use Rattle.std.specs.Prelude.{ℕ}
 use Rattle.fedi_town.specs.declared.refusal.Refusal.{Refusal}
-use Rattle.fedi_town.specs.declared.refusal.Refusal.TheVariants.{BadHead, BadBody, BadQuery, NoKey, WrongKey, WrongMac, NotOwner, Blocked, NotOrigin, NotPublic, NotFound, WrongMethod, KeyReused, NotStanding, Gone, NoLength, TooLong, WrongType, BadShape, HeadTooLong, NoCoding, ActorFull, KeeperFault, Memory, JournalFull}
+use Rattle.fedi_town.specs.declared.refusal.Refusal.TheVariants.{
+  BadHead,
+  BadBody,
+  BadQuery,
+  NoKey,
+  WrongKey,
+  WrongMac,
+  NotOwner,
+  Blocked,
+  NotOrigin,
+  NotPublic,
+  NotFound,
+  WrongMethod,
+  KeyReused,
+  NotStanding,
+  Gone,
+  NoLength,
+  TooLong,
+  WrongType,
+  BadShape,
+  HeadTooLong,
+  NoCoding,
+  ActorFull,
+  KeeperFault,
+  Memory,
+  JournalFull,
+}
 
 -- the number of each reason
 abbrev pub number_of : Refusal → ℕ

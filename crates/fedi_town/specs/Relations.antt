@@ -1,4 +1,5 @@
--- Who follows whom and who blocks whom (ActivityPub, sections 6.5 and 6.9), and what an activity is about.
+-- Who follows whom and who blocks whom (ActivityPub, sections 6.5 and 6.9), and what an activity is
+-- about.
 use Rattle.std.specs.Prelude.{ℕ, Bool, false, ◌&&◌, ◌||◌, List, map, filter, Option, Some, None}
 use Rattle.std.specs.List.{list_any}
 use Rattle.std.specs.Str.{bytes_eq}

@@ -1,5 +1,7 @@
--- An object, replayed: what the activities made and changed, one after the other, each as it was accepted.
-use Rattle.std.specs.Prelude.{ℕ, Bool, ◌&&◌, List, [], ◌∷◌, ◌++◌, Option, Some, None, option_to_list, codes, if◌then◌else◌}
+-- An object, replayed: what the activities made and changed, one after the other, each as it was
+-- accepted.
+use Rattle.std.specs.Prelude.{ℕ, Bool, ◌&&◌, List, [], ◌∷◌, ◌++◌, Option, Some, None}
+use Rattle.std.specs.Prelude.{option_to_list, codes, if◌then◌else◌}
 use Rattle.std.specs.List.{fold}
 use Rattle.fedi_objects.specs.declared.entry.Entry.{Entry}
 use Rattle.fedi_objects.specs.declared.object.Object.{Object}
@@ -44,11 +46,13 @@ updates id x = (is_update (deed x) && is_done x.state) && is_about id x
 unfoldable pub deletes : List ℕ → Act → Bool
 deletes id x = (is_delete (deed x) && is_done x.state) && is_about id x
 
--- the object of this id after one more activity, where there was none: a Create that is done makes it
+-- the object of this id after one more activity, where there was none: a Create that is done makes
+-- it
 abbrev pub first_form : List ℕ → Act → Option Object
 first_form id x = if makes id x then whole_of x.activity.object else None
 
--- where there was one: an Update that is done changes it, and a Delete that is done leaves a Tombstone
+-- where there was one: an Update that is done changes it, and a Delete that is done leaves a
+-- Tombstone
 abbrev pub next_form : List ℕ → Act → Object → Object
 next_form id x o =
     if updates id x then update_object x.activity.object (moment_text x.moment) o else (

@@ -1,15 +1,18 @@
--- The rules that a member's post may break (ActivityPub, section 6), by what its author sees. What the author does not see
--- is missing to the author (section 3.2).
+-- The rules that a member's post may break (ActivityPub, section 6), by what its author sees. What
+-- the author does not see is missing to the author (section 3.2).
 use Rattle.std.specs.Prelude.{ℕ, Bool, true, false, not, ◌&&◌, List, Option, Some, None}
 use Rattle.std.specs.List.{find}
 use Rattle.fedi_town.specs.declared.refusal.Refusal.{Refusal}
-use Rattle.fedi_town.specs.declared.refusal.Refusal.TheVariants.{NotFound, NotOwner, Gone, Blocked, NotPublic, NotStanding, ActorFull}
+use Rattle.fedi_town.specs.declared.refusal.Refusal.TheVariants.{NotFound, NotOwner, Gone, Blocked}
+use Rattle.fedi_town.specs.declared.refusal.Refusal.TheVariants.{NotPublic, NotStanding, ActorFull}
 use Rattle.fedi_objects.specs.declared.activity.Activity.{Activity}
 use Rattle.fedi_objects.specs.declared.kind.State.{State}
 use Rattle.fedi_town.specs.declared.act.Act.{Act}
 use Rattle.fedi_town.specs.declared.caller.Caller.{Caller}
 use Rattle.fedi_town.specs.declared.deed.Deed.{Deed}
-use Rattle.fedi_town.specs.declared.deed.Deed.TheVariants.{Create, Update, Delete, Follow, Like, Announce, Block, Accept, Reject, Undo, Other}
+use Rattle.fedi_town.specs.declared.deed.Deed.TheVariants.{Create, Update, Delete, Follow, Like}
+use Rattle.fedi_town.specs.declared.deed.Deed.TheVariants.{Announce, Block, Accept, Reject, Undo}
+use Rattle.fedi_town.specs.declared.deed.Deed.TheVariants.{Other}
 use Rattle.fedi_town.specs.Addressing.{is_nobody_here}
 use Rattle.fedi_town.specs.Deeds.{deed_of, is_follow, is_open, is_pending}
 use Rattle.fedi_town.specs.Objects.{makes, is_deleted}
@@ -26,7 +29,8 @@ refuse_if false r rest = rest
 -- an Update or a Delete: of the author's own object, which was not deleted
 abbrev pub change_rule : List ℕ → Option Act → Option Refusal
 change_rule author None = Some NotFound
-change_rule author (Some m) = refuse_if (not (is_by author m)) NotOwner (refuse_if (is_deleted m) Gone None)
+change_rule author (Some m) =
+    refuse_if (not (is_by author m)) NotOwner (refuse_if (is_deleted m) Gone None)
 
 -- a Like: of an object that was not deleted
 abbrev pub like_rule : Option Act → Option Refusal
@@ -41,12 +45,15 @@ announce_rule (Some m) = refuse_if (is_deleted m) Gone (refuse_if (not m.is_publ
 -- an Accept or a Reject: of a Follow of the author that is in such a state
 abbrev pub answer_rule : (State → Bool) → List ℕ → Option Act → Option Refusal
 answer_rule p author None = Some NotFound
-answer_rule p author (Some f) = refuse_if (not (is_follow (deed f) && is_about author f)) NotFound (refuse_if (not (p f.state)) NotStanding None)
+answer_rule p author (Some f) =
+    refuse_if (not (is_follow (deed f) && is_about author f)) NotFound
+    (refuse_if (not (p f.state)) NotStanding None)
 
 -- an Undo: of the author's own activity, which can be undone
 abbrev pub undo_rule : List ℕ → Option Act → Option Refusal
 undo_rule author None = Some NotFound
-undo_rule author (Some y) = refuse_if (not (is_by author y)) NotOwner (refuse_if (not (can_be_undone y)) NotStanding None)
+undo_rule author (Some y) =
+    refuse_if (not (is_by author y)) NotOwner (refuse_if (not (can_be_undone y)) NotStanding None)
 
 -- the activity that made the object of this id, where the caller sees it
 abbrev pub seen_maker : Town → Caller → List ℕ → Option Act
@@ -62,7 +69,8 @@ broken_about t c author Create id = None
 broken_about t c author Update id = change_rule author (seen_maker t c id)
 broken_about t c author Delete id = change_rule author (seen_maker t c id)
 broken_about t c author Follow id =
-    refuse_if (is_nobody_here t id) NotFound (refuse_if (has_block_between t author id) Blocked None)
+    refuse_if (is_nobody_here t id) NotFound
+    (refuse_if (has_block_between t author id) Blocked None)
 broken_about t c author Like id = like_rule (seen_maker t c id)
 broken_about t c author Announce id = announce_rule (seen_maker t c id)
 broken_about t c author Block id = refuse_if (is_nobody_here t id) NotFound None
@@ -89,4 +97,5 @@ first_broken (Some r) second = Some r
 
 -- the first rule that the author's post breaks, the last of which is that there is a number for it
 abbrev pub broken_post : Town → Caller → List ℕ → Activity → Option Refusal
-broken_post t c author a = first_broken (broken t c author (deed_of a.kind) (ref_id a.object)) (number_rule t author)
+broken_post t c author a =
+    first_broken (broken t c author (deed_of a.kind) (ref_id a.object)) (number_rule t author)

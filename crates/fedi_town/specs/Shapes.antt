@@ -1,5 +1,7 @@
--- The shape in which reading leaves an activity: of a client's post (ActivityPub, section 6), and of a delivery (section 7).
-use Rattle.std.specs.Prelude.{ℕ, Bool, true, false, not, ◌&&◌, ◌||◌, nat_le, List, [], ◌∷◌, length, Option, Some, None, is_some, is_none}
+-- The shape in which reading leaves an activity: of a client's post (ActivityPub, section 6), and
+-- of a delivery (section 7).
+use Rattle.std.specs.Prelude.{ℕ, Bool, true, false, not, ◌&&◌, ◌||◌, nat_le, List, [], ◌∷◌, length}
+use Rattle.std.specs.Prelude.{Option, Some, None, is_some, is_none}
 use Rattle.std.specs.List.{list_all}
 use Rattle.std.specs.Cmp.Lexicographic.{pointwise}
 use Rattle.std.specs.Str.{bytes_eq}
@@ -39,7 +41,8 @@ is_each_once (name ∷ others) = not (is_among name others) && is_each_once othe
 abbrev pub are_addressed : ℕ → Recipients → Bool
 are_addressed limit r =
     nat_le (length (all_of r)) limit
-    && (is_each_once r.to && (is_each_once r.cc && (is_each_once r.bto && (is_each_once r.bcc && is_each_once r.audience))))
+    && (is_each_once r.to && (is_each_once r.cc
+    && (is_each_once r.bto && (is_each_once r.bcc && is_each_once r.audience))))
 
 -- each of the five fields names the same, in the same order (ActivityPub, section 6.2)
 abbrev pub are_same : Recipients → Recipients → Bool
@@ -50,14 +53,17 @@ are_same a b =
 -- what an object says keeps the limits
 abbrev pub is_object_within : ℕ → Object → Bool
 is_object_within limit o =
-    (is_type o.kind && (is_none_or is_text o.content && (is_none_or is_text o.summary && is_none_or is_text o.name)))
-    && ((is_none_or is_date o.published && (is_none_or is_date o.updated && is_none_or is_date o.deleted))
+    (is_type o.kind && (is_none_or is_text o.content
+    && (is_none_or is_text o.summary && is_none_or is_text o.name)))
+    && ((is_none_or is_date o.published
+    && (is_none_or is_date o.updated && is_none_or is_date o.deleted))
     && (is_none_or is_type o.former_kind && (are_tags o.tags && are_addressed limit o.recipients)))
 
 -- what an activity says keeps the limits
 abbrev pub is_activity_within : ℕ → Activity → Bool
 is_activity_within limit a =
-    ((is_none_or is_text a.content && (is_none_or is_text a.summary && is_none_or is_text a.name)) && is_none_or is_date a.published)
+    ((is_none_or is_text a.content && (is_none_or is_text a.summary && is_none_or is_text a.name))
+    && is_none_or is_date a.published)
     && (are_tags a.tags && are_addressed limit a.recipients)
 
 -- the text that a change gives keeps the limit
@@ -74,41 +80,49 @@ is_tags_edit (Give tags) = are_tags tags
 
 -- what a change gives keeps the limits
 abbrev pub is_change_within : Change → Bool
-is_change_within c = is_text_edit c.content && (is_text_edit c.summary && (is_text_edit c.name && is_tags_edit c.tags))
+is_change_within c =
+    is_text_edit c.content
+    && (is_text_edit c.summary && (is_text_edit c.name && is_tags_edit c.tags))
 
 -- ---- a client's post
 
 -- what the server sets is not there, and nobody makes a Tombstone (ActivityPub, section 6.2)
 abbrev pub is_unset_object : Object → Bool
 is_unset_object o =
-    (is_none o.id && (is_none o.attributed_to && (is_none o.published && (is_none o.updated && (is_none o.former_kind && is_none o.deleted)))))
+    (is_none o.id && (is_none o.attributed_to && (is_none o.published
+    && (is_none o.updated && (is_none o.former_kind && is_none o.deleted)))))
     && not (is_tombstone o)
 
--- a Create carries its object, which names the same as the Create (ActivityPub, section 6.2); an Update a change (6.3.1);
--- each other activity with a side effect at most an id, and it has one
+-- a Create carries its object, which names the same as the Create (ActivityPub, section 6.2); an
+-- Update a change (6.3.1); each other activity with a side effect at most an id, and it has one
 abbrev pub is_posted_ref : Deed → Recipients → ObjectRef → Bool
 is_posted_ref d r Nothing = is_other d
 is_posted_ref d r (Id iri) = not (is_create d) && not (is_update d)
-is_posted_ref d r (Whole o) = is_create d && (is_unset_object o && (is_object_within 500 o && are_same r o.recipients))
+is_posted_ref d r (Whole o) =
+    is_create d && (is_unset_object o && (is_object_within 500 o && are_same r o.recipients))
 is_posted_ref d r (Changed c) = is_update d && is_change_within c
 
 -- the author follows or blocks the author
 abbrev pub is_self_target : List ℕ → Activity → Bool
-is_self_target author a = (is_follow (deed_of a.kind) || is_block (deed_of a.kind)) && is_id author (ref_id a.object)
+is_self_target author a =
+    (is_follow (deed_of a.kind) || is_block (deed_of a.kind)) && is_id author (ref_id a.object)
 
 -- an activity as the author's post leaves it
 abbrev pub is_posted : List ℕ → Activity → Bool
 is_posted author a =
     (is_none a.id && (is_none a.actor && is_none a.published))
-    && (is_activity_within 500 a && (is_posted_ref (deed_of a.kind) a.recipients a.object && not (is_self_target author a)))
+    && (is_activity_within 500 a
+    && (is_posted_ref (deed_of a.kind) a.recipients a.object && not (is_self_target author a)))
 
 -- ---- a delivery
 
--- a Create and an Update may carry an object, which has an id; one more recipient may have been implied
+-- a Create and an Update may carry an object, which has an id; one more recipient may have been
+-- implied
 abbrev pub is_delivered_ref : Deed → ObjectRef → Bool
 is_delivered_ref d Nothing = is_other d
 is_delivered_ref d (Id iri) = true
-is_delivered_ref d (Whole o) = (is_create d || is_update d) && (is_some o.id && is_object_within 501 o)
+is_delivered_ref d (Whole o) =
+    (is_create d || is_update d) && (is_some o.id && is_object_within 501 o)
 is_delivered_ref d (Changed change) = false
 
 -- the actor follows or blocks the actor
@@ -120,4 +134,5 @@ is_actor_target (Some actor) a = is_self_target actor a
 abbrev pub is_delivered : Activity → Bool
 is_delivered a =
     (is_some a.id && is_some a.actor)
-    && (is_activity_within 501 a && (is_delivered_ref (deed_of a.kind) a.object && not (is_actor_target a.actor a)))
+    && (is_activity_within 501 a
+    && (is_delivered_ref (deed_of a.kind) a.object && not (is_actor_target a.actor a)))

@@ -25,13 +25,17 @@ ref_to (Some id) = Id id
 unfoldable pub present_object : Town → Act → Option Object
 present_object t x =
     if is_create (deed x) && is_done x.state then whole_of x.activity.object else (
-    if is_update (deed x) && is_done x.state then object_of (maker_of t (ref_id x.activity.object)) else None)
+    if is_update (deed x) && is_done x.state
+    then object_of (maker_of t (ref_id x.activity.object)) else None)
 
--- a Tombstone by its four members: `id`, `type`, `formerType` and `deleted` (ActivityStreams 2.0 Vocabulary, section 3.3)
+-- a Tombstone by its four members: `id`, `type`, `formerType` and `deleted` (ActivityStreams 2.0
+-- Vocabulary, section 3.3)
 abbrev pub bare_tombstone : Object → Object
-bare_tombstone o = record (object_of_kind o.kind) { id = o.id; former_kind = o.former_kind; deleted = o.deleted }
+bare_tombstone o =
+    record (object_of_kind o.kind) { id = o.id; former_kind = o.former_kind; deleted = o.deleted }
 
--- an object as it is shown: a Tombstone by these members alone, any other without `bto` and `bcc` (ActivityPub, section 6)
+-- an object as it is shown: a Tombstone by these members alone, any other without `bto` and `bcc`
+-- (ActivityPub, section 6)
 abbrev pub shown_object : Object → Object
 shown_object o = if is_tombstone o then bare_tombstone o else stripped_object o
 
@@ -46,7 +50,8 @@ shown_ref t x = object_or_id (present_object t x) (ref_id x.activity.object)
 
 -- the activity without `bto` and `bcc` (ActivityPub, section 6), with its object as it stands now
 unfoldable pub shown_activity : Town → Act → Activity
-shown_activity t x = record x.activity { recipients = stripped x.activity.recipients; object = shown_ref t x }
+shown_activity t x =
+    record x.activity { recipients = stripped x.activity.recipients; object = shown_ref t x }
 
 -- the caller's own id
 abbrev pub id_of_caller : Town → Caller → Option (List ℕ)
@@ -59,8 +64,8 @@ abbrev pub own_among : Option (List ℕ) → List (List ℕ) → List (List ℕ)
 own_among None recipients = []
 own_among (Some id) recipients = if is_among id recipients then id ∷ [] else []
 
--- What the caller is shown: the activity again, of which the parts that no caller may know are empty. So each test on an
--- activity is a test on what is shown of it too.
+-- What the caller is shown: the activity again, of which the parts that no caller may know are
+-- empty. So each test on an activity is a test on what is shown of it too.
 unfoldable pub sight_of : Town → Caller → Act → Act
 sight_of t c x = record {
   author = x.author;

@@ -1,15 +1,21 @@
--- The state in which an activity is accepted: whether its side effect happens (ActivityPub, sections 6 and 7).
-use Rattle.std.specs.Prelude.{ℕ, Bool, true, false, not, ◌&&◌, ◌||◌, List, Option, Some, None, if◌then◌else◌}
+-- The state in which an activity is accepted: whether its side effect happens (ActivityPub,
+-- sections 6 and 7).
+use Rattle.std.specs.Prelude.{ℕ, Bool, true, false, not, ◌&&◌, ◌||◌, List, Option, Some, None}
+use Rattle.std.specs.Prelude.{if◌then◌else◌}
 use Rattle.std.specs.List.{list_any}
 use Rattle.std.specs.Str.{bytes_eq}
 use Rattle.fedi_objects.specs.declared.activity.ObjectRef.{ObjectRef}
 use Rattle.fedi_objects.specs.declared.kind.State.{State}
-use Rattle.fedi_objects.specs.declared.kind.State.TheVariants.{Plain, Done, Pending, Accepted, Rejected, Standing}
+use Rattle.fedi_objects.specs.declared.kind.State.TheVariants.{Plain, Done, Pending, Accepted}
+use Rattle.fedi_objects.specs.declared.kind.State.TheVariants.{Rejected, Standing}
 use Rattle.fedi_town.specs.declared.act.Act.{Act}
 use Rattle.fedi_town.specs.declared.deed.Deed.{Deed}
-use Rattle.fedi_town.specs.declared.deed.Deed.TheVariants.{Create, Update, Delete, Follow, Like, Announce, Block, Accept, Reject, Undo, Other}
+use Rattle.fedi_town.specs.declared.deed.Deed.TheVariants.{Create, Update, Delete, Follow, Like}
+use Rattle.fedi_town.specs.declared.deed.Deed.TheVariants.{Announce, Block, Accept, Reject, Undo}
+use Rattle.fedi_town.specs.declared.deed.Deed.TheVariants.{Other}
 use Rattle.fedi_town.specs.Addressing.{act_of}
-use Rattle.fedi_town.specs.Deeds.{is_follow, is_like, is_announce, is_block, is_open, is_pending, is_standing}
+use Rattle.fedi_town.specs.Deeds.{is_follow, is_like, is_announce, is_block, is_open, is_pending}
+use Rattle.fedi_town.specs.Deeds.{is_standing}
 use Rattle.fedi_town.specs.Objects.{makes, maker, is_deleted, is_whole}
 use Rattle.fedi_town.specs.Relations.{ref_id, is_about, has_block_between, is_actor, blocks}
 use Rattle.fedi_town.specs.Seeing.{sees_as}
@@ -43,7 +49,8 @@ is_like_of a id x = (is_like (deed x) && is_standing x.state) && (is_by a x && i
 
 -- an Announce of this by a that stands
 unfoldable pub is_announce_of : List ℕ → List ℕ → Act → Bool
-is_announce_of a id x = (is_announce (deed x) && is_standing x.state) && (is_by a x && is_about id x)
+is_announce_of a id x =
+    (is_announce (deed x) && is_standing x.state) && (is_by a x && is_about id x)
 
 -- ---- Follows
 
@@ -55,8 +62,8 @@ has_room t author b = has_next (count_after t author b)
 unfoldable pub is_locked : Town → List ℕ → Bool
 is_locked t b = list_any (λ a. has_id b a && a.locked) t.actors
 
--- What becomes of a Follow of this member: a Block refuses it, and else it is accepted at once, where the member is not
--- locked and has room for the Accept (ActivityPub, section 7.5).
+-- What becomes of a Follow of this member: a Block refuses it, and else it is accepted at once,
+-- where the member is not locked and has room for the Accept (ActivityPub, section 7.5).
 unfoldable pub follow_state : Town → List ℕ → List ℕ → State
 follow_state t author b =
     if has_block_between t author b then Rejected else (
@@ -69,7 +76,8 @@ is_follow_for p author (Some f) = (is_follow (deed f) && p f.state) && is_about 
 
 -- ---- what may be taken back
 
--- a Follow that waits or was accepted, or a Like, an Announce or a Block that stands (ActivityPub, section 6.10)
+-- a Follow that waits or was accepted, or a Like, an Announce or a Block that stands (ActivityPub,
+-- section 6.10)
 unfoldable pub can_be_undone : Act → Bool
 can_be_undone x =
     (is_follow (deed x) && is_open x.state)
@@ -82,22 +90,30 @@ is_own_undoable author (Some x) = is_by author x && can_be_undone x
 
 -- ---- the table
 
--- The state of the author's activity about this id. `local` says that the author is a member, and `full` that the activity
--- carries the object.
+-- The state of the author's activity about this id. `local` says that the author is a member, and
+-- `full` that the activity carries the object.
 abbrev pub state_about : Town → Bool → List ℕ → Deed → Bool → List ℕ → State
-state_about t local author Create full id = only_where (full && not (list_any (makes id) t.acts)) Done
-state_about t local author Update full id = only_where ((local || full) && is_own_live author (maker t id)) Done
+state_about t local author Create full id =
+    only_where (full && not (list_any (makes id) t.acts)) Done
+state_about t local author Update full id =
+    only_where ((local || full) && is_own_live author (maker t id)) Done
 state_about t local author Delete full id = only_where (is_own_live author (maker t id)) Done
-state_about t local author Follow full id = if is_actor t id then follow_state t author id else only_where local Pending
+state_about t local author Follow full id =
+    if is_actor t id then follow_state t author id else only_where local Pending
 state_about t local author Like full id =
-    only_where (is_live_to t author (maker t id) && not (list_any (is_like_of author id) t.acts)) Standing
+    only_where
+    (is_live_to t author (maker t id) && not (list_any (is_like_of author id) t.acts)) Standing
 state_about t local author Announce full id =
     only_where (is_live_to t author (maker t id)
     && (is_public_act (maker t id) && not (list_any (is_announce_of author id) t.acts))) Standing
-state_about t local author Block full id = only_where (not (blocks t author id) && not (bytes_eq id author)) Standing
-state_about t local author Accept full id = only_where (is_follow_for is_pending author (act_of t (Some id))) Done
-state_about t local author Reject full id = only_where (is_follow_for is_open author (act_of t (Some id))) Done
-state_about t local author Undo full id = only_where (is_own_undoable author (act_of t (Some id))) Done
+state_about t local author Block full id =
+    only_where (not (blocks t author id) && not (bytes_eq id author)) Standing
+state_about t local author Accept full id =
+    only_where (is_follow_for is_pending author (act_of t (Some id))) Done
+state_about t local author Reject full id =
+    only_where (is_follow_for is_open author (act_of t (Some id))) Done
+state_about t local author Undo full id =
+    only_where (is_own_undoable author (act_of t (Some id))) Done
 state_about t local author Other full id = Plain
 
 -- an activity that is about nothing has no side effect

@@ -1,5 +1,6 @@
 -- What the entries of a history so far have made.
-use Rattle.std.specs.Prelude.{ℕ, ◌+◌, Bool, nat_lt, List, [], filter, length, Option, None, option_map, if◌then◌else◌}
+use Rattle.std.specs.Prelude.{ℕ, ◌+◌, Bool, nat_lt, List, [], filter, length, Option, None}
+use Rattle.std.specs.Prelude.{option_map, if◌then◌else◌}
 use Rattle.std.specs.List.{find}
 use Rattle.std.specs.Str.{bytes_eq}
 use Rattle.fedi_town.specs.declared.act.Act.{Act}
@@ -9,8 +10,9 @@ use Rattle.fedi_town.specs.declared.act.Peer.{Peer}
 use Rattle.fedi_town.specs.declared.deed.Deed.{Deed}
 use Rattle.fedi_town.specs.Deeds.{deed_of}
 
--- the host of the server, once it was set up; its members and its peers in the order in which they were made; the
--- activities in the order in which they were accepted first; and the attempts to deliver in order
+-- the host of the server, once it was set up; its members and its peers in the order in which they
+-- were made; the activities in the order in which they were accepted first; and the attempts to
+-- deliver in order
 pub record Town : Type 0 where
   pub host : Option (List ℕ)
   pub actors : List Actor

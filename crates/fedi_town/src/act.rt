@@ -36,15 +36,15 @@ pub struct Peer {
 pub struct Act {
     /// The id of its author.
     pub author: Iri,
-    /// The activity with all that the server completed. The object of a Create that made one is that
-    /// object as it stands now.
+    /// The activity with all that the server completed. The object of a Create that made one is
+    /// that object as it stands now.
     pub activity: Boxed<Activity>,
     /// The key under which a repeat is known, and the digest of the posted body.
     pub repeat: Option<(RepeatKey, [u8; 32])>,
     /// When it was accepted.
     pub moment: Moment,
-    /// To whom it goes (ActivityPub, section 7.1); of an activity from elsewhere, to whose inboxes it
-    /// was delivered.
+    /// To whom it goes (ActivityPub, section 7.1); of an activity from elsewhere, to whose inboxes
+    /// it was delivered.
     pub recipients: Items<Iri>,
     /// To whom an activity from elsewhere is forwarded (ActivityPub, section 7.1.2).
     pub forwards: Items<Iri>,

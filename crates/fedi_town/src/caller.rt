@@ -13,8 +13,8 @@ pub enum Caller {
     Peer(Host),
 }
 
-/// A collection (ActivityPub, section 5): of a member, or of the object that the member's activity of
-/// the given number made.
+/// A collection (ActivityPub, section 5): of a member, or of the object that the member's activity
+/// of the given number made.
 #[derive(Drop)]
 pub enum Which {
     /// What was delivered to the member (ActivityPub, section 5.2).

@@ -5,8 +5,8 @@ ghost use Rattle.fedi_town.specs.Deeds.{deed_of};
 
 use fedi_objects::Kind;
 
-/// What an activity does, by its type: the types with side effects (ActivityPub, sections 6 and 7), and
-/// all others as one.
+/// What an activity does, by its type: the types with side effects (ActivityPub, sections 6 and 7),
+/// and all others as one.
 #[derive(Clone, Copy, Debug)]
 pub enum Deed {
     /// Makes an object.

@@ -1,5 +1,5 @@
-//! What an accepted activity changes in earlier ones. The values own all that the change needs, so that
-//! it can be made ready before the activity is kept, and made without memory afterwards.
+//! What an accepted activity changes in earlier ones. The values own all that the change needs, so
+//! that it can be made ready before the activity is kept, and made without memory afterwards.
 
 use fedi_address::Iri;
 use fedi_objects::{ObjectRef, State};

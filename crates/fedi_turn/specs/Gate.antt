@@ -43,24 +43,35 @@ module _ {I : Type 0} where
 module _ {V I : Type 0} (list : V → List I) (base : V → List ℕ) where
   -- what each seat of the gate knows, if this is the first content
   abbrev pub facts_of : Content V I → GateFacts I
-  facts_of k = record { record_id = k.writer; seats = (writer_in k.writer.views).count; start = (writer_in k.writer.views).start; base = base k.value }
+  facts_of k = record {
+    record_id = k.writer;
+    seats = (writer_in k.writer.views).count;
+    start = (writer_in k.writer.views).start;
+    base = base k.value;
+  }
 
   -- a value at home, and its writer between two turns
   abbrev pub IsHome : GateFacts I → Content V I → Type 0
   IsHome v k =
-      (k.writer.table_id ≡ v.record_id.table_id) × (k.writer.views ≡ Writer (idle_writer (list k.value) v.start v.seats) ∷ []) × (base k.value ≡ v.base)
+      (k.writer.table_id ≡ v.record_id.table_id)
+      × (k.writer.views ≡ Writer (idle_writer (list k.value) v.start v.seats) ∷ [])
+      × (base k.value ≡ v.base)
 
-  -- the rule of the gate: where the word is 1 the slot has a value that is at home, and each seat knows the same
+  -- the rule of the gate: where the word is 1 the slot has a value that is at home, and each seat
+  -- knows the same
   abbrev pub IsGate : GateFacts I → State (Option (Content V I)) (GateView I) → Type 0
   IsGate v s =
-      (slice_index s.words 0 ≡ 1 → (k : Content V I) × (get_elem? s.homes 0 ≡ some (some (Some k))) × IsHome v k)
+      (slice_index s.words 0 ≡ 1
+      → (k : Content V I) × (get_elem? s.homes 0 ≡ some (some (Some k))) × IsHome v k)
       × ((j : ℕ) (u : GateView I) → get_elem? s.views j ≡ some u → (u ≡ NoFacts) ⊎ (u ≡ Facts v))
 
   -- what a try to take the value out tells: where the word was 1, the seat has the slot
-  abbrev pub TakesOut : Step (Option (Content V I)) → Me (Option (Content V I)) (GateView I) → ℕ → Me (Option (Content V I)) (GateView I) → Type 0
+  abbrev pub TakesOut : Step (Option (Content V I)) → Me (Option (Content V I)) (GateView I) → ℕ
+      → Me (Option (Content V I)) (GateView I) → Type 0
   TakesOut st me found after =
       (after.0 ≡ me.0) × (found ≢ 1 → after.1 ≡ me.1)
-      × (found ≡ 1 → (k : Content V I) × (after.1 ≡ (0, Some k) ∷ me.1) × ((v : GateFacts I) → me.0 ≡ Facts v → IsHome v k))
+      × (found ≡ 1 → (k : Content V I) × (after.1 ≡ (0, Some k) ∷ me.1)
+      × ((v : GateFacts I) → me.0 ≡ Facts v → IsHome v k))
 
 -- the step of one who puts the value back: the rest of what the seat holds stays
 abbrev pub PutsBack : {S I : Type 0} → Step S → Me S (GateView I) → ℕ → Me S (GateView I) → Type 0

@@ -15,7 +15,8 @@ module _ {I : Type 0} where
 
   -- the writer between two turns
   abbrev pub idle_writer : List I → List I → ℕ → WriterView I
-  idle_writer xs start count = record { list = xs; start = start; count = count; carried = []; turn = xs }
+  idle_writer xs start count =
+      record { list = xs; start = start; count = count; carried = []; turn = xs }
 
   -- the writer of a new lock, once it gave out this many numbers
   abbrev pub new_writer : List I → ℕ → View I
@@ -83,11 +84,15 @@ module _ {I : Type 0} where
   return_right (Writer w) = Reader (reader_view (first_number w.carried) w.list)
 
   -- what an append of items tells
-  abbrev pub Appends : List I → Step (Unit {0}) → Me (Unit {0}) (View I) → ℕ → Me (Unit {0}) (View I) → Type 0
-  Appends items st me found after = (after.1 ≡ me.1) × ((w : WriterView I) → me.0 ≡ Writer w → after.0 ≡ Writer (add_items w items))
+  abbrev pub Appends : List I → Step (Unit {0}) → Me (Unit {0}) (View I) → ℕ
+      → Me (Unit {0}) (View I) → Type 0
+  Appends items st me found after =
+      (after.1 ≡ me.1)
+      × ((w : WriterView I) → me.0 ≡ Writer w → after.0 ≡ Writer (add_items w items))
 
   -- the writer's seat goes from one view to the next
-  abbrev pub Becomes : (WriterView I → WriterView I) → Me (Unit {0}) (View I) → Me (Unit {0}) (View I) → Type 0
+  abbrev pub Becomes : (WriterView I → WriterView I) → Me (Unit {0}) (View I)
+      → Me (Unit {0}) (View I) → Type 0
   Becomes f old new = (w : WriterView I) → old.0 ≡ Writer w → new ≡ (Writer (f w), [])
 
   -- the seat is the writer's
@@ -100,11 +105,14 @@ module _ {I : Type 0} where
 
   -- the second seat is a reader's, and the first one's may take it in
   abbrev pub MayJoin : Me (Unit {0}) (View I) → Me (Unit {0}) (View I) → Type 0
-  MayJoin me his = (w : WriterView I) × (r : ReaderView I) × (me ≡ (Writer w, [])) × (his ≡ (Reader r, [])) × (w.list ≡ w.turn)
+  MayJoin me his =
+      (w : WriterView I) × (r : ReaderView I) × (me ≡ (Writer w, [])) × (his ≡ (Reader r, []))
+      × (w.list ≡ w.turn)
 
   -- the writer carries one reader
   abbrev pub CarriesOne : Me (Unit {0}) (View I) → Type 0
-  CarriesOne me = (w : WriterView I) × (r : ReaderView I) × (me ≡ (Writer w, [])) × (w.carried ≡ r ∷ [])
+  CarriesOne me =
+      (w : WriterView I) × (r : ReaderView I) × (me ≡ (Writer w, [])) × (w.carried ≡ r ∷ [])
 
   -- no two have one number
   abbrev pub AreApart : List (ReaderView I) → Type 0
@@ -112,7 +120,8 @@ module _ {I : Type 0} where
   AreApart (r ∷ rs) = All (λ (s : ReaderView I). s.number ≢ r.number) rs × AreApart rs
 
 module _ {I : Type 0} (name : I → Option ℕ) where
-  -- a list continues what the pass n has seen: it begins with that, and each later item names another pass
+  -- a list continues what the pass n has seen: it begins with that, and each later item names
+  -- another pass
   abbrev pub Continues : ℕ → List I → List I → Type 0
   Continues n seen xs = (rest : List I) × (xs ≡ seen ++ rest) × All (λ x. name x ≢ Some n) rest
 
@@ -122,24 +131,32 @@ module _ {I : Type 0} (name : I → Option ℕ) where
 
   -- each item past the first ones names a pass below the count
   abbrev pub NamesBelow : ℕ → List I → List I → Type 0
-  NamesBelow count start xs = (rest : List I) × (xs ≡ start ++ rest) × All (λ x. (n : ℕ) × (n < count) × (name x ≡ Some n)) rest
+  NamesBelow count start xs =
+      (rest : List I) × (xs ≡ start ++ rest)
+      × All (λ x. (n : ℕ) × (n < count) × (name x ≡ Some n)) rest
 
   -- each item past the turn's list names the one number that is carried
   abbrev pub NamesCarried : List (ReaderView I) → List I → List I → Type 0
   NamesCarried carried turn xs =
-      (added : List I) × (xs ≡ turn ++ added) × All (λ x. (r : ReaderView I) × (carried ≡ r ∷ []) × (name x ≡ Some r.number)) added
+      (added : List I) × (xs ≡ turn ++ added)
+      × All (λ x. (r : ReaderView I) × (carried ≡ r ∷ []) × (name x ≡ Some r.number)) added
 
   -- the writer carries one reader, and these items name its number
   abbrev pub MayAppend : List I → Me (Unit {0}) (View I) → Type 0
-  MayAppend items me = (w : WriterView I) × (r : ReaderView I) × (me ≡ (Writer w, [])) × (w.carried ≡ r ∷ []) × All (λ x. name x ≡ Some r.number) items
+  MayAppend items me =
+      (w : WriterView I) × (r : ReaderView I) × (me ≡ (Writer w, [])) × (w.carried ≡ r ∷ [])
+      × All (λ x. name x ≡ Some r.number) items
 
   -- the writer carries one reader, and its list may grow to this one
   abbrev pub MayGrow : List I → Me (Unit {0}) (View I) → Type 0
-  MayGrow xs me = (w : WriterView I) × (r : ReaderView I) × (me ≡ (Writer w, [])) × (w.carried ≡ r ∷ []) × GrowsBy r.number w.list xs
+  MayGrow xs me =
+      (w : WriterView I) × (r : ReaderView I) × (me ≡ (Writer w, [])) × (w.carried ≡ r ∷ [])
+      × GrowsBy r.number w.list xs
 
   -- what the rule says of the writer's own view
   pub record IsOrdered (w : WriterView I) : Type 0 where
-    pub each_carried : All (λ (r : ReaderView I). (r.number < w.count) × Continues r.number r.list w.turn) w.carried
+    pub each_carried : All (λ (r : ReaderView I). (r.number < w.count)
+        × Continues r.number r.list w.turn) w.carried
     pub apart : AreApart w.carried
     pub past : NamesCarried w.carried w.turn w.list
     pub below : NamesBelow w.count w.start w.list
@@ -147,7 +164,8 @@ module _ {I : Type 0} (name : I → Option ℕ) where
   -- what the rule says of the seat j: each number has one place
   abbrev pub Fits : WriterView I → ℕ → (ℕ → ℕ) → ℕ → View I → Type 0
   Fits w at place j Nothing = Unit {0}
-  Fits w at place j (Reader r) = (place r.number ≡ j) × (r.number < w.count) × Continues r.number r.list w.list
+  Fits w at place j (Reader r) =
+      (place r.number ≡ j) × (r.number < w.count) × Continues r.number r.list w.list
   Fits w at place j (Writer v) = (j ≡ at) × (v ≡ w)
 
   -- the rule where the seat `at` is the writer's

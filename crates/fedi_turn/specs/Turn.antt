@@ -1,5 +1,6 @@
 -- What a clause says of a lock, of its passes and of the value during a turn.
-use Rattle.std.specs.Prelude.{◌≡◌, ◌<◌, ℕ, length, slice_index_or, List, [], ◌∷◌, ◌++◌, All, Contains, Some}
+use Rattle.std.specs.Prelude.{◌≡◌, ◌<◌, ℕ, length, slice_index_or, List, [], ◌∷◌, ◌++◌, All}
+use Rattle.std.specs.Prelude.{Contains, Some}
 use Rattle.atomic_table.specs.Seated.{TableId}
 use Rattle.fedi_turn.specs.declared.record.ReaderView.{ReaderView}
 use Rattle.fedi_turn.specs.declared.record.View.TheVariants.{Reader, Writer}
@@ -36,7 +37,8 @@ module _ {I : Type 0} where
 
   -- a reader's seat of the record, the k-th that was drawn, for a pass that has seen xs
   abbrev pub IsReader : TableId → List I → ℕ → Pass I → Type 0
-  IsReader log xs k p = (p.reader.table_id ≡ log) × (p.reader.views ≡ Reader (reader_view k xs) ∷ []) × (p.number ≡ k)
+  IsReader log xs k p =
+      (p.reader.table_id ≡ log) × (p.reader.views ≡ Reader (reader_view k xs) ∷ []) × (p.number ≡ k)
 
   -- and each of these passes has such a seat, the k-th the k-th
   abbrev pub AreReaders : TableId → List I → List (Pass I) → Type 0
@@ -56,7 +58,9 @@ module _ {I : Type 0} where
 
   -- the pass is idle, and of the lock with these tables
   abbrev pub IsIdleAt : TableId → TableId → GateFacts I → Pass I → Type 0
-  IsIdleAt gate log v p = (p.gate.table_id ≡ gate) × (p.gate.views ≡ Facts v ∷ []) × (p.reader.table_id ≡ log) × (p.reader.views ≡ Reader (view_of p) ∷ [])
+  IsIdleAt gate log v p =
+      (p.gate.table_id ≡ gate) × (p.gate.views ≡ Facts v ∷ []) × (p.reader.table_id ≡ log)
+      × (p.reader.views ≡ Reader (view_of p) ∷ [])
 
 module _ {V I : Type 0} (g : Ghosts V I) where
   -- what each seat of the gate knows
@@ -78,10 +82,13 @@ module _ {V I : Type 0} (g : Ghosts V I) where
   -- the pass is of this lock and at turn, and this is what it took
   abbrev pub IsTurn : TurnLock V I → Pass I → Held V I → Type 0
   IsTurn l p h =
-      (h.gate.table_id ≡ l.gate.shared.table_id) × (h.gate.me ≡ inside (gate_facts l)) × (h.writer.table_id ≡ l.log.shared.table_id)
-      × ((seen : List I) × (h.writer.views ≡ Writer (take_in (idle_writer (turn_list h) (start_of l) (gate_facts l).seats) (reader_view p.number seen)) ∷ []))
+      (h.gate.table_id ≡ l.gate.shared.table_id) × (h.gate.me ≡ inside (gate_facts l))
+      × (h.writer.table_id ≡ l.log.shared.table_id)
+      × ((seen : List I) × (h.writer.views ≡ Writer (take_in (idle_writer (turn_list h) (start_of l)
+      (gate_facts l).seats) (reader_view p.number seen)) ∷ []))
 
-  -- each pass is idle, has its index as its number, and has seen the list that the lock was made with
+  -- each pass is idle, has its index as its number, and has seen the list that the lock was made
+  -- with
   abbrev pub AreNew : TurnLock V I → List (Pass I) → Type 0
   AreNew l ps = Each (λ k p. IsIdle l p × (p.number ≡ k) × (seen_of p ≡ start_of l)) ps
 
@@ -91,7 +98,9 @@ module _ {V I : Type 0} (g : Ghosts V I) where
 
   -- each item past the list that the lock was made with names one of these passes
   abbrev pub NamesOneOf : TurnLock V I → List (Pass I) → List I → Type 0
-  NamesOneOf l ps xs = (rest : List I) × (xs ≡ start_of l ++ rest) × All (λ x. (p : Pass I) × Contains ps p × (g.name x ≡ Some p.number)) rest
+  NamesOneOf l ps xs =
+      (rest : List I) × (xs ≡ start_of l ++ rest)
+      × All (λ x. (p : Pass I) × Contains ps p × (g.name x ≡ Some p.number)) rest
 
 -- how many passes the lock was made with
 abbrev pub seats_of : {V I : Type 0} → TurnLock V I → ℕ

@@ -1,7 +1,8 @@
 //! How a lock is closed: the value comes back once all its passes are there.
 ghost use Rattle.std.specs.Prelude.{◌≡◌, ◌<◌, ◌↔◌, All, map, vec_len, IfOk, IfErr, IsErr};
 ghost use Rattle.fedi_turn.specs.Record.{take_in, take_in_all, Becomes, MayCarry};
-ghost use Rattle.fedi_turn.specs.Turn.{base_of, seats_of, view_of, ContinuesEach, IsIdle, NamesOneOf};
+ghost use Rattle.fedi_turn.specs.Turn.{base_of, seats_of, view_of, ContinuesEach, IsIdle};
+ghost use Rattle.fedi_turn.specs.Turn.{NamesOneOf};
 
 use crate::gate::{Content, GateSeat, spend_seat, wait_turn};
 use crate::grows::Grows;
@@ -53,9 +54,9 @@ fn carry_all<V: Grows>(
 }
 
 impl<V: Grows> TurnLock<V> {
-    /// Closes the lock and hands the value back, given its passes, each idle. It waits for the value as `take` does. The
-    /// value's list begins with all that each pass has seen, and each item past the list of `new` names one of them. Takes no
-    /// memory.
+    /// Closes the lock and hands the value back, given its passes, each idle. It waits for the
+    /// value as `take` does. The value's list begins with all that each pass has seen, and each
+    /// item past the list of `new` names one of them. Takes no memory.
     ///
     /// If there are fewer passes than `new` gave, the lock and the passes come back as they were.
     pub fn close<R: Wait>(

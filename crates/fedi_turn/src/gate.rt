@@ -1,4 +1,5 @@
-//! The gate: a table with one word and one slot. The word is `HOME` while the value lies in the slot.
+//! The gate: a table with one word and one slot. The word is `HOME` while the value lies in the
+//! slot.
 ghost use Rattle.std.specs.Prelude.{◌≡◌, ◌∷◌, [], IfSome, IfNone};
 ghost use Rattle.fedi_turn.specs.Gate.{facts_of, inside, outside, IsGateSize, IsHome};
 
@@ -21,7 +22,8 @@ const OUT: u64 = 0;
 // The value is out, and a caller may be parked, so that the next `put_value` wakes one.
 const AWAITED: u64 = 2;
 
-// How often a caller looks for the value before it parks: for about a microsecond, or some where the processor's pause is long.
+// How often a caller looks for the value before it parks: for about a microsecond, or some where
+// the processor's pause is long.
 const LOOKS: u32 = 100;
 
 /// What lies in the slot: the value with the writer of the record.

@@ -1,9 +1,10 @@
-//! A lock for a value that stands for a growing list. Each pass of the lock knows a beginning of that list, and the value of
-//! its next turn goes on from there.
+//! A lock for a value that stands for a growing list. Each pass of the lock knows a beginning of
+//! that list, and the value of its next turn goes on from there.
 //!
-//! Callers take turns: [`TurnLock::take`] waits for the value, [`TurnLock::give`] ends the turn. Two tables of `atomic_table`
-//! carry the proof. The gate (`gate.rt`) keeps callers out: its slot holds the value between two turns. The record (`record.rt`)
-//! keeps what each pass has seen, and is there for the proof alone: no running code reads its word.
+//! Callers take turns: [`TurnLock::take`] waits for the value, [`TurnLock::give`] ends the turn.
+//! Two tables of `atomic_table` carry the proof. The gate (`gate.rt`) keeps callers out: its slot
+//! holds the value between two turns. The record (`record.rt`) keeps what each pass has seen, and
+//! is there for the proof alone: no running code reads its word.
 #![tactic(auto)]
 
 mod closing;

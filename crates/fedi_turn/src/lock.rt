@@ -9,8 +9,9 @@ use atomic_table::{Badge, Seat};
 
 /// A value that one caller at a time has, each by a pass of the lock.
 ///
-/// What it promises, it promises of calls that return. That a turn comes, that turns come in the order in which callers
-/// asked, and how long one waits, nothing promises: a caller that finds the value there takes it, though others wait.
+/// What it promises, it promises of calls that return. That a turn comes, that turns come in the
+/// order in which callers asked, and how long one waits, nothing promises: a caller that finds the
+/// value there takes it, though others wait.
 #[derive(Drop)]
 pub struct TurnLock<V: Grows> {
     pub(crate) gate: GateTable<V>,
@@ -21,8 +22,10 @@ pub struct TurnLock<V: Grows> {
     ghost count: { ((writer_in gate.shared.key.value.writer.views).count ≡ seats) × (0 < seats) },
 }
 
-/// A caller's token of a lock whose list has items `I`. Contracts say whether it is idle or at turn.
-// While it is idle it has a seat of the gate and a reader's seat of the record; at turn both are blank.
+/// A caller's token of a lock whose list has items `I`. Contracts say whether it is idle or at
+/// turn.
+// While it is idle it has a seat of the gate and a reader's seat of the record; at turn both are
+// blank.
 #[derive(Drop)]
 pub struct Pass<I> {
     pub(crate) gate: Badge<GateView<I>>,

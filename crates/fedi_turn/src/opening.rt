@@ -1,9 +1,11 @@
-//! How a lock is made with its passes. The value moves only once all memory is there, and each failure hands it back.
+//! How a lock is made with its passes. The value moves only once all memory is there, and each
+//! failure hands it back.
 ghost use Rattle.std.specs.Prelude.{◌≡◌, ◌<◌, [], ◌∷◌, length, vec_len, IfOk, IfErr, OnOk};
 ghost use Rattle.fedi_turn.specs.declared.gate.GateView.TheVariants.{Facts};
 ghost use Rattle.fedi_turn.specs.Record.{new_writer};
 ghost use Rattle.fedi_turn.specs.Gate.{facts_of, list_in, outside, IsGateSize, IsHome};
-ghost use Rattle.fedi_turn.specs.Turn.{base_of, seats_of, start_of, AreNew, AreReaders, AreSame, Each, HasGate, IsSamePass};
+ghost use Rattle.fedi_turn.specs.Turn.{base_of, seats_of, start_of, AreNew, AreReaders, AreSame};
+ghost use Rattle.fedi_turn.specs.Turn.{Each, HasGate, IsSamePass};
 
 use crate::gate::{Content, GateSeat, GateShared, GateTable, HOME, another_seat};
 use crate::grows::Grows;
@@ -124,8 +126,8 @@ fn admit_all<V: Grows>(gate: &GateShared<V>, mut seat: GateSeat<V>, passes: &mut
 }
 
 impl<V: Grows> TurnLock<V> {
-    /// A lock around the value, and as many idle passes, numbered from 0, each of which has seen the value's list. At least
-    /// one pass. The value comes back only if it is out of memory.
+    /// A lock around the value, and as many idle passes, numbered from 0, each of which has seen
+    /// the value's list. At least one pass. The value comes back only if it is out of memory.
     pub fn new(alloc: Global, value: V, seats: u64) -> Result<(TurnLock<V>, Vec<Pass<V::Item>>), V>
         requires { 0 < seats }
         ensures base { IfOk result (λ r. base_of V.Grows r.0 ≡ V.base value) }

@@ -1,8 +1,11 @@
-//! The record of what each pass has seen: a table with one word and no slot, which is there for the proof.
+//! The record of what each pass has seen: a table with one word and no slot, which is there for the
+//! proof.
 ghost use Rattle.std.specs.Prelude.{◌≡◌, List, []};
 ghost use Rattle.fedi_turn.specs.declared.record.View.TheVariants.{Writer};
 ghost use Rattle.fedi_turn.specs.declared.record.WriterView.{WriterView};
-ghost use Rattle.fedi_turn.specs.Record.{add_items, carry_both, draw_left, draw_right, return_left, return_right, set_list, Becomes, CarriesOne, IsOrdered, IsWriter, MayAppend, MayGrow, MayJoin};
+ghost use Rattle.fedi_turn.specs.Record.{add_items, carry_both, draw_left, draw_right, return_left};
+ghost use Rattle.fedi_turn.specs.Record.{return_right, set_list, Becomes, CarriesOne, IsOrdered};
+ghost use Rattle.fedi_turn.specs.Record.{IsWriter, MayAppend, MayGrow, MayJoin};
 
 use crate::grows::Grows;
 use atomic_table::{Join, Play, Seat, Shared, Split, Table, TableRule};
@@ -17,8 +20,8 @@ pub struct ReaderView<I> {
     pub list: LinkedList<I>,
 }
 
-/// What the one writer knows: the list, the list of a new lock, the count of numbers given out, what it carries, and the list
-/// at the start of the turn. No value of it is made.
+/// What the one writer knows: the list, the list of a new lock, the count of numbers given out,
+/// what it carries, and the list at the start of the turn. No value of it is made.
 pub struct WriterView<I> {
     pub list: LinkedList<I>,
     pub start: LinkedList<I>,

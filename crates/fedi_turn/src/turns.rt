@@ -28,12 +28,13 @@ impl<I> Pass<I> {
 }
 
 impl<V: Grows> TurnLock<V> {
-    /// Waits for the turn of an idle pass of this lock, and gives the value. Its list begins with all that the pass has seen,
-    /// and each item behind that is another's. Takes no memory.
+    /// Waits for the turn of an idle pass of this lock, and gives the value. Its list begins with
+    /// all that the pass has seen, and each item behind that is another's. Takes no memory.
     ///
-    /// A caller that finds the value there takes it at once. One that does not looks for it a hundred times, then sleeps until
-    /// a `give` wakes it, and looks again: a woken caller has no claim to the value, so one that runs may be first. If the
-    /// caller before does not give the value back, the call does not return.
+    /// A caller that finds the value there takes it at once. One that does not looks for it a
+    /// hundred times, then sleeps until a `give` wakes it, and looks again: a woken caller has no
+    /// claim to the value, so one that runs may be first. If the caller before does not give the
+    /// value back, the call does not return.
     pub fn take<R: Wait>(&self, rt: &R, pass: &mut Pass<V::Item>) -> Held<V, V::Item>
         requires { IsIdle V.Grows self.now pass.old }
         ensures turn { IsTurn V.Grows self.now pass.new result }
@@ -58,10 +59,12 @@ impl<V: Grows> TurnLock<V> {
         }
     }
 
-    /// Ends the turn of the pass that took the value. Its list may only have grown, by items that name the pass; its base has
-    /// to be as it was. The pass is then idle and has seen that list. Takes no memory.
+    /// Ends the turn of the pass that took the value. Its list may only have grown, by items that
+    /// name the pass; its base has to be as it was. The pass is then idle and has seen that list.
+    /// Takes no memory.
     ///
-    /// It wakes one caller that sleeps, and makes no system call if none can sleep: after turns without waiting, none does.
+    /// It wakes one caller that sleeps, and makes no system call if none can sleep: after turns
+    /// without waiting, none does.
     pub fn give(&self, pass: &mut Pass<V::Item>, held: Held<V, V::Item>)
         requires turn { IsTurn V.Grows self.now pass.old held }
         requires base { V.base held.value ≡ base_of V.Grows self.now }

@@ -7,7 +7,8 @@ use fedi_turn::{Grows, Pass, TurnLock};
 use std::alloc::Global;
 use std::sync::{Arc, Wait};
 
-/// Marks, and a `token` shared with others, whose count of owners says whether the value was dropped.
+/// Marks, and a `token` shared with others, whose count of owners says whether the value was
+/// dropped.
 #[derive(Drop)]
 pub struct Tally {
     pub marks: Vec<u64>,

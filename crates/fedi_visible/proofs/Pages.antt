@@ -1,4 +1,5 @@
--- A page that is gathered: the items are counted one after the other, and the places of those on the page are kept.
+-- A page that is gathered: the items are counted one after the other, and the places of those on
+-- the page are kept.
 use Rattle.std.proofs.Common.{◌≡◌, ◌<◌, ◌≤◌, ℕ, ◌+◌, ◌*◌, ◌/◌, arith, List, [], ◌∷◌, ◌++◌, length, take, drop, refl, sym, ap, subst, ◌∙◌, nat_eq, eq-eqb, inl, inr}
 use Rattle.std.proofs.lemmas.Bool.{cases_eq, cases_lt, ne_eqb}
 use Rattle.std.specs.Prelude.{if◌then◌else◌}

@@ -1,9 +1,12 @@
-//! Who sees what of the facts, what they are shown, the trait `Shelf` of what holds a history, and the
-//! replies to those who read activities and objects.
+//! Who sees what of the facts, what they are shown, the replies to those who read activities and
+//! objects, the trait `Shelf` of what holds a history, and a plain shelf, whose history is gone
+//! through for what its readers see of its collections.
 #![tactic(auto)]
 
 mod callers;
 mod listing;
+mod places;
+mod plain_shelf;
 mod replies;
 mod seeing;
 mod shelf;
@@ -11,6 +14,8 @@ mod showing;
 
 pub use callers::{is_nobody, is_self};
 pub use listing::{is_item, is_same_item};
+pub use places::{is_same_seen, is_seen_item};
+pub use plain_shelf::PlainShelf;
 pub use replies::{activity_reply, document_reply, object_reply, seen_maker};
 pub use seeing::sees;
 pub use shelf::{PAGE, Shelf, VisiblePage};

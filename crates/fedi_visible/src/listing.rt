@@ -8,12 +8,13 @@ use fedi_effects::{
     is_about, is_accepted, is_announce, is_by, is_follow, is_following, is_like, is_standing,
     object_key,
 };
-use fedi_kept::Kept;
+use fedi_register::Kept;
 use fedi_town::Which;
 
-/// Whether the activity stands in the owner's collection (ActivityPub, section 5): what the owner got
-/// or posted, the Follows of and by the owner that were accepted, the Likes by the owner, and the
-/// Likes and Announces of the owner, that stand. The owner is the member or the object with this id.
+/// Whether the activity stands in the owner's collection (ActivityPub, section 5): what the owner
+/// got or posted, the Follows of and by the owner that were accepted, the Likes by the owner, and
+/// the Likes and Announces of the owner, that stand. The owner is the member or the object with
+/// this id.
 #[tactic(auto, unfolding(fedi_town::specs::Collections::is_item, fedi_town::specs::Relations::is_following))]
 pub fn is_item(act: &Kept, which: &Which, owner: &Iri) -> bool
     ensures { result ≡ is_item which.now owner.now act.now }
@@ -31,8 +32,9 @@ pub fn is_item(act: &Kept, which: &Which, owner: &Iri) -> bool
     }
 }
 
-/// Whether two activities of the collection stand for the same item: in that of the followers those by
-/// the same author, in that of the followed those about the same (ActivityPub, sections 5.3 and 5.4).
+/// Whether two activities of the collection stand for the same item: in that of the followers those
+/// by the same author, in that of the followed those about the same (ActivityPub, sections 5.3 and
+/// 5.4).
 #[tactic(auto, unfolding(fedi_town::specs::Collections::is_same_item))]
 pub fn is_same_item(which: &Which, a: &Kept, b: &Kept) -> bool
     ensures { result ≡ is_same_item which.now a.now b.now }

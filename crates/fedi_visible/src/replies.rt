@@ -3,7 +3,8 @@
 ghost use Rattle.std.specs.Prelude.{◌≡◌, IfOk, option_copied, if◌then◌else◌};
 ghost use Rattle.serde_json.specs.Data.{Data};
 ghost use Rattle.fedi_model.specs.Asks.{id_at};
-ghost use Rattle.fedi_model.specs.Reading.{activity_answer, activity_document, object_answer, object_document};
+ghost use Rattle.fedi_model.specs.Reading.{activity_answer, activity_document, object_answer};
+ghost use Rattle.fedi_model.specs.Reading.{object_document};
 ghost use Rattle.fedi_model.specs.Replies.{reply_of, showing};
 ghost use Rattle.fedi_objects.specs.Forms.{is_tombstone};
 ghost use Rattle.fedi_objects.specs.Writing.{IsDocument};
@@ -14,9 +15,9 @@ use crate::seeing::sees;
 use crate::showing::{present_object, shown_of};
 use fedi_address::{Iri, LocalName};
 use fedi_effects::Facts;
-use fedi_kept::Kept;
 use fedi_model::{Form, Reply, refusal_reply};
 use fedi_objects::{StrippedObject, new_document, text_of, write_activity, write_object};
+use fedi_register::Kept;
 use fedi_town::{Caller, Refusal, activity_iri, object_iri};
 use http::StatusCode;
 use json::Writer;
@@ -106,9 +107,9 @@ fn seen_object<'a>(facts: &'a Facts, caller: &Caller, id: &Iri) -> Option<Stripp
     }
 }
 
-/// The reply to who asks for the object that the member's activity of this number made: its document,
-/// or the Tombstone that is left of it, where the caller sees the activity, and else that there is
-/// none (ActivityPub, sections 3.2 and 6.4).
+/// The reply to who asks for the object that the member's activity of this number made: its
+/// document, or the Tombstone that is left of it, where the caller sees the activity, and else that
+/// there is none (ActivityPub, sections 3.2 and 6.4).
 pub fn object_reply(
     alloc: Global,
     facts: &Facts,

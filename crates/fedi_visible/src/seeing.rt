@@ -2,11 +2,12 @@
 
 ghost use Rattle.std.specs.Prelude.{◌≡◌};
 ghost use Rattle.std.specs.List.{list_any};
-ghost use Rattle.fedi_town.specs.Seeing.{is_followed_from, is_follower_from, is_of_peer, reaches, sees};
+ghost use Rattle.fedi_town.specs.Seeing.{is_followed_from, is_follower_from, is_of_peer, reaches};
+ghost use Rattle.fedi_town.specs.Seeing.{sees};
 
 use fedi_address::{Host, Iri};
 use fedi_effects::{Facts, is_following, sees_as};
-use fedi_kept::Kept;
+use fedi_register::Kept;
 use fedi_town::Caller;
 
 #[tactic(auto, unfolding(fedi_town::specs::Seeing::is_of_peer))]
@@ -32,8 +33,8 @@ fn reaches_any(facts: &Facts, host: &Host, author: &Iri, recipients: &[Iri]) -> 
         .any(|iri| reaches(facts, host, author, iri))
 }
 
-// Whether the activity is a Follow of the author that was accepted, by somebody of the other server whom
-// no Block keeps away.
+// Whether the activity is a Follow of the author that was accepted, by somebody of the other server
+// whom no Block keeps away.
 #[tactic(auto, unfolding(fedi_town::specs::Seeing::is_follower_from))]
 fn is_follower_from(facts: &Facts, host: &Host, author: &Iri, act: &Kept) -> bool
     ensures { result ≡ is_follower_from facts.now.town host.now author.now act.now }
@@ -48,11 +49,11 @@ fn is_followed_from(facts: &Facts, host: &Host, author: &Iri) -> bool
     facts.is_followed_by(author, |act| is_follower_from(facts, host, author, act))
 }
 
-/// Whether the caller sees the activity (ActivityPub, sections 5, 6 and 6.9): a member sees what the
-/// member wrote, and where no Block stands between member and author what is public, what goes to the
-/// member, and what is for the author's followers while the member is one; a peer what is public, of the
-/// peer or to somebody of the peer whom no Block keeps away, and what is for the author's followers
-/// while such a one follows; everybody else what is public.
+/// Whether the caller sees the activity (ActivityPub, sections 5, 6 and 6.9): a member sees what
+/// the member wrote, and where no Block stands between member and author what is public, what goes
+/// to the member, and what is for the author's followers while the member is one; a peer what is
+/// public, of the peer or to somebody of the peer whom no Block keeps away, and what is for the
+/// author's followers while such a one follows; everybody else what is public.
 #[tactic(auto, unfolding(fedi_town::specs::Seeing::sees))]
 pub fn sees(facts: &Facts, caller: &Caller, act: &Kept) -> bool
     ensures { result ≡ sees facts.now.town caller.now act.now }

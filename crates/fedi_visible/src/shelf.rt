@@ -1,6 +1,8 @@
 //! Where a history stands, with what its readers see of its collections.
 
-ghost use Rattle.std.specs.Prelude.{◌≡◌, ◌≤◌, ◌<◌, ◌+◌, ◌*◌, ◌/◌, ◌^◌, ◌++◌, ◌∷◌, [], ℕ, IsTrue, List, None, OnErr, OnOk, Some, drop, if◌then◌else◌, length, map, nat_eq, slice_get, take};
+ghost use Rattle.std.specs.Prelude.{◌≡◌, ◌≤◌, ◌<◌, ◌+◌, ◌*◌, ◌/◌, ◌^◌, ◌++◌, ◌∷◌, [], ℕ, IsTrue};
+ghost use Rattle.std.specs.Prelude.{List, None, OnErr, OnOk, Some, drop, if◌then◌else◌, length};
+ghost use Rattle.std.specs.Prelude.{map, nat_eq, slice_get, take};
 ghost use Rattle.arrayvec.specs.ArrayVec.{array_vec_len};
 ghost use Rattle.fedi_effects.specs.Holdings.{Holding};
 ghost use Rattle.fedi_town.specs.declared.caller.Which.{Which};
@@ -24,8 +26,8 @@ pub const PAGE: usize = 20;
 pub struct VisiblePage {
     /// How many items the whole collection has.
     pub total: u64,
-    /// The places, among the activities, of the items of the page, the oldest first. A page above the
-    /// highest has none.
+    /// The places, among the activities, of the items of the page, the oldest first. A page above
+    /// the highest has none.
     pub places: ArrayVec<usize, 20>,
 }
 
@@ -41,8 +43,8 @@ impl VisiblePage {
         }
     }
 
-    /// Counts the item at this place, which comes after those that were counted, and keeps the place if it
-    /// stands on the page of this number.
+    /// Counts the item at this place, which comes after those that were counted, and keeps the
+    /// place if it stands on the page of this number.
     pub fn add(&mut self, number: u64, place: usize)
         requires total { self.old.total < 2 ^ 63 }
         requires room { self.old.total / 20 ≡ number → array_vec_len self.old.places < 20 }
@@ -57,10 +59,10 @@ impl VisiblePage {
     }
 }
 
-/// What stands for a history: its facts, and the collections of those whom it made (ActivityPub, section
-/// 5). The items of a collection are those that its reader sees, the first of each, in the order of
-/// acceptance; an item is told by its place among the activities of the facts. The owner of a collection
-/// is the member or the object with this id.
+/// What stands for a history: its facts, and the collections of those whom it made (ActivityPub,
+/// section 5). The items of a collection are those that its reader sees, the first of each, in the
+/// order of acceptance; an item is told by its place among the activities of the facts. The owner
+/// of a collection is the member or the object with this id.
 pub trait Shelf {
     /// The history that is held, the town that it has made, and the entry that room was made for.
     ghost holding: { Self → Holding };
@@ -72,8 +74,8 @@ pub trait Shelf {
     fn facts(&self) -> &Facts
         ensures { result.now ≡ holding self.now };
 
-    /// Makes room for an entry that may come next, with all that it adds. After an error, out of memory,
-    /// there is room for none, and all else is as before.
+    /// Makes room for an entry that may come next, with all that it adds. After an error, out of
+    /// memory, there is room for none, and all else is as before.
     fn reserve(&mut self, alloc: Global, entry: &Entry) -> Result<(), AllocError>
         requires legal { IsLegal (holding self.old).history }
         requires admissible { IsTrue (is_admissible (holding self.old).town entry.now) }
@@ -90,8 +92,8 @@ pub trait Shelf {
           room = None;
         } };
 
-    /// How many items the reader sees in the owner's collection, and those on the page of this number: page
-    /// 0 has the oldest. It takes no memory, and counts the activities that it reads.
+    /// How many items the reader sees in the owner's collection, and those on the page of this
+    /// number: page 0 has the oldest. It takes no memory, and counts the activities that it reads.
     fn visible_page<L: Ledger>(
         &self,
         caller: &Caller,

@@ -5,12 +5,13 @@ ghost use Rattle.fedi_objects.specs.Forms.{activity_form, object_in, shown_in};
 ghost use Rattle.fedi_town.specs.Addressing.{is_of_town};
 ghost use Rattle.fedi_town.specs.Objects.{object_of, maker_of, whole_of};
 ghost use Rattle.fedi_town.specs.Relations.{ref_id};
-ghost use Rattle.fedi_town.specs.Showing.{object_or_id, present_object, ref_to, shown_activity, shown_object, shown_ref};
+ghost use Rattle.fedi_town.specs.Showing.{object_or_id, present_object, ref_to, shown_activity};
+ghost use Rattle.fedi_town.specs.Showing.{shown_object, shown_ref};
 
 use fedi_address::Iri;
 use fedi_effects::{Facts, is_of_town};
-use fedi_kept::Kept;
 use fedi_objects::{Shown, ShownObject, State, StrippedObject};
+use fedi_register::Kept;
 use fedi_town::Deed;
 
 // The object that an Update of this id changed, as it stands now.
@@ -24,8 +25,8 @@ fn changed_object<'a>(facts: &'a Facts, id: Option<&Iri>) -> Option<StrippedObje
     }
 }
 
-/// The object of an activity as it stands now: what a Create made, and what an Update changed, where
-/// they were done.
+/// The object of an activity as it stands now: what a Create made, and what an Update changed,
+/// where they were done.
 #[tactic(auto, unfolding(fedi_town::specs::Showing::present_object))]
 pub fn present_object<'a>(facts: &'a Facts, act: &'a Kept) -> Option<StrippedObject<'a>>
     ensures { result ≡ option_map shown_object (present_object facts.now.town act.now) }
@@ -57,9 +58,9 @@ fn shown_object<'a>(facts: &'a Facts, act: &'a Kept) -> ShownObject<'a>
     }
 }
 
-/// What those see of an activity who may see it: without `bto` and `bcc`, with its author as its actor,
-/// and with its object as it is now, of which a Tombstone shows four members alone (ActivityPub, section
-/// 6). An activity is local if its author is of this host.
+/// What those see of an activity who may see it: without `bto` and `bcc`, with its author as its
+/// actor, and with its object as it is now, of which a Tombstone shows four members alone
+/// (ActivityPub, section 6). An activity is local if its author is of this host.
 pub fn shown_of<'a>(facts: &'a Facts, act: &'a Kept) -> Shown<'a>
     ensures shown { shown_in result
         ≡ record (shown_activity facts.now.town act.now) { actor = Some act.now.author } }

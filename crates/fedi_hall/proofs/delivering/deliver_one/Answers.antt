@@ -1,8 +1,8 @@
 use Rattle.std.proofs.Common.{◌∙◌}
 use Rattle.fedi_log.specs.Keeping.{base_of}
 use Rattle.fedi_logged.specs.Attempts.{told_by}
-use Rattle.fedi_talk.proofs.SessionLemmas.{now_of}
-use Rattle.fedi_talk.specs.Turning.{setting_by}
+use Rattle.fedi_logged.proofs.SessionLemmas.{now_of}
+use Rattle.fedi_logged.specs.Turning.{setting_by}
 use Rattle.fedi_turn.specs.Turn.{number_of, seen_of}
 use Rattle.fedi_hall.proofs.Attempting.{claimed_mid, ended, ended_step, given_up, memory_step, out_claimed, out_of}
 use Rattle.fedi_hall.proofs.delivering.deliver_one.Goals as goal

@@ -2,7 +2,7 @@ use Rattle.std.proofs.Common.{◌∙◌, [], ap, refl}
 use Rattle.fedi_logged.proofs.Attempts.{exchanged_none}
 use Rattle.fedi_logged.specs.Attempts.{told_by}
 use Rattle.fedi_outside.specs.Doors.{Coming, Rested, Served, Spoken, coming_by, spoken_by, with_row}
-use Rattle.fedi_talk.specs.Turning.{setting_at}
+use Rattle.fedi_logged.specs.Turning.{setting_at}
 use Rattle.fedi_hall.proofs.Working.{served_row, worked_first, worked_next}
 use Rattle.fedi_hall.proofs.workers.worker.Goals as goal
 

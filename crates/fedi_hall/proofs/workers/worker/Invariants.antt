@@ -1,6 +1,6 @@
 use Rattle.std.proofs.Common.{◌≡◌, None, false}
 use Rattle.fedi_logged.specs.Attempts.{told_by}
-use Rattle.fedi_talk.specs.Turning.{setting_at}
+use Rattle.fedi_logged.specs.Turning.{setting_at}
 use Rattle.fedi_hall.specs.Works.{HasWorked}
 use Rattle.fedi_hall.proofs.workers.worker.Given as goal
 

@@ -1,7 +1,7 @@
 use Rattle.std.proofs.Common.{refl, rules, take}
 use Rattle.fedi_index.proofs.Again.{followed_again, follower_again, neither}
-use Rattle.fedi_store.specs.Places.{is_same_seen}
-use Rattle.fedi_store.proofs.Listed.{none_again}
+use Rattle.fedi_visible.specs.Places.{is_same_seen}
+use Rattle.fedi_visible.proofs.Listed.{none_again}
 use Rattle.fedi_index.proofs.pages.comes_again.Goals as goal
 
 pub returns-in-Followers : goal.returns-in-Followers

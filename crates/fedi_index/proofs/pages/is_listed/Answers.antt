@@ -1,4 +1,4 @@
-use Rattle.fedi_store.specs.Places.{is_listed}
+use Rattle.fedi_visible.specs.Places.{is_listed}
 use Rattle.fedi_index.proofs.pages.is_listed.Goals as goal
 
 pub returns-clause-value : goal.returns-clause-value

@@ -4,7 +4,7 @@ use Rattle.std.specs.Prelude.{filter}
 use Rattle.std.proofs.Common.{take}
 use Rattle.fedi_index.specs.Candidates.{is_candidate}
 use Rattle.fedi_index.proofs.Listed.{candidate_there, none_more_listed, one_more_listed}
-use Rattle.fedi_store.specs.Places.{is_listed}
+use Rattle.fedi_visible.specs.Places.{is_listed}
 use Rattle.fedi_index.proofs.pages.page.Goals as goal
 use Rattle.fedi_index.proofs.pages.page.Goals.{then-is_listed, else-is_listed}
 

@@ -1,7 +1,7 @@
 use Rattle.std.proofs.Common.{◌+◌, ◌≤◌, take}
 use Rattle.std.specs.Prelude.{filter}
 use Rattle.fedi_visible.proofs.Pages.{IsPageOf}
-use Rattle.fedi_store.specs.Places.{is_listed}
+use Rattle.fedi_visible.specs.Places.{is_listed}
 use Rattle.fedi_index.proofs.pages.page.Given as goal
 
 abbrev pub invariant-loop-place : goal.invariant-loop-place

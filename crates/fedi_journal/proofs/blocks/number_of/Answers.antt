@@ -1,6 +1,6 @@
 use Rattle.std.proofs.Common.{sym}
 use Rattle.std.proofs.lemmas.Nat.{be_bytes_8}
-use Rattle.fedi_images.specs.Images.{size_code}
+use Rattle.fedi_outside.specs.Images.{size_code}
 use Rattle.fedi_journal.proofs.blocks.number_of.Goals as goal
 
 pub returns : goal.returns

@@ -1,5 +1,5 @@
 use Rattle.std.proofs.Common.{◌≡◌, drop, length, arith, length-drop}
-use Rattle.fedi_images.proofs.Steps.{of_some}
+use Rattle.fedi_outside.proofs.ImageSteps.{of_some}
 use Rattle.fedi_journal.proofs.FindingSteps.{size_spelled}
 use Rattle.fedi_journal.proofs.finding.look.Goals as goal
 use Rattle.fedi_journal.proofs.finding.look.Goals.{then-byte-ne1-via-then-byte-ne1, then-byte-ne1-via-else-byte-ne1+then-length-behind}

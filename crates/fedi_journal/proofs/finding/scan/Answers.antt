@@ -1,7 +1,7 @@
 use Rattle.std.proofs.Common.{ℕ, ◌+◌, ◌≡◌, drop, List, true, refl, sym, ◌∙◌, ap, subst, arith}
 use Rattle.fedi_outside.specs.Disks.{DiskState}
-use Rattle.fedi_images.specs.Known.{are_apart}
-use Rattle.fedi_images.proofs.Gates.{apart_push}
+use Rattle.fedi_outside.specs.Known.{are_apart}
+use Rattle.fedi_outside.proofs.Gates.{apart_push}
 use Rattle.fedi_journal.specs.Finding.{IsGate, IsInside, IsScanned}
 use Rattle.fedi_journal.proofs.FindingSteps.{scan_goes_on, scan_starts}
 use Rattle.fedi_outside.proofs.Untouched.{elapses_on, nothing_elapses}

@@ -1,7 +1,7 @@
 use Rattle.std.proofs.Common.{ℕ, ◌≡◌, ◌<◌, ◌-◌, List, true}
 use Rattle.std.specs.Prelude.{Some}
 use Rattle.fedi_outside.specs.Disks.{Elapses}
-use Rattle.fedi_images.specs.Known.{are_apart}
+use Rattle.fedi_outside.specs.Known.{are_apart}
 use Rattle.fedi_journal.specs.Finding.{IsScanned}
 use Rattle.fedi_journal.proofs.finding.scan.Given as goal
 

@@ -1,6 +1,6 @@
 use Rattle.std.proofs.Common.{map}
 use Rattle.fedi_entry.specs.Codes.{code_of}
-use Rattle.fedi_images.proofs.ImageLemmas.{one_image}
+use Rattle.fedi_outside.proofs.ImageLemmas.{one_image}
 use Rattle.fedi_log.proofs.lives.files_join_lives.Goals as goal
 
 pub returns : goal.returns

@@ -8,7 +8,7 @@ use Rattle.fedi_logged.specs.Turns.{SurvivesTurn, standing_by}
 use Rattle.fedi_queue.specs.Claims.{release}
 use Rattle.fedi_queue.specs.Queues.{is_claimed}
 use Rattle.fedi_queue.specs.declared.rows.QueueRow.{QueueRow}
-use Rattle.fedi_talk.specs.Endings.{output_by}
+use Rattle.fedi_logged.specs.Endings.{output_by}
 use Rattle.fedi_town.specs.Histories.{town}
 use Rattle.fedi_town.specs.Queues.{Delivery}
 use Rattle.fedi_logged.specs.Attempts.{told_by}

@@ -7,7 +7,7 @@ use Rattle.fedi_log.specs.Log.{given}
 use Rattle.fedi_logged.specs.Marks.{SurvivesMarked}
 use Rattle.fedi_queue.specs.Claims.{release}
 use Rattle.fedi_queue.specs.Rows.{rows_of}
-use Rattle.fedi_talk.specs.Endings.{output_by}
+use Rattle.fedi_logged.specs.Endings.{output_by}
 use Rattle.fedi_town.specs.Histories.{town}
 use Rattle.fedi_town.specs.Legal.{IsLegal}
 use Rattle.fedi_program.proofs.DeliverLemmas.{IsTrying}

@@ -2,7 +2,7 @@ use Rattle.std.proofs.Common.{ℕ, List, ap, sym, subst, rules}
 use Rattle.std.specs.Prelude.{Some}
 use Rattle.fedi_logged.proofs.Hosted.{hosted}
 use Rattle.fedi_outside.specs.MemoryDisks.{MemoryDiskState}
-use Rattle.fedi_talk.specs.Endings.{Scene}
+use Rattle.fedi_logged.specs.Endings.{Scene}
 use Rattle.fedi_program.specs.Demonstrating.{HasStore}
 use Rattle.fedi_program.proofs.DemoLemmas.{session_visited}
 use Rattle.fedi_program.proofs.demonstrating.visit.Goals as goal

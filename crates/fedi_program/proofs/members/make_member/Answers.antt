@@ -1,7 +1,7 @@
 use Rattle.std.proofs.Common.{◌≡◌, true, false, None, inl, inr, refl}
 use Rattle.fedi_log.specs.Keeping.{state_of}
 use Rattle.std.proofs.lemmas.Bool.{false_from_ne_true}
-use Rattle.fedi_talk.proofs.SessionLemmas.{now_of}
+use Rattle.fedi_logged.proofs.SessionLemmas.{now_of}
 use Rattle.fedi_program.specs.Members.{key_line}
 use Rattle.fedi_program.proofs.MemberLemmas.{unmoved}
 use Rattle.fedi_program.proofs.members.make_member.Goals as goal

@@ -1,6 +1,6 @@
 use Rattle.std.proofs.Common.{◌∙◌, true, false, inl, inr, refl, sym}
 use Rattle.fedi_log.specs.Keeping.{state_of}
-use Rattle.fedi_talk.proofs.SessionLemmas.{now_of}
+use Rattle.fedi_logged.proofs.SessionLemmas.{now_of}
 use Rattle.fedi_town.specs.Histories.{town}
 use Rattle.fedi_program.specs.Peers.{peer_line}
 use Rattle.fedi_program.proofs.MemberLemmas.{unmoved}

@@ -1,5 +1,5 @@
 use Rattle.std.proofs.Common.{ℕ, List, Bool}
-use Rattle.fedi_talk.specs.Endings.{output_by}
+use Rattle.fedi_logged.specs.Endings.{output_by}
 use Rattle.fedi_program.specs.Commands.{Usage}
 use Rattle.fedi_program.specs.Demonstrating.{Demonstrates}
 use Rattle.fedi_program.specs.Members.{chance_by}

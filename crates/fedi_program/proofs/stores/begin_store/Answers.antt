@@ -1,5 +1,5 @@
 use Rattle.std.proofs.Common.{inl, inr, refl}
-use Rattle.fedi_talk.proofs.SessionLemmas.{now_of}
+use Rattle.fedi_logged.proofs.SessionLemmas.{now_of}
 use Rattle.fedi_program.proofs.StoreLemmas.{making_ends}
 use Rattle.fedi_program.proofs.stores.begin_store.Goals as goal
 

@@ -1,7 +1,7 @@
 use Rattle.std.proofs.Common.{arith, map, ◌∙◌, ◌≤◌, ◌++◌, ◌+◌, ap, refl, sym, subst, take, drop, []}
 use Rattle.std.proofs.lemmas.Result.{err_from_is_err_and}
 use Rattle.csv.specs.Writing.{default_writer, row_text}
-use Rattle.fedi_talk.specs.Endings.{Writes, output_by}
+use Rattle.fedi_logged.specs.Endings.{Writes, output_by}
 use Rattle.fedi_report.specs.Tables.{rows_text}
 use Rattle.fedi_report.proofs.Blocks.{rows_and_block, rows_and_rest}
 use Rattle.fedi_report.proofs.Pieces.{stopped_on, written_both, written_none}

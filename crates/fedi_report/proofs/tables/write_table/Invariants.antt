@@ -1,5 +1,5 @@
 use Rattle.std.proofs.Common.{◌≡◌, ◌≤◌, ◌-◌, ◌∷◌, length, map, take}
-use Rattle.fedi_talk.specs.Endings.{Writes, output_by}
+use Rattle.fedi_logged.specs.Endings.{Writes, output_by}
 use Rattle.fedi_report.specs.Tables.{rows_text}
 use Rattle.fedi_report.proofs.tables.write_table.Given as goal
 

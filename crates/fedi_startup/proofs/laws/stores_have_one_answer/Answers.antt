@@ -1,6 +1,6 @@
-use Rattle.fedi_images.proofs.ImageLemmas.{plain_ok}
-use Rattle.fedi_images.proofs.Openings.{one_place}
-use Rattle.fedi_images.specs.Images.{plain}
+use Rattle.fedi_outside.proofs.ImageLemmas.{plain_ok}
+use Rattle.fedi_outside.proofs.Openings.{one_place}
+use Rattle.fedi_outside.specs.Images.{plain}
 use Rattle.fedi_startup.proofs.OneAnswer.{byte_record, none_byte, none_record, one_history, one_record, store_byte, store_none, store_record}
 use Rattle.fedi_startup.proofs.laws.stores_have_one_answer.Goals as goal
 

@@ -1,7 +1,7 @@
 use Rattle.std.proofs.Common.{refl, sym, subst, length}
-use Rattle.fedi_images.proofs.ImageLemmas.{plain_ok}
-use Rattle.fedi_images.proofs.Steps.{told_count}
-use Rattle.fedi_images.specs.Images.{plain}
+use Rattle.fedi_outside.proofs.ImageLemmas.{plain_ok}
+use Rattle.fedi_outside.proofs.ImageSteps.{told_count}
+use Rattle.fedi_outside.specs.Images.{plain}
 use Rattle.fedi_log.specs.Keeping.{state_of}
 use Rattle.fedi_outside.proofs.Untouched.{untouched_then}
 use Rattle.fedi_outside.specs.Disks.{IsUntouched}

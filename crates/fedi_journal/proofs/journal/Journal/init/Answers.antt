@@ -1,8 +1,8 @@
 use Rattle.std.proofs.Common.{List, ℕ, ◌≡◌, length, subst, sym, arith}
 use Rattle.std.specs.Prelude.{None}
 use Rattle.fedi_outside.specs.Disks.{spliced}
-use Rattle.fedi_images.specs.Images.{plain}
-use Rattle.fedi_images.specs.Known.{IsKnown, records_told}
+use Rattle.fedi_outside.specs.Images.{plain}
+use Rattle.fedi_outside.specs.Known.{IsKnown, records_told}
 use Rattle.fedi_journal.specs.Making.{blank, blank_shown}
 use Rattle.fedi_journal.proofs.KeeperSteps.{shows_same}
 use Rattle.fedi_journal.proofs.MakingSteps.{made_known, no_records}

@@ -1,6 +1,6 @@
-use Rattle.fedi_images.specs.Images.{plain}
-use Rattle.fedi_images.proofs.ImageLemmas.{plain_ok}
-use Rattle.fedi_images.proofs.Steps.{images_left}
+use Rattle.fedi_outside.specs.Images.{plain}
+use Rattle.fedi_outside.proofs.ImageLemmas.{plain_ok}
+use Rattle.fedi_outside.proofs.ImageSteps.{images_left}
 use Rattle.fedi_journal.specs.Blocks.{doubt_in}
 use Rattle.fedi_journal.proofs.journal.Journal.into_disk.Goals as goal
 

@@ -1,5 +1,5 @@
 use Rattle.std.proofs.Common.{◌∙◌, arith, sym}
-use Rattle.fedi_images.proofs.Steps.{of_some}
+use Rattle.fedi_outside.proofs.ImageSteps.{of_some}
 use Rattle.fedi_outside.specs.Disks.{LeavesOnly}
 use Rattle.fedi_journal.proofs.FindingSteps.{found_known, opened_records}
 use Rattle.fedi_journal.proofs.journal.Journal.open.Goals as goal

@@ -2,10 +2,10 @@ use Rattle.std.proofs.Common.{ℕ, ◌≡◌, ◌+◌, List, [], ◌∷◌, ◌+
 use Rattle.std.specs.Prelude.{Option, None, Some, option_map}
 use Rattle.fedi_outside.specs.Causes.{next_count}
 use Rattle.fedi_outside.specs.Disks.{DiskState, spliced}
-use Rattle.fedi_images.specs.Images.{plain}
-use Rattle.fedi_images.specs.Known.{IsKnown, records_told}
-use Rattle.fedi_images.proofs.ImageLemmas.{plain_ok}
-use Rattle.fedi_images.proofs.Steps.{append_adds_files, append_passes, open_done, open_failed, stage_adds_files, stage_done, stage_failed, stage_passes, torn_told, written_told}
+use Rattle.fedi_outside.specs.Images.{plain}
+use Rattle.fedi_outside.specs.Known.{IsKnown, records_told}
+use Rattle.fedi_outside.proofs.ImageLemmas.{plain_ok}
+use Rattle.fedi_outside.proofs.ImageSteps.{append_adds_files, append_passes, open_done, open_failed, stage_adds_files, stage_done, stage_failed, stage_passes, torn_told, written_told}
 use Rattle.fedi_journal.proofs.KeeperSteps.{end_same, on_err, payload_back, spells, still_sure}
 use Rattle.fedi_journal.proofs.journal.JournalKeeper.append.Goals as goal
 

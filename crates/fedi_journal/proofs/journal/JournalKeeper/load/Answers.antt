@@ -2,9 +2,9 @@ use Rattle.std.proofs.Common.{ℕ, ◌≡◌, ◌+◌, ◌-◌, ◌<◌, List, �
 use Rattle.std.specs.Prelude.{IfSome}
 use Rattle.std.proofs.lemmas.List.{take_at}
 use Rattle.fedi_outside.specs.Disks.{DiskState}
-use Rattle.fedi_images.specs.Images.{plain}
-use Rattle.fedi_images.proofs.ImageLemmas.{plain_ok}
-use Rattle.fedi_images.proofs.Steps.{read_passes}
+use Rattle.fedi_outside.specs.Images.{plain}
+use Rattle.fedi_outside.proofs.ImageLemmas.{plain_ok}
+use Rattle.fedi_outside.proofs.ImageSteps.{read_passes}
 use Rattle.fedi_journal.specs.Blocks.{doubt_in}
 use Rattle.fedi_journal.proofs.KeeperSteps.{finds_none, finds_some}
 use Rattle.fedi_journal.proofs.journal.JournalKeeper.load.Goals as goal

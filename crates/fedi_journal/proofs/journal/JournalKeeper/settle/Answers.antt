@@ -1,9 +1,9 @@
 use Rattle.std.proofs.Common.{[], ◌∷◌, length, ap}
 use Rattle.std.specs.Prelude.{None}
 use Rattle.fedi_outside.specs.Disks.{DiskState, spliced}
-use Rattle.fedi_images.specs.Images.{plain}
-use Rattle.fedi_images.proofs.ImageLemmas.{plain_ok}
-use Rattle.fedi_images.proofs.Steps.{settle_done, settle_failed, settle_passes, torn_told, written_told}
+use Rattle.fedi_outside.specs.Images.{plain}
+use Rattle.fedi_outside.proofs.ImageLemmas.{plain_ok}
+use Rattle.fedi_outside.proofs.ImageSteps.{settle_done, settle_failed, settle_passes, torn_told, written_told}
 use Rattle.fedi_journal.specs.Blocks.{doubt_in}
 use Rattle.fedi_journal.proofs.KeeperSteps.{on_err, shows_same}
 use Rattle.fedi_journal.proofs.journal.JournalKeeper.settle.Goals as goal

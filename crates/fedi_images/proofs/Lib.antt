@@ -1,5 +1,0 @@
-pub mod Finding
-pub mod Gates
-pub mod ImageLemmas
-pub mod Openings
-pub mod Steps

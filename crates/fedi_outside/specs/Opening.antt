@@ -1,0 +1,39 @@
+-- What a file is found to be when it is opened: a file of records, a damaged one, or none.
+use Rattle.std.specs.Prelude.{◌≡◌, ◌≢◌, ◌⊎◌, ◌<◌, ◌≤◌, ℕ, ◌+◌, List, length, get_or, take, drop}
+use Rattle.fedi_outside.specs.Images.{Format, AreShort, IsImage, front, gates_of, size_at}
+
+module _ (f : Format) where
+  -- at the front of these bytes stands an open gate, and behind it a whole record, which is sealed
+  -- as one behind those before it, and the next gate
+  pub record IsWhole (before : List (List ℕ)) (bytes : List ℕ) : Type 0 where
+    pub opened : get_or bytes 0 0 ≡ 1
+    pub long : 10 + f.width + size_at bytes ≤ length bytes
+    pub sealed : take f.width (drop (9 + size_at bytes) bytes)
+        ≡ f.seal before (take (size_at bytes) (drop 9 bytes))
+
+  -- the file begins with these records, and the next gate stands there
+  pub record Begins (rs : List (List ℕ)) (gate : ℕ) (bytes : List ℕ) : Type 0 where
+    pub short : AreShort rs
+    pub ends : gate ≡ length (front f rs)
+    pub spelled : take gate bytes ≡ front f rs
+
+  -- at the front of these bytes stands neither a closed gate, nor an open one with a whole record
+  -- and the next gate behind it
+  pub record IsBad (before : List (List ℕ)) (bytes : List ℕ) : Type 0 where
+    pub some : 0 < length bytes
+    pub not_closed : get_or bytes 0 0 ≢ 0
+    pub not_whole : IsWhole before bytes → ⊥
+
+  -- the file is no file of records, and the first gate that is not as it should be stands there
+  abbrev pub IsDamagedAt : ℕ → List ℕ → Type 0
+  IsDamagedAt gate bytes = (rs : List (List ℕ)) × Begins rs gate bytes × IsBad rs (drop gate bytes)
+
+  -- the file is too short for the magic and a gate, or does not begin with the magic
+  abbrev pub IsNoStore : List ℕ → Type 0
+  IsNoStore bytes = (length bytes < 9) ⊎ (take 8 bytes ≢ f.magic)
+
+  -- the file is one of records whose gates stand there, and so does the closed gate
+  abbrev pub IsFound : List ℕ → ℕ → List ℕ → Type 0
+  IsFound gates end bytes =
+      (rs : List (List ℕ)) × IsImage f rs bytes × (end ≡ length (front f rs))
+      × (gates ≡ gates_of f 8 rs)

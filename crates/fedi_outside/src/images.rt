@@ -1,0 +1,28 @@
+//! Laws of files of records, each the contract of a function that does nothing.
+ghost use Rattle.std.specs.Prelude.{◌≡◌, ℕ, List};
+ghost use Rattle.fedi_outside.specs.Images.{Format, IsFormat, IsImage, plain};
+ghost use Rattle.fedi_outside.specs.Opening.{IsDamagedAt, IsNoStore};
+
+/// The format without seals is one.
+pub fn plain_is_a_format()
+    ensures { IsFormat plain }
+{}
+
+/// A file has one list of records at most.
+pub fn files_have_one_list()
+    ensures { (f : Format) → IsFormat f → (xs ys : List (List ℕ)) (bytes : List ℕ)
+        → IsImage f xs bytes → IsImage f ys bytes → xs ≡ ys }
+{}
+
+/// What an opening may find excludes all else: a file of records is not damaged, what is no store
+/// is neither, and a damaged file has one place of damage.
+pub fn openings_exclude_each_other()
+    ensures place { (f : Format) → IsFormat f → (here there : ℕ) (bytes : List ℕ)
+        → IsDamagedAt f here bytes → IsDamagedAt f there bytes → here ≡ there }
+    ensures whole { (f : Format) → IsFormat f → (rs : List (List ℕ)) (place : ℕ) (bytes : List ℕ)
+        → IsImage f rs bytes → IsDamagedAt f place bytes → ⊥ }
+    ensures store { (f : Format) → IsFormat f → (rs : List (List ℕ)) (bytes : List ℕ)
+        → IsImage f rs bytes → IsNoStore f bytes → ⊥ }
+    ensures neither { (f : Format) → IsFormat f → (place : ℕ) (bytes : List ℕ)
+        → IsDamagedAt f place bytes → IsNoStore f bytes → ⊥ }
+{}

@@ -1,0 +1,156 @@
+-- What is seen of what is kept.
+use Rattle.std.specs.Prelude.{ℕ, List, [], Option, Some, None, option_map}
+use Rattle.std.specs.declared.boxed.Box.{Box}
+use Rattle.fedi_objects.specs.declared.activity.ObjectRef.{ObjectRef}
+use Rattle.fedi_objects.specs.declared.activity.ObjectRef.TheVariants as refs
+use Rattle.fedi_objects.specs.declared.object.Object.{Object}
+use Rattle.fedi_register.specs.declared.about.About.{About}
+use Rattle.fedi_register.specs.declared.about.About.TheVariants as abouts
+use Rattle.fedi_register.specs.declared.extras.Extras.{Extras}
+use Rattle.fedi_register.specs.declared.object.KeptObject.{KeptObject}
+use Rattle.fedi_register.specs.declared.parts.Beside.{Beside}
+use Rattle.fedi_register.specs.declared.parts.Beside.TheVariants as besides
+use Rattle.fedi_register.specs.declared.parts.Named.{Named}
+use Rattle.fedi_register.specs.declared.parts.Parts.{Parts}
+use Rattle.fedi_register.specs.declared.parts.Rare.{Rare}
+
+-- ---- the object
+
+-- nothing that few objects have
+abbrev pub no_extras : Extras
+no_extras = record {
+  in_reply_to = None;
+  summary = None;
+  name = None;
+  url = None;
+  updated = None;
+  former_kind = None;
+  deleted = None;
+  tags = [];
+}
+
+-- what few objects have, where there is any
+abbrev pub extras_in : {A : Type 0} → Option (Box Extras A) → Extras
+extras_in None = no_extras
+extras_in (Some e) = e.value
+
+-- without what an Update may set
+abbrev pub emptied_extras : Extras → Extras
+emptied_extras e =
+    record e { in_reply_to = None; summary = None; name = None; url = None; tags = [] }
+
+-- the object, with whom it hides
+abbrev pub whole : KeptObject → Object
+whole k = let e : Extras = extras_in k.extras in record {
+  id = k.id;
+  kind = k.kind;
+  attributed_to = k.common.value.attributed_to;
+  recipients = record {
+    to = k.common.value.lists.to;
+    cc = k.common.value.lists.cc;
+    bto = k.hidden.bto.value;
+    bcc = k.hidden.bcc.value;
+    audience = k.common.value.lists.audience;
+  };
+  in_reply_to = e.in_reply_to;
+  content = k.content;
+  summary = e.summary;
+  name = e.name;
+  url = e.url;
+  published = k.published;
+  updated = e.updated;
+  former_kind = e.former_kind;
+  deleted = e.deleted;
+  tags = e.tags;
+}
+
+-- what an activity is about
+abbrev pub referred : About → ObjectRef
+referred abouts.Nothing = refs.Nothing
+referred (abouts.Id id) = refs.Id id
+referred (abouts.Whole k) = refs.Whole (whole k.value)
+referred (abouts.Changed c) = refs.Changed (record c.change.value { id = c.id })
+
+-- ---- what an activity has of its own
+
+-- whom an activity or an object names, and when it was published
+pub record Names : Type 0 where
+  pub to : List (List ℕ)
+  pub cc : List (List ℕ)
+  pub audience : List (List ℕ)
+  pub published : Option (List ℕ)
+
+-- nobody, and at no time
+abbrev pub no_names : Names
+no_names = record { to = []; cc = []; audience = []; published = None }
+
+-- those of an object
+abbrev pub named_in : KeptObject → Names
+named_in k = record {
+  to = k.common.value.lists.to;
+  cc = k.common.value.lists.cc;
+  audience = k.common.value.lists.audience;
+  published = k.published;
+}
+
+-- those of an activity that is new
+abbrev pub names_given : Named → Names
+names_given n = record { to = n.to; cc = n.cc; audience = n.audience; published = n.published }
+
+-- those of the object that is carried
+abbrev pub object_names : About → Names
+object_names abouts.Nothing = no_names
+object_names (abouts.Id id) = no_names
+object_names (abouts.Whole k) = named_in k.value
+object_names (abouts.Changed c) = no_names
+
+-- those of an activity: its own, or else its object's
+abbrev pub named_part : Option Parts → About → Names
+named_part None about = object_names about
+named_part (Some p) about =
+    record { to = p.to; cc = p.cc; audience = p.audience; published = p.published }
+
+-- nothing that is rare
+abbrev pub no_rare : Rare
+no_rare = record {
+  target = None;
+  in_reply_to = None;
+  content = None;
+  summary = None;
+  name = None;
+  tags = [];
+  forwards = [];
+}
+
+-- what is rare, where there is any
+abbrev pub rare_in : {A : Type 0} → Option (Box Rare A) → Rare
+rare_in None = no_rare
+rare_in (Some r) = r.value
+
+-- what an activity has that is rare
+abbrev pub rare_part : Option Parts → Rare
+rare_part None = no_rare
+rare_part (Some p) = rare_in p.rare
+
+-- what is lent of it
+abbrev pub rare_lent : Option Rare → Rare
+rare_lent None = no_rare
+rare_lent (Some r) = r
+
+-- what lies in a box, where there is one
+abbrev pub unboxed : {T A : Type 0} → Option (Box T A) → Option T
+unboxed boxed = option_map (λ b. b.value) boxed
+
+-- the parts of its own
+abbrev pub parts_in : Beside → Option Parts
+parts_in besides.Nothing = None
+parts_in (besides.Parts p) = Some p.value
+parts_in (besides.Repeat r) = None
+parts_in (besides.Both b) = Some b.value.0.value
+
+-- the key under which a repeat is known, and the digest of the posted body
+abbrev pub repeat_in : Beside → Option (List ℕ × List ℕ)
+repeat_in besides.Nothing = None
+repeat_in (besides.Parts p) = None
+repeat_in (besides.Repeat r) = Some r.value
+repeat_in (besides.Both b) = Some b.value.1.value

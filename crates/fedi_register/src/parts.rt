@@ -1,0 +1,273 @@
+//! What an activity has beside its object, as it is kept.
+
+ghost use Rattle.std.specs.Prelude.{◌≡◌, true, false, IfOk, [], option_copied};
+ghost use Rattle.fedi_register.specs.Parts.{named_part, names_given, no_names, no_rare};
+ghost use Rattle.fedi_register.specs.Parts.{object_names};
+ghost use Rattle.fedi_register.specs.Parts.{rare_in, parts_in, rare_lent, rare_part, referred};
+ghost use Rattle.fedi_register.specs.Parts.{repeat_in, unboxed};
+
+use crate::about::About;
+use crate::common::Lists;
+use crate::iris::{Iris, are_same};
+use crate::object::KeptObject;
+use crate::pool::Pool;
+use fedi_address::{Iri, Items};
+use fedi_objects::{ObjectRef, RepeatKey, Tag};
+use fedi_text::Text;
+use std::alloc::{AllocError, Global};
+
+// What few activities have.
+#[derive(Drop)]
+pub(crate) struct Rare {
+    pub(crate) target: Option<Iri>,
+    pub(crate) in_reply_to: Option<Iri>,
+    pub(crate) content: Option<Text>,
+    pub(crate) summary: Option<Text>,
+    pub(crate) name: Option<Text>,
+    pub(crate) tags: Items<Tag>,
+    pub(crate) forwards: Items<Iri>,
+}
+
+// What an activity has of its own, where that is not what its object has too.
+#[derive(Drop)]
+pub(crate) struct Parts {
+    pub(crate) to: Iris,
+    pub(crate) cc: Iris,
+    pub(crate) audience: Iris,
+    pub(crate) published: Option<Text>,
+    pub(crate) rare: Option<Box<Rare>>,
+}
+
+/// The key under which a repeat is known, and the digest of the posted body.
+pub(crate) type Repeat = (RepeatKey, [u8; 32]);
+
+// What an activity has beside what it is about. Few have both, and one tag serves for the two.
+#[derive(Drop)]
+pub(crate) enum Beside {
+    Nothing,
+    Parts(Box<Parts>),
+    Repeat(Box<Repeat>),
+    Both(Box<(Box<Parts>, Box<Repeat>)>),
+}
+
+// Whom an activity names, and when it was published.
+#[derive(Drop)]
+pub(crate) struct Named {
+    pub(crate) to: Items<Iri>,
+    pub(crate) cc: Items<Iri>,
+    pub(crate) audience: Items<Iri>,
+    pub(crate) published: Option<Text>,
+}
+
+fn is_same_text(left: &Option<Text>, right: &Option<Text>) -> bool
+    ensures { result ≡ true → left.now ≡ right.now }
+{
+    match (left, right) {
+        (None, None) => true,
+        (Some(left), Some(right)) => left.text() == right.text(),
+        _ => false,
+    }
+}
+
+fn is_empty<T>(list: &Items<T>) -> bool
+    ensures { result ≡ true → list.now ≡ [] }
+{
+    list.as_slice().is_empty()
+}
+
+fn has_nothing(rare: &Rare) -> bool
+    ensures { result ≡ true → rare.now ≡ no_rare }
+{
+    rare.target.is_none()
+        && rare.in_reply_to.is_none()
+        && rare.content.is_none()
+        && rare.summary.is_none()
+        && rare.name.is_none()
+        && is_empty(&rare.tags)
+        && is_empty(&rare.forwards)
+}
+
+fn is_named_alike(named: &Named, object: &KeptObject) -> bool
+    ensures to { result ≡ true → named.now.to ≡ object.now.common.value.lists.to }
+    ensures cc { result ≡ true → named.now.cc ≡ object.now.common.value.lists.cc }
+    ensures audience { result ≡ true → named.now.audience ≡ object.now.common.value.lists.audience }
+    ensures published { result ≡ true → named.now.published ≡ object.now.published }
+{
+    are_same(named.to.as_slice(), object.common.lists.to.as_slice())
+        && are_same(named.cc.as_slice(), object.common.lists.cc.as_slice())
+        && are_same(
+            named.audience.as_slice(),
+            object.common.lists.audience.as_slice(),
+        )
+        && is_same_text(&named.published, &object.published)
+}
+
+fn names_nobody(named: &Named) -> bool
+    ensures { result ≡ true → names_given named.now ≡ no_names }
+{
+    is_empty(&named.to)
+        && is_empty(&named.cc)
+        && is_empty(&named.audience)
+        && named.published.is_none()
+}
+
+// Whether an activity names whom its object names, and was published when its object was; without
+// an object, whether it names nobody.
+fn is_named_as_object(named: &Named, about: &About) -> bool
+    ensures { result ≡ true → names_given named.now ≡ object_names about.now }
+{
+    match about {
+        About::Whole(object) => is_named_alike(named, object),
+        About::Nothing | About::Id(_) | About::Changed(_) => names_nobody(named),
+    }
+}
+
+fn rare_of(alloc: Global, rare: Rare) -> Result<Option<Box<Rare>>, AllocError>
+    ensures { IfOk result (λ kept. rare_in kept ≡ rare) }
+{
+    if has_nothing(&rare) {
+        return Ok(None);
+    }
+    let rare = Box::new(alloc, rare)?;
+    Ok(Some(rare))
+}
+
+fn parts_of(
+    alloc: Global,
+    named: Named,
+    rare: Option<Box<Rare>>,
+) -> Result<Option<Box<Parts>>, AllocError>
+    ensures named { IfOk result (λ kept. (about : _)
+        → named_part (unboxed kept) about ≡ names_given named) }
+    ensures rare { IfOk result (λ kept. rare_part (unboxed kept) ≡ rare_in rare) }
+{
+    let lists = Lists::new(alloc, named.to, named.cc, named.audience)?;
+    let parts = Box::new(
+        alloc,
+        Parts {
+            to: lists.to,
+            cc: lists.cc,
+            audience: lists.audience,
+            published: named.published,
+            rare,
+        },
+    )?;
+    Ok(Some(parts))
+}
+
+// What an activity has of its own, where that is not what its object has too.
+fn own_of(
+    alloc: Global,
+    named: Named,
+    rare: Rare,
+    about: &About,
+) -> Result<Option<Box<Parts>>, AllocError>
+    ensures named { IfOk result (λ kept. named_part (unboxed kept) about.now ≡ names_given named) }
+    ensures rare { IfOk result (λ kept. rare_part (unboxed kept) ≡ rare) }
+{
+    let rare = rare_of(alloc, rare)?;
+    if rare.is_none() && is_named_as_object(&named, about) {
+        return Ok(None);
+    }
+    parts_of(alloc, named, rare)
+}
+
+/// What an activity is about, and what it has of its own beside that. The error is out of memory.
+pub(crate) fn content_of(
+    alloc: Global,
+    object: ObjectRef,
+    named: Named,
+    rare: Rare,
+) -> Result<(About, Option<Box<Parts>>), AllocError>
+    ensures about { IfOk result (λ both. referred both.0 ≡ object) }
+    ensures named { IfOk result (λ both. named_part (unboxed both.1) both.0 ≡ names_given named) }
+    ensures rare { IfOk result (λ both. rare_part (unboxed both.1) ≡ rare) }
+{
+    let about = About::new(alloc, object)?;
+    match own_of(alloc, named, rare, &about) {
+        Ok(own) => Ok((about, own)),
+        Err(error) => {
+            drop(about);
+            Err(error)
+        }
+    }
+}
+
+/// The parts of its own and the key of an activity. The error is out of memory.
+pub(crate) fn beside_of(
+    alloc: Global,
+    own: Option<Box<Parts>>,
+    repeat: Option<Repeat>,
+) -> Result<Beside, AllocError>
+    ensures own { IfOk result (λ beside. parts_in beside ≡ unboxed own) }
+    ensures repeat { IfOk result (λ beside. repeat_in beside ≡ repeat) }
+{
+    match (own, repeat) {
+        (None, None) => Ok(Beside::Nothing),
+        (Some(own), None) => Ok(Beside::Parts(own)),
+        (None, Some(repeat)) => Ok(Beside::Repeat(Box::new(alloc, repeat)?)),
+        (Some(own), Some(repeat)) => {
+            let repeat = Box::new(alloc, repeat)?;
+            Ok(Beside::Both(Box::new(alloc, (own, repeat))?))
+        }
+    }
+}
+
+impl Beside {
+    /// The parts of its own.
+    pub(crate) fn parts(&self) -> Option<&Parts>
+        ensures { option_copied result ≡ parts_in self.now }
+    {
+        match self {
+            Beside::Parts(parts) => Some(&**parts),
+            Beside::Both(both) => Some(&*both.0),
+            Beside::Nothing | Beside::Repeat(_) => None,
+        }
+    }
+
+    /// What few activities have, where this one has something of it.
+    pub(crate) fn rare(&self) -> Option<&Rare>
+        ensures { rare_lent (option_copied result) ≡ rare_part (parts_in self.now) }
+    {
+        match self.parts() {
+            Some(parts) => match &parts.rare {
+                Some(rare) => Some(&**rare),
+                None => None,
+            },
+            None => None,
+        }
+    }
+
+    /// The key, and the digest of the posted body.
+    pub(crate) fn repeat(&self) -> Option<&Repeat>
+        ensures { option_copied result ≡ repeat_in self.now }
+    {
+        match self {
+            Beside::Repeat(repeat) => Some(&**repeat),
+            Beside::Both(both) => Some(&*both.1),
+            Beside::Nothing | Beside::Parts(_) => None,
+        }
+    }
+
+    /// Lets the IRIs that come again and again share the texts of equal ones.
+    pub(crate) fn share(&mut self, pool: &mut Pool)
+        ensures parts { parts_in self.new ≡ parts_in self.old }
+        ensures repeat { repeat_in self.new ≡ repeat_in self.old }
+    {
+        match self {
+            Beside::Parts(parts) => parts.share(pool),
+            Beside::Both(both) => both.0.share(pool),
+            Beside::Nothing | Beside::Repeat(_) => {}
+        }
+    }
+}
+
+impl Parts {
+    fn share(&mut self, pool: &mut Pool)
+        ensures { self.new ≡ self.old }
+    {
+        self.to.share(pool);
+        self.cc.share(pool);
+        self.audience.share(pool);
+    }
+}

@@ -1,5 +1,0 @@
-mod Again
-mod Costs
-pub mod Firsts
-pub mod Listed
-pub mod Pages

@@ -1,4 +1,0 @@
-pub mod Conversing
-pub mod Determined
-pub mod SessionLemmas
-pub mod Talks

@@ -1,4 +1,0 @@
-pub mod Channels
-pub mod Conversations
-pub mod Endings
-pub mod Turning
