@@ -103,7 +103,12 @@ fn is_new_recipient(facts: &Facts, author: &Iri, found: &[Iri], iri: &Iri) -> bo
 }
 
 #[tactic(auto, unfolding(crate::specs::Gathering::with_reached))]
-fn reach_one(facts: &Facts, author: &Iri, found: &mut Vec<Iri>, iri: &Iri) -> Result<(), AllocError>
+fn add_recipient(
+    facts: &Facts,
+    author: &Iri,
+    found: &mut Vec<Iri>,
+    iri: &Iri,
+) -> Result<(), AllocError>
     ensures { OnOk result (found.new.items
         ≡ with_reached facts.now.town author.now found.old.items iri.now) }
 {
@@ -123,7 +128,7 @@ fn first_place(found: &[Iri], iri: &Iri) -> Option<usize>
 
 // Where the IRI stands among those found. It is looked for first at this place.
 #[tactic(auto, using(crate::proofs::FirstPlaces::among_at), unfolding(fedi_address::specs::Recipients::is_among))]
-fn place_of(found: &[Iri], iri: &Iri, near: usize) -> Option<usize>
+fn position_of(found: &[Iri], iri: &Iri, near: usize) -> Option<usize>
     ensures among { is_some result ≡ is_among iri.now found.now }
     ensures bound { IfSome result (λ place. place < length found.now) }
 {
@@ -136,7 +141,7 @@ fn place_of(found: &[Iri], iri: &Iri, near: usize) -> Option<usize>
 // Adds the IRI if it is new. It is looked for first at this place, and the place to look at for the
 // next one is returned.
 #[tactic(auto, unfolding(crate::specs::Gathering::with_reached, crate::specs::Gathering::is_new_recipient))]
-fn reach_near(
+fn add_recipient_near(
     facts: &Facts,
     author: &Iri,
     found: &mut Vec<Iri>,
@@ -146,7 +151,7 @@ fn reach_near(
     ensures { OnOk result (found.new.items
         ≡ with_reached facts.now.town author.now found.old.items iri.now) }
 {
-    if let Some(place) = place_of(found, iri, near) {
+    if let Some(place) = position_of(found, iri, near) {
         return Ok(place + 1);
     }
     if is_recipient(facts, author, iri) {
@@ -164,7 +169,7 @@ fn reach(facts: &Facts, author: &Iri, found: &mut Vec<Iri>, iris: &[Iri]) -> Res
 {
     let mut near = 0;
     for iri in iris {
-        near = reach_near(facts, author, found, iri, near)?;
+        near = add_recipient_near(facts, author, found, iri, near)?;
     }
     Ok(())
 }
@@ -179,7 +184,7 @@ fn keep_new(facts: &Facts, author: &Iri, found: &[Iri], iris: &mut Vec<Iri>)
 // The author's present followers. They are many and stand once each, so each of them is looked for
 // only among those who were found before.
 #[tactic(auto, using(crate::proofs::Apart::followers_apart))]
-fn reach_followers(
+fn add_followers(
     alloc: Global,
     facts: &Facts,
     author: &Iri,
@@ -195,7 +200,7 @@ fn reach_followers(
 
 // The author's followers collection stands for the present followers (ActivityPub, section 7.1).
 #[tactic(auto, unfolding(crate::specs::Gathering::with_addressees, fedi_town::specs::Addressing::addressees))]
-fn reach_named(
+fn add_addressee(
     alloc: Global,
     facts: &Facts,
     author: &Iri,
@@ -206,13 +211,13 @@ fn reach_named(
         ≡ with_addressees facts.now.town author.now found.old.items iri.now) }
 {
     if is_followers_id(author, iri) {
-        reach_followers(alloc, facts, author, found)
+        add_followers(alloc, facts, author, found)
     } else {
-        reach_one(facts, author, found, iri)
+        add_recipient(facts, author, found, iri)
     }
 }
 
-fn reach_each(
+fn add_addressees(
     alloc: Global,
     facts: &Facts,
     author: &Iri,
@@ -223,12 +228,12 @@ fn reach_each(
         ≡ fold (with_addressees facts.now.town author.now) found.old.items iris.now) }
 {
     for iri in iris {
-        reach_named(alloc, facts, author, found, iri)?;
+        add_addressee(alloc, facts, author, found, iri)?;
     }
     Ok(())
 }
 
-fn reach_all(
+fn add_all_addressees(
     alloc: Global,
     facts: &Facts,
     author: &Iri,
@@ -238,11 +243,11 @@ fn reach_all(
     ensures { OnOk result (found.new.items
         ≡ fold (with_addressees facts.now.town author.now) found.old.items (all_of named.now)) }
 {
-    reach_each(alloc, facts, author, found, named.to.as_slice())?;
-    reach_each(alloc, facts, author, found, named.cc.as_slice())?;
-    reach_each(alloc, facts, author, found, named.bto.as_slice())?;
-    reach_each(alloc, facts, author, found, named.bcc.as_slice())?;
-    reach_each(alloc, facts, author, found, named.audience.as_slice())
+    add_addressees(alloc, facts, author, found, named.to.as_slice())?;
+    add_addressees(alloc, facts, author, found, named.cc.as_slice())?;
+    add_addressees(alloc, facts, author, found, named.bto.as_slice())?;
+    add_addressees(alloc, facts, author, found, named.bcc.as_slice())?;
+    add_addressees(alloc, facts, author, found, named.audience.as_slice())
 }
 
 /// The recipients of a member's activity: those of `to`, `cc`, `bto`, `bcc` and `audience` in this
@@ -260,7 +265,7 @@ pub fn recipients_with(
         (λ found. found ≡ recipients_with facts.now.town author.now named.now others.now) }
 {
     let mut found = Vec::new(alloc);
-    reach_all(alloc, facts, author, &mut found, named)?;
+    add_all_addressees(alloc, facts, author, &mut found, named)?;
     reach(facts, author, &mut found, others)?;
     Ok(Items::new(found))
 }

@@ -24,7 +24,7 @@ ghost use Rattle.fedi_register.specs.Marks.{Decides};
 use crate::making::prepare;
 use crate::members::Members;
 use crate::progress::Standing;
-use crate::ready::{Ready, know_authors, make_ready};
+use crate::ready::{Ready, add_authors, make_ready};
 use crate::steps::Steps;
 use crate::tallies::Tallies;
 use fedi_address::{Host, Iri, LocalName};
@@ -78,12 +78,12 @@ pub(crate) fn has_host(peer: &Peer, host: &str) -> bool
 }
 
 #[tactic(auto, using(crate::proofs::Towns::authors_known))]
-fn know(register: &mut Register, ready: &Ready) -> Result<(), AllocError>
+fn add_author(register: &mut Register, ready: &Ready) -> Result<(), AllocError>
     ensures acts { register.new.acts ≡ register.old.acts }
     ensures room { register.new.room ≡ register.old.room }
     ensures known { OnOk result (HasAuthors register.new.known ready.now) }
 {
-    know_authors(register, ready)
+    add_authors(register, ready)
 }
 
 // Each list gets room for one entry more, which was made ready.
@@ -108,7 +108,7 @@ fn make_room(
     peers.reserve(1)?;
     tallies.reserve()?;
     register.reserve()?;
-    know(register, ready)
+    add_author(register, ready)
 }
 
 // The room for an entry is kept, if each list gets its own. Dropping a room costs much to prove, so

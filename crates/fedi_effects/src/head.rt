@@ -48,7 +48,7 @@ impl Head {
     }
 
     /// The activity gets this head.
-    pub(crate) fn put_on(self, activity: &mut Activity)
+    pub(crate) fn set_on(self, activity: &mut Activity)
         ensures { activity.new ≡ record activity.old {
           id = Some self.id;
           actor = Some self.actor;

@@ -124,7 +124,7 @@ impl<'a> Stamp<'a> {
     }
 
     // The activity gets its id, its actor and its moment, and its object likewise.
-    fn put_on(&self, alloc: Global, activity: &mut Activity, author: &Iri) -> Result<(), AllocError>
+    fn set_on(&self, alloc: Global, activity: &mut Activity, author: &Iri) -> Result<(), AllocError>
         requires { author.now ≡ actor_id self.now.host.now self.now.name.now }
         ensures { OnOk result (activity.new ≡ stamped self.now.host.now self.now.name.now
             self.now.number self.now.moment activity.old) }
@@ -138,7 +138,7 @@ impl<'a> Stamp<'a> {
             self.moment,
         )?;
         self.complete_ref(alloc, &mut activity.object, author, &head.published)?;
-        head.put_on(activity);
+        head.set_on(activity);
         Ok(())
     }
 
@@ -156,7 +156,7 @@ impl<'a> Stamp<'a> {
         ensures subject { IfOk result (λ subject. option_copied subject
             ≡ subject_of facts.now.town (deed_of activity.new.kind) (ref_id activity.new.object)) }
     {
-        self.put_on(alloc, activity, author)?;
+        self.set_on(alloc, activity, author)?;
         let subject = subject_of(facts, Deed::of(activity.kind), &activity.object);
         complete_addressing(alloc, facts, author, activity, subject)?;
         Ok(subject)

@@ -249,29 +249,29 @@ pub(crate) fn make_ready(
     }
 }
 
-fn know_answerer(register: &mut Register, answer: &Option<Kept>) -> Result<(), AllocError>
+fn add_answerer(register: &mut Register, answer: &Option<Kept>) -> Result<(), AllocError>
     ensures acts { register.new.acts ≡ register.old.acts }
     ensures room { register.new.room ≡ register.old.room }
     ensures known { OnOk result (register.new.known ≡ with_answerer register.old.known answer.now) }
 {
     match answer {
-        Some(answer) => register.know(answer.author()),
+        Some(answer) => register.add_author(answer.author()),
         None => Ok(()),
     }
 }
 
-fn know_both(register: &mut Register, act: &Kept, answer: &Option<Kept>) -> Result<(), AllocError>
+fn add_both(register: &mut Register, act: &Kept, answer: &Option<Kept>) -> Result<(), AllocError>
     ensures acts { register.new.acts ≡ register.old.acts }
     ensures room { register.new.room ≡ register.old.room }
     ensures known { OnOk result (register.new.known
         ≡ with_answerer (add_new register.old.known act.now.author) answer.now) }
 {
-    register.know(act.author())?;
-    know_answerer(register, answer)
+    register.add_author(act.author())?;
+    add_answerer(register, answer)
 }
 
 /// Makes the authors of what is ready known. The error is out of memory.
-pub(crate) fn know_authors(register: &mut Register, ready: &Ready) -> Result<(), AllocError>
+pub(crate) fn add_authors(register: &mut Register, ready: &Ready) -> Result<(), AllocError>
     ensures acts { register.new.acts ≡ register.old.acts }
     ensures room { register.new.room ≡ register.old.room }
     ensures known { OnOk result (register.new.known ≡ with_authors register.old.known ready.now) }
@@ -283,6 +283,6 @@ pub(crate) fn know_authors(register: &mut Register, ready: &Ready) -> Result<(),
         | Ready::Peer(_)
         | Ready::Inbox { .. }
         | Ready::Attempt(_) => Ok(()),
-        Ready::Activity { act, answer, .. } => know_both(register, act, answer),
+        Ready::Activity { act, answer, .. } => add_both(register, act, answer),
     }
 }

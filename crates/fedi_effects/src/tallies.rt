@@ -54,11 +54,17 @@ fn is_tally_of(tally: &Tally, id: &Iri, recipient: &Iri) -> bool
 }
 
 // Where the tally is of the delivery of the activity of this id to this recipient.
-fn place_of(list: &[Tally], seed: &Seed, marks: &Marks, id: &Iri, recipient: &Iri) -> Option<usize>
+fn position_of(
+    list: &[Tally],
+    seed: &Seed,
+    marks: &Marks,
+    id: &Iri,
+    recipient: &Iri,
+) -> Option<usize>
     requires { marks.now.marks ≡ marks_from every (tally_mark seed.now) 0 list.now }
     ensures { result ≡ place_where (is_tally_of id.now recipient.now) list.now }
 {
-    marks.place_of(
+    marks.position_of(
         list,
         seed.mark_of_pair(id, recipient.text()),
         |tally| is_tally_of(tally, id, recipient),
@@ -120,7 +126,7 @@ impl Tallies {
             ≡ progress_at self.now.attempts id.now recipient.now moment }
         ensures few { IsFew result }
     {
-        match place_of(&self.list, &self.seed, &self.marks, id, recipient) {
+        match position_of(&self.list, &self.seed, &self.marks, id, recipient) {
             Some(place) => self.list[place].standing,
             None => Standing::Due {
                 attempts: 0,
@@ -158,7 +164,7 @@ impl Tallies {
         let mark = self
             .seed
             .mark_of_pair(&attempt.activity, attempt.recipient.text());
-        match place_of(
+        match position_of(
             &self.list,
             &self.seed,
             &self.marks,

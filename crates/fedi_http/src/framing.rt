@@ -80,12 +80,12 @@ pub(crate) fn lists_close(value: &[u8]) -> bool
 fn is_close(element: &[u8]) -> bool
     ensures { result ≡ model.is_close element.now }
 {
-    is_same_name(without_back_blanks(without_front_blanks(element)), b"close")
+    is_same_name(trim_end(trim_start(element)), b"close")
 }
 
 /// The text from its first byte that is not blank.
-fn without_front_blanks(text: &[u8]) -> &[u8]
-    ensures { result.now ≡ model.without_front_blanks text.now }
+fn trim_start(text: &[u8]) -> &[u8]
+    ensures { result.now ≡ model.trim_start text.now }
 {
     match first_not_blank(text) {
         Some(start) => &text[start..],
@@ -101,8 +101,8 @@ fn first_not_blank(text: &[u8]) -> Option<usize>
 }
 
 /// The text up to its last byte that is not blank.
-pub fn without_back_blanks(text: &[u8]) -> &[u8]
-    ensures { result.now ≡ model.without_back_blanks text.now }
+pub fn trim_end(text: &[u8]) -> &[u8]
+    ensures { result.now ≡ model.trim_end text.now }
 {
     let mut end = text.len();
     'blanks: while end > 0 && is_blank(text[end - 1]) {

@@ -16,7 +16,7 @@ pub use arrivals::{Arrived, arrivals_are_determined, limits_are_fixed, read_requ
 pub use buffer::{BUFFER_LIMIT, Buffer};
 pub use chunks::{LINE_LIMIT, TRAILER_LIMIT};
 pub use fields::is_same_name;
-pub use framing::without_back_blanks;
+pub use framing::trim_end;
 pub use heads::HEAD_LIMIT;
 pub use replies::{memory_text, reply_bytes};
 pub use requests::{MOST_FIELDS, read_request_head, text_of};

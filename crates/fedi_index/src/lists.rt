@@ -78,7 +78,7 @@ fn row_of<'a>(
 }
 
 // Where this list is.
-fn place_of(
+fn position_of(
     seed: &Seed,
     rows: &[Row],
     index: &Marks,
@@ -88,7 +88,7 @@ fn place_of(
     requires { index.now.marks ≡ marks_from every (list_mark seed.now) 0 (listings rows.now) }
     ensures { result ≡ first_from (is_list collection owner.now) 0 (listings rows.now) }
 {
-    index.place_of(
+    index.position_of(
         rows,
         mark_of_list(seed, owner),
         |row| is_row(row, collection, owner),
@@ -152,7 +152,7 @@ impl Lists {
         requires { 1 ≤ room_of collection owner.now self.old }
         ensures { HasOneMore collection owner.now (at_end place) self.old self.new }
     {
-        match place_of(&self.seed, &self.rows, &self.index, collection, owner) {
+        match position_of(&self.seed, &self.rows, &self.index, collection, owner) {
             None => unreachable!(),
             Some(at) => push_at(&mut self.rows, at, place),
         }
@@ -165,7 +165,7 @@ impl Lists {
         requires index { index ≤ length (places_of collection owner.now self.old) }
         ensures { HasOneMore collection owner.now (at_index index place) self.old self.new }
     {
-        match place_of(&self.seed, &self.rows, &self.index, collection, owner) {
+        match position_of(&self.seed, &self.rows, &self.index, collection, owner) {
             None => unreachable!(),
             Some(at) => insert_at(&mut self.rows, at, index, place),
         }
@@ -199,7 +199,7 @@ impl Lists {
     }
 
     // The place of this list, which is made where there is none.
-    fn know(
+    fn find_or_add(
         &mut self,
         alloc: Global,
         collection: Collection,
@@ -209,7 +209,7 @@ impl Lists {
         ensures known { IfOk result (λ at.
             first_from (is_list collection owner.now) 0 self.new ≡ Some at) }
     {
-        match place_of(&self.seed, &self.rows, &self.index, collection, owner) {
+        match position_of(&self.seed, &self.rows, &self.index, collection, owner) {
             Some(at) => Ok(at),
             None => {
                 let at = self.add(alloc, collection, owner)?;
@@ -230,7 +230,7 @@ impl Lists {
         ensures roomier { IsRoomier self.old self.new }
         ensures room { OnOk result (more ≤ room_of collection owner.now self.new) }
     {
-        let at = self.know(alloc, collection, owner)?;
+        let at = self.find_or_add(alloc, collection, owner)?;
         reserve_at(&mut self.rows, at, more)?;
         Ok(())
     }

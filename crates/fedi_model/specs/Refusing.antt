@@ -8,13 +8,13 @@ use Rattle.fedi_model.specs.declared.reply.Reply.{Reply}
 use Rattle.fedi_model.specs.Refusals.{refusal_body, status_of}
 
 -- a reply that tells in JSON what is wrong
-abbrev pub telling : ℕ → List ℕ → Reply
-telling status body =
+abbrev pub text_reply : ℕ → List ℕ → Reply
+text_reply status body =
     record { status = status; form = forms.Json; location = None; allow = None; body = body }
 
 -- the reply to what is refused
 abbrev pub refused : Refusal → Reply
-refused r = telling (status_of r) (refusal_body r)
+refused r = text_reply (status_of r) (refusal_body r)
 
 -- the body that names a fault of shape
 abbrev pub fault_body : ShapeFault → List ℕ
@@ -22,4 +22,4 @@ fault_body fault = codes "{\"error\":\"BadShape\",\"fault\":\"" ++ (fault_name f
 
 -- the reply to a post of the wrong shape (RFC 9110, section 15.5.21)
 abbrev pub misshapen : ShapeFault → Reply
-misshapen fault = telling 422 (fault_body fault)
+misshapen fault = text_reply 422 (fault_body fault)

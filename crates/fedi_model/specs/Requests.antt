@@ -113,17 +113,17 @@ abbrev pub is_blank : ℕ → Bool
 is_blank byte = (byte == 32) || (byte == 9)
 
 -- the text from its first byte that is not blank
-abbrev pub without_front_blanks : List ℕ → List ℕ
-without_front_blanks text = drop (position_or_len (λ byte. not (is_blank byte)) text) text
+abbrev pub trim_start : List ℕ → List ℕ
+trim_start text = drop (position_or_len (λ byte. not (is_blank byte)) text) text
 
 -- the text up to its last byte that is not blank
-abbrev pub without_back_blanks : List ℕ → List ℕ
-without_back_blanks text = take (length text - suffix_len is_blank text) text
+abbrev pub trim_end : List ℕ → List ℕ
+trim_end text = take (length text - suffix_len is_blank text) text
 
 -- the element of a list is `close`, in any case (RFC 9110, sections 5.6.1 and 7.6.1)
 unfoldable pub is_close : List ℕ → Bool
 is_close element =
-    bytes_eq (map to_ascii_lowercase (without_back_blanks (without_front_blanks element)))
+    bytes_eq (map to_ascii_lowercase (trim_end (trim_start element)))
     (codes "close")
 
 -- one of the elements between the commas is `close` (RFC 9110, section 5.6.1)

@@ -34,7 +34,7 @@ use Rattle.fedi_model.specs.declared.request.Request.{Request}
 use Rattle.fedi_model.specs.Pages.{page_in}
 use Rattle.fedi_model.specs.Places.{LeadsTo, allow_of}
 use Rattle.fedi_model.specs.Queries.{query_of}
-use Rattle.fedi_model.specs.Requests.{is_post, is_reading, without_back_blanks}
+use Rattle.fedi_model.specs.Requests.{is_post, is_reading, trim_end}
 use Rattle.fedi_model.specs.Webfinger.{resource_in}
 
 -- the path: the target up to its first question mark (RFC 3986, section 3.3)
@@ -45,7 +45,7 @@ path_of target = before_first (λ b. b == 63) target
 
 -- a media type in lower case, without its parameters (RFC 9110, section 8.3.1)
 unfoldable pub media_type : List ℕ → List ℕ
-media_type value = map to_ascii_lowercase (without_back_blanks (before_first (λ b. b == 59) value))
+media_type value = map to_ascii_lowercase (trim_end (before_first (λ b. b == 59) value))
 
 -- the types of JSON and of ActivityStreams (ActivityPub, section 3.2; ActivityStreams 2.0 Core,
 -- section 2; RFC 8259, section 11)

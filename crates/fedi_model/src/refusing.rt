@@ -1,7 +1,7 @@
 //! The replies to what is refused. They take no memory.
 
 ghost use Rattle.std.specs.Prelude.{◌≡◌};
-ghost use Rattle.fedi_model.specs.Refusing.{fault_body, misshapen, refused, telling};
+ghost use Rattle.fedi_model.specs.Refusing.{fault_body, misshapen, refused, text_reply};
 
 use crate::refusal::{refusal_body, refusal_status};
 use crate::reply::{Body, Form, Reply};
@@ -9,8 +9,8 @@ use fedi_reading::ShapeFault;
 use fedi_town::Refusal;
 use http::StatusCode;
 
-fn telling(status: StatusCode, text: &'static [u8]) -> Reply
-    ensures { result ≡ telling status text.now }
+fn text_reply(status: StatusCode, text: &'static [u8]) -> Reply
+    ensures { result ≡ text_reply status text.now }
 {
     Reply::with_body(status, Form::Json, Body::from(text))
 }
@@ -38,7 +38,7 @@ fn fault_body(fault: ShapeFault) -> &'static [u8]
 pub fn refusal_reply(refusal: Refusal) -> Reply
     ensures { result ≡ refused refusal }
 {
-    telling(refusal_status(refusal), refusal_body(refusal))
+    text_reply(refusal_status(refusal), refusal_body(refusal))
 }
 
 /// The reply to a post of the wrong shape (RFC 9110, section 15.5.21), which names the fault as
@@ -46,5 +46,5 @@ pub fn refusal_reply(refusal: Refusal) -> Reply
 pub fn misshapen_reply(fault: ShapeFault) -> Reply
     ensures { result ≡ misshapen fault }
 {
-    telling(StatusCode::UNPROCESSABLE_ENTITY, fault_body(fault))
+    text_reply(StatusCode::UNPROCESSABLE_ENTITY, fault_body(fault))
 }

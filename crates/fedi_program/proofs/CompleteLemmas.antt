@@ -40,10 +40,10 @@ use Rattle.fedi_log.specs.Claims.{IsFirst}
 use Rattle.fedi_logged.specs.Attempts.{Exchange}
 use Rattle.fedi_program.specs.Delivering.{AreFirst, DeliversBy, DeliversStore, EndsTrying, Trial, TriesDue, TriesEach, entry_of}
 use Rattle.fedi_program.specs.Endings.{HasCauses, Prints}
-use Rattle.fedi_program.specs.Members.{Chance, Draws, EndsWith, IsSettled, MakesMember, TellsFault, key_line, member_entry}
+use Rattle.fedi_program.specs.Members.{Chance, Draws, EndsWith, IsSettled, MakesMember, ReportsFault, key_line, member_entry}
 use Rattle.fedi_program.specs.Peers.{MakesPeer, peer_entry, peer_line}
 use Rattle.fedi_program.specs.Serving.{ServesDoors}
-use Rattle.fedi_program.specs.Stores.{AddsMember, AddsPeer, ChecksStore, ExportsStore, IsRefused, IsServed, MakesStore, Medium, ServesStore, TellsOfStore, status_by}
+use Rattle.fedi_program.specs.Stores.{AddsMember, AddsPeer, ChecksStore, ExportsStore, IsRefused, IsServed, MakesStore, Medium, ServesStore, ReportsStore, status_by}
 use Rattle.fedi_program.specs.declared.commands.Table.{Table}
 
 -- ---- counts
@@ -108,10 +108,10 @@ by_status task fault before after history status has calm refused is =
 
 -- also where it is told
 by_told : (task : Task) (fault : StoreFault) (before after : Medium) (history : List Entry) (first now : Output) (status : ℕ) → HasStore before.shown history
-    → IsCalm before.shown.faults after.shown.faults → IsRefused before after fault → TellsOfStore fault first now status → IsDone task status
+    → IsCalm before.shown.faults after.shown.faults → IsRefused before after fault → ReportsStore fault first now status → IsDone task status
 by_told task fault before after history first now status has calm refused told =
     let memory = not_opened fault before.shown after.shown history has calm refused.back in
-    inr (inl ((subst (λ (f : StoreFault). TellsOfStore f first now status) memory told).0))
+    inr (inl ((subst (λ (f : StoreFault). ReportsStore f first now status) memory told).0))
 
 -- ---- a text is printed
 

@@ -26,7 +26,7 @@ use Rattle.fedi_program.specs.Commands.{AddActor, Init, Task, Export, Demo}
 use Rattle.fedi_logged.specs.Turns.{Standing, Turns}
 use Rattle.fedi_logged.specs.Endings.{Output}
 use Rattle.fedi_program.specs.Endings.{Prints}
-use Rattle.fedi_program.specs.Members.{Chance, EndsWith, IsSettled, IsUnmade, MakesMember, TellsFault, key_line, member_entry}
+use Rattle.fedi_program.specs.Members.{Chance, EndsWith, IsSettled, IsUnmade, MakesMember, ReportsFault, key_line, member_entry}
 use Rattle.fedi_program.specs.Runs.{is_status_of}
 use Rattle.fedi_program.specs.Stores.{AddsMember, Medium}
 use Rattle.fedi_logged.proofs.Crashing.{survives_first, survives_more, survives_turn}
@@ -38,7 +38,7 @@ use Rattle.fedi_logged.proofs.Turning.{IsUnkept, failed_turn}
 -- a command ended so: each status that this may be is one of the task
 fault_status : (task : Option Task) (fault : CommandFault) (first now : Output) (status : ℕ)
     → is_status_of task 5 ≡ true → is_status_of task 10 ≡ true → is_status_of task 12 ≡ true → is_status_of task 13 ≡ true
-    → TellsFault fault first now status → is_status_of task status ≡ true
+    → ReportsFault fault first now status → is_status_of task status ≡ true
 fault_status task faults.NameTaken first now status five ten twelve thirteen told = known_status task status 10 ten told.0
 fault_status task faults.KeyTaken first now status five ten twelve thirteen told = known_status task status 10 ten told.0
 fault_status task faults.HostTaken first now status five ten twelve thirteen told = known_status task status 10 ten told.0

@@ -21,7 +21,7 @@ use Rattle.fedi_logged.specs.Turning.{setting_by}
 use Rattle.fedi_program.specs.Members.{Chance}
 use Rattle.fedi_program.specs.Runs.{is_status_of}
 use Rattle.fedi_program.specs.declared.commands.Table.{Table}
-use Rattle.fedi_program.specs.Stores.{AddsMember, AddsPeer, ChecksStore, ExportsStore, IsKeptSafe, Medium, ServesStore, TalksOverStore, TellsOfStore, status_by}
+use Rattle.fedi_program.specs.Stores.{AddsMember, AddsPeer, ChecksStore, ExportsStore, IsKeptSafe, Medium, ServesStore, TalksOverStore, ReportsStore, status_by}
 
 -- ---- the end of a session
 
@@ -100,7 +100,7 @@ refused_status faults.Memory = refl
 
 -- it is told that a store is not opened
 pub told_status : (task : Option Task) (fault : StoreFault) (first now : Output) (status : ℕ) → is_status_of task 3 ≡ true → is_status_of task 4 ≡ true
-    → is_status_of task 5 ≡ true → is_status_of task 12 ≡ true → TellsOfStore fault first now status → is_status_of task status ≡ true
+    → is_status_of task 5 ≡ true → is_status_of task 12 ≡ true → ReportsStore fault first now status → is_status_of task status ≡ true
 told_status task faults.NotAStore first now status three four five twelve told = known_status task status 3 three told.0
 told_status task (faults.DamagedByte place) first now status three four five twelve told = known_status task status 4 four told.0
 told_status task (faults.DamagedRecord place) first now status three four five twelve told = known_status task status 4 four told.0

@@ -31,7 +31,7 @@ use Rattle.fedi_town.specs.Histories.{town}
 use Rattle.fedi_town.specs.Queues.{Delivery, outcome}
 use Rattle.fedi_town.specs.Towns.{Town}
 use Rattle.fedi_program.specs.Members.{IsSettled}
-use Rattle.fedi_program.specs.Stores.{IsRefused, IsRunAlone, Medium, TellsOfStore}
+use Rattle.fedi_program.specs.Stores.{IsRefused, IsRunAlone, Medium, ReportsStore}
 use Rattle.fedi_program.specs.declared.delivering.Stop.{Stop}
 use Rattle.fedi_program.specs.declared.delivering.Stop.TheVariants.{WriteFault, KeeperFault, Full}
 use Rattle.fedi_program.specs.declared.delivering.Stop.TheVariants.{Memory}
@@ -165,7 +165,7 @@ pub record TriesDue (growth room : ℕ → ℕ) (told : Option ℕ) (opened afte
 abbrev pub DeliversStore : Option ℕ → Medium → Medium → Told → Told → Output → Output → ℕ → Type 0
 DeliversStore told before after asked heard first now status =
     ((fault : StoreFault) × IsRefused before after fault × (heard ≡ asked)
-    × TellsOfStore fault first now status)
+    × ReportsStore fault first now status)
     ⊎ ((opened : State) × (closed : State) × IsRunAlone before after opened closed
     × TriesDue growth room told opened closed asked heard first now status)
 

@@ -57,24 +57,24 @@ abbrev pub refusal_line : List ℕ → List ℕ
 refusal_line reason = codes "refused: " ++ (reason ++ codes "\n")
 
 -- the text was printed, unless that write failed; the status stays
-abbrev pub Tells : Output → Output → ℕ → List ℕ → ℕ → Type 0
-Tells before now status text given = (given ≡ status) × WritesUnlessFailed before now [] text
+abbrev pub Reports : Output → Output → ℕ → List ℕ → ℕ → Type 0
+Reports before now status text given = (given ≡ status) × WritesUnlessFailed before now [] text
 
 -- what is printed for a command that was refused, and the status: a rule that is broken is told
 -- (10), a keeper that failed (5) and one that has no room (13); out of memory (12) nothing is
 -- printed
-abbrev pub TellsFault : CommandFault → Output → Output → ℕ → Type 0
-TellsFault NameTaken before now status =
-    Tells before now 10 (refusal_line (codes "name taken")) status
-TellsFault KeyTaken before now status =
-    Tells before now 10 (refusal_line (codes "key taken")) status
-TellsFault HostTaken before now status =
-    Tells before now 10 (refusal_line (codes "host taken")) status
-TellsFault BadAddress before now status =
-    Tells before now 10 (refusal_line (codes "bad address")) status
-TellsFault Full before now status = Tells before now 13 (codes "full\n") status
-TellsFault KeeperFault before now status = Tells before now 5 (codes "disk fault\n") status
-TellsFault Memory before now status = (status ≡ 12) × Writes before now []
+abbrev pub ReportsFault : CommandFault → Output → Output → ℕ → Type 0
+ReportsFault NameTaken before now status =
+    Reports before now 10 (refusal_line (codes "name taken")) status
+ReportsFault KeyTaken before now status =
+    Reports before now 10 (refusal_line (codes "key taken")) status
+ReportsFault HostTaken before now status =
+    Reports before now 10 (refusal_line (codes "host taken")) status
+ReportsFault BadAddress before now status =
+    Reports before now 10 (refusal_line (codes "bad address")) status
+ReportsFault Full before now status = Reports before now 13 (codes "full\n") status
+ReportsFault KeeperFault before now status = Reports before now 5 (codes "disk fault\n") status
+ReportsFault Memory before now status = (status ≡ 12) × Writes before now []
 
 -- ---- the command
 
@@ -116,14 +116,14 @@ abbrev pub EndsWith : (ℕ → ℕ) → (ℕ → ℕ) → State → State → Ou
     → ℕ → Type 0
 EndsWith growth room before after first now e line status =
     ((fault : CommandFault) × IsUnmade room before after e fault
-    × TellsFault fault first now status)
+    × ReportsFault fault first now status)
     ⊎ IsMade growth room before after first now e line status
 
 -- a command was refused for this reason, before there was an entry to keep: it is told (10), and
 -- nothing was done
 abbrev pub IsRefusedFor : List ℕ → State → State → Output → Output → ℕ → Type 0
 IsRefusedFor reason before after first now status =
-    (after ≡ before) × Tells first now 10 (refusal_line reason) status
+    (after ≡ before) × Reports first now 10 (refusal_line reason) status
 
 -- How the making of a member of this name ends: no key could be drawn (6), or one was drawn, and
 -- the text is no name, or else the entry is refused or kept.

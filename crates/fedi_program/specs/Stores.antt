@@ -12,7 +12,7 @@ use Rattle.fedi_logged.specs.Conversations.{IsNow}
 use Rattle.fedi_logged.specs.Endings.{BreaksOff, Output, Scene, Writes}
 use Rattle.fedi_program.specs.Endings.{Prints, RunsTo, TalksIfTold}
 use Rattle.fedi_logged.specs.Turning.{setting_by}
-use Rattle.fedi_program.specs.Members.{Chance, MakesMember, Tells, refusal_line}
+use Rattle.fedi_program.specs.Members.{Chance, MakesMember, Reports, refusal_line}
 use Rattle.fedi_program.specs.Peers.{MakesPeer}
 use Rattle.fedi_program.specs.declared.commands.Table.{Table}
 use Rattle.fedi_program.specs.declared.commands.Table.TheVariants.{Actors, Activities, Queue}
@@ -104,14 +104,14 @@ status_by Failed = 5
 status_by Memory = 12
 
 -- and what is printed, but out of memory nothing
-abbrev pub TellsOfStore : StoreFault → Output → Output → ℕ → Type 0
-TellsOfStore NotAStore before now status = Tells before now 3 (codes "not a store\n") status
-TellsOfStore (DamagedByte place) before now status =
-    Tells before now 4 (damage_line (codes "byte") place) status
-TellsOfStore (DamagedRecord place) before now status =
-    Tells before now 4 (damage_line (codes "record") place) status
-TellsOfStore Failed before now status = Tells before now 5 (codes "disk fault\n") status
-TellsOfStore Memory before now status = (status ≡ 12) × Writes before now []
+abbrev pub ReportsStore : StoreFault → Output → Output → ℕ → Type 0
+ReportsStore NotAStore before now status = Reports before now 3 (codes "not a store\n") status
+ReportsStore (DamagedByte place) before now status =
+    Reports before now 4 (damage_line (codes "byte") place) status
+ReportsStore (DamagedRecord place) before now status =
+    Reports before now 4 (damage_line (codes "record") place) status
+ReportsStore Failed before now status = Reports before now 5 (codes "disk fault\n") status
+ReportsStore Memory before now status = (status ≡ 12) × Writes before now []
 
 -- ---- what a run does
 
@@ -136,7 +136,7 @@ abbrev pub AddsMember : Option ℕ → Medium → Medium → Chance → Chance �
     → Bool → ℕ → Type 0
 AddsMember told before after chance left first now name locked status =
     ((fault : StoreFault) × IsRefused before after fault × (left ≡ chance)
-    × TellsOfStore fault first now status)
+    × ReportsStore fault first now status)
     ⊎ ((opened : State) × (closed : State) × IsRunAlone before after opened closed
     × MakesMember growth room told chance left opened closed first now name locked status)
 
@@ -144,7 +144,7 @@ AddsMember told before after chance left first now name locked status =
 abbrev pub AddsPeer : Option ℕ → Medium → Medium → Output → Output → List ℕ → List ℕ → List ℕ → Bool
     → ℕ → Type 0
 AddsPeer told before after first now host key address relay status =
-    ((fault : StoreFault) × IsRefused before after fault × TellsOfStore fault first now status)
+    ((fault : StoreFault) × IsRefused before after fault × ReportsStore fault first now status)
     ⊎ ((opened : State) × (closed : State) × IsRunAlone before after opened closed
     × MakesPeer growth room told opened closed first now host key address relay status)
 
@@ -157,7 +157,7 @@ Counts first now history status =
 -- how a run counts what the store of a disk has, which is untouched
 abbrev pub ChecksStore : Medium → Medium → Output → Output → ℕ → Type 0
 ChecksStore before after first now status =
-    ((fault : StoreFault) × IsRefused before after fault × TellsOfStore fault first now status)
+    ((fault : StoreFault) × IsRefused before after fault × ReportsStore fault first now status)
     ⊎ ((opened : State) × IsServed before after opened opened (given opened.history)
     × IsSame before after
     × Counts first now opened.history status)
@@ -178,7 +178,7 @@ PrintsTable first now text status =
 -- how a run prints a table of what the store of a disk has, which is untouched
 abbrev pub ExportsStore : Table → Medium → Medium → Output → Output → ℕ → Type 0
 ExportsStore table before after first now status =
-    ((fault : StoreFault) × IsRefused before after fault × TellsOfStore fault first now status)
+    ((fault : StoreFault) × IsRefused before after fault × ReportsStore fault first now status)
     ⊎ ((opened : State) × IsServed before after opened opened (given opened.history)
     × IsSame before after
     × PrintsTable first now (table_text table (town opened.history)) status)
@@ -190,10 +190,10 @@ abbrev pub made_line : List ℕ → List ℕ
 made_line host = codes "made " ++ (host ++ codes "\n")
 
 -- what is printed of a store that is not made, but out of memory nothing, and the status
-abbrev pub TellsOfMaking : MakeFault → Output → Output → ℕ → Type 0
-TellsOfMaking makes.Exists before now status = Tells before now 9 (codes "exists\n") status
-TellsOfMaking makes.Failed before now status = Tells before now 5 (codes "disk fault\n") status
-TellsOfMaking makes.Memory before now status = (status ≡ 12) × Writes before now []
+abbrev pub ReportsMaking : MakeFault → Output → Output → ℕ → Type 0
+ReportsMaking makes.Exists before now status = Reports before now 9 (codes "exists\n") status
+ReportsMaking makes.Failed before now status = Reports before now 5 (codes "disk fault\n") status
+ReportsMaking makes.Memory before now status = (status ≡ 12) × Writes before now []
 
 -- how the making of a store ends whose first entry is this one
 abbrev pub EndsMaking : DiskState → DiskState → DiskCrashes → Output → Output → List ℕ → Entry
@@ -201,7 +201,7 @@ abbrev pub EndsMaking : DiskState → DiskState → DiskCrashes → Output → O
 EndsMaking before after crashes first now host e status =
     (IsMade (e ∷ []) before after crashes × Prints first now (made_line host) status)
     ⊎ ((fault : MakeFault) × IsNotMade (code_of e) fault before after
-    × TellsOfMaking fault first now status)
+    × ReportsMaking fault first now status)
 
 -- How a run makes the disk a store for this host: out of memory (12) or for a text that is no host
 -- (10) the disk is not asked; else the first entry says the host and the moment.
@@ -210,7 +210,7 @@ abbrev pub MakesStore : {D : Type 0} → (D → DiskState) → (D → DiskCrashe
 MakesStore shown crashes told before after first now host status =
     ((status ≡ 12) × (after ≡ before) × Writes first now [])
     ⊎ (((IsHost host → ⊥) × (after ≡ before)
-    × Tells first now 10 (refusal_line (codes "bad host")) status)
+    × Reports first now 10 (refusal_line (codes "bad host")) status)
     ⊎ (IsHost host × (moment : ℕ) × IsNow told moment
     × LeavesAtMost (code_of (Hosted host moment)) (shown before).reads (crashes before)
     (crashes after)

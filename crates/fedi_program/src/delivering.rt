@@ -21,7 +21,7 @@ ghost use Rattle.fedi_town.specs.Histories.{town};
 ghost use Rattle.fedi_town.specs.Legal.{IsLegal};
 ghost use Rattle.fedi_town.specs.Queues.{outcome};
 
-use crate::printing::{print, tell, write};
+use crate::printing::{print, report, write};
 use crate::statuses::{DISK_FAULT, FULL, OUT_OF_MEMORY, WRITE_FAULT};
 use arrayvec::ArrayString;
 use fedi_address::Iri;
@@ -216,7 +216,7 @@ fn try_claimed<O: Sink, P: Keeper, K: Link>(
 /// Tells why no more is tried. A keeper that failed is asked once to settle what it may have left,
 /// so that the entry is not found by the next opening, unless that fails too. The answer is the
 /// exit status.
-fn tell_stop<O: Sink, P: Keeper>(core: &mut Core<IndexedShelf, P>, out: &mut O, stop: Stop) -> u8
+fn report_stop<O: Sink, P: Keeper>(core: &mut Core<IndexedShelf, P>, out: &mut O, stop: Stop) -> u8
     ensures ends { IsStopped stop
         (state_of core.old.history (P.shown core.old.keeper))
         (state_of core.new.history (P.shown core.new.keeper))
@@ -230,9 +230,9 @@ fn tell_stop<O: Sink, P: Keeper>(core: &mut Core<IndexedShelf, P>, out: &mut O, 
         Stop::KeeperFault => {
             // Whatever becomes of it, the command failed.
             let _ = core.settle();
-            tell(out, DISK_FAULT, b"disk fault\n")
+            report(out, DISK_FAULT, b"disk fault\n")
         }
-        Stop::Full => tell(out, FULL, b"full\n"),
+        Stop::Full => report(out, FULL, b"full\n"),
         Stop::Memory => OUT_OF_MEMORY,
     }
 }
@@ -266,7 +266,7 @@ fn try_due<O: Sink, P: Keeper, K: Link>(
     let first = core.count();
     'due: while let Some(claim) = core.claim(moment) {
         if let Err(stop) = try_claimed(alloc, core, out, link, buffer, claim) {
-            return tell_stop(core, out, stop);
+            return report_stop(core, out, stop);
         }
     }
     let line = done_line(core.count() - first);

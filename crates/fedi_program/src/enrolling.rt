@@ -7,11 +7,11 @@ ghost use Rattle.fedi_log.specs.Keeping.{base_of, state_of};
 ghost use Rattle.fedi_log.specs.Log.{given};
 ghost use Rattle.fedi_logged.specs.Marks.{SurvivesMarked};
 ghost use Rattle.fedi_logged.specs.Endings.{output_by};
-ghost use Rattle.fedi_program.specs.Members.{EndsWith, IsUnmade, TellsFault};
+ghost use Rattle.fedi_program.specs.Members.{EndsWith, IsUnmade, ReportsFault};
 ghost use Rattle.fedi_town.specs.Histories.{town};
 ghost use Rattle.fedi_town.specs.Legal.{broken_command};
 
-use crate::printing::{print, tell};
+use crate::printing::{print, report};
 use crate::statuses::{DISK_FAULT, FULL, OUT_OF_MEMORY, REFUSED};
 use fedi_core::{Core, KeepError, KeepFault};
 use fedi_index::IndexedShelf;
@@ -21,17 +21,17 @@ use fedi_town::CommandFault;
 use std::alloc::{AllocError, Global};
 
 /// Tells why a command was refused. The answer is the exit status.
-fn tell_fault<O: Sink>(out: &mut O, fault: CommandFault) -> u8
-    ensures { TellsFault fault (output_by O.sent O.write_faults out.old)
+fn report_fault<O: Sink>(out: &mut O, fault: CommandFault) -> u8
+    ensures { ReportsFault fault (output_by O.sent O.write_faults out.old)
         (output_by O.sent O.write_faults out.new) result }
 {
     match fault {
-        CommandFault::NameTaken => tell(out, REFUSED, b"refused: name taken\n"),
-        CommandFault::KeyTaken => tell(out, REFUSED, b"refused: key taken\n"),
-        CommandFault::HostTaken => tell(out, REFUSED, b"refused: host taken\n"),
-        CommandFault::BadAddress => tell(out, REFUSED, b"refused: bad address\n"),
-        CommandFault::Full => tell(out, FULL, b"full\n"),
-        CommandFault::KeeperFault => tell(out, DISK_FAULT, b"disk fault\n"),
+        CommandFault::NameTaken => report(out, REFUSED, b"refused: name taken\n"),
+        CommandFault::KeyTaken => report(out, REFUSED, b"refused: key taken\n"),
+        CommandFault::HostTaken => report(out, REFUSED, b"refused: host taken\n"),
+        CommandFault::BadAddress => report(out, REFUSED, b"refused: bad address\n"),
+        CommandFault::Full => report(out, FULL, b"full\n"),
+        CommandFault::KeeperFault => report(out, DISK_FAULT, b"disk fault\n"),
         CommandFault::Memory => OUT_OF_MEMORY,
     }
 }
@@ -110,6 +110,6 @@ pub fn enroll<O: Sink, P: Keeper>(
 {
     match keep_entry(alloc, core, entry, line) {
         Ok(line) => print(out, &line),
-        Err(fault) => tell_fault(out, fault),
+        Err(fault) => report_fault(out, fault),
     }
 }

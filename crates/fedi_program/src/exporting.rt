@@ -12,7 +12,7 @@ ghost use Rattle.fedi_town.specs.Legal.{IsLegal};
 
 use crate::commands::Table;
 use crate::statuses::{DONE, OUT_OF_MEMORY, WRITE_FAULT};
-use crate::stores::tell_of_store;
+use crate::stores::report_store;
 use fedi_core::Core;
 use fedi_effects::Seed;
 use fedi_index::IndexedShelf;
@@ -81,6 +81,6 @@ pub(crate) fn export<O: Sink, D: Disk>(
             let status = print_table(alloc, out, &core, table);
             (status, close_store(core))
         }
-        Err((fault, disk)) => (tell_of_store(out, fault), disk),
+        Err((fault, disk)) => (report_store(out, fault), disk),
     }
 }

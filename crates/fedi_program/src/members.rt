@@ -9,7 +9,7 @@ ghost use Rattle.fedi_program.specs.Members.{MakesMember, chance_by, key_line};
 ghost use Rattle.fedi_town.specs.Histories.{town};
 
 use crate::enrolling::enroll;
-use crate::printing::tell;
+use crate::printing::report;
 use crate::statuses::{READ_FAULT, REFUSED};
 use fedi_address::LocalName;
 use fedi_core::Core;
@@ -65,7 +65,7 @@ pub fn make_member<O: Sink, P: Keeper, C: Clock, E: Entropy>(
     };
     let moment = Moment::clamped(clock.now());
     let Some(member) = LocalName::parse(name) else {
-        return tell(out, REFUSED, b"refused: bad name\n");
+        return report(out, REFUSED, b"refused: bad name\n");
     };
     let entry = Entry::Made {
         name: member,

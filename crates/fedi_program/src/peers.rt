@@ -10,7 +10,7 @@ ghost use Rattle.fedi_town.specs.Histories.{town};
 
 use crate::commands::NewPeer;
 use crate::enrolling::enroll;
-use crate::printing::tell;
+use crate::printing::report;
 use crate::statuses::{OUT_OF_MEMORY, REFUSED};
 use fedi_address::{Host, HostFault};
 use fedi_core::Core;
@@ -59,14 +59,14 @@ pub fn make_peer<O: Sink, P: Keeper, C: Clock>(
 {
     let host = match Host::parse(alloc, peer.host) {
         Ok(host) => host,
-        Err(HostFault::BadHost) => return tell(out, REFUSED, b"refused: bad host\n"),
+        Err(HostFault::BadHost) => return report(out, REFUSED, b"refused: bad host\n"),
         Err(HostFault::Memory) => return OUT_OF_MEMORY,
     };
     if core.facts().is_taken_host(&host) {
-        return tell(out, REFUSED, b"refused: host taken\n");
+        return report(out, REFUSED, b"refused: host taken\n");
     }
     let Some(key) = read_key(peer.key.as_bytes()) else {
-        return tell(out, REFUSED, b"refused: bad key\n");
+        return report(out, REFUSED, b"refused: bad key\n");
     };
     let Ok(address) = Text::from_text(alloc, peer.address) else {
         return OUT_OF_MEMORY;

@@ -3,7 +3,7 @@
 ghost use Rattle.std.specs.Prelude.{OnErr, OnOk, []};
 ghost use Rattle.fedi_logged.specs.Endings.{BreaksOff, Writes, output_by};
 ghost use Rattle.fedi_program.specs.Endings.{Prints};
-ghost use Rattle.fedi_program.specs.Members.{Tells};
+ghost use Rattle.fedi_program.specs.Members.{Reports};
 
 use crate::statuses::{DONE, WRITE_FAULT};
 use fedi_http::send;
@@ -31,8 +31,8 @@ pub fn print<O: Sink>(out: &mut O, text: &[u8]) -> u8
 }
 
 /// Prints the text that tells of a status other than 0, which stays if a write failed.
-pub fn tell<O: Sink>(out: &mut O, status: u8, text: &[u8]) -> u8
-    ensures { Tells (output_by O.sent O.write_faults out.old)
+pub fn report<O: Sink>(out: &mut O, status: u8, text: &[u8]) -> u8
+    ensures { Reports (output_by O.sent O.write_faults out.old)
         (output_by O.sent O.write_faults out.new) status text.now result }
 {
     let _ = write(out, text);

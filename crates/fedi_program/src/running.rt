@@ -33,10 +33,10 @@ use crate::demonstrating::demo;
 use crate::exporting::export;
 use crate::members::make_member;
 use crate::peers::make_peer;
-use crate::printing::{print, tell};
+use crate::printing::{print, report};
 use crate::serving::serve;
 use crate::statuses::{CUT_SHORT, DONE, NOT_ACCEPTED, OUT_OF_MEMORY, READ_FAULT, WRITE_FAULT};
-use crate::stores::{begin_store, status_by, tell_of_store};
+use crate::stores::{begin_store, report_store, status_by};
 use crate::usage::usage;
 use fedi_core::Core;
 use fedi_effects::Seed;
@@ -130,7 +130,7 @@ fn add_actor<S, O: Sink, D: Disk, C: Clock, E: Entropy>(
             let status = make_member(alloc, &mut core, out, clock, entropy, name, locked);
             (status, close_store(core))
         }
-        Err((fault, disk)) => (tell_of_store(&mut connection.out, fault), disk),
+        Err((fault, disk)) => (report_store(&mut connection.out, fault), disk),
     }
 }
 
@@ -156,7 +156,7 @@ fn add_peer<S, O: Sink, D: Disk, C: Clock>(
             let status = make_peer(alloc, &mut core, out, clock, peer);
             (status, close_store(core))
         }
-        Err((fault, disk)) => (tell_of_store(&mut connection.out, fault), disk),
+        Err((fault, disk)) => (report_store(&mut connection.out, fault), disk),
     }
 }
 
@@ -183,7 +183,7 @@ fn deliver_over<S, O: Sink, D: Disk, K: Link, C: Clock>(
             let status = deliver(alloc, &mut core, out, clock, link);
             (status, close_store(core))
         }
-        Err((fault, disk)) => (tell_of_store(&mut connection.out, fault), disk),
+        Err((fault, disk)) => (report_store(&mut connection.out, fault), disk),
     }
 }
 
@@ -239,7 +239,7 @@ fn check<O: Sink, D: Disk>(alloc: Global, seed: Seed, out: &mut O, disk: D) -> (
             let status = count(alloc, out, &core);
             (status, close_store(core))
         }
-        Err((fault, disk)) => (tell_of_store(out, fault), disk),
+        Err((fault, disk)) => (report_store(out, fault), disk),
     }
 }
 
@@ -474,7 +474,7 @@ pub fn run_alone<S: Source, O: Sink, D: Disk, W, K: Link, C: Clock, E: Entropy>(
         },
         Some(Command::Serve { .. }) => unreachable!(),
         None => Ended {
-            status: tell(&mut connection.out, NOT_ACCEPTED, usage().as_bytes()),
+            status: report(&mut connection.out, NOT_ACCEPTED, usage().as_bytes()),
             disk,
             benches,
         },

@@ -3,11 +3,11 @@
 ghost use Rattle.std.specs.Prelude.{◌≡◌, ◌≤◌, IfOk, length};
 ghost use Rattle.fedi_journal.specs.Making.{KeepsOther};
 ghost use Rattle.fedi_logged.specs.Endings.{output_by};
-ghost use Rattle.fedi_program.specs.Members.{Tells};
-ghost use Rattle.fedi_program.specs.Stores.{MakesStore, TellsOfMaking, TellsOfStore, damage_line};
+ghost use Rattle.fedi_program.specs.Members.{Reports};
+ghost use Rattle.fedi_program.specs.Stores.{MakesStore, ReportsMaking, ReportsStore, damage_line};
 ghost use Rattle.fedi_program.specs.Stores.{made_line, status_by};
 
-use crate::printing::{print, tell};
+use crate::printing::{print, report};
 use crate::statuses::{DAMAGED, DISK_FAULT, EXISTS, NOT_A_STORE, OUT_OF_MEMORY, REFUSED};
 use arrayvec::ArrayString;
 use fedi_address::{Host, HostFault};
@@ -46,37 +46,37 @@ fn damage_line(what: &str, place: u64) -> ArrayString<64>
 }
 
 /// Tells where a store is damaged. The answer is the exit status.
-fn tell_damage<O: Sink>(out: &mut O, what: &str, place: u64) -> u8
+fn report_damage<O: Sink>(out: &mut O, what: &str, place: u64) -> u8
     requires { length what.now ≤ 8 }
-    ensures { Tells (output_by O.sent O.write_faults out.old)
+    ensures { Reports (output_by O.sent O.write_faults out.old)
         (output_by O.sent O.write_faults out.new) DAMAGED (damage_line what.now place) result }
 {
     let line = damage_line(what, place);
-    tell(out, DAMAGED, line.as_bytes())
+    report(out, DAMAGED, line.as_bytes())
 }
 
 /// Tells why a store is not opened. The answer is the exit status.
-pub fn tell_of_store<O: Sink>(out: &mut O, fault: StoreFault) -> u8
-    ensures { TellsOfStore fault (output_by O.sent O.write_faults out.old)
+pub fn report_store<O: Sink>(out: &mut O, fault: StoreFault) -> u8
+    ensures { ReportsStore fault (output_by O.sent O.write_faults out.old)
         (output_by O.sent O.write_faults out.new) result }
 {
     match fault {
-        StoreFault::NotAStore => tell(out, NOT_A_STORE, b"not a store\n"),
-        StoreFault::DamagedByte { place } => tell_damage(out, "byte", place),
-        StoreFault::DamagedRecord { place } => tell_damage(out, "record", place),
-        StoreFault::Failed => tell(out, DISK_FAULT, b"disk fault\n"),
+        StoreFault::NotAStore => report(out, NOT_A_STORE, b"not a store\n"),
+        StoreFault::DamagedByte { place } => report_damage(out, "byte", place),
+        StoreFault::DamagedRecord { place } => report_damage(out, "record", place),
+        StoreFault::Failed => report(out, DISK_FAULT, b"disk fault\n"),
         StoreFault::Memory => OUT_OF_MEMORY,
     }
 }
 
 /// Tells why a store is not made. The answer is the exit status.
-fn tell_of_making<O: Sink>(out: &mut O, fault: MakeFault) -> u8
-    ensures { TellsOfMaking fault (output_by O.sent O.write_faults out.old)
+fn report_making<O: Sink>(out: &mut O, fault: MakeFault) -> u8
+    ensures { ReportsMaking fault (output_by O.sent O.write_faults out.old)
         (output_by O.sent O.write_faults out.new) result }
 {
     match fault {
-        MakeFault::Exists => tell(out, EXISTS, b"exists\n"),
-        MakeFault::Failed => tell(out, DISK_FAULT, b"disk fault\n"),
+        MakeFault::Exists => report(out, EXISTS, b"exists\n"),
+        MakeFault::Failed => report(out, DISK_FAULT, b"disk fault\n"),
         MakeFault::Memory => OUT_OF_MEMORY,
     }
 }
@@ -117,11 +117,11 @@ pub fn begin_store<O: Sink, D: Disk, C: Clock>(
     };
     let host = match Host::parse(alloc, host) {
         Ok(host) => host,
-        Err(HostFault::BadHost) => return (tell(out, REFUSED, b"refused: bad host\n"), disk),
+        Err(HostFault::BadHost) => return (report(out, REFUSED, b"refused: bad host\n"), disk),
         Err(HostFault::Memory) => return (OUT_OF_MEMORY, disk),
     };
     match make_store(alloc, disk, host, moment) {
         (Ok(()), disk) => (print(out, &line), disk),
-        (Err(fault), disk) => (tell_of_making(out, fault), disk),
+        (Err(fault), disk) => (report_making(out, fault), disk),
     }
 }

@@ -60,7 +60,7 @@ fn is_row_for(row: &QueueRow, activity: usize, recipient: &Iri) -> bool
     row.activity == activity && row.recipient == *recipient
 }
 
-fn place_of(rows: &[QueueRow], activity: usize, recipient: &Iri) -> Option<usize>
+fn row_position(rows: &[QueueRow], activity: usize, recipient: &Iri) -> Option<usize>
     ensures { result ≡ place_where (is_row_for activity recipient.now) rows.now }
 {
     rows.iter()
@@ -78,7 +78,7 @@ fn settle_at(
     requires { IsTrue (list_all is_few rows.now) }
     ensures { IsSettling activity recipient.now came moment rows.now result }
 {
-    match place_of(rows, activity, recipient) {
+    match row_position(rows, activity, recipient) {
         Some(place) => Change::Settled {
             place,
             due: next_due(rows[place].attempts, moment, outcome_of(came)),

@@ -119,13 +119,13 @@ impl About {
     }
 
     /// Leaves a Tombstone of the object, where it is carried. It takes no memory but what is spare.
-    pub(crate) fn bury(&mut self, kind: Text, stamp: Text, spare: Spare)
+    pub(crate) fn make_tombstone(&mut self, kind: Text, stamp: Text, spare: Spare)
         ensures buried { referred self.new
             ≡ rewrite_ref (tombstone_of kind stamp) (referred self.old) }
         ensures named { object_names self.new ≡ object_names self.old }
     {
         match self {
-            About::Whole(object) => object.bury(kind, stamp, spare),
+            About::Whole(object) => object.make_tombstone(kind, stamp, spare),
             About::Nothing | About::Id(_) | About::Changed(_) => {}
         }
     }

@@ -74,7 +74,7 @@ fn unended_follow(
     ensures { result ≡ place_where (is_unended follower.now followee.now state) acts.now }
 {
     let mark = seed.mark_of_pair(follower, followee.text());
-    pairs.place_of(acts, mark, |act| is_unended(act, follower, followee, state))
+    pairs.position_of(acts, mark, |act| is_unended(act, follower, followee, state))
 }
 
 // Each Follow of the one by the other that waits or was accepted ends so.
@@ -117,7 +117,7 @@ fn pending_follow(acts: &[Kept], seed: &Seed, ids: &Marks, id: &Iri) -> Option<u
     requires { ids.now.marks ≡ marks_from has_own_id (own_mark seed.now) 0 acts.now }
     ensures { result ≡ place_where (is_pending_follow id.now) acts.now }
 {
-    ids.place_of(acts, seed.mark_of_iri(id), |act| is_pending_follow(act, id))
+    ids.position_of(acts, seed.mark_of_iri(id), |act| is_pending_follow(act, id))
 }
 
 // The Follow of this id is accepted, if it waits.
@@ -141,7 +141,7 @@ fn standing_activity(acts: &[Kept], seed: &Seed, ids: &Marks, id: &Iri) -> Optio
     requires { ids.now.marks ≡ marks_from has_own_id (own_mark seed.now) 0 acts.now }
     ensures { result ≡ place_where (is_standing_activity id.now) acts.now }
 {
-    ids.place_of(
+    ids.position_of(
         acts,
         seed.mark_of_iri(id),
         |act| is_standing_activity(act, id),
@@ -161,11 +161,11 @@ fn undo(acts: &mut [Kept], seed: &Seed, ids: &Marks, activity: &Iri)
 // ---- objects
 
 // Where the activity is that made the object.
-fn place_of(acts: &[Kept], seed: &Seed, made: &Marks, object: &Iri) -> Option<usize>
+fn position_of(acts: &[Kept], seed: &Seed, made: &Marks, object: &Iri) -> Option<usize>
     requires { made.now.marks ≡ marks_from is_making (object_mark seed.now) 0 acts.now }
     ensures { result ≡ place_where (makes object.now) acts.now }
 {
-    made.place_of(acts, seed.mark_of_iri(object), |act| makes(act, object))
+    made.position_of(acts, seed.mark_of_iri(object), |act| makes(act, object))
 }
 
 // The object is changed by what an Update carries.
@@ -183,13 +183,13 @@ fn update(
     ensures { acts.new
         ≡ map (where_passes (makes object.now) (rewrite_act (update_object by stamp))) acts.old }
 {
-    if let Some(place) = place_of(acts, seed, made, object) {
+    if let Some(place) = position_of(acts, seed, made, object) {
         acts[place].update_object(by, stamp, spare);
     }
 }
 
 // A Tombstone is left of the object.
-fn bury(
+fn make_tombstone(
     acts: &mut [Kept],
     seed: &Seed,
     made: &Marks,
@@ -203,8 +203,8 @@ fn bury(
     ensures { acts.new
         ≡ map (where_passes (makes object.now) (rewrite_act (tombstone_of kind stamp))) acts.old }
 {
-    if let Some(place) = place_of(acts, seed, made, object) {
-        acts[place].bury(kind, stamp, spare);
+    if let Some(place) = position_of(acts, seed, made, object) {
+        acts[place].make_tombstone(kind, stamp, spare);
     }
 }
 
@@ -232,7 +232,7 @@ pub(crate) fn apply_effect(
             object,
             kind,
             stamp,
-        } => bury(acts, seed, made, &object, kind, stamp, spare),
+        } => make_tombstone(acts, seed, made, &object, kind, stamp, spare),
         Effect::Accept { follow } => accept(acts, seed, ids, &follow),
         Effect::EndFollows {
             follower,
@@ -247,11 +247,11 @@ pub(crate) fn apply_effect(
 // ---- inboxes
 
 /// Where the activity of this id is.
-pub(crate) fn place_of_id(acts: &[Kept], seed: &Seed, ids: &Marks, id: &Iri) -> Option<usize>
+pub(crate) fn position_of_id(acts: &[Kept], seed: &Seed, ids: &Marks, id: &Iri) -> Option<usize>
     requires { ids.now.marks ≡ marks_from has_own_id (own_mark seed.now) 0 acts.now }
     ensures { result ≡ place_where (has_activity_id id.now) acts.now }
 {
-    ids.place_of(acts, seed.mark_of_iri(id), |act| has_activity_id(act, id))
+    ids.position_of(acts, seed.mark_of_iri(id), |act| has_activity_id(act, id))
 }
 
 /// The activity of this id goes to one more owner of an inbox: `recipients` are those to whom it
@@ -269,7 +269,7 @@ pub(crate) fn add_inbox(
     requires ids { ids.now.marks ≡ marks_from has_own_id (own_mark seed.now) 0 acts.old }
     ensures { acts.new ≡ map (with_recipient id.now owner.now.value) acts.old }
 {
-    if let Some(place) = place_of_id(acts, seed, ids, id) {
+    if let Some(place) = position_of_id(acts, seed, ids, id) {
         acts[place].set_recipients(recipients);
     }
 }

@@ -76,10 +76,10 @@ impl Authors {
         )
     }
 
-    fn place_of(&self, id: &Iri) -> Option<usize>
+    fn position_of(&self, id: &Iri) -> Option<usize>
         ensures { result ≡ place_where (is_author id.now) self.now }
     {
-        self.ids.place_of(
+        self.ids.position_of(
             &self.list,
             self.seed.mark_of_iri(id),
             |author| is_author(author, id),
@@ -131,7 +131,7 @@ impl Authors {
         ensures known { ids_of self.new ≡ ids_of self.old }
         ensures counts { CountsOne self.old self.new id.now }
     {
-        match self.place_of(id) {
+        match self.position_of(id) {
             Some(place) => count_more(&mut self.list[place]),
             None => unreachable!(),
         }

@@ -350,10 +350,10 @@ impl Kept {
     /// `stamp` the moment of the Delete (ActivityPub, sections 6.4 and 7.4). It takes no memory but
     /// what is spare.
     #[tactic(auto, unfolding(fedi_town::specs::Objects::rewrite_act))]
-    pub fn bury(&mut self, kind: Text, stamp: Text, spare: Spare)
+    pub fn make_tombstone(&mut self, kind: Text, stamp: Text, spare: Spare)
         ensures { self.new ≡ rewrite_act (tombstone_of kind stamp) self.old }
     {
-        self.about.bury(kind, stamp, spare);
+        self.about.make_tombstone(kind, stamp, spare);
     }
 
     /// Lets the IRIs that come again and again, as the author's, share the texts of equal ones.

@@ -352,7 +352,12 @@ impl Marks {
     }
 
     /// The place of the first of these items that has this mark and passes the test.
-    pub fn place_of<T, F: Fn(&T) -> bool>(&self, items: &[T], mark: u32, passes: F) -> Option<usize>
+    pub fn position_of<T, F: Fn(&T) -> bool>(
+        &self,
+        items: &[T],
+        mark: u32,
+        passes: F,
+    ) -> Option<usize>
         requires { F.IsAlwaysCallable passes }
         ensures { (p : T → Bool) → Decides (FnReturnsAt F.Fn passes) p
             → result ≡ first_place (passes_at p items.now) mark self.now.marks }
@@ -372,7 +377,7 @@ impl Marks {
             → option_copied result
             ≡ item_at items.now (first_place (passes_at p items.now) mark self.now.marks) }
     {
-        match self.place_of(items, mark, passes) {
+        match self.position_of(items, mark, passes) {
             Some(place) => items.get(place),
             None => None,
         }

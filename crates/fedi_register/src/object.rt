@@ -273,7 +273,7 @@ impl KeptObject {
     /// Leaves a Tombstone of the object (ActivityPub, section 6.4), and nothing of what it said. It
     /// takes no memory but what is spare.
     #[tactic(auto, unfolding(fedi_town::specs::Objects::tombstone_of))]
-    pub(crate) fn bury(&mut self, kind: Text, stamp: Text, spare: Spare)
+    pub(crate) fn make_tombstone(&mut self, kind: Text, stamp: Text, spare: Spare)
         ensures buried { whole self.new ≡ objects.tombstone_of kind stamp (whole self.old) }
         ensures named { named_in self.new ≡ named_in self.old }
     {

@@ -26,7 +26,7 @@ ghost use Rattle.fedi_register.specs.Registers.{relation_mark};
 use crate::acts::{
     has_activity_id, is_announce_of, is_block_of, is_follow_of, is_following, is_like_of, makes,
 };
-use crate::applying::{add_inbox, apply_effect, place_of_id};
+use crate::applying::{add_inbox, apply_effect, position_of_id};
 use crate::authors::Authors;
 use crate::extras::Spare;
 use crate::iris::Iris;
@@ -239,7 +239,7 @@ impl Register {
     pub fn position_of(&self, id: &Iri) -> Option<usize>
         ensures { result ≡ place_where (has_activity_id id.now) self.now.acts }
     {
-        place_of_id(&self.acts, &self.seed, &self.ids, id)
+        position_of_id(&self.acts, &self.seed, &self.ids, id)
     }
 
     /// The first activity of this id that passes the test.
@@ -383,7 +383,7 @@ impl Register {
 
     /// Begins to count the activities of the author, if they are not counted yet. The error is out
     /// of memory.
-    pub fn know(&mut self, author: &Iri) -> Result<(), AllocError>
+    pub fn add_author(&mut self, author: &Iri) -> Result<(), AllocError>
         ensures acts { self.new.acts ≡ self.old.acts }
         ensures room { self.new.room ≡ self.old.room }
         ensures ok { OnOk result (self.new.known ≡ add_new self.old.known author.now) }

@@ -6,9 +6,9 @@ ghost use Rattle.serde_json.specs.View.{view};
 ghost use Rattle.fedi_model.specs.Routes as model;
 ghost use Rattle.fedi_routes.specs.Posts.{HoldsValue, read_of};
 
-use crate::texts::up_to;
+use crate::texts::before;
 use fedi_address::Iri;
-use fedi_http::{is_same_name, without_back_blanks};
+use fedi_http::{is_same_name, trim_end};
 use fedi_mac::digest;
 use fedi_model::{Fields, KeyAsk, Post, Read, Request};
 use fedi_objects::{Activity, Boxed, RepeatKey};
@@ -131,7 +131,7 @@ fn is_typed(fields: &Fields) -> bool
 fn media_type(value: &[u8]) -> &[u8]
     ensures { map to_ascii_lowercase result.now ≡ model.media_type value.now }
 {
-    without_back_blanks(up_to(value, b';'))
+    trim_end(before(value, b';'))
 }
 
 /// Whether this is, in any case, a media type of JSON or of ActivityStreams.

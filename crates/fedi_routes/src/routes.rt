@@ -11,7 +11,7 @@ use crate::pages::page_in;
 use crate::places::place_of;
 use crate::posts::{delivery_of, post_of};
 use crate::router::Routes;
-use crate::texts::{behind, up_to};
+use crate::texts::{after, before};
 use crate::webfinger::resource_in;
 use fedi_address::{Host, LocalName};
 use fedi_model::{Allow, Ask, Place, Request, Which};
@@ -57,14 +57,14 @@ pub fn route(
 fn path_of(request: &Request) -> &[u8]
     ensures { result.now ≡ model.path_of request.now.target }
 {
-    up_to(request.target.bytes(), b'?')
+    before(request.target.bytes(), b'?')
 }
 
 /// The target behind its first question mark, or nothing.
 fn query_of(request: &Request) -> &[u8]
     ensures { result.now ≡ queries.query_of request.now.target }
 {
-    behind(request.target.bytes(), b'?')
+    after(request.target.bytes(), b'?')
 }
 
 /// What the request asks for at the place.

@@ -4,7 +4,7 @@ ghost use Rattle.std.specs.Prelude.{◌≡◌, ◌==◌, position};
 ghost use Rattle.std.specs.List.{before_first, after_first};
 
 /// The text up to the first of these bytes, or all of it.
-pub(crate) fn up_to(text: &[u8], mark: u8) -> &[u8]
+pub(crate) fn before(text: &[u8], mark: u8) -> &[u8]
     ensures { result.now ≡ before_first (λ b. b == mark) text.now }
 {
     match first(text, mark) {
@@ -13,8 +13,8 @@ pub(crate) fn up_to(text: &[u8], mark: u8) -> &[u8]
     }
 }
 
-/// The text behind the first of these bytes, or nothing.
-pub(crate) fn behind(text: &[u8], mark: u8) -> &[u8]
+/// The text after the first of these bytes, or nothing.
+pub(crate) fn after(text: &[u8], mark: u8) -> &[u8]
     ensures { result.now ≡ after_first (λ b. b == mark) text.now }
 {
     match first(text, mark) {

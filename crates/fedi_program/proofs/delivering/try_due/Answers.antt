@@ -48,9 +48,9 @@ returns-in-Err-clause-tried g c =
     (written c.due.out) (written c.try_claimed.new.out) (Err c.in-Err.stop) c.claim.ensures.claimed f.moment c.in-Err.ensures.ends in
     trying_stopped g.P.Keeper.growth g.P.Keeper.room reading c.args.moment
     (state_of c.args.core.now.history (g.P.Keeper.shown c.args.core.now.keeper)) (state_of c.due.core.history (g.P.Keeper.shown c.due.core.keeper))
-    (state_of c.try_claimed.new.core.history (g.P.Keeper.shown c.try_claimed.new.core.keeper)) (state_of c.tell_stop.new.core.history (g.P.Keeper.shown c.tell_stop.new.core.keeper))
+    (state_of c.try_claimed.new.core.history (g.P.Keeper.shown c.try_claimed.new.core.keeper)) (state_of c.report_stop.new.core.history (g.P.Keeper.shown c.report_stop.new.core.keeper))
     (told_of c.args.link.now) (told_of c.due.link) (told_of c.try_claimed.new.link) (written c.args.out.now) (written c.due.out) (written c.try_claimed.new.out)
-    (written c.tell_stop.new.out) _ _ f.first f.rest c.in-Err.stop _ is_now inv.trying f.due f.to ends c.tell_stop.ensures.ends
+    (written c.report_stop.new.out) _ _ f.first f.rest c.in-Err.stop _ is_now inv.trying f.due f.to ends c.report_stop.ensures.ends
 
 pub returns-in-Err-clause-crashes : goal.returns-in-Err-clause-crashes
 returns-in-Err-clause-crashes g c =
@@ -60,8 +60,8 @@ returns-in-Err-clause-crashes g c =
     let trial = subst (λ (m : Machine _). TrialSurvives g.P.Keeper.growth g.P.Keeper.room (standing_by shown crashes m) (standing_by shown crashes c.try_claimed.new.core) (Err c.in-Err.stop))
     c.claim.ensures.claimed c.in-Err.ensures.crashes in
     stopped_survives (base_of g.P.Keeper.growth g.P.Keeper.room opened) g.P.Keeper.room _ _ (standing_by shown crashes c.due.core)
-    (standing_by shown crashes c.try_claimed.new.core) (standing_by shown crashes c.tell_stop.new.core) c.in-Err.stop _ _ _ c.due.invariant.survives trial c.tell_stop.ensures.ends
-    c.tell_stop.ensures.time
+    (standing_by shown crashes c.try_claimed.new.core) (standing_by shown crashes c.report_stop.new.core) c.in-Err.stop _ _ _ c.due.invariant.survives trial c.report_stop.ensures.ends
+    c.report_stop.ensures.time
 
 pub due-smaller : goal.due-smaller
 due-smaller g c =

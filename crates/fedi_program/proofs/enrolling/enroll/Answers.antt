@@ -8,4 +8,4 @@ returns-in-Ok-clause-ends g c =
     inr (c.in-Ok.ensures.unbroken, c.in-Ok.ensures.kept, rw (c.deref.ensures.value, same) at c.print.ensures)
 
 pub returns-in-Err-clause-ends : goal.returns-in-Err-clause-ends
-returns-in-Err-clause-ends g c = λ text told. inl (c.in-Err.fault, c.in-Err.ensures.unmade, c.tell_fault.ensures)
+returns-in-Err-clause-ends g c = λ text told. inl (c.in-Err.fault, c.in-Err.ensures.unmade, c.report_fault.ensures)

@@ -14,7 +14,7 @@ returns-in_default-parse-clause-made g c =
       c.clamped-moment.result,
       record { bytes = c.in-Ok.ensures.bytes; length_is = c.fill.array_long; calm = c.in-Ok.ensures.cause.calm },
       now_of _ c.now.result _ c.now.ensures c.clamped-moment.ensures,
-      inl (bad, (refl, c.tell.ensures)),
+      inl (bad, (refl, c.report.ensures)),
     )
 
 pub returns-clause-made : goal.returns-clause-made

@@ -11,19 +11,19 @@ pub enroll-requires : goal.enroll-requires
 enroll-requires g c = record { command = (c.requires.hosted, c.in-Ok.ensures.host.shape) }
 
 pub returns-in-Err-BadHost-clause-made : goal.returns-in-Err-BadHost-clause-made
-returns-in-Err-BadHost-clause-made g c = inr (inl (c.in-Err-BadHost.ensures.bad_host c.in-Err-BadHost.field-0-is, (refl, c.tell.ensures)))
+returns-in-Err-BadHost-clause-made g c = inr (inl (c.in-Err-BadHost.ensures.bad_host c.in-Err-BadHost.field-0-is, (refl, c.report.ensures)))
 
 pub returns-then-is_taken_host-clause-made : goal.returns-then-is_taken_host-clause-made
 returns-then-is_taken_host-clause-made g c =
     let known = sym (rw c.facts.ensures.town at c.is_taken_host.ensures) ∙ c.if-is_taken_host.true in
     let host = at_host (town c.args.core.now.history) c.args.peer.host.now c.in-Ok.host true c.in-Ok.ensures.ok c.in-Ok.ensures.host known in
-    inr (inr (inl (host.0, host.1, (refl, c.tell-then-is_taken_host.ensures))))
+    inr (inr (inl (host.0, host.1, (refl, c.report-then-is_taken_host.ensures))))
 
 pub returns-in_default-clause-made : goal.returns-in_default-clause-made
 returns-in_default-clause-made g c =
     let known = sym (rw c.facts.ensures.town at c.is_taken_host.ensures) ∙ c.if-is_taken_host.false in
     let host = at_host (town c.args.core.now.history) c.args.peer.host.now c.in-Ok.host false c.in-Ok.ensures.ok c.in-Ok.ensures.host known in
-    inr (inr (inr (inl (host.0, host.1, sym (rw c.as_bytes.ensures.value at c.in_default.ensures.key), (refl, c.tell-in_default.ensures)))))
+    inr (inr (inr (inl (host.0, host.1, sym (rw c.as_bytes.ensures.value at c.in_default.ensures.key), (refl, c.report-in_default.ensures)))))
 
 pub returns-clause-made : goal.returns-clause-made
 returns-clause-made g c =

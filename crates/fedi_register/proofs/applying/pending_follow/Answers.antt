@@ -11,5 +11,5 @@ use Rattle.fedi_register.proofs.applying.pending_follow.Goals as goal
 pub returns : goal.returns
 returns c =
     let id = c.args.id.now in
-    placed has_own_id (is_pending_follow id) (own_mark c.args.seed.now) _ _ _ _ _ _ (c.place_of.ensures (is_pending_follow id) (search rules)) refl c.mark_of_iri.ensures c.requires
+    placed has_own_id (is_pending_follow id) (own_mark c.args.seed.now) _ _ _ _ _ _ (c.position_of.ensures (is_pending_follow id) (search rules)) refl c.mark_of_iri.ensures c.requires
     (marked_narrower has_own_id (has_activity_id id) (is_pending_follow id) (own_mark c.args.seed.now) (mark_of c.args.seed.now id) (own_marked c.args.seed.now id) (pending_named id))

@@ -12,5 +12,5 @@ returns c =
     let a = c.args.follower.now in
     let b = c.args.followee.now in
     let s = c.args.state in
-    placed relates (is_unended a b s) (relation_mark c.args.seed.now) _ _ _ _ _ _ (c.place_of.ensures (is_unended a b s) (search rules)) refl (c.mark_of_pair-mark.ensures ∙ ap (λ (text : List ℕ). mark_of_pair c.args.seed.now a text) c.text.ensures.value) c.requires
+    placed relates (is_unended a b s) (relation_mark c.args.seed.now) _ _ _ _ _ _ (c.position_of.ensures (is_unended a b s) (search rules)) refl (c.mark_of_pair-mark.ensures ∙ ap (λ (text : List ℕ). mark_of_pair c.args.seed.now a text) c.text.ensures.value) c.requires
     (marked_narrower relates (relates_by_key a b) (is_unended a b s) (relation_mark c.args.seed.now) (mark_of_pair c.args.seed.now a b) (relation_marked c.args.seed.now a b) (unended_relates a b s))

@@ -7,17 +7,17 @@ use Rattle.fedi_index.proofs.lists.Lists.push.Goals as goal
 pub unreachable-requires : goal.unreachable-requires
 unreachable-requires c =
     none_room c.args.collection c.args.owner.now (listings c.self.inside.rows.items) (rw (← c.self.view_is) at c.requires)
-    (rw (← c.deref.ensures.value, ← c.place_of.ensures) c.in-None.is)
+    (rw (← c.deref.ensures.value, ← c.position_of.ensures) c.in-None.is)
 
 pub push_at-requires-clause-there : goal.push_at-requires-clause-there
 push_at-requires-clause-there c =
-    let first : first_from (is_list c.args.collection c.args.owner.now) 0 (listings c.self.inside.rows.items) ≡ Some c.in-Some.at = rw (← c.deref.ensures.value, ← c.place_of.ensures) c.in-Some.is in
+    let first : first_from (is_list c.args.collection c.args.owner.now) 0 (listings c.self.inside.rows.items) ≡ Some c.in-Some.at = rw (← c.deref.ensures.value, ← c.position_of.ensures) c.in-Some.is in
     let h = first-within (is_list c.args.collection c.args.owner.now) 0 c.in-Some.at (listings c.self.inside.rows.items) first in
     omega (arith, h.1, length-map c.self.inside.rows.items listing_in)
 
 pub push_at-requires-clause-room : goal.push_at-requires-clause-room
 push_at-requires-clause-room c =
-    room_there c.args.collection c.args.owner.now (listings c.self.inside.rows.items) c.in-Some.at (rw (← c.self.view_is) at c.requires) (rw (← c.deref.ensures.value, ← c.place_of.ensures) c.in-Some.is)
+    room_there c.args.collection c.args.owner.now (listings c.self.inside.rows.items) c.in-Some.at (rw (← c.self.view_is) at c.requires) (rw (← c.deref.ensures.value, ← c.position_of.ensures) c.in-Some.is)
 
 pub invariant_of-self : goal.invariant_of-self
 invariant_of-self c = c.self.invariant ∙ rw c.push_at.ensures (sym (grown_marks c.self.inside.seed c.in-Some.at (at_end c.args.place) 0 (listings c.self.inside.rows.items)))
@@ -25,4 +25,4 @@ invariant_of-self c = c.self.invariant ∙ rw c.push_at.ensures (sym (grown_mark
 pub returns : goal.returns
 returns c =
     rw (← c.self.view_is, c.push_at.ensures)
-    (one_added c.args.collection c.args.owner.now (at_end c.args.place) c.in-Some.at (listings c.self.inside.rows.items) (rw (← c.deref.ensures.value, ← c.place_of.ensures) c.in-Some.is))
+    (one_added c.args.collection c.args.owner.now (at_end c.args.place) c.in-Some.at (listings c.self.inside.rows.items) (rw (← c.deref.ensures.value, ← c.position_of.ensures) c.in-Some.is))

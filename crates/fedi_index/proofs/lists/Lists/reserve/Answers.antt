@@ -19,11 +19,11 @@ invariant_of-self-2 c = c.self.invariant ∙ sym (roomier_marks c.self.inside.se
 
 pub returns-in_err-reserve_at-clause-roomier : goal.returns-in_err-reserve_at-clause-roomier
 returns-in_err-reserve_at-clause-roomier c =
-    roomier_then c.args.self.now c.know.new.self _ c.in_ok-at.ensures.roomier (rw (← c.self.view_is) (roomier (listings c.self.inside.rows.items) _ c.reserve_at.ensures.roomier))
+    roomier_then c.args.self.now c.find_or_add.new.self _ c.in_ok-at.ensures.roomier (rw (← c.self.view_is) (roomier (listings c.self.inside.rows.items) _ c.reserve_at.ensures.roomier))
 
 pub returns-clause-roomier : goal.returns-clause-roomier
 returns-clause-roomier c =
-    roomier_then c.args.self.now c.know.new.self _ c.in_ok-at.ensures.roomier (rw (← c.self.view_is) (roomier (listings c.self.inside.rows.items) _ c.reserve_at.ensures.roomier))
+    roomier_then c.args.self.now c.find_or_add.new.self _ c.in_ok-at.ensures.roomier (rw (← c.self.view_is) (roomier (listings c.self.inside.rows.items) _ c.reserve_at.ensures.roomier))
 
 pub returns-clause-room : goal.returns-clause-room
 returns-clause-room c =

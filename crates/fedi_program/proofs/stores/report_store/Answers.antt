@@ -1,0 +1,7 @@
+use Rattle.fedi_program.proofs.stores.report_store.Goals as goal
+
+pub returns-in-NotAStore : goal.returns-in-NotAStore
+returns-in-NotAStore g c = rw c.in-NotAStore.is c.report.ensures
+
+pub returns-in-Failed : goal.returns-in-Failed
+returns-in-Failed g c = rw c.in-Failed.is c.report-in-Failed.ensures

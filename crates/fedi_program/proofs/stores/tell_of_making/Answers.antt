@@ -1,4 +1,0 @@
-use Rattle.fedi_program.proofs.stores.tell_of_making.Goals as goal
-
-pub returns-in-Failed : goal.returns-in-Failed
-returns-in-Failed g c = rw c.in-Failed.is c.tell-in-Failed.ensures
