@@ -9,8 +9,8 @@ use std::process::ExitCode;
 use std::random::RandomSource;
 use std::{env, io};
 
-/// The arguments after the program's name, or none if one of them is no text. The error is out of
-/// memory.
+/// The arguments after the program's name, or `None` if one of them is not valid text. The error is
+/// out of memory.
 fn arguments(rt: &HostRuntime) -> Result<Vec<String>, AllocError> {
     let mut arguments = Vec::new(rt.alloc());
     match env::args(rt) {
@@ -25,8 +25,8 @@ fn arguments(rt: &HostRuntime) -> Result<Vec<String>, AllocError> {
     Ok(arguments)
 }
 
-/// A seed that strangers do not know. If the system has no random bytes, it is that of zeros: then
-/// look-ups have only lost their guard against texts that were chosen to be slow.
+/// A seed that strangers do not know. If the system has no random bytes, the seed is all zeros:
+/// then look-ups lose only their protection against strings that were chosen to be slow.
 fn seed(rt: &HostRuntime) -> Seed {
     let mut secret = [0; 16];
     let _ = rt.fill_bytes(&mut secret);
@@ -34,12 +34,12 @@ fn seed(rt: &HostRuntime) -> Seed {
 }
 
 /// How many connections are served at once. A bench is a few words until `serve` gives it a thread,
-/// and each connection has a buffer of its own from its first request on.
+/// and each connection has its own buffer from its first request on.
 const SERVING: u16 = 64;
 
-/// How many deliveries are tried at once, beside the connections. A peer that does not answer holds
-/// one of them for ten seconds a try, and deliveries to others wait only when all are held. While
-/// nothing is due, each is a thread that looks once a second.
+/// How many deliveries are tried at once, in addition to the connections. A peer that does not
+/// answer occupies one of them for ten seconds per try, and deliveries to others wait only if all
+/// are occupied. While nothing is due, each is a thread that looks once a second.
 const DELIVERING: u16 = 16;
 
 fn main(rt: HostRuntime) -> ExitCode {
@@ -53,7 +53,8 @@ fn main(rt: HostRuntime) -> ExitCode {
     };
     // Arguments that name no store never ask the disk, and so open nothing.
     let disk = FileDisk::new(&rt, store_of(&arguments).unwrap_or_default());
-    // Likewise, only `serve` asks its doors, and the address is bound when one is first asked.
+    // In the same way, only `serve` asks its doors, and the address is bound when one is first
+    // asked.
     let listening = Listening::new(&rt, address_of(&arguments).unwrap_or_default());
     let Ok(benches) = benches(&rt, rt.alloc(), &listening, SERVING, DELIVERING) else {
         return ExitCode::from(OUT_OF_MEMORY);

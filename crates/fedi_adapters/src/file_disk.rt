@@ -6,18 +6,18 @@ use crate::raw_file::RawFile;
 use fedi_outside::{Disk, Failed};
 use std::fs::{File, Files};
 
-/// A file as a disk, whose faults are those of the file. It tells neither what it holds nor what a
-/// crash leaves.
+/// A file as a disk, with the faults of the file. It reports neither what it holds nor what a crash
+/// leaves.
 #[derive(Drop)]
 pub struct FileDisk<F> {
     file: F,
-    // How many bytes it had when that was last asked, with those that were written past them since;
-    // 0 before.
+    // How many bytes it had when its size was last asked for, counting those written past the end
+    // since; 0 before.
     size: u64,
 }
 
 impl<F: RawFile> FileDisk<F> {
-    /// This file as a disk, whose size nobody has asked yet. No call is made of the file.
+    /// This file as a disk whose size was not asked for yet. No call is made on the file.
     pub fn over(file: F) -> Self
         ensures file { result.file ≡ file }
         ensures size { result.size ≡ 0 }
@@ -27,7 +27,7 @@ impl<F: RawFile> FileDisk<F> {
 }
 
 impl<'a, R: Files<File = File>> FileDisk<LockedFile<'a, R>> {
-    /// The file of this path as a disk, with no fault so far. Nothing is opened or created yet.
+    /// The file at this path as a disk, with no fault so far. Nothing is opened or created yet.
     pub fn new(rt: &'a R, path: &'a str) -> Self
         ensures faults { result.file.faults ≡ 0 }
         ensures size { result.size ≡ 0 }

@@ -1,9 +1,9 @@
-//! The trusted edge: real streams, files, sockets, the clock and random bytes, each behind the
-//! trait that says what of it is known.
+//! The trusted edge: real streams, files, sockets, the clock and random bytes. Each implements the
+//! trait that says what is known of it.
 //!
-//! What a file or a socket holds, gives and takes no contract can say. So disks and lines tell
-//! nothing of their bytes, doors no rows, and links no replies: what is proved of them is how many
-//! bytes a call moved, and that exactly the calls that fail are counted.
+//! No contract can say what a file or a socket holds, gives and takes. So disks and lines report
+//! nothing of their bytes, doors report no rows, and links no replies. What is proved of them is
+//! how many bytes a call moved, and that exactly the calls that fail are counted.
 #![tactic(auto)]
 
 mod file_disk;

@@ -6,11 +6,11 @@ use std::sync::{OnceLock, Wait};
 use std::thread;
 use std::time::{Clock, Duration};
 
-/// For how many milliseconds a call that failed sleeps before the next: what it lacked may come.
+/// How many milliseconds to sleep after a failed call: what it lacked may become available.
 const PAUSE: u64 = 100;
 
-/// Listens for TCP connections at an address, `HOST:PORT`. It is bound when a door is first asked,
-/// and only once: if that fails, each door fails.
+/// Listens for TCP connections at an address, `HOST:PORT`. The address is bound when a door is
+/// first asked, and only once: if that fails, each door fails.
 #[derive(Drop)]
 pub struct Listening<'a, R: Net<Listener = TcpListener, Stream = TcpStream>> {
     rt: &'a R,
@@ -19,9 +19,9 @@ pub struct Listening<'a, R: Net<Listener = TcpListener, Stream = TcpStream>> {
 }
 
 impl<'a, R: Net<Listener = TcpListener, Stream = TcpStream>> Listening<'a, R> {
-    /// A listener at this address, which is not bound yet. The host is an IP address, one of
-    /// version 6 in brackets, or a name, of whose addresses the first that can be bound is. A port
-    /// of 0 cannot be bound: the system would choose one that nobody is told.
+    /// A listener at this address, which is not bound yet. The host is an IP address, in brackets
+    /// if of version 6, or a name. For a name, the first of its addresses that can be bound is
+    /// taken. Port 0 cannot be bound: the system would choose a port that nobody learns of.
     pub fn new(rt: &'a R, address: &'a str) -> Self {
         Listening {
             rt,
@@ -37,13 +37,13 @@ impl<R: Net<Listener = TcpListener, Stream = TcpStream> + Clock + Wait> Listenin
         self.listener().is_some()
     }
 
-    /// The next connection, whenever it comes. None if the address could not be bound.
+    /// The next connection, whenever it comes. `None` if the address could not be bound.
     pub(crate) fn next(&self) -> Option<TcpStream> {
         let listener = self.listener()?;
         for _ in self.rt.forever() {
             match listener.accept() {
                 Ok((stream, _)) => return Some(stream),
-                // It was gone before it was taken, or the system had no room for it.
+                // The connection was gone before it was taken, or the system had no room for it.
                 Err(_) => thread::sleep(self.rt, Duration::from_millis(PAUSE)),
             }
         }

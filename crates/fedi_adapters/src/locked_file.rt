@@ -1,4 +1,4 @@
-//! A file that one process alone has open.
+//! A file that only one process has open.
 ghost use Rattle.std.specs.Prelude.{◌≡◌, ◌+◌, ◌^◌, ◌<◌, length, is_ok, OnOk};
 ghost use Rattle.fedi_outside.specs.Causes.{HasCause};
 
@@ -11,7 +11,7 @@ use std::os::unix::fs::{FileExt, OpenOptionsExt};
 // What was found at the path.
 #[derive(Drop)]
 enum Found {
-    // Nobody has looked yet, or the file could not be opened.
+    // The file was not looked for yet, or could not be opened.
     Unknown,
     // There is no file.
     Missing,
@@ -22,17 +22,18 @@ enum Found {
 // Whether the entry of the file in its folder is synced.
 #[derive(Clone, Copy, PartialEq, Eq)]
 enum Entry {
-    // This process has created the file, and not yet synced its entry.
+    // This process has created the file, and has not synced its entry yet.
     Created,
-    // Another process has created it, and may not have come to the sync.
+    // Another process has created it, and may not have got to the sync.
     Found,
     Synced,
 }
 
-/// A file of the machine that is opened by the first call, and locked until this is dropped. If
+/// A file of the machine. It is opened by the first call, and locked until this is dropped. If
 /// another has the lock, each call fails until it is free. If there is no file, it counts as an
-/// empty one, and the first write creates it, for its owner alone. What is there and is no regular
-/// file, as a folder, a pipe or a device, makes each call fail, and is left as it is.
+/// empty one, and the first write creates it, for its owner alone. Anything at the path that is not
+/// a regular file, such as a folder, a pipe or a device, makes each call fail, and is left as it
+/// is.
 #[derive(Drop)]
 pub struct LockedFile<'a, R: Files<File = File>> {
     rt: &'a R,
@@ -43,7 +44,7 @@ pub struct LockedFile<'a, R: Files<File = File>> {
 }
 
 impl<'a, R: Files<File = File>> LockedFile<'a, R> {
-    /// The file of this path, with no fault so far. Nothing is opened or created yet.
+    /// The file at this path, with no fault so far. Nothing is opened or created yet.
     pub fn new(rt: &'a R, path: &'a str) -> Self
         ensures { result.faults ≡ 0 }
     {
@@ -70,7 +71,7 @@ impl<'a, R: Files<File = File>> LockedFile<'a, R> {
         }
     }
 
-    // Looks for the file, unless that was done.
+    // Looks for the file, unless that was done before.
     fn find(&mut self) -> io::Result<()>
         ensures { self.new.faults ≡ self.old.faults }
     {
@@ -105,7 +106,7 @@ impl<'a, R: Files<File = File>> LockedFile<'a, R> {
         }
     }
 
-    // A file that was missing is created; it is an error if another process did so first.
+    // A missing file is created. It is an error if another process has created it first.
     fn write(&mut self, at: u64, from: &[u8]) -> io::Result<()>
         ensures end { OnOk result (at + length from.now < 2 ^ 64) }
         ensures faults { self.new.faults ≡ self.old.faults }
@@ -124,7 +125,7 @@ impl<'a, R: Files<File = File>> LockedFile<'a, R> {
         written
     }
 
-    // A file that is missing has nothing to sync.
+    // A missing file has nothing to sync.
     fn sync_all(&mut self) -> io::Result<()>
         ensures { self.new.faults ≡ self.old.faults }
     {
@@ -136,9 +137,9 @@ impl<'a, R: Files<File = File>> LockedFile<'a, R> {
         Ok(())
     }
 
-    // Makes the entry in the folder durable, unless that was done. One who may not read the folder
-    // cannot do that: the error counts only if this process has created the file, since who did so
-    // before was to sync the entry.
+    // Makes the entry in the folder durable, unless that was done before. A process that may not
+    // read the folder cannot do that. The error counts only if this process has created the file,
+    // since a process that created it earlier had to sync the entry.
     fn sync_entry(&mut self) -> io::Result<()>
         ensures { self.new.faults ≡ self.old.faults }
     {
@@ -155,7 +156,7 @@ impl<'a, R: Files<File = File>> LockedFile<'a, R> {
         Ok(())
     }
 
-    // Counts the fault of a call that failed.
+    // Counts the fault of a failed call.
     fn counted<T: Drop>(&mut self, done: io::Result<T>) -> Result<T, Failed>
         ensures answer { is_ok result ≡ is_ok done }
         ensures cause { HasCause self.old.faults self.new.faults result }
@@ -188,17 +189,17 @@ impl<R: Files<File = File>> RawFile for LockedFile<'_, R> {
         self.counted(written)
     }
 
-    /// Makes durable all that was written, and by the first call that is done the entry in the
-    /// folder too.
+    /// Makes everything that was written durable. The first call that succeeds makes the entry in
+    /// the folder durable too.
     fn sync(&mut self) -> Result<(), Failed> {
         let synced = self.sync_all();
         self.counted(synced)
     }
 }
 
-// Opens the file of this path, or creates it for its owner alone, and locks it. It is an error if
-// another has the lock, if a file that is to be created is there, and if what is there is no
-// regular file.
+// Opens the file at this path, or creates it for its owner alone, and locks it. It is an error if
+// another has the lock, if a file that is to be created exists, or if what exists is not a regular
+// file.
 fn open_locked<R: Files<File = File>>(rt: &R, path: &str, create: bool) -> io::Result<File> {
     let mut options = OpenOptions::new();
     options
@@ -206,8 +207,8 @@ fn open_locked<R: Files<File = File>>(rt: &R, path: &str, create: bool) -> io::R
         .write(true)
         .create_new(create)
         .mode(0o600);
-    // If the program was started with a standard stream closed, the file gets that stream's
-    // descriptor, and what goes to the stream would go into the file. The clone's descriptor is
+    // If the program was started with a standard stream closed, the file gets the descriptor of
+    // that stream, and what goes to the stream would go into the file. The clone's descriptor is
     // above those of the streams, and the first one is closed at once.
     let file = options.open(rt, path)?.try_clone()?;
     if !file.metadata()?.is_file() {
@@ -217,7 +218,7 @@ fn open_locked<R: Files<File = File>>(rt: &R, path: &str, create: bool) -> io::R
     Ok(file)
 }
 
-// The folder that the file of this path lies in.
+// The folder that contains the file at this path.
 fn folder_of(path: &str) -> &str {
     match path.rsplit_once('/') {
         Some(("", _)) => "/",

@@ -14,17 +14,17 @@ pub trait RawFile {
         ensures cause { HasCause (faults self.old) (faults self.new) result };
 
     /// Reads the bytes at this offset, as many as there is room for. It is an error if there are
-    /// fewer, and then `into` holds any bytes.
+    /// fewer, and then `into` may hold any bytes.
     fn read_at(&mut self, at: u64, into: &mut [u8]) -> Result<(), Failed>
         ensures cause { HasCause (faults self.old) (faults self.new) result };
 
     /// Writes these bytes at this offset. It is an error if they end at 2^64 or after it. After an
-    /// error the range holds any bytes.
+    /// error the range may hold any bytes.
     fn write_at(&mut self, at: u64, from: &[u8]) -> Result<(), Failed>
         ensures end { OnOk result (at + length from.now < 2 ^ 64) }
         ensures cause { HasCause (faults self.old) (faults self.new) result };
 
-    /// Makes durable all that was written.
+    /// Makes everything that was written durable.
     fn sync(&mut self) -> Result<(), Failed>
         ensures cause { HasCause (faults self.old) (faults self.new) result };
 }

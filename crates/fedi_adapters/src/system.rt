@@ -1,5 +1,5 @@
-//! The real input, output, clock and source of random bytes. What they hold is told as far as std
-//! tells it.
+//! The real input, output, clock and source of random bytes. They report what they hold as far as
+//! std reports it.
 ghost use Rattle.std.specs.Prelude.{◌≡◌, ◌<◌, ◌/◌, ℕ, None, IfOk, OnOk, is_some, length};
 ghost use Rattle.std.specs.Io.{ReadsAtMost, WritesAtMost};
 ghost use Rattle.std.specs.Io.KnownBytes.{ReadConsumes, WriteAppends};
@@ -31,8 +31,8 @@ impl<R: Read> Reading<R> {
     }
 }
 
-// std does not say of a reader that tells nothing of its bytes that it goes on so: a source has to.
-// So `left` tells nothing, and the bytes are told by `passes`.
+// std does not say that a reader that reports nothing of its bytes continues to do so, but a source
+// has to. So `left` reports nothing, and `passes` reports the bytes.
 impl<R: Read> Source for Reading<R> {
     ghost left = { λ _. None };
 
@@ -73,7 +73,7 @@ impl<W: Write> Writing<W> {
     }
 }
 
-// As of a reader, std does not say of a writer that tells nothing that it goes on so.
+// As for a reader, std does not say that a writer that reports nothing continues to do so.
 impl<W: Write> Sink for Writing<W> {
     ghost sent = { λ _. None };
 
@@ -98,7 +98,7 @@ impl<W: Write> Sink for Writing<W> {
     }
 }
 
-/// The machine's clock, which answers 0 if the machine gives no time or one before 1970.
+/// The machine's clock, which returns 0 if the machine gives no time or one before 1970.
 #[derive(Drop)]
 pub struct SystemClock<'a, R> {
     rt: &'a R,
@@ -111,7 +111,7 @@ impl<'a, R: std::rt::Clock> SystemClock<'a, R> {
     }
 }
 
-// std does not say what the machine's clock tells: what is made of that is `seconds_of`.
+// std does not say what the machine's clock shows. `seconds_of` says what is made of it.
 impl<R: std::rt::Clock> Clock for SystemClock<'_, R> {
     ghost told = { λ _. None };
 
@@ -133,8 +133,8 @@ fn seconds_of(time: SystemTime) -> u64
     }
 }
 
-/// The file of a path as a source of random bytes, opened for each draw. A draw that does not open
-/// it, or does not read all its bytes, is a counted fault.
+/// The file at a path as a source of random bytes, opened for each draw. A draw that does not open
+/// it, or does not read all the bytes it needs, is a counted fault.
 #[derive(Drop)]
 pub struct SystemEntropy<'a, R> {
     rt: &'a R,
@@ -175,7 +175,7 @@ impl<R: Files> Entropy for SystemEntropy<'_, R> {
     }
 }
 
-// Opens the file of the path, and reads as many bytes as there is room for.
+// Opens the file at this path, and reads as many bytes as there is room for.
 fn read_file<R: Files>(rt: &R, path: &str, into: &mut [u8]) -> io::Result<()>
     ensures { OnOk result (IsReadOf R.File.remaining into.new) }
 {

@@ -10,8 +10,8 @@ use std::net::{Net, TcpListener, TcpStream};
 use std::sync::Wait;
 use std::time::Clock;
 
-/// So many benches that serve, and then so many that deliver, each with a door on this listener, of
-/// which nothing was asked yet, and a link of its own. The error is out of memory.
+/// This many benches that serve, and then this many that deliver. Each has a door on this listener,
+/// which was not asked for anything yet, and its own link. The error is out of memory.
 pub fn benches<'a, R: Net<Listener = TcpListener, Stream = TcpStream> + Clock + Wait + Sync>(
     rt: &'a R,
     alloc: Global,

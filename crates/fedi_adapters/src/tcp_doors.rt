@@ -10,28 +10,28 @@ use std::sync::Wait;
 use std::thread;
 use std::time::{Clock, Duration};
 
-/// For how many milliseconds a door that delivers sleeps after nothing was due.
+/// How many milliseconds a door that delivers sleeps after nothing was due.
 const PAUSE: u64 = 1_000;
 
-/// What a door is for. A delivery may take seconds, in which its worker does nothing else: so no
+/// What a door is for. A delivery may take seconds, in which its worker does nothing else. So no
 /// worker both serves and delivers.
 #[derive(Clone, Copy, Debug, PartialEq, Eq)]
 pub enum Role {
     /// It gives connections, and is never idle: it waits until one comes.
     Serves,
-    /// It gives no connection, and is always idle: at once after a delivery was tried, as there may
-    /// be more, and otherwise after a second.
+    /// It gives no connection, and is always idle: at once after a delivery was tried, since there
+    /// may be more, and otherwise after a second.
     Delivers,
 }
 
-/// A door on a listener that others share. Whatever its role, it fails if the address could not be
-/// bound, and then each time. It is never closed. It tells no rows.
+/// A door on a listener that others share. Whatever its role, it fails each time if the address
+/// could not be bound. It is never closed. It reports no rows.
 #[derive(Drop)]
 pub struct TcpDoor<'a, R: Net<Listener = TcpListener, Stream = TcpStream>> {
     rt: &'a R,
     listening: &'a Listening<'a, R>,
     role: Role,
-    // Whether a line is out, and whether a rest is to be told.
+    // Whether a line is out, and whether a rest is to be reported.
     is_out: bool,
     is_idle: bool,
     // Whether nothing was due when it was last idle.
@@ -40,7 +40,7 @@ pub struct TcpDoor<'a, R: Net<Listener = TcpListener, Stream = TcpStream>> {
 }
 
 impl<'a, R: Net<Listener = TcpListener, Stream = TcpStream>> TcpDoor<'a, R> {
-    /// A door of this role on this listener, which no line has left yet.
+    /// A door of this role on this listener, which has given no line yet.
     pub fn new(rt: &'a R, listening: &'a Listening<'a, R>, role: Role) -> Self
         ensures out { result.is_out ≡ false }
         ensures idle { result.is_idle ≡ false }
@@ -59,7 +59,7 @@ impl<'a, R: Net<Listener = TcpListener, Stream = TcpStream>> TcpDoor<'a, R> {
 }
 
 impl<'a, R: Net<Listener = TcpListener, Stream = TcpStream> + Clock + Wait> TcpDoor<'a, R> {
-    // The next line, whenever it comes. None if the address could not be bound.
+    // The next line, whenever it comes. `None` if the address could not be bound.
     fn line(&self) -> Option<TcpLine<'a, R>>
         ensures reads { IfSome result (λ line. line.read_faults ≡ 0) }
         ensures writes { IfSome result (λ line. line.write_faults ≡ 0) }
@@ -74,7 +74,7 @@ impl<'a, R: Net<Listener = TcpListener, Stream = TcpStream> + Clock + Wait> TcpD
         unreachable!()
     }
 
-    // Sleeps if nothing was due before. Whether the address is bound.
+    // Sleeps if nothing was due before. Returns whether the address is bound.
     fn rest(&self) -> bool {
         if !self.listening.is_bound() {
             return false;

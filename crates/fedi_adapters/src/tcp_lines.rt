@@ -6,26 +6,26 @@ use std::io::{self, Read, Write};
 use std::net::{Shutdown, TcpStream};
 use std::time::{Clock, Duration, Instant};
 
-/// The most seconds that one read or one write waits.
+/// The longest time that one read or one write waits, in seconds.
 const PATIENCE: u64 = 5;
 
-/// The most seconds in which reads come one after the other, or writes, before one more is not
-/// made.
+/// The longest time, in seconds, for consecutive reads or consecutive writes. After it, no further
+/// one is made.
 const BUDGET: u64 = 30;
 
-/// The most seconds in which what still comes is dropped at the end.
+/// The longest time, in seconds, for which what still comes is dropped at the end.
 const FAREWELL: u64 = 1;
 
-/// A TCP connection. A read or a write fails that waits longer than 5 seconds, and so does each
-/// that is made more than 30 seconds after the first of its kind since the last of the other: a
-/// request has to be there, or a reply to be taken, in that time. It tells neither what is to be
-/// read nor what was sent.
+/// A TCP connection. A read or a write fails if it waits longer than 5 seconds. It also fails if it
+/// is made more than 30 seconds after the first call of its kind since the last call of the other
+/// kind: a request has to be there, or a reply to be taken, in that time. It reports neither what
+/// is to be read nor what was sent.
 #[derive(Drop)]
 pub struct TcpLine<'a, R> {
     rt: &'a R,
     stream: TcpStream,
-    // Whether the last call was a write, and when the first of its kind was made since the last of
-    // the other.
+    // Whether the last call was a write, and when the first call of its kind since the last call of
+    // the other kind was made.
     writes: bool,
     since: Option<Instant>,
     read_faults: u64,
@@ -33,12 +33,12 @@ pub struct TcpLine<'a, R> {
 }
 
 impl<'a, R: Clock> TcpLine<'a, R> {
-    /// This connection, of which nothing was read and to which nothing was written.
+    /// This connection, from which nothing was read and to which nothing was written.
     pub(crate) fn new(rt: &'a R, stream: TcpStream) -> io::Result<Self>
         ensures reads { IfOk result (λ line. line.read_faults ≡ 0) }
         ensures writes { IfOk result (λ line. line.write_faults ≡ 0) }
     {
-        // What is written goes out at once.
+        // What is written is sent at once.
         stream.set_nodelay(true)?;
         stream.set_read_timeout(Some(Duration::from_secs(PATIENCE)))?;
         stream.set_write_timeout(Some(Duration::from_secs(PATIENCE)))?;
@@ -52,7 +52,7 @@ impl<'a, R: Clock> TcpLine<'a, R> {
         })
     }
 
-    // Whether it is too late for a call of this kind. If the time is not known, it is not.
+    // Whether it is too late for a call of this kind. It is not if the time is not known.
     fn is_late(&mut self, writes: bool) -> bool
         ensures reads { self.new.read_faults ≡ self.old.read_faults }
         ensures writes { self.new.write_faults ≡ self.old.write_faults }
@@ -65,10 +65,10 @@ impl<'a, R: Clock> TcpLine<'a, R> {
         is_past(self.since, now, BUDGET)
     }
 
-    /// Closes the connection so that the other side gets what was written: if it still sends, that
-    /// is read and dropped for some time, since the system answers what comes to a closed
-    /// connection by a reset, which may overtake the last reply (RFC 9112, section 9.6). A
-    /// connection of which a call failed is closed at once.
+    /// Closes the connection so that the other side gets what was written. If the other side still
+    /// sends, that is read and dropped for some time, since the system answers what comes to a
+    /// closed connection with a reset, which may overtake the last reply (RFC 9112, section 9.6). A
+    /// connection on which a call failed is closed at once.
     pub(crate) fn close(self) {
         if self.read_faults > 0 || self.write_faults > 0 {
             return;
@@ -94,7 +94,7 @@ impl<'a, R: Clock> TcpLine<'a, R> {
     }
 }
 
-// Whether more than so many seconds lie between two times that are known.
+// Whether both times are known and more than this many seconds apart.
 fn is_past(since: Option<Instant>, now: Option<Instant>, seconds: u64) -> bool {
     match (since, now) {
         (Some(since), Some(now)) => now.saturating_duration_since(since)

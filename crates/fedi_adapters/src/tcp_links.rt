@@ -7,16 +7,16 @@ use std::io::{self, ErrorKind, Read, Write};
 use std::net::{Net, TcpListener, TcpStream, ToSocketAddrs};
 use std::time::{Clock, Duration, Instant};
 
-/// The most seconds that an exchange takes.
+/// The longest time that an exchange takes, in seconds.
 const PATIENCE: u64 = 10;
 
-/// Requests over TCP, each on a connection of its own. An address is `HOST:PORT`, where the host is
-/// an IP address, one of version 6 in brackets, or a name, of whose addresses the first that can be
-/// connected to is taken.
+/// Requests over TCP, each on its own connection. An address is `HOST:PORT`. The host is an IP
+/// address, in brackets if of version 6, or a name. For a name, the first of its addresses that can
+/// be connected to is taken.
 ///
-/// An exchange may take 10 seconds, at whatever pace the other side reads and writes: when they are
-/// over it fails. Only the look-up of a name is not cut short by that, since the system does it in
-/// its own time. The link tells neither what it asks nor what it hears.
+/// An exchange may take 10 seconds, at whatever pace the other side reads and writes. After that it
+/// fails. Only the lookup of a name is not cut short by this, since the system does it in its own
+/// time. The link reports neither what it asks nor what it hears.
 #[derive(Drop)]
 pub struct TcpLink<'a, R> {
     rt: &'a R,
@@ -24,7 +24,7 @@ pub struct TcpLink<'a, R> {
     faults: u64,
 }
 
-// How long an exchange may go on: until so long after this moment.
+// How long an exchange may go on: for this duration after this moment.
 #[derive(Clone, Copy)]
 struct Deadline {
     start: Instant,
@@ -32,7 +32,7 @@ struct Deadline {
 }
 
 impl Deadline {
-    // What is left of the time. It is an error if nothing is left, and if the time is not known.
+    // The time that is left. It is an error if none is left, or if the time is not known.
     fn left<R: Clock>(&self, rt: &R) -> io::Result<Duration>
         ensures some { IfOk result (λ left. 0 < as_nanos left) }
         ensures bound { IfOk result (λ left. as_nanos left ≤ as_nanos self.now.patience) }
@@ -47,14 +47,14 @@ impl Deadline {
 }
 
 impl<'a, R> TcpLink<'a, R> {
-    /// A link of which no exchange failed yet.
+    /// A link on which no exchange has failed yet.
     pub fn new(rt: &'a R) -> Self
         ensures { result.faults ≡ 0 }
     {
         TcpLink::within(rt, Duration::from_secs(PATIENCE))
     }
 
-    /// The same with another time than 10 seconds.
+    /// The same with a limit other than 10 seconds.
     pub fn within(rt: &'a R, patience: Duration) -> Self
         ensures { result.faults ≡ 0 }
     {
@@ -101,7 +101,7 @@ fn send<R: Clock>(
     Ok(())
 }
 
-// Reads until the other side closes or there is no room, and says how many bytes came.
+// Reads until the other side closes or there is no room, and returns how many bytes came.
 fn receive<R: Clock>(
     rt: &R,
     deadline: Deadline,

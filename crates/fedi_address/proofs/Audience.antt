@@ -8,7 +8,7 @@ pub is_among-append : (text : List ℕ) (xs ys : List (List ℕ)) → is_among t
 unfolding is_among
 is_among-append text xs ys = list_any-append (λ u. bytes_eq u text) xs ys
 
--- a text is among five lists where it is in one of them
+-- a text is among five lists exactly if it is in one of them
 pub is_among_all : (text : List ℕ) (a b c d e : List (List ℕ)) → is_among text (a ++ (b ++ (c ++ (d ++ e)))) ≡ (is_among text a || (is_among text b || (is_among text c || (is_among text d || is_among text e))))
 is_among_all text a b c d e =
     is_among-append text a (b ++ (c ++ (d ++ e)))

@@ -1,4 +1,4 @@
--- The host and the target of an IRI, by the parts of its URL.
+-- The host and the target of an IRI, in terms of the parts of its URL.
 use Rattle.std.proofs.Common.{◌≡◌, ℕ, ◌+◌, ◌<◌, ◌≤◌, true, not, ◌&&◌, ◌==◌, ◌⊎◌, List, [], ◌∷◌, ◌++◌, length, get_or, take, drop, Some, None, All, sym, refl, ap, ◌∙◌, subst, ⊎_elim, append_assoc, append-nil, arith, length-append, take_all, take_at, drop_at}
 use Rattle.std.specs.Prelude.{Option, codes, is_some, unwrap_or, nat_le}
 use Rattle.std.specs.List.{list_all, position_or_len, before_first, after_first}
@@ -179,7 +179,7 @@ host_of-serialize url valid web =
     (λ i. after_any is_at (nothing i ++ (when (bare i) (64 ∷ []) ++ rest))) ∙ after_any_none 64 rest none)
     (cases_Bool (has_credentials url))
 
--- an IRI is read as the URL that it spells
+-- an IRI parses to the URL that it spells
 same_url : (text : List ℕ) (iri : IsIri text) (url : Parts) → web_url text ≡ Some url → iri.url ≡ url
 same_url text iri url read =
     let own = subst (λ t. web_url t ≡ Some iri.url) iri.spelled (web_url-serialize iri.url iri.valid iri.web) in

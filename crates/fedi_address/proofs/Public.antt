@@ -1,4 +1,4 @@
--- The IRI that stands for everyone is one.
+-- The IRI that means everyone is an IRI.
 use Rattle.std.proofs.Common.{◌≡◌, ℕ, ◌<◌, Bool, true, ◌||◌, ◌==◌, [], Some, None, inl, refl, arith, lit<, lit≤}
 use Rattle.std.specs.Prelude.{codes}
 use Rattle.std.proofs.lemmas.Bool.Decides.{nat_tests}

@@ -1,4 +1,4 @@
--- Lists of texts joined, each text once.
+-- Joined lists of texts, each text once.
 use Rattle.std.proofs.Common.{◌≡◌, ℕ, true, false, cond, ◌||◌, List, [], ◌∷◌, ◌++◌, refl, ap, sym, subst, ◌∙◌}
 use Rattle.std.specs.Prelude.{bytes_eq}
 use Rattle.std.specs.List.{fold}
@@ -21,7 +21,7 @@ among_alone : (text : List ℕ) → is_among text (text ∷ []) ≡ true
 unfolding is_among
 among_alone text = let same : bytes_eq text text ≡ true = (bytes_eq-Decides text text).1 refl in rw same refl
 
--- a text is there after it was added, and what was there stays
+-- a text is there after it was added, and the earlier texts stay
 among_added : (kept : List (List ℕ)) (text other : List ℕ) → is_among text kept ≡ true → is_among text (add_new kept other) ≡ true
 among_added kept text other h =
     elim (is_among other kept) as (λ b. is_among text (cond b kept (kept ++ other ∷ [])) ≡ true)
@@ -38,7 +38,7 @@ among_folded : (kept texts : List (List ℕ)) (text : List ℕ) → is_among tex
 among_folded kept [] text h = h
 among_folded kept (t ∷ ts) text h = among_folded (add_new kept t) ts text (among_added kept text t h)
 
--- each text of a list is among those that are gathered
+-- each text of a list is among the gathered texts
 now_folded : (kept texts : List (List ℕ)) (text : List ℕ) → is_among text texts ≡ true → is_among text (fold add_new kept texts) ≡ true
 unfolding is_among
 now_folded kept [] text h = absurd cc
@@ -48,7 +48,7 @@ now_folded kept (t ∷ ts) text h =
       | false ↦ λ _ rest. now_folded (add_new kept t) ts text rest
     ] refl h
 
--- to add the texts of a list that were gathered is to add those of the list
+-- adding the gathered texts of a list is the same as adding the list's texts
 folded_once : (kept found texts : List (List ℕ)) → fold add_new kept (fold add_new found texts) ≡ fold add_new (fold add_new kept found) texts
 folded_once kept found [] = refl
 folded_once kept found (t ∷ ts) =
@@ -59,7 +59,7 @@ folded_once kept found (t ∷ ts) =
       | false ↦ λ _. fold-append add_new kept found (t ∷ [])
     ] refl)
 
--- so each text of two lists stands once in both joined, whether or not they had it once
+-- so each text of two lists occurs once in both joined, whether or not each had it once
 pub distinct_twice : (a b : List (List ℕ)) → distinct (distinct a ++ distinct b) ≡ distinct (a ++ b)
 unfolding distinct
 distinct_twice a b =

@@ -46,7 +46,7 @@ web_kind url web =
     (λ http. ap scheme_type ((bytes_eq-Decides url.scheme (codes "http")).0 http) ∙ http_is_special)
     (or_cases _ _ web)
 
--- what the parser gives a web address, another URL and an error
+-- the result for a web address, for another URL and for an error of the parser
 pub web_url-Ok : (text : List ℕ) (url : Parts) → parse_url None text ≡ Ok url → is_web url ≡ true → web_url text ≡ Some url
 unfolding web_url
 web_url-Ok text url parsed web = ap (λ r. web_only (result_ok r)) parsed ∙ cond-true _ _ _ web
@@ -63,7 +63,7 @@ web_url-Err text e parsed room =
     (λ out. absurd (⊎_elim (λ memory. true≢false (sym (ap is_out_of_room memory) ∙ room)) (λ overflow. true≢false (sym (ap is_out_of_room overflow) ∙ room)) out))
     parsed
 
--- the normal text of a valid web address is read as that address
+-- the normal text of a valid web address parses to that address
 pub web_url-serialize : (url : Parts) → IsValid url → is_web url ≡ true → web_url (serialize url) ≡ Some url
 unfolding web_url
 web_url-serialize url valid web =
@@ -75,7 +75,7 @@ unfolding normal
 normal-IsIri text iri =
     subst (λ t. normal t ≡ Some t) iri.spelled (ap (λ o. option_map serialize o) (web_url-serialize iri.url iri.valid iri.web))
 
--- what the parser gave a short enough text is an IRI
+-- a short enough text from the parser is an IRI
 pub IsIri-from_url : (url : Parts) (text : List ℕ) → IsValid url → is_web url ≡ true → text ≡ serialize url → length (serialize url) ≤ 2048 → IsIri text
 IsIri-from_url url text valid web spelled short =
     record { url = url; valid = valid; web = web; spelled = sym spelled; short = subst (λ t. length t ≤ 2048) (sym spelled) short }
@@ -242,7 +242,7 @@ serialize-at_path url path valid web =
     let has = special_has_authority url valid.head (ap is_special (web_kind url web)) in
     rw has (simp (append_assoc, append-nil))
 
--- A plain path at a host is an IRI, spelled as it stands.
+-- A plain path at a host is an IRI, already in its normal spelling.
 pub address_is_iri : (host path : List ℕ) → is_host_text host ≡ true → IsIri (address host (codes "/")) → is_plain_path path ≡ true → IsIri (address host path)
 unfolding at_path
 address_is_iri host path shape root plain =
@@ -259,6 +259,6 @@ address_is_iri host path shape root plain =
       short = omega (arith, facts.short);
     }
 
--- a text of a host's shape is a host where its root is an IRI
+-- a text of a host's shape is a host if its root is an IRI
 pub IsHost-from_root : (host : List ℕ) → is_host_text host ≡ true → IsIri (address host (codes "/")) → IsHost host
 IsHost-from_root host shape root = record { shape = shape; own = normal-IsIri _ root }

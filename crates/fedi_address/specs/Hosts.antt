@@ -5,7 +5,7 @@ use Rattle.std.specs.List.{list_all, before_first, after_first}
 use Rattle.fedi_address.specs.Names.{is_lower, is_digit, is_name_byte}
 use Rattle.fedi_address.specs.Iris.{normal}
 
--- what a host's name is made of (RFC 1123, 2.1, in lower case)
+-- a byte of a host's name (RFC 1123, 2.1, in lower case)
 abbrev pub is_domain_byte : ℕ → Bool
 is_domain_byte b = is_lower b || is_digit b || b == 46 || b == 45
 
@@ -17,7 +17,7 @@ is_domain text = nat_le 1 (length text) && nat_le (length text) 253 && list_all 
 abbrev pub is_port : List ℕ → Bool
 is_port text = nat_le 1 (length text) && nat_le (length text) 5 && list_all is_digit text
 
--- `:`, which stands before a port
+-- `:`, which comes before a port
 abbrev pub is_colon : ℕ → Bool
 is_colon b = b == 58
 
@@ -34,17 +34,17 @@ is_host_text text = is_domain text || is_domain_and_port text
 abbrev pub address : List ℕ → List ℕ → List ℕ
 address host path = codes "https://" ++ (host ++ path)
 
--- The text is a host: a name with or without a port, of which `https://HOST/` is its own normal
+-- The text is a host: a name with or without a port such that `https://HOST/` is its own normal
 -- text.
 pub record IsHost (text : List ℕ) : Type 0 where
   pub shape : is_host_text text ≡ true
   pub own : normal (address text (codes "/")) ≡ Some (address text (codes "/"))
 
--- what a plain path is made of: `/` and the bytes of names
+-- a byte of a plain path: `/` or a byte of a name
 abbrev pub is_path_byte : ℕ → Bool
 is_path_byte b = is_name_byte b || b == 47
 
--- a plain path: at most 128 such bytes, of which the first is `/`
+-- a plain path: at most 128 such bytes, the first of which is `/`
 abbrev pub is_plain_path : List ℕ → Bool
 is_plain_path path =
     slice_index path 0 == 47 && nat_le (length path) 128 && list_all is_path_byte path

@@ -1,5 +1,5 @@
--- What an IRI is here: the text that the URL Standard's serializer writes (URL Standard, 4.5), of a
--- web address.
+-- What an IRI is here: the text that the URL Standard's serializer writes for a web address (URL
+-- Standard, 4.5).
 use Rattle.std.specs.Prelude.{◌≡◌, ℕ, ◌≤◌, Bool, true, false, ◌||◌, ◌==◌, List, length, codes}
 use Rattle.std.specs.Prelude.{bytes_eq, Option, Some, None, option_map, if◌then◌else◌}
 use Rattle.std.specs.Result.{result_ok}
@@ -12,7 +12,7 @@ use Rattle.url.specs.Parts.{Parts, serialize, text_between, IsValid}
 use Rattle.url.specs.declared.slicing.Position.TheVariants.{BeforeHost, AfterPort, BeforePath}
 use Rattle.url.specs.declared.slicing.Position.TheVariants.{AfterQuery}
 
--- the scheme is one of the web's (RFC 9110, 4.2)
+-- the scheme is `http` or `https` (RFC 9110, 4.2)
 abbrev pub is_web : Parts → Bool
 is_web url = bytes_eq url.scheme (codes "https") || bytes_eq url.scheme (codes "http")
 
@@ -21,15 +21,15 @@ abbrev pub web_only : Option Parts → Option Parts
 web_only (Some url) = if is_web url then Some url else None
 web_only None = None
 
--- the web address that the text is read as, with no base (URL Standard, 4.4)
+-- the web address that the text parses to, with no base (URL Standard, 4.4)
 unfoldable pub web_url : List ℕ → Option Parts
 web_url text = web_only (result_ok (parse_url None text))
 
--- the normal text of a web address, if the text is one
+-- the normal text of the web address, if the text is one
 unfoldable pub normal : List ℕ → Option (List ℕ)
 normal text = option_map serialize (web_url text)
 
--- the parser had no room
+-- the parser ran out of room
 abbrev pub is_out_of_room : ParseError → Bool
 is_out_of_room OutOfMemory = true
 is_out_of_room Overflow = true
@@ -51,23 +51,23 @@ pub record IsIri (text : List ℕ) : Type 0 where
   pub spelled : serialize url ≡ text
   pub short : length text ≤ 2048
 
--- the IRI that stands for everyone (W3C ActivityPub, 5.6)
+-- the IRI that means everyone (W3C ActivityPub, 5.6)
 abbrev pub public_iri : List ℕ
 public_iri = codes "https://www.w3.org/ns/activitystreams#Public"
 
--- `/`, which stands before a path
+-- `/`, which begins a path
 abbrev pub is_slash : ℕ → Bool
 is_slash b = b == 47
 
--- `@`, which stands behind the user information
+-- `@`, which ends the user information
 abbrev pub is_at : ℕ → Bool
 is_at b = b == 64
 
--- `#`, which stands before the fragment
+-- `#`, which comes before the fragment
 abbrev pub is_hash : ℕ → Bool
 is_hash b = b == 35
 
--- what follows the `//` that stands before the authority (RFC 3986, 3.2)
+-- what follows the `//` before the authority (RFC 3986, 3.2)
 abbrev pub after_slashes : List ℕ → List ℕ
 after_slashes text = after_first is_slash (after_first is_slash text)
 

@@ -2,7 +2,7 @@
 use Rattle.std.specs.Prelude.{ℕ, Bool, nat_lt, List, drop, length, if◌then◌else◌}
 use Rattle.std.specs.List.{position_or_len, after_first}
 
--- what stands after the first element that passes, or all if none does
+-- what follows the first element that passes, or all if none does
 unfoldable pub after_any : (ℕ → Bool) → List ℕ → List ℕ
 after_any test text =
     if nat_lt (position_or_len test text) (length text) then after_first test text else text

@@ -7,7 +7,7 @@ use arrayvec::ArrayString;
 use std::alloc::{AllocError, Global};
 use std::sync::Arc;
 
-// Where a text lies, once for all its owners. Most texts have at most 48 bytes, and these lie in
+// A text, stored once for all its owners. Most texts have at most 48 bytes, and these are stored in
 // the block itself.
 #[derive(Drop)]
 pub(crate) enum Block {
@@ -15,7 +15,7 @@ pub(crate) enum Block {
     Long(String),
 }
 
-/// A block of this text, with one owner. The error is out of memory.
+/// A block with this text and one owner. The error is out of memory.
 pub(crate) fn new_block(alloc: Global, text: &str) -> Result<Arc<Block>, AllocError>
     ensures { IfOk result (λ block. text_in block.value ≡ text.now) }
 {
@@ -26,7 +26,7 @@ pub(crate) fn new_block(alloc: Global, text: &str) -> Result<Arc<Block>, AllocEr
     Ok(Arc::new(alloc, block)?)
 }
 
-/// A block that takes this text over, with one owner. The error is out of memory.
+/// A block that takes over this text, with one owner. The error is out of memory.
 pub(crate) fn block_of(alloc: Global, text: String) -> Result<Arc<Block>, AllocError>
     ensures { IfOk result (λ block. text_in block.value ≡ string_bytes text) }
 {
@@ -37,7 +37,7 @@ pub(crate) fn block_of(alloc: Global, text: String) -> Result<Arc<Block>, AllocE
     Ok(Arc::new(alloc, block)?)
 }
 
-/// The text that lies in a block.
+/// The text in a block.
 pub(crate) fn text_of(block: &Block) -> &str
     ensures { result.now ≡ text_in block.now }
 {

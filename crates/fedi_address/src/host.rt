@@ -16,9 +16,9 @@ use std::marker::Model;
 use std::ops::DerefStr;
 use thiserror::Error;
 
-/// A host: 1 to 253 bytes of `a` to `z`, `0` to `9`, `.` and `-`, and if it has a port, `:` and
-/// 1 to 5 digits. `https://HOST/` is its own normal text (URL Standard, 4.5), so that a number of a
-/// known port, as 443, and an address that is written in another way are no hosts.
+/// A host: 1 to 253 bytes of `a` to `z`, `0` to `9`, `.` and `-`, and if it has a port, `:` and 1
+/// to 5 digits. `https://HOST/` is its own normal text (URL Standard, 4.5), so a host with the
+/// number of a known port, such as 443, or with an address written in another way, is not valid.
 #[derive(Drop)]
 pub struct Host {
     text: String,
@@ -40,7 +40,7 @@ impl Model for Host {
 /// Why a text gives no host.
 #[derive(Clone, Copy, Debug, PartialEq, Eq, Error)]
 pub enum HostFault {
-    /// The text is no host.
+    /// The text is not a valid host.
     #[error("the text is no host")]
     BadHost,
     /// Out of memory.
@@ -120,8 +120,8 @@ pub(crate) fn address_text(alloc: Global, host: &str, path: &str) -> Result<Stri
 }
 
 impl Host {
-    /// The host with this text. The errors are `BadHost`, if the text is no host, and `Memory`, out
-    /// of memory.
+    /// The host with this text. The errors are `BadHost`, if the text is not a valid host, and
+    /// `Memory`, if out of memory.
     pub fn parse(alloc: Global, text: &str) -> Result<Host, HostFault>
         ensures ok { IfOk result (λ host. host ≡ text.now) }
         ensures host { IfOk result (λ host. IsHost host) }

@@ -23,8 +23,8 @@ use thiserror::Error;
 use url::{ParseError, Url};
 
 /// An IRI: the normal text of an `http` or `https` URL (URL Standard, 4.4 and 4.5), of at most
-/// 2,048 bytes. Two IRIs are the same if their texts are. It takes one machine word, and its copies
-/// share one text.
+/// 2,048 bytes. Two IRIs are the same if their texts are equal. It takes one machine word, and its
+/// copies share one text.
 #[derive(Drop)]
 pub struct Iri {
     block: Arc<Block>,
@@ -45,7 +45,7 @@ impl Model for Iri {
 /// Why a text gives no IRI.
 #[derive(Clone, Copy, Debug, PartialEq, Eq, Error)]
 pub enum IriFault {
-    /// The text is no URL, or its scheme is neither `http` nor `https`.
+    /// The text is not a URL, or its scheme is neither `http` nor `https`.
     #[error("the text is no http or https URL")]
     NotIri,
     /// The normal text has more than 2,048 bytes.
@@ -71,7 +71,7 @@ fn is_web(url: &Url) -> bool
     scheme == "https" || scheme == "http"
 }
 
-// `url` answers that it had no room if memory runs out, or if a text would have 4 GB.
+// `url` reports that it had no room if memory runs out, or if a text would have 4 GB.
 fn is_out_of_room(fault: &ParseError) -> bool
     ensures { result ≡ iris.is_out_of_room fault.now }
 {
@@ -82,7 +82,7 @@ fn is_out_of_room(fault: &ParseError) -> bool
     }
 }
 
-// The web address that a text is read as.
+// The web address that a text parses to.
 fn web_address(alloc: Global, text: &str) -> Result<Url, IriFault>
     ensures ok { IfOk result (λ url. web_url text.now ≡ Some url) }
     ensures web { IfOk result (λ url. iris.is_web url ≡ true) }
@@ -131,13 +131,14 @@ impl Iri {
     /// The longest IRI, in bytes.
     pub const LONGEST: usize = 2048;
 
-    /// The text of the IRI that stands for everyone (W3C ActivityPub, 5.6).
+    /// The text of the IRI that means everyone (W3C ActivityPub, 5.6).
     pub const PUBLIC: &'static str = "https://www.w3.org/ns/activitystreams#Public";
 
-    /// The IRI that the text is read as, with no base (URL Standard, 4.4).
+    /// The IRI that the text parses to, with no base (URL Standard, 4.4).
     ///
-    /// The errors are `NotIri`, if the text is no URL or its scheme is neither `http` nor `https`,
-    /// `TooLong`, if its normal text has more than 2,048 bytes, and `Memory`, out of memory.
+    /// The errors are `NotIri`, if the text is not a URL or its scheme is neither `http` nor
+    /// `https`, `TooLong`, if its normal text has more than 2,048 bytes, and `Memory`, if out of
+    /// memory.
     #[tactic(auto, unfolding(crate::specs::Iris::normal))]
     pub fn parse(alloc: Global, text: &str) -> Result<Iri, IriFault>
         ensures ok { IfOk result (λ iri. normal text.now ≡ Some iri) }
@@ -167,7 +168,7 @@ impl Iri {
         Ok(Iri { block })
     }
 
-    /// The IRI that stands for everyone (W3C ActivityPub, 5.6). The error is out of memory.
+    /// The IRI that means everyone (W3C ActivityPub, 5.6). The error is out of memory.
     pub fn public(alloc: Global) -> Result<Iri, AllocError>
         ensures { IfOk result (λ iri. iri ≡ public_iri) }
     {
@@ -185,7 +186,7 @@ impl Iri {
         text_of(&self.block)
     }
 
-    /// The host, with the port if there is one. User information is no part of it.
+    /// The host, with the port if there is one. It does not include user information.
     #[tactic(auto, unfolding(crate::specs::Iris::host_of))]
     pub fn host(&self) -> &str
         ensures value { result.now ≡ host_of self.now }
@@ -207,7 +208,7 @@ impl Iri {
         before(from(onward, '/'), '#')
     }
 
-    /// A copy, which shares the text. The error is that the text has too many owners.
+    /// A copy, which shares the text. The error means that the text has too many owners.
     pub fn copy(&self) -> Result<Iri, AllocError>
         ensures { IfOk result (λ iri. iri ≡ self.now) }
     {

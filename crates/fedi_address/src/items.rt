@@ -1,4 +1,4 @@
-//! Lists whose capacity no clause sees.
+//! Lists whose capacity is hidden from every clause.
 
 ghost use Rattle.std.specs.Prelude.{◌≡◌, ◌==◌, [], ◌∷◌, ◌++◌, length, OnOk, OnErr};
 
@@ -6,7 +6,7 @@ use std::alloc::{AllocError, Global};
 use std::marker::Model;
 use std::ops::DerefSlice;
 
-/// A list. It is made from a `Vec` and gives it back without taking memory.
+/// A list. It is made from a `Vec` and turned back into one without allocating.
 #[derive(Drop)]
 pub struct Items<T> {
     values: Vec<T>,
@@ -58,7 +58,7 @@ impl<T> Items<T> {
         self.values.as_slice()
     }
 
-    /// Appends a value. Out of memory the list is as before, and the value is dropped.
+    /// Appends a value. Out of memory, the list is unchanged and the value is dropped.
     pub fn push(&mut self, value: T) -> Result<(), AllocError>
     where
         T: Drop,

@@ -4,7 +4,7 @@ ghost use Rattle.std.specs.Prelude.{◌≡◌, ◌<◌, ◌==◌};
 ghost use Rattle.std.specs.List.{before_first, after_first};
 ghost use Rattle.fedi_address.specs.Pieces.{from_first, after_any};
 
-/// What stands before the first mark, or all if there is none.
+/// The text before the first mark, or all of it if there is none.
 pub fn before(text: &str, mark: char) -> &str
     requires { mark < 128 }
     ensures { result.now ≡ before_first (λ b. b == mark) text.now }
@@ -15,7 +15,7 @@ pub fn before(text: &str, mark: char) -> &str
     }
 }
 
-/// What stands after the first mark, or nothing if there is none.
+/// The text after the first mark, or nothing if there is none.
 pub fn after(text: &str, mark: char) -> &str
     requires { mark < 128 }
     ensures { result.now ≡ after_first (λ b. b == mark) text.now }
@@ -26,7 +26,7 @@ pub fn after(text: &str, mark: char) -> &str
     }
 }
 
-/// What stands after the first mark, or all if there is none.
+/// The text after the first mark, or all of it if there is none.
 #[tactic(auto, unfolding(crate::specs::Pieces::after_any))]
 pub fn after_any(text: &str, mark: char) -> &str
     requires { mark < 128 }
@@ -38,7 +38,7 @@ pub fn after_any(text: &str, mark: char) -> &str
     }
 }
 
-/// The first mark and what follows it, or nothing if there is none.
+/// The text from the first mark on, or nothing if there is none.
 pub fn from(text: &str, mark: char) -> &str
     requires { mark < 128 }
     ensures { result.now ≡ from_first (λ b. b == mark) text.now }

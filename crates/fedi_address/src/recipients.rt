@@ -1,4 +1,4 @@
-//! To whom an activity or an object is addressed.
+//! The recipients of an activity or an object.
 
 ghost use Rattle.std.specs.Prelude.{◌≡◌, ◌||◌, ◌++◌, List, fold, length, IfOk, OnErr, OnOk};
 ghost use Rattle.fedi_address.specs.Recipients as recipients;
@@ -7,7 +7,7 @@ use crate::iri::Iri;
 use crate::items::Items;
 use std::alloc::{AllocError, Global};
 
-/// To whom an activity or an object is addressed: the five fields for audience targeting (Activity
+/// The recipients of an activity or an object: the five fields for audience targeting (Activity
 /// Vocabulary, 4; W3C ActivityPub, 6).
 #[derive(Drop)]
 pub struct Recipients {
@@ -15,9 +15,9 @@ pub struct Recipients {
     pub to: Items<Iri>,
     /// The secondary recipients.
     pub cc: Items<Iri>,
-    /// The primary recipients of whom the others are not told.
+    /// The primary recipients that are hidden from the others.
     pub bto: Items<Iri>,
-    /// The secondary recipients of whom the others are not told.
+    /// The secondary recipients that are hidden from the others.
     pub bcc: Items<Iri>,
     /// The audience in a wider sense.
     pub audience: Items<Iri>,
@@ -31,7 +31,7 @@ pub fn is_among(text: &str, iris: &[Iri]) -> bool
     iris.iter().any(|iri| iri.text() == text)
 }
 
-// Adds the IRIs that are not there yet, each once.
+// Adds each of the IRIs that is not in the list yet, once.
 fn add_each(kept: &mut Items<Iri>, iris: &[Iri]) -> Result<(), AllocError>
     ensures { OnOk result (kept.new ≡ fold recipients.add_new kept.old iris.now) }
 {
@@ -43,7 +43,7 @@ fn add_each(kept: &mut Items<Iri>, iris: &[Iri]) -> Result<(), AllocError>
     Ok(())
 }
 
-// The IRIs of both lists, each once, in the order of their first places.
+// The IRIs of both lists, each once, in the order of their first occurrences.
 #[tactic(auto, using(crate::proofs::Unions::distinct_joined))]
 fn joined(first: &Items<Iri>, second: &Items<Iri>) -> Result<Items<Iri>, AllocError>
     ensures { IfOk result (λ iris. iris ≡ recipients.distinct (first.now ++ second.now)) }
@@ -55,7 +55,7 @@ fn joined(first: &Items<Iri>, second: &Items<Iri>) -> Result<Items<Iri>, AllocEr
 }
 
 impl Recipients {
-    /// No recipient. It takes no memory.
+    /// No recipients. It takes no memory.
     pub fn empty(alloc: Global) -> Recipients
         ensures { result ≡ recipients.nobody }
     {
@@ -68,7 +68,7 @@ impl Recipients {
         }
     }
 
-    /// How many recipients the five fields have together.
+    /// How many recipients the five fields have in total.
     pub fn count(&self) -> usize
         ensures { result ≡ length (recipients.all_of self.now) }
     {
@@ -79,7 +79,7 @@ impl Recipients {
             + self.audience.as_slice().len()
     }
 
-    /// Whether one of the five fields has the IRI of everyone (W3C ActivityPub, 5.6).
+    /// Whether one of the five fields has the IRI that means everyone (W3C ActivityPub, 5.6).
     pub fn is_public(&self) -> bool
         ensures { result ≡ recipients.is_public self.now }
     {
@@ -114,9 +114,9 @@ impl Recipients {
         left
     }
 
-    /// Adds the other recipients to these, field by field: each field then has the IRIs of both,
-    /// each once, in the order of their first places (W3C ActivityPub, 6.2). Its time grows with
-    /// the product of their numbers. Out of memory nothing is changed.
+    /// Adds the other recipients to these, field by field. Each field then has the IRIs of both,
+    /// each once, in the order of their first occurrences (W3C ActivityPub, 6.2). The time grows
+    /// with the product of their numbers. Out of memory, nothing is changed.
     pub fn merge(&mut self, other: &Recipients) -> Result<(), AllocError>
         ensures ok { OnOk result (self.new ≡ recipients.union self.old other.now) }
         ensures err { OnErr result (self.new ≡ self.old) }

@@ -12,7 +12,7 @@ pub one_added : {x y : Written} (t : Token) {E : Type 0} (r : Result (Unit {0}) 
 one_added t (Ok u) w = record { tokens = w.ok; before = w.room.0 }
 one_added t (Err e) w = tt
 
--- one after the other, where the second may fail
+-- one after the other, if the second may fail
 pub then_added : {x y : Written} (ts us : List Token) (z : Written) → Adds ts x y → {E : Type 0} (r : Result (Unit {0}) E) → OnOk r (Adds us y z)
     → OnOk r (Adds (ts ++ us) x z)
 then_added ts us z a (Ok u) b = then a b
@@ -22,7 +22,7 @@ then_added ts us z a (Err e) b = tt
 pub added_as : {x y : Written} (tokens : List ℕ → List Token) (a b : List ℕ) → a ≡ b → Adds (tokens a) x y → Adds (tokens b) x y
 added_as {x} {y} tokens a b same = subst (λ text. Adds (tokens text) x y) same
 
--- more, behind what was written in a loop
+-- more, after what was written in a loop
 pub more_added : {A : Type 0} {x y : Written} (before : List Token) (tokens : A → List Token) (done : List A) (next : A) (z : Written)
     → Adds (before ++ flat_map tokens done) x y → Adds (tokens next) y z → Adds (before ++ flat_map tokens (done ++ next ∷ [])) x z
 more_added {A} {x} {y} before tokens done next z a b =

@@ -1,4 +1,4 @@
--- What is written in parts are the documents of collections and of their pages.
+-- The parts that are written are the documents of collections and of their pages.
 use Rattle.std.proofs.Common.{◌≡◌, ℕ, zero, suc, ◌+◌, ◌-◌, ◌<◌, ◌≤◌, arith, nat_le, true, false, List, [], ◌∷◌, ◌++◌, codes, refl, ap, ◌∙◌, append_assoc}
 use Rattle.std.specs.Prelude.{if◌then◌else◌}
 use Rattle.json.specs.Token.{Token}
@@ -62,7 +62,7 @@ page_parts id k total ds =
     ∙ ap (λ ts. text_member (codes "id") (page_id id k) ++ ts) (append_assoc (next_member id k) (Token.key (codes "orderedItems") ∷ []) rest))
     ∙ page_pieces id k total ds
 
--- ---- members that stand only sometimes
+-- ---- members that are written only sometimes
 
 pub some_first : (id : List ℕ) (n : ℕ) → 0 < n → first_member id n ≡ text_member (codes "first") (page_id id (highest n))
 unfolding first_member

@@ -23,7 +23,7 @@ text_written d x y text no_text no_tokens written is =
     is ∙ ap (λ before. before ++ print y.tokens) (written.before ∙ no_text)
     ∙ ap print (written.tokens ∙ ap (λ ts. ts ++ json_tokens (outline d)) no_tokens) ∙ print-outline d
 
--- what was written of the items at these places is the text of the page, which is not above the
+-- what was written for the items at these positions is the text of the page, which is not above the
 -- highest
 pub page_found : (t u : Town) (c : Caller) (which : Which) (id : List ℕ) (k total : ℕ) (places text : List ℕ) → u ≡ t
     → total ≡ total_of t c which id → k ≤ highest total

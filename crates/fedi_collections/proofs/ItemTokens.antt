@@ -28,11 +28,11 @@ map_reverse f (x ∷ xs) =
     ap (map f) (reverse-append (x ∷ []) xs) ∙ map-append f (reverse xs) (x ∷ []) ∙ ap (λ ys. ys ++ f x ∷ []) (map_reverse f xs)
     ∙ sym (reverse-append (f x ∷ []) (map f xs))
 
--- none stands past the end
+-- there is no item past the end
 pub none_past : {A : Type 0} (form : A → Data) (xs : List A) (i : ℕ) (x : Written) → length xs ≤ i → Adds (tokens_at form (slice_get xs i)) x x
 none_past form xs i x past = rw (slice_get_past xs i past) (nothing_added x)
 
--- the items at these places, where each has one, the last first
+-- the items at these positions, if each has one, the last first
 pub items_by_places : {A P : Type 0} (form : A → Data) (all : List A) (value : P → ℕ) (done : List P) (places : List ℕ) (xs : List A)
     → map value done ≡ reverse places → map (slice_get all) places ≡ map Some xs
     → (Token.begin_array ∷ flat_map (λ p. tokens_at form (slice_get all (value p))) done) ++ Token.end_array ∷ []

@@ -8,14 +8,14 @@ use Rattle.serde_json.specs.Written.{outline}
 use Rattle.fedi_model.specs.Documents.{page_id}
 use Rattle.fedi_town.specs.Collections.{highest}
 
--- the tokens of an item, where there is one
+-- the tokens of an item, if there is one
 abbrev pub tokens_at : {A : Type 0} → (A → Data) → Option A → List Token
 tokens_at form None = []
 tokens_at form (Some x) = json_tokens (outline (form x))
 
 -- ---- tokens of members
 
--- a member with a text
+-- a member whose value is a string
 abbrev pub text_member : List ℕ → List ℕ → List Token
 text_member key text = Token.key key ∷ Token.string text ∷ []
 
@@ -29,17 +29,17 @@ document_start =
 unfoldable pub document_end : List ℕ → List Token
 document_end kind = Token.key (codes "type") ∷ Token.string kind ∷ Token.end_object ∷ []
 
--- the newest page of a collection of so many items, where there are any
+-- the newest page of a collection with this many items, if there are any
 unfoldable pub first_member : List ℕ → ℕ → List Token
 first_member id zero = []
 first_member id (suc n) = text_member (codes "first") (page_id id (highest (suc n)))
 
--- the oldest page of a collection of so many items, where there are any
+-- the oldest page of a collection with this many items, if there are any
 unfoldable pub last_member : List ℕ → ℕ → List Token
 last_member id zero = []
 last_member id (suc n) = text_member (codes "last") (page_id id 0)
 
--- how many items there are
+-- the number of items
 unfoldable pub total_member : ℕ → List Token
 total_member total = Token.key (codes "totalItems") ∷ Token.number (decimal total) ∷ []
 
@@ -48,18 +48,18 @@ unfoldable pub next_member : List ℕ → ℕ → List Token
 next_member id zero = []
 next_member id (suc k) = text_member (codes "next") (page_id id k)
 
--- the page of newer items, where the highest page is this one
+-- the page of newer items, given the highest page
 unfoldable pub prev_member : List ℕ → ℕ → ℕ → List Token
 prev_member id k top =
     if nat_le (k + 1) top then text_member (codes "prev") (page_id id (k + 1)) else []
 
--- what stands before the items of a page
+-- what comes before the items of a page
 unfoldable pub page_start : List ℕ → ℕ → List Token
 page_start id k =
     document_start ++ (text_member (codes "id") (page_id id k)
     ++ (next_member id k ++ Token.key (codes "orderedItems") ∷ []))
 
--- what follows the items of a page of a collection of so many items
+-- what follows the items of a page of a collection with this many items
 unfoldable pub page_end : List ℕ → ℕ → ℕ → List Token
 page_end id k total =
     text_member (codes "partOf") id

@@ -8,7 +8,7 @@ use Rattle.fedi_town.specs.declared.caller.Which.{Which}
 use Rattle.fedi_town.specs.Collections.{highest, items, page_of}
 use Rattle.fedi_town.specs.Towns.{Town}
 
--- how many items the caller sees in the owner's collection
+-- the number of items that the caller sees in the owner's collection
 abbrev pub total_of : Town → Caller → Which → List ℕ → ℕ
 total_of t c which id = length (items t c which id)
 

@@ -41,7 +41,7 @@ fn suffix(which: &Which) -> &'static str
     }
 }
 
-// The id of the page of this number, in the buffer.
+// Puts the id of the page of this number in the buffer.
 fn put_page_id(buffer: &mut String, id: &str, number: u64) -> Result<(), AllocError>
     ensures { OnOk result (string_bytes buffer.new ≡ page_id id.now number) }
 {
@@ -65,14 +65,14 @@ impl Address {
         Ok(Address { id, page })
     }
 
-    /// The text of the collection's id.
+    /// The bytes of the collection's id.
     pub(crate) fn id(&self) -> &str
         ensures { result.now ≡ self.now }
     {
         self.id.as_str()
     }
 
-    /// Writes a member with the id of the page of this number.
+    /// Writes a member that holds the id of the page of this number.
     pub(crate) fn write_page(
         &mut self,
         out: &mut Writer,

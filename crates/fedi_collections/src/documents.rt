@@ -1,4 +1,4 @@
-//! What stands in a collection and in a page beside its items. Out of memory is the only error.
+//! What a collection and a page hold besides their items. Out of memory is the only error.
 
 ghost use Rattle.std.specs.Prelude.{◌≡◌, OnOk, codes};
 ghost use Rattle.fedi_model.specs.Documents.{page_id, summary_form};
@@ -14,7 +14,7 @@ use fedi_visible::PAGE;
 use json::Writer;
 use std::alloc::AllocError;
 
-/// The number of the highest page of so many items, which has the newest.
+/// The number of the highest page for this many items. It has the newest.
 pub(crate) fn highest_page(total: u64) -> u64
     ensures { result ≡ highest total }
 {
@@ -110,7 +110,7 @@ pub(crate) fn begin_page(
     out.key("orderedItems")
 }
 
-/// Writes what follows the items of a page of a collection of so many items.
+/// Writes what follows the items of a page of a collection with this many items.
 pub(crate) fn end_page(
     out: &mut Writer,
     address: &mut Address,

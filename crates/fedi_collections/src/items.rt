@@ -20,7 +20,7 @@ use json::Writer;
 use std::alloc::AllocError;
 use std::sync::ledger::Ledger;
 
-// Writes an activity as it stands in a page.
+// Writes an activity as it appears in a page.
 fn write_embedded(out: &mut Writer, facts: &Facts, act: &Kept) -> Result<(), AllocError>
     ensures { OnOk result (IsWritten (embedded_form facts.now.town act.now) out.old out.new) }
 {
@@ -49,7 +49,7 @@ fn write_item(out: &mut Writer, facts: &Facts, which: &Which, act: &Kept) -> Res
     }
 }
 
-// Writes the item at this place among the activities, if there is one.
+// Writes the item at this position among the activities, if there is one.
 fn write_place<L: Ledger>(
     out: &mut Writer,
     facts: &Facts,
@@ -68,7 +68,7 @@ fn write_place<L: Ledger>(
     }
 }
 
-/// Writes the items at these places among the activities, the last one first. Each is read once.
+/// Writes the items at these positions among the activities, the last one first. Each is read once.
 pub(crate) fn write_items<L: Ledger>(
     out: &mut Writer,
     facts: &Facts,

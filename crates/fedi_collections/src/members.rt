@@ -1,4 +1,4 @@
-//! Members of a document, written straight. Out of memory is the only error.
+//! Members of a document, written directly. Out of memory is the only error.
 
 ghost use Rattle.std.specs.Prelude.{OnOk};
 ghost use Rattle.fedi_collections.specs.Members.{document_end, document_start, total_member};
@@ -26,7 +26,7 @@ pub(crate) fn end_document(out: &mut Writer, kind: &str) -> Result<(), AllocErro
     out.end_object()
 }
 
-/// Writes how many items a collection has.
+/// Writes the number of items in a collection.
 #[tactic(auto, unfolding(crate::specs::Members::total_member))]
 pub(crate) fn write_total(out: &mut Writer, total: u64) -> Result<(), AllocError>
     ensures { OnOk result (Adds (total_member total) out.old out.new) }

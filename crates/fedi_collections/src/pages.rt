@@ -20,7 +20,7 @@ use json::Writer;
 use std::alloc::{AllocError, Global};
 use std::sync::ledger::Ledger;
 
-// The room for what stands beside the items, and for an item, in bytes. It grows if it is too
+// The room for what is written besides the items, and for an item, in bytes. It grows if it is too
 // small.
 const FRAME: usize = 768;
 
@@ -44,9 +44,9 @@ fn summary_text(
 }
 
 /// The JSON of the owner's collection without its items (ActivityStreams 2.0 Core, section 5): its
-/// id, how many items the reader sees, and its newest and its oldest page, where it has items. The
-/// owner is the member or the object with this id. It reads as many activities as a page of the
-/// shelf.
+/// id, the number of items that the reader sees, and its newest and its oldest page if it has
+/// items. The owner is the member or the object with this id. It reads as many activities as a page
+/// of the shelf.
 pub fn summary<S: Shelf, L: Ledger>(
     alloc: Global,
     shelf: &S,
@@ -64,7 +64,7 @@ pub fn summary<S: Shelf, L: Ledger>(
     summary_text(alloc, which, owner, page.total)
 }
 
-// The room for a page with so many items.
+// The room for a page with this many items.
 fn page_room(which: &Which, items: usize) -> usize
     ensures { result ≤ 13568 }
 {
@@ -75,7 +75,7 @@ fn page_room(which: &Which, items: usize) -> usize
     FRAME + each * items.min(PAGE)
 }
 
-// Writes the page of this number, with the items at these places among the activities.
+// Writes the page of this number, with the items at these positions among the activities.
 fn write_page<L: Ledger>(
     out: &mut Writer,
     address: &mut Address,
@@ -119,11 +119,11 @@ fn page_text<L: Ledger>(
     Ok(out.into_inner())
 }
 
-/// The JSON of the page of this number (ActivityStreams 2.0 Core, section 5.2): up to 20 items of
-/// those that the reader sees, the newest first, and the pages before and after it. None exactly if
-/// the page is above the highest, which has the newest item, and is 0 for an empty collection; it
-/// takes no memory then. The owner is the member or the object with this id. Beside the activities
-/// that a page of the shelf reads, each item is read once.
+/// The JSON of the page of this number (ActivityStreams 2.0 Core, section 5.2): up to 20 of the
+/// items that the reader sees, the newest first, and the pages before and after it. `None` is
+/// returned exactly if the page is above the highest, which has the newest item and is 0 for an
+/// empty collection; then it takes no memory. The owner is the member or the object with this id.
+/// Besides the activities that a page of the shelf reads, each item is read once.
 pub fn page<S: Shelf, L: Ledger>(
     alloc: Global,
     shelf: &S,

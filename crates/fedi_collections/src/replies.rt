@@ -1,4 +1,4 @@
-//! The replies to who reads a collection. Out of memory is the only error.
+//! The replies to readers of a collection. Out of memory is the only error.
 
 ghost use Rattle.std.specs.Prelude.{◌≡◌, ◌<◌, ◌||◌, IfOk, IsTrue, OnErr, Some, false, not};
 ghost use Rattle.std.specs.Prelude.{option_copied};
@@ -52,7 +52,7 @@ fn inbox_rule(caller: &Caller, name: &LocalName) -> Option<Refusal>
     }
 }
 
-// Why the caller may not read the collection, whatever it has.
+// Why the caller may not read the collection, whatever it holds.
 fn reading_rule(caller: &Caller, which: &Which) -> Option<Refusal>
     ensures { result ≡ reading_rule caller.now which.now }
 {
@@ -63,7 +63,7 @@ fn reading_rule(caller: &Caller, which: &Which) -> Option<Refusal>
     }
 }
 
-// Why the Likes and Announces are not read of the object that this activity made.
+// Why the Likes and Announces of the object that this activity made may not be read.
 fn marks_rule(maker: Option<&Kept>) -> Option<Refusal>
     ensures { result ≡ marks_rule (option_copied maker.entry) }
 {
@@ -73,7 +73,7 @@ fn marks_rule(maker: Option<&Kept>) -> Option<Refusal>
     }
 }
 
-// Why the collection is not read of the object of this id, if it is an object's.
+// Why the collection of the object with this id may not be read, if it is an object's.
 fn object_rule(facts: &Facts, caller: &Caller, which: &Which, id: &Iri) -> Option<Refusal>
     ensures { result ≡ object_rule facts.now.town caller.now which.now id.now }
 {
@@ -106,8 +106,8 @@ fn object_owner(
 
 // ---- replies
 
-// The reply to who reads this part of the owner's collection. How often activities are read is
-// counted here, and the bounds are those of `summary` and `page`.
+// The reply to a reader of this part of the owner's collection. The reads of activities are counted
+// here, and the bounds are those of `summary` and `page`.
 #[tactic(auto, unfolding(fedi_model::specs::Reading::items_answer))]
 fn items_reply<S: Shelf, L: Ledger>(
     alloc: Global,
@@ -144,7 +144,7 @@ fn items_reply<S: Shelf, L: Ledger>(
     }
 }
 
-// The reply to who reads the collection of the owner with this id.
+// The reply to a reader of the collection of the owner with this id.
 fn owner_reply<S: Shelf>(
     alloc: Global,
     shelf: &S,
@@ -177,11 +177,11 @@ fn is_malformed(part: &PageAsk) -> bool
     }
 }
 
-/// The reply to who reads a collection, or a page of it (ActivityPub, section 5). `NotFound` if
-/// there is no such member, or no page of that number; `BadQuery` if the page is no number; `NoKey`
-/// and `NotOwner` if an inbox is read by somebody else than its owner (section 5.2); for the Likes
-/// and Announces of an object `NotFound` if the reader does not see the object, and `Gone` if it
-/// was deleted.
+/// The reply to a reader of a collection or of a page of it (ActivityPub, section 5). `NotFound` if
+/// there is no such member or no page of that number; `BadQuery` if the page is not a number;
+/// `NoKey` and `NotOwner` if an inbox is read by somebody other than its owner (section 5.2); for
+/// the Likes and Announces of an object, `NotFound` if the reader does not see the object, and
+/// `Gone` if it was deleted.
 pub fn collection_reply<S: Shelf>(
     alloc: Global,
     shelf: &S,
@@ -191,7 +191,7 @@ pub fn collection_reply<S: Shelf>(
 ) -> Result<Reply, AllocError>
     ensures reply { IfOk result (λ r. r ≡ reply_of
         (collection_answer (S.holding shelf.now).town caller.now which.now part.now)) }
-    // What is refused is never out of memory, but where the id of an object is made to find it.
+    // A refusal never runs out of memory, except when the id of an object is made to find it.
     ensures memory { OnErr result (IsTrue (finds_marked which.now part.now || not (is_refused
         (collection_answer (S.holding shelf.now).town caller.now which.now part.now)))) }
 {

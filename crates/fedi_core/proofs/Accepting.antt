@@ -1,4 +1,4 @@
--- What is accepted is an entry that the history may take next.
+-- What is accepted is an entry that may come next in the history.
 use Rattle.std.proofs.Common.{◌≡◌, ℕ, true, List, Option, Some, None, Result, Ok, Err, refl, sym, ap, subst, ◌∙◌}
 use Rattle.std.specs.Prelude.{IfOk, IfSome}
 use Rattle.std.specs.declared.alloc.AllocError.{AllocError}
@@ -21,7 +21,7 @@ use Rattle.fedi_laws.proofs.PrivateReplies.{replies_agree}
 use Rattle.fedi_core.specs.Keeping.{MayAdd}
 use Rattle.fedi_core.specs.declared.deciding.Decision.{Decision}
 
--- ---- the entry that an ask makes is no attempt
+-- ---- the entry that an ask adds is no attempt
 
 post_no_attempt : (name : List ℕ) (post : Post) (moment : ℕ) (j : Judgement) (e : Entry) → post_entry name post moment j ≡ Some e → IsAttemptWithin e
 post_no_attempt name post moment (Stop a) e made = absurd cc
@@ -60,7 +60,7 @@ no_attempt t c (Inbox name post) moment e made = delivery_at_no_attempt t c name
 
 -- ---- what is decided
 
--- the entry that an ask makes may be added
+-- the entry that an ask adds may be added
 entry_may : (t : Town) (c : Caller) (ask : Ask) (moment : ℕ) → IsPostable t ask → IfSome (entry_of t c ask moment) (MayAdd t)
 entry_may t c ask moment postable =
     elim (entry_of t c ask moment) as (λ o. entry_of t c ask moment ≡ o → IfSome o (MayAdd t)) [

@@ -1,4 +1,4 @@
--- A claim is of one delivery that waits, of which an attempt may come next.
+-- A claim is of one waiting delivery, and an attempt of it may come next.
 use Rattle.std.proofs.Common.{inl, inr, ◌⊎◌, ◌≡◌, ◌<◌, ◌≤◌, ℕ, zero, suc, ◌+◌, arith, Bool, true, false, List, [], ◌∷◌, ◌++◌, length, Option, Some, None, refl, sym, ap, subst, ◌∙◌, append_assoc, eq-eqb}
 use Rattle.std.specs.Prelude.{◌&&◌, ◌||◌, not, IfSome, IsTrue, filter, is_some, map, nat_eq, nat_le, option_and_then, option_map, slice_get, if◌then◌else◌}
 use Rattle.std.specs.List.{find, list_all, list_any}
@@ -37,7 +37,7 @@ use Rattle.fedi_core.specs.Delivering.{IsClaimOf, attempt_of, claimed_id, claime
 use Rattle.fedi_core.specs.Keeping.{MayAdd}
 use Rattle.fedi_core.specs.Machines.{KeepsClaims}
 
--- ---- each row has a place of its own
+-- ---- each row has a position of its own
 
 any-row : (a p : ℕ) (b : Bool) (n k : ℕ) (r : List ℕ) (g : Progress) → list_any (is_at a p) (row_where b n k r g) ≡ true → (n ≡ a) × (k ≡ p)
 unfolding is_at
@@ -205,7 +205,7 @@ at-place : (a p : ℕ) (row : QueueRow) → is_at a p row ≡ true → (row.acti
 unfolding is_at
 at-place a p row at = let parts = and_parts (nat_eq row.activity a) (nat_eq row.place p) at in (eqb-true row.activity a parts.0, eqb-true row.place p parts.1)
 
--- the rows of a town, of which some are claimed
+-- the rows of a town, some of which may be claimed
 abbrev pub AreRowsOf : Town → List QueueRow → Type 0
 AreRowsOf t rows = map release rows ≡ rows_of t
 
@@ -213,7 +213,7 @@ places-of : (t : Town) (rows : List QueueRow) (a p : ℕ) → AreRowsOf t rows �
 places-of t rows a p same =
     once-released (is_at a p) rows (at-released a p) (subst (λ (ys : List QueueRow). PassesOnce (is_at a p) ys) (sym same) (places-once t a p))
 
--- where the row of a claim is
+-- the position of the row of a claim
 record IsRowOf (rows : List QueueRow) (c : Claim) : Type 0 where
   number : ℕ
   row : QueueRow
@@ -249,7 +249,7 @@ some-text (Some id) some = refl
 same-claim : (c : Claim) (row : QueueRow) → row.activity ≡ c.activity → row.place ≡ c.recipient → claim_of c.moment row ≡ c
 same-claim c row activity place = rw (activity, place) refl
 
--- a claim that is held is of a delivery that waits
+-- a claim that is held is of a waiting delivery
 pub held_is_of : (t : Town) (rows : List QueueRow) (c : Claim) → AreRowsOf t rows → IsHeld c rows → IsClaimOf t c (claimed_id t.acts c) (claimed_recipient rows c)
 unfolding has-id
 held_is_of t rows c same held =
@@ -286,7 +286,7 @@ attempt_may h rows c came m legal same held may later =
       attempt = may;
     }
 
--- the activity that is claimed has an id
+-- the claimed activity has an id
 pub claimed_some : (t : Town) (rows : List QueueRow) (c : Claim) → AreRowsOf t rows → IsHeld c rows → IsTrue (is_some (id_at t.acts c.activity))
 claimed_some t rows c same held =
     let is = held_is_of t rows c same held in
@@ -341,7 +341,7 @@ is-hosted : (h : Option (List ℕ)) (acts : List Act) (n : ℕ) → HasIds h act
 is-hosted None acts n ids within = absurd (omega (arith, within, ap (λ (xs : List Act). length xs) ids))
 is-hosted (Some host) acts n ids within = refl
 
--- where a claim is sent: there are the activity, this server's host and the recipient's peer
+-- where a claim is sent: the activity, this server's host and the recipient's peer all exist
 pub record IsReached (t : Town) (c : Claim) (recipient : List ℕ) : Type 0 where
   pub within : c.activity < length t.acts
   pub host : IsTrue (is_some t.host)
@@ -395,7 +395,7 @@ first_claimed t m rows new result same is made =
           (ap (λ (ys : List QueueRow). claimed_row ys (claim_of m row)) made ∙ claimed-first t m rows row same first)
     ] refl is
 
--- it is of a delivery that waits
+-- it is of a waiting delivery
 pub claims_are_of : (t : Town) (m : ℕ) (rows new : List QueueRow) (result : Option Claim) → AreRowsOf t rows → new ≡ change_first (is_free_at m) claim rows
     → IfSome result (λ c. IsHeld c new) → IfSome result (λ c. IsClaimOf t c (claimed_id t.acts c) (claimed_recipient new c))
 claims_are_of t m rows new None same made held = tt
@@ -431,7 +431,7 @@ claimed-more m (x ∷ rows) row first =
       | false ↦ λ free e. beside x (change_first (is_free_at m) claim rows) rows (claimed-more m rows row e)
     ] refl first
 
--- a claim is one more
+-- a claim adds one
 pub more_claimed : (m : ℕ) (rows new : List QueueRow) (result : Option Claim) → result ≡ option_map (claim_of m) (find (is_free_at m) rows) → new ≡ change_first (is_free_at m) claim rows
     → IfSome result (λ _. claims_in new ≡ claims_in rows + 1)
 more_claimed m rows new result is made =
@@ -452,14 +452,14 @@ released-fewer a p (x ∷ rows) any =
       | false ↦ λ own e. beside x rows (change_first (is_claimed_at a p) release rows) (released-fewer a p rows e)
     ] refl any
 
--- a claim that is given up is one fewer
+-- a claim that is given up subtracts one
 pub fewer_released : (c : Claim) (rows new : List QueueRow) → IsHeld c rows → new ≡ change_first (is_claimed_at c.activity c.recipient) release rows → claims_in rows ≡ claims_in new + 1
 fewer_released c rows new held made =
     let at = any-got (is_held_by c) rows held in
     let own = (held-by c at.1 at.3).0 in
     released-fewer c.activity c.recipient rows (got-any (is_claimed_at c.activity c.recipient) rows at.0 at.1 at.2 own) ∙ ap (λ (ys : List QueueRow). claims_in ys + 1) (sym made)
 
--- of the rows of a town none is claimed
+-- no row of a town is claimed
 pub town_unclaimed : (t : Town) → claims_in (rows_of t) ≡ 0
 unfolding rows_of is_claimed
 town_unclaimed t = all-free (rows_of t) (rows_unclaimed t (is_at_peer t) 0 t.acts)
@@ -472,12 +472,12 @@ town_unclaimed t = all-free (rows_of t) (rows_unclaimed t (is_at_peer t) 0 t.act
         let free : row.claimed ≡ false = sym (ap (λ (r : QueueRow). r.claimed) own) in
         counted row ys false free ∙ rw (all-free ys rest) refl
 
--- a claim that is given up leaves the rows
+-- a claim that is given up leaves the rows of the town
 pub rows_released : (t : Town) (rows new : List QueueRow) (a p : ℕ) → AreRowsOf t rows → new ≡ change_first (is_claimed_at a p) release rows → AreRowsOf t new
 rows_released t rows new a p same made =
     ap (λ (ys : List QueueRow). map release ys) made ∙ rows_stay (is_claimed_at a p) release rows (λ row. refl) ∙ same
 
--- where none is claimed the rows are those of the town
+-- if none is claimed, the rows are those of the town
 pub none_claimed : (t : Town) (rows : List QueueRow) → AreRowsOf t rows → claims_in rows ≡ 0 → rows ≡ rows_of t
 none_claimed t rows same none = sym (all-free rows none) ∙ same
   where
@@ -489,7 +489,7 @@ none_claimed t rows same none = sym (all-free rows none) ∙ same
     all-free [] none = refl
     all-free (row ∷ ys) none = let parts = one row ys row.claimed refl none in rw (parts.0, all-free ys parts.1) refl
 
--- ---- what is tried is not claimed any more
+-- ---- a delivery is no longer claimed after an attempt
 
 there-id : (acts : List Act) (n : ℕ) (id : List ℕ) → id_at acts n ≡ Some id → is_there (has_activity_id id) (slice_get acts n) ≡ true
 unfolding has_activity_id
@@ -545,7 +545,7 @@ tried-fewer acts id r came m (x ∷ rows) (suc k) row once got claimed own =
       | false ↦ rest
     ])
 
--- an attempt that is kept leaves one claim fewer
+-- after an attempt is kept, one fewer is claimed
 pub fewer_recorded : (h : List Entry) (rows new : List QueueRow) (c : Claim) (came : Came) (m : ℕ) → IsLegal h → AreRowsOf (town h) rows → IsHeld c rows
     → KeepsClaims (town h).acts (attempt_of (town h) rows c came m) rows new → claims_in rows ≡ claims_in new + 1
 fewer_recorded h rows new c came m legal same held keeps =

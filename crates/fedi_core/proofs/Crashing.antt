@@ -1,4 +1,4 @@
--- What crashes may leave on the way of several calls.
+-- What crashes may leave during several calls.
 use Rattle.std.proofs.Common.{◌≡◌, ◌≤◌, ◌⊎◌, ℕ, Bool, true, false, arith, List, [], ◌∷◌, ◌++◌, Option, Some, None, inl, inr, refl, ap, subst, ◌∙◌}
 use Rattle.fedi_outside.specs.Keepers.{Adds, Crashes, IfTold, KeeperState, LeavesRecords, MayLeave, OnlyRoomChanged, PassesTime}
 use Rattle.fedi_town.specs.declared.command_fault.CommandFault.{CommandFault}
@@ -8,7 +8,7 @@ use Rattle.fedi_core.specs.Keeping.{HasFailedOnce, MayDoubt}
 use Rattle.fedi_core.specs.declared.keeping.KeepFault.{KeepFault}
 use Rattle.fedi_core.specs.declared.keeping.KeepFault.TheVariants as keeps
 
--- if it is told, and the records are, one thing follows from the other
+-- if what crashes leave is known, and the records are, one property follows from the other
 pub if_told : (told : Bool) (records : Option (List (List ℕ))) (P Q : List (List ℕ) → Type 0) → ((kept : List (List ℕ)) → records ≡ Some kept → P kept → Q kept)
     → IfTold told records P → IfTold told records Q
 if_told false records P Q f h = tt
@@ -64,7 +64,7 @@ then_with records doubt code a b c first second = record {
 
 -- ---- one call
 
--- what one call may leave is among what is said
+-- what one call may leave is among what the definition allows
 of_call : (records : Option (List (List ℕ))) (doubt other : Option (List ℕ)) (code : List ℕ) (b c : Crashes)
     → ((kept left : List (List ℕ)) → MayLeave kept other left → MayLeaveWith kept doubt code left)
     → PassesTime records other b c → PassesTimeWith records doubt code b c
@@ -81,7 +81,7 @@ of_call records doubt other code b c among h = record {
     one left f (inl past) = inl past
     one left f (inr added) = inr (f added)
 
--- the records alone are among what is said
+-- the records alone are among what the definition allows
 alone : (kept : List (List ℕ)) (doubt : Option (List ℕ)) (left : List (List ℕ)) → left ≡ kept → MayLeave kept doubt left
 alone kept None left is = is
 alone kept (Some more) left is = inl is
@@ -91,7 +91,7 @@ pub quiet_call : (records : Option (List (List ℕ))) (doubt : Option (List ℕ)
     → PassesTimeWith records doubt code b c
 quiet_call records doubt code b c h = of_call records doubt doubt code b c (λ kept left l. inl l) h
 
--- the call that keeps the new one
+-- the call that keeps the new record
 pub keeping_call : (records : Option (List (List ℕ))) (doubt : Option (List ℕ)) (code : List ℕ) (b c : Crashes) → PassesTime records (Some code) b c
     → PassesTimeWith records doubt code b c
 keeping_call records doubt code b c h =
@@ -103,20 +103,20 @@ keeping_call records doubt code b c h =
 
 -- ---- keeping a record
 
--- the same, at records and a doubt that are known by other names
+-- the same, for equal records and an equal doubt
 renamed : (records other : Option (List (List ℕ))) (doubt also : Option (List ℕ)) (b c : Crashes) → other ≡ records → also ≡ doubt
     → PassesTime other also b c → PassesTime records doubt b c
 renamed records other doubt also b c r d h =
     subst (λ (x : Option (List ℕ)). PassesTime records x b c) d (subst (λ (x : Option (List (List ℕ))). PassesTime x also b c) r h)
 
--- room was made, and then nothing was kept
+-- room was made, but nothing was kept
 pub unsettled : (k l : KeeperState) (code : List ℕ) (a b c : Crashes) → OnlyRoomChanged k l → PassesTime k.records k.doubt a b
     → PassesTime l.records l.doubt b c → PassesTimeWith k.records k.doubt code a c
 unsettled k l code a b c room first second =
     then_with k.records k.doubt code a b c first
     (quiet_call k.records k.doubt code b c (renamed k.records l.records k.doubt l.doubt b c room.records room.doubt second))
 
--- room was made, the doubt removed, and then the record kept
+-- room was made, the doubt was settled, and then the record was kept
 pub stored : (k l m : KeeperState) (code : List ℕ) (a b c d : Crashes) → OnlyRoomChanged k l → m ≡ record l { doubt = None }
     → PassesTime k.records k.doubt a b → PassesTime l.records l.doubt b c → PassesTime m.records (Some code) c d
     → PassesTimeWith k.records k.doubt code a d
@@ -125,7 +125,7 @@ stored k l m code a b c d room settled first second third =
     (then_with k.records k.doubt code b c d (renamed k.records l.records k.doubt l.doubt b c room.records room.doubt second)
     (keeping_call k.records k.doubt code c d (renamed k.records m.records (Some code) (Some code) c d (ap (λ (s : KeeperState). s.records) settled ∙ room.records) refl third)))
 
--- the record may not have been kept, and then the doubt was settled, or that failed
+-- the record may not have been kept; then the doubt was settled, or that failed
 pub settled_after : (k l : KeeperState) (code : List ℕ) (a b c : Crashes) → HasFailedOnce code k l → PassesTimeWith k.records k.doubt code a b
     → PassesTime l.records l.doubt b c → PassesTimeWith k.records k.doubt code a c
 settled_after k l code a b c failed first second = record {
@@ -156,7 +156,7 @@ settled_after k l code a b c failed first second = record {
 
 -- ---- no call
 
--- nothing happens while no call is made
+-- nothing happens if no call is made
 pub stands_still : (k : KeeperState) (c : Crashes) → LeavesRecords k c → PassesTime k.records k.doubt c c
 stands_still k c now = record {
   clock = let same : c.clock ≤ c.clock = omega arith in same;
@@ -167,7 +167,7 @@ stands_still k c now = record {
   }) now;
 }
 
--- nothing happened while a command was refused for some rule
+-- nothing happened if a command was refused because of a rule
 pub refused_still : (fault : CommandFault) (k : KeeperState) (code : List ℕ) (c : Crashes) → LeavesRecords k c
     → PassesTimeRefused fault k.records k.doubt code c c
 refused_still NameTaken k code c now = stands_still k c now
@@ -178,7 +178,7 @@ refused_still Full k code c now = stands_still k c now
 refused_still KeeperFault k code c now = quiet_call k.records k.doubt code c c (stands_still k c now)
 refused_still Memory k code c now = stands_still k c now
 
--- nothing happened while there was no memory
+-- nothing happened if memory ran out
 pub unkept_still : (fault : KeepFault) (k : KeeperState) (code : List ℕ) (c : Crashes) → fault ≡ keeps.Memory → LeavesRecords k c
     → PassesTimeUnkept fault k.records k.doubt code c c
 unkept_still fault k code c is now = rw is (stands_still k c now)

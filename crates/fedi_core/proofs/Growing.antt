@@ -1,4 +1,4 @@
--- What a machine keeps true stays true over an entry.
+-- The invariants of a machine still hold after one more entry.
 use Rattle.std.proofs.Common.{inl, inr, ◌≡◌, ℕ, ◌+◌, true, false, List, [], ◌∷◌, ◌++◌, length, map, Option, None, Some, Result, Ok, Err, refl, sym, ap, subst, ◌∙◌}
 use Rattle.std.specs.Cmp.Derive.{both_true}
 use Rattle.std.specs.Prelude.{◌&&◌, IfErr, IfSome, IsErrOf, OnErr, OnOk, option_map}
@@ -32,7 +32,7 @@ legal_from_grown t (x ∷ h) e legal next =
     both_true ((and_parts (is_admissible t x) (is_legal_from (step t x) h) legal).0)
     (legal_from_grown (step t x) h e ((and_parts (is_admissible t x) (is_legal_from (step t x) h) legal).1) next)
 
--- the keeper added the record of one entry more
+-- the keeper added the record of one more entry
 keeps_more : (growth : ℕ → ℕ) (k k' : KeeperState) (h : List Entry) (e : Entry) → IsKeeping k h → HasAdded growth (code_of e) k k' → IsKeeping k' (h ++ e ∷ [])
 keeps_more growth k k' h e keeps added = record {
   held = added.held ∙ (ap (λ (n : ℕ). n + 1) keeps.held ∙ sym (length-append h (e ∷ [])));
@@ -50,7 +50,7 @@ formed_more : (h : List Entry) (e : Entry) → AllByRecursion IsFormed h → IsF
 formed_more [] e all formed = (formed, tt)
 formed_more (x ∷ h) e all formed = (all.0, formed_more h e all.1 formed)
 
--- it stands after an entry that may be added
+-- the invariant holds after an entry that may be added
 grown : (growth : ℕ → ℕ) (f f' : Holding) (k k' : KeeperState) (e : Entry) → Stands f k → MayAdd (town f.history) e → IsFormed e → IsGrown f e f'
     → HasAdded growth (code_of e) k k' → Stands f' k'
 grown growth f f' k k' e stands may formed more added = record {
@@ -60,18 +60,18 @@ grown growth f f' k k' e stands may formed more added = record {
   kept = subst (λ (h : List Entry). IsKeeping k' h) (sym more.held) (keeps_more growth k k' f.history e stands.kept added);
 }
 
--- a keeper that refused a record has those that it had
+-- a keeper that refused a record has the same records as before
 refuser_keeps : (room : ℕ → ℕ) (code : List ℕ) (fault : KeepFault) (k k' : KeeperState) → Refuses room code fault k k'
     → (k'.held ≡ k.held) × (k'.records ≡ k.records)
 refuser_keeps room code Full k k' refused = (refused.1.held, refused.1.records)
 refuser_keeps room code Failed k k' refused = (refused.1.held, refused.1.records)
 refuser_keeps room code Memory k k' refused = (refused.held, refused.records)
 
--- an entry that may be added, and whose fields have their forms, may come next
+-- an entry that may be added and has well-formed fields may come next
 pub comes_next : (t : Town) (e : Entry) → MayAdd t e → IsFormed e → IsNext t e
 comes_next t e may formed = record { formed = formed; admissible = may.admissible }
 
--- what is in doubt then may come next
+-- the record that is then in doubt may come next
 refuser_doubts : (room : ℕ → ℕ) (e : Entry) (fault : KeepFault) (k k' : KeeperState) (h : List Entry) → IfSome k.doubt (IsNextCode h)
     → (fault ≡ Failed → IsNext (town h) e) → Refuses room (code_of e) fault k k' → IfSome k'.doubt (IsNextCode h)
 refuser_doubts room e Full k k' h doubted next refused = subst (λ (d : Option (List ℕ)). IfSome d (IsNextCode h)) (sym refused.1.doubt) doubted
@@ -85,7 +85,7 @@ refuser_doubts room e Failed k k' h doubted next refused =
       ]
     ]
 
--- it stands after an entry that was refused
+-- the invariant holds after an entry that was refused
 unchanged : (room : ℕ → ℕ) (e : Entry) (fault : KeepFault) (f f' : Holding) (k k' : KeeperState) → Stands f k → IsSame f f'
     → (fault ≡ Failed → IsNext (town f.history) e) → Refuses room (code_of e) fault k k' → Stands f' k'
 unchanged room e fault f f' k k' stands same next refused =
@@ -103,7 +103,7 @@ unchanged room e fault f f' k k' stands same next refused =
       };
     }
 
--- it stands after an entry that may be added was kept or refused
+-- the invariant holds after an entry that may be added was kept or refused
 stays : (growth room : ℕ → ℕ) (r : Result (Unit {0}) KeepFault) (f f' : Holding) (k k' : KeeperState) (e : Entry) → Stands f k
     → MayAdd (town f.history) e → OnOk r (IsFormed e) → (IsErrOf r Failed → IsFormed e) → OnOk r (IsGrown f e f') → OnErr r (IsSame f f')
     → OnOk r (HasAdded growth (code_of e) k k') → IfErr r (λ fault. Refuses room (code_of e) fault k k') → Stands f' k'
@@ -111,13 +111,13 @@ stays growth room (Ok done) f f' k k' e stands may formed failed more same added
 stays growth room (Err fault) f f' k k' e stands may formed failed more same added refused =
     unchanged room e fault f f' k k' stands same (λ is. comes_next (town f.history) e may (failed (ap (λ (x : KeepFault). Err x) is))) refused
 
--- the queue is that of the history after an entry that was kept or refused
+-- the queue is that of the history after an entry was kept or refused
 queue_stays : (r : Result (Unit {0}) KeepFault) (f f' : Holding) (q q' : Queued) (e : Entry) → q.history ≡ f.history → OnOk r (IsGrown f e f') → OnErr r (IsSame f f')
     → OnOk r (IsQueueGrown q e q') → OnErr r (IsQueueSame q q') → q'.history ≡ f'.history
 queue_stays (Ok done) f f' q q' e own more same grows stays = grows.history ∙ (ap (λ (h : List Entry). h ++ e ∷ []) own ∙ sym more.held)
 queue_stays (Err fault) f f' q q' e own more same grows stays = stays.history ∙ (own ∙ sym same.held)
 
--- a machine stays one after an entry that may be added was kept or refused
+-- a machine remains one after an entry that may be added was kept or refused
 pub machine_stays : (growth room : ℕ → ℕ) (r : Result (Unit {0}) KeepFault) (f f' : Holding) (k k' : KeeperState) (q q' : Queued) (e : Entry) → IsMachine f k q
     → MayAdd (town f.history) e → OnOk r (IsFormed e) → (IsErrOf r Failed → IsFormed e) → OnOk r (IsGrown f e f') → OnErr r (IsSame f f')
     → OnOk r (IsQueueGrown q e q') → OnErr r (IsQueueSame q q') → OnOk r (HasAdded growth (code_of e) k k')
@@ -127,14 +127,14 @@ machine_stays growth room r f f' k k' q q' e machine may formed failed more same
   queued = queue_stays r f f' q q' e machine.queued more same grows stayed;
 }
 
--- ---- posts that are not seen
+-- ---- posts that a caller does not see
 
 -- the last entry was admissible
 legal_last : (t : Town) (h : List Entry) (e : Entry) → is_legal_from t (h ++ e ∷ []) ≡ true → is_admissible (fold step t h) e ≡ true
 legal_last t [] e legal = (and_parts (is_admissible t e) true legal).0
 legal_last t (x ∷ h) e legal = legal_last (step t x) h e (and_parts (is_admissible t x) (is_legal_from (step t x) (h ++ e ∷ [])) legal).1
 
--- who posts is a member
+-- the poster is a member
 posting_member : (t : Town) (name : List ℕ) (repeat : Option (List ℕ × List ℕ)) (a : Activity) → may_post t name repeat a (id_of t name) ≡ true
     → list_any (has_name name) t.actors ≡ true
 posting_member t name repeat a may =
@@ -152,7 +152,7 @@ posts_hidden h h' legal also = λ host name repeat a moment c is longer quiet un
     let member : list_any (has_name name) (town h).actors ≡ true = posting_member (town h) name repeat a (legal_last empty_town h e next.admissible) in
     subst (λ (k : List Entry). Agree (town k) (town h) c) (sym longer) (unseen_posts h host name repeat a moment c legal is member quiet unseen)
 
--- ---- deliveries that are not seen
+-- ---- deliveries that a caller does not see
 
 pub deliveries_hidden : (h h' : List Entry) → HidesDeliveries h h'
 deliveries_hidden h h' = λ peer inbox owner author id a moment c longer of_inbox of_author of_id new quiet other unseen.

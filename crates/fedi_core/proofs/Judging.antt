@@ -1,4 +1,4 @@
--- What is decided on a post, by the judgement on it.
+-- The decision on a post, by the judgement on it.
 use Rattle.std.proofs.Common.{◌≡◌, ℕ, ◌+◌, true, false, List, Option, Some, None, refl, sym, subst, ap, ◌∙◌}
 use Rattle.std.specs.Prelude.{option_map}
 use Rattle.fedi_objects.specs.declared.activity.Activity.{Activity}
@@ -65,7 +65,7 @@ no_repeat t c name author post a admitted is found =
     ∙ (ap (λ (o : Option ((List ℕ × List ℕ) × Option (List ℕ))). unless_repeat post.digest o (judge_activity t c author a)) (sym found)
     ∙ ap (λ (d : Caller). judge_activity t d author a) admitted.own)
 
--- ---- what is decided
+-- ---- the decision
 
 -- the member of this name was found
 abbrev IsFound : Town → List ℕ → List ℕ → Type 0
@@ -113,13 +113,13 @@ kept_entry t c name author post moment a repeat found h key =
 
 -- ---- memory
 
--- the answer to a post that is repeated is no refusal
+-- the answer to a repeated post is no refusal
 pub repeated_wanted : (t : Town) (c : Caller) (name author : List ℕ) (post : Post) (id : Option (List ℕ)) → IsFound t name author
     → judge_post t c name author post ≡ Repeat id → is_refused (post_answer t c name post (id_of t name)) ≡ false
 repeated_wanted t c name author post id found h =
     subst (λ (own : Option (List ℕ)). is_refused (post_answer t c name post own) ≡ false) found (rw h refl)
 
--- nor is that to one that is kept
+-- nor is the answer to one that is kept
 pub kept_wanted : (t : Town) (c : Caller) (name author : List ℕ) (post : Post) (a : Activity) → IsFound t name author
     → judge_post t c name author post ≡ Keep a → is_refused (post_answer t c name post (id_of t name)) ≡ false
 kept_wanted t c name author post a found h =

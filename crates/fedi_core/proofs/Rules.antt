@@ -1,4 +1,4 @@
--- A rule that a command breaks is none of the keeper's reasons.
+-- A rule that a command breaks is not one of the keeper's reasons.
 use Rattle.std.proofs.Common.{◌≡◌, ℕ, Bool, true, false, List, Option, Some, None, refl, subst}
 use Rattle.std.specs.Prelude.{is_none, if◌then◌else◌}
 use Rattle.std.specs.List.{list_any}
@@ -52,6 +52,6 @@ rule_refuses room t e Full k broken = absurd (broken_rule t e Full broken)
 rule_refuses room t e KeeperFault k broken = absurd (broken_rule t e KeeperFault broken)
 rule_refuses room t e Memory k broken = absurd (broken_rule t e Memory broken)
 
--- that the keeper failed is no rule
+-- a failure of the keeper is not a rule
 pub never_failed : {A : Type 0} (t : Town) (e : Entry) (fault : CommandFault) → broken_command t e ≡ Some fault → fault ≡ KeeperFault → A
 never_failed t e fault broken is = absurd (subst (λ (f : CommandFault). IsRule (Some f)) is (broken_rule t e fault broken))

@@ -18,8 +18,8 @@ use Rattle.fedi_core.specs.Keeping.{Refuses}
 use Rattle.fedi_core.specs.declared.keeping.KeepFault.{KeepFault}
 use Rattle.fedi_core.specs.declared.keeping.KeepFault.TheVariants as faults
 
--- the entry is a command at a server that was set up: the making of a member under a name, or of a
--- peer with a host
+-- the entry is a command at a server that has been set up: it makes a member with a name, or a peer
+-- with a host
 abbrev pub IsCommand : Town → Entry → Type 0
 IsCommand t (Hosted host moment) = ⊥
 IsCommand t (Made name digest locked moment) = IsTrue (is_some t.host) × IsTrue (is_name name)
@@ -29,11 +29,11 @@ IsCommand t (Local name repeat a moment) = ⊥
 IsCommand t (Remote peer inbox a moment) = ⊥
 IsCommand t (Tried activity recipient came moment) = ⊥
 
--- the command breaks this rule first, and the keeper was not asked
+-- this is the first rule that the command breaks, and the keeper was not asked
 abbrev pub IsBroken : Town → Entry → CommandFault → KeeperState → KeeperState → Type 0
 IsBroken t e fault before after = (broken_command t e ≡ Some fault) × (after ≡ before)
 
--- the command breaks no rule, and the keeper refused its entry for this reason
+-- the command breaks no rule, but the keeper refused its entry for this reason
 abbrev pub IsUnkept : (ℕ → ℕ) → Town → Entry → KeepFault → KeeperState → KeeperState → Type 0
 IsUnkept room t e fault before after =
     (broken_command t e ≡ None) × Refuses room (code_of e) fault before after

@@ -1,4 +1,4 @@
--- What a crash may leave of the records while an entry is kept.
+-- What a crash may leave of the records while an entry is being kept.
 use Rattle.std.specs.Prelude.{ℕ, ◌≡◌, ◌⊎◌, ◌≤◌, List, [], ◌∷◌, ◌++◌, Option}
 use Rattle.fedi_outside.specs.Keepers.{Adds, Crashes, IfTold, MayLeave, PassesTime}
 use Rattle.fedi_core.specs.declared.keeping.KeepFault.{KeepFault}
@@ -6,13 +6,13 @@ use Rattle.fedi_core.specs.declared.keeping.KeepFault.TheVariants.{Full, Failed,
 use Rattle.fedi_town.specs.declared.command_fault.CommandFault.{CommandFault}
 use Rattle.fedi_town.specs.declared.command_fault.CommandFault.TheVariants as commands
 
--- what a crash may leave of these records while one with this code is kept: these, with the one in
--- doubt, or with the new one
+-- what a crash may leave of these records while one with this code is being kept: these, followed
+-- by the one in doubt or by the new one, if by any
 abbrev pub MayLeaveWith : List (List ℕ) → Option (List ℕ) → List ℕ → List (List ℕ) → Type 0
 MayLeaveWith records doubt code left = MayLeave records doubt left ⊎ (left ≡ records ++ code ∷ [])
 
--- the clock does not fall, and a crash on the way leaves these records, with the one in doubt, or
--- with the new one
+-- the clock does not go back, and a crash during the calls leaves these records, followed by the
+-- one in doubt or by the new one, if by any
 pub record PassesTimeWith (records : Option (List (List ℕ))) (doubt : Option (List ℕ))
     (code : List ℕ) (before after : Crashes) : Type 0 where
   pub clock : before.clock ≤ after.clock
@@ -20,7 +20,7 @@ pub record PassesTimeWith (records : Option (List (List ℕ))) (doubt : Option (
   pub crash : IfTold before.told records
       (λ kept. Adds before.clock before.left_since after.left_since (MayLeaveWith kept doubt code))
 
--- the same where no record was kept: the new one may be there only if the keeper failed
+-- the same if no record was kept: the new one may be there only if the keeper failed
 abbrev pub PassesTimeUnkept : KeepFault → Option (List (List ℕ)) → Option (List ℕ) → List ℕ
     → Crashes → Crashes → Type 0
 PassesTimeUnkept Full records doubt code before after = PassesTime records doubt before after
@@ -28,7 +28,7 @@ PassesTimeUnkept Failed records doubt code before after =
     PassesTimeWith records doubt code before after
 PassesTimeUnkept Memory records doubt code before after = PassesTime records doubt before after
 
--- the same of a command that was refused
+-- the same for a refused command
 abbrev pub PassesTimeRefused : CommandFault → Option (List (List ℕ)) → Option (List ℕ) → List ℕ
     → Crashes → Crashes → Type 0
 PassesTimeRefused commands.KeeperFault records doubt code before after =

@@ -1,4 +1,4 @@
--- What is claimed of the deliveries that wait (ActivityPub, section 7.1), and the entry of an
+-- What is claimed of the waiting deliveries (ActivityPub, section 7.1), and the entry of an
 -- attempt.
 use Rattle.std.specs.Prelude.{◌≡◌, ℕ, ◌≤◌, List, Option, Some, filter, length, option_map}
 use Rattle.std.specs.Prelude.{slice_get}
@@ -39,8 +39,8 @@ claimed_id acts c = text_of (id_at acts c.activity)
 abbrev pub claimed_recipient : List QueueRow → Claim → List ℕ
 claimed_recipient rows c = text_of (option_map (λ row. row.recipient) (claimed_row rows c))
 
--- The claim is of a delivery that waits and was due at the claim's moment: of the activity with
--- this id, to this recipient.
+-- The claim is of a waiting delivery that was due at the claim's moment: that of the activity with
+-- this id to this recipient.
 pub record IsClaimOf (t : Town) (c : Claim) (id recipient : List ℕ) : Type 0 where
   pub number : ℕ
   pub row : QueueRow
@@ -52,17 +52,17 @@ pub record IsClaimOf (t : Town) (c : Claim) (id recipient : List ℕ) : Type 0 w
 
 -- ---- what is sent
 
--- what is sent to deliver by the claim, but for the post to the inbox
+-- what is sent for the claimed delivery, except for the post to the inbox
 pub record IsSentFor (t : Town) (rows : List QueueRow) (c : Claim) (o : Outgoing) : Type 0 where
   pub act : Act
   pub there : slice_get t.acts c.activity ≡ Some act
   pub sent : IsOutgoing t act (claimed_recipient rows c) o
 
--- the post of the body to the inbox, by the claim
+-- the post of the body to the inbox, for the claimed delivery
 abbrev pub IsPostFor : Town → List QueueRow → Claim → (inbox body text : List ℕ) → Type 0
 IsPostFor t rows c inbox body text = Some text ≡ post_to t (claimed_recipient rows c) inbox body
 
--- ---- what is kept of an attempt
+-- ---- what is kept about an attempt
 
 -- the entry of an attempt of the delivery of a claim
 abbrev pub attempt_of : Town → List QueueRow → Claim → Came → ℕ → Entry

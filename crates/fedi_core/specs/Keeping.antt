@@ -1,4 +1,4 @@
--- What becomes of an entry that is to be kept: of the history, and of the keeper of its records.
+-- What becomes of an entry that is to be kept, of the history, and of the keeper of its records.
 use Rattle.std.specs.Prelude.{◌≡◌, ◌⊎◌, ℕ, Bool, false, true, List, [], ◌∷◌, ◌++◌, length, IsTrue}
 use Rattle.std.specs.Prelude.{Option, None, Some}
 use Rattle.std.specs.List.{list_any}
@@ -24,18 +24,18 @@ use Rattle.fedi_core.specs.declared.keeping.KeepFault.TheVariants.{Full, Failed,
 
 -- ---- which entries may be kept
 
--- the entry may come next, and what came of an attempt, if it is one, keeps its limits
+-- the entry may come next, and the outcome of an attempt, if it is one, keeps its limits
 pub record MayAdd (t : Town) (e : Entry) : Type 0 where
   pub admissible : IsTrue (is_admissible t e)
   pub attempt : IsAttemptWithin e
 
 -- ---- records
 
--- what may be in doubt after a fault: what was, nothing, or the new record
+-- what may be in doubt after a fault: what was before, nothing, or the new record
 abbrev pub MayDoubt : List ℕ → Option (List ℕ) → Option (List ℕ) → Type 0
 MayDoubt code before after = (after ≡ before) ⊎ ((after ≡ None) ⊎ (after ≡ Some code))
 
--- the keeper failed once, and has the records that it had
+-- the keeper failed once, and has the same records as before
 pub record HasFailedOnce (code : List ℕ) (before after : KeeperState) : Type 0 where
   pub records : after.records ≡ before.records
   pub held : after.held ≡ before.held
@@ -43,7 +43,7 @@ pub record HasFailedOnce (code : List ℕ) (before after : KeeperState) : Type 0
   pub end : after.end ≡ before.end
   pub faults : after.faults ≡ next_count before.faults
 
--- why a record with this code was not kept, and what then became of the keeper
+-- why a record with this code was not kept, and what became of the keeper
 abbrev pub Refuses : (ℕ → ℕ) → List ℕ → KeepFault → KeeperState → KeeperState → Type 0
 Refuses room code Full before after =
     IsFull room before.end (length code) × OnlyRoomChanged before after
@@ -53,15 +53,16 @@ Refuses room code Memory before after = OnlyRoomChanged before after
 
 -- ---- entries
 
--- the entry was kept: it is the last of the history, and its code the last of the records
+-- the entry was kept: it is the last one of the history, and its code is the last one of the
+-- records
 pub record IsKept (growth room : ℕ → ℕ) (h : List Entry) (e : Entry) (before after : KeeperState)
     (h' : List Entry) : Type 0 where
   pub history : h' ≡ h ++ e ∷ []
   pub fits : HasRoom room before.end (length (code_of e))
   pub keeper : HasAdded growth (code_of e) before after
 
--- A post that came to the history and changes nothing earlier (a Create, a Follow, a Like, an
--- Announce, or a type without side effects) changed nothing for a caller who does not see it.
+-- A post that was added to the history and changes nothing earlier (a Create, a Follow, a Like, an
+-- Announce, or a type without side effects) changed nothing for a caller that does not see it.
 abbrev pub HidesPosts : List Entry → List Entry → Type 0
 HidesPosts h h' =
     (host name : List ℕ) (repeat : Option (List ℕ × List ℕ)) (a : Activity) (moment : ℕ)
@@ -71,8 +72,8 @@ HidesPosts h h' =
     → sees (town h) c (local_act (town h) host name repeat a moment) ≡ false
     → Agree (town h') (town h) c
 
--- A delivery of a new id that came to the history, changes nothing earlier and is no Follow changed
--- nothing for a caller who does not see it.
+-- A delivery of a new id that was added to the history, changes nothing earlier and is not a Follow
+-- changed nothing for a caller that does not see it.
 abbrev pub HidesDeliveries : List Entry → List Entry → Type 0
 HidesDeliveries h h' =
     (peer inbox owner author id : List ℕ) (a : Activity) (moment : ℕ) (c : Caller)
@@ -83,8 +84,8 @@ HidesDeliveries h h' =
     → sees (town h) c (remote_act (town h) owner author a moment) ≡ false
     → Agree (town h') (town h) c
 
--- A delivery of a known id, which only adds an inbox, changed nothing for a caller but that inbox's
--- owner.
+-- A delivery of a known id, which only adds an inbox, changed nothing for any caller except that
+-- inbox's owner.
 abbrev pub TellsOwners : List Entry → List Entry → Type 0
 TellsOwners h h' =
     (host peer inbox author id : List ℕ) (a : Activity) (moment : ℕ) (c : Caller)
@@ -94,7 +95,7 @@ TellsOwners h h' =
     → is_caller (town h) c ≡ true → is_self c inbox ≡ false
     → Agree (town h') (town h) c
 
--- A peer that was added changed nothing for a caller but that peer.
+-- A peer that was added changed nothing for any caller except that peer.
 abbrev pub TellsPeers : List Entry → List Entry → Type 0
 TellsPeers h h' =
     (host key address : List ℕ) (relay : Bool) (moment : ℕ) (c : Caller)

@@ -27,7 +27,7 @@ fn act_counted<L: Ledger>(facts: &Facts, place: usize, blank: Blank) -> &Kept
     facts.shown(place, &mut steps)
 }
 
-/// The activity at this place in the order of acceptance.
+/// The activity at this index in the order of acceptance.
 pub(crate) fn act_at(facts: &Facts, place: usize) -> &Kept
     requires { place < length facts.now.town.acts }
     ensures { Some result.now ≡ slice_get facts.now.town.acts place }
@@ -35,7 +35,7 @@ pub(crate) fn act_at(facts: &Facts, place: usize) -> &Kept
     act_counted::<Brand>(facts, place, Blank::new(1))
 }
 
-/// The id of the activity at this place in the order of acceptance.
+/// The id of the activity at this index in the order of acceptance.
 pub(crate) fn id_at(facts: &Facts, place: usize) -> &Iri
     requires { IsTrue (is_some (id_at facts.now.town.acts place)) }
     ensures { Some result.now ≡ id_at facts.now.town.acts place }
@@ -46,7 +46,7 @@ pub(crate) fn id_at(facts: &Facts, place: usize) -> &Iri
     }
 }
 
-/// The entry of an attempt of the delivery that is claimed in the queue, which is that of these
+/// The entry of an attempt of the delivery that is claimed in the queue. The queue is that of these
 /// facts. The error is out of memory.
 pub(crate) fn attempt_of(
     facts: &Facts,

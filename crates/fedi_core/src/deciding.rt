@@ -23,16 +23,16 @@ use fedi_town::{Caller, Refusal, activity_iri};
 use fedi_visible::{Shelf, activity_reply, object_reply};
 use std::alloc::{AllocError, Global};
 
-/// What is decided on an ask.
+/// The decision on an ask.
 #[derive(Drop)]
 pub struct Decision {
-    /// The reply. If there is an entry it may be sent once the entry is kept.
+    /// The reply. If there is an entry, it may be sent only after the entry is kept.
     pub reply: Reply,
-    /// The entry that the ask makes: that of a post or a delivery that is accepted and new.
+    /// The entry that the ask adds: that of a post or a delivery that is accepted and new.
     pub entry: Option<Entry>,
 }
 
-// The id of the member's activity of this number, once the server was set up.
+// The id of the member's activity of this number, if the server has been set up.
 fn id_at(
     alloc: Global,
     host: Option<&Host>,
@@ -58,7 +58,7 @@ fn copy_id(id: Option<&Iri>) -> Result<Option<Iri>, AllocError>
     }
 }
 
-// What is decided on a post to the outbox of the member of this name.
+// The decision on a post to the outbox of the member of this name.
 fn decide_post(
     alloc: Global,
     facts: &Facts,
@@ -122,8 +122,8 @@ fn delivery_of(
     }
 }
 
-// What is decided on a post to the inbox of the member of this name. Only the entry of one that is
-// kept takes memory.
+// The decision on a post to the inbox of the member of this name. It takes memory only for the
+// entry of a delivery that is kept.
 fn decide_delivery(
     facts: &Facts,
     caller: &Caller,
@@ -164,8 +164,8 @@ fn decide_delivery(
     }
 }
 
-/// Decides on an ask by the history on a shelf. The only error is out of memory, and what is
-/// refused takes none, but where an id is made to find a thing.
+/// Decides on an ask by the history on a shelf. The only error is out of memory. A refusal takes no
+/// memory, unless an id is made to look something up.
 pub fn decide<S: Shelf>(
     alloc: Global,
     shelf: &S,

@@ -1,4 +1,4 @@
-//! Deliveries that wait, and attempts of them.
+//! Waiting deliveries, and attempts of them.
 
 ghost use Rattle.std.specs.Prelude.{◌≡◌, ◌+◌, ◌≤◌, IfErr, IfOk, IfSome, OnErr, OnOk, map};
 ghost use Rattle.std.specs.Prelude.{option_map};
@@ -47,7 +47,7 @@ pub enum RecordFault {
     Memory,
 }
 
-// Why an attempt was not kept, by why its entry was not.
+// Why an attempt was not kept, given why its entry was not.
 fn record_fault(fault: KeepFault) -> RecordFault
     ensures { keep_fault result ≡ fault }
 {
@@ -59,8 +59,8 @@ fn record_fault(fault: KeepFault) -> RecordFault
 }
 
 impl<S: Shelf + Drop, P: Keeper> Core<S, P> {
-    /// The deliveries that wait, in the order of acceptance and of recipients (ActivityPub, section
-    /// 7.1): those to recipients of peers of which another attempt is due.
+    /// The waiting deliveries, in the order of acceptance and of recipients (ActivityPub, section
+    /// 7.1): those to recipients at peers for which another attempt is due.
     pub fn rows(&self) -> &[QueueRow]
         ensures rows { result.now ≡ self.now.rows }
         ensures queue { map release result.now ≡ rows_of (town self.now.history) }
@@ -70,9 +70,9 @@ impl<S: Shelf + Drop, P: Keeper> Core<S, P> {
         self.queue.entries()
     }
 
-    /// Claims the first delivery that is due at this moment and not claimed: there is none exactly
-    /// if it returns none. Until `record` or `release` spends the claim, nobody else is given the
-    /// delivery. It takes no memory, and one comparison as long as nothing is due.
+    /// Claims the first delivery that is due at this moment and not claimed. Returns `None` exactly
+    /// if there is no such delivery. Until `record` or `release` uses up the claim, nobody else is
+    /// given the delivery. It takes no memory, and a single comparison while nothing is due.
     pub fn claim(&mut self, moment: Moment) -> Option<Claim>
         ensures first { result
             ≡ option_map (claim_of moment) (find (is_free_at moment) self.old.rows) }
@@ -91,7 +91,7 @@ impl<S: Shelf + Drop, P: Keeper> Core<S, P> {
         self.queue.claim(moment)
     }
 
-    /// Gives a claim up, so that the delivery may be claimed again. It takes no memory.
+    /// Gives up a claim, so that the delivery may be claimed again. It takes no memory.
     pub fn release(&mut self, claim: Claim)
         requires { IsHeld claim self.old.rows }
         ensures released { self.new ≡ record self.old {
@@ -103,7 +103,7 @@ impl<S: Shelf + Drop, P: Keeper> Core<S, P> {
         self.queue.release(claim);
     }
 
-    /// The recipient of the delivery that is claimed.
+    /// The recipient of the claimed delivery.
     pub fn recipient_of(&self, claim: &Claim) -> &Iri
         requires { IsHeld claim.now self.now.rows }
         ensures recipient { result.now ≡ claimed_recipient self.now.rows claim.now }
@@ -114,7 +114,7 @@ impl<S: Shelf + Drop, P: Keeper> Core<S, P> {
         self.queue.recipient_of(claim)
     }
 
-    /// The id of the activity of the delivery that is claimed.
+    /// The id of the activity of the claimed delivery.
     pub fn activity_of(&self, claim: &Claim) -> &Iri
         requires { IsHeld claim.now self.now.rows }
         ensures { result.now ≡ claimed_id (town self.now.history).acts claim.now }
@@ -123,8 +123,8 @@ impl<S: Shelf + Drop, P: Keeper> Core<S, P> {
         id_at(self.shelf.facts(), claim.activity)
     }
 
-    /// What is sent to deliver by the claim (ActivityPub, section 7.1), but for the post to the
-    /// inbox: where the recipient's server is reached, the lookup of the recipient, and the
+    /// What is sent for a claimed delivery (ActivityPub, section 7.1), except for the post to the
+    /// inbox: the address of the recipient's server, the lookup of the recipient, and the
     /// activity's document as it is now. The error is out of memory.
     pub fn post_of(&self, alloc: Global, claim: &Claim) -> Result<Outgoing, AllocError>
         requires { IsHeld claim.now self.now.rows }
@@ -135,8 +135,8 @@ impl<S: Shelf + Drop, P: Keeper> Core<S, P> {
         outgoing(alloc, facts, act_at(facts, claim.activity), recipient)
     }
 
-    /// The post of the body to the inbox, for the recipient of the delivery that is claimed
-    /// (ActivityPub, section 7.1). The error is out of memory.
+    /// The post of the body to the inbox, for the recipient of the claimed delivery (ActivityPub,
+    /// section 7.1). The error is out of memory.
     pub fn inbox_post(
         &self,
         alloc: Global,
@@ -153,7 +153,7 @@ impl<S: Shelf + Drop, P: Keeper> Core<S, P> {
     }
 
     // Keeps the entry of an attempt, by the claim of its delivery. After an error the history and
-    // the deliveries are as before.
+    // the deliveries are unchanged.
     fn keep_attempt(
         &mut self,
         alloc: Global,
@@ -202,13 +202,13 @@ impl<S: Shelf + Drop, P: Keeper> Core<S, P> {
         }
     }
 
-    /// Keeps what came of an attempt to deliver, by the claim of its delivery, which is spent. The
-    /// next attempt is then due from a later moment on, or there is none (ActivityPub, section
+    /// Keeps the outcome of an attempt to deliver, by the claim of its delivery, which is used up.
+    /// The next attempt is then due from a later moment on, or there is none (ActivityPub, section
     /// 7.1).
     ///
-    /// After an error the history is as before and the claim is released: `Full` if the keeper has
-    /// no room for the entry, `KeeperFault` if the keeper failed, which it counts once, and
-    /// `Memory` if out of memory, which it does not count.
+    /// After an error the history is unchanged and the claim is released. The error is `Full` if
+    /// the keeper has no room for the entry, `KeeperFault` if the keeper failed, which it counts
+    /// once, and `Memory` if memory runs out, which the keeper does not count.
     pub fn record(
         &mut self,
         alloc: Global,
@@ -222,7 +222,7 @@ impl<S: Shelf + Drop, P: Keeper> Core<S, P> {
         ensures kept { let e = attempt_of (town self.old.history) self.old.rows claim came moment in
             OnOk result (IsKept P.growth P.room self.old.history e
             (P.shown self.old.keeper) (P.shown self.new.keeper) self.new.history) }
-        // Whatever else is claimed stays so.
+        // All other claims stay.
         ensures claims { let t = town self.old.history in OnOk result (KeepsClaims t.acts
             (attempt_of t self.old.rows claim came moment) self.old.rows self.new.rows) }
         ensures released { OnErr result (self.new.rows ≡ change_first
@@ -233,14 +233,14 @@ impl<S: Shelf + Drop, P: Keeper> Core<S, P> {
             let e = attempt_of t self.old.rows claim came moment in
             IfErr result (λ fault. Refuses P.room (code_of e) (keep_fault fault)
             (P.shown self.old.keeper) (P.shown self.new.keeper)) }
-        // What may then be in doubt can be read at its position.
+        // The record that may then be in doubt can be read at its position.
         ensures next { let t = town self.old.history in
             let e = attempt_of t self.old.rows claim came moment in
             IfErr result (λ fault. fault ≡ RecordFault.KeeperFault → IsNext t e) }
         ensures same { OnErr result (self.new.history ≡ self.old.history) }
         ensures legal { IsLegal self.new.history }
-        // A crash on the way leaves the keeper's records, with the one in doubt, or with the
-        // entry's.
+        // A crash during the call leaves the keeper's records, followed by the one in doubt or by
+        // that of the entry, if by any.
         ensures time { let k = P.shown self.old.keeper in
             let e = attempt_of (town self.old.history) self.old.rows claim came moment in
             OnOk result (PassesTimeWith k.records k.doubt (code_of e)

@@ -41,7 +41,7 @@ impl From<AllocError> for KeepFault {
     }
 }
 
-/// An entry that was not kept, with the reason.
+/// An entry that was not kept, and why.
 #[derive(Drop)]
 pub struct KeepError {
     /// Why it was not kept.
@@ -50,12 +50,12 @@ pub struct KeepError {
     pub entry: Entry,
 }
 
-// Keeps one more record. Room is made first, so that nothing takes memory once the doubt is
+// Keeps one more record. Room is made first, so that nothing takes memory after the doubt is
 // settled.
 //
 // The errors are `Full`, if the keeper has no room for the record; `Failed`, if the keeper failed,
 // which it counts once, and then the record may be in doubt; and `Memory`, out of memory. After an
-// error the records are as before.
+// error the records are unchanged.
 fn store<P: Keeper>(keeper: &mut P, code: &[u8]) -> Result<(), KeepFault>
     ensures fits { OnOk result (HasRoom P.room (P.shown keeper.old).end (length code.now)) }
     ensures added { OnOk result
@@ -65,7 +65,8 @@ fn store<P: Keeper>(keeper: &mut P, code: &[u8]) -> Result<(), KeepFault>
     // The keeper was asked for room, and there was room.
     ensures memory { IsErrOf result KeepFault.Memory
         → HasRoom P.room (P.shown keeper.old).end (length code.now) }
-    // A crash on the way leaves the records, with the one in doubt, or with this one.
+    // A crash during the call leaves the records, followed by the one in doubt or by this one, if
+    // by any.
     ensures time { let k = P.shown keeper.old in OnOk result
         (PassesTimeWith k.records k.doubt code.now (P.crashes keeper.old) (P.crashes keeper.new)) }
     ensures time_refused { let k = P.shown keeper.old in IfErr result (λ fault.
@@ -86,8 +87,9 @@ fn store<P: Keeper>(keeper: &mut P, code: &[u8]) -> Result<(), KeepFault>
     }
 }
 
-/// Keeps the bytes of an entry, after all that takes memory. Then the shelf has what the entry
-/// makes, and the queue what becomes of the deliveries; after an error both are as before.
+/// Keeps the bytes of an entry, after everything that takes memory is done. Then the shelf has the
+/// effects of the entry, and the queue its effects on the deliveries. After an error both are
+/// unchanged.
 pub fn store_entry<S: Shelf, P: Keeper>(
     alloc: Global,
     shelf: &mut S,

@@ -46,7 +46,7 @@ use std::alloc::{AllocError, Global};
 use std::marker::Model;
 
 /// The machine: a shelf with a legal history, the keeper of its records, which are the codes of the
-/// entries in order, and the queue of its deliveries. A contract sees it as the history, the keeper
+/// entries in order, and the queue of its deliveries. Contracts see it as the history, the keeper
 /// and the rows of the queue.
 #[derive(Drop)]
 pub struct Core<S: Shelf, P: Keeper> {
@@ -112,15 +112,15 @@ fn caller_of(
 }
 
 impl<S: Shelf + Drop, P: Keeper> Core<S, P> {
-    /// Opens the history of the records that the keeper holds on a shelf that is empty: each record
-    /// is read as the entry of which it is the code, which has to be one that may come there. None
+    /// Opens the history of the records that the keeper holds on an empty shelf. Each record is
+    /// read as the entry that it is the code of, which has to be one that may come next there. None
     /// of its deliveries is claimed.
     ///
     /// An error hands the keeper back. It is `Empty`, exactly if there is no record; `Damaged`,
-    /// with the place of the first record that is the code of no entry that may come there;
-    /// `Failed`, if the keeper failed, which it counts once; and `Memory`, out of memory. The
-    /// keeper's records, what is in doubt and the end of it are as before, whatever comes, and what
-    /// lies outside is read and not written. Nothing may be in doubt when it is opened.
+    /// with the index of the first record that is not the code of any entry that may come next;
+    /// `Failed`, if the keeper failed, which it counts once; and `Memory`, out of memory. In every
+    /// case the keeper's records, the record in doubt and the keeper's end are unchanged, and what
+    /// lies outside is read and not written. A machine may be opened only if nothing is in doubt.
     pub fn open(alloc: Global, shelf: S, keeper: P) -> Result<Core<S, P>, (OpenFault, P)>
         requires empty { S.holding shelf ≡ empty_holding }
         requires settled { (P.shown keeper).doubt ≡ None }
@@ -168,18 +168,18 @@ impl<S: Shelf + Drop, P: Keeper> Core<S, P> {
         self.keeper.count()
     }
 
-    /// The host, once the server was set up.
+    /// The host, if the server has been set up.
     pub fn host(&self) -> Option<&Host>
         ensures { option_copied result ≡ (town self.now.history).host }
     {
         self.shelf.facts().host()
     }
 
-    /// Who makes a request with these credentials (RFC 6750, section 2.1): nobody without any, the
-    /// member whose key they show, or the peer that signed the request by the key that it shares
-    /// with this server (RFC 2104). It is `WrongKey` if a key is shown that is no member's, and
-    /// `WrongMac` if one of the fields of a peer is there and no peer of that host signed the
-    /// request. The error is out of memory, which comes only where the caller is a peer.
+    /// Who makes a request with these credentials (RFC 6750, section 2.1): nobody if there are
+    /// none, the member whose key they show, or the peer that signed the request with the key that
+    /// it shares with this server (RFC 2104). It is `WrongKey` if a key is shown that belongs to no
+    /// member, and `WrongMac` if one of a peer's fields is present but no peer of that host signed
+    /// the request. The error is out of memory, which occurs only if the caller is a peer.
     pub fn caller_of(
         &self,
         credentials: &Credentials,
@@ -193,10 +193,10 @@ impl<S: Shelf + Drop, P: Keeper> Core<S, P> {
     }
 
     /// Decides on an ask at a moment (ActivityPub, sections 3.2, 4.1, 6 and 7; RFC 7033, section
-    /// 4.2): the reply, and for a post or a delivery that is accepted and new the entry that `keep`
-    /// has to keep before the reply is sent. It changes nothing. The error is out of memory, which
-    /// comes only where the answer takes memory: what is refused takes none, but where an id is
-    /// made to find a thing.
+    /// 4.2). The result is the reply and, for a post or a delivery that is accepted and new, the
+    /// entry that `keep` has to keep before the reply is sent. Nothing changes. The error is out of
+    /// memory, which occurs only if the answer takes memory: a refusal takes none, unless an id is
+    /// made to look something up.
     pub fn decide(
         &self,
         alloc: Global,
@@ -209,7 +209,7 @@ impl<S: Shelf + Drop, P: Keeper> Core<S, P> {
         ensures entry { IfOk result (λ d.
             d.entry ≡ entry_of (town self.now.history) caller.now ask moment) }
         ensures may_add { IfOk result (λ d. IfSome d.entry (MayAdd (town self.now.history))) }
-        // Each legal history that agrees with this one on what the caller may know gives the same
+        // Every legal history that agrees with this one on what the caller may know gives the same
         // reply.
         ensures private { IfOk result (λ d. IsPrivate self.now.history caller.now ask d.reply) }
         ensures memory { OnErr result
@@ -218,12 +218,12 @@ impl<S: Shelf + Drop, P: Keeper> Core<S, P> {
         decide(alloc, &self.shelf, caller, ask, moment)
     }
 
-    /// Appends an entry that may come next to the history, once the keeper has its bytes. All that
-    /// takes memory comes before the keeper is settled. What is claimed stays so, but for a
-    /// delivery that the entry has tried. After an error the history and the deliveries are as
-    /// before and the entry is handed back: `Full` if the keeper has no room for it, `Failed` if
-    /// the keeper failed, which it counts once, and `Memory` if out of memory, which it does not
-    /// count.
+    /// Appends an entry that may come next to the history, after the keeper has its bytes.
+    /// Everything that takes memory is done before the keeper's doubt is settled. What is claimed
+    /// stays claimed, except for a delivery that the entry records an attempt of. After an error
+    /// the history and the deliveries are unchanged and the entry is handed back. The error is
+    /// `Full` if the keeper has no room for it, `Failed` if the keeper failed, which it counts
+    /// once, and `Memory` if memory runs out, which the keeper does not count.
     #[tactic(auto, using(crate::proofs::Limits::added_keeps))]
     pub fn keep(&mut self, alloc: Global, entry: Entry) -> Result<(), KeepError>
         requires { MayAdd (town self.old.history) entry }
@@ -232,7 +232,7 @@ impl<S: Shelf + Drop, P: Keeper> Core<S, P> {
         ensures refused { IfErr result (λ e. Refuses P.room (code_of entry) e.fault
             (P.shown self.old.keeper) (P.shown self.new.keeper)) }
         ensures back { IfErr result (λ e. e.entry ≡ entry) }
-        // What may then be in doubt can be read at its position.
+        // The record that may then be in doubt can be read at its position.
         ensures next { IfErr result (λ e.
             e.fault ≡ KeepFault.Failed → IsNext (town self.old.history) entry) }
         ensures same { OnErr result (self.new.history ≡ self.old.history) }
@@ -241,19 +241,19 @@ impl<S: Shelf + Drop, P: Keeper> Core<S, P> {
         ensures rows { OnErr result (self.new.rows ≡ self.old.rows) }
         ensures queue { map release self.new.rows ≡ rows_of (town self.new.history) }
         ensures legal { IsLegal self.new.history }
-        // A crash on the way leaves the keeper's records, with the one in doubt, or with the
-        // entry's.
+        // A crash during the call leaves the keeper's records, followed by the one in doubt or by
+        // that of the entry, if by any.
         ensures time { let k = P.shown self.old.keeper in OnOk result
             (PassesTimeWith k.records k.doubt (code_of entry)
             (P.crashes self.old.keeper) (P.crashes self.new.keeper)) }
         ensures time_refused { let k = P.shown self.old.keeper in IfErr result (λ e.
             PassesTimeUnkept e.fault k.records k.doubt (code_of entry)
             (P.crashes self.old.keeper) (P.crashes self.new.keeper)) }
-        // A post that changes nothing earlier shows nothing to a caller who does not see it.
+        // A post that changes nothing earlier shows nothing to a caller that does not see it.
         ensures unseen { HidesPosts self.old.history self.new.history }
-        // So does a delivery of a new id that is no Follow.
+        // Neither does a delivery of a new id that is not a Follow.
         ensures unseen_deliveries { HidesDeliveries self.old.history self.new.history }
-        // A delivery of a known id shows nothing but to the owner of its inbox.
+        // A delivery of a known id shows nothing except to the owner of its inbox.
         ensures added_inboxes { TellsOwners self.old.history self.new.history }
     {
         let stored = store_entry(
@@ -270,9 +270,9 @@ impl<S: Shelf + Drop, P: Keeper> Core<S, P> {
         }
     }
 
-    /// Does an operator's command: its entry is kept, unless it breaks a rule, the first of which
-    /// is reported, or the keeper refuses it, as `keep` says. What is claimed stays so. After an
-    /// error the history and the deliveries are as before.
+    /// Carries out an operator's command: its entry is kept, unless it breaks a rule, the first of
+    /// which is reported, or the keeper refuses it, as `keep` describes. What is claimed stays
+    /// claimed. After an error the history and the deliveries are unchanged.
     #[tactic(auto, using(crate::proofs::Commanding::command_may, crate::proofs::Rules::rule_refuses))]
     pub fn command(&mut self, alloc: Global, entry: Entry) -> Result<(), CommandFault>
         requires { IsCommand (town self.old.history) entry }
@@ -295,7 +295,7 @@ impl<S: Shelf + Drop, P: Keeper> Core<S, P> {
         ensures time_refused { let k = P.shown self.old.keeper in IfErr result (λ fault.
             PassesTimeRefused fault k.records k.doubt (code_of entry)
             (P.crashes self.old.keeper) (P.crashes self.new.keeper)) }
-        // A peer that is added changes nothing for a caller but that peer.
+        // Adding a peer changes nothing for any caller except that peer.
         ensures added_peers { TellsPeers self.old.history self.new.history }
     {
         if let Err(fault) = self.shelf.facts().judge_command(&entry) {
@@ -313,7 +313,7 @@ impl<S: Shelf + Drop, P: Keeper> Core<S, P> {
     }
 
     /// Removes what a failed `keep` may have left, so that nothing is in doubt. It takes no memory.
-    /// After an error, which the keeper counts, all is as before.
+    /// After an error, which the keeper counts, nothing has changed.
     pub fn settle(&mut self) -> Result<(), Failed>
         ensures history { self.new.history ≡ self.old.history }
         ensures rows { self.new.rows ≡ self.old.rows }

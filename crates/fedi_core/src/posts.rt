@@ -1,4 +1,4 @@
-//! What becomes of a post, before it is kept.
+//! What becomes of a post before it is kept.
 
 ghost use Rattle.std.specs.Prelude.{◌≡◌, ℕ, List, Option, Some, MatchResult};
 ghost use Rattle.fedi_model.specs.Posting.{is_bad_key, Judgement, judge_post, repeat_by};
@@ -18,7 +18,7 @@ use fedi_visible::{is_nobody, is_self};
 /// What becomes of a post.
 #[derive(Drop)]
 pub enum Judged<'a> {
-    /// It is refused by this reply.
+    /// It is refused with this reply.
     Refused(Reply),
     /// It is the repeat of the post that made the activity of this id.
     Repeated(Option<&'a Iri>),
@@ -35,8 +35,9 @@ fn is_bad_key(key: &KeyAsk) -> bool
     }
 }
 
-// Whether the body of the post at this name is looked at: not if its key is none, if nobody is
-// known to post or somebody else, or if it has another media type. The first reason counts.
+// Whether the body of the post at this name is examined. It is not if its key is malformed, if
+// nobody is known to post it or it is somebody else, or if it has another media type. The first of
+// these reasons is reported.
 #[tactic(auto, using(crate::proofs::Judging::is_own))]
 fn admit(caller: &Caller, name: &LocalName, post: &Post) -> Result<(), Refusal>
     ensures { MatchResult result
@@ -58,7 +59,7 @@ fn admit(caller: &Caller, name: &LocalName, post: &Post) -> Result<(), Refusal>
     Ok(())
 }
 
-// What the author posted under the key of a post before.
+// What the author posted before under the key of a post.
 fn repeat_under<'a>(facts: &'a Facts, author: &Iri, key: &KeyAsk) -> Option<Repeat<'a>>
     ensures { result ≡ repeat_under (repeats_of facts.now.town author.now) key.now }
 {
@@ -68,7 +69,8 @@ fn repeat_under<'a>(facts: &'a Facts, author: &Iri, key: &KeyAsk) -> Option<Repe
     }
 }
 
-// What becomes of a post under the key of this one: it is the same again if its body is.
+// What becomes of a post under the key of this earlier one: it is a repeat if it has the same body,
+// and otherwise refused.
 fn judge_repeat<'a>(repeat: &Repeat<'a>, digest: &[u8; 32]) -> Judged<'a>
     ensures { (j : Judgement) → (key : Option (List ℕ × List ℕ))
         → IsJudged (unless_repeat digest.now (Some repeat.now) j) key result }
@@ -80,7 +82,7 @@ fn judge_repeat<'a>(repeat: &Repeat<'a>, digest: &[u8; 32]) -> Judged<'a>
     }
 }
 
-// The key under which a post is kept, with the digest of its body.
+// The key that a post is kept under, with the digest of its body.
 fn repeat_by(digest: [u8; 32], key: KeyAsk) -> Option<(RepeatKey, [u8; 32])>
     ensures { result ≡ repeat_by digest key }
 {
@@ -94,9 +96,10 @@ fn repeat_by(digest: [u8; 32], key: KeyAsk) -> Option<(RepeatKey, [u8; 32])>
 }
 
 /// What becomes of the post at the name of the member who is the author with this id. It is refused
-/// for a key that is none, if nobody is known to post or somebody else, for another media type, for
-/// what is no JSON or has not the shape of a post, for a key that was used for another body, for a
-/// rule that it breaks, or since the author has the most activities. The first reason counts.
+/// if its key is malformed, if nobody is known to post it or it is somebody else, if it has another
+/// media type, if it is not JSON or does not have the shape of a post, if its key was used for
+/// another body, if it breaks a rule, or if the author already has the most activities. The first
+/// of these reasons is reported.
 pub fn judge<'a>(
     facts: &'a Facts,
     caller: &Caller,

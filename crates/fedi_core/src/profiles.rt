@@ -1,5 +1,5 @@
-//! The replies to who asks who a member is, and to a method that a path does not have. Out of
-//! memory is the only error.
+//! The replies to questions about who a member is, and to a method that a path does not have. Out
+//! of memory is the only error.
 
 ghost use Rattle.std.specs.Prelude.{◌≡◌, IfOk, OnErr, false, option_copied};
 ghost use Rattle.fedi_model.specs.Documents.{actor_form, jrd_form};
@@ -19,7 +19,7 @@ use fedi_visible::document_reply;
 use http::StatusCode;
 use std::alloc::{AllocError, Global};
 
-/// The reply to a method that a path does not have, which names those that it has (RFC 9110,
+/// The reply to a method that a path does not have. It names those that the path has (RFC 9110,
 /// sections 10.2.1 and 15.5.6). It takes no memory.
 pub fn wrong_method_reply(allow: Allow) -> Reply
     ensures { result ≡ disallowed allow }
@@ -50,7 +50,7 @@ fn profile_document(
     Ok(document_reply(StatusCode::OK, Form::Jrd, out))
 }
 
-/// The reply to who reads the actor document of the member of this name (ActivityPub, section 4.1).
+/// The reply to a read of the actor document of the member of this name (ActivityPub, section 4.1).
 pub fn actor_reply(alloc: Global, facts: &Facts, name: &LocalName) -> Result<Reply, AllocError>
     ensures reply { IfOk result (λ r. r ≡ reply_of (actor_or_missing facts.now.town.host name.now
         (id_of facts.now.town name.now))) }
@@ -88,8 +88,8 @@ fn profile_reply(
     profile_document(alloc, name, host, rels)
 }
 
-/// The reply to a query of WebFinger (RFC 7033, section 4.2): who the member is whom it names, 404
-/// if it names none, and 400 if it is malformed.
+/// The reply to a WebFinger query (RFC 7033, section 4.2): who the member is that it names, 404 if
+/// it names none, and 400 if it is malformed.
 pub fn webfinger_reply(
     alloc: Global,
     facts: &Facts,

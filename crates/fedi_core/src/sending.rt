@@ -21,7 +21,7 @@ fn body_of(alloc: Global, facts: &Facts, act: &Kept) -> Result<Vec<u8>, AllocErr
     Ok(text_of(out))
 }
 
-// The host of this server, which was set up.
+// The host of this server, which has been set up.
 fn own_host(facts: &Facts) -> &Host
     requires { IsTrue (is_some facts.now.town.host) }
     ensures { Some result.now ≡ facts.now.town.host }
@@ -32,7 +32,7 @@ fn own_host(facts: &Facts) -> &Host
     }
 }
 
-// The peer of which the recipient is.
+// The peer that the recipient belongs to.
 #[tactic(auto, unfolding(fedi_delivery::specs::Deliveries::peer_for))]
 fn peer_for<'a>(facts: &'a Facts, recipient: &Iri) -> &'a Peer
     requires { IsTrue (is_some (peer_for facts.now.town recipient.now)) }
@@ -44,8 +44,8 @@ fn peer_for<'a>(facts: &'a Facts, recipient: &Iri) -> &'a Peer
     }
 }
 
-/// What is sent to deliver the activity to the recipient, but for the post to the inbox. The error
-/// is out of memory.
+/// What is sent to deliver the activity to the recipient, except for the post to the inbox. The
+/// error is out of memory.
 pub(crate) fn outgoing(
     alloc: Global,
     facts: &Facts,

@@ -1,4 +1,4 @@
--- What is posted names nobody who is hidden.
+-- What is posted names nobody that is hidden.
 use Rattle.std.proofs.Common.{true, inr, refl}
 use Rattle.fedi_objects.proofs.FormLemmas.{is_clean-activity_form}
 use Rattle.fedi_model.specs.Reading.{activity_document}

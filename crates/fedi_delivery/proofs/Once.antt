@@ -1,4 +1,4 @@
--- What is heard of a request shows one thing.
+-- What is heard of a request shows exactly one thing.
 use Rattle.std.proofs.Common.{◌≡◌, ℕ, List, Option, Some, None, refl, sym, ap, ◌∙◌, subst}
 use Rattle.httparse.specs.Grammar.{status_code}
 use Rattle.httparse.proofs.GrammarLemmas.{response_unique}
@@ -10,7 +10,7 @@ use Rattle.fedi_delivery.specs.declared.replies.Found.{Found}
 use Rattle.fedi_delivery.specs.declared.replies.Found.TheVariants.{Inbox, Ended}
 use Rattle.fedi_delivery.specs.Replies.{EndsLookup, EndsPost, HasHead, IsCameOfPost, IsFoundIn, IsShown, NamesInbox, ShowsOnce}
 
--- a reply has one head
+-- a reply has only one head
 head_once : (reply : List ℕ) (s t : ℕ) (r q : List ℕ) → HasHead reply s r → HasHead reply t q → (s ≡ t) × (r ≡ q)
 head_once reply s t r q x y =
     let same = response_unique reply x.head y.head r q x.reads y.reads in
@@ -57,7 +57,7 @@ lookup_ends_once recipient reply (Status s) (Status t) x y = ap (λ n. Status n)
 inbox_once : (recipient r q i j : List ℕ) → r ≡ q → NamesInbox recipient r i → NamesInbox recipient q j → i ≡ j
 inbox_once recipient r q i j same x y = cc (same, x.1.1, y.1.1, x.2, y.2)
 
--- where an inbox is named the attempt goes on
+-- if an inbox is named, the attempt continues
 goes_on : (recipient reply inbox : List ℕ) (w : What) → IsShown recipient reply (Inbox inbox) → EndsLookup recipient reply w → ⊥
 goes_on recipient reply inbox Failed x y = y
 goes_on recipient reply inbox NoHead x y = y 200 x.0 x.1

@@ -12,11 +12,11 @@ use Rattle.fedi_town.specs.Towns.{Town, has_host}
 use Rattle.fedi_delivery.specs.declared.sending.Outgoing.{Outgoing}
 use Rattle.fedi_delivery.specs.Sending.{lookup_text, post_text}
 
--- the peer of which the recipient is
+-- the peer that the recipient belongs to
 unfoldable pub peer_for : Town → List ℕ → Option Peer
 peer_for t recipient = find (has_host (host_of recipient)) t.peers
 
--- where the peer is reached
+-- the address of the peer
 abbrev pub address_to : Town → List ℕ → Option (List ℕ)
 address_to t recipient = option_map (λ p. p.address) (peer_for t recipient)
 
@@ -40,16 +40,16 @@ post_by (Some own) (Some p) inbox body = Some (post_text own p.key inbox body)
 abbrev pub post_to : Town → (recipient inbox body : List ℕ) → Option (List ℕ)
 post_to t recipient inbox body = post_by t.host (peer_for t recipient) inbox body
 
--- the body of the post: the document with which a reader of the activity is answered
+-- the body of the post: the document that a reader of the activity gets as the reply
 unfoldable pub body_of : Town → Act → List ℕ
 body_of t x = (reply_of (activity_document t x)).body
 
--- what is sent to deliver the activity to the recipient, but for the post
+-- what is sent to deliver the activity to the recipient, except for the post
 pub record IsOutgoing (t : Town) (x : Act) (recipient : List ℕ) (o : Outgoing) : Type 0 where
   pub address : address_to t recipient ≡ Some o.address
   pub lookup : lookup_to t recipient ≡ Some o.lookup.items
   pub body : o.body.items ≡ body_of t x
 
--- No posted body names those whom `bto` and `bcc` hide (ActivityPub, section 6).
+-- No posted body names anybody that `bto` and `bcc` hide (ActivityPub, section 6).
 abbrev pub BodiesAreClean : Type 0
 BodiesAreClean = (t : Town) (x : Act) → IsCleanBody (body_of t x)

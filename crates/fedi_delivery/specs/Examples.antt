@@ -24,7 +24,7 @@ pub record WrittenRequests : Type 0 where
 abbrev pub eve : List ℕ
 eve = codes "https://lake.example/users/eve"
 
--- Of replies to the lookup of eve and to a post to her inbox.
+-- What replies to the lookup of eve and to a post to her inbox show.
 pub record ShownReplies : Type 0 where
   pub found :
       IsFoundIn eve (Some (codes "HTTP/1.1 200 OK\r\n\r\n{\"id\":\"https://lake.example/users/eve\",\"inbox\":\"https://lake.example/users/eve/inbox\"}"))

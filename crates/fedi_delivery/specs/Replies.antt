@@ -19,7 +19,7 @@ use Rattle.fedi_delivery.specs.declared.replies.Found.TheVariants.{Inbox, Ended}
 
 -- ---- the head
 
--- the most fields that are read of a head
+-- the largest number of fields that are read from a head
 abbrev pub most_fields : ℕ
 most_fields = 64
 
@@ -32,7 +32,7 @@ pub record HasHead (reply : List ℕ) (status : ℕ) (rest : List ℕ) : Type 0 
   pub status_is : status ≡ status_code head
   pub known : 100 ≤ status
 
--- no such head is at the front
+-- it does not begin with such a head
 abbrev pub HasNoHead : List ℕ → Type 0
 HasNoHead reply = (status : ℕ) (rest : List ℕ) → ¬ (HasHead reply status rest)
 
@@ -55,7 +55,7 @@ abbrev pub NamesInbox : List ℕ → List ℕ → List ℕ → Type 0
 NamesInbox recipient bytes inbox =
     (d : Data) × IsBodyOf bytes d × (inbox_in recipient d ≡ Some inbox)
 
--- the bytes are no JSON, or it names no inbox of the recipient
+-- the bytes are not JSON, or the JSON names no inbox of the recipient
 abbrev pub NamesNone : List ℕ → List ℕ → Type 0
 NamesNone recipient bytes = (d : Data) → IsBodyOf bytes d → inbox_in recipient d ≡ None
 
@@ -92,7 +92,7 @@ IsShownBy recipient bytes (Inbox inbox) = NamesInbox recipient bytes inbox
 IsShownBy recipient bytes (Ended came) =
     (came ≡ record { step = Lookup; what = BadActor }) × NamesNone recipient bytes
 
--- memory is wanted for a document alone: after a head with the status 200
+-- memory is needed for a document alone: after a head with the status 200
 abbrev pub HasDocument : Option (List ℕ) → Type 0
 HasDocument None = ⊥
 HasDocument (Some reply) = (rest : List ℕ) × HasHead reply 200 rest
@@ -104,7 +104,7 @@ IsLookedUp recipient row (Err e) = HasDocument row
 
 -- ---- the post
 
--- The reply to a post ends the attempt so: it has no head, or it has this status.
+-- How the reply to a post ends the attempt: it has no head, or it has this status.
 abbrev pub EndsPost : List ℕ → What → Type 0
 EndsPost reply Failed = ⊥
 EndsPost reply NoHead = HasNoHead reply
@@ -116,9 +116,9 @@ abbrev pub IsCameOfPost : Option (List ℕ) → Came → Type 0
 IsCameOfPost None came = came ≡ record { step = Post; what = Failed }
 IsCameOfPost (Some reply) came = (came.step ≡ Post) × EndsPost reply came.what
 
--- ---- one result alone
+-- ---- only one result
 
--- What is heard of a lookup or of a post shows one thing.
+-- What is heard of a lookup or of a post shows exactly one thing.
 pub record ShowsOnce : Type 0 where
   pub lookup :
       (recipient : List ℕ) (row : Option (List ℕ)) (a b : Found)

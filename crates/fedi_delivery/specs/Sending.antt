@@ -1,7 +1,7 @@
--- The two requests of a delivery (ActivityPub, section 7.1), to the server of the recipient: the
--- lookup of the recipient's actor document and the post to the inbox that the document names (RFC
--- 9112, sections 2 and 3). Lines end in CR LF. Each request shows by a code (RFC 2104) that its
--- sender has the key that the two servers share.
+-- The two requests of a delivery (ActivityPub, section 7.1) to the recipient's server: the lookup
+-- of the recipient's actor document and the post to the inbox that the document names (RFC 9112,
+-- sections 2 and 3). Lines end in CR LF. Each request shows by a code (RFC 2104) that its sender
+-- has the key that the two servers share.
 use Rattle.std.specs.Prelude.{ℕ, List, [], ◌++◌, length, codes, decimal}
 use Rattle.hex.specs.Hex.{encode_lower}
 use Rattle.fedi_address.specs.Iris.{host_of, target_of}
@@ -19,7 +19,7 @@ sender_lines own code =
 
 -- ---- the lookup
 
--- the request line and the host (RFC 9112, sections 3 and 3.2), and the type that is wanted
+-- the request line and the host (RFC 9112, sections 3 and 3.2), and the media type that is accepted
 -- (ActivityPub, section 3.2)
 unfoldable pub lookup_lines : (target host : List ℕ) → List ℕ
 lookup_lines target host =
@@ -40,7 +40,7 @@ lookup_text own key recipient = lookup_request own key (target_of recipient) (ho
 
 -- ---- the post
 
--- the request line and the host, and the type of the body (ActivityPub, section 7)
+-- the request line and the host, and the media type of the body (ActivityPub, section 7)
 unfoldable pub post_lines : (target host : List ℕ) → List ℕ
 post_lines target host =
     codes "POST " ++ (target ++ (codes " HTTP/1.1\r\nHost: " ++ (host

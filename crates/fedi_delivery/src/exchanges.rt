@@ -9,19 +9,19 @@ use fedi_objects::Came;
 use fedi_outside::{Failed, Link};
 use std::alloc::{AllocError, Global};
 
-/// Sends the lookup of the recipient, which `lookup_bytes` made, to the address, and reads the
-/// reply: it is that of an actor document with the recipient's id and an inbox at the recipient's
-/// host (ActivityPub, section 4.1), which is `Inbox`, or it ends the attempt (`Ended`):
+/// Sends the lookup of the recipient, which `lookup_bytes` made, to the address and reads the
+/// reply. The result is `Inbox` if the reply is an actor document with the recipient's id and an
+/// inbox at the recipient's host (ActivityPub, section 4.1). Otherwise the attempt ends (`Ended`):
 ///
-/// | What came | If |
+/// | Outcome | If |
 /// |---|---|
 /// | `Failed` | the exchange failed, and the link has counted it |
 /// | `NoHead` | the reply has no head of at most 64 fields, or its status is below 100 |
-/// | `Status` | its status is another than 200 |
-/// | `BadActor` | the bytes after its head are no such document |
+/// | `Status` | its status is not 200 |
+/// | `BadActor` | the bytes after its head are not such a document |
 ///
-/// `buffer` has room for `REPLY_LENGTH` bytes; what it holds afterwards is of no meaning. The error
-/// is out of memory, for a document alone. The request was sent all the same.
+/// `buffer` has room for `REPLY_LENGTH` bytes; its contents afterwards have no meaning. The error
+/// is out of memory, which occurs only in reading a document. The request was sent even so.
 pub fn look_up<K: Link>(
     alloc: Global,
     link: &mut K,
@@ -43,9 +43,9 @@ pub fn look_up<K: Link>(
     }
 }
 
-/// Sends the post to an inbox, which `post_bytes` made, to the address, and says what came of it:
-/// `Failed` if the exchange failed, and the link has counted it, `NoHead` if the reply has no head
-/// of at most 64 fields or its status is below 100, and else its `Status`. `buffer` is as for
+/// Sends the post to an inbox, which `post_bytes` made, to the address and returns the outcome:
+/// `Failed` if the exchange failed, and the link has counted it; `NoHead` if the reply has no head
+/// of at most 64 fields or its status is below 100; and otherwise its `Status`. `buffer` is as for
 /// `look_up`. It takes no memory.
 pub fn post<K: Link>(link: &mut K, address: &str, request: &[u8], buffer: &mut [u8]) -> Came
     requires { length buffer.old ≡ 65536 }

@@ -16,10 +16,10 @@ use httparse::spans::{EMPTY_HEADER_SPAN, parse_response};
 use serde_json::Value;
 use std::alloc::{AllocError, Global};
 
-/// The most fields that are read of the head of a reply.
+/// The largest number of fields that are read from the head of a reply.
 const MOST_FIELDS: usize = 64;
 
-/// What came of a lookup.
+/// The outcome of a lookup.
 #[derive(Drop)]
 pub enum Found {
     /// The recipient's inbox.
@@ -34,7 +34,7 @@ pub enum Found {
 #[derive(Clone, Copy)]
 struct Head {
     status: u16,
-    // How many bytes it has.
+    // Its length in bytes.
     length: usize,
 }
 

@@ -12,11 +12,11 @@ use fedi_text::Text;
 use itoa::Buffer;
 use std::alloc::{AllocError, Global};
 
-/// What is sent to deliver an activity to a recipient, but for the post, which is known only once
-/// the lookup has found the inbox.
+/// What is sent to deliver an activity to a recipient, except for the post, which is known only
+/// after the lookup has found the inbox.
 #[derive(Drop)]
 pub struct Outgoing {
-    /// Where the recipient's server is reached.
+    /// The address of the recipient's server.
     pub address: Text,
     /// The request that looks up the recipient's actor document, as `lookup_bytes` makes it.
     pub lookup: Vec<u8>,
@@ -24,10 +24,10 @@ pub struct Outgoing {
     pub body: Vec<u8>,
 }
 
-/// The request by which the server `own` looks up the recipient's actor document (ActivityPub,
-/// sections 3.2 and 7.1): a GET of HTTP/1.1 with the fields `Host`, `Accept`, `Peer-Host`,
-/// `Peer-Mac` and `Connection`, signed under the key that the two servers share (RFC 2104). The
-/// error is out of memory.
+/// The request with which the server `own` looks up the recipient's actor document (ActivityPub,
+/// sections 3.2 and 7.1): an HTTP/1.1 GET with the fields `Host`, `Accept`, `Peer-Host`, `Peer-Mac`
+/// and `Connection`, signed under the key that the two servers share (RFC 2104). The error is out
+/// of memory.
 pub fn lookup_bytes(
     alloc: Global,
     own: &Host,
@@ -47,8 +47,8 @@ pub fn lookup_bytes(
     .and(Ok(text))
 }
 
-/// The request by which the server `own` posts the body to the inbox (ActivityPub, sections 7 and
-/// 7.1): a POST of HTTP/1.1 with the fields `Host`, `Content-Type`, `Peer-Host`, `Peer-Mac`,
+/// The request with which the server `own` posts the body to the inbox (ActivityPub, sections 7 and
+/// 7.1): an HTTP/1.1 POST with the fields `Host`, `Content-Type`, `Peer-Host`, `Peer-Mac`,
 /// `Content-Length` and `Connection`, signed under the key that the two servers share (RFC 2104),
 /// and the body. The error is out of memory.
 pub fn post_bytes(

@@ -4,7 +4,7 @@ use Rattle.fedi_demo.specs.Draws.{after_four, four_drawn, state_after}
 use Rattle.fedi_demo.specs.Requests.{request_text, requests_text}
 use Rattle.fedi_demo.specs.Summary.{status_count, status_counts}
 
--- where some are left, the first of them is the one at hand
+-- if any are left, the first of them is the current one
 left_is : (count done : ℕ) → done < count → count - done ≡ suc (count - (done + 1))
 left_is count done short = omega (arith, short)
 
@@ -21,7 +21,7 @@ one_more text all state first count done short before =
     ∙ ap (λ n. text ++ requests_text state (first + done) n) (sym (left_is count done short))
     ∙ before
 
--- the state goes on with it
+-- the state advances with it
 pub state_more : (state end count done : ℕ) → done < count
     → state_after state (count - done) ≡ end
     → state_after (after_four state) (count - (done + 1)) ≡ end

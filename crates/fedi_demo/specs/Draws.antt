@@ -1,4 +1,4 @@
--- The numbers by which a demonstration goes.
+-- The numbers that determine a demonstration.
 use Rattle.fedi_demo.specs.declared.draws.Four.{Four}
 use Rattle.std.specs.Prelude.{ℕ, zero, suc, ◌+◌, ◌*◌, ◌/◌, ◌%◌, ◌^◌}
 
@@ -31,7 +31,7 @@ four_drawn state = record {
   d = drawn (after_three state);
 }
 
--- the state after so many times four draws
+-- the state after drawing four numbers this many times
 abbrev pub state_after : ℕ → ℕ → ℕ
 state_after state zero = state
 state_after state (suc count) = state_after (after_four state) count

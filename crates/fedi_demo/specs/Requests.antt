@@ -73,8 +73,8 @@ end_body d caller other =
     if d % 8 == 0 then activity_body (codes "Block") (member_id other)
     else activity_body (codes "Undo") (activity_id caller (d % 40 + 1))
 
--- What is posted, by the lot: a note, a Follow, a Like, an Announce, a Block or an Undo; or
--- nothing, where the outbox of the other member is read.
+-- What is posted, by the drawn lot: a note, a Follow, a Like, an Announce, a Block or an Undo; or
+-- nothing, if the outbox of the other member is read.
 abbrev pub body_by : ℕ → ℕ → ℕ → ℕ → ℕ → Option (List ℕ)
 body_by number lot d caller other =
     if nat_lt lot 4 then Some (note_body number (d % 4) caller other) else (
@@ -97,7 +97,7 @@ common_fields caller = before_key ++ (key_text caller ++ codes "\r\n")
 unfoldable pub before_length : List ℕ
 before_length = codes "Content-Type: application/activity+json\r\nContent-Length: "
 
--- the first page of the other member's outbox, as it is asked for
+-- the method and the target of a request for the first page of the other member's outbox
 unfoldable pub page_asked : ℕ → List ℕ
 page_asked other = codes "GET " ++ (member_path other ++ codes "/outbox?page=0")
 
@@ -116,7 +116,7 @@ posting caller body =
     post_head caller
     ++ (before_length ++ (decimal (length body) ++ (codes "\r\n\r\n" ++ body)))
 
--- a request of the caller: a post of this body, or a reading if there is none
+-- a request of the caller: a post with this body, or a read if there is no body
 abbrev pub request_with : ℕ → ℕ → Option (List ℕ) → List ℕ
 request_with caller other None = reading caller other
 request_with caller other (Some body) = posting caller body
@@ -127,7 +127,7 @@ request_text number four =
     request_with (four.a % 8) (four.b % 8)
     (body_by number (four.c % 10) four.d (four.a % 8) (four.b % 8))
 
--- so many requests, the first of which has this number, with four draws for each from this state on
+-- this many requests from this number on, with four draws for each from this state on
 abbrev pub requests_text : ℕ → ℕ → ℕ → List ℕ
 requests_text state number zero = []
 requests_text state number (suc count) =
@@ -139,6 +139,6 @@ requests_text state number (suc count) =
 unfoldable pub first_half : ℕ → List ℕ
 first_half number = requests_text number 0 1000
 
--- and the second
+-- the second thousand requests
 unfoldable pub second_half : ℕ → List ℕ
 second_half number = requests_text (state_after number 1000) 1000 1000

@@ -27,14 +27,14 @@ abbrev pub statuses_in : List ℕ → List ℕ
 statuses_in [] = []
 statuses_in (byte ∷ bytes) = option_to_list (status_at (byte ∷ bytes)) ++ statuses_in bytes
 
--- how many of them are this one
+-- how many of these statuses are this one
 abbrev pub times : ℕ → List ℕ → ℕ
 times status [] = 0
 times status (s ∷ statuses) = (if s == status then 1 else 0) + times status statuses
 
 -- ---- lines
 
--- a label, a blank and a count
+-- a label, a space and a count
 unfoldable pub count_line : List ℕ → ℕ → List ℕ
 count_line label count = label ++ (codes " " ++ (decimal count ++ codes "\n"))
 
@@ -44,30 +44,30 @@ status_count statuses status =
     if times status statuses == 0 then []
     else count_line (decimal status) (times status statuses)
 
--- those of so many statuses from this one on
+-- these lines for this many statuses from this one on
 abbrev pub status_counts : List ℕ → ℕ → ℕ → List ℕ
 status_counts statuses status zero = []
 status_counts statuses status (suc more) =
     status_count statuses status ++ status_counts statuses (suc status) more
 
--- those of each status of three digits (RFC 9110, section 15), ascending
+-- these lines for each status of three digits (RFC 9110, section 15), in ascending order
 unfoldable pub all_status_counts : List ℕ → List ℕ
 all_status_counts statuses = status_counts statuses 100 500
 
--- how much the store has in the end
+-- how much the store holds at the end
 unfoldable pub held_lines : Held → List ℕ
 held_lines held =
     count_line (codes "entries") held.entries
     ++ (count_line (codes "activities") held.activities
     ++ count_line (codes "queue") held.queue)
 
--- the length and the digest of all that was written on the connections
+-- the length and the digest of everything that was written on the connections
 unfoldable pub written_lines : List ℕ → List ℕ
 written_lines written =
     count_line (codes "bytes") (length written)
     ++ (codes "sha256 " ++ (encode_lower (sha256 written) ++ codes "\n"))
 
--- the whole text, of the number, what the store has, and what was written
+-- the whole text, from the number, what the store holds and what was written
 abbrev pub summary_text : ℕ → Held → List ℕ → List ℕ
 summary_text number held written =
     count_line (codes "demo") number

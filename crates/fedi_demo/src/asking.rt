@@ -277,7 +277,7 @@ fn put_request(alloc: Global, text: &mut Vec<u8>, number: u64, four: Four) -> Re
     }
 }
 
-// So many requests, the first of which has this number, with four draws for each. The error is out
+// The requests from number `first` on, `count` of them, with four draws for each. The error is out
 // of memory.
 fn requests(alloc: Global, draws: &mut Draws, first: u64, count: u64) -> Result<Vec<u8>, AllocError>
     requires { first + count < 2 ^ 32 }

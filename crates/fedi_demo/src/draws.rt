@@ -1,12 +1,12 @@
-//! The numbers by which a demonstration goes.
+//! The numbers that determine a demonstration.
 
 ghost use Rattle.std.specs.Prelude.{◌≡◌, ◌<◌};
 ghost use Rattle.fedi_demo.specs.Draws.{after_four, drawn, four_drawn, next_state};
 
 use std::marker::Model;
 
-/// A linear congruential generator, which gives the upper bits of its state. One with the same
-/// start gives the same numbers.
+/// A linear congruential generator, which gives the upper bits of its state. Two with the same
+/// start give the same numbers.
 #[derive(Drop)]
 pub struct Draws {
     state: u64,
@@ -32,7 +32,7 @@ pub struct Four {
 }
 
 impl Draws {
-    /// The numbers that begin with this one.
+    /// A generator that starts from this number.
     pub fn new(start: u16) -> Draws
         ensures { result ≡ start }
     {
@@ -41,7 +41,7 @@ impl Draws {
         }
     }
 
-    /// One more number.
+    /// The next number.
     pub fn next(&mut self) -> u64
         ensures drawn { result ≡ drawn self.old }
         ensures state { self.new ≡ next_state self.old }
@@ -51,7 +51,7 @@ impl Draws {
         self.state / 65_536
     }
 
-    /// Four more numbers.
+    /// The next four numbers.
     pub fn next_four(&mut self) -> Four
         ensures drawn { result ≡ four_drawn self.old }
         ensures state { self.new ≡ after_four self.old }

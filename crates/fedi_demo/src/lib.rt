@@ -1,5 +1,5 @@
-//! A demonstration, without a server: the requests of eight members, by numbers that are drawn, and
-//! what is printed of the replies.
+//! A demonstration, without a server: the requests of eight members, chosen by drawn numbers, and
+//! what is printed about the replies.
 #![tactic(auto)]
 
 mod asking;

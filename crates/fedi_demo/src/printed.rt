@@ -9,7 +9,7 @@ use fedi_mac::{digest, hex_text};
 use itoa::Buffer;
 use std::alloc::{AllocError, Global};
 
-/// How much the store of a demonstration has in the end.
+/// How much the store of a demonstration holds at the end.
 #[derive(Clone, Copy)]
 pub struct Held {
     /// The entries of its history.
@@ -104,7 +104,7 @@ fn put_status(text: &mut Vec<u8>, statuses: &[u32], status: u32) -> Result<(), A
     put_count(text, digits.format(status).as_bytes(), count)
 }
 
-// The lines of so many statuses, of which this is the first.
+// The lines of `count` statuses, from `first` on.
 fn put_statuses_from(
     text: &mut Vec<u8>,
     statuses: &[u32],
@@ -151,9 +151,9 @@ fn put_written(text: &mut Vec<u8>, written: &[u8]) -> Result<(), AllocError>
     Ok(())
 }
 
-/// What is printed of the demonstration with this number: its requests, how many replies had each
-/// status, how much its store has in the end, and the length and the digest of all that was
-/// written on its connections. The error is out of memory.
+/// What is printed about the demonstration with this number: its requests, how many replies had
+/// each status, how much its store holds at the end, and the length and the digest of everything
+/// that was written on its connections. The error is out of memory.
 pub fn summary(
     alloc: Global,
     number: u16,

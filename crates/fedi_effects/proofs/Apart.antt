@@ -1,4 +1,4 @@
--- Of texts that are there once each, one is found anew only where it was found before them all.
+-- If each of the strings occurs once, only what was found before them all decides which are new.
 use Rattle.std.proofs.Common.{◌≡◌, ℕ, Bool, true, false, List, [], ◌∷◌, ◌++◌, refl, sym, ap, ◌∙◌, append_assoc}
 use Rattle.std.specs.Prelude.{◌&&◌, not, map, filter, cond}
 use Rattle.std.specs.List.{fold, list_any}
@@ -66,7 +66,7 @@ apart q found (x ∷ xs) once =
       | false ↦ apart q found xs parts.1
     ]
 
--- texts that are there once each
+-- strings that occur once each
 fold-agree : (f g : List (List ℕ) → List ℕ → List (List ℕ)) → ((s : List (List ℕ)) (x : List ℕ) → f s x ≡ g s x) → (s xs : List (List ℕ)) → fold f s xs ≡ fold g s xs
 fold-agree f g same s [] = refl
 fold-agree f g same s (x ∷ xs) = ap (λ (k : List (List ℕ)). fold f k xs) (same s x) ∙ fold-agree f g same (g s x) xs
@@ -80,7 +80,7 @@ added_apart found xs once = fold-agree add_new (with_new (λ _. true)) add-one f
 
 -- ---- followers
 
--- the followers are there once each
+-- each follower occurs once
 pub followers_once : (t : Town) (b : List ℕ) → is_each_once (followers t b) ≡ true
 unfolding followers
 followers_once t b = distinct_once (map (λ x. x.author) (filter (is_following b) t.acts))
@@ -99,7 +99,7 @@ none-kept q p (x ∷ xs) none =
       | false ↦ rest
     ]
 
--- of texts that are there once each, so are those that pass a test
+-- if each string occurs once, so does each of those that pass a test
 pub once_filtered : (p : List ℕ → Bool) (xs : List (List ℕ)) → is_each_once xs ≡ true → is_each_once (filter p xs) ≡ true
 unfolding is_among
 once_filtered p [] once = refl

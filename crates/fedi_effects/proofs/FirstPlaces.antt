@@ -1,4 +1,4 @@
--- One that is equal stands somewhere, and then at a first place.
+-- An equal item is somewhere in the list, and then it has a first index.
 use Prim.Native.Nat.compare
 use Rattle.std.proofs.Common.{◌≡◌, ℕ, ◌+◌, ◌<◌, Bool, true, false, List, [], ◌∷◌, length, get_or, refl, ◌∙◌, suc, arith}
 use Rattle.std.specs.Prelude.{◌||◌, nat_lt, is_some, cond, Some, None}

@@ -1,4 +1,4 @@
--- Those to whom an activity is forwarded, found one by one, are there once each.
+-- The followers an activity is forwarded to, found one by one, occur once each.
 use Rattle.std.proofs.Common.{◌≡◌, ◌≢◌, ℕ, Bool, true, false, List, [], ◌∷◌, ◌++◌, Option, Some, None, refl, sym, ap, ◌∙◌, append_assoc}
 use Rattle.std.specs.Prelude.{◌||◌, codes, map, filter, cond, option_to_list}
 use Rattle.std.specs.List.{find, fold, flat_map, list_any}
@@ -45,18 +45,18 @@ any_six p a b c d e f =
 pub any_through : (p : List ℕ → Bool) (tags : List Tag) → list_any (λ (g : Tag). p g.href) tags ≡ list_any p (map (λ (g : Tag). g.href) tags)
 any_through p tags = sym (list_any-through (λ (g : Tag). g.href) p (λ (g : Tag). p g.href) (λ g. refl) tags)
 
--- an object refers to what it replies to and to whom it mentions
+-- an object refers to what it replies to and to those it mentions
 pub mentions_of : (o : Option Object) → option_to_list (reply_in o) ++ map (λ (g : Tag). g.href) (tags_in o) ≡ object_mentions o
 mentions_of None = refl
 mentions_of (Some o) = refl
 
--- what an activity is about stays when it is received
+-- what an activity is about stays the same when it is received
 pub ref_received : (author : List ℕ) (moment : ℕ) (r : ObjectRef) → ref_id (receive_ref author moment r) ≡ ref_id r
 ref_received author moment r = ref_id-received author moment r
 
--- ---- to whom it goes
+-- ---- recipients
 
--- the far followers of a member are there once each
+-- each far follower of a member occurs once
 far_apart : (t : Town) (author b : List ℕ) (s : Bool) → is_each_once (cond s [] (filter (is_far t author) (followers t b))) ≡ true
 far_apart t author b true = refl
 far_apart t author b false = once_filtered (is_far t author) (followers t b) (followers_once t b)
@@ -65,7 +65,7 @@ far_once : (t : Town) (author : List ℕ) (m : Option Actor) → is_each_once (f
 far_once t author None = refl
 far_once t author (Some b) = far_apart t author b.id (blocks t b.id author)
 
--- so a name adds those of them who were not found before
+-- so a name adds those of them that were not found before
 pub forwards_apart : (t : Town) (author iri : List ℕ) (found : List (List ℕ))
     → found ++ filter (is_unfound found) (far_followers t author (find (has_followers_at iri) t.actors)) ≡ with_forwards t author found iri
 unfolding with_forwards forwards_at
@@ -97,7 +97,7 @@ gathered t author a b c =
 
 -- ---- whose followers collection it is
 
--- what ends alike is the same where the rest is
+-- two strings with the same ending are equal if the rest is
 same-front : (a b s : List ℕ) → bytes_eq (a ++ s) (b ++ s) ≡ bytes_eq a b
 same-front a b s =
     elim (bytes_eq a b) as (λ e. bytes_eq a b ≡ e → bytes_eq (a ++ s) (b ++ s) ≡ e) [
@@ -110,12 +110,12 @@ find-agree : {A : Type 0} (p q : A → Bool) → ((x : A) → p x ≡ q x) → (
 find-agree p q same [] = refl
 find-agree p q same (x ∷ xs) = rw (same x, find-agree p q same xs) refl
 
--- the member's followers collection has such an id where the member's id is the rest
+-- the member's followers collection has such an id if the member's id is the rest
 pub found_by_rest : (iri rest : List ℕ) (actors : List Actor) → iri ≡ followers_id rest → find (has_followers_at iri) actors ≡ find (has_id rest) actors
 unfolding has_followers_at has_id
 found_by_rest iri rest actors is = rw is (find-agree _ _ (λ b. same-front b.id rest (codes "/followers")) actors)
 
--- and no member's has, where it does not end so
+-- and no member's has it if it does not end so
 pub none_at : (iri : List ℕ) (actors : List Actor) → ((rest : List ℕ) → iri ≢ followers_id rest) → find (has_followers_at iri) actors ≡ None
 unfolding has_followers_at
 none_at iri [] other = refl

@@ -50,7 +50,7 @@ fold-addressees t author before (iri ∷ iris) =
     ∙ fold-addressees t author (before ++ addressees t author iri) iris
     ∙ ap (λ (all : List (List ℕ)). distinct (reached t author all)) (append_assoc before (addressees t author iri) (flat_map (addressees t author) iris))
 
--- those for whom the names stand, and then the others
+-- those that the names represent, and then the others
 pub reached_are_recipients : (t : Town) (author : List ℕ) (r : Recipients) (others : List (List ℕ))
     → fold (with_reached t author) (fold (with_addressees t author) [] (all_of r)) others ≡ recipients_with t author r others
 unfolding distinct

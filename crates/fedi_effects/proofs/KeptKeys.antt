@@ -13,7 +13,7 @@ use Rattle.fedi_effects.specs.Repeats.{repeat_in}
 abbrev under : List ℕ → (List ℕ × List ℕ) × Option (List ℕ) → Bool
 under key r = bytes_eq r.0.0 key
 
--- the first of more, where one is before them
+-- the first of more, if there is one before them
 one-key : (key : List ℕ) (x : Act) (own : Option (List ℕ × List ℕ)) (found : Option Act) (more : List ((List ℕ × List ℕ) × Option (List ℕ)))
     → x.repeat ≡ own → option_and_then repeat_in found ≡ find (under key) more
     → option_and_then repeat_in (if has_key key own then Some x else found)

@@ -1,4 +1,4 @@
--- Those to whom a known activity goes, where it goes to one more.
+-- The recipients of a known activity once it goes to one more inbox.
 use Rattle.std.proofs.Common.{◌≡◌, ℕ, true, false, List, [], ◌∷◌, ◌++◌, Option, Some, None, sym, ap, ◌∙◌}
 use Rattle.std.specs.Prelude.{IsTrue, is_some, option_map}
 use Rattle.std.specs.List.{find, list_any}

@@ -1,10 +1,10 @@
--- A text that begins with another.
+-- A string that begins with another.
 use Rattle.std.proofs.Common.{◌≡◌, ℕ, true, false, List, [], ◌∷◌, ◌++◌, length, take, drop, refl, nat_eq}
 use Rattle.std.specs.Prelude.{◌&&◌}
 use Rattle.std.specs.Str.{bytes_eq}
 use Rattle.std.proofs.lemmas.Bool.{and_parts}
 
--- where it does, the rest decides
+-- if it does, the rest decides
 pub rest_after : (front rest text back : List ℕ) → bytes_eq (take (length front) text) front ≡ true → back ≡ drop (length front) text
     → bytes_eq back rest ≡ bytes_eq text (front ++ rest)
 rest_after [] rest text back same is = rw is refl

@@ -1,4 +1,4 @@
--- Tallies say what has become of every delivery, and go on to say it after one more attempt.
+-- Tallies say what has become of every delivery, and still do after one more attempt.
 use Rattle.std.proofs.Common.{◌≡◌, ℕ, zero, suc, ◌+◌, ◌<◌, arith, Bool, true, false, List, [], ◌∷◌, ◌++◌, Option, Some, None, refl, sym, ap, subst, ◌∙◌, length, ltb, get_or, set}
 use Rattle.std.specs.Prelude.{filter, IsTrue, if◌then◌else◌}
 use Rattle.std.specs.List.{find, fold, list_all, position_or_len}
@@ -66,7 +66,7 @@ marks_counted seed list k z x d was a r =
 
 -- ---- what is found
 
--- the place that was found
+-- the index that was found
 at-first : {A : Type 0} (p : A → Bool) (xs : List A) (k : ℕ) → Some k ≡ place_where p xs → (k ≡ position_or_len p xs) × (ltb (position_or_len p xs) (length xs) ≡ true)
 at-first p xs k is =
     elim (ltb (position_or_len p xs) (length xs)) as (λ b. ltb (position_or_len p xs) (length xs) ≡ b → Some k ≡ (if b then Some (position_or_len p xs) else None)
@@ -75,7 +75,7 @@ at-first p xs k is =
       | false ↦ λ e f. absurd cc
     ] refl is
 
--- one at the first place that passes is found there, and one that takes its place
+-- the item at the first index that passes is found there, and so is one that replaces it
 record IsFirst {A : Type 0} (p : A → Bool) (xs : List A) (k : ℕ) (d : A) : Type 0 where
   found : find p xs ≡ Some (get_or xs k d)
   passes : p (get_or xs k d) ≡ true
@@ -107,7 +107,7 @@ first-of {A} p (x ∷ xs) d e =
 first-at : {A : Type 0} (p : A → Bool) (xs : List A) (k : ℕ) (d : A) → Some k ≡ place_where p xs → IsFirst p xs k d
 first-at p xs k d is = let at = at-first p xs k is in subst (λ (j : ℕ). IsFirst p xs j d) (sym at.0) (first-of p xs d at.1)
 
--- where neither passes, one in the place of the other changes nothing
+-- if neither passes, replacing one by the other changes nothing
 find-other : {A : Type 0} (q : A → Bool) (xs : List A) (k : ℕ) (z d : A) → q (get_or xs k d) ≡ false → q z ≡ false → find q (set xs k z) ≡ find q xs
 find-other q [] k z d was is = refl
 find-other q (x ∷ xs) zero z d was is = rw (was, is) refl
@@ -141,7 +141,7 @@ at-pushed attempts a id r m =
       | false ↦ ap (λ (xs : List Attempt). fold after_attempt (Due 0 m) xs) (append-nil (filter p attempts))
     ]
 
--- the tally is of the delivery that this was an attempt of
+-- the tally is for the delivery that this was an attempt of
 pub record IsOf (y : Tally) (a : Attempt) : Type 0 where
   pub activity : y.activity ≡ a.activity
   pub recipient : y.recipient ≡ a.recipient

@@ -33,7 +33,7 @@ pub town_pushed : (old new : Town) (history : List Entry) (e : Entry) (a : Addit
 town_pushed old new history e a stands adds after =
     after ∙ ap (λ (b : Addition). with_addition old b) adds ∙ ap (λ (t : Town). step t e) stands ∙ sym (fold_push step empty_town history e)
 
--- in what a history has made no object was made twice
+-- no object was made twice in what a history has made
 pub town_made_once : (t : Town) (history : List Entry) → t ≡ town history → AreMadeOnce t.acts
 town_made_once t history stands = subst (λ (u : Town). AreMadeOnce u.acts) (sym stands) (made_once history)
 
@@ -70,7 +70,8 @@ can_step t (Local name repeat a moment) once = can_post t.acts t.host t name rep
 can_step t (Remote peer inbox a moment) once = can_deliver t (id_of t inbox) a.actor a.id a moment once
 can_step t (Tried activity recipient came moment) once = tt
 
--- what an entry adds to a legal history can be added, since no two activities have one id there
+-- what an entry adds to a legal history can be added, since no two activities have the same id
+-- there
 pub can_add : (t : Town) (history : List Entry) (e : Entry) (a : Addition) → t ≡ town history → IsLegal history → a ≡ addition_of t e → CanAdd t.acts a
 can_add t history e a stands legal is =
     let once : (i : List ℕ) → PassesOnce (has_activity_id i) t.acts = subst (λ (u : Town). (i : List ℕ) → PassesOnce (has_activity_id i) u.acts) (sym stands) (town_ids history legal) in

@@ -11,7 +11,7 @@ use Rattle.fedi_register.specs.Changes.{longer_of}
 use Rattle.fedi_effects.specs.declared.ready.Ready.{Ready}
 use Rattle.fedi_effects.specs.declared.ready.Ready.TheVariants as ready
 
--- the addition that it was made of
+-- the addition that it was made from
 abbrev pub addition_in : Ready → Addition
 addition_in ready.Nothing = additions.Nothing
 addition_in (ready.Host host) = additions.Host host
@@ -42,7 +42,7 @@ inbox_in (additions.Activity a) = None
 inbox_in (additions.Inbox id owner) = Some (id, owner)
 inbox_in (additions.Attempt attempt) = None
 
--- where it adds one more inbox, the activity is there, and once
+-- if it adds one more inbox, the activity exists exactly once
 abbrev pub CanAdd : List Act → Addition → Type 0
 CanAdd acts additions.Nothing = ⊤
 CanAdd acts (additions.Host host) = ⊤
@@ -53,8 +53,8 @@ CanAdd acts (additions.Inbox id owner) =
     IsTrue (list_any (has_activity_id id) acts) × PassesOnce (has_activity_id id) acts
 CanAdd acts (additions.Attempt attempt) = ⊤
 
--- the activity that goes to one more inbox is there once, and those to whom it goes then were made
--- ready
+-- the activity that goes to one more inbox exists exactly once, and its recipients with that inbox
+-- were made ready
 abbrev pub FitsActs : List Act → Ready → Type 0
 FitsActs acts ready.Nothing = ⊤
 FitsActs acts (ready.Host host) = ⊤

@@ -15,11 +15,11 @@ unfoldable pub with_reached : Town → List ℕ → List (List ℕ) → List ℕ
 with_reached t author found iri =
     if is_new_recipient t author found iri then found ++ iri ∷ [] else found
 
--- all for whom a name stands
+-- all that a name represents
 unfoldable pub with_addressees : Town → List ℕ → List (List ℕ) → List ℕ → List (List ℕ)
 with_addressees t author found iri = fold (with_reached t author) found (addressees t author iri)
 
--- where the first stands that passes the test
+-- the first index of an item that passes the test
 abbrev pub first_place : {A : Type 0} → (A → Bool) → List A → Option ℕ
 first_place p xs =
     if nat_lt (position_or_len p xs) (length xs) then Some (position_or_len p xs) else None

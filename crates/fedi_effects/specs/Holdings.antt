@@ -9,13 +9,13 @@ use Rattle.fedi_effects.specs.declared.facts.Facts.TheInside.{Inside}
 use Rattle.fedi_effects.specs.declared.facts.Room.{Room}
 use Rattle.fedi_effects.specs.Additions.{FitsActs, HasAuthors, acts_in, addition_in, inbox_in}
 
--- the history that is held, the town that it has made, and the entry that room was made for
+-- the history that is held, the town that it has made, and the entry for which room was made
 pub record Holding : Type 0 where
   pub history : List Entry
   pub town : Town
   pub room : Option Entry
 
--- the activities that the entry brings for which there is room
+-- the activities of the entry for which there is room
 abbrev pub coming : Town → Option Entry → List Act
 coming t None = []
 coming t (Some e) = acts_in (addition_of t e)
@@ -46,7 +46,7 @@ town_in f = record {
   attempts = f.tallies.attempts;
 }
 
--- the entry that there is room for
+-- the entry for which there is room
 abbrev pub entry_in : Option Room → Option Entry
 entry_in None = None
 entry_in (Some r) = Some r.entry.value

@@ -23,12 +23,12 @@ id_mark seed a = mark_of seed a.id
 unfoldable pub digest_mark : Seed → Actor → ℕ
 digest_mark seed a = mark_of seed a.digest
 
--- the members, as those see them who look up
+-- the members, as look-ups see them
 abbrev pub members_in : Inside → Peopled
 members_in m = record { actors = m.list.items; room = m.room }
 
--- each member is looked up by name, id and digest, there is room in each list, and a place fits its
--- field
+-- each member is looked up by name, id and digest, there is room in each list, and an index fits
+-- its field
 abbrev pub AreMembers : Inside → Type 0
 AreMembers m =
     (m.names.marks ≡ marks_from every (name_mark m.seed) 0 m.list.items)

@@ -1,4 +1,4 @@
--- What is known of a post when it comes again.
+-- What is known of a post when it is repeated.
 use Rattle.std.specs.Prelude.{ℕ, List, Option, option_map}
 use Rattle.fedi_town.specs.declared.act.Act.{Act}
 

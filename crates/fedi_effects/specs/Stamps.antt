@@ -5,7 +5,7 @@ use Rattle.fedi_text.specs.Dates.{moment_text}
 use Rattle.fedi_town.specs.Activities.{complete_ref}
 use Rattle.fedi_town.specs.Ids.{activity_id, actor_id}
 
--- the activity of this number of the author, with all that the server sets but whom it implies
+-- the author's activity of this number, with all that the server sets except those it implies
 -- (ActivityPub, sections 6 and 6.2)
 abbrev pub stamped : List ℕ → List ℕ → ℕ → ℕ → Activity → Activity
 stamped host name number moment a = record a {

@@ -12,12 +12,12 @@ abbrev pub progress_in : Standing → Progress
 progress_in (standings.Due attempts from) = Due attempts from
 progress_in (standings.Ended attempts) = Ended attempts
 
--- where another attempt is due, there were fewer than eight
+-- if another attempt is due, there were fewer than eight
 abbrev pub IsFew : Standing → Type 0
 IsFew (standings.Due attempts from) = attempts < 8
 IsFew (standings.Ended attempts) = ⊤
 
--- what has become of a delivery by these attempts, whose activity was accepted at this moment
+-- what has become of a delivery after these attempts, if its activity was accepted at this moment
 unfoldable pub progress_at : List Attempt → List ℕ → List ℕ → ℕ → Progress
 progress_at attempts id recipient moment =
     fold after_attempt (Due 0 moment) (filter (is_of_pair id recipient) attempts)

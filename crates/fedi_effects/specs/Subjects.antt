@@ -10,7 +10,7 @@ use Rattle.fedi_town.specs.Objects.{maker_of}
 use Rattle.fedi_town.specs.Towns.{Town}
 
 -- The Create of the object that an activity about this changes, deletes, likes or shares, or the
--- activity of this id, which it accepts, rejects or takes back. State, effect and recipients of an
+-- activity with this id, which it accepts, rejects or undoes. State, effect and recipients of an
 -- activity depend on it.
 abbrev pub subject_of : Town → Deed → Option (List ℕ) → Option Act
 subject_of t Update id = maker_of t id
@@ -25,7 +25,7 @@ subject_of t Follow id = None
 subject_of t Block id = None
 subject_of t Other id = None
 
--- of it, the Create that an Update or a Delete goes back to
+-- of this, the Create that an Update or a Delete goes back to
 abbrev pub original_among : Deed → Option Act → Option Act
 original_among Update subject = subject
 original_among Delete subject = subject

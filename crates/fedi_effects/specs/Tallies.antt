@@ -20,7 +20,7 @@ pub record Tallied : Type 0 where
   pub attempts : List Attempt
   pub room : ℕ
 
--- the tally is of the delivery of the activity of this id to this recipient
+-- the tally is for the delivery of the activity with this id to this recipient
 unfoldable pub is_tally_of : List ℕ → List ℕ → Tally → Bool
 is_tally_of id recipient y = bytes_eq y.activity id && bytes_eq y.recipient recipient
 
@@ -28,12 +28,12 @@ is_tally_of id recipient y = bytes_eq y.activity id && bytes_eq y.recipient reci
 unfoldable pub tally_mark : Seed → Tally → ℕ
 tally_mark seed y = mark_of_pair seed y.activity y.recipient
 
--- where another attempt is due, there were fewer than eight
+-- if another attempt is due, there were fewer than eight
 abbrev pub is_few_so : Standing → Bool
 is_few_so (standings.Due attempts from) = nat_lt attempts 8
 is_few_so (standings.Ended attempts) = true
 
--- likewise of the tally's delivery
+-- the same of the tally's delivery
 unfoldable pub is_few : Tally → Bool
 is_few y = is_few_so y.standing
 
@@ -47,11 +47,11 @@ pub record AreTallied (list : List Tally) (attempts : List Attempt) : Type 0 whe
   pub so : (id recipient : List ℕ) (moment : ℕ) → progress_at attempts id recipient moment
       ≡ standing_or moment (find (is_tally_of id recipient) list)
 
--- the attempts, as those see them who look up
+-- the attempts, as look-ups see them
 abbrev pub tallied_in : Inside → Tallied
 tallied_in t = record { attempts = t.attempts; room = t.room }
 
--- each tally is looked up by its delivery, there is room in each list, and a place fits its field
+-- each tally is looked up by its delivery, there is room in each list, and an index fits its field
 abbrev pub AreTallies : Inside → Type 0
 AreTallies t =
     (t.marks.marks ≡ marks_from every (tally_mark t.seed) 0 t.list.items)

@@ -29,7 +29,7 @@ fn is_of_host(host: &Host, iri: &Iri) -> bool
     iri.text().as_bytes().starts_with(b"https://") && iri.host() == host.text()
 }
 
-/// Whether the IRI is of the host that was set up.
+/// Whether the IRI belongs to the host that was set up.
 pub fn is_of_town(facts: &Facts, iri: &Iri) -> bool
     ensures { result ≡ is_of_town facts.now.town.host iri.now }
 {
@@ -39,7 +39,7 @@ pub fn is_of_town(facts: &Facts, iri: &Iri) -> bool
     }
 }
 
-/// Whether the IRI is of this host, and no member's id.
+/// Whether the IRI belongs to this host but is not the id of a member.
 #[tactic(auto, unfolding(fedi_town::specs::Addressing::is_nobody_here))]
 pub fn is_nobody_here(facts: &Facts, iri: &Iri) -> bool
     ensures { result ≡ is_nobody_here facts.now.town iri.now }
@@ -47,9 +47,9 @@ pub fn is_nobody_here(facts: &Facts, iri: &Iri) -> bool
     is_of_town(facts, iri) && !facts.is_actor(iri)
 }
 
-// Whether this one may get the author's activity: Public is everybody and nobody's address
-// (ActivityPub, section 5.6), the author needs no copy, what is of this host and no member's id has
-// no inbox, and a Block keeps both sides away (6.9).
+// Whether this IRI may get the author's activity. Public means everybody and is not an address
+// (ActivityPub, section 5.6), the author needs no copy, an IRI of this host that is not a member's
+// id has no inbox, and a Block excludes both sides (6.9).
 #[tactic(auto, unfolding(fedi_town::specs::Addressing::is_recipient))]
 fn is_recipient(facts: &Facts, author: &Iri, iri: &Iri) -> bool
     ensures { result ≡ is_recipient facts.now.town author.now iri.now }
@@ -80,7 +80,7 @@ fn has_followers_id(author: &Iri, iris: &[Iri]) -> bool
     iris.iter().any(|iri| is_followers_id(author, iri))
 }
 
-/// Whether the author's followers are named (ActivityPub, section 5.3).
+/// Whether the author's followers are among the named (ActivityPub, section 5.3).
 #[tactic(auto, using(fedi_address::proofs::Audience::is_among_all))]
 pub fn names_followers(author: &Iri, named: &Recipients) -> bool
     ensures { result ≡ names named.now (followers_id author.now) }
@@ -94,7 +94,7 @@ pub fn names_followers(author: &Iri, named: &Recipients) -> bool
 
 // ---- recipients
 
-// Whether the author's activity may go there, and it was not found before.
+// Whether the IRI may get the author's activity and was not found before.
 #[tactic(auto, unfolding(crate::specs::Gathering::is_new_recipient))]
 fn is_new_recipient(facts: &Facts, author: &Iri, found: &[Iri], iri: &Iri) -> bool
     ensures { result ≡ is_new_recipient facts.now.town author.now found.now iri.now }
@@ -119,14 +119,14 @@ fn add_recipient(
     Ok(())
 }
 
-// Where the IRI stands first among those found.
+// The first index of the IRI among those found.
 fn first_place(found: &[Iri], iri: &Iri) -> Option<usize>
     ensures { result ≡ first_place (λ u. bytes_eq u iri.now) found.now }
 {
     found.iter().position(|other| other == iri)
 }
 
-// Where the IRI stands among those found. It is looked for first at this place.
+// An index of the IRI among those found. The index `near` is tried first.
 #[tactic(auto, using(crate::proofs::FirstPlaces::among_at), unfolding(fedi_address::specs::Recipients::is_among))]
 fn position_of(found: &[Iri], iri: &Iri, near: usize) -> Option<usize>
     ensures among { is_some result ≡ is_among iri.now found.now }
@@ -138,8 +138,8 @@ fn position_of(found: &[Iri], iri: &Iri, near: usize) -> Option<usize>
     first_place(found, iri)
 }
 
-// Adds the IRI if it is new. It is looked for first at this place, and the place to look at for the
-// next one is returned.
+// Adds the IRI if it is new. The index `near` is tried first. Returns the index to try first for
+// the next IRI.
 #[tactic(auto, unfolding(crate::specs::Gathering::with_reached, crate::specs::Gathering::is_new_recipient))]
 fn add_recipient_near(
     facts: &Facts,
@@ -161,8 +161,8 @@ fn add_recipient_near(
     Ok(near)
 }
 
-// Adds those who are new. They may be many, and mostly stand in the order in which they were found:
-// so each is looked for first behind the one before it.
+// Adds the IRIs that are new. There may be many, mostly in the order in which they were found, so
+// the search for each starts right after the one before it.
 fn reach(facts: &Facts, author: &Iri, found: &mut Vec<Iri>, iris: &[Iri]) -> Result<(), AllocError>
     ensures { OnOk result (found.new.items
         ≡ fold (with_reached facts.now.town author.now) found.old.items iris.now) }
@@ -181,8 +181,8 @@ fn keep_new(facts: &Facts, author: &Iri, found: &[Iri], iris: &mut Vec<Iri>)
     iris.retain(|iri| is_new_recipient(facts, author, found, iri));
 }
 
-// The author's present followers. They are many and stand once each, so each of them is looked for
-// only among those who were found before.
+// The author's present followers. There may be many and each occurs once, so each is searched for
+// only among those that were found before.
 #[tactic(auto, using(crate::proofs::Apart::followers_apart))]
 fn add_followers(
     alloc: Global,
@@ -198,7 +198,7 @@ fn add_followers(
     found.append(&mut followers)
 }
 
-// The author's followers collection stands for the present followers (ActivityPub, section 7.1).
+// The author's followers collection represents the present followers (ActivityPub, section 7.1).
 #[tactic(auto, unfolding(crate::specs::Gathering::with_addressees, fedi_town::specs::Addressing::addressees))]
 fn add_addressee(
     alloc: Global,
@@ -250,8 +250,8 @@ fn add_all_addressees(
     add_addressees(alloc, facts, author, found, named.audience.as_slice())
 }
 
-/// The recipients of a member's activity: those of `to`, `cc`, `bto`, `bcc` and `audience` in this
-/// order and then the others, each once (ActivityPub, sections 6 and 7.1). The error is out of
+/// The recipients of a member's activity, each once: those of `to`, `cc`, `bto`, `bcc` and
+/// `audience` in this order, then the others (ActivityPub, sections 6 and 7.1). The error is out of
 /// memory.
 #[tactic(auto, using(crate::proofs::Gathering::reached_are_recipients))]
 pub fn recipients_with(

@@ -29,8 +29,8 @@ impl Facts {
         self.peers().iter().any(|peer| has_host(peer, host))
     }
 
-    /// Whether the host is this server's or a peer's. Before the server is set up, each host is
-    /// taken.
+    /// Whether the host is this server's or a peer's. Before the server is set up, every host
+    /// counts as taken.
     pub fn is_taken_host(&self, host: &Host) -> bool
         ensures { result ≡ is_taken_host self.now.town host.now }
     {
@@ -41,9 +41,9 @@ impl Facts {
     }
 
     /// The first rule that an operator's command breaks, if it breaks one: the server is set up
-    /// once; a member's name and key are new; a peer is another host that is new, and is reached at
-    /// an address of 1 to 255 bytes of ASCII that show, without a space. Other entries are no
-    /// commands, and break none.
+    /// once; a member's name and key are new; a peer is another host that is new, and its address
+    /// has 1 to 255 bytes of visible ASCII without a space. Other entries are not commands and
+    /// break no rule.
     pub fn judge_command(&self, entry: &Entry) -> Result<(), CommandFault>
         ensures { MatchResult result
             (λ _. broken_command self.now.town entry.now ≡ None)

@@ -12,8 +12,8 @@ use fedi_address::{Iri, is_among};
 use fedi_register::{Kept, has_activity_id};
 use fedi_text::Moment;
 
-/// What has become of the delivery to this recipient of the activity of this id, which was accepted
-/// at this moment.
+/// What has become of the delivery to this recipient of the activity with this id, which was
+/// accepted at this moment.
 pub fn progress_of(facts: &Facts, id: &Iri, recipient: &Iri, moment: Moment) -> Standing
     ensures value { progress_in result
         ≡ progress_of facts.now.town id.now recipient.now moment }
@@ -24,8 +24,8 @@ pub fn progress_of(facts: &Facts, id: &Iri, recipient: &Iri, moment: Moment) -> 
 
 // ---- what is due
 
-/// To whom this server sends the activity: a member's to its recipients, any other to those to whom
-/// it is forwarded (ActivityPub, section 7.1.2).
+/// The IRIs to which this server sends the activity: a member's activity goes to its recipients,
+/// and any other to those it is forwarded to (ActivityPub, section 7.1.2).
 #[tactic(auto, unfolding(fedi_town::specs::Queues::sends))]
 pub fn sends<'a>(facts: &Facts, act: &'a Kept) -> &'a [Iri]
     ensures { result.now ≡ sends facts.now.town act.now }
@@ -37,7 +37,7 @@ pub fn sends<'a>(facts: &Facts, act: &'a Kept) -> &'a [Iri]
     }
 }
 
-/// Whether the recipient is of a peer.
+/// Whether the recipient belongs to a peer.
 #[tactic(auto, unfolding(fedi_town::specs::Queues::is_at_peer))]
 pub fn is_at_peer(facts: &Facts, recipient: &Iri) -> bool
     ensures { result ≡ is_at_peer facts.now.town recipient.now }
@@ -65,8 +65,9 @@ fn is_due_in(facts: &Facts, id: &Iri, recipient: &Iri, moment: Moment, act: &Kep
         && is_due_at(moment, progress_of(facts, id, recipient, act.moment()))
 }
 
-/// Whether the delivery of the activity of this id to this recipient is due at this moment: the
-/// activity goes to the recipient, who is of a peer, and by the attempts so far the next is due.
+/// Whether the delivery of the activity with this id to this recipient is due at this moment: the
+/// activity goes to the recipient, the recipient belongs to a peer, and the next attempt is due
+/// after the attempts so far.
 pub fn judge_tried(facts: &Facts, id: &Iri, recipient: &Iri, moment: Moment) -> bool
     ensures { result ≡ is_due facts.now.town id.now recipient.now moment }
 {

@@ -25,8 +25,8 @@ use fedi_text::Text;
 use fedi_town::{Acceptance, Act, Actor, Deed, Effect};
 use std::alloc::{AllocError, Global};
 
-// Whether the side effect happens: that of a Block where it stands, that of any other activity
-// where it is done.
+// Whether the side effect happens: that of a Block if the Block is in force, that of any other
+// activity if it is done.
 fn takes_effect(deed: Deed, state: State) -> bool
     ensures { result ≡ takes_effect deed state }
 {
@@ -45,7 +45,7 @@ fn takes_effect(deed: Deed, state: State) -> bool
     }
 }
 
-// Each Follow of the same pair as this Follow ends so.
+// Each Follow of the same pair as this Follow ends in this state.
 fn follow_ends(follow: &Kept, state: State) -> Result<Effect, AllocError>
     ensures { IfOk result (λ effect. effect ≡ follow_ends state (Some follow.now)) }
 {
@@ -71,7 +71,7 @@ fn reject_effect(follow: Option<&Kept>) -> Result<Effect, AllocError>
     }
 }
 
-// The Undo of this: each Follow of its pair ends, or the one activity is taken back (ActivityPub,
+// The Undo of this: each Follow of its pair ends, or the one activity is undone (ActivityPub,
 // sections 6.10 and 7.12).
 fn undo_effect(id: &Iri, undone: Option<&Kept>) -> Result<Effect, AllocError>
     ensures { IfOk result (λ effect. effect ≡ undo_effect id.now (option_copied undone.entry)) }
@@ -124,7 +124,7 @@ fn accept_effect(id: &Iri) -> Result<Effect, AllocError>
     Ok(Effect::Accept { follow })
 }
 
-// What an activity about this id does, where its side effect happens.
+// What an activity about this id does if its side effect happens.
 fn effect_about(
     alloc: Global,
     facts: &Facts,
@@ -197,7 +197,7 @@ fn ref_to(id: &Option<Iri>) -> Result<ObjectRef, AllocError>
     }
 }
 
-// The Accept with this head, of this, to these.
+// The Accept with this head, of this object, to these recipients.
 fn accept_from(head: Head, object: ObjectRef, recipients: Recipients, tags: Items<Tag>) -> Activity
     ensures { result ≡ record {
       id = Some head.id;
@@ -272,7 +272,7 @@ fn accept_by(
     })
 }
 
-// The member whom a Follow is of.
+// The member who is followed.
 fn followee<'a>(facts: &'a Facts, follow: &Act) -> Option<&'a Actor>
     ensures { option_copied result
         ≡ followee facts.now.town (ref_id follow.now.activity.object) }
@@ -304,7 +304,7 @@ fn answer_to(alloc: Global, facts: &Facts, act: &Act) -> Result<Option<Act>, All
     Ok(Some(accept))
 }
 
-// What the activity does to earlier ones, and its answer. To let go of an effect is dear to prove,
+// What the activity does to earlier ones, and its answer. Dropping an effect costs much to prove,
 // so it is done by a call.
 fn consequences(
     alloc: Global,

@@ -37,7 +37,7 @@ use std::marker::Model;
 use std::snapshot::Snapshot;
 use std::sync::ledger::Ledger;
 
-// What was made for the entry that comes next.
+// What was made for the next entry.
 #[derive(Drop)]
 struct Room {
     entry: Snapshot<Entry>,
@@ -86,7 +86,7 @@ fn add_author(register: &mut Register, ready: &Ready) -> Result<(), AllocError>
     add_authors(register, ready)
 }
 
-// Each list gets room for one entry more, which was made ready.
+// Each list gets room for one more entry, which was made ready.
 fn make_room(
     actors: &mut Members,
     peers: &mut Vec<Peer>,
@@ -111,8 +111,8 @@ fn make_room(
     add_author(register, ready)
 }
 
-// The room for an entry is kept, if each list gets its own. Dropping a room costs much to prove, so
-// it is done by calls.
+// Keeps the room for an entry if each list gets its own room. Dropping a room costs much to prove,
+// so it is done by calls.
 fn keep_room(
     kept: &mut Option<Room>,
     actors: &mut Members,
@@ -240,12 +240,12 @@ impl Facts {
         })
     }
 
-    /// For the proof: shows that the town is what the history has made. It does nothing when it
-    /// runs.
+    /// For the proof: shows that the town is what the history has made. It does nothing at run
+    /// time.
     pub fn show_town(&self)
         ensures { self.now.town ≡ town self.now.history }
     {
-        // Whoever looks at a field knows the invariant, which says so.
+        // Reading a field opens the invariant, which says so.
         let _ = &self.host;
     }
 
@@ -274,9 +274,9 @@ impl Facts {
         Ok(Room { entry, ready })
     }
 
-    /// Does for an entry all that takes memory, so that it can be added without. An earlier entry
-    /// for which this was done has room no longer. The error is out of memory, and then no entry
-    /// has room.
+    /// Does all the work for an entry that takes memory, so that the entry can be added without. An
+    /// earlier entry for which this was done loses its room. The error is out of memory, and then
+    /// no entry has room.
     pub fn reserve(&mut self, alloc: Global, entry: &Entry) -> Result<(), AllocError>
         requires { IsLegal self.old.history }
         ensures ok { OnOk result (self.new ≡ record self.old { room = Some entry.now }) }
@@ -295,7 +295,7 @@ impl Facts {
         )
     }
 
-    /// Gives up the room for an entry, so that none has room. All else stays as it is.
+    /// Gives up the room for an entry, so that no entry has room. Everything else stays as it is.
     pub fn release(&mut self)
         ensures { self.new ≡ record self.old { room = None } }
     {
@@ -368,8 +368,8 @@ impl Facts {
         self.peers.iter().find(|peer| has_host(peer, host))
     }
 
-    /// What has become of the delivery of the activity of this id, which was accepted at this
-    /// moment, to this recipient. However many attempts there were, it takes a look-up.
+    /// What has become of the delivery to this recipient of the activity with this id, which was
+    /// accepted at this moment. It takes one look-up, however many attempts there were.
     pub(crate) fn standing_of(&self, id: &Iri, recipient: &Iri, moment: Moment) -> Standing
         ensures value { progress_in result
             ≡ progress_of self.now.town id.now recipient.now moment }
@@ -378,7 +378,7 @@ impl Facts {
         self.tallies.standing_of(id, recipient, moment)
     }
 
-    /// How many activities there are.
+    /// The number of activities.
     pub fn activities(&self) -> usize
         ensures value { result ≡ length self.now.town.acts }
         ensures few { result < 2 ^ 63 }
@@ -386,7 +386,7 @@ impl Facts {
         self.register.acts().len()
     }
 
-    /// The activity at this position in the order of acceptance. It is read, which is one step.
+    /// The activity at this position in the order of acceptance. Reading it is one step.
     pub fn shown<L: Ledger>(&self, place: usize, steps: &mut Steps<L>) -> &Kept
         requires { place < length self.now.town.acts }
         ensures act { Some result.now ≡ slice_get self.now.town.acts place }
@@ -396,8 +396,8 @@ impl Facts {
         &self.register.acts()[place]
     }
 
-    /// The activities that the entry for which there is room will add: its own, and the answer to
-    /// it.
+    /// The activities that will be added by the entry for which there is room: its own activity and
+    /// the answer to it.
     pub fn coming(&self) -> (Option<&Kept>, Option<&Kept>)
         ensures { option_to_list (option_copied result.0) ++ option_to_list (option_copied result.1)
             ≡ coming_in self.now }
@@ -408,7 +408,7 @@ impl Facts {
         }
     }
 
-    /// The activity that the entry for which there is room will bring to one more inbox, by its id,
+    /// The id of the activity that the entry for which there is room will bring to one more inbox,
     /// and the inbox's owner.
     pub fn coming_inbox(&self) -> Option<(&Iri, &Iri)>
         ensures { option_map (λ pair. (pair.0.now, pair.1.now)) result ≡ coming_inbox_in self.now }
@@ -419,7 +419,7 @@ impl Facts {
         }
     }
 
-    /// The id of the member of this name, or none if there is no such member.
+    /// The id of the member with this name, or none if there is no such member.
     pub fn id_of(&self, name: &LocalName) -> Option<&Iri>
         ensures { option_copied result ≡ id_of self.now.town name.now }
     {
@@ -433,7 +433,7 @@ impl Facts {
         self.actors.with_digest(digest)
     }
 
-    /// The member of this id, or none if there is no such member.
+    /// The member with this id, or none if there is no such member.
     pub fn actor_of(&self, id: &Iri) -> Option<&Actor>
         ensures { option_copied result ≡ find (has_id id.now) self.now.town.actors }
     {
@@ -447,7 +447,7 @@ impl Facts {
         self.actors.of_id(iri).is_some()
     }
 
-    /// How many activities the author has.
+    /// The number of the author's activities.
     pub fn count_of(&self, author: &Iri) -> usize
         ensures value { result ≡ count_of self.now.town author.now }
         ensures few { result < 2 ^ 63 }
@@ -455,21 +455,22 @@ impl Facts {
         self.register.count_of(author)
     }
 
-    /// The activity of this id, or none if there is no such activity.
+    /// The activity with this id, or none if there is no such activity.
     pub fn activity_of(&self, id: &Iri) -> Option<&Kept>
         ensures { option_copied result ≡ find (has_activity_id id.now) self.now.town.acts }
     {
         self.register.activity(id)
     }
 
-    /// Where the activity of this id is among the activities, or none if there is no such activity.
+    /// The position of the activity with this id among the activities, or none if there is no such
+    /// activity.
     pub fn position_of(&self, id: &Iri) -> Option<usize>
         ensures { result ≡ place_where (has_activity_id id.now) self.now.town.acts }
     {
         self.register.position_of(id)
     }
 
-    /// The first activity of this id that passes the test, or none if there is no such activity.
+    /// The first activity with this id that passes the test, or none if there is no such activity.
     pub fn first_by_id<F: Fn(&Kept) -> bool>(&self, id: &Iri, passes: F) -> Option<&Kept>
         requires { F.IsAlwaysCallable passes }
         ensures { (p : Act → Bool) → Decides (FnReturnsAt F.Fn passes) p
@@ -479,15 +480,15 @@ impl Facts {
         self.register.first_by_id(id, passes)
     }
 
-    /// The activity that made the object of this id, or none if there is no such object.
+    /// The activity that made the object with this id, or none if there is no such object.
     pub fn maker(&self, id: &Iri) -> Option<&Kept>
         ensures { option_copied result ≡ maker self.now.town id.now }
     {
         self.register.maker(id)
     }
 
-    /// The first activity that made the object of this id and passes the test, or none if there is
-    /// no such activity.
+    /// The first activity that made the object with this id and passes the test, or none if there
+    /// is no such activity.
     pub fn first_maker<F: Fn(&Kept) -> bool>(&self, id: &Iri, passes: F) -> Option<&Kept>
         requires { F.IsAlwaysCallable passes }
         ensures { (p : Act → Bool) → Decides (FnReturnsAt F.Fn passes) p

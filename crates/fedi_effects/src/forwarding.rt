@@ -1,4 +1,4 @@
-//! To whom an activity of another server is forwarded (ActivityPub, section 7.1.2).
+//! Who an activity of another server is forwarded to (ActivityPub, section 7.1.2).
 
 ghost use Rattle.std.specs.Prelude.{◌≡◌, ◌++◌, IfOk, OnOk, filter, map, option_copied};
 ghost use Rattle.std.specs.Prelude.{option_to_list};
@@ -73,7 +73,7 @@ fn is_either_ours(facts: &Facts, in_reply_to: Option<&Iri>, tags: &[Tag]) -> boo
     is_one_ours(facts, in_reply_to) || are_tags_ours(facts, tags)
 }
 
-// Whether the object that is carried refers to what is of this server.
+// Whether the object that is carried refers to something of this server.
 fn is_carried_ours(facts: &Facts, object: &ObjectRef) -> bool
     ensures { result ≡ list_any (is_ours facts.now.town) (object_mentions (whole_of object.now)) }
 {
@@ -86,7 +86,7 @@ fn is_carried_ours(facts: &Facts, object: &ObjectRef) -> bool
     }
 }
 
-// Whether the object as it is kept refers to what is of this server.
+// Whether the object as it is kept refers to something of this server.
 #[tactic(auto, using(crate::proofs::Forwards::mentions_of))]
 fn is_made_ours(facts: &Facts, maker: Option<&Kept>) -> bool
     ensures { result ≡ list_any (is_ours facts.now.town)
@@ -107,7 +107,7 @@ fn maker_of<'a>(facts: &'a Facts, id: Option<&Iri>) -> Option<&'a Kept>
     }
 }
 
-// Whether an activity refers to what is of this server, by itself, by the object that it carries,
+// Whether an activity refers to something of this server: by itself, by the object that it carries,
 // or by the object as it is kept.
 #[tactic(auto, using(crate::proofs::Forwards::any_six))]
 fn refers_to_ours(facts: &Facts, activity: &Activity) -> bool
@@ -122,7 +122,7 @@ fn refers_to_ours(facts: &Facts, activity: &Activity) -> bool
         || is_made_ours(facts, maker_of(facts, about))
 }
 
-// ---- to whom it goes
+// ---- recipients
 
 #[tactic(auto, unfolding(fedi_town::specs::Forwarding::is_far))]
 fn is_far(facts: &Facts, author: &Iri, follower: &Iri) -> bool
@@ -137,7 +137,8 @@ fn keep_far(facts: &Facts, author: &Iri, iris: &mut Vec<Iri>)
     iris.retain(|iri| is_far(facts, author, iri));
 }
 
-// The member whose followers collection this is (ActivityPub, section 5.3), by the member's id.
+// The member whose followers collection this is (ActivityPub, section 5.3), found by the member's
+// id.
 fn member_at<'a>(facts: &'a Facts, iri: &Iri) -> Option<&'a Actor>
     ensures { option_copied result ≡ find (has_followers_at iri.now) facts.now.town.actors }
 {
@@ -154,7 +155,7 @@ fn is_unfound(found: &[Iri], iri: &Iri) -> bool
     !is_among(iri.text(), found)
 }
 
-// The far followers of the member, where the member does not block the author.
+// The far followers of the member, if the member does not block the author.
 fn far_followers(
     alloc: Global,
     facts: &Facts,
@@ -181,8 +182,8 @@ fn keep_unfound(found: &[Iri], iris: &mut Vec<Iri>)
     iris.retain(|iri| is_unfound(found, iri));
 }
 
-// Adds the far followers of the member whose followers collection this is. They may be many and are
-// there once each, so each of them is looked for only among those who were found before.
+// Adds the far followers of the member whose followers collection this is. There may be many and
+// each occurs once, so each is searched for only among those that were found before.
 #[tactic(auto, using(crate::proofs::Forwards::forwards_apart))]
 fn add_forwards_at(
     alloc: Global,
@@ -215,9 +216,9 @@ fn add_forwards(
     Ok(())
 }
 
-/// To whom the author's activity is forwarded when it comes for the first time: where it refers to
-/// what is of this server, to the far followers of each member whose followers it is addressed to,
-/// each once. The error is out of memory.
+/// Who the author's activity is forwarded to when it arrives for the first time: if it refers to
+/// something of this server, to the far followers of each member whose followers it is addressed
+/// to, each once. The error is out of memory.
 #[tactic(auto, using(crate::proofs::Forwards::gathered), unfolding(fedi_town::specs::Forwarding::forwards_of))]
 pub fn forwards_of(
     alloc: Global,

@@ -47,7 +47,7 @@ impl Head {
         })
     }
 
-    /// The activity gets this head.
+    /// Sets this head on the activity.
     pub(crate) fn set_on(self, activity: &mut Activity)
         ensures { activity.new ≡ record activity.old {
           id = Some self.id;

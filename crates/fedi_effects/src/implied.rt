@@ -1,4 +1,4 @@
-//! Whom an activity implies: who is told of it although it does not name them.
+//! Who an activity implies: who learns of it although it does not name them.
 
 ghost use Rattle.std.specs.Prelude.{◌≡◌, OnOk, Some, option_copied};
 ghost use Rattle.fedi_town.specs.Addressing.{author_of, complete_recipients, implied_recipient};
@@ -23,8 +23,7 @@ fn author_of(found: Option<&Kept>) -> Option<&Iri>
     }
 }
 
-// Whom the activity that is taken back implied: whom it follows, or the author of what it likes or
-// shares.
+// Who the undone activity implied: the actor it follows, or the author of what it likes or shares.
 fn undo_recipient<'a>(facts: &'a Facts, undone: &'a Kept) -> Option<&'a Iri>
     ensures { option_copied result ≡ undo_recipient facts.now.town (Some undone.now) }
 {
@@ -42,7 +41,7 @@ fn undo_recipient<'a>(facts: &'a Facts, undone: &'a Kept) -> Option<&'a Iri>
     }
 }
 
-// Whom an activity goes to although it may not name them: those whom its side effect concerns
+// Who an activity goes to although it may not name them: those concerned by its side effect
 // (ActivityPub, sections 6.5, 6.8, 6.10, 7.6, 7.7 and 7.11).
 #[tactic(auto, unfolding(fedi_town::specs::Addressing::implied_recipient))]
 fn implied_recipient<'a>(
@@ -64,7 +63,7 @@ fn implied_recipient<'a>(
     }
 }
 
-// Whether an activity goes to nobody: a Block (ActivityPub, section 6.9), and its Undo.
+// Whether an activity goes to nobody: a Block (ActivityPub, section 6.9), and the Undo of one.
 fn is_silent(facts: &Facts, deed: Deed, object: &ObjectRef, subject: Option<&Kept>) -> bool
     requires { option_copied subject
         ≡ subject_of facts.now.town deed (ref_id object.now) }
@@ -88,7 +87,7 @@ fn is_silent(facts: &Facts, deed: Deed, object: &ObjectRef, subject: Option<&Kep
     }
 }
 
-// One more in `to`, unless it is named already or is the author.
+// Adds one more to `to`, unless it is named already or is the author.
 fn add_implied(
     author: &Iri,
     implied: Option<&Iri>,
@@ -103,8 +102,8 @@ fn add_implied(
     }
 }
 
-/// Whom a member's activity names once it is completed: nobody if it is to stay hidden, and else
-/// also whom it implies. The error is out of memory.
+/// Completes the recipients of a member's activity: nobody if it is to stay hidden, and otherwise
+/// those it implies are named too. The error is out of memory.
 #[tactic(auto, unfolding(fedi_town::specs::Addressing::complete_recipients))]
 pub fn complete_recipients(
     alloc: Global,

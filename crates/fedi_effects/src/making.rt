@@ -29,7 +29,7 @@ use fedi_text::{Moment, Text};
 use fedi_town::{Acceptance, Act, Actor, Addition, Attempt, Deed, Peer, actor_iri, object_iri};
 use std::alloc::{AllocError, Global};
 
-// The member that an entry makes, once the server was set up.
+// The member that an entry makes once the server is set up.
 fn member_addition(
     alloc: Global,
     facts: &Facts,
@@ -53,7 +53,7 @@ fn member_addition(
 
 // ---- what the server sets
 
-// To own an object or an activity over many exits is dear to prove, so they are lent.
+// Owning an object or an activity across many exits costs much to prove, so they are lent.
 fn complete_object(object: &mut Object, id: Iri, author: Iri, published: Text)
     ensures { object.new ≡ record object.old {
       id = Some id;
@@ -66,7 +66,7 @@ fn complete_object(object: &mut Object, id: Iri, author: Iri, published: Text)
     set(&mut object.published, Some(published));
 }
 
-// Whom the activity implies is named too.
+// Names also those that the activity implies.
 fn complete_addressing(
     alloc: Global,
     facts: &Facts,
@@ -87,8 +87,8 @@ fn complete_addressing(
     complete_recipients(alloc, facts, author, deed, object, subject, named)
 }
 
-// From what follows all that the server sets in a new activity: its author, its number among the
-// author's, and when it was accepted.
+// What determines all that the server sets in a new activity: its author, its number among the
+// author's activities, and when it was accepted.
 #[derive(Clone, Copy)]
 struct Stamp<'a> {
     host: &'a Host,
@@ -123,7 +123,7 @@ impl<'a> Stamp<'a> {
         }
     }
 
-    // The activity gets its id, its actor and its moment, and its object likewise.
+    // The activity gets its id, its actor and its moment, and its object gets them too.
     fn set_on(&self, alloc: Global, activity: &mut Activity, author: &Iri) -> Result<(), AllocError>
         requires { author.now ≡ actor_id self.now.host.now self.now.name.now }
         ensures { OnOk result (activity.new ≡ stamped self.now.host.now self.now.name.now
@@ -142,7 +142,8 @@ impl<'a> Stamp<'a> {
         Ok(())
     }
 
-    // The activity gets all that the server sets, whom it implies too. What it acts on is returned.
+    // Sets in the activity all that the server sets, including those it implies. Returns what it
+    // acts on.
     fn complete<'f>(
         &self,
         alloc: Global,
@@ -224,8 +225,8 @@ fn copy_repeat(repeat: &Option<(RepeatKey, [u8; 32])>) -> Option<(RepeatKey, [u8
     }
 }
 
-// The author's activity, which was completed, as it is accepted; an Update and a Delete go also to
-// whom the Create of their object went.
+// The author's completed activity as it is accepted. An Update or a Delete goes also to those who
+// got the Create of its object.
 #[tactic(auto, using(crate::proofs::Originals::original_is))]
 fn act_by(
     alloc: Global,
@@ -291,7 +292,7 @@ fn accept_post(
     acceptance(alloc, facts, act, subject)
 }
 
-// The activity that a member's post makes, once the server was set up.
+// The activity that a member's post makes once the server is set up.
 fn post_addition(
     alloc: Global,
     facts: &Facts,
@@ -354,9 +355,9 @@ fn attempt_addition(
     }))
 }
 
-/// What the entry adds to the town: a host, a member, a peer, a member's activity or a delivered
-/// one with all that follows from it, one more inbox of an activity that is known, or an attempt.
-/// Nothing changes. The error is out of memory.
+/// What the entry adds to the town: a host, a member, a peer, a member's or a delivered activity
+/// with all that follows from it, one more inbox of a known activity, or an attempt. Nothing
+/// changes. The error is out of memory.
 pub fn prepare(alloc: Global, facts: &Facts, entry: &Entry) -> Result<Addition, AllocError>
     ensures { IfOk result (λ a. a ≡ addition_of facts.now.town entry.now) }
 {

@@ -95,7 +95,7 @@ impl Members {
         self.list.as_slice()
     }
 
-    /// The member of this name.
+    /// The member with this name.
     pub(crate) fn named(&self, name: &LocalName) -> Option<&Actor>
         ensures { option_copied result ≡ find (has_name name.now) self.now.actors }
     {
@@ -106,14 +106,14 @@ impl Members {
         )
     }
 
-    /// The member of this id.
+    /// The member with this id.
     pub(crate) fn of_id(&self, id: &Iri) -> Option<&Actor>
         ensures { option_copied result ≡ find (has_id id.now) self.now.actors }
     {
         self.of_text(id.text().as_bytes())
     }
 
-    /// The member whose id is this text.
+    /// The member whose id is these bytes.
     pub(crate) fn of_text(&self, id: &[u8]) -> Option<&Actor>
         ensures { option_copied result ≡ find (has_id id.now) self.now.actors }
     {
@@ -131,7 +131,7 @@ impl Members {
         )
     }
 
-    /// Whether a member of this id is locked.
+    /// Whether a member with this id is locked.
     pub(crate) fn has_locked(&self, id: &Iri) -> bool
         ensures { result ≡ list_any (λ a. has_id id.now a && a.locked) self.now.actors }
     {
@@ -162,7 +162,7 @@ impl Members {
         Ok(())
     }
 
-    /// Adds a member, where there is room. It takes no memory.
+    /// Adds a member, for which there has to be room. It takes no memory.
     pub(crate) fn push(&mut self, member: Actor)
         requires { 1 ≤ self.old.room }
         ensures { self.new ≡ record {

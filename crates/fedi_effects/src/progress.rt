@@ -1,4 +1,4 @@
-//! What comes of attempts to deliver, and when the next one is due.
+//! What results from attempts to deliver, and when the next one is due.
 
 ghost use Rattle.std.specs.Prelude.{◌≡◌, ◌<◌, ◌*◌, ◌^◌};
 ghost use Rattle.fedi_town.specs.Queues.{after_attempt, after_outcome, next_attempt, outcome};
@@ -9,7 +9,7 @@ use fedi_objects::{Came, Sent, What};
 use fedi_text::Moment;
 use fedi_town::{Attempt, Outcome};
 
-// ---- what came of an attempt
+// ---- the result of an attempt
 
 fn step_outcome(step: Sent, status: u16) -> Outcome
     ensures { result ≡ step_outcome step status }
@@ -30,8 +30,9 @@ fn status_outcome(step: Sent, status: u16) -> Outcome
     }
 }
 
-/// What an attempt means of which this came (RFC 9110, section 15): whoever is not found or gone
-/// gets no further attempt, and a successful status of the post means that the activity arrived.
+/// What the result of an attempt means (RFC 9110, section 15): a recipient that is not found or
+/// gone gets no further attempt, and a successful status of the post means that the activity
+/// arrived.
 pub fn outcome_of(came: Came) -> Outcome
     ensures { result ≡ outcome came }
 {
@@ -43,7 +44,8 @@ pub fn outcome_of(came: Came) -> Outcome
 
 // ---- what has become of a delivery
 
-/// What has become of a delivery: after so many attempts the next is due, or there is none.
+/// What has become of a delivery: the next attempt is due after so many, or there is no further
+/// attempt.
 #[derive(Clone, Copy)]
 pub enum Standing {
     /// The next attempt is due.
@@ -60,7 +62,7 @@ pub enum Standing {
     },
 }
 
-// How many seconds lie between an attempt, which so many came before, and the next one.
+// The number of seconds between an attempt, after this many earlier ones, and the next.
 fn pause(before: u8) -> u64
     requires { before < 7 }
     ensures value { result ≡ 60 * 2 ^ before }
@@ -93,9 +95,9 @@ fn next_attempt(before: u8, moment: Moment) -> Standing
     }
 }
 
-/// What has become of a delivery after one more attempt at this moment, which so many came before:
-/// after a failure the next is due 60, 120, 240, 480, 960, 1920 or 3840 seconds later, and the
-/// eighth is the last.
+/// What has become of a delivery after one more attempt at this moment, which this many came
+/// before: after a failure the next is due 60, 120, 240, 480, 960, 1920 or 3840 seconds later, and
+/// the eighth is the last.
 pub fn after_outcome(before: u8, moment: Moment, outcome: Outcome) -> Standing
     requires { before < 8 }
     ensures value { progress_in result ≡ after_outcome before moment outcome }

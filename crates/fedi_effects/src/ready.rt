@@ -18,7 +18,7 @@ use fedi_register::{Iris, Kept, Pool, Register, Spare};
 use fedi_town::{Acceptance, Act, Actor, Addition, Attempt, Effect, Peer};
 use std::alloc::{AllocError, Global};
 
-/// What an entry adds: each activity is in the form in which it is kept.
+/// What an entry adds. Each activity is in the form in which it is kept.
 #[derive(Drop)]
 pub(crate) enum Ready {
     /// Nothing.
@@ -40,13 +40,13 @@ pub(crate) enum Ready {
         /// The Accept that follows it.
         answer: Option<Kept>,
     },
-    /// One more inbox of an activity that is known.
+    /// One more inbox of a known activity.
     Inbox {
         /// The id of the activity.
         activity: Iri,
         /// The inbox's owner.
         owner: Iri,
-        /// Those to whom the activity goes then.
+        /// The recipients of the activity with this inbox.
         recipients: Iris,
     },
     /// An attempt to deliver.
@@ -62,7 +62,7 @@ fn keep_answer(alloc: Global, answer: Option<Act>) -> Result<Option<Kept>, Alloc
     }
 }
 
-// To let go of an activity or of an effect is dear to prove, so here and below it is done by calls.
+// Dropping an activity or an effect costs much to prove, so here and below it is done by calls.
 fn keep_both(
     alloc: Global,
     act: Act,
@@ -153,7 +153,7 @@ impl Ready {
         }
     }
 
-    /// The activity that goes to one more inbox, by its id, and the inbox's owner.
+    /// The id of the activity that goes to one more inbox, and the inbox's owner.
     pub(crate) fn inbox(&self) -> Option<(&Iri, &Iri)>
         ensures { option_map (λ pair. (pair.0.now, pair.1.now)) result
             ≡ inbox_in (addition_in self.now) }
@@ -173,7 +173,7 @@ impl Ready {
         }
     }
 
-    /// Lets what comes again and again share the texts of equal ones. It takes no memory.
+    /// Makes equal values that are often repeated share their bytes. It takes no memory.
     pub(crate) fn share(&mut self, pool: &mut Pool)
         ensures { self.new ≡ self.old }
     {
@@ -201,7 +201,7 @@ impl Ready {
     }
 }
 
-// Those to whom the activity of this id goes, where it goes to one more owner of an inbox.
+// The recipients of the activity with this id once it goes to one more owner of an inbox.
 #[tactic(auto, using(crate::proofs::Longer::longer_found, crate::proofs::Longer::not_missing))]
 fn longer(alloc: Global, facts: &Facts, id: &Iri, owner: &Iri) -> Result<Iris, AllocError>
     requires { IsTrue (list_any (has_activity_id id.now) facts.now.town.acts) }

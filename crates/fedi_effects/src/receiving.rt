@@ -27,7 +27,7 @@ use std::alloc::{AllocError, Global};
 
 // ---- the object
 
-// Gives a property that is absent a value.
+// Gives an absent property a value.
 fn set_former_kind(alloc: Global, field: &mut Option<Text>) -> Result<(), AllocError>
     ensures { OnOk result (field.new ≡ Some (unwrap_or field.old (codes "Object"))) }
 {
@@ -46,7 +46,7 @@ fn set_deleted(alloc: Global, field: &mut Option<Text>, moment: Moment) -> Resul
     Ok(())
 }
 
-// A Tombstone tells its former type and when it was deleted (ActivityStreams 2.0 Vocabulary,
+// A Tombstone states its former type and when it was deleted (ActivityStreams 2.0 Vocabulary,
 // section 3.3).
 fn complete_tombstone(alloc: Global, object: &mut Object, moment: Moment) -> Result<(), AllocError>
     ensures { OnOk result (object.new ≡ complete_tombstone moment object.old) }
@@ -123,7 +123,7 @@ fn one(alloc: Global, iri: &Iri) -> Result<Items<Iri>, AllocError>
     Ok(items)
 }
 
-// An activity of somebody elsewhere that was delivered to this owner's inbox, and is new.
+// An activity of a remote author that was delivered to this owner's inbox and is new.
 fn remote_act(
     alloc: Global,
     facts: &Facts,
@@ -158,7 +158,7 @@ fn remote_act(
     })
 }
 
-// A delivery that is new, accepted with all that follows from it.
+// A new delivery, accepted with all that follows from it.
 #[tactic(auto, using(crate::proofs::Forwards::ref_received))]
 fn accept_delivery(
     alloc: Global,
@@ -177,14 +177,14 @@ fn accept_delivery(
     acceptance(alloc, facts, act, subject)
 }
 
-// Whether an activity of this id was accepted.
+// Whether an activity with this id was accepted.
 fn is_known(facts: &Facts, id: &Iri) -> bool
     ensures { result ≡ is_known facts.now.town id.now }
 {
     facts.activity_of(id).is_some()
 }
 
-// What a delivery to this owner's inbox makes: one more inbox if the id is known, and else the
+// What a delivery to this owner's inbox makes: one more inbox if the id is known, otherwise the
 // activity (ActivityPub, section 7.1).
 fn inbox_addition(
     alloc: Global,
@@ -207,7 +207,7 @@ fn inbox_addition(
     Ok(Addition::Activity(accepted))
 }
 
-/// What a delivery makes that has an id and an actor, and goes to a member's inbox. The error is
+/// What a delivery makes if it has an id and an actor and goes to a member's inbox. The error is
 /// out of memory.
 pub(crate) fn delivery_addition(
     alloc: Global,

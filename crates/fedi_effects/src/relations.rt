@@ -39,8 +39,8 @@ impl Facts {
         self.register().follows(a, b)
     }
 
-    /// Whether a Follow of b that was accepted passes the test (ActivityPub, section 5.3), which
-    /// nothing else may pass.
+    /// Whether an accepted Follow of b passes the test (ActivityPub, section 5.3), which nothing
+    /// else may pass.
     pub fn is_followed_by<F: Fn(&Kept) -> bool>(&self, b: &Iri, passes: F) -> bool
         requires { F.IsAlwaysCallable passes }
         ensures { (p : Act → Bool) → Decides (FnReturnsAt F.Fn passes) p
@@ -49,9 +49,9 @@ impl Facts {
         self.register().is_followed_by(b, passes)
     }
 
-    /// Whether an activity before this place, a Follow, a Like, an Announce or a Block by the
-    /// author about this, passes the test, which nothing else may pass. What has no object counts
-    /// as about the empty text.
+    /// Whether an activity before this position passes the test: a Follow, a Like, an Announce or a
+    /// Block by the author about this. Nothing else may pass the test. An activity without an
+    /// object counts as about the empty string.
     pub fn is_related_before<F: Fn(&Kept) -> bool>(
         &self,
         place: usize,
@@ -68,14 +68,14 @@ impl Facts {
             .is_related_before(place, author, about, passes)
     }
 
-    /// Whether a likes this: a Like of it by a stands (ActivityPub, section 6.8).
+    /// Whether a likes this: a Like of it by a is in force (ActivityPub, section 6.8).
     pub fn likes(&self, a: &Iri, id: &Iri) -> bool
         ensures { result ≡ list_any (is_like_of a.now id.now) self.now.town.acts }
     {
         self.register().likes(a, id)
     }
 
-    /// Whether a shares this: an Announce of it by a stands (ActivityPub, section 7.11).
+    /// Whether a shares this: an Announce of it by a is in force (ActivityPub, section 7.11).
     pub fn shares(&self, a: &Iri, id: &Iri) -> bool
         ensures { result ≡ list_any (is_announce_of a.now id.now) self.now.town.acts }
     {

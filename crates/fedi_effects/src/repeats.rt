@@ -1,4 +1,4 @@
-//! Posts that may come again.
+//! Posts that may be repeated.
 
 ghost use Rattle.std.specs.Prelude.{◌≡◌, option_copied};
 ghost use Rattle.std.specs.List.{find};

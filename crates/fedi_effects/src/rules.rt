@@ -24,7 +24,7 @@ use fedi_town::{Deed, Refusal};
 
 // ---- what the author sees
 
-// The activity that made the object of this id, where the author sees it.
+// The activity that made the object with this id, if the author sees it.
 fn seen_maker<'a>(facts: &'a Facts, author: &Iri, id: &Iri) -> Option<&'a Kept>
     ensures { (name : List ℕ) → id_of facts.now.town name ≡ Some author.now
         → option_copied result ≡ seen_maker facts.now.town (Actor name) id.now }
@@ -32,7 +32,7 @@ fn seen_maker<'a>(facts: &'a Facts, author: &Iri, id: &Iri) -> Option<&'a Kept>
     facts.first_maker(id, |act| sees_as(facts, author, act))
 }
 
-// The activity of this id, where the author sees it.
+// The activity with this id, if the author sees it.
 fn seen_act<'a>(facts: &'a Facts, author: &Iri, id: &Iri) -> Option<&'a Kept>
     ensures { (name : List ℕ) → id_of facts.now.town name ≡ Some author.now
         → option_copied result ≡ seen_act facts.now.town (Actor name) id.now }
@@ -77,7 +77,7 @@ fn judge_announce(shared: Option<&Kept>) -> Result<(), Refusal>
     }
 }
 
-// An Accept: of a Follow of the author that waits.
+// An Accept: of a pending Follow of the author.
 fn judge_accept(author: &Iri, follow: Option<&Kept>) -> Result<(), Refusal>
     ensures { result_err result ≡ answer_rule is_pending author.now (option_copied follow.entry) }
 {
@@ -89,7 +89,7 @@ fn judge_accept(author: &Iri, follow: Option<&Kept>) -> Result<(), Refusal>
     }
 }
 
-// A Reject: of a Follow of the author that waits or was accepted.
+// A Reject: of a pending or accepted Follow of the author.
 fn judge_reject(author: &Iri, follow: Option<&Kept>) -> Result<(), Refusal>
     ensures { result_err result ≡ answer_rule is_open author.now (option_copied follow.entry) }
 {
@@ -113,7 +113,7 @@ fn judge_undo(author: &Iri, undone: Option<&Kept>) -> Result<(), Refusal>
     }
 }
 
-// A Follow: of somebody who is there, where no Block stands between the two.
+// A Follow: of an existing actor, with no Block between the two.
 fn judge_follow(facts: &Facts, author: &Iri, id: &Iri) -> Result<(), Refusal>
     ensures { result_err result
         ≡ refuse_if (is_nobody_here facts.now.town id.now) NotFound
@@ -128,7 +128,7 @@ fn judge_follow(facts: &Facts, author: &Iri, id: &Iri) -> Result<(), Refusal>
     }
 }
 
-// A Block: of somebody who is there.
+// A Block: of an existing actor.
 fn judge_block(facts: &Facts, id: &Iri) -> Result<(), Refusal>
     ensures { result_err result
         ≡ refuse_if (is_nobody_here facts.now.town id.now) NotFound None }
@@ -160,7 +160,7 @@ fn judge_about(facts: &Facts, author: &Iri, deed: Deed, id: &Iri) -> Result<(), 
     }
 }
 
-// What the author does: an activity that is about nothing breaks no rule.
+// What the author does. An activity about nothing breaks no rule.
 fn judge_deed(facts: &Facts, author: &Iri, activity: &Activity) -> Result<(), Refusal>
     ensures { (name : List ℕ) → id_of facts.now.town name ≡ Some author.now
         → result_err result
@@ -186,10 +186,10 @@ fn judge_number(facts: &Facts, author: &Iri) -> Result<(), Refusal>
 
 /// Whether a member, who is the author with this id, may post the activity (ActivityPub, section
 /// 6). What the author does not see is missing to the author. The error is the first rule that the
-/// activity breaks: it is about nothing that is there, about what somebody else made or did, about
-/// an object that was deleted or that may not be shared, about an actor behind a Block, it answers
-/// or undoes what is in another state, or the author has 4,294,967,295 activities. It takes no
-/// memory.
+/// activity breaks: it is about nothing that exists, about what somebody else made or did, about an
+/// object that was deleted or that may not be shared, or about an actor with a Block between the
+/// two, it answers or undoes something in another state, or the author has 4,294,967,295
+/// activities. It takes no memory.
 pub fn judge_local(facts: &Facts, author: &Iri, activity: &Activity) -> Result<(), Refusal>
     ensures { (name : List ℕ) → id_of facts.now.town name ≡ Some author.now
         → result_err result

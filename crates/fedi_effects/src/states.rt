@@ -19,7 +19,7 @@ use fedi_objects::{ObjectRef, State};
 use fedi_register::{Kept, can_be_undone, is_about, is_by, is_follow, is_open, is_pending};
 use fedi_town::{Deed, MOST_ACTIVITIES};
 
-// The state where the condition holds, and else Plain.
+// The state if the condition holds, otherwise Plain.
 fn only_where(holds: bool, state: State) -> State
     ensures { result ≡ only_where holds state }
 {
@@ -28,14 +28,14 @@ fn only_where(holds: bool, state: State) -> State
 
 // ---- objects
 
-// Whether an activity made an object of this id.
+// Whether an activity made an object with this id.
 fn is_made(facts: &Facts, id: &Iri) -> bool
     ensures { result ≡ list_any (makes id.now) facts.now.town.acts }
 {
     facts.maker(id).is_some()
 }
 
-// Whether the object was made by this author, and was not deleted.
+// Whether the object was made by this author and was not deleted.
 fn is_own_live(author: &Iri, maker: Option<&Kept>) -> bool
     ensures { result ≡ is_own_live author.now (option_copied maker.entry) }
 {
@@ -45,7 +45,7 @@ fn is_own_live(author: &Iri, maker: Option<&Kept>) -> bool
     }
 }
 
-// Whether the object was not deleted, and its Create is seen by the author.
+// Whether the object was not deleted and the author sees its Create.
 fn is_live_to(facts: &Facts, author: &Iri, maker: Option<&Kept>) -> bool
     ensures { result ≡ is_live_to facts.now.town author.now (option_copied maker.entry) }
 {
@@ -76,7 +76,7 @@ pub fn count_after(facts: &Facts, author: &Iri, id: &Iri) -> u64
     if author == id { count + 1 } else { count }
 }
 
-// Whether there is a number for one more activity after so many.
+// Whether there is a number for one more activity after this many.
 pub(crate) fn has_next(count: u64) -> bool
     ensures { result ≡ has_next count }
 {
@@ -99,8 +99,8 @@ fn is_locked(facts: &Facts, id: &Iri) -> bool
     facts.members().has_locked(id)
 }
 
-// What becomes of a Follow of this member: a Block refuses it, and else it is accepted at once,
-// where the member is not locked and has room for the Accept (ActivityPub, section 7.5).
+// What becomes of a Follow of this member: a Block refuses it. Otherwise it is accepted at once if
+// the member is not locked and has room for the Accept (ActivityPub, section 7.5).
 #[tactic(auto, unfolding(fedi_town::specs::States::follow_state))]
 fn follow_state(facts: &Facts, author: &Iri, id: &Iri) -> State
     ensures { result ≡ follow_state facts.now.town author.now id.now }
@@ -132,7 +132,7 @@ fn is_open_follow_for(author: &Iri, follow: Option<&Kept>) -> bool
     }
 }
 
-// Whether the activity is the author's, and can be undone.
+// Whether the activity is the author's and can be undone.
 fn is_own_undoable(author: &Iri, act: Option<&Kept>) -> bool
     ensures { result ≡ is_own_undoable author.now (option_copied act.entry) }
 {
@@ -183,8 +183,8 @@ fn state_about(
     }
 }
 
-/// The state of an activity that does this and is about this: whether its side effect happens
-/// (ActivityPub, sections 6 and 7). It is a member's, or comes from elsewhere.
+/// The state of an activity with this deed about this: whether its side effect happens
+/// (ActivityPub, sections 6 and 7). The activity is a member's or comes from elsewhere.
 #[tactic(auto, unfolding(fedi_town::specs::States::state_of))]
 pub fn state_of(
     facts: &Facts,

@@ -5,8 +5,8 @@ ghost use Rattle.std.specs.Prelude.{◌≡◌, ◌+◌, ◌<◌};
 use std::marker::Model;
 use std::sync::ledger::{Blank, Book, Ledger, Share};
 
-/// A count of how often an activity was read by its position, which bounds in contracts speak of.
-/// It takes no bytes and no time, and only `tick` changes it.
+/// A count of how often an activity was read by its position. Bounds in contracts speak of it. It
+/// takes no bytes and no time, and only `tick` changes it.
 #[derive(Drop)]
 pub struct Steps<L: Ledger> {
     book: Book<L>,

@@ -15,7 +15,7 @@ use fedi_town::Attempt;
 use std::alloc::{AllocError, Global};
 use std::marker::Model;
 
-/// What has become of a delivery that was tried: of the activity of this id to this recipient.
+/// What has become of a delivery that was tried: of the activity with this id to this recipient.
 #[derive(Drop)]
 pub(crate) struct Tally {
     activity: Iri,
@@ -23,8 +23,8 @@ pub(crate) struct Tally {
     standing: Standing,
 }
 
-/// The attempts to deliver, in order. None of them is held, but for each delivery that was tried
-/// what has become of it, so that a delivery is looked up among those of its mark, however many
+/// The attempts to deliver, in order. The attempts themselves are not held, but what has become of
+/// each delivery that was tried. So a delivery is looked up among those with its mark, however many
 /// attempts there were.
 #[derive(Drop)]
 pub(crate) struct Tallies {
@@ -53,7 +53,7 @@ fn is_tally_of(tally: &Tally, id: &Iri, recipient: &Iri) -> bool
     tally.activity == *id && tally.recipient == *recipient
 }
 
-// Where the tally is of the delivery of the activity of this id to this recipient.
+// The index of the tally for the delivery of the activity with this id to this recipient.
 fn position_of(
     list: &[Tally],
     seed: &Seed,
@@ -119,8 +119,8 @@ impl Tallies {
         }
     }
 
-    /// What has become of the delivery of the activity of this id, which was accepted at this
-    /// moment, to this recipient.
+    /// What has become of the delivery to this recipient of the activity with this id, which was
+    /// accepted at this moment.
     pub(crate) fn standing_of(&self, id: &Iri, recipient: &Iri, moment: Moment) -> Standing
         ensures value { progress_in result
             ≡ progress_at self.now.attempts id.now recipient.now moment }
@@ -151,7 +151,7 @@ impl Tallies {
         Ok(())
     }
 
-    /// Adds an attempt, where there is room. It takes no memory.
+    /// Adds an attempt, for which there has to be room. It takes no memory.
     pub(crate) fn push(&mut self, attempt: Attempt)
         requires { 1 ≤ self.old.room }
         ensures { self.new ≡ record {

@@ -1,4 +1,4 @@
--- No two entries have the same code: a code tells the value, whatever follows it.
+-- No two entries have the same code: a code determines the value, whatever follows it.
 use Rattle.std.proofs.Common.{◌≡◌, ℕ, ◌<◌, ◌≤◌, ◌^◌, Bool, true, false, List, [], ◌∷◌, ◌++◌, length, take, drop, refl, sym, ◌∙◌, ap, subst, append_assoc, arith, length-append}
 use Rattle.std.specs.Prelude.{Option, Some, None}
 use Rattle.std.specs.List.{flat_map}
@@ -10,12 +10,12 @@ use Rattle.fedi_objects.specs.declared.object.Edit.{Edit}
 use Rattle.fedi_objects.specs.declared.object.Edit.TheVariants.{Keep, Remove, Give}
 use Rattle.fedi_entry.specs.Codes.{u16_code, u32_code, u64_code, bool_code, text_code, option_code, list_code, edit_code}
 
--- few enough bytes that each length in them fits its four
+-- few enough bytes that each length in them fits in four bytes
 abbrev pub IsShort : List ℕ → Type 0
 IsShort xs = length xs < 2 ^ 32
 
--- the code tells the value, whatever follows: two codes with what follows them are alike only where
--- the values are
+-- the code determines the value, whatever follows: two codes, each with what follows it, are equal
+-- only if the values are
 pub record Tells {X : Type 0} (code : X → List ℕ) : Type 0 where
   pub back : (a b : X) (s t : List ℕ) → IsShort (code a ++ s) → code a ++ s ≡ code b ++ t → (a ≡ b) × (s ≡ t)
 
@@ -34,13 +34,13 @@ u32_back m n s t fits_m fits_n e =
     let front : to_be_bytes w32 m ≡ to_be_bytes w32 n = ap (take 4) e in
     (sym (from_be_bytes-to_be_bytes_4 m fits_m) ∙ (ap (from_be_bytes w32) front ∙ from_be_bytes-to_be_bytes_4 n fits_n), ap (drop 4) e)
 
--- a moment stands last
+-- a moment comes last
 pub u64_code_injective : (m n : ℕ) → m < 2 ^ 64 → n < 2 ^ 64 → u64_code m ≡ u64_code n → m ≡ n
 unfolding u64_code
 u64_code_injective m n fits_m fits_n e =
     sym (from_be_bytes-to_be_bytes_8 m fits_m) ∙ (ap (from_be_bytes w64) e ∙ from_be_bytes-to_be_bytes_8 n fits_n)
 
--- bytes of a known number
+-- parts of the same length
 pub same_length : (a b s t : List ℕ) → length a ≡ length b → a ++ s ≡ b ++ t → (a ≡ b) × (s ≡ t)
 same_length a b s t same e =
     let front : a ≡ b =
@@ -133,7 +133,7 @@ edit_back code tells (Give a) Remove s t short e = absurd (omega (arith, (byte_s
 pub edit_tells : {X : Type 0} {code : X → List ℕ} → Tells code → Tells (edit_code code)
 edit_tells {X} {code} tells = record { back = edit_back code tells }
 
--- as many items, one after the other
+-- the same number of items, one after the other
 each_back : {X : Type 0} (code : X → List ℕ) → Tells code → (xs ys : List X) (s t : List ℕ) → length xs ≡ length ys
     → IsShort (flat_map code xs ++ s) → flat_map code xs ++ s ≡ flat_map code ys ++ t → (xs ≡ ys) × (s ≡ t)
 each_back code tells [] [] s t same short e = (refl, e)
@@ -146,7 +146,7 @@ each_back {X} code tells (x ∷ xs) (y ∷ ys) s t same short e =
 each_back code tells [] (y ∷ ys) s t same short e = absurd (omega arith)
 each_back code tells (x ∷ xs) [] s t same short e = absurd (omega arith)
 
--- an item has a byte at least
+-- an item has at least one byte
 abbrev pub IsFilled : {X : Type 0} → (X → List ℕ) → Type 0
 IsFilled {X} code = (x : X) → 0 < length (code x)
 

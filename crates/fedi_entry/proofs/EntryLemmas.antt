@@ -80,7 +80,7 @@ object_ref_back a b s t short e = absurd (omega (arith, (byte_same _ _ _ _ e).0)
 pub object_ref_tells : Tells object_ref_code
 object_ref_tells = record { back = object_ref_back }
 
--- the kind of a number
+-- the type of an activity, by its number
 numbered : (kind : Kind) → get_or (Accept ∷ kinds) (kind_number kind) Accept ≡ kind
 numbered Accept = refl
 numbered Add = refl

@@ -1,5 +1,5 @@
--- Where each field has its form, digests and keys have 32 bytes, numbers the bits that they are
--- written in, and it keeps its limit.
+-- If each field is well formed, digests and keys have 32 bytes, numbers fit in the bits that they
+-- are written in, and each field keeps its limit.
 use Rattle.std.proofs.Common.{ℕ, ◌<◌, ◌^◌, Bool, List, [], ◌∷◌, Option, Some, None, arith}
 use Rattle.std.specs.List.{AllByRecursion}
 use Rattle.std.specs.Prelude.{IfSome}

@@ -5,7 +5,7 @@ use Rattle.fedi_entry.specs.declared.fault.ReadFault.{ReadFault}
 use Rattle.fedi_entry.specs.declared.fault.ReadFault.TheVariants as faults
 use Rattle.fedi_entry.specs.Reading.{◌>>=◌, Fails, Read, Reader, items_at}
 
--- what was read before, and what is still read
+-- what was read before, and what is still to be read
 abbrev pub with_front : {X : Type 0} → List X → Read (List X) → Read (List X)
 with_front front read = read >>= λ x. Ok (front ++ x.0, x.1)
 

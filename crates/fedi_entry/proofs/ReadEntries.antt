@@ -1,4 +1,4 @@
--- What is read of an entry is its code, and its code is read again.
+-- An entry that is read is encoded by the bytes that were read, and its code is read again.
 use Rattle.std.proofs.Common.{◌≡◌, ℕ, ◌+◌, ◌^◌, ◌<◌, ◌≤◌, Bool, true, false, cond, List, [], ◌∷◌, ◌++◌, length, get_or, Option, Result, Ok, Err, refl, sym, ap, subst, ◌∙◌, arith, inl, inr}
 use Rattle.std.specs.Prelude.{IfSome, IsTrue, ◌&&◌, ◌==◌, nat_le, codes}
 use Rattle.std.specs.List.{list_all, before_first, after_first, position_or_len}
@@ -47,7 +47,7 @@ address_short t passes =
 address_reads : Reads text_code (IsText is_address) (text_at is_address)
 address_reads = text_reads is_address address_short
 
--- ---- what came of a delivery
+-- ---- the result of a delivery
 
 repeat_reads : Reads repeat_code IsRepeat repeat_at
 unfolding repeat_code
@@ -142,7 +142,7 @@ domain_short t passes = grind (arith, nat_tests)
 port_short : (t : List ℕ) → IsTrue (is_port t) → length t ≤ 5
 port_short t passes = grind (arith, nat_tests)
 
--- what stands before the first colon, the colon and what stands behind it
+-- the part before the first colon, the colon and the part after it
 length_by_colon : (t : List ℕ) → length t ≤ length (before_first is_colon t) + (1 + length (after_first is_colon t))
 length_by_colon t =
     elim (cases_lt (position_or_len is_colon t) (length t)) [
@@ -240,7 +240,7 @@ entry_again (Tried activity recipient came moment) rest valid = rw (tried_reads.
 pub entry_reads : Reads code_of IsFormed entry_at
 entry_reads = record { takes = entry_takes; again = entry_again }
 
--- ---- whole
+-- ---- the whole
 
 ended_ok : (read : Entry × List ℕ) (entry : Entry) → ended read ≡ Ok entry → read ≡ (entry, [])
 ended_ok (e, []) entry h = let same : e ≡ entry = cc h in ap (λ (x : Entry). (x, [])) same
@@ -251,7 +251,7 @@ placed_ok : (n : ℕ) (r : Result Entry ℕ) (entry : Entry) → placed n r ≡ 
 placed_ok n (Ok e) entry h = let same : e ≡ entry = cc h in ap Ok same
 placed_ok n (Err left) entry h = absurd (cc h)
 
--- what is read is the code
+-- the bytes that are read are the code
 pub last_takes : (bytes : List ℕ) (entry : Entry) → IsBytes bytes → last_at bytes ≡ Ok entry → (code_of entry ≡ bytes) × IsFormed entry
 unfolding last_at
 last_takes bytes entry fits e =
@@ -266,7 +266,7 @@ pub last_again : (entry : Entry) → IsFormed entry → last_at (code_of entry) 
 unfolding last_at
 last_again entry formed = ap last_at (sym (append-nil (code_of entry))) ∙ rw (entry_again entry [] formed) refl
 
--- the same of the bytes that a code is
+-- the same for bytes that are equal to a code
 pub last_is : (entry : Entry) (bytes : List ℕ) → IsFormed entry → code_of entry ≡ bytes → last_at bytes ≡ Ok entry
 last_is entry bytes formed is = ap last_at (sym is) ∙ last_again entry formed
 
@@ -289,7 +289,7 @@ pub whole_again : (entry : Entry) → IsFormed entry → read_entry (code_of ent
 unfolding read_entry
 whole_again entry formed = ap (placed (length (code_of entry))) (last_again entry formed)
 
--- a code is never a front of another
+-- a code is never a proper prefix of another
 pub code_is_no_front : (a b : Entry) (rest : List ℕ) → IsFormed a → IsFormed b → code_of a ++ rest ≡ code_of b → (a ≡ b) × (rest ≡ [])
 code_is_no_front a b rest formed_a formed_b e =
     let read_a = entry_again a rest formed_a in

@@ -1,4 +1,5 @@
--- What is read of objects and activities is the code of what was read, and a code is read again.
+-- What is read of objects and activities is encoded by the bytes that were read, and a code is read
+-- again.
 use Rattle.std.proofs.Common.{◌≡◌, ℕ, ◌^◌, ◌<◌, cond, List, [], ◌∷◌, ◌++◌, length, Bool, true, false, Option, Some, None, Ok, Err, refl, sym, ap, subst, ◌∙◌, arith, inl, inr}
 use Rattle.std.specs.Prelude.{IfSome, IsTrue, ◌==◌, nat_le, find}
 use Rattle.std.proofs.lemmas.Bool.{and_parts}

@@ -1,5 +1,5 @@
--- What is read is the code of what was read, and a code is read again: for numbers, keys and texts,
--- and for what is made of these.
+-- What is read is encoded by the bytes that were read, and a code is read again: for numbers, keys
+-- and texts, and for values made of these.
 use Rattle.std.proofs.Common.{◌≡◌, ◌⊎◌, ℕ, zero, suc, ◌+◌, ◌^◌, ◌<◌, ◌≤◌, Bool, true, false, cond, ltb, List, [], ◌∷◌, ◌++◌, length, get_or, take, drop, Option, Some, None, Result, Ok, Err, refl, sym, ap, subst, ◌∙◌, append_assoc, arith, inl, inr}
 use Rattle.std.specs.Prelude.{IfSome, IsTrue, ◌&&◌, ◌==◌, nat_le}
 use Rattle.std.specs.List.{flat_map, AllByRecursion}
@@ -50,21 +50,21 @@ pub passed_ok : {A : Type 0} (b : Bool) (left : ℕ) (x y : A) → cond b (Ok x)
 passed_ok true left x y e = (refl, cc)
 passed_ok false left x y e = absurd cc
 
--- ---- the two directions, and what keeps them
+-- ---- the two directions, and what preserves them
 
 -- a reader reads exactly the codes of what is valid
 pub record Reads {X : Type 0} (code : X → List ℕ) (valid : X → Type 0) (reader : Reader X) : Type 0 where
   pub takes : (bytes : List ℕ) (x : X × List ℕ) → IsBytes bytes → reader bytes ≡ Ok x → (bytes ≡ code x.0 ++ x.1) × valid x.0
   pub again : (x : X) (rest : List ℕ) → valid x → reader (code x ++ rest) ≡ Ok (x, rest)
 
--- another word for what is valid
+-- an equivalent condition for what is valid
 pub valid_reads : {X : Type 0} {code : X → List ℕ} {P : X → Type 0} {m : Reader X} → Reads code P m → (Q : X → Type 0) → ((x : X) → P x → Q x) → ((x : X) → Q x → P x) → Reads code Q m
 valid_reads reads Q to from = record {
   takes = λ bytes x fits e. let one = reads.takes bytes x fits e in (one.0, to x.0 one.1);
   again = λ x rest valid. reads.again x rest (from x valid);
 }
 
--- with a test behind
+-- followed by a test
 checked_reads : {X : Type 0} {code : X → List ℕ} {P : X → Type 0} {m : Reader X} → Reads code P m → (test : X → Bool)
     → Reads code (λ x. P x × IsTrue (test x)) (λ bytes. m bytes >>= λ x. cond (test x.0) (Ok x) (Err (length bytes)))
 checked_reads {X} {code} {P} {m} reads test = record {
@@ -112,7 +112,7 @@ whole_reads {P} {R} {code} {valid} {m} reads whole code' valid' same valid_to va
       ap (made_of whole m) spelled ∙ (ap (λ (q : Read P). q >>= λ p. Ok (whole p.0, p.1)) (reads.again f.0 rest f.2) ∙ ap (λ (q : R). Ok (q, rest)) f.1);
 }
 
--- a value behind the byte that says that it follows
+-- a value after the byte that announces it
 pub made_takes : {P R : Type 0} {code : P → List ℕ} {valid : P → Type 0} {m : Reader P} → Reads code valid m → (whole : P → R) (b : ℕ) (code' : R → List ℕ) (valid' : R → Type 0)
     → ((p : P) → code' (whole p) ≡ b ∷ code p) → ((p : P) → valid p → valid' (whole p))
     → (bytes rest : List ℕ) (x : R × List ℕ) → IsBytes bytes → bytes ≡ b ∷ rest → made_of whole m rest ≡ Ok x → (bytes ≡ code' x.0 ++ x.1) × valid' x.0
@@ -227,7 +227,7 @@ slice_again text rest lt =
 slice_reads : Reads text_code (λ t. length t < 2 ^ 32) slice_at
 slice_reads = record { takes = slice_takes; again = slice_again }
 
--- a text of a test that no long text passes
+-- a text with a test that no long text passes
 pub text_reads : (test : List ℕ → Bool) → ((t : List ℕ) → IsTrue (test t) → length t < 2 ^ 32) → Reads text_code (IsText test) (text_at test)
 unfolding text_at utf8_at
 text_reads test short =
@@ -250,7 +250,7 @@ choice_ok b n p q y e = by (b == n) refl e
     by true is e = inl (grind (arith, nat_tests, is), e)
     by false is e = inr e
 
--- a value that the byte says by itself
+-- a value that the byte alone denotes
 pub said : {R : Type 0} (b n : ℕ) (code : R → List ℕ) (valid : R → Type 0) (v : R) (bytes rest : List ℕ) (x : R × List ℕ)
     → code v ≡ n ∷ [] → valid v → bytes ≡ b ∷ rest → b ≡ n → ◌≡◌ {A = Result (R × List ℕ) ℕ} (Ok (v, rest)) (Ok x) → (bytes ≡ code x.0 ++ x.1) × valid x.0
 said {R} b n code valid v bytes rest x spells holds spelled is e =
@@ -280,7 +280,7 @@ flag_again true rest = refl
 pub flag_reads : Reads bool_code (λ b. Unit {0}) flag_at
 flag_reads = record { takes = λ bytes x fits e. flag_takes bytes x e; again = λ b rest v. flag_again b rest }
 
--- ---- what may be absent, changes and lists
+-- ---- optional values, changes and lists
 
 option_takes : {X : Type 0} (code : X → List ℕ) (P : X → Type 0) (m : Reader X) → Reads code P m
     → (bytes : List ℕ) (x : Option X × List ℕ) → IsBytes bytes → option_at m bytes ≡ Ok x → (bytes ≡ option_code code x.0 ++ x.1) × IfSome x.0 P

@@ -21,7 +21,7 @@ is_no_utf8 bytes fails = by (is_utf8 bytes) refl
 pub is_utf8_key : (key : List ℕ) → is_repeat_key key ≡ true → is_utf8 key ≡ true
 is_utf8_key key is = is_utf8_text key (key_is_utf8 key is)
 
--- a text, if there is one, that is UTF-8 and passes the test has the form of one
+-- an optional text that is UTF-8 and passes the test is well formed
 pub if_text : (test : List ℕ → Bool) (o : Option (List ℕ)) → IfSome o (λ bytes. IsTrue (is_utf8 bytes)) → IfPasses test o → IfSome o (IsText test)
 if_text test None utf8 passes = tt
 if_text test (Some text) utf8 passes = record { utf8 = utf8; passes = passes }

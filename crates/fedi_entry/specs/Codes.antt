@@ -1,4 +1,4 @@
--- How an entry of a history is written as bytes. The format is this server's own.
+-- How an entry of a history is written as bytes. The format is specific to this server.
 use Rattle.std.specs.Prelude.{◌≡◌, ◌<◌, ◌^◌, ℕ, Bool, true, false, List, [], ◌∷◌, ◌++◌, length}
 use Rattle.std.specs.Prelude.{Option, Some, None}
 use Rattle.std.specs.List.{flat_map}
@@ -43,16 +43,16 @@ bool_code true = 1 ∷ []
 unfoldable pub text_code : List ℕ → List ℕ
 text_code text = u32_code (length text) ++ text
 
--- what may be absent: whether it is there, and it
+-- an optional value: whether it is present, and the value
 unfoldable pub option_code : {X : Type 0} → (X → List ℕ) → Option X → List ℕ
 option_code code None = 0 ∷ []
 option_code code (Some x) = 1 ∷ code x
 
--- a list: how many items, and each
+-- a list: the number of its items, and each item
 unfoldable pub list_code : {X : Type 0} → (X → List ℕ) → List X → List ℕ
 list_code code items = u32_code (length items) ++ flat_map code items
 
--- what is done to a property: whether it stays, goes or is given, and the value that is given
+-- what is done to a property: whether it stays, is removed or is given, and the value that is given
 unfoldable pub edit_code : {X : Type 0} → (X → List ℕ) → Edit X → List ℕ
 edit_code code Keep = 0 ∷ []
 edit_code code Remove = 1 ∷ []
@@ -71,7 +71,7 @@ hidden_code r =
 unfoldable pub recipients_code : Recipients → List ℕ
 recipients_code r = list_code text_code r.to ++ (list_code text_code r.cc ++ hidden_code r)
 
--- three texts that may be absent
+-- three optional texts
 unfoldable pub words_code : Option (List ℕ) → Option (List ℕ) → Option (List ℕ) → List ℕ
 words_code content summary name =
     option_code text_code content ++ (option_code text_code summary ++ option_code text_code name)
@@ -87,24 +87,24 @@ object_words o =
     option_code text_code o.in_reply_to
     ++ (words_code o.content o.summary o.name ++ option_code text_code o.url)
 
--- what became of an object, and when: published, updated, formerType, deleted
+-- the former type of an object, and its times: published, updated, formerType, deleted
 unfoldable pub object_times : Object → List ℕ
 object_times o =
     option_code text_code o.published ++ (option_code text_code o.updated
     ++ (option_code text_code o.former_kind ++ option_code text_code o.deleted))
 
--- an object: its first part, the recipients, what it says, what became of it, tag
+-- an object: its first part, the recipients, what it says, its former type and its times, tag
 unfoldable pub object_code : Object → List ℕ
 object_code o =
     object_head o ++ (recipients_code o.recipients
     ++ (object_words o ++ (object_times o ++ list_code tag_code o.tags)))
 
--- what is done to three texts: content, summary, name
+-- what is done to the three texts: content, summary, name
 unfoldable pub edits_code : Edit (List ℕ) → Edit (List ℕ) → Edit (List ℕ) → List ℕ
 edits_code content summary name =
     edit_code text_code content ++ (edit_code text_code summary ++ edit_code text_code name)
 
--- what is changed in an object: its id, and what is done to content, summary, name, url, inReplyTo,
+-- what changes in an object: its id, and what is done to content, summary, name, url, inReplyTo,
 -- tag
 unfoldable pub change_code : Change → List ℕ
 change_code c =
@@ -142,23 +142,23 @@ activity_code a =
 unfoldable pub repeat_code : List ℕ × List ℕ → List ℕ
 repeat_code repeat = text_code repeat.0 ++ repeat.1
 
--- at which request of a delivery something came
+-- the request of a delivery at which something happened
 abbrev pub sent_number : Sent → ℕ
 sent_number Lookup = 0
 sent_number Post = 1
 
--- what came
+-- the result
 unfoldable pub what_code : What → List ℕ
 what_code Failed = 0 ∷ []
 what_code NoHead = 1 ∷ []
 what_code BadActor = 2 ∷ []
 what_code (Status status) = 3 ∷ u16_code status
 
--- what came of an attempt to deliver: at which request, and what
+-- the result of an attempt to deliver: at which request, and what
 unfoldable pub came_code : Came → List ℕ
 came_code came = sent_number came.step ∷ what_code came.what
 
--- which kind of entry
+-- the kind of the entry
 abbrev pub entry_number : Entry → ℕ
 entry_number (Hosted _ _) = 1
 entry_number (Made _ _ _ _) = 2
@@ -182,11 +182,11 @@ fields_code (Remote peer inbox activity moment) =
 fields_code (Tried activity recipient came moment) =
     text_code activity ++ (text_code recipient ++ (came_code came ++ u64_code moment))
 
--- an entry: which kind, and its fields
+-- an entry: its kind, and its fields
 unfoldable pub code_of : Entry → List ℕ
 code_of entry = entry_number entry ∷ fields_code entry
 
--- a status is one of 16 bits
+-- a status fits in 16 bits
 abbrev pub HasStatus : What → Type 0
 HasStatus (Status status) = status < 2 ^ 16
 HasStatus _ = Unit {0}
@@ -196,7 +196,7 @@ abbrev pub HasDigest : Option (List ℕ × List ℕ) → Type 0
 HasDigest None = Unit {0}
 HasDigest (Some repeat) = length repeat.1 ≡ 32
 
--- digests and keys have 32 bytes, and numbers the bits that they are written in
+-- digests and keys have 32 bytes, and numbers fit in the bits that they are written in
 abbrev pub HasSizes : Entry → Type 0
 HasSizes (Hosted host moment) = moment < 2 ^ 64
 HasSizes (Made name digest locked moment) = (length digest ≡ 32) × (moment < 2 ^ 64)
@@ -205,8 +205,8 @@ HasSizes (Local name repeat activity moment) = HasDigest repeat × (moment < 2 ^
 HasSizes (Remote peer inbox activity moment) = moment < 2 ^ 64
 HasSizes (Tried activity recipient came moment) = HasStatus came.what × (moment < 2 ^ 64)
 
--- nothing in the entry is too large for its bytes: each length and each count counts bytes of the
--- code, of which there are fewer than 2 ^ 32
+-- nothing in the entry is too large for the bytes it is written in: each length and each count
+-- counts bytes of the code, and there are fewer than 2 ^ 32
 pub record Fits (entry : Entry) : Type 0 where
   pub sizes : HasSizes entry
   pub short : length (code_of entry) < 2 ^ 32

@@ -1,4 +1,4 @@
--- What the fields of an entry have to look like, each by itself.
+-- The form of each field of an entry.
 use Rattle.std.specs.Prelude.{◌≡◌, ◌<◌, ◌≤◌, ◌^◌, ℕ, Bool, false, ◌&&◌, nat_le, List, length}
 use Rattle.std.specs.Prelude.{Option, Some, None, IfSome, IsTrue, codes, bytes_eq}
 use Rattle.std.specs.List.{AllByRecursion}
@@ -29,12 +29,12 @@ use Rattle.fedi_objects.specs.declared.object.Tag.{Tag}
 
 -- ---- texts
 
--- the normal text is this very text
+-- the text is its own normal text
 abbrev pub is_own : Option (List ℕ) → List ℕ → Bool
 is_own None text = false
 is_own (Some own) text = bytes_eq own text
 
--- an IRI: its own normal text, of at most 2,048 bytes (URL Standard, 4.5)
+-- an IRI: a text of at most 2,048 bytes that is its own normal text (URL Standard, 4.5)
 unfoldable pub is_iri : List ℕ → Bool
 is_iri text = is_own (normal text) text && nat_le (length text) 2048
 
@@ -43,7 +43,7 @@ unfoldable pub is_host : List ℕ → Bool
 is_host text =
     is_host_text text && is_own (normal (address text (codes "/"))) (address text (codes "/"))
 
--- which test a text passes that has these limits
+-- the test that a text with these limits passes
 abbrev pub test_of : Limit → List ℕ → Bool
 test_of limits.Content = is_text
 test_of limits.Kind = is_type
@@ -55,7 +55,7 @@ pub record IsText (test : List ℕ → Bool) (text : List ℕ) : Type 0 where
   pub utf8 : IsTrue (is_utf8 text)
   pub passes : IsTrue (test text)
 
--- ---- what may be absent, changes and lists
+-- ---- optional values, changes and lists
 
 -- what is given has this form
 abbrev pub IfGiven : {X : Type 0} → (X → Type 0) → Edit X → Type 0
@@ -104,7 +104,7 @@ AreWords content summary name = IfContent content × (IfContent summary × IfCon
 abbrev pub AreObjectWords : Object → Type 0
 AreObjectWords o = IfIri o.in_reply_to × (AreWords o.content o.summary o.name × IfIri o.url)
 
--- what became of an object, and when
+-- the former type of an object, and its times
 abbrev pub AreObjectTimes : Object → Type 0
 AreObjectTimes o =
     IfDate o.published × (IfDate o.updated × (IfKind o.former_kind × IfDate o.deleted))
@@ -157,7 +157,8 @@ IsMoment seconds = seconds < 253402300800
 abbrev pub IsRepeat : List ℕ × List ℕ → Type 0
 IsRepeat repeat = IsText is_repeat_key repeat.0 × IsKey repeat.1
 
--- what may come of a lookup or a post: a bad actor of a lookup alone; a status of 100 to 999
+-- the possible results of a lookup or a post: only a lookup can result in a bad actor; a status is
+-- 100 to 999
 abbrev pub MayCome : Sent → What → Type 0
 MayCome step Failed = Unit {0}
 MayCome step NoHead = Unit {0}
@@ -165,7 +166,7 @@ MayCome Lookup BadActor = Unit {0}
 MayCome Post BadActor = ⊥
 MayCome step (Status status) = (100 ≤ status) × (status ≤ 999)
 
--- each field of the entry has its form
+-- each field of the entry is well formed
 unfoldable pub IsFormed : Entry → Type 0
 IsFormed (Hosted host moment) = IsText is_host host × IsMoment moment
 IsFormed (Made name digest locked moment) = IsText is_name name × (IsKey digest × IsMoment moment)

@@ -1,5 +1,6 @@
--- The limits that no type of a field tells. An address, a host, a name or a moment is one by its
--- type; a text may be too long for where it is, and a status no status.
+-- The limits that the types of fields do not imply. The type of an address, a host, a name or a
+-- moment makes it valid; a text may be too long for its field, and a status may not be a valid
+-- status.
 use Rattle.std.specs.Prelude.{ℕ, Bool, List, Option, IfSome, IsTrue}
 use Rattle.std.specs.List.{AllByRecursion}
 use Rattle.fedi_objects.specs.Limits.{is_address, is_date, is_text, is_type}
@@ -35,7 +36,7 @@ abbrev pub AreWordsWithin : Option (List ℕ) → Option (List ℕ) → Option (
 AreWordsWithin content summary name =
     IfPasses is_text content × (IfPasses is_text summary × IfPasses is_text name)
 
--- what became of an object, and when
+-- the former type of an object, and its times
 abbrev pub AreTimesWithin : Object → Type 0
 AreTimesWithin o =
     IfPasses is_date o.published
@@ -71,7 +72,7 @@ IsSaidWithin a =
 abbrev pub IsActivityWithin : Activity → Type 0
 IsActivityWithin a = IsObjectRefWithin a.object × IsSaidWithin a
 
--- what came of an attempt, if the entry is one
+-- the result of an attempt, if the entry is one
 abbrev pub IsAttemptWithin : Entry → Type 0
 IsAttemptWithin (Hosted host moment) = Unit {0}
 IsAttemptWithin (Made name digest locked moment) = Unit {0}

@@ -1,6 +1,6 @@
 -- Reading the code of an entry from left to right, up to the first field that cannot be read. A
--- field is a number, a key, a text or one of the bytes that say what follows. Where one cannot be
--- read, what comes out is how many bytes are left there.
+-- field is a number, a key, a text or one of the bytes that say what follows. If one cannot be
+-- read, the result is how many bytes are left there.
 use Rattle.std.specs.Prelude.{◌≡◌, ◌-◌, ◌==◌, ℕ, zero, suc, Bool, true, false, ◌&&◌, nat_lt, nat_le}
 use Rattle.std.specs.Prelude.{if◌then◌else◌, List, [], ◌∷◌, length, take, drop, find, Option, Some}
 use Rattle.std.specs.Prelude.{None, Result, Ok, Err}
@@ -41,12 +41,12 @@ use Rattle.fedi_entry.specs.declared.read_objects.ObjectTimes.{ObjectTimes}
 use Rattle.fedi_entry.specs.declared.read_objects.ObjectWords.{ObjectWords}
 use Rattle.fedi_entry.specs.declared.read_objects.Words.{Words}
 
--- what is read at the front of bytes, and the bytes after it; or how many are left where the field
--- begins that cannot be read
+-- what is read at the front of bytes, and the bytes after it; or how many bytes are left at the
+-- field that cannot be read
 abbrev pub Read : Type 0 → Type 0
 Read X = Result (X × List ℕ) ℕ
 
--- a way to read
+-- a function that reads
 abbrev pub Reader : Type 0 → Type 0
 Reader X = List ℕ → Read X
 
@@ -64,7 +64,7 @@ abbrev pub ◌&◌ : {A B : Type 0} → Reader A → Reader B → Reader (A × B
   b ← second a.1
   Ok ((a.0, b.0), b.1)
 
--- a value made of what is read
+-- a value made from what is read
 abbrev pub made_of : {A B : Type 0} → (A → B) → Reader A → Reader B
 made_of whole reader bytes = do
   parts ← reader bytes
@@ -72,18 +72,18 @@ made_of whole reader bytes = do
 
 -- ---- numbers, keys, texts
 
--- a number of so many bytes, the highest first
+-- a number of this many bytes, the highest first
 abbrev pub number_at : Width → Reader ℕ
 number_at w bytes =
     if nat_lt (length bytes) (byte_len w) then Err (length bytes)
     else Ok (from_be_bytes w (take (byte_len w) bytes), drop (byte_len w) bytes)
 
--- so many bytes
+-- this many bytes
 abbrev pub bytes_at : ℕ → Reader (List ℕ)
 bytes_at n bytes =
     if nat_lt (length bytes) n then Err (length bytes) else Ok (take n bytes, drop n bytes)
 
--- a length, and so many bytes
+-- a length, and that many bytes
 abbrev pub slice_at : Reader (List ℕ)
 slice_at bytes = do
   len ← number_at w32 bytes
@@ -126,9 +126,9 @@ flag_at bytes = do
   if b.0 == 0 then Ok (false, b.1) else (
       if b.0 == 1 then Ok (true, b.1) else Err (length bytes))
 
--- ---- what may be absent, changes and lists
+-- ---- optional values, changes and lists
 
--- what may be absent
+-- an optional value
 unfoldable pub option_at : {X : Type 0} → Reader X → Reader (Option X)
 option_at reader bytes = do
   there ← flag_at bytes
@@ -142,7 +142,7 @@ edit_at reader bytes = do
       if b.0 == 1 then Ok (Remove, b.1) else (
       if b.0 == 2 then made_of Give reader b.1 else Err (length bytes)))
 
--- so many items
+-- this many items
 unfoldable pub items_at : {X : Type 0} → Reader X → ℕ → Reader (List X)
 items_at reader zero bytes = Ok ([], bytes)
 items_at reader (suc n) bytes = do
@@ -199,14 +199,14 @@ object_words_at =
     made_of (λ p. record { in_reply_to = p.0; words = p.1.0; url = p.1.1 })
     (option_at iri_at & words_at & option_at iri_at)
 
--- what became of an object, and when
+-- the former type of an object, and its times
 unfoldable pub object_times_at : Reader ObjectTimes
 object_times_at =
     made_of
     (λ p. record { published = p.0; updated = p.1.0; former_kind = p.1.1.0; deleted = p.1.1.1 })
     (option_at date_at & option_at date_at & option_at (text_at is_type) & option_at date_at)
 
--- the object of these parts
+-- the object with these parts
 abbrev pub object_of : ObjectHead → Recipients → ObjectWords → ObjectTimes → List Tag → Object
 object_of head recipients says times tags = record {
   id = head.id;
@@ -237,7 +237,7 @@ changed_words_at =
     made_of (λ p. record { content = p.0; summary = p.1.0; name = p.1.1 })
     (edit_at content_at & edit_at content_at & edit_at content_at)
 
--- the change of these parts
+-- the change with these parts
 abbrev pub change_of : List ℕ → ChangedWords → Edit (List ℕ) → Edit (List ℕ)
     → Edit (List Tag) → Change
 change_of id words url in_reply_to tags = record {
@@ -265,7 +265,7 @@ object_ref_at bytes = do
       if b.0 == 2 then made_of Whole object_at b.1 else (
       if b.0 == 3 then made_of Changed change_at b.1 else Err (length bytes))))
 
--- the type of this number
+-- the type with this number
 unfoldable pub kind_of : ℕ → Option Kind
 kind_of number = find (λ kind. kind_number kind == number) all_kinds
 
@@ -293,7 +293,7 @@ activity_words_at =
     made_of (λ p. record { in_reply_to = p.0; words = p.1.0; published = p.1.1.0; tags = p.1.1.1 })
     (option_at iri_at & words_at & option_at date_at & list_at tag_at)
 
--- the activity of these parts
+-- the activity with these parts
 abbrev pub activity_of : ActivityHead → ObjectRef → Option (List ℕ) → Recipients
     → ActivityWords → Activity
 activity_of head object target recipients says = record {
@@ -323,7 +323,7 @@ activity_at =
 abbrev pub repeat_at : Reader (List ℕ × List ℕ)
 repeat_at = text_at is_repeat_key & bytes_at 32
 
--- at which request of a delivery something came
+-- the request of a delivery at which something happened
 unfoldable pub sent_at : Reader Sent
 sent_at bytes = do
   b ← byte_at bytes
@@ -335,7 +335,7 @@ abbrev pub is_lookup : Sent → Bool
 is_lookup Lookup = true
 is_lookup Post = false
 
--- what came of a lookup or a post
+-- the result of a lookup or a post
 unfoldable pub what_at : Sent → Reader What
 what_at step bytes = do
   b ← byte_at bytes
@@ -344,7 +344,7 @@ what_at step bytes = do
       if b.0 == 2 && is_lookup step then Ok (BadActor, b.1) else (
       if b.0 == 3 then made_of Status status_at b.1 else Err (length bytes))))
 
--- what came of an attempt to deliver
+-- the result of an attempt to deliver
 unfoldable pub came_at : Reader Came
 came_at bytes = do
   step ← sent_at bytes
@@ -355,7 +355,7 @@ came_at bytes = do
 unfoldable pub hosted_at : Reader Entry
 hosted_at = made_of (λ p. Hosted p.0 p.1) (text_at is_host & moment_at)
 
--- a member was made
+-- a member was created
 unfoldable pub made_at : Reader Entry
 made_at =
     made_of (λ p. Made p.0 p.1.0 p.1.1.0 p.1.1.1)
@@ -383,7 +383,7 @@ remote_at =
 unfoldable pub tried_at : Reader Entry
 tried_at = made_of (λ p. Tried p.0 p.1.0 p.1.1.0 p.1.1.1) (iri_at & iri_at & came_at & moment_at)
 
--- an entry: which kind, and its fields
+-- an entry: its kind, and its fields
 unfoldable pub entry_at : Reader Entry
 entry_at bytes = do
   b ← byte_at bytes
@@ -398,44 +398,45 @@ entry_at bytes = do
 abbrev pub ended : {X : Type 0} → X × List ℕ → Result X ℕ
 ended read = if length read.1 == 0 then Ok read.0 else Err (length read.1)
 
--- an entry, behind which nothing is left
+-- an entry that nothing follows
 unfoldable pub last_at : List ℕ → Result Entry ℕ
 last_at bytes = entry_at bytes >>= ended
 
--- where among so many bytes a field begins that cannot be read
+-- the offset, among this many bytes, of a field that cannot be read
 abbrev pub placed : {X : Type 0} → ℕ → Result X ℕ → Result X ℕ
 placed len (Ok x) = Ok x
 placed len (Err left) = Err (len - left)
 
--- the entry of these bytes; or where the first field begins that cannot be read, or the entry ends,
--- if bytes follow it
+-- the entry of these bytes; or the offset of the first field that cannot be read, or of the entry's
+-- end if bytes follow it
 unfoldable pub read_entry : List ℕ → Result Entry ℕ
 read_entry bytes = placed (length bytes) (last_at bytes)
 
--- ---- what a function gives that reads
+-- ---- what a function that reads returns
 
--- it stopped where reading stops, unless it ran out of memory
+-- it stopped where the definition stops, unless it ran out of memory
 abbrev pub Fails : {Y : Type 0} → ReadFault → Result Y ℕ → Type 0
 Fails faults.Memory read = Unit {0}
 Fails (faults.BadField left) read = read ≡ Err left
 
--- it took what reading gives, and left what reading leaves
+-- it returned what the definition reads, and left the same bytes
 abbrev pub Takes : {X : Type 0} → Result X ReadFault → List ℕ → Read X → Type 0
 Takes (Ok x) rest read = read ≡ Ok (x, rest)
 Takes (Err fault) rest read = Fails fault read
 
--- the same of what is seen by view
+-- the same, with the value seen through this view
 abbrev pub TakesAs : {X Y : Type 0} → (X → Y) → Result X ReadFault → List ℕ → Read Y → Type 0
 TakesAs view (Ok x) rest read = read ≡ Ok (view x, rest)
 TakesAs view (Err fault) rest read = Fails fault read
 
--- it gives what reading gives, or stopped where reading stops, unless it ran out of memory
+-- it returned what the definition reads, or stopped where the definition stops, unless it ran out
+-- of memory
 abbrev pub Ends : {X : Type 0} → Result X ReadFault → Result X ℕ → Type 0
 Ends (Ok x) read = read ≡ Ok x
 Ends (Err fault) read = Fails fault read
 
--- it gives the entry that reading gives, or the place where reading stops, unless it ran out of
--- memory
+-- it returned the entry that the definition reads, or the offset where the definition stops, unless
+-- it ran out of memory
 abbrev pub Gives : Result Entry EntryFault → Result Entry ℕ → Type 0
 Gives (Ok entry) read = read ≡ Ok entry
 Gives (Err (ends.BadEntry place)) read = read ≡ Err place

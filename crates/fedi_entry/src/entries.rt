@@ -1,4 +1,4 @@
-//! Entries as bytes.
+//! Writing entries as bytes.
 
 ghost use Rattle.std.specs.Prelude.{◌≡◌, ◌++◌, ◌<◌, ◌^◌, length, IfOk, IfSome, OnOk};
 ghost use Rattle.fedi_entry.specs.Codes.{came_code, code_of, entry_number, fields_code};
@@ -12,10 +12,11 @@ use crate::values::{
 use fedi_objects::{Came, Entry, ObjectRef, RepeatKey, What};
 use std::alloc::{AllocError, Global};
 
-/// The room for an entry without long texts.
+/// The capacity for an entry without long texts.
 const ROOM: usize = 1024;
 
-/// The most bytes that an entry has, so that each length and each count in it fits in four bytes.
+/// The maximum number of bytes in an entry, so that each length and each count in it fits in four
+/// bytes.
 const LONGEST: usize = 4_294_967_295;
 
 /// Appends the repeat key, if there is one, with its digest.
@@ -35,7 +36,7 @@ fn put_repeat(bytes: &mut Vec<u8>, repeat: &Option<(RepeatKey, [u8; 32])>) -> Re
     }
 }
 
-/// Appends what came of a lookup or a post.
+/// Appends the result of a lookup or a post.
 #[tactic(auto, unfolding(crate::specs::Codes::what_code))]
 fn put_what(bytes: &mut Vec<u8>, what: &What) -> Result<(), AllocError>
     ensures { OnOk result (bytes.new.items ≡ bytes.old.items ++ what_code what.now) }
@@ -51,7 +52,7 @@ fn put_what(bytes: &mut Vec<u8>, what: &What) -> Result<(), AllocError>
     }
 }
 
-/// Appends what came of an attempt to deliver.
+/// Appends the result of an attempt to deliver.
 #[tactic(auto, unfolding(crate::specs::Codes::came_code))]
 fn put_came(bytes: &mut Vec<u8>, came: &Came) -> Result<(), AllocError>
     ensures { OnOk result (bytes.new.items ≡ bytes.old.items ++ came_code came.now) }
@@ -60,7 +61,7 @@ fn put_came(bytes: &mut Vec<u8>, came: &Came) -> Result<(), AllocError>
     put_what(bytes, &came.what)
 }
 
-/// The byte that says which kind of entry it is.
+/// The byte for the kind of the entry.
 fn kind_number(entry: &Entry) -> u8
     ensures { result ≡ entry_number entry.now }
 {
@@ -147,13 +148,13 @@ fn put_fields(bytes: &mut Vec<u8>, entry: &Entry) -> Result<(), AllocError>
     put_moment(bytes, *moment)
 }
 
-/// The bytes of an entry, from which the same entry is read again. Each of its fields has to keep
-/// its limit, as each does of an entry that may come next in a history.
+/// The bytes of an entry; reading them returns the same entry. Each field has to keep its limit, as
+/// it does in every entry that may come next in a history.
 ///
-/// The error is out of memory. An entry that no record holds has it too: one of more than
-/// 4,294,967,295 bytes, or with a list of more items, since no rule bounds the number of mentions.
-/// A caller can do no more about the one than about the other, and what can be posted or delivered
-/// is far smaller.
+/// The error is out of memory. It is also returned for an entry that does not fit in a record: one
+/// of more than 4,294,967,295 bytes, or with a list of more items, since no rule limits the number
+/// of mentions. A caller can do no more about one than about the other, and everything that can be
+/// posted or delivered is far smaller.
 #[tactic(auto, unfolding(crate::specs::Codes::code_of))]
 pub fn encode(alloc: Global, entry: &Entry) -> Result<Vec<u8>, AllocError>
     requires limits { KeepsLimits entry.now }
@@ -171,7 +172,7 @@ pub fn encode(alloc: Global, entry: &Entry) -> Result<Vec<u8>, AllocError>
     Ok(bytes)
 }
 
-/// The room that is enough for the bytes of most entries.
+/// The capacity that is sufficient for the bytes of most entries.
 fn room_for(entry: &Entry) -> usize {
     let (Entry::Local { activity, .. } | Entry::Remote { activity, .. }) = entry else {
         return ROOM;

@@ -6,14 +6,14 @@ ghost use Rattle.fedi_entry.specs.declared.fault.ReadFault.TheVariants.{Memory};
 use std::alloc::{AllocError, AllocFailed};
 use thiserror::Error;
 
-/// Why bytes give no entry.
+/// Why bytes are not the bytes of an entry.
 #[derive(Clone, Copy, Debug, PartialEq, Eq, Error)]
 pub enum EntryFault {
-    /// The bytes are those of no entry.
+    /// The bytes are not those of any entry.
     #[error("no entry has these bytes, from {place} on")]
     BadEntry {
-        /// Where the first field begins that cannot be read, or where the entry ends, if bytes
-        /// follow it.
+        /// The offset of the first field that cannot be read, or the offset of the entry's end if
+        /// bytes follow it.
         place: usize,
     },
     /// Out of memory.
@@ -24,7 +24,7 @@ pub enum EntryFault {
 /// Why a field was not read.
 #[derive(Clone, Copy)]
 pub enum ReadFault {
-    /// The field that cannot be read begins where this many bytes are left.
+    /// The field that cannot be read begins where `left` bytes are left.
     BadField { left: usize },
     /// Out of memory.
     Memory,

@@ -1,4 +1,4 @@
-//! Hosts of which an IRI is known by its text.
+//! Hosts whose IRIs are recognized by their text.
 
 ghost use Rattle.std.specs.Prelude.{◌≡◌, IfOk, IfSome, IsTrue};
 ghost use Rattle.std.specs.List.{list_all};
@@ -9,12 +9,12 @@ ghost use Rattle.fedi_address.specs.Names as names;
 use fedi_address::{Host, Iri};
 use std::alloc::{AllocError, Global};
 
-/// The longest path of an IRI that is known by its text, in bytes.
+/// The maximum length of the path of an IRI that is recognized by its text, in bytes.
 const LONGEST_PATH: usize = 128;
 
-/// The host that was set up, and the last other one, as the entries that were read name them. An
-/// IRI of a plain path at one of them, and that of everyone, is known by its text, which is quicker
-/// than to parse it. What is known has no effect on what is read.
+/// The host that was set up, and the last other host, as named by the entries that were read. An
+/// IRI with a plain path at one of them, and the IRI of everyone, is recognized by its text, which
+/// is faster than parsing it. The known hosts have no effect on what is read.
 #[derive(Drop)]
 pub struct KnownHosts {
     own: Option<Host>,
@@ -43,7 +43,7 @@ fn is_plain_path(path: &[u8]) -> bool
 }
 
 impl KnownHosts {
-    /// No host yet. It takes no memory.
+    /// No host yet. This allocates nothing.
     pub fn new() -> KnownHosts {
         KnownHosts {
             own: None,
@@ -51,13 +51,13 @@ impl KnownHosts {
         }
     }
 
-    /// Keeps the host that was set up. The error is out of memory.
+    /// Stores the host that was set up. The error is out of memory.
     pub(crate) fn keep_own(&mut self, host: &Host) -> Result<(), AllocError> {
         self.own = Some(host.clone()?);
         Ok(())
     }
 
-    /// Keeps the host of another server, unless it is known. The error is out of memory.
+    /// Stores the host of another server, unless it is known already. The error is out of memory.
     pub(crate) fn keep_other(&mut self, host: &Host) -> Result<(), AllocError> {
         if self.named(host.text()).is_none() {
             self.other = Some(host.clone()?);
@@ -65,7 +65,7 @@ impl KnownHosts {
         Ok(())
     }
 
-    /// The host with this text, if it is one that is known.
+    /// The known host with this text, if there is one.
     pub(crate) fn named(&self, text: &str) -> Option<&Host>
         ensures same { IfSome result (λ host. host.now ≡ text.now) }
         ensures host { IfSome result (λ host. IsHost host.now) }
@@ -77,8 +77,8 @@ impl KnownHosts {
         }
     }
 
-    /// The IRI that the text may be: that of everyone, or a plain path at a host that is known. The
-    /// error is out of memory.
+    /// The IRI that the text may be: that of everyone, or a plain path at a known host. The error
+    /// is out of memory.
     pub(crate) fn guess(&self, alloc: Global, text: &str) -> Result<Option<Iri>, AllocError> {
         if text == Iri::PUBLIC {
             return Ok(Some(Iri::public(alloc)?));

@@ -1,8 +1,8 @@
-//! The entries of a history as bytes, as a journal keeps them, and read from such bytes.
+//! Writing the entries of a history as the bytes of a journal, and reading entries from such bytes.
 //!
-//! An entry is a byte for its kind and then its fields. Numbers have their highest byte first. A
-//! text has its length before it in four bytes, a list its count in four, and what may be absent a
-//! byte that says whether it is there.
+//! An entry is a byte for its kind, followed by its fields. Numbers are big-endian. A text starts
+//! with its length and a list with its item count, each in four bytes. An optional value starts
+//! with a byte that says whether it is present.
 #![tactic(auto)]
 
 mod entries;

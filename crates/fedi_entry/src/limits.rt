@@ -5,7 +5,7 @@ ghost use Rattle.fedi_entry.specs.Fields.{test_of};
 
 use fedi_objects::{is_address, is_content, is_date, is_type};
 
-/// What a text is, and so which limits it has.
+/// The kind of a text, which determines its limits.
 #[derive(Clone, Copy)]
 pub enum Limit {
     /// A content, a summary or a name.
@@ -14,12 +14,12 @@ pub enum Limit {
     Kind,
     /// A date.
     Date,
-    /// Where a peer is reached.
+    /// The address where a peer is reached.
     Address,
 }
 
 impl Limit {
-    /// Whether the text keeps to the limits.
+    /// Whether the text keeps these limits.
     pub fn passes(self, text: &str) -> bool
         ensures { result ≡ test_of self text.now }
     {

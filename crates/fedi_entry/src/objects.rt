@@ -50,7 +50,7 @@ impl Encode for Recipients {
     }
 }
 
-/// Appends three texts, each of which may be absent.
+/// Appends three optional texts.
 #[tactic(auto, unfolding(crate::specs::Codes::words_code))]
 fn put_words(
     bytes: &mut Vec<u8>,
@@ -68,7 +68,7 @@ fn put_words(
     name.put(bytes)
 }
 
-/// Appends what an object says.
+/// Appends what an object replies to, its content, summary and name, and its url.
 #[tactic(auto, unfolding(crate::specs::Codes::object_words))]
 fn put_object_words(bytes: &mut Vec<u8>, object: &Object) -> Result<(), AllocError>
     requires limits { AreWordsWithin object.now.content object.now.summary object.now.name }
@@ -170,7 +170,7 @@ impl Encode for ObjectRef {
     }
 }
 
-/// Appends what an activity itself says.
+/// Appends what an activity replies to, its content, summary and name, its time and its mentions.
 #[tactic(auto, using(crate::proofs::Texts::if_text), unfolding(crate::specs::Codes::activity_words))]
 fn put_activity_words(bytes: &mut Vec<u8>, activity: &Activity) -> Result<(), AllocError>
     requires limits { IsSaidWithin activity.now }

@@ -1,4 +1,4 @@
-//! Entries from bytes.
+//! Reading entries from bytes.
 
 ghost use Rattle.std.specs.Prelude.{◌≡◌, ◌≢◌, ℕ, List, length, IfOk, IfErr};
 ghost use Rattle.fedi_objects.specs.declared.entry.Entry.{Entry};
@@ -16,7 +16,7 @@ use fedi_objects::{Came, Entry, Sent, What};
 use fedi_text::Moment;
 use std::alloc::Global;
 
-/// At which request of a delivery something came.
+/// The request of a delivery at which something happened.
 #[tactic(auto, unfolding(crate::specs::Reading::sent_at))]
 fn take_sent(reader: &mut Reader<'_>) -> Result<Sent, ReadFault>
     ensures { Takes result reader.new (sent_at reader.old) }
@@ -29,7 +29,7 @@ fn take_sent(reader: &mut Reader<'_>) -> Result<Sent, ReadFault>
     }
 }
 
-/// What came of a lookup or a post. A bad actor comes of a lookup alone.
+/// The result of a lookup or a post. Only a lookup can result in a bad actor.
 #[tactic(auto, unfolding(crate::specs::Reading::what_at))]
 fn take_what(reader: &mut Reader<'_>, step: Sent) -> Result<What, ReadFault>
     ensures { Takes result reader.new (what_at step reader.old) }
@@ -57,7 +57,7 @@ impl Decode for Came {
     }
 }
 
-/// That the server was set up, from which on its host is known.
+/// The entry that the server was set up. Its host is known from then on.
 #[tactic(auto, unfolding(crate::specs::Reading::hosted_at))]
 fn take_hosted(reader: &mut Reader<'_>) -> Result<Entry, ReadFault>
     ensures { Takes result reader.new (hosted_at reader.old) }
@@ -68,7 +68,7 @@ fn take_hosted(reader: &mut Reader<'_>) -> Result<Entry, ReadFault>
     })
 }
 
-/// That a member was made.
+/// The entry that a member was created.
 #[tactic(auto, unfolding(crate::specs::Reading::made_at))]
 fn take_made(reader: &mut Reader<'_>) -> Result<Entry, ReadFault>
     ensures { Takes result reader.new (made_at reader.old) }
@@ -82,7 +82,7 @@ fn take_made(reader: &mut Reader<'_>) -> Result<Entry, ReadFault>
     })
 }
 
-/// That another server became a peer, from which on its host is known.
+/// The entry that another server became a peer. Its host is known from then on.
 #[tactic(auto, unfolding(crate::specs::Reading::peer_set_at))]
 fn take_peer_set(reader: &mut Reader<'_>) -> Result<Entry, ReadFault>
     ensures { Takes result reader.new (peer_set_at reader.old) }
@@ -114,7 +114,7 @@ fn take_local(reader: &mut Reader<'_>) -> Result<Entry, ReadFault>
     })
 }
 
-/// A peer's delivery, from which on the peer's host is known.
+/// A peer's delivery. The peer's host is known from then on.
 #[tactic(auto, unfolding(crate::specs::Reading::remote_at))]
 fn take_remote(reader: &mut Reader<'_>) -> Result<Entry, ReadFault>
     ensures { Takes result reader.new (remote_at reader.old) }
@@ -129,7 +129,7 @@ fn take_remote(reader: &mut Reader<'_>) -> Result<Entry, ReadFault>
     })
 }
 
-/// An attempt to deliver.
+/// An attempt to deliver an activity.
 #[tactic(auto, unfolding(crate::specs::Reading::tried_at))]
 fn take_tried(reader: &mut Reader<'_>) -> Result<Entry, ReadFault>
     ensures { Takes result reader.new (tried_at reader.old) }
@@ -143,7 +143,7 @@ fn take_tried(reader: &mut Reader<'_>) -> Result<Entry, ReadFault>
     })
 }
 
-/// An entry: which kind, and its fields.
+/// An entry: its kind, and its fields.
 #[tactic(auto, unfolding(crate::specs::Reading::entry_at))]
 fn take_entry(reader: &mut Reader<'_>) -> Result<Entry, ReadFault>
     ensures { Takes result reader.new (entry_at reader.old) }
@@ -160,7 +160,7 @@ fn take_entry(reader: &mut Reader<'_>) -> Result<Entry, ReadFault>
     }
 }
 
-/// An entry, behind which no byte is left.
+/// An entry that is not followed by any byte.
 #[tactic(auto, unfolding(crate::specs::Reading::last_at))]
 fn take_last(reader: &mut Reader<'_>) -> Result<Entry, ReadFault>
     ensures { Ends result (last_at reader.old) }
@@ -173,13 +173,14 @@ fn take_last(reader: &mut Reader<'_>) -> Result<Entry, ReadFault>
     }
 }
 
-/// The entry of these bytes, which no other entry has. The errors are `BadEntry`, exactly if no
-/// entry whose fields have their forms has these bytes, and `Memory`, out of memory.
+/// The entry that these bytes encode; no other entry has the same bytes. The errors are `BadEntry`,
+/// exactly if no entry whose fields are well formed has these bytes, and `Memory`, out of memory.
 ///
-/// `place` is where the first field begins that cannot be read, or where the entry ends, if bytes
-/// follow it. A field is a number, a key, a text or one of the bytes that say what follows.
+/// `place` is the offset of the first field that cannot be read, or the offset of the entry's end
+/// if bytes follow it. A field is a number, a key, a text or one of the bytes that say what
+/// follows.
 ///
-/// The hosts are those that are known so far, and then also those that the entry names.
+/// The known hosts then include those that the entry names.
 #[tactic(auto, unfolding(crate::specs::Reading::read_entry))]
 pub fn decode(alloc: Global, hosts: &mut KnownHosts, bytes: &[u8]) -> Result<Entry, EntryFault>
     ensures code { IfOk result (λ entry. code_of entry ≡ bytes.now) }
@@ -192,7 +193,7 @@ pub fn decode(alloc: Global, hosts: &mut KnownHosts, bytes: &[u8]) -> Result<Ent
 {
     match take_last(&mut Reader::new(alloc, hosts, bytes)) {
         Ok(entry) => Ok(entry),
-        // No more bytes are left than there were: nothing saturates.
+        // At most as many bytes are left as there were, so the subtraction does not saturate.
         Err(ReadFault::BadField { left }) => Err(EntryFault::BadEntry {
             place: bytes.len().saturating_sub(left),
         }),

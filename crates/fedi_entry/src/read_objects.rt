@@ -1,6 +1,7 @@
 //! Reading objects, changes and activities.
 //!
-//! What has many fields is read in parts of a few, each of which is read as pairs.
+//! A value with many fields is read in several parts. Each part has a few fields and is read as
+//! pairs.
 
 ghost use Rattle.std.specs.Prelude.{◌≡◌};
 ghost use Rattle.fedi_entry.specs.Reading.{activity_of, kind_of, object_of};
@@ -42,7 +43,7 @@ impl Decode for Recipients {
     }
 }
 
-/// Three texts, each of which may be absent.
+/// Three optional texts.
 #[derive(Drop)]
 pub struct Words {
     pub content: Option<Text>,
@@ -66,7 +67,7 @@ impl Decode for Words {
     }
 }
 
-/// The text of a date that may be absent.
+/// The text of an optional date.
 fn date_text(date: Option<Date>) -> Option<Text>
     ensures { result ≡ date }
 {
@@ -76,7 +77,7 @@ fn date_text(date: Option<Date>) -> Option<Text>
     }
 }
 
-/// The text of a type that may be absent.
+/// The text of an optional type.
 fn kind_text(kind: Option<KindName>) -> Option<Text>
     ensures { result ≡ kind }
 {
@@ -110,7 +111,7 @@ impl Decode for ObjectHead {
     }
 }
 
-/// What an object says.
+/// What an object replies to, its content, summary and name, and its url.
 #[derive(Drop)]
 pub struct ObjectWords {
     pub in_reply_to: Option<Iri>,
@@ -160,7 +161,7 @@ impl Decode for ObjectTimes {
     }
 }
 
-/// The object of these parts.
+/// The object with these parts.
 fn object_of(
     head: ObjectHead,
     recipients: Recipients,
@@ -200,7 +201,7 @@ impl Decode for Object {
     }
 }
 
-/// What is done to three texts.
+/// What is done to the three texts.
 #[derive(Drop)]
 pub struct ChangedWords {
     pub content: Edit<Text>,
@@ -262,7 +263,7 @@ impl Decode for ObjectRef {
     }
 }
 
-/// The type of this number.
+/// The activity type with this number.
 #[tactic(auto, unfolding(crate::specs::Reading::kind_of))]
 fn numbered(number: u8) -> Option<Kind>
     ensures { result ≡ kind_of number }
@@ -308,7 +309,7 @@ impl Decode for ActivityHead {
     }
 }
 
-/// What an activity itself says.
+/// What an activity replies to, its content, summary and name, its time and its mentions.
 #[derive(Drop)]
 pub struct ActivityWords {
     pub in_reply_to: Option<Iri>,
@@ -334,7 +335,7 @@ impl Decode for ActivityWords {
     }
 }
 
-/// The activity of these parts.
+/// The activity with these parts.
 fn activity_of(
     head: ActivityHead,
     object: ObjectRef,

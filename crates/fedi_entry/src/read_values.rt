@@ -18,7 +18,7 @@ pub trait Decode: Sized {
 
     ghost at: { List ℕ → Result (Self × List ℕ) ℕ };
 
-    /// Reads the value at the front.
+    /// Reads the value at the front of the remaining bytes.
     fn decode(reader: &mut Reader<'_>) -> Result<Self, ReadFault>
         ensures { Takes result reader.new (at reader.old) };
 }
@@ -81,7 +81,7 @@ impl Decode for LocalName {
     }
 }
 
-// The key for repeats with this text.
+// The key for repeats with these bytes.
 fn key_of(text: &str) -> Option<RepeatKey>
     ensures key { IsSome result ↔ IsTrue (is_repeat_key text.now) }
     ensures same { IfSome result (λ key. key ≡ text.now) }
@@ -153,7 +153,7 @@ impl Decode for KindName {
     }
 }
 
-/// A date as it was given.
+/// A date, as it was given.
 #[derive(Drop)]
 pub struct Date {
     pub text: Text,
@@ -179,7 +179,7 @@ impl Decode for Date {
     }
 }
 
-/// Where a peer is reached.
+/// The address where a peer is reached.
 #[derive(Drop)]
 pub struct Address {
     pub text: Text,
@@ -216,7 +216,7 @@ impl<T: Decode + Drop> Decode for Boxed<T> {
     }
 }
 
-// One value, and the other behind it.
+// A value, followed by another one.
 impl<A: Decode + Drop, B: Decode> Decode for (A, B) {
     ghost use Rattle.fedi_entry.specs.Reading.{◌&◌};
 
@@ -260,7 +260,7 @@ impl<T: Decode> Decode for Edit<T> {
     }
 }
 
-// Reads so many values, one after the other.
+// Reads `count` values, one after the other.
 fn take_items<T: Decode + Drop>(reader: &mut Reader<'_>, count: u32) -> Result<Vec<T>, ReadFault>
     ensures { TakesAs (λ items. items.items) result reader.new (items_at T.at count reader.old) }
 {

@@ -15,8 +15,8 @@ use std::alloc::{AllocError, Global};
 use std::marker::Model;
 use std::str;
 
-/// Bytes that are read from left to right. Each method reads what begins at their front, and then
-/// the front is behind it. After an error the front may be anywhere.
+/// Bytes that are read from left to right. Each method reads a value at the front and then advances
+/// past it. After an error the front may be anywhere.
 #[derive(Drop)]
 pub struct Reader<'a> {
     alloc: Global,
@@ -33,7 +33,7 @@ impl<'a> Model for Reader<'a> {
 }
 
 impl<'a> Reader<'a> {
-    /// A reader at the front of the bytes. What it reads takes its memory from the allocator.
+    /// A reader at the front of the bytes. It allocates what it reads with the allocator.
     pub fn new(alloc: Global, hosts: &'a mut KnownHosts, bytes: &'a [u8]) -> Reader<'a>
         ensures { result ≡ bytes.now }
     {
@@ -49,14 +49,14 @@ impl<'a> Reader<'a> {
         self.alloc
     }
 
-    /// How many bytes are left.
+    /// The number of bytes left.
     pub fn left(&self) -> usize
         ensures { result ≡ length self.now }
     {
         self.rest.len()
     }
 
-    /// The fault that the field at the front cannot be read.
+    /// The fault of a field at the front that cannot be read.
     pub fn fault(&self) -> ReadFault
         ensures { result ≡ ReadFault.BadField (length self.now) }
     {
@@ -137,7 +137,7 @@ impl<'a> Reader<'a> {
         }
     }
 
-    // A length, and so many bytes.
+    // A length, and that many bytes.
     fn slice(&mut self) -> Result<&'a [u8], ReadFault>
         ensures { TakesAs (λ text. text.now) result self.new (slice_at self.old) }
     {
@@ -181,7 +181,7 @@ impl<'a> Reader<'a> {
         }
     }
 
-    /// The host that was set up, which is known from then on.
+    /// The host that was set up. It is known from then on.
     pub fn own_host(&mut self) -> Result<Host, ReadFault>
         ensures { Takes result self.new (text_at fields.is_host self.old) }
     {
@@ -190,7 +190,7 @@ impl<'a> Reader<'a> {
         Ok(host)
     }
 
-    /// The host of another server, which is known from then on.
+    /// The host of another server. It is known from then on.
     pub fn other_host(&mut self) -> Result<Host, ReadFault>
         ensures { Takes result self.new (text_at fields.is_host self.old) }
     {
@@ -199,7 +199,7 @@ impl<'a> Reader<'a> {
         Ok(host)
     }
 
-    /// An IRI. A text that is another one's than its own normal text is none.
+    /// An IRI. A text that is not its own normal text is malformed.
     #[tactic(auto, unfolding(crate::specs::Reading::text_at))]
     pub fn iri(&mut self) -> Result<Iri, ReadFault>
         ensures { Takes result self.new (iri_at self.old) }
@@ -212,7 +212,7 @@ impl<'a> Reader<'a> {
         }
     }
 
-    /// A text that keeps to these limits.
+    /// A text that keeps these limits.
     #[tactic(auto, unfolding(crate::specs::Reading::text_at))]
     pub fn limited(&mut self, limit: Limit) -> Result<Text, ReadFault>
         ensures { Takes result self.new (text_at (fields.test_of limit) self.old) }
@@ -226,7 +226,8 @@ impl<'a> Reader<'a> {
     }
 }
 
-// The IRI with this very text. `None` exactly if its normal text is another, or there is none.
+// The IRI with exactly this text. `None` exactly if the text has a different normal text, or no
+// normal text.
 #[tactic(auto, unfolding(crate::specs::Fields::is_iri))]
 fn own_iri(alloc: Global, hosts: &KnownHosts, text: &str) -> Result<Option<Iri>, AllocError>
     ensures some { IfOk result (λ found. IfSome found (λ iri. iri ≡ text.now)) }

@@ -1,7 +1,7 @@
 //! Appending values to a buffer.
 //!
-//! What is appended keeps its limits, so that nothing is tested but lengths and counts: one that
-//! does not fit in four bytes is refused as out of memory.
+//! The values keep their limits, so only lengths and counts are tested: one that does not fit in
+//! four bytes is refused as out of memory.
 
 ghost use Rattle.std.specs.Prelude.{◌≡◌, ◌<◌, ◌^◌, ◌∷◌, [], ◌++◌, length, IfSome, IsTrue, OnOk};
 ghost use Rattle.std.specs.List.{flat_map, All};
@@ -15,7 +15,7 @@ use fedi_objects::Edit;
 use fedi_text::{Moment, Text};
 use std::alloc::AllocError;
 
-/// A value that has a code, limits that its type does not tell, and a form in which it is read
+/// A value that has a code, limits that its type does not imply, and a form in which it is read
 /// again.
 pub trait Encode {
     ghost use Rattle.std.specs.Prelude.{List, ℕ};
@@ -27,8 +27,8 @@ pub trait Encode {
     ghost form: { Self → Type 0 };
 
     /// Appends the code of the value, which keeps its limits. The error is out of memory; it is
-    /// given too if a length or a count does not fit in four bytes. After an error the buffer ends
-    /// with a part of the code.
+    /// also returned if a length or a count does not fit in four bytes. After an error the buffer
+    /// ends with a part of the code.
     fn put(&self, bytes: &mut Vec<u8>) -> Result<(), AllocError>
         requires limits { limits self.now }
         ensures code { OnOk result (bytes.new.items ≡ bytes.old.items ++ code self.now) }
@@ -87,7 +87,7 @@ pub fn put_key(bytes: &mut Vec<u8>, key: &[u8; 32]) -> Result<(), AllocError>
     bytes.extend_from_slice(key)
 }
 
-/// Appends the bytes of a text, or of a repeat key, with their length before them.
+/// Appends the bytes of a text, or of a repeat key, preceded by their length.
 #[tactic(auto, unfolding(crate::specs::Codes::text_code))]
 pub fn put_bytes(bytes: &mut Vec<u8>, text: &[u8]) -> Result<(), AllocError>
     ensures { OnOk result (bytes.new.items ≡ bytes.old.items ++ text_code text.now) }
@@ -96,7 +96,7 @@ pub fn put_bytes(bytes: &mut Vec<u8>, text: &[u8]) -> Result<(), AllocError>
     bytes.extend_from_slice(text)
 }
 
-/// Appends a text with its length before it.
+/// Appends a text, preceded by its length.
 #[tactic(auto, using(crate::proofs::Texts::is_utf8_text))]
 pub fn put_text(bytes: &mut Vec<u8>, text: &str) -> Result<(), AllocError>
     ensures code { OnOk result (bytes.new.items ≡ bytes.old.items ++ text_code text.now) }

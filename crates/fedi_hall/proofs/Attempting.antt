@@ -117,7 +117,7 @@ record_turn b k n seen taken log now after c came m front r same at is on counts
       (subst (λ (j : ℕ). Records b (Some j) log now p came m r) same (recorded p (claimed_at k n seen taken log p c same at on has))),
 )
 
--- the log after a turn that adds nothing
+-- the log after a turn that added nothing
 pub goes_after : (n : ℕ) (seen taken log after : Log) → log ≡ taken → after ≡ log → Continues (λ (i : Item). i.pass) n seen taken → Goes (Some n) seen after
 goes_after n seen taken log after at is on = subst (λ (l : Log). Goes (Some n) seen l) (sym is) (goes_at n seen taken log at on)
 
@@ -197,7 +197,7 @@ taken_attempt w m seen mid back front c p log t on = record {
   back = subst (λ (l : Log). Goes w.by l back) t.is on;
 }
 
--- there was no memory to end it
+-- memory ran out before it was finished
 pub given_up_step : (w : Setting) (m : ℕ) (seen mid later now : Log) (front : ℕ) (c : Claim) (p : Pair) (log : Log) (asked heard : Told) (e : AllocError)
     → IsTaken w m seen mid front c p log → Goes w.by mid later → EndsAttempt (town (history_of log)) p.activity p.recipient asked heard (Err e) → ReleasesInTurn w.by later now p
     → Steps w seen now asked heard Memory
@@ -212,7 +212,7 @@ given_up_step w m seen mid later now front c p log asked heard e t on ends relea
   });
 }
 
--- an attempt that came to its end
+-- a finished attempt
 pub record IsEnded (w : Setting) (m : ℕ) (seen mid later now : Log) (claimed front : ℕ) (c : Claim) (p : Pair) (log : Log) (asked heard : Told) (came : Came) (moment : ℕ)
     (r : Result (Unit {0}) RecordFault) : Type 0 where
   pub taken : IsTaken w m seen mid claimed c p log
@@ -299,7 +299,7 @@ pub out_claimed : (told : Option ℕ) (b : Base) (n k m : ℕ) (seen mid later :
     → IsOut told b n m seen mid later front s asked heard r → IsClaimed (Some k) later s.claim
 out_claimed told b n k m seen mid later front s asked heard r same o = (o.pair, subst (λ (j : ℕ). HasClaimed (Some j) later o.pair s.claim) (sym same) o.has)
 
--- there was no memory to end it, and it was released
+-- memory ran out before the attempt was finished, and the delivery was released
 pub given_up : (told : Option ℕ) (b : Base) (n k m : ℕ) (seen mid later now : Log) (front : ℕ) (s : Sending) (asked heard : Told) (e : AllocError) → k ≡ n
     → IsOut told b n m seen mid later front s asked heard (Err e) → ((p : Pair) → HasClaimed (Some k) later p s.claim → ReleasesInTurn (Some k) later now p)
     → Steps (setting_at (Some n) told b) seen now asked heard Memory
@@ -311,7 +311,7 @@ later_now : (told : Option ℕ) (a b r : ℕ) → IsNow told a → IsNow told b 
 later_now told a b r first second (inl is) = subst (λ (n : ℕ). IsNow told n) (sym is) first
 later_now told a b r first second (inr is) = subst (λ (n : ℕ). IsNow told n) (sym is) second
 
--- it came to its end, and was recorded so
+-- the attempt was finished, and recorded with this result
 pub ended : (told : Option ℕ) (b : Base) (n k m other moment : ℕ) (seen mid later now : Log) (claimed front : ℕ) (s : Sending) (asked heard : Told) (came : Came)
     (r : Result (Unit {0}) RecordFault) → k ≡ n → IsNow told m → IsNow told other → m ≤ moment → (moment ≡ m) ⊎ (moment ≡ other)
     → (o : IsOut told b n m seen mid later claimed s asked heard (Ok came))
@@ -327,7 +327,7 @@ ended told b n k m other moment seen mid later now claimed front s asked heard c
       (recorded o.pair (subst (λ (j : ℕ). HasClaimed (Some j) later o.pair s.claim) (sym same) o.has));
 }
 
--- the step, by what became of the entry
+-- the step, given what became of the entry
 pub ended_step : (w : Setting) (m : ℕ) (seen mid later now : Log) (claimed front : ℕ) (c : Claim) (p : Pair) (log : Log) (asked heard : Told) (came : Came) (moment : ℕ)
     (r : Result (Unit {0}) RecordFault) → IsEnded w m seen mid later now claimed front c p log asked heard came moment r → Steps w seen now asked heard (step_after claimed came front r)
 ended_step w m seen mid later now claimed front c p log asked heard came moment (Ok done) k = sent_step w m seen mid later now claimed front c p log asked heard came moment k

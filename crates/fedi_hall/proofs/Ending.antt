@@ -78,7 +78,7 @@ module _ {W K : Type 0} (by room : ℕ → ℕ) (told : Option ℕ) (opened : St
   pub benches_after : length benches' ≡ length benches
   benches_after = length_turned bench_of benches' all' doors' ∙ same ∙ sym many_benches
 
-  -- the place of the station at which this pass and this bench are
+  -- the index of the station that this pass and this bench are at
   abbrev place : ℕ → ℕ
   place k = length all - 1 - k
 
@@ -134,7 +134,7 @@ module _ {W K : Type 0} (by room : ℕ → ℕ) (told : Option ℕ) (opened : St
         subst (λ (x : Bench W K). WorkedAt (setting_by by room told (Some k) opened) (given opened.history) log x (slice_index_or benches' k b)) (sym (bench_at k p b below))
         (subst (λ (x : Bench W K). WorkedAt (setting_by by room told (Some k) opened) (given opened.history) log s.bench x) (sym (bench_after k p b below)) last)
 
-    -- each item past the opening's names the worker of a bench
+    -- each item after those of the opening names the worker of a bench
     named : (b : Bench W K) → NamesOneOf (growth list) lock passes' log → NamesWorkers (length benches) (given opened.history) log
     named b names = record {
       past = names.0;
@@ -162,7 +162,7 @@ module _ {W K : Type 0} (by room : ℕ → ℕ) (told : Option ℕ) (opened : St
           worked_at on k (first_of passes (subst (λ (n : ℕ). 0 < n) (many_benches ∙ sym many_passes) some)) b (subst (λ (n : ℕ). k < n) many_benches below);
     }
 
-  -- ---- how it ended
+  -- ---- how the serving ended
 
   end_at : (ends : List WorkerEnd) → ends ≡ reverse (map end_of all') → (k : ℕ) (p : Pass Item) (b : Bench W K) (e : WorkerEnd) → k < length all
       → slice_index_or ends k e ≡ (slice_index_or all' (place k) (station p b)).end

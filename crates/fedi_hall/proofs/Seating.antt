@@ -1,4 +1,4 @@
--- Passes and benches that are put at stations, the last ones first, and taken back.
+-- Passes and benches that are put at stations, starting from the last ones, and returned from them.
 use Rattle.std.proofs.Common.{◌≡◌, ℕ, ◌<◌, ◌-◌, Bool, List, All, map, reverse, length, slice_index_or, Option, sym, ap, subst, ◌∙◌, arith}
 use Rattle.std.proofs.lemmas.List.{get_or-map, get_or-reverse, length-map, length-reverse, reverse-reverse}
 use Rattle.std.proofs.lemmas.List.Elements.{All-map}
@@ -13,7 +13,7 @@ use Rattle.fedi_hall.specs.Stations.{IsReady, bench_of, pass_of}
 use Rattle.fedi_hall.specs.Works.{IsWaiting}
 use Rattle.fedi_hall.specs.declared.stations.Station.{Station}
 
--- ---- lists that were turned round
+-- ---- reversed lists
 
 all_turned : {X : Type 0} (P : X → Type 0) (xs : List X) → All P xs → All P (reverse xs)
 all_turned P xs all = λ k d below.
@@ -39,14 +39,14 @@ module _ {X Y : Type 0} (f : X → Y) (ys : List Y) (xs : List X) (is : ys ≡ r
       let turned : All P (map f xs) = subst (λ (l : List Y). All P l) (ap reverse is ∙ reverse-reverse (map f xs)) (all_turned P ys all) in
       subst P (get_or-map f xs k e (f e) below) (turned k (f e) (subst (λ (n : ℕ). k < n) (sym (length-map xs f)) below))
 
--- the same, by the list that was turned
+-- the same, given the list that was reversed
 pub turned_from : {X Y : Type 0} (f : X → Y) (ys : List Y) (xs : List X) → map f xs ≡ reverse ys → ys ≡ reverse (map f xs)
 turned_from f ys xs is = sym (reverse-reverse ys) ∙ ap reverse (sym is)
 
 -- ---- stations
 
 module _ {V W K : Type 0} (log : V → Log) (out : W → Option Coming) (idle : W → Bool) (lock : TurnLock V Item) where
-  -- each pass is idle and each door waits, so that a worker may begin at each station
+  -- each pass is idle and each door is ready, so a worker may begin at each station
   pub seated : (passes : List (Pass Item)) (benches : List (Bench W K)) (all : List (Station W K)) → map pass_of all ≡ reverse passes → map bench_of all ≡ reverse benches
       → All (IsIdleBy log lock) passes → All (λ (b : Bench W K). IsWaiting out idle b.door) benches → All (IsReady log out idle lock) all
   seated passes benches all p b are_idle wait = λ k s below. (
@@ -54,7 +54,7 @@ module _ {V W K : Type 0} (log : V → Log) (out : W → Option Coming) (idle : 
     all_back bench_of benches all (turned_from bench_of benches all b) (λ (x : Bench W K). IsWaiting out idle x.door) wait k s below,
   )
 
-  -- and so they are once they are taken back
+  -- and the passes are still idle when they are returned
   pub idle_after : (passes : List (Pass Item)) (all : List (Station W K)) → passes ≡ reverse (map pass_of all) → All (IsReady log out idle lock) all → All (IsIdleBy log lock) passes
   idle_after passes all is ready = all_there pass_of passes all is (IsIdleBy log lock) (λ k s below. (ready k s below).0)
 

@@ -78,7 +78,7 @@ host_sync = search (crosses, sendable) depth 40
 global_sync : IsSync Global.the_row
 global_sync = search (crosses, sendable) depth 20
 
--- what the workers of a hall share, each by a reference, may be shared if each of it may
+-- what the workers of a hall share, each by a reference, may be shared if each part of it may
 pub shared_sync :
     (names : List ℕ) (R L C : RattleType) (a b c d e f : NamedLft)
     → IsSync R → IsSync L → IsSync C

@@ -1,4 +1,4 @@
--- A turn of the lock, as one of a worker.
+-- A turn of the lock is one of a worker.
 use Rattle.std.proofs.Common.{◌≡◌, ℕ, List, ◌++◌, Bool, Some, Result, Ok, Err, Vec, IfOk, OnErr, sym, subst, ◌∙◌, append-nil}
 use Rattle.fedi_log.specs.Keeping.{Base}
 use Rattle.fedi_log.specs.Log.{Goes, Log, NoEntry, Outcome, items_of}

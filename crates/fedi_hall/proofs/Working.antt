@@ -1,4 +1,4 @@
--- How work grows, row by row, and stays over a log that others add to.
+-- How work grows, row by row, and remains valid over a log that others add to.
 use Rattle.std.proofs.Common.{◌≡◌, ℕ, List, [], ◌∷◌, ◌++◌, Option, Some, None, IfSome, refl, sym, ap, subst, ◌∙◌, append_assoc, append-nil}
 use Rattle.std.specs.Prelude.{option_map}
 use Rattle.fedi_log.specs.Keeping.{Base}
@@ -16,7 +16,7 @@ use Rattle.fedi_logged.specs.declared.sessions.SessionEnd.{SessionEnd}
 use Rattle.fedi_turn.specs.Record.{Continues}
 use Rattle.fedi_hall.specs.Works.{HasWorked, IsServed, IsWorkOf, Works, output_after}
 
--- ---- one row more
+-- ---- one more row
 
 works_more : (w : Setting) (seen mid now : Log) (xs ys : List Exchange) (rows : List Row) (row : Row) → Works w seen mid xs rows → IsWorkOf w mid now ys row
     → Works w seen now (xs ++ ys) (rows ++ row ∷ [])
@@ -60,7 +60,7 @@ worked_next b told by same seen mid now before after last asked heard then xs ro
       works = works_more (setting_at by told b) seen mid now held.exchanges xs held.rows row held.works there;
     }
 
--- a line that came back
+-- a line that was returned
 pub served_row : (w : Setting) (seen now : Log) (row : Spoken) (reads writes : ℕ) (ending : SessionEnd) → reads ≡ 0 → writes ≡ 0
     → IfSome row.came.begun (λ (text : List ℕ). text ≡ []) → IsCaused (faults_of reads writes) (faults_of row.reads row.writes) ending
     → IfSome row.came.input (Serves w seen (record { sent = row.came.begun; faults = writes }) (scene_of row.left (output_after row)) now ending)
@@ -80,7 +80,7 @@ works_stay w seen now later xs [] goes more = (goes.0, goes_on w.by seen now lat
 works_stay w seen now later xs (r ∷ rows) works more =
     (works.0, works.1, works.2, works.3, works.4, works.5, works.6, works_stay w works.1 now later works.3 rows works.7 more)
 
--- what a worker did stays so over the log at the end, which goes on from what its pass has seen by
+-- what a worker did remains valid over the log at the end, which extends what its pass has seen by
 -- items of others
 pub worked_at_last : (w : Setting) (n : ℕ) (seen now log : Log) (before after : Option (List Row)) (asked heard : Told) → w.by ≡ Some n
     → Continues (λ (i : Item). i.pass) n now log → HasWorked w seen now before after asked heard → HasWorked w seen log before after asked heard

@@ -1,5 +1,4 @@
--- How a worker tries one delivery, over a log that others add to as well (ActivityPub, section
--- 7.1).
+-- How a worker attempts one delivery, over a log that others add to too (ActivityPub, section 7.1).
 use Rattle.std.specs.Prelude.{◌≡◌, ◌⊎◌, ℕ, ◌≤◌, List, [], ◌∷◌, ◌++◌, length, Option, Result, Ok}
 use Rattle.std.specs.Prelude.{Err}
 use Rattle.std.specs.declared.alloc.AllocError.{AllocError}
@@ -31,17 +30,18 @@ pub record Attempt : Type 0 where
   pub claim : Claim
   pub back : Log
 
--- The delivery is the first that was due and that nobody had claimed, at a moment that the clock
--- gave, at a log that goes on from what was seen; and the log at its end goes on from the claim by
--- items of others.
+-- The delivery is the first that was due and not claimed, at a moment that the clock gave and at a
+-- log that extends what was seen. The log at the end of the attempt extends the claim by items of
+-- others.
 pub record IsAttempt (w : Setting) (seen : Log) (a : Attempt) : Type 0 where
   pub later : Goes w.by seen a.log
   pub first : IsFirst a.pair.activity a.pair.recipient (free_in a.log a.claim.moment)
   pub now : IsNow w.told a.claim.moment
   pub back : Goes w.by (a.log ++ claim_item w.by a.pair a.claim ∷ []) a.back
 
--- What came of it is what its exchanges show, with the requests at the history at which it was
--- claimed; and it was recorded so, or not, at the later of two moments that the clock gave.
+-- The outcome is what the exchanges of the attempt show, with the requests at the history at which
+-- the delivery was claimed; and it was recorded or not, with this result, at the later of two
+-- moments that the clock gave.
 pub record Ends (w : Setting) (now : Log) (exchanges : List Exchange) (a : Attempt) (came : Came)
     (moment : ℕ) (recorded : Result (Unit {0}) RecordFault) : Type 0 where
   pub shows : ShowsCame (town (history_of a.log)) a.pair.activity a.pair.recipient exchanges came
@@ -49,7 +49,7 @@ pub record Ends (w : Setting) (now : Log) (exchanges : List Exchange) (a : Attem
   pub later : a.claim.moment ≤ moment
   pub records : Records w.base w.by a.back now a.pair came moment recorded
 
--- an attempt that was recorded so, or not
+-- an attempt whose outcome was recorded or not, with this result
 pub record Tries (w : Setting) (seen now : Log) (exchanges : List Exchange) (claimed front : ℕ)
     (came : Came) (recorded : Result (Unit {0}) RecordFault) : Type 0 where
   pub attempt : Attempt
@@ -59,7 +59,7 @@ pub record Tries (w : Setting) (seen now : Log) (exchanges : List Exchange) (cla
   pub moment : ℕ
   pub ends : Ends w now exchanges attempt came moment recorded
 
--- an attempt that there was no memory to end, and whose delivery was released
+-- an attempt that was not finished because memory ran out, and whose delivery was released
 pub record GivesUp (w : Setting) (seen now : Log) (exchanges : List Exchange) : Type 0 where
   pub attempt : Attempt
   pub is : IsAttempt w seen attempt
@@ -67,9 +67,9 @@ pub record GivesUp (w : Setting) (seen now : Log) (exchanges : List Exchange) : 
       IsBegun (town (history_of attempt.log)) attempt.pair.activity attempt.pair.recipient exchanges
   pub released : now ≡ attempt.back ++ made_by w.by (Released attempt.pair) ∷ []
 
--- From what was seen of the log to what was seen then, with these exchanges: what came of an
--- attempt was kept, at `front`; or the keeper failed to keep it; or it had no room for it; or
--- nothing that was due was left to claim; or there was no memory.
+-- From what was seen of the log before to what was seen after, with these exchanges: the outcome of
+-- an attempt was kept, at `front`; or the keeper failed to keep it; or the keeper had no room for
+-- it; or there was nothing left to claim that was due; or memory ran out.
 abbrev pub IsStep : Setting → Log → Log → List Exchange → Step → Type 0
 IsStep w seen now exchanges (Sent claimed came front) =
     Tries w seen now exchanges claimed front came (Ok tt)
@@ -83,20 +83,20 @@ IsStep w seen now exchanges (Nothing front moment) =
 IsStep w seen now exchanges Memory =
     ((exchanges ≡ []) × Goes w.by seen now) ⊎ GivesUp w seen now exchanges
 
--- the same, by what the link told before and after
+-- the same, given what the link reported before and after
 pub record Steps (w : Setting) (seen now : Log) (before after : Told) (step : Step) : Type 0 where
   pub exchanges : List Exchange
   pub exchanged : HasExchanged before after exchanges
   pub is : IsStep w seen now exchanges step
 
--- what became of an attempt, by what became of its entry
+-- what became of an attempt, given what became of its entry
 abbrev pub step_after : ℕ → Came → ℕ → Result (Unit {0}) RecordFault → Step
 step_after claimed came front (Ok done) = Sent claimed came front
 step_after claimed came front (Err records.KeeperFault) = Fault claimed front
 step_after claimed came front (Err records.Full) = Full claimed front
 step_after claimed came front (Err records.Memory) = Memory
 
--- what a door is told of a step
+-- what is reported to a door about a step
 abbrev pub rest_of : Step → Rest
 rest_of (Sent claimed came front) = rests.Tried claimed
 rest_of (Fault claimed front) = rests.Tried claimed
@@ -106,7 +106,7 @@ rest_of Memory = rests.Lost
 
 -- ---- turns of an attempt
 
--- a delivery is taken up, or none is, at a log of this length that goes on from what was seen
+-- a delivery is taken up, or there is none, at a log of this length that extends what was seen
 abbrev pub TakesUpInTurn : Option ℕ → ℕ → Log → Log → ℕ
     → Result (Option Sending) AllocError → Type 0
 TakesUpInTurn by moment seen now front result =
@@ -117,7 +117,7 @@ abbrev pub ReleasesInTurn : Option ℕ → Log → Log → Pair → Type 0
 ReleasesInTurn by seen now p =
     (back : Log) × Goes by seen back × (now ≡ back ++ made_by by (Released p) ∷ [])
 
--- what came of an attempt is recorded, or not, at a log of this length
+-- the outcome of an attempt is recorded, or not, at a log of this length
 abbrev pub RecordsInTurn : Base → Option ℕ → Log → Log → Pair → Came → ℕ → ℕ
     → Result (Unit {0}) RecordFault → Type 0
 RecordsInTurn b by seen now p came moment front result =

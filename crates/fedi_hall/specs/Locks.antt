@@ -1,4 +1,4 @@
--- What a lock over a value with a log is, and which passes are idle at it.
+-- A lock over a value with a log, and which passes are idle at it.
 use Rattle.std.specs.Prelude.{[]}
 use Rattle.fedi_log.specs.Log.{Log}
 use Rattle.fedi_log.specs.declared.items.Item.{Item}
@@ -7,7 +7,7 @@ use Rattle.fedi_turn.specs.declared.lock.Pass.{Pass}
 use Rattle.fedi_turn.specs.declared.lock.TurnLock.{TurnLock}
 use Rattle.fedi_turn.specs.Turn.{IsIdle}
 
--- the value stands for this log, whose items name passes
+-- how the value grows: it holds this log, whose items name passes
 abbrev pub growth : {V : Type 0} → (V → Log) → Ghosts V Item
 growth {V} log = record { list = log; base = λ _. []; name = λ (i : Item). i.pass }
 

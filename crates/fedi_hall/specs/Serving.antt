@@ -1,4 +1,4 @@
--- What is left once all workers over one machine have ended.
+-- What is left after all workers over one machine have ended.
 use Rattle.std.specs.Prelude.{◌≡◌, ◌<◌, ℕ, Bool, true, List, ◌++◌, All, length, slice_index_or}
 use Rattle.std.specs.Prelude.{Option, Some}
 use Rattle.fedi_log.specs.Keeping.{State}
@@ -17,14 +17,14 @@ use Rattle.fedi_hall.specs.declared.serving.ServeEnd.TheVariants.{Closed, DoorFa
 use Rattle.fedi_hall.specs.declared.workers.WorkerEnd.{WorkerEnd}
 use Rattle.fedi_hall.specs.declared.workers.WorkerEnd.TheVariants as workers
 
--- each item past what was seen names one of so many workers
+-- each item after what was seen names one of this many workers
 pub record NamesWorkers (count : ℕ) (seen log : Log) : Type 0 where
   pub past : Log
   pub is : log ≡ seen ++ past
   pub named : All (λ (i : Item). (n : ℕ) × (n < count) × (i.pass ≡ Some n)) past
 
--- There is one log, which begins with the history of the opening, and the machine stands for it;
--- each item past that names one worker; and what the worker of each bench did is over this log,
+-- There is one log, which begins with the history of the opening, and the machine holds it. Each
+-- item after that history names one worker, and what the worker of each bench did is over this log,
 -- from that history on.
 pub record ServesAll {W K : Type 0} (growth room : ℕ → ℕ) (told : Option ℕ) (opened : State)
     (first : Crashes) (closed : State) (crashes : Crashes)
@@ -47,8 +47,8 @@ pub record HasFailedDoor {W K : Type 0} (faults : W → ℕ)
   pub rose : (b : Bench W K) → faults (slice_index_or after place b).door
       ≡ next_count (faults (slice_index_or before place b).door)
 
--- The serving ended so: all doors are closed; or the door of some bench failed; or there was no
--- memory, and no door was asked.
+-- How the serving ended: all doors are closed; or the door of some bench failed; or memory ran out,
+-- and no door was asked.
 abbrev pub EndsServing : {W K : Type 0} → (W → Bool) → (W → ℕ) → List (Bench W K) → List (Bench W K)
     → ServeEnd → Type 0
 EndsServing {W} {K} closed faults before after Closed =
@@ -56,7 +56,7 @@ EndsServing {W} {K} closed faults before after Closed =
 EndsServing closed faults before after DoorFault = HasFailedDoor faults before after
 EndsServing closed faults before after Memory = after ≡ before
 
--- how the serving ended if the workers ended so
+-- how the serving ended, given how the workers ended
 abbrev pub end_by : WorkerEnd → ServeEnd
 end_by workers.Closed = Closed
 end_by workers.DoorFault = DoorFault

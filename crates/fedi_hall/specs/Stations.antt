@@ -33,12 +33,12 @@ end_of s = s.end
 abbrev pub ends_of : List WorkerEnd → WorkerEnd
 ends_of ends = fold both Closed ends
 
--- a worker may begin at the station: its pass is idle, and its door waits to be asked
+-- a worker may begin at the station: its pass is idle, and its door is ready to be asked
 abbrev pub IsReady : {V W K : Type 0} → (V → Log) → (W → Option Coming) → (W → Bool)
     → TurnLock V Item → Station W K → Type 0
 IsReady log out idle lock s = IsIdleBy log lock s.pass × IsWaiting out idle s.bench.door
 
--- what a worker did at a station, over the machine that was opened so
+-- what a worker did at a station, over a machine that was opened in this state
 pub record IsLabor
     {W K : Type 0} (growth room : ℕ → ℕ) (told : Option ℕ) (opened : State)
     (served : W → Option (List Row)) (tells : K → Told) (closed : W → Bool) (faults : W → ℕ)

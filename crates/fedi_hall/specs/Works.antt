@@ -1,4 +1,4 @@
--- What a worker does by the turns of its door, and over its link.
+-- What a worker does in the turns of its door and over its link.
 use Rattle.std.specs.Prelude.{◌≡◌, ℕ, Bool, false, true, List, [], ◌∷◌, ◌++◌, Option, None, IfSome}
 use Rattle.std.specs.Prelude.{option_map}
 use Rattle.fedi_log.specs.Log.{Goes, Log}
@@ -16,17 +16,17 @@ use Rattle.fedi_hall.specs.declared.workers.WorkerEnd.TheVariants.{Closed, DoorF
 
 -- ---- one row
 
--- the output of a line as it came: no write had failed
+-- the output of a line at its arrival: no write had failed
 abbrev pub output_of : Coming → Output
 output_of came = record { sent = came.begun; faults = 0 }
 
--- the output of a line that came back
+-- the output of a line that was returned
 abbrev pub output_after : Spoken → Output
 output_after row = record { sent = row.sent; faults = row.writes }
 
--- The line of this row was one connection, from what was seen of the log to what was seen then.
--- Nothing was sent on it before, and its end has its cause in its own counts; and if its input is
--- told, what was read and written is one conversation over that log.
+-- The line of this row was one connection, from what was seen of the log before to what was seen
+-- after. Nothing was sent on it before, and its own counts show the cause of its end. If its input
+-- is known, what was read and written is one conversation over that log.
 pub record IsServed (w : Setting) (seen now : Log) (row : Spoken) : Type 0 where
   pub fresh : IfSome row.came.begun (λ (text : List ℕ). text ≡ [])
   pub ending : SessionEnd
@@ -34,18 +34,18 @@ pub record IsServed (w : Setting) (seen now : Log) (row : Spoken) : Type 0 where
   pub serves : IfSome row.came.input
       (Serves w seen (output_of row.came) (scene_of row.left (output_after row)) now ending)
 
--- What a row tells, from what was seen of the log to what was seen then, with these exchanges over
--- the link: a line was served, and nothing was asked; or none waited, and one step of delivery was
--- made.
+-- What a row reports, from what was seen of the log before to what was seen after, with these
+-- exchanges over the link: a line was served and nothing was asked of the link, or no line was
+-- waiting and one step of delivery was made.
 abbrev pub IsWorkOf : Setting → Log → Log → List Exchange → Row → Type 0
 IsWorkOf w seen now exchanges (Served row) = (exchanges ≡ []) × IsServed w seen now row
 IsWorkOf w seen now exchanges (Rested rest) =
     (step : Step) × (rest ≡ rest_of step) × IsStep w seen now exchanges step
 
--- ---- rows one after the other
+-- ---- rows, one after another
 
--- each row over a log that goes on from what was seen after the one before it, and with the
--- exchanges that follow
+-- each row is over a log that extends what was seen after the one before it, and has the exchanges
+-- that follow
 abbrev pub Works : Setting → Log → Log → List Exchange → List Row → Type 0
 Works w seen now exchanges [] = (exchanges ≡ []) × Goes w.by seen now
 Works w seen now exchanges (row ∷ rows) =
@@ -53,7 +53,7 @@ Works w seen now exchanges (row ∷ rows) =
     × (exchanges ≡ own ++ others)
     × Goes w.by seen start × IsWorkOf w start next own row × Works w next now others rows
 
--- the rows that were added to those of the door, if it tells them, and the exchanges of the link
+-- the rows that were added to those of the door, if they are known, and the exchanges of the link
 -- are those of this work
 pub record HasWorked (w : Setting) (seen now : Log) (before after : Option (List Row))
     (asked heard : Told) : Type 0 where
@@ -65,11 +65,11 @@ pub record HasWorked (w : Setting) (seen now : Log) (before after : Option (List
 
 -- ---- the door of a worker
 
--- no line is out, and no rest is to be told
+-- no line is out, and no rest has to be reported
 abbrev pub IsWaiting : {W : Type 0} → (W → Option Coming) → (W → Bool) → W → Type 0
 IsWaiting out idle door = (out door ≡ None) × (idle door ≡ false)
 
--- a worker ended so: its door is closed and did not fail, or it failed once
+-- how a worker ended: its door is closed and did not fail, or it failed once
 abbrev pub EndsWork : Bool → ℕ → ℕ → WorkerEnd → Type 0
 EndsWork closed before now Closed = (closed ≡ true) × (now ≡ before)
 EndsWork closed before now DoorFault = now ≡ next_count before

@@ -1,4 +1,4 @@
-//! Trying what is due, one delivery at a time.
+//! Attempts of what is due, one delivery at a time.
 ghost use Rattle.std.specs.Prelude.{◌≡◌, ◌⊎◌, ◌++◌, ◌≤◌, IfOk, Some};
 ghost use Rattle.fedi_entry.specs.Fields.{MayCome};
 ghost use Rattle.fedi_log.specs.Claims.{HasClaimed};
@@ -27,45 +27,45 @@ use fedi_visible::Shelf;
 use std::alloc::{AllocError, Global};
 use std::sync::Wait;
 
-/// What became of a look for a delivery that is due. Places are those of items in the log.
+/// The result of looking for a delivery that is due. Positions are those of items in the log.
 #[derive(Clone, Copy)]
 pub enum Step {
-    /// A delivery was tried, and what came of it is kept.
+    /// A delivery was attempted, and the outcome is kept.
     Sent {
-        /// The place of its claim.
+        /// The position of its claim.
         claimed: u64,
-        /// What came of it.
+        /// The outcome.
         came: Came,
-        /// The place of its entry.
+        /// The position of its entry.
         front: u64,
     },
-    /// No delivery that is due is unclaimed.
+    /// Every delivery that is due is claimed.
     Nothing {
-        /// The length of the log then.
+        /// The length of the log at that time.
         front: u64,
         /// The moment.
         moment: Moment,
     },
-    /// A delivery was tried, and the keeper failed to keep what came of it. It is due as before.
+    /// A delivery was attempted, and the keeper failed to keep the outcome. It is still due.
     Fault {
-        /// The place of its claim.
+        /// The position of its claim.
         claimed: u64,
-        /// The place of the mark of its entry.
+        /// The position of the mark of its entry.
         front: u64,
     },
-    /// A delivery was tried, and the keeper has no room for what came of it. It is due as before.
+    /// A delivery was attempted, and the keeper has no room for the outcome. It is still due.
     Full {
-        /// The place of its claim.
+        /// The position of its claim.
         claimed: u64,
-        /// The place of its release.
+        /// The position of its release.
         front: u64,
     },
-    /// Out of memory. What was claimed is released, and due as before.
+    /// Memory ran out. What was claimed is released, and is still due.
     Memory,
 }
 
 impl Step {
-    // What became of an attempt, by what became of its entry.
+    // What became of an attempt, given what became of its entry.
     fn after(claimed: u64, came: Came, front: u64, recorded: Result<(), RecordFault>) -> Step
         ensures { result ≡ step_after claimed came front recorded }
     {
@@ -81,7 +81,7 @@ impl Step {
         }
     }
 
-    /// What a door is told of it.
+    /// What is reported to a door about this step.
     pub fn rest(self) -> Rest
         ensures { result ≡ rest_of self }
     {
@@ -97,10 +97,10 @@ impl Step {
     }
 }
 
-/// A machine that delivers, too.
+/// A machine that also delivers.
 pub trait Delivers: Turns {
-    /// Tries the first delivery that is due and that nobody has claimed, over the link, in turns of
-    /// the machine.
+    /// Attempts the first delivery that is due and not claimed over the link, in turns of the
+    /// machine.
     fn deliver_one<K: Link, C: Clock>(&mut self, alloc: Global, link: &mut K, clock: &C) -> Step
         requires ready { Self.ready self.old }
         ensures ready { Self.ready self.new }
@@ -113,8 +113,8 @@ pub trait Delivers: Turns {
 
 // ---- turns
 
-// Takes up the first delivery that is due and that nobody has claimed. The number is the length of
-// the log before.
+// Takes up the first delivery that is due and not claimed. The number is the length of the log
+// before this.
 fn take_up_in_turn<R: Wait, S: Shelf + Drop, P: Keeper + Drop, O: Opened>(
     rt: &R,
     alloc: Global,
@@ -183,8 +183,8 @@ fn release_in_turn<R: Wait, S: Shelf + Drop, P: Keeper + Drop, O: Opened>(
     lock.give(pass, held);
 }
 
-// Keeps what came of an attempt of a delivery that the pass has claimed, or releases it. The number
-// is the length of the log before.
+// Keeps the outcome of an attempt of a delivery that the pass has claimed, or releases the
+// delivery. The number is the length of the log before this.
 fn record_in_turn<R: Wait, S: Shelf + Drop, P: Keeper + Drop, O: Opened>(
     rt: &R,
     alloc: Global,
@@ -215,9 +215,9 @@ fn record_in_turn<R: Wait, S: Shelf + Drop, P: Keeper + Drop, O: Opened>(
 
 // ---- one attempt
 
-// Tries a delivery that the pass has claimed over the link (ActivityPub, section 7.1): looks the
+// Attempts a delivery that the pass has claimed over the link (ActivityPub, section 7.1): looks the
 // recipient up, and posts the activity to the inbox that was found. Both exchanges are outside of
-// turns. The error is out of memory, and what was sent until then is not undone.
+// turns. The error is out of memory, which does not undo what was already sent.
 fn attempt<R: Wait, S: Shelf + Drop, P: Keeper + Drop, O: Opened, K: Link>(
     rt: &R,
     alloc: Global,
@@ -261,10 +261,10 @@ fn attempt<R: Wait, S: Shelf + Drop, P: Keeper + Drop, O: Opened, K: Link>(
     }
 }
 
-/// Tries the first delivery that is due and that nobody has claimed (ActivityPub, sections 7.1 and
-/// 7.1.2): claims it in one turn of the pass, looks its recipient up and posts it outside of turns,
-/// and records what came of it in another. Until then it is given to nobody else. What is recorded
-/// is at the later of two readings of the clock.
+/// Attempts the first delivery that is due and not claimed (ActivityPub, sections 7.1 and 7.1.2):
+/// claims it in one turn of the pass, looks its recipient up and posts it outside of turns, and
+/// records the outcome in another turn. Until then it is given to nobody else. The moment of the
+/// record is the later of two readings of the clock.
 pub fn deliver_one<R: Wait, S: Shelf + Drop, P: Keeper + Drop, O: Opened, K: Link, C: Clock>(
     rt: &R,
     alloc: Global,

@@ -1,4 +1,4 @@
-//! A machine that many take turns with.
+//! A machine that many workers take turns with.
 ghost use Rattle.std.specs.Prelude.{◌≡◌, ◌<◌, ◌↔◌, All, IfErr, IfOk, IsErr, IsTrue, Some, is_some};
 ghost use Rattle.std.specs.Prelude.{option_copied, vec_len};
 ghost use Rattle.fedi_log.specs.Keeping.{state_of};
@@ -21,7 +21,7 @@ use fedi_visible::Shelf;
 use std::alloc::{AllocError, Global};
 use std::sync::Wait;
 
-/// A machine with its log behind the turn lock, and what is needed outside of turns. Each worker
+/// A machine with its log under the turn lock, and what is needed outside of turns. Each worker
 /// has a pass of the lock.
 #[derive(Drop)]
 pub struct Hall<S: Shelf + Drop, P: Keeper + Drop, O: Opened> {
@@ -31,7 +31,7 @@ pub struct Hall<S: Shelf + Drop, P: Keeper + Drop, O: Opened> {
     pub routes: Routes,
 }
 
-// The host of the machine, copied. The error is out of memory.
+// A copy of the host of the machine. The error is out of memory.
 fn host_of<S: Shelf + Drop, P: Keeper>(core: &Core<S, P>) -> Result<Host, AllocError>
     requires hosted { IsTrue (is_some (town core.now.history).host) }
     ensures { IfOk result (λ host. (town core.now.history).host ≡ Some host) }
@@ -43,8 +43,8 @@ fn host_of<S: Shelf + Drop, P: Keeper>(core: &Core<S, P>) -> Result<Host, AllocE
 }
 
 impl<S: Shelf + Drop, P: Keeper + Drop, O: Opened> Hall<S, P, O> {
-    /// The hall over a machine that was opened so, with as many passes, each of which has seen the
-    /// history of the machine. The error is out of memory, and hands the machine back.
+    /// The hall over an opened machine, with this many passes, each of which has seen the history
+    /// of the machine. The error is out of memory, and hands the machine back.
     pub fn new(
         alloc: Global,
         core: Core<S, P>,
@@ -77,12 +77,11 @@ impl<S: Shelf + Drop, P: Keeper + Drop, O: Opened> Hall<S, P, O> {
         }
     }
 
-    /// The machine, given back all passes, each idle. It waits for the machine as a turn does.
+    /// The machine, in exchange for all passes, each idle. It waits for the machine as a turn does.
     ///
-    /// There is one log at the end, for which the machine stands. It goes on from what each pass
-    /// has seen by items of others, and each item past the history of the opening names one of the
-    /// passes. If there are fewer passes than `new` gave, the hall and the passes come back as they
-    /// were.
+    /// The machine then holds one log. It extends what each pass has seen by items of others, and
+    /// each item after the history of the opening names one of the passes. If there are fewer
+    /// passes than `new` returned, the hall and the passes are handed back unchanged.
     pub fn close<R: Wait>(
         self,
         rt: &R,

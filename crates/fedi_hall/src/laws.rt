@@ -8,8 +8,8 @@ ghost use Rattle.fedi_logged.specs.Conversations.{Setting};
 ghost use Rattle.fedi_turn.specs.Record.{Continues};
 ghost use Rattle.fedi_hall.specs.Works.{HasWorked};
 
-/// What a worker did stays so over a log that goes on from what its pass has seen by items of
-/// others: so it stands over the log at the end.
+/// The work of a worker remains valid over a log that extends what its pass has seen by items of
+/// others, so it is valid over the log at the end.
 pub fn work_stays()
     ensures { (w : Setting) (n : ℕ) (seen now log : Log) (before after : Option (List Row))
         (asked heard : Told)

@@ -1,4 +1,4 @@
-//! Serving the connections of many doors at once.
+//! Serves the connections of many doors at once.
 ghost use Rattle.std.specs.Prelude.{◌≡◌, ◌<◌, ℕ, All, IfOk, IsTrue, Option, [], is_some};
 ghost use Rattle.std.specs.Prelude.{vec_capacity, vec_len};
 ghost use Rattle.fedi_log.specs.Keeping.{state_of};
@@ -27,11 +27,11 @@ use std::thread::Threads;
 /// How the serving ended.
 #[derive(Clone, Copy, Debug, PartialEq, Eq)]
 pub enum ServeEnd {
-    /// Each door said that there will be no connection any more.
+    /// Each door reported that no more connections will come.
     Closed,
     /// A door failed.
     DoorFault,
-    /// Out of memory, before the first connection.
+    /// Memory ran out before the first connection.
     Memory,
 }
 
@@ -49,16 +49,16 @@ impl From<WorkerEnd> for ServeEnd {
     }
 }
 
-/// What is left of a machine and its benches that were served.
+/// What is left of a machine and its benches after they were served.
 #[derive(Drop)]
 pub struct Served<S: Shelf, P: Keeper, W, K> {
     pub end: ServeEnd,
     pub core: Core<S, P>,
-    /// The benches, in the order in which they came.
+    /// The benches, in their original order.
     pub benches: Vec<Bench<W, K>>,
 }
 
-// Room for the stations, passes and benches of so many workers.
+// Room for the stations, passes and benches of this many workers.
 #[derive(Drop)]
 struct Room<W, K> {
     stations: Vec<Station<W, K>>,
@@ -80,7 +80,7 @@ fn make_room<W: Drop, K: Drop>(alloc: Global, count: usize) -> Result<Room<W, K>
     })
 }
 
-// No door was asked, since there was no memory.
+// The result if memory ran out and no door was asked.
 fn unserved<S: Shelf + Drop, P: Keeper, O: Opened, W: Door, K: Link>(
     core: Core<S, P>,
     benches: Vec<Bench<W, K>>,
@@ -157,9 +157,9 @@ fn serve_opened<
     }
 }
 
-/// Serves the connections of all benches at once over the machine, and delivers while none wait, by
-/// one worker for each bench, each in a thread of its own, until all have ended. It hands the
-/// machine and the benches back with how it ended.
+/// Serves the connections of all benches at once over the machine, and delivers while none are
+/// waiting. Each bench has one worker, in a thread of its own. It returns after all workers have
+/// ended, and hands the machine and the benches back with how it ended.
 pub fn serve_core<
     R: Threads + Wait + Sync,
     S: Shelf + Drop + Send,
@@ -179,10 +179,10 @@ pub fn serve_core<
     requires unclaimed { core.rows ≡ rows_of (town core.history) }
     requires hosted { IsTrue (is_some (town core.history).host) }
     requires legal { IsLegal core.history }
-    // There is one log at the end, for which the machine stands, and each item past the history
-    // that it had names one worker. What each worker read and wrote on the lines of its door are
-    // conversations over this log, one after the other, and what it asked and heard over its link
-    // are attempts of deliveries that were due and that nobody else had.
+    // At the end the machine holds one log, and each item after the history that it began with
+    // names one worker. What each worker read and wrote on the lines of its door are conversations
+    // over this log, one after another. What it asked and heard over its link are attempts of
+    // deliveries that were due and that nobody else had.
     ensures served { ServesAll P.growth P.room (C.told clock.now)
         (state_of core.history (P.shown core.keeper)) (P.crashes core.keeper)
         (state_of result.core.history (P.shown result.core.keeper)) (P.crashes result.core.keeper)

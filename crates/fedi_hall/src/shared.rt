@@ -1,4 +1,4 @@
-//! What a worker has of a hall.
+//! A worker's share of a hall.
 ghost use Rattle.std.specs.Prelude.{◌≡◌, Some};
 ghost use Rattle.std.proofs.Common.{ap, refl, ◌∙◌};
 ghost use Rattle.fedi_log.specs.Keeping.{base_of};
@@ -20,8 +20,8 @@ use fedi_visible::Shelf;
 use std::alloc::{AllocError, Global};
 use std::sync::Wait;
 
-/// What a worker has of a hall: its pass, which is its own, and the rest, which all share. What a
-/// request asks is found outside of the turn.
+/// A worker's share of a hall: its pass, which is its own, and the rest, which all workers share.
+/// What a request asks is determined outside of the turn.
 #[derive(Drop)]
 pub struct Shared<'a, 'b, R, S: Shelf + Drop, P: Keeper + Drop, O: Opened> {
     pub rt: &'a R,

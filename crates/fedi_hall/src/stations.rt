@@ -30,7 +30,7 @@ pub struct Station<W, K> {
     pub end: WorkerEnd,
 }
 
-/// Puts each pass at a bench, the last ones first, in stations for which there is room.
+/// Puts each pass at a bench, starting from the last ones, in stations that there is room for.
 pub(crate) fn seat<W: Drop, K: Drop>(
     room: Vec<Station<W, K>>,
     passes: Vec<Pass<Item>>,
@@ -57,7 +57,8 @@ pub(crate) fn seat<W: Drop, K: Drop>(
     stations
 }
 
-/// Takes the passes and the benches back, for which there is room, and says how the workers ended.
+/// Returns the passes and the benches from the stations, in lists that have room for them, and says
+/// how the workers ended.
 pub(crate) fn leave<W: Drop, K: Drop>(
     stations: Vec<Station<W, K>>,
     passes: &mut Vec<Pass<Item>>,
@@ -82,7 +83,7 @@ pub(crate) fn leave<W: Drop, K: Drop>(
     all
 }
 
-/// Has one worker for each station, each in a thread of its own, until all have ended.
+/// Runs one worker for each station, each in a thread of its own, until all have ended.
 pub fn serve_stations<
     R: Threads + Wait + Sync,
     S: Shelf + Drop + Send,
@@ -130,7 +131,7 @@ pub fn serve_stations<
     stations
 }
 
-/// Has a worker at the station until it has ended.
+/// Runs a worker at the station until it has ended.
 fn labor<R: Wait, S: Shelf + Drop, P: Keeper + Drop, O: Opened, W: Door, K: Link, C: Clock>(
     rt: &R,
     alloc: Global,

@@ -17,10 +17,10 @@ use fedi_visible::Shelf;
 use std::alloc::{AllocError, Global};
 use std::sync::Wait;
 
-/// Answers a request that has this body and asks this, in one turn of the pass: who asks, what
-/// becomes of a post or a delivery and keeping it. It hands back the text of the reply, which has
-/// no body if the method is HEAD; the connection is told to close if `closing`. The error is out of
-/// memory, and then nothing was kept, and the keeper did not fail.
+/// Answers a request that has this body and asks this, in one turn of the pass: it determines who
+/// asks and what becomes of a post or a delivery, and keeps it. Returns the text of the reply,
+/// which has no body if the method is HEAD and says that the connection closes if `closing`. The
+/// error is out of memory, and then nothing was kept, and the keeper did not fail.
 pub fn answer_in_turn<R: Wait, S: Shelf + Drop, P: Keeper + Drop, O: Opened>(
     rt: &R,
     alloc: Global,

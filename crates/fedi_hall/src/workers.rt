@@ -13,7 +13,7 @@ use std::sync::Wait;
 /// How a worker ended.
 #[derive(Clone, Copy, Debug, PartialEq, Eq)]
 pub enum WorkerEnd {
-    /// Its door said that there will be no connection any more.
+    /// Its door reported that no more connections will come.
     Closed,
     /// Its door failed.
     DoorFault,
@@ -31,10 +31,10 @@ impl WorkerEnd {
     }
 }
 
-/// Serves the connections of the bench's door, one after the other, until it closes or fails. Each
-/// line that the door gave comes back to it, and a fault of a line ends that line alone. Each time
-/// that no connection waits, one delivery that is due is tried over the bench's link, and the door
-/// is told what was done.
+/// Serves the connections of the bench's door, one after another, until the door closes or fails.
+/// Each line that the door gave is returned to it, and a fault of a line ends only that line.
+/// Whenever no connection is waiting, one delivery that is due is attempted over the bench's link,
+/// and the result is reported to the door.
 pub fn worker<R: Wait, T: Delivers, W: Door, K: Link, C: Clock>(
     rt: &R,
     alloc: Global,
@@ -47,9 +47,8 @@ pub fn worker<R: Wait, T: Delivers, W: Door, K: Link, C: Clock>(
     ensures ready { T.ready turns.new }
     ensures same { T.same turns.old turns.new }
     ensures waiting { IsWaiting W.out W.idle bench.new.door }
-    // The door has one row more for each line and for each rest, and the link one exchange more for
-    // each that a step of delivery tells of; and by each row the log goes on from what was seen
-    // before it.
+    // The door has one more row for each line and for each rest, and the link has one more exchange
+    // for each that a step of delivery made. By each row the log extends what was seen before it.
     ensures worked { HasWorked (setting_at (T.by turns.old) (C.told clock.now) T.base)
         (T.seen turns.old) (T.seen turns.new) (W.served bench.old.door) (W.served bench.new.door)
         (told_by K.asked K.heard K.link_faults bench.old.link)

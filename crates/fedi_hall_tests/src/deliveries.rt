@@ -28,10 +28,10 @@ const EVE: &str = "\
 /// A delivery was taken.
 const TAKEN: &str = "HTTP/1.1 202 Accepted\r\n\r\n";
 
-/// How many entries a store has in which a note of ana is to be delivered to eve.
+/// How many entries a store has if a note of ana is to be delivered from it to eve.
 const ENTRIES: u64 = 4;
 
-// The disk of such a store, with so many notes.
+// The disk of such a store, with this many notes.
 fn waiting(alloc: Global, notes: u32) -> Result<MemoryDisk, Fail> {
     let mut disk = disk_after(alloc, PEER, "", town(alloc)?)?;
     let post = post(alloc, NOTE)?;
@@ -42,7 +42,7 @@ fn waiting(alloc: Global, notes: u32) -> Result<MemoryDisk, Fail> {
     Ok(MemoryDisk::new(alloc, disk.bytes().to_vec(alloc)?)?)
 }
 
-// A link by which so many deliveries are taken.
+// A link that takes this many deliveries.
 fn taking(alloc: Global, deliveries: u32) -> Result<MemoryLink, AllocError> {
     let mut replies = Vec::new(alloc);
     for _ in 0..deliveries {
@@ -63,7 +63,7 @@ fn idle_twice(alloc: Global) -> Result<MemoryDoor, AllocError>
     MemoryDoor::new(alloc, turns)
 }
 
-// What a door was told, if that is all.
+// The two rests of a door, if it had no other turns.
 fn told(rows: &[MemoryRow]) -> Option<(Rest, Rest)> {
     match rows {
         [MemoryRow::Rested(first), MemoryRow::Rested(second)] => Some((*first, *second)),
@@ -71,7 +71,7 @@ fn told(rows: &[MemoryRow]) -> Option<(Rest, Rest)> {
     }
 }
 
-// What the door of a bench is told that is idle twice, how many exchanges its link had, and the
+// The two rests of the door of a bench that is idle twice, how many exchanges its link had, and the
 // disk.
 fn rests<R: Threads + Wait + Sync>(
     rt: &R,
@@ -128,7 +128,7 @@ fn a_worker_delivers_what_is_due(rt: HostRuntime) -> Result<(), Fail> {
 }
 
 // The first call of the disk by which an attempt would be kept fails. So the delivery is due as
-// before, and what came of the next attempt alone is kept.
+// before, and only the result of the next attempt is kept.
 #[test]
 fn an_attempt_that_is_not_kept_is_made_again(rt: HostRuntime) -> Result<(), Fail> {
     let opening = calls_of_an_opening(&rt, rt.alloc(), waiting(rt.alloc(), 1)?)?;
@@ -163,7 +163,7 @@ fn bench<'a, R: Wait + Clock + Sync>(
     })
 }
 
-// What two benches are left with: for each what its door was told, how many exchanges its link had,
+// What two benches are left with: for each the rest of its door, how many exchanges its link had,
 // and how many of them failed.
 #[derive(Drop)]
 struct Left {
@@ -172,8 +172,8 @@ struct Left {
     disk: MemoryDisk,
 }
 
-// Lets two workers look once each for what is due. The doors open the first gate when nothing is,
-// and the links are held back by the second, or open it.
+// Lets each of two workers look once for what is due. The doors open the first gate when nothing is
+// due, and the links are held back by the second, or open it.
 fn side_by_side<'a, R: Threads + Wait + Clock + Sync>(
     rt: &'a R,
     alloc: Global,
@@ -195,8 +195,8 @@ fn side_by_side<'a, R: Threads + Wait + Clock + Sync>(
     }
 }
 
-// Whichever worker comes first claims the delivery, and its link is held back until the door of the
-// other was told that nothing is due: so what is claimed is not claimed again.
+// The worker that comes first claims the delivery, and its link is held back until the other's door
+// learns that nothing is due: so what is claimed is not claimed again.
 #[test]
 fn a_delivery_is_claimed_once(rt: HostRuntime) -> Result<(), Fail> {
     let gate = Gate::new();

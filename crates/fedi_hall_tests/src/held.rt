@@ -1,4 +1,4 @@
-//! Lines, links and doors in memory of which one waits for another.
+//! Lines, links and doors in memory that wait for each other.
 ghost use Rattle.std.specs.Prelude.{◌≡◌, None, false};
 ghost use Rattle.std.proofs.Common.{refl};
 ghost use Rattle.fedi_adapters.specs.Untold.{untold_if};
@@ -11,10 +11,10 @@ use std::sync::{Mutex, Wait};
 use std::thread;
 use std::time::{Clock, Duration};
 
-/// How often whoever waits looks at a gate before it fails.
+/// How often a waiting thread looks at a gate before it fails.
 const TURNS: u32 = 1_000_000;
 
-/// How many microseconds it sleeps between two looks, so that others come to their turns.
+/// How many microseconds it sleeps between two looks, so that the others get their turns.
 const PAUSE: u64 = 10;
 
 /// A stage that only grows, for which some wait until others have reached it.
@@ -23,7 +23,7 @@ pub struct Gate {
     stage: Mutex<u8>,
 }
 
-/// The stage at which a line that waits was answered, and that which opens the gate.
+/// The stage at which a line that waits was answered, and the stage that opens the gate.
 const ANSWERED: u8 = 1;
 
 const OPEN: u8 = 2;
@@ -65,15 +65,15 @@ impl Gate {
 pub enum Part {
     /// Nothing.
     Free,
-    /// Each read but the first, or each exchange, waits until it is open.
+    /// Each read except the first, or each exchange, waits until it is open.
     Waits,
-    /// Each write or exchange opens it. A line waits for that until one that waits was answered.
+    /// Each write or exchange opens it. A line first waits until a waiting line was answered.
     Opens,
 }
 
 // ---- lines
 
-/// A line in memory. It tells neither what is to be read nor what was sent; its sink has that.
+/// A line in memory. It reports neither what is to be read nor what was sent; its sink has that.
 #[derive(Drop)]
 pub struct HeldLine<'a, R> {
     rt: &'a R,
@@ -231,8 +231,8 @@ impl<'a, R: Wait + Clock + Sync> Door for HeldDoor<'a, R> {
 
 // ---- links
 
-/// A link in memory. It tells neither what it was asked nor what was heard; the link that it is
-/// made of has that.
+/// A link in memory. It reports neither what it was asked nor what was heard; the link inside it
+/// has that.
 #[derive(Drop)]
 pub struct HeldLink<'a, R> {
     rt: &'a R,
@@ -291,8 +291,8 @@ impl<R: Wait + Clock> Link for HeldLink<'_, R> {
     }
 }
 
-/// A door that is idle once, and closed after that. It keeps what it is told, and opens the gate if
-/// that is that nothing is due.
+/// A door that is idle once, and closed after that. It keeps its rest, and opens the gate if
+/// nothing was due.
 #[derive(Drop)]
 pub struct IdleDoor<'a, R> {
     rt: &'a R,
@@ -305,7 +305,7 @@ pub struct IdleDoor<'a, R> {
 }
 
 impl<'a, R> IdleDoor<'a, R> {
-    /// A door that was told nothing yet.
+    /// A door that has not rested yet.
     pub fn new(rt: &'a R, gate: &'a Gate) -> Self
         ensures out { result.is_out ≡ false }
         ensures idle { result.is_idle ≡ false }
@@ -321,7 +321,7 @@ impl<'a, R> IdleDoor<'a, R> {
         }
     }
 
-    /// What it was told.
+    /// Its rest.
     pub fn told(&self) -> Option<Rest> {
         self.told
     }

@@ -1,5 +1,5 @@
-//! Tests that need threads: of workers side by side, and of links over TCP with whoever answers
-//! them.
+//! Tests that need threads: of the turn lock, of workers side by side, and of links over TCP with
+//! whatever peer answers; and the value that takes turns in the tests of the lock.
 #![tactic(auto)]
 
 #[cfg(test)]
@@ -10,5 +10,10 @@ mod held;
 mod lines;
 #[cfg(test)]
 mod links;
+mod tally;
 #[cfg(test)]
 mod towns;
+#[cfg(test)]
+mod turns;
+
+pub use tally::{Tally, turn};

@@ -20,7 +20,7 @@ const OBJECT: &str = "GET /users/ana/o/1 HTTP/1.1\r\nHost: club.example\r\n\r\n"
 const OUTBOX: &str = "GET /users/ana/outbox?page=0 HTTP/1.1\r\nHost: club.example\r\n\r\n";
 
 /// What is sent on a line, in pieces that are read one by one; whether it waits for the other; and
-/// the statuses of the replies, in order, and a text of the last of them.
+/// the statuses of the replies, in order, and a text in the last of them.
 #[derive(Clone, Copy)]
 struct Row<'a> {
     pieces: &'a [&'a str],
@@ -92,9 +92,9 @@ fn expect<'a, R: Threads + Wait + Clock + Sync>(
     }
 }
 
-// The first line holds its second request back until the reply to the other's post was written,
-// which is read once the first request was answered: so the workers run side by side, and one that
-// has only read before finds what another posted.
+// The first line holds its second request back until the reply to the other's post was written, and
+// that post is read only after the first request was answered. So the workers run side by side, and
+// one that has only read before finds what another posted.
 #[test]
 fn a_line_that_only_reads_finds_what_another_posted(rt: HostRuntime) -> Result<(), Fail> {
     let post = post(rt.alloc(), NOTE)?;
@@ -133,7 +133,7 @@ fn a_line_that_posts_finds_its_own_post(rt: HostRuntime) -> Result<(), Fail> {
     expect(&rt, rt.alloc(), &gate, &own, &none)
 }
 
-// The status by the turns of one door.
+// The status for the turns of one door.
 #[test]
 fn a_door_that_fails_ends_with_11(rt: HostRuntime) -> Result<(), Fail> {
     for (fails, status) in [(false, 0), (true, 11)] {

@@ -10,7 +10,7 @@ use std::test::Fail;
 use std::thread::{self, Threads};
 use std::time::{Clock, Duration};
 
-/// How many milliseconds an exchange has that is to fail, and one that is to end well.
+/// How many milliseconds an exchange has that is to fail, and one that is to succeed.
 const SHORT: u64 = 500;
 
 const LONG: u64 = 20_000;
@@ -25,13 +25,13 @@ enum Peer {
     Absent,
     /// It takes the connection, and neither reads nor writes until the exchange is over.
     Holds,
-    /// It reads the request, and writes so many bytes.
+    /// It reads the request, and writes this many bytes.
     Replies(usize),
-    /// It reads the request, and writes so many bytes, one each tenth of the short time.
+    /// It reads the request, and writes this many bytes, one each tenth of the short time.
     Drips(u32),
 }
 
-// So many bytes, no two neighbors of which are the same.
+// This many bytes, where any two neighbors differ.
 fn bytes(alloc: Global, count: usize) -> Result<Vec<u8>, AllocError> {
     let mut bytes = Vec::with_capacity(alloc, count)?;
     for place in 0..count {
@@ -49,7 +49,7 @@ fn listen<R: Net<Listener = TcpListener, Stream = TcpStream>>(
     Ok((listener, address))
 }
 
-// The connection that comes, if it comes in time.
+// The next connection, if it comes in time.
 fn accept<R: Clock>(rt: &R, listener: &TcpListener) -> io::Result<TcpStream> {
     for _ in 0..LONGEST {
         match listener.accept() {
@@ -77,7 +77,7 @@ fn drip<R: Clock>(rt: &R, stream: &mut TcpStream, count: u32) -> io::Result<()> 
     Ok(())
 }
 
-// Does as the other side, and says whether it was sent what was to be sent, if it reads that.
+// Acts as the other side, and says whether it received what was to be sent, if it reads that.
 fn answer<R: Clock>(
     rt: &R,
     alloc: Global,
@@ -114,7 +114,7 @@ fn answer<R: Clock>(
     Ok(true)
 }
 
-// What an exchange hears that has so many milliseconds, if it does not fail.
+// What an exchange hears that has this many milliseconds, if it does not fail.
 fn hear<R: Net<Listener = TcpListener, Stream = TcpStream> + Clock>(
     rt: &R,
     alloc: Global,
@@ -133,7 +133,7 @@ fn hear<R: Net<Listener = TcpListener, Stream = TcpStream> + Clock>(
     }
 }
 
-// Whether so many bytes were heard as they were sent, or none since the exchange failed.
+// Whether `count` bytes were heard as they were sent, or none because the exchange failed.
 fn is_heard(
     alloc: Global,
     heard: Option<Vec<u8>>,
@@ -146,7 +146,8 @@ fn is_heard(
     }
 }
 
-// Whether the exchange of a request of so many bytes with this other side hears so many, or fails.
+// Whether the exchange of a request of this many bytes with this other side hears `count` bytes, or
+// fails if there is no count.
 fn hears<R: Net<Listener = TcpListener, Stream = TcpStream> + Clock + Threads + Sync>(
     rt: &R,
     alloc: Global,
@@ -176,7 +177,8 @@ fn hears<R: Net<Listener = TcpListener, Stream = TcpStream> + Clock + Threads + 
     Ok(taken? && is_heard(alloc, heard?, count)?)
 }
 
-// Whoever is slow, silent or long-winded, an exchange ends in its time and its room.
+// Even if the other side is slow, silent or sends too much, an exchange ends within its time and
+// its room.
 #[test]
 fn an_exchange_ends_in_its_time(rt: HostRuntime) -> Result<(), Fail> {
     if listen(&rt).is_err() {

@@ -13,7 +13,7 @@ use std::sync::Wait;
 use std::test::Fail;
 use std::thread::Threads;
 
-/// The moment at which all happens, in seconds since 1970-01-01T00:00:00Z.
+/// The moment of all events, in seconds since 1970-01-01T00:00:00Z.
 pub const SECONDS: u64 = 784_111_777;
 
 /// The bytes that ana's key is drawn from, and her key.
@@ -45,7 +45,7 @@ fn idle_bench(alloc: Global) -> Result<Vec<Bench<MemoryDoor, MemoryLink>>, Alloc
     Ok(benches)
 }
 
-// A connection on which this comes.
+// A connection that receives these bytes.
 fn connection(
     alloc: Global,
     input: &str,
@@ -57,7 +57,7 @@ fn connection(
     })
 }
 
-// The disk after a command, which has to end well, and what it printed.
+// The disk after a command, which has to succeed, and what it printed.
 fn done(
     alloc: Global,
     line: &str,
@@ -88,7 +88,7 @@ fn done(
     }
 }
 
-/// The disk after a command, which has to end well, with this input.
+/// The disk after a command, which has to succeed, with this input.
 pub fn disk_after(
     alloc: Global,
     line: &str,
@@ -110,7 +110,7 @@ pub fn silent(alloc: Global) -> MemoryLink {
     MemoryLink::new(alloc, Vec::new(alloc))
 }
 
-/// The disk of a store of which ana is a member.
+/// The disk of a store with the member ana.
 pub fn town(alloc: Global) -> Result<MemoryDisk, Fail> {
     let empty = MemoryDisk::new(alloc, Vec::new(alloc))?;
     let made = disk_after(alloc, "init s club.example", "", empty)?;

@@ -22,7 +22,7 @@ use Rattle.fedi_http.proofs.OnceLemmas.{body-append, one_body}
 use Rattle.fedi_http.proofs.ReadLemmas.{reads_as, reads_on, told_as}
 use Rattle.fedi_http.proofs.RequestLemmas.{reads_once}
 
--- ---- more bytes behind
+-- ---- more bytes after these
 
 has_head-append : (limit most : ℕ) (xs ys : List ℕ) (outcome : Result Request Refusal) (end : ℕ)
     → HasHead limit most xs outcome end → HasHead limit most (xs ++ ys) outcome end
@@ -53,7 +53,7 @@ refused-append limit most xs ys e (inl (inr (is, long))) = inl (inr (is, too_lon
 refused-append limit most xs ys e (inr (inl (is, ends))) = inr (inl (is, ends-append limit most xs ys Wrong (λ same. cc) ends))
 refused-append limit most xs ys e (inr (inr (is, ends))) = inr (inr (is, ends-append limit most xs ys Long (λ same. cc) ends))
 
--- where no more bytes come
+-- if no more bytes come
 no_more : (P : List ℕ → Type 0) (xs ys : List ℕ) → ys ≡ [] → P xs → P (xs ++ ys)
 no_more P xs ys none holds = subst P (sym (append-nil xs) ∙ ap (λ (l : List ℕ). xs ++ l) (sym none)) holds
 
@@ -87,7 +87,7 @@ told_stream limit most entry more (Some x) (Some y) a body pending taken is ende
   on_request a (Some (pending ++ y) ≡ Some (pending ++ y)) refl,
 )
 
--- what arrived at the front of what was read, arrived at the front of the stream
+-- what arrived at the front of the bytes that were read arrived at the front of the stream
 pub told_arrival : {T : Type 0} (left_of : T → Option (List ℕ)) (faults_of : T → ℕ) (beside_of : T → Option (List ℕ) × ℕ) (old new : T) (failed : Bool) (Lacks : Type 0)
     (limit most : ℕ) (entry : List ℕ) (a : Arrived) (body pending : List ℕ)
     → Reads left_of faults_of beside_of old new failed Lacks (λ m. IsArrival limit most (entry ++ m) a body pending) → OnInputEnd a (IsAtEnd (left_of new))
@@ -101,7 +101,7 @@ told_arrival left_of faults_of beside_of old new failed Lacks limit most entry a
 some_byte : (limit most : ℕ) (bytes : List ℕ) (outcome : Result Request Refusal) (end : ℕ) → HasHead limit most bytes outcome end → 0 < length bytes
 some_byte limit most bytes outcome end has = omega (arith, has.head.ordered, has.head.within)
 
--- where no head was read
+-- if no head was read
 pub no_head_arrives : (limit most : ℕ) (bytes : List ℕ) (e : ReadError) (body rest : List ℕ) → HasNoHead limit bytes e → IsArrival limit most bytes (arrived_by e) body rest
 no_head_arrives limit most bytes errors.End body rest h = h
 no_head_arrives limit most bytes errors.CutShort body rest h = (h.0, inl h.1)
@@ -109,14 +109,14 @@ no_head_arrives limit most bytes (errors.Refused refusal) body rest h = inl (inr
 no_head_arrives limit most bytes errors.ReadFault body rest h = inl h
 no_head_arrives limit most bytes errors.Memory body rest h = inl h
 
--- where the head was refused
+-- if the head was refused
 pub refused_arrives : (limit most : ℕ) (bytes : List ℕ) (e : Refusal) (end : ℕ) (body rest : List ℕ) → (e ≢ refusals.Memory → HasHead limit most bytes (Err e) end)
     → (e ≡ refusals.Memory → HasServedHead limit most bytes)
     → IsArrival limit most bytes (arrived_by (error_by e)) body rest
 refused_arrives limit most bytes refusals.Memory end body rest h k = inr (k refl)
 refused_arrives limit most bytes e end body rest h k = inl (inl (end, h (λ same. cc)))
 
--- a refusal is no failed read
+-- a refusal is not a failed read
 pub refusal_calm : (e : Refusal) → is_fault (error_by e) ≡ false
 refusal_calm refusals.Memory = refl
 refusal_calm e = refl
@@ -132,7 +132,7 @@ head_unread left_of faults_of beside_of a b limit most entry mid e body pending 
     (λ m. IsArrival limit most (entry ++ m) (arrived_by e) body pending) read (λ lacks. inl lacks)
     (λ m is. subst (λ (l : List ℕ). IsArrival limit most l (arrived_by e) body pending) is arrives))
 
--- where the body was not read
+-- if the body was not read
 body_arrives : (limit most : ℕ) (bytes : List ℕ) (q : Request) (e : ReadError) (body rest : List ℕ) → Tells e (λ o. HasRequest limit most bytes q o body rest)
     → IsArrival limit most bytes (arrived_by e) body rest
 body_arrives limit most bytes q errors.End body rest told = absurd told
@@ -142,7 +142,7 @@ body_arrives limit most bytes q (errors.Refused refusal) body rest (inr long) = 
 body_arrives limit most bytes q errors.ReadFault body rest told = inr (q, body, rest, told)
 body_arrives limit most bytes q errors.Memory body rest told = inr (q, told.end, told.head)
 
--- a head and the bytes behind it
+-- a head and the bytes after it
 abbrev IsBehind : ℕ → ℕ → List ℕ → Request → List ℕ → Type 0
 IsBehind limit most bytes q rest = (end : ℕ) × HasHead limit most bytes (Ok q) end × (rest ≡ drop end bytes)
 
@@ -159,7 +159,7 @@ lacks_body : (limit most : ℕ) (bytes : List ℕ) (q : Request) (rest : List �
 lacks_body limit most bytes q rest (end, has, is) (body, tail, part) =
     inr (q, body, tail, record { end = end; head = has; content = subst (λ (l : List ℕ). HasBody BODY_LIMIT q.coding l Part body tail) is part })
 
--- a head was read as this request, and what is behind it is pending
+-- a head was read as this request, and the bytes after it are pending
 pub behind_head : {T : Type 0} (left_of : T → Option (List ℕ)) (faults_of : T → ℕ) (beside_of : T → Option (List ℕ) × ℕ) (a b : T) (limit most : ℕ)
     (entry mid rest : List ℕ) (q : Request) (end : ℕ) → Reads left_of faults_of beside_of a b false (LacksHead limit entry) (λ m. mid ≡ entry ++ m)
     → HasHead limit most mid (Ok q) end → rest ≡ drop end mid → Reads left_of faults_of beside_of a b false (LacksHead limit entry) (λ m. IsBehind limit most (entry ++ m) q rest)
@@ -198,7 +198,7 @@ body_unread left_of faults_of beside_of a b c failed limit most entry rest q e b
     (told_as e (λ o. HasBody BODY_LIMIT q.coding (rest ++ k) o body pending) (λ o. HasRequest limit most (bytes ++ k) q o body pending)
     (λ o has. behind_told limit most bytes k q o rest body pending is has) told))
 
--- the answer is the request if the body was read, and else the error
+-- the answer is the request if the body was read, and otherwise the error
 pub body_told : {T V : Type 0} (left_of : T → Option (List ℕ)) (faults_of : T → ℕ) (beside_of : T → Option (List ℕ) × ℕ) (a b c : T) (limit most : ℕ)
     (entry rest : List ℕ) (q : Request) (r : Result V ReadError) (body pending : List ℕ)
     → Reads left_of faults_of beside_of a b false (LacksHead limit entry) (λ m. IsBehind limit most (entry ++ m) q rest)
@@ -230,7 +230,7 @@ fault-is (errors.Refused refusal) = refl
 fault-is errors.ReadFault = refl
 fault-is errors.Memory = refl
 
--- an error is told by the answer
+-- the answer reports an error
 pub error_arrives : {T : Type 0} (left_of : T → Option (List ℕ)) (faults_of : T → ℕ) (beside_of : T → Option (List ℕ) × ℕ) (a b : T) (limit most : ℕ)
     (entry : List ℕ) (e : ReadError) (answer : Arrived) (body pending : List ℕ) → answer ≡ arrived_by e
     → Reads left_of faults_of beside_of a b (is_fault e) (LacksRequest limit most entry) (λ m. IsArrival limit most (entry ++ m) (arrived_by e) body pending)
@@ -242,7 +242,7 @@ error_arrives left_of faults_of beside_of a b limit most entry e answer body pen
 
 -- ---- one thing arrives
 
--- one head is at the front, and it is read in one way
+-- there is one head at the front, and it is read in one way
 head_once : (limit most : ℕ) (bytes : List ℕ) (one other : Result Request Refusal) (end last : ℕ)
     → HasHead limit most bytes one end → HasHead limit most bytes other last → (one ≡ other) × (end ≡ last)
 head_once limit most bytes one other end last x y =
@@ -262,7 +262,7 @@ head_not_long limit most bytes outcome end has (many, none) = let e : Some end �
 ok_not_err : (limit most : ℕ) (bytes : List ℕ) (q : Request) (e : Refusal) (end last : ℕ) → HasHead limit most bytes (Ok q) end → HasHead limit most bytes (Err e) last → ⊥
 ok_not_err limit most bytes q e end last x y = let same : Ok q ≡ Err e = (head_once limit most bytes (Ok q) (Err e) end last x y).0 in cc
 
--- one request is there, and it ends in one way
+-- there is one request, and it ends in one way
 request_once : (limit most : ℕ) (bytes : List ℕ) (q p : Request) (o s : Ending) (b c r t : List ℕ) → HasRequest limit most bytes q o b r → HasRequest limit most bytes p s c t
     → (q ≡ p) × (o ≡ s) × (o ≡ Whole → (b ≡ c) × (r ≡ t))
 request_once limit most bytes q p o s b c r t x y =
@@ -275,7 +275,7 @@ request_once limit most bytes q p o s b c r t x y =
 ends_once : (limit most : ℕ) (bytes : List ℕ) (o s : Ending) → BodyEnds limit most bytes o → BodyEnds limit most bytes s → o ≡ s
 ends_once limit most bytes o s (q, b, r, x) (p, c, t, y) = (request_once limit most bytes q p o s b c r t x y).1
 
--- a body that ends there is that of no refused head, and a head is not lacking then
+-- if a body ends, its head is not refused, and a head is not lacking
 ends_not_refused : (limit most : ℕ) (bytes : List ℕ) (o : Ending) (e : Refusal) → BodyEnds limit most bytes o → IsHeadRefused limit most bytes e → ⊥
 ends_not_refused limit most bytes o e (q, b, r, x) (inl (last, has)) = ok_not_err limit most bytes q e x.end last x.head has
 ends_not_refused limit most bytes o e (q, b, r, x) (inr (is, long)) = head_not_long limit most bytes (Ok q) x.end x.head long
@@ -314,7 +314,7 @@ refusal_once limit most bytes d e (inr (inr x)) (inr (inr y)) = x.0 ∙ sym y.0
 refusal_once limit most bytes d e (inr (inl x)) (inr (inr y)) = let same : Wrong ≡ Long = ends_once limit most bytes Wrong Long x.1 y.1 in cc
 refusal_once limit most bytes d e (inr (inr x)) (inr (inl y)) = let same : Long ≡ Wrong = ends_once limit most bytes Long Wrong x.1 y.1 in cc
 
--- at no byte at all there is no head, and none is too long
+-- without any byte there is no head, and no head is too long
 ends_some : (limit most : ℕ) (bytes : List ℕ) (o : Ending) → BodyEnds limit most bytes o → 0 < length bytes
 ends_some limit most bytes o (q, b, r, x) = some_byte limit most bytes (Ok q) x.end x.head
 

@@ -31,7 +31,7 @@ line-found bytes k len size l few at =
     ∙ take_all (length line) line (omega arith) in
     (within, (l, ((at.reads.0, sym (take-append-drop len bytes) ∙ ap (λ (x : List ℕ). x ++ drop len bytes) text), omega (arith, at.len_is)), at.size_is))
 
--- what is read of the first k bytes is what is read of the first `LINE_LIMIT`
+-- what holds of the first k bytes holds of the first `LINE_LIMIT`
 pub line-front : (bytes : List ℕ) (k : ℕ) (P : List ℕ → Type 0) → k ≡ min (length bytes) LINE_LIMIT → P (take k bytes) → P (take LINE_LIMIT bytes)
 line-front bytes k P is holds =
     let same : k ≡ min LINE_LIMIT (length bytes) = omega (arith, is) in
@@ -39,7 +39,7 @@ line-front bytes k P is holds =
 
 -- ---- data
 
--- of `size` bytes of data those that were joined to the body, and how many are still wanted
+-- of `size` bytes of data, those that were joined to the body, and how many are still wanted
 pub record IsJoining (size wanted : ℕ) (old : Held) (bytes : List ℕ) (now : Held) : Type 0 where
   pub content : List ℕ
   pub count : length content + wanted ≡ size
@@ -59,7 +59,7 @@ joining_more size wanted n old bytes now join few there so moved rest =
       joined = moved ∙ ap (λ (l : List ℕ). l ++ part) so.joined ∙ append_assoc old.body so.content part;
     }
 
--- more bytes were read behind
+-- more bytes were read after these
 pub joining-append : (size wanted : ℕ) (old : Held) (bytes more : List ℕ) (now new : Held) → IsJoining size wanted old bytes now → new.pending ≡ now.pending ++ more
     → new.body ≡ now.body → IsJoining size wanted old (bytes ++ more) new
 joining-append size wanted old bytes more now new so read kept = record {
@@ -117,7 +117,7 @@ joining_stopped left_of faults_of beside_of a b c size wanted n old now join new
           (joining-append size (wanted - n) old bytes m join (record { body = join.body; pending = new.pending }) held read refl) (omega (arith, short, ap length same)),
     ))
 
--- CR LF stands behind the data, or not
+-- CR LF follows the data, or not
 crlf_told : {T : Type 0} (size : ℕ) (bytes content tail : List ℕ) (r : Result T ReadError) (old mid new : Held) → length content ≡ size → bytes ≡ content ++ tail
     → mid.body ≡ old.body ++ content → new.body ≡ mid.body → IsCrlfRead tail r new.pending → IsDataRead size bytes r old new
 crlf_told size bytes content tail (Ok done) old mid new long text joined kept read =
@@ -138,7 +138,7 @@ data_read size bytes n r old mid new has kept read =
     crlf_told size (bytes ++ n) has.content (mid.pending ++ n) r old mid new has.long
     (ap (λ (l : List ℕ). l ++ n) has.bytes_are ∙ append_assoc has.content mid.pending n) has.joined kept read
 
--- the data is there and not all of CR LF
+-- the data is there, but not all of CR LF
 pub data_part : (size : ℕ) (bytes : List ℕ) (old mid : Held) → HasContent size bytes old mid → IsPartOfCrlf mid.pending → HasPartOfData size bytes
 data_part size bytes old mid has part =
     let behind : drop size bytes ≡ mid.pending =
@@ -152,7 +152,7 @@ all-snoc : {X : Type 0} (P : X → Type 0) (xs : List X) (x : X) → AllByRecurs
 all-snoc P [] x all last = (last, tt)
 all-snoc P (y ∷ ys) x all last = (all.0, all-snoc P ys x all.1 last)
 
--- more bytes come behind the rest
+-- more bytes follow the rest
 pub chunks-append : (limit : ℕ) (bytes more : List ℕ) (chunks : List Chunk) (rest : List ℕ) → HasChunks limit bytes chunks rest
     → HasChunks limit (bytes ++ more) chunks (rest ++ more)
 chunks-append limit bytes more chunks rest has = record {
@@ -165,7 +165,7 @@ pub size-append : (bytes more : List ℕ) (size : ℕ) (rest : List ℕ) → Has
 size-append bytes more size rest has =
     (has.0, ((has.1.0.0, ap (λ (l : List ℕ). l ++ more) has.1.0.1 ∙ append_assoc (print_chunk_line has.0) rest more), has.1.1), has.2)
 
--- one chunk more
+-- one more chunk
 chunks-more : (limit : ℕ) (bytes : List ℕ) (chunks : List Chunk) (at tail content rest : List ℕ) (size : ℕ) (has : HasChunks limit bytes chunks at)
     (line : HasSize at size tail) → 0 < size → length (content_of chunks) + size ≤ limit → tail ≡ content ++ (crlf ++ rest) → length content ≡ size
     → HasChunks limit bytes (chunks ++ record { line = line.0; content = content } ∷ []) rest
@@ -190,13 +190,13 @@ chunks-more limit bytes chunks at tail content rest size has line some fits foll
 
 -- ---- the chunks so far
 
--- the bytes are chunks, whose data is the body, and then what is pending
+-- the bytes are chunks, whose data is the body, followed by what is pending
 pub record IsJoined (limit : ℕ) (bytes : List ℕ) (now : Held) : Type 0 where
   pub chunks : List Chunk
   pub has : HasChunks limit bytes chunks now.pending
   pub joined : now.body ≡ content_of chunks
 
--- behind these chunks stands a size line
+-- a size line follows these chunks
 pub record IsSized (limit : ℕ) (bytes : List ℕ) (size : ℕ) (now : Held) : Type 0 where
   pub chunks : List Chunk
   pub at : List ℕ
@@ -211,7 +211,7 @@ joined_start limit now empty = record {
   joined = empty;
 }
 
--- a line was read behind the chunks
+-- a line was read after the chunks
 pub sized : (limit : ℕ) (bytes n : List ℕ) (size : ℕ) (now mid : Held) → IsJoined limit bytes now → HasSize (now.pending ++ n) size mid.pending → mid.body ≡ now.body
     → IsSized limit (bytes ++ n) size mid
 sized limit bytes n size now mid so line kept = record {
@@ -222,7 +222,7 @@ sized limit bytes n size now mid so line kept = record {
   joined = kept ∙ so.joined;
 }
 
--- one chunk more was read
+-- one more chunk was read
 joined_more : (limit : ℕ) (bytes n : List ℕ) (size : ℕ) (now new : Held) → IsSized limit bytes size now → 0 < size → length now.body + size ≤ limit
     → HasData size (now.pending ++ n) now new → IsJoined limit (bytes ++ n) new
 joined_more limit bytes n size now new so some fits got =
@@ -245,7 +245,7 @@ joined_ends limit bytes n now new o so ends kept = record {
   joined = λ whole. kept ∙ so.joined;
 }
 
--- it ends behind one
+-- it ends after a line
 sized_ends : (limit : ℕ) (bytes n : List ℕ) (size : ℕ) (now : Held) (body rest : List ℕ) (o : Ending) → IsSized limit bytes size now
     → EndsBehindSize (limit - length now.body) size (now.pending ++ n) o rest → (o ≡ Whole → body ≡ now.body) → HasChunkedBody limit (bytes ++ n) o body rest
 sized_ends limit bytes n size now body rest o so ends kept = record {
@@ -261,7 +261,7 @@ sized_ends limit bytes n size now body rest o so ends kept = record {
   joined = λ whole. kept whole ∙ so.joined;
 }
 
--- the same where nothing comes behind
+-- the same if nothing follows
 here : (limit : ℕ) (bytes body rest : List ℕ) (o : Ending) → HasChunkedBody limit (bytes ++ []) o body rest → HasChunkedBody limit bytes o body rest
 here limit bytes body rest o has = subst (λ (l : List ℕ). HasChunkedBody limit l o body rest) (append-nil bytes) has
 
@@ -365,7 +365,7 @@ data_ends left_of faults_of beside_of limit entry a b c failed e size now new so
     (λ o ends. sized_ends limit bytes n size now new.body new.pending o held (inr (inr (some, fits, ends)))
     (λ whole. elim ends [ inl wrong ↦ absurd (wrong_not_whole (sym wrong.0 ∙ whole)) | inr part ↦ part_not_whole (sym part.0 ∙ whole) ])) told)
 
--- it goes on behind a chunk
+-- it continues after a chunk
 pub chunk_read : {T : Type 0} (left_of : T → Option (List ℕ)) (faults_of : T → ℕ) (beside_of : T → Option (List ℕ) × ℕ) (limit : ℕ) (entry : List ℕ) (a b c : T) (size : ℕ) (now new : Held)
     → Sizes left_of faults_of beside_of limit entry a b size now → 0 < size → length now.body + size ≤ limit
     → Reads left_of faults_of beside_of b c false (HasPartOfData size now.pending) (λ n. HasData size (now.pending ++ n) now new)
@@ -376,19 +376,19 @@ chunk_read left_of faults_of beside_of limit entry a b c size now new so some fi
     (λ held part. chunk_part limit entry size now held some (omega (arith, fits)) part)
     (λ bytes n held read. joined_more limit bytes n size now new held some fits read)
 
--- the size is more than there is room for
+-- the size is larger than the room left
 size_over : (limit : ℕ) (bytes : List ℕ) (size : ℕ) (now : Held) → IsSized limit bytes size now → limit - length now.body < size
     → HasChunkedBody limit bytes Long now.body now.pending
 size_over limit bytes size now so over =
     here limit bytes now.body now.pending Long (sized_ends limit bytes [] size now now.body now.pending Long so (inl (refl, over)) (λ whole. refl))
 
--- no byte is no trailer
+-- an empty text is not a trailer
 pub lacks_nothing : (bytes : List ℕ) → LacksTrailer 0 bytes
 unfolding is_trailer
 lacks_nothing bytes zero low = refl
 lacks_nothing bytes (suc m) low = absurd (omega (arith, low))
 
--- all that is pending was looked at
+-- all pending bytes were searched
 pub trailer_lacks : (pending seen also : List ℕ) → seen ≡ pending → also ≡ pending → length also < TRAILER_LIMIT → LacksTrailer (min (length seen) TRAILER_LIMIT) seen
     → HasPartOfTrailer pending
 trailer_lacks pending seen also same too short none =
@@ -396,14 +396,14 @@ trailer_lacks pending seen also same too short none =
     let all : min (length seen) TRAILER_LIMIT ≡ length pending = omega (arith, few, ap length same) in
     (few, λ m low. ap (λ (l : List ℕ). is_trailer (take m l)) (sym same) ∙ none m (omega (arith, low, all)))
 
--- no chunk is read yet
+-- no chunk has been read yet
 pub joined_from : {T : Type 0} (left_of : T → Option (List ℕ)) (faults_of : T → ℕ) (beside_of : T → Option (List ℕ) × ℕ) (limit : ℕ) (a : T) (now : Held) → now.body ≡ []
     → Joins left_of faults_of beside_of limit now.pending a a now
 joined_from left_of faults_of beside_of limit a now empty =
     reads_none left_of faults_of beside_of a (HasPartOfBody limit Chunked now.pending) (λ m. IsJoined limit (now.pending ++ m) now)
     (subst (λ (bytes : List ℕ). IsJoined limit bytes now) (sym (append-nil now.pending)) (joined_start limit now empty))
 
--- the size is more than there is room for
+-- the size is larger than the room left
 pub sizes_over : {T : Type 0} (left_of : T → Option (List ℕ)) (faults_of : T → ℕ) (beside_of : T → Option (List ℕ) × ℕ) (limit : ℕ) (entry : List ℕ) (a b : T) (size : ℕ) (now : Held)
     → Sizes left_of faults_of beside_of limit entry a b size now → limit - length now.body < size
     → Reads left_of faults_of beside_of a b false (HasPartOfBody limit Chunked entry) (λ m. Tells (Refused TooLong) (λ o. HasBody limit Chunked (entry ++ m) o now.body now.pending))

@@ -1,4 +1,4 @@
--- Lemmas on what is found of the fields of a head.
+-- Lemmas on what is found in the fields of a head.
 use Rattle.std.proofs.Common.{◌≡◌, ℕ, ◌+◌, ◌≤◌, Bool, true, false, cond, not, List, [], ◌∷◌, ◌++◌, Option, None, Some, option_map, option_copied, find, Result, Ok, Err, IfOk, MatchResult, refl, sym, subst, ap, ◌∙◌, arith, Bor, eqb, leb, eq-eqb, add-zero, zero-add, inl, inr, ◌<◌}
 use Rattle.std.specs.Prelude.{is_some, nat_le, codes, if◌then◌else◌, ◌&&◌, ◌||◌}
 use Rattle.std.specs.Str.Parse.{digits_value}
@@ -38,7 +38,7 @@ value-push name fields f =
 pub gt_leb : (a b : ℕ) → b < a → leb a b ≡ false
 gt_leb a b h = false_from_ne_true (leb a b) (λ e. let low : a ≤ b = leb-true a b e in absurd (omega arith))
 
--- ---- a name is missing where it has no value
+-- ---- a name is missing if it has no value
 
 count-cons : (name : List ℕ) (f : Field) (fields : List Field) → count_named name (f ∷ fields) ≡ cond (is_named name f) 1 0 + count_named name fields
 unfolding count_named
@@ -155,7 +155,7 @@ and-false : (b : Bool) → (b && false) ≡ false
 and-false true = refl
 and-false false = refl
 
--- each of these at once
+-- all of these at once
 spread : (b c d e f g i : Bool)
     → (((not b && not c) && not d) && ((not e && not f) && not g) && not i) ≡ not ((((((b || c) || d) || e) || f) || g) || i)
 spread true c d e f g i = refl
@@ -185,7 +185,7 @@ repeats-is fields k known =
 host-is : (minor : ℕ) (fields : List Field) (k : KnownFields) → AreKnown fields k → has_host_by minor fields ≡ has_host minor k
 host-is minor fields k known = ap (λ b. not (is_latest minor) || b) (once-slot (codes "Host") fields k.host known.host)
 
--- the first reason to refuse a request, by what was found of its fields
+-- the first reason to refuse a request, by what was found in its fields
 abbrev refusal_by : List ℕ → ℕ → KnownFields → Option (List ℕ) → Option (List ℕ) → Option Refusal
 refusal_by method minor k coding length =
     if ((has_host minor k && has_no_repeats k) && (not (is_some length) || not (is_some coding))) && is_length_if_any length
@@ -223,7 +223,7 @@ no-host minor k none = ap (λ b. b && has_no_repeats k) none
 pub repeats : (minor : ℕ) (k : KnownFields) → has_no_repeats k ≡ false → (has_host minor k && has_no_repeats k) ≡ false
 repeats minor k bad = ap (λ b. has_host minor k && b) bad ∙ and-false (has_host minor k)
 
--- the fields stand as they may, and these values say where the body ends
+-- the fields occur as they may, and these values determine where the body ends
 pub record IsMeasured (minor : ℕ) (fields : List Field) (k : KnownFields) (coding length : Option (Bor (List ℕ))) : Type 0 where
   pub good : (has_host minor k && has_no_repeats k) ≡ true
   pub coding_is : k.transfer_encoding.value ≡ coding
@@ -281,7 +281,7 @@ bad-length method minor fields k l e m (inr long) =
     measured method minor fields k None (Some l) m
     ∙ rw (m.good, long.0, and-false (is_post method), gt_leb (digits_value 10 l.now) BODY_LIMIT long.1, long.2) refl
 
--- whether the length is one or not
+-- whether the length is valid or not
 pub length_told : (method : List ℕ) (minor : ℕ) (fields : List Field) (k : KnownFields) (l : Bor (List ℕ)) (r : Result Coding Refusal) → IsMeasured minor fields k None (Some l)
     → MatchResult r (λ coding. IsLength l.now coding) (λ refusal. IsNoLength l.now refusal)
     → MatchResult r (λ coding. (fields_refusal method minor fields ≡ None) × (coding ≡ coding_of fields)) (λ refusal. fields_refusal method minor fields ≡ Some refusal)

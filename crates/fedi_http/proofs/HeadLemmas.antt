@@ -25,7 +25,7 @@ find-none p from (suc count) none =
     let rest = find-none p (from + 1) count (λ n low high. none n (omega arith) (omega arith)) in
     let first : p from ≡ false = none from (omega arith) (omega arith) in rw (first, rest) refl
 
--- where a test passes first at n, it does not before
+-- if a test passes first at n, it does not pass before
 some-first : (p : ℕ → Bool) (from n : ℕ) → from ≤ n → p from ≡ true → p n ≡ true → ((m : ℕ) → from ≤ m → m < n → p m ≡ false) → from ≡ n
 some-first p from n low first here below =
     elim (cases_eq from n) [ inl same ↦ same | inr other ↦ let no : p from ≡ false = below from (omega arith) (omega arith) in cc ]
@@ -54,7 +54,7 @@ find-some-is p from (suc count) n found = grind (arith, find-some-is p (from + 1
 
 -- ---- whether the head ends at a number
 
--- what stands behind does not matter
+-- what follows does not matter
 pub is_end-append : (xs ys : List ℕ) (n : ℕ) → n ≤ length xs → is_end (xs ++ ys) n ≡ is_end xs n
 unfolding is_end
 is_end-append xs ys n h = ap (λ l. ends_in_empty_line (after_leading l)) (take-append-le n xs ys h)
@@ -96,19 +96,19 @@ head_end-take-none xs at h none here =
       | inr other ↦ sym (is_end-take xs at n (omega arith)) ∙ head_end-None-below (take at xs) none n (omega (arith, length-take at xs))
     ])
 
--- the first end is found in any bytes that begin with these
+-- the first end is found in all bytes that begin with these
 pub head_end-take-some : (xs : List ℕ) (at k : ℕ) → at < k → k ≤ length xs → head_end (take at xs) ≡ None → is_end xs (at + 1) ≡ true → head_end (take k xs) ≡ Some (at + 1)
 head_end-take-some xs at k low high none here =
     head_end-Some (take k xs) (at + 1) (omega (arith, length-take k xs)) (is_end-take xs k (at + 1) (omega arith) ∙ here)
     (λ m h. is_end-take xs k m (omega arith) ∙ sym (is_end-take xs at m (omega arith)) ∙ head_end-None-below (take at xs) none m (omega (arith, length-take at xs)))
 
--- bytes that are the same up to a head's end have that head
+-- bytes that agree up to the end of a head have the same head
 head_end-same : (xs ys : List ℕ) (n : ℕ) → head_end xs ≡ Some n → n ≤ length ys → ((m : ℕ) → m ≤ n → is_end ys m ≡ is_end xs m) → head_end ys ≡ Some n
 head_end-same xs ys n found h same =
     let is = head_end-Some-is xs n found in
     head_end-Some ys n h (same n (omega arith) ∙ is.1) (λ m low. same m (omega arith) ∙ is.2 m low)
 
--- ---- the line ends in front
+-- ---- the leading line ends
 
 pub leading-nil : leading [] ≡ 0
 unfolding leading
@@ -121,7 +121,7 @@ leading-take-more xs at h =
     let long : length (take at xs) ≡ at = length-take-le at xs (omega arith) in
     ap leading (take_more xs at 0 h) ∙ rw long at (position_or_len_push (λ b. not (is_line_end b)) (take at xs) (get_or xs at 0))
 
--- a byte behind line ends alone, and one behind another byte
+-- a byte after nothing but line ends, and a byte after another byte
 pub leading-more-end : (xs : List ℕ) (at : ℕ) → at < length xs → leading (take at xs) ≡ at → is_line_end (get_or xs at 0) ≡ true → leading (take (at + 1) xs) ≡ at + 1
 leading-more-end xs at h all here =
     leading-take-more xs at h ∙ ap (λ n. cond (eqb n at) (at + cond (not (is_line_end (get_or xs at 0))) 0 1) n) all
@@ -142,7 +142,7 @@ leading-take-le xs at h = omega (arith, prefix_len-le-length (λ b. not (not (is
 
 -- ---- the test at a number
 
--- the text of a front is the part of the bytes behind the line ends
+-- the text of a prefix is the part of the bytes after the leading line ends
 pub text-is : (xs : List ℕ) (n start : ℕ) → start ≡ leading (take n xs) → n ≤ length xs → after_leading (take n xs) ≡ slice_range xs start n
 text-is xs n start here h =
     let low : start ≤ n = omega (arith, here, leading-take-le xs n h) in
@@ -153,7 +153,7 @@ pub is_end-is : (xs : List ℕ) (n start : ℕ) → start ≡ leading (take n xs
 unfolding is_end
 is_end-is xs n start here h = ap ends_in_empty_line (text-is xs n start here h)
 
--- no empty line ends a text of no bytes
+-- a text of no bytes does not end with an empty line
 pub ends-longer : (xs : List ℕ) (start n : ℕ) → ends_in_empty_line (slice_range xs start n) ≡ true → start < n
 ends-longer xs start n holds =
     elim (cases_eq (n - start) 0) [
@@ -190,7 +190,7 @@ empty_line-byte xs at start inside holds =
     ∙ get_or-drop start xs (at - start) 0 ∙ ap (λ k. get_or xs k 0) there)
     ∙ empty_line-last text holds
 
--- so at another byte no empty line ends
+-- so no empty line ends at another byte
 pub no-empty_line : (xs : List ℕ) (at start : ℕ) → at < length xs → (get_or xs at 0 ≡ 10 → ⊥) → ends_in_empty_line (slice_range xs start (at + 1)) ≡ false
 no-empty_line xs at start inside other =
     elim (ends_in_empty_line (slice_range xs start (at + 1))) as (λ b. ends_in_empty_line (slice_range xs start (at + 1)) ≡ b → b ≡ false) [
@@ -202,7 +202,7 @@ pub none-more : (xs : List ℕ) (at start : ℕ) → at < length xs → start �
     → ends_in_empty_line (slice_range xs start (at + 1)) ≡ false → head_end (take (at + 1) xs) ≡ None
 none-more xs at start inside here none fails = head_end-take-none xs at inside none (is_end-is xs (at + 1) start here (omega arith) ∙ fails)
 
--- a head that was found where the first bytes had none
+-- a head that is found where the first bytes had none
 pub is_head : (limit : ℕ) (xs : List ℕ) (at start : ℕ) → at < limit → at < length xs → head_end (take at xs) ≡ None → start ≡ leading (take (at + 1) xs)
     → ends_in_empty_line (slice_range xs start (at + 1)) ≡ true → IsHeadAt limit xs start (at + 1)
 is_head limit xs at start low inside none here holds =
@@ -219,7 +219,7 @@ is_head limit xs at start low inside none here holds =
 
 -- ---- many bytes more
 
--- no head ends where none did before and none does behind
+-- no head ends if none did before and none does after
 none-to : (xs : List ℕ) (a b : ℕ) → b ≤ length xs → head_end (take a xs) ≡ None → a ≤ length xs → ((m : ℕ) → a < m → m ≤ b → is_end xs m ≡ false) → head_end (take b xs) ≡ None
 none-to xs a b high none low here =
     head_end-None (take b xs) (λ n le.
@@ -229,7 +229,7 @@ none-to xs a b high none low here =
       | inr small ↦ sym (is_end-take xs a n small) ∙ head_end-None-below (take a xs) none n (omega (arith, length-take a xs))
     ])
 
--- bytes that are no LF end no head
+-- bytes other than LF end no head
 pub looked-on : (xs : List ℕ) (looked start upto b : ℕ) → IsLookedAt xs looked start → IsSettled xs looked upto start → looked ≤ b → b ≤ upto → upto ≤ length xs
     → ((i : ℕ) → looked ≤ i → i < b → get_or xs i 0 ≡ 10 → ⊥) → IsLookedAt xs b start
 looked-on xs looked start upto b is settled low high inside other = record {
@@ -261,7 +261,7 @@ slice-length xs from upto inside = omega (arith, length-take (upto - from) (drop
 pub start-low : (xs : List ℕ) (looked start : ℕ) → IsLookedAt xs looked start → start ≤ looked
 start-low xs looked start is = omega (arith, is.front, leading-take-le xs looked is.within)
 
--- where the text starts is settled once a byte is no line end
+-- the start of the text is settled once a byte is not a line end
 settled-by : (xs : List ℕ) (looked start upto d : ℕ) → start ≡ leading (take looked xs) → upto ≤ length xs
     → (start ≡ looked → looked < upto → is_line_end (get_or xs looked 0) ≡ false) → looked + d ≤ upto → leading (take (looked + d) xs) ≡ start
 settled-by xs looked start upto zero here inside text high = ap (λ n. leading (take n xs)) (add-zero looked) ∙ sym here
@@ -283,7 +283,7 @@ settled-from xs looked start upto here inside text n low high =
     let there : looked + (n - looked) ≡ n = omega arith in
     ap (λ m. leading (take m xs)) (sym there) ∙ settled-by xs looked start upto (n - looked) here inside text (omega arith)
 
--- one line end more in front
+-- one more leading line end
 pub looked-end : (xs : List ℕ) (at : ℕ) → at < length xs → IsLookedAt xs at at → is_line_end (get_or xs at 0) ≡ true → IsLookedAt xs (at + 1) (at + 1)
 looked-end xs at inside is here =
     let front : leading (take (at + 1) xs) ≡ at + 1 = leading-more-end xs at inside (sym is.front) here in
@@ -294,7 +294,7 @@ looked-end xs at inside is here =
       none = none-more xs at (at + 1) inside (sym front) is.none (ap ends_in_empty_line empty);
     }
 
--- a line more, with which the head does not end
+-- one more line, which does not end the head
 pub looked-line : (xs : List ℕ) (at start : ℕ) → at < length xs → IsLookedAt xs at start → start ≡ leading (take (at + 1) xs)
     → ends_in_empty_line (slice_range xs start (at + 1)) ≡ false → IsLookedAt xs (at + 1) start
 looked-line xs at start inside is here fails = record { within = omega arith; front = here; none = none-more xs at start inside here is.none fails }
@@ -303,7 +303,7 @@ pub slice_range-append : (xs ys : List ℕ) (start end : ℕ) → start ≤ end 
 slice_range-append xs ys start end low high =
     ap (take (end - start)) (drop-append-le start xs ys (omega arith)) ∙ take-append-le (end - start) (drop start xs) ys (omega (arith, length-drop start xs))
 
--- and it is the head of any bytes that begin so
+-- it is also the head of any bytes that begin with these
 pub is_head-append : (limit : ℕ) (xs ys : List ℕ) (start end : ℕ) → IsHeadAt limit xs start end → IsHeadAt limit (xs ++ ys) start end
 is_head-append limit xs ys start end head =
     let low : end ≤ limit = omega (arith, (head_end-Some-is (take limit xs) end head.ends).0, length-take limit xs) in
@@ -329,7 +329,7 @@ is_head-append limit xs ys start end head =
 pub looked-nil : (xs : List ℕ) → IsLookedAt xs 0 0
 looked-nil xs = record { within = omega arith; front = sym leading-nil; none = head_end-nil }
 
--- what was looked at stays so where more bytes come
+-- what was searched stays so if more bytes come
 looked-more : (xs ys : List ℕ) (looked start : ℕ) → StartsWith ys xs → IsLookedAt xs looked start → IsLookedAt ys looked start
 looked-more xs ys looked start more is =
     let low : looked ≤ length xs = is.within in
@@ -340,7 +340,7 @@ looked-more xs ys looked start more is =
 pub looked-grown : (xs more ys : List ℕ) (looked start : ℕ) → ys ≡ xs ++ more → IsLookedAt xs looked start → IsLookedAt ys looked start
 looked-grown xs more ys looked start is = looked-more xs ys looked start (starts_with_of_append ys xs more is)
 
--- all was looked at
+-- all bytes were searched
 pub lacks_head : (limit : ℕ) (xs : List ℕ) (looked start : ℕ) → IsLookedAt xs looked start → looked ≡ min limit (length xs) → (looked ≡ limit → ⊥) → LacksHead limit xs
 lacks_head limit xs looked start is all more =
     let short : length xs < limit = omega arith in
@@ -352,7 +352,7 @@ too_long limit xs looked start is all full = (omega arith, ap (λ k. head_end (t
 
 -- ---- no head
 
--- the error behind the bytes that were looked at
+-- the error after the bytes that were searched
 pub after_calm : (e : ReadError) (n : ℕ) → is_fault (error_after e n) ≡ is_fault e
 after_calm End n = refl
 after_calm CutShort zero = refl
@@ -369,7 +369,7 @@ after_ended (Refused refusal) n P ended = tt
 after_ended ReadFault n P ended = tt
 after_ended Memory n P ended = tt
 
--- all bytes were looked at, and no more came
+-- all bytes were searched, and no more came
 pub no_head_after : (limit n : ℕ) (xs : List ℕ) (e : ReadError) → StopsReading e → n ≡ min limit (length xs) → LacksHead limit xs → HasNoHead limit xs (error_after e n)
 no_head_after limit n xs End stops all lacks = absurd stops
 no_head_after limit zero [] CutShort stops all lacks = refl

@@ -1,4 +1,4 @@
--- One body stands in front of bytes, or one reason why there is none.
+-- Bytes begin with one body only, or there is one reason why they begin with no body.
 use Rattle.std.proofs.Common.{◌≡◌, ◌≢◌, ℕ, ◌+◌, ◌-◌, ◌≤◌, List, [], ◌∷◌, ◌++◌, length, take, drop, inl, inr, refl, sym, ap, subst, ◌∙◌, arith, append_assoc, append-nil, length-append, Bool, true, false}
 use Rattle.std.proofs.Math.Seq.{take-append-add}
 use Rattle.std.proofs.lemmas.List.{take-append-drop, take_all, take-append-le, drop-append-le, drop_all, take-take}
@@ -19,7 +19,7 @@ size_once bytes m n s t x y =
     let same = chunk_line_unique bytes x.0 y.0 s t x.1.0 y.1.0 in
     (x.2 ∙ ap chunk_size same.0 ∙ sym y.2, same.1)
 
--- a line of at most `LINE_LIMIT` bytes stands in the first `LINE_LIMIT` bytes
+-- a line of at most `LINE_LIMIT` bytes is within the first `LINE_LIMIT` bytes
 line-in-front : (bytes : List ℕ) (l : ChunkLine) (rest : List ℕ) → HasLine bytes l rest → (x : List ℕ) × ReadsChunkLine (take LINE_LIMIT bytes) l x
 line-in-front bytes l rest has =
     let line = print_chunk_line l in
@@ -94,7 +94,7 @@ trailer_not_wrong bytes r x wrong = true_not_false _ x.ends (wrong.1 x.count x.s
 trailer_not_part : (bytes r : List ℕ) → HasTrailer bytes r → HasPartOfTrailer bytes → ⊥
 trailer_not_part bytes r x part = true_not_false _ x.ends (part.1 x.count x.within)
 
--- ---- where a further chunk may stand
+-- ---- where another chunk may begin
 
 part_not_whole : Part ≡ Whole → ⊥
 part_not_whole same = cc
@@ -139,7 +139,7 @@ size_same room size tail o p r q (inr (inr x)) (inl y) = absurd (omega (arith, x
 size_same room size tail o p r q (inr (inr x)) (inr (inl y)) = absurd (omega (arith, x.0, y.0))
 size_same room size tail o p r q (inr (inr x)) (inr (inr y)) = data_same size tail o p r q x.2 y.2
 
--- what is no line is no size
+-- what is not a line is not a size
 line_not_size : (bytes : List ℕ) (o : Ending) (n : ℕ) (t : List ℕ) → EndsInLine bytes o → HasSize bytes n t → ⊥
 line_not_size bytes o n t (inl x) line = wrong_not_size bytes n t x.1 line
 line_not_size bytes o n t (inr x) line = part_not_size bytes n t x.1 line
@@ -154,7 +154,7 @@ end_same room bytes o p r q (inr (m, s, line, after)) (inr (n, t, also, then)) =
 
 -- ---- chunks
 
--- what a chunk in front says
+-- what a chunk at the front says
 chunk_size_is : (c : Chunk) (bytes rest : List ℕ) → IsChunk c → bytes ≡ print_chunk c ++ rest → HasSize bytes (length c.content) (c.content ++ (crlf ++ rest))
 chunk_size_is c bytes rest is text = (
   c.line,
@@ -241,7 +241,7 @@ pub one_body : (limit : ℕ) (coding : Coding) (bytes : List ℕ) (o p : Ending)
 one_body limit (codings.Length size) bytes o p b c r q x y = one_measured size bytes o p b c r q x y
 one_body limit codings.Chunked bytes o p b c r q x y = one_chunked limit bytes o p b c r q x y
 
--- ---- more bytes behind
+-- ---- more bytes after these
 
 front-append : (n : ℕ) (xs ys : List ℕ) → (z : List ℕ) × (take n (xs ++ ys) ≡ take n xs ++ z)
 front-append n xs ys =
@@ -288,7 +288,7 @@ wrong_trailer-append : (bytes more : List ℕ) → HasWrongTrailer bytes → Has
 wrong_trailer-append bytes more wrong =
     (omega (arith, wrong.0, length-append bytes more), λ m low. ap is_trailer (take-append-le m bytes more (omega (arith, low, wrong.0))) ∙ wrong.1 m low)
 
--- what ends so stays where more bytes follow, unless the bytes end in it
+-- an ending stays the same if more bytes follow, unless the bytes end there
 trailer_end-append : (bytes more : List ℕ) (o : Ending) (rest : List ℕ) → o ≢ Part → EndsInTrailer bytes o rest → EndsInTrailer (bytes ++ more) o (rest ++ more)
 trailer_end-append bytes more o rest stays (inl x) = inl (x.0, trailer-append bytes more rest x.1)
 trailer_end-append bytes more o rest stays (inr (inl x)) = inr (inl (x.0, wrong_trailer-append bytes more x.1))
@@ -316,7 +316,7 @@ measured-append size bytes more o body rest stays (inl x) =
     inl (x.0, x.1, ap (λ (l : List ℕ). l ++ more) x.2 ∙ append_assoc body rest more)
 measured-append size bytes more o body rest stays (inr x) = absurd (stays x.0)
 
--- what a body is, stays where more bytes follow
+-- a body stays the same if more bytes follow
 pub body-append : (limit : ℕ) (coding : Coding) (bytes more : List ℕ) (o : Ending) (body rest : List ℕ) → o ≢ Part → HasBody limit coding bytes o body rest
     → HasBody limit coding (bytes ++ more) o body (rest ++ more)
 body-append limit (codings.Length size) bytes more o body rest stays has = measured-append size bytes more o body rest stays has

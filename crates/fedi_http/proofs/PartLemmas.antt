@@ -5,7 +5,7 @@ use Rattle.std.proofs.lemmas.List.{drop-append-le, drop-drop, drop-take, take-ap
 use Rattle.std.specs.Io.KnownBytes.{Consumes}
 use Rattle.fedi_http.specs.Moves.{ReadsBehind}
 
--- the items behind the first k of a part are a part
+-- the items after the first k of a part are a part
 pub part-drop : (xs : List ℕ) (start count k : ℕ) → k ≤ count → take (count - k) (drop (start + k) xs) ≡ drop k (take count (drop start xs))
 part-drop xs start count k h =
     let split : k + (count - k) ≡ count = omega arith in
@@ -16,7 +16,7 @@ part-drop xs start count k h =
 part-length : (xs : List ℕ) (start count : ℕ) → start + count ≤ length xs → length (take count (drop start xs)) ≡ count
 part-length xs start count h = length-take-le count (drop start xs) (omega (arith, length-drop start xs))
 
--- what stands behind a part that was kept
+-- what follows a part that was kept
 part-front : (xs into : List ℕ) (start count : ℕ) → start + count ≤ length xs
     → drop start (take (start + count) xs ++ into) ≡ take count (drop start xs) ++ into
 part-front xs into start count h =
@@ -40,15 +40,15 @@ part-read xs into rest start count n h within =
     ap (take (count + n)) (part-front xs (into ++ rest) start count h)
     ∙ front-read (take count (drop start xs)) into rest count n (part-length xs start count h) within
 
--- what was read behind a part
+-- what was read after a part
 pub reads_behind : (a b : Option (List ℕ)) (xs into rest : List ℕ) (start count n : ℕ) → start + count ≤ length xs → n ≤ length into → Consumes a b (take n into)
     → ReadsBehind a b (take count (drop start xs)) (take (count + n) (drop start (take (start + count) xs ++ (into ++ rest))))
 reads_behind a b xs into rest start count n inside bound read = (take n into, read, part-read xs into rest start count n inside bound)
 
--- a part is the same as it was before it was moved and before what is behind it was written
+-- a part is the same as before it was moved and before the bytes after it were written
 pub part_same : (part : List ℕ → List ℕ) (items now old moved was : List ℕ) → items ≡ now → part now ≡ part old → old ≡ moved → part moved ≡ was → part items ≡ was
 part_same part items now old moved was written kept lent same = ap part written ∙ kept ∙ ap part lent ∙ same
 
--- and what was read stands behind it
+-- and what was read follows it
 pub part_read : (whole part : List ℕ → List ℕ) (items now old more was : List ℕ) → items ≡ now → whole now ≡ part old ++ more → part old ≡ was → whole items ≡ was ++ more
 part_read whole part items now old more was written read same = ap whole written ∙ read ∙ ap (λ (l : List ℕ). l ++ more) same

@@ -12,7 +12,7 @@ pub reads_none : {T : Type 0} (left_of : T → Option (List ℕ)) (faults_of : T
 reads_none left_of faults_of beside_of a Lacks P holds =
     record { more = []; taken = Consumes-nil (left_of a); holds = holds; idle = inr (refl, refl); beside = refl; faults = refl }
 
--- nothing more is read where nothing was
+-- either something was lacking, or both reads took nothing
 idle_on : {T : Type 0} (a b c : T) (Lacks Then All : Type 0) (P : List ℕ → Type 0) (m n : List ℕ) → Lacks ⊎ ((b ≡ a) × (m ≡ [])) → P m → Then ⊎ ((c ≡ b) × (n ≡ []))
     → (Lacks → All) → (P [] → Then → All) → All ⊎ ((c ≡ a) × (m ++ n ≡ []))
 idle_on a b c Lacks Then All P m n (inl lacks) holds two first second = inl (first lacks)
@@ -33,7 +33,7 @@ reads_then left_of faults_of beside_of a b c failed Lacks Then All P Q R one two
   faults = rw one.faults at two.faults;
 }
 
--- the same bytes, of which more is said
+-- the same bytes, with facts that follow
 pub reads_as : {T : Type 0} (left_of : T → Option (List ℕ)) (faults_of : T → ℕ) (beside_of : T → Option (List ℕ) × ℕ) (a b : T) (failed : Bool)
     (Lacks All : Type 0) (P Q : List ℕ → Type 0) → Reads left_of faults_of beside_of a b failed Lacks P
     → (Lacks → All) → ((m : List ℕ) → P m → Q m) → Reads left_of faults_of beside_of a b failed All Q
@@ -46,7 +46,7 @@ reads_as left_of faults_of beside_of a b failed Lacks All P Q one first then = r
   faults = one.faults;
 }
 
--- what is pending grew, and grows again where it lacked something
+-- the pending bytes grew, and grow again if they lacked something
 pub grown : {T : Type 0} (left_of : T → Option (List ℕ)) (faults_of : T → ℕ) (beside_of : T → Option (List ℕ) × ℕ) (a b c : T) (failed : Bool)
     (X : List ℕ → Type 0) (p q r : List ℕ) → Reads left_of faults_of beside_of a b false (X p) (λ m. q ≡ p ++ m) → X q
     → Reads left_of faults_of beside_of b c failed (Unit {0}) (λ m. r ≡ q ++ m) → Reads left_of faults_of beside_of a c failed (X p) (λ m. r ≡ p ++ m)
@@ -55,14 +55,15 @@ grown left_of faults_of beside_of a b c failed X p q r one lacks two =
     (λ h. h) (λ none _. subst X (none ∙ append-nil p) lacks)
     (λ m n is more. more ∙ ap (λ (l : List ℕ). l ++ n) is ∙ append_assoc p m n)
 
--- what is read of the pending bytes is read of those that were pending and those that were taken
+-- what holds of the pending bytes holds of those that were pending, followed by those that were
+-- taken
 pub read_of : {T : Type 0} (left_of : T → Option (List ℕ)) (faults_of : T → ℕ) (beside_of : T → Option (List ℕ) × ℕ) (a b : T) (failed : Bool)
     (Lacks : Type 0) (p q : List ℕ) (P : List ℕ → Type 0) → Reads left_of faults_of beside_of a b failed Lacks (λ m. q ≡ p ++ m) → P q
     → Reads left_of faults_of beside_of a b failed Lacks (λ m. P (p ++ m))
 read_of left_of faults_of beside_of a b failed Lacks p q P one holds =
     reads_as left_of faults_of beside_of a b failed Lacks Lacks (λ m. q ≡ p ++ m) (λ m. P (p ++ m)) one (λ h. h) (λ m is. subst P is holds)
 
--- an error inside a part tells that the bytes end in it
+-- an error inside a part says that the bytes end in it
 pub part_told : (e : ReadError) (P : Ending → Type 0) → StopsReading e → P Part → Tells e P
 part_told End P stops part = absurd stops
 part_told CutShort P stops part = part
@@ -70,7 +71,7 @@ part_told (Refused refusal) P stops part = absurd stops
 part_told ReadFault P stops part = part
 part_told Memory P stops part = part
 
--- what is told of one ending is told of another
+-- what an error says about the ending may be weakened
 pub told_as : (e : ReadError) (P Q : Ending → Type 0) → ((o : Ending) → P o → Q o) → Tells e P → Tells e Q
 told_as End P Q f told = told
 told_as CutShort P Q f told = f Part told
@@ -79,7 +80,7 @@ told_as (Refused refusal) P Q f (inr long) = inr (long.0, f _ long.1)
 told_as ReadFault P Q f told = f Part told
 told_as Memory P Q f told = f Part told
 
--- what was pending lacked something, and no more came
+-- the pending bytes lacked something, and no more arrived
 pub stopped : {T : Type 0} (left_of : T → Option (List ℕ)) (faults_of : T → ℕ) (beside_of : T → Option (List ℕ) × ℕ) (a b c : T) (failed : Bool)
     (X : List ℕ → Type 0) (P : List ℕ → Ending → Type 0) (p q r : List ℕ) (e : ReadError) → Reads left_of faults_of beside_of a b false (X p) (λ m. q ≡ p ++ m) → X q
     → Reads left_of faults_of beside_of b c failed (Unit {0}) (λ m. r ≡ q ++ m) → r ≡ q → StopsReading e → P q Part
@@ -88,7 +89,7 @@ stopped left_of faults_of beside_of a b c failed X P p q r e one lacks two same 
     read_of left_of faults_of beside_of a c failed (X p) p r (λ (l : List ℕ). Tells e (P l)) (grown left_of faults_of beside_of a b c failed X p q r one lacks two)
     (subst (λ (l : List ℕ). Tells e (P l)) (sym same) (part_told e (P q) stops part))
 
--- bytes are taken behind those at hand, and then more
+-- bytes are taken after those at hand, and then more
 pub reads_on : {T : Type 0} (left_of : T → Option (List ℕ)) (faults_of : T → ℕ) (beside_of : T → Option (List ℕ) × ℕ) (a b c : T) (failed : Bool) (entry : List ℕ)
     (Lacks Then All : Type 0) (P Q R : List ℕ → Type 0) → Reads left_of faults_of beside_of a b false Lacks (λ m. P (entry ++ m))
     → Reads left_of faults_of beside_of b c failed Then Q → (Lacks → All) → (P entry → Then → All) → ((bytes n : List ℕ) → P bytes → Q n → R (bytes ++ n))

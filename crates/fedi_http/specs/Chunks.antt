@@ -1,4 +1,4 @@
--- A body as it stands in a stream: by its length, or in chunks (RFC 9112, sections 6 and 7.1).
+-- A body in a stream: by its length, or in chunks (RFC 9112, sections 6 and 7.1).
 use Rattle.std.specs.Prelude.{ℕ, ◌≡◌, ◌≢◌, ◌-◌, ◌<◌, ◌≤◌, Bool, true, false, ◌||◌, bytes_eq, List}
 use Rattle.std.specs.Prelude.{[], ◌∷◌, ◌++◌, length, take, drop, Result, MatchResult, ◌⊎◌}
 use Rattle.std.specs.List.{flat_map, AllByRecursion}
@@ -13,15 +13,16 @@ use Rattle.fedi_http.specs.declared.read_error.ReadError.{ReadError}
 use Rattle.fedi_http.specs.declared.read_error.ReadError.TheVariants as errors
 use Rattle.fedi_http.specs.Heads.{ends_in_empty_line}
 
--- how what is read of bytes ends: it is whole, it is wrong, it is longer than is read, or the bytes
--- end in it
+-- how something that is read from bytes ends: it is whole, it is malformed, it is too long to be
+-- read, or the bytes end in it
 pub data Ending : Type 0 where
   Whole : Ending
   Wrong : Ending
   Long : Ending
   Part : Ending
 
--- what an error says of how it ends: memory is wanted for more bytes, as long as none are at fault
+-- what an error says about the ending: memory is needed only for more bytes, as long as nothing is
+-- wrong
 abbrev pub Tells : ReadError → (Ending → Type 0) → Type 0
 Tells errors.End P = ⊥
 Tells errors.CutShort P = P Part
@@ -29,7 +30,7 @@ Tells (errors.Refused refusal) P = ((refusal ≡ BadHead) × P Wrong) ⊎ ((refu
 Tells errors.ReadFault P = P Part
 Tells errors.Memory P = P Part
 
--- what an answer says of it
+-- what a result says about the ending
 abbrev pub TellsEnding : {T : Type 0} → Result T ReadError → (Ending → Type 0) → Type 0
 TellsEnding result P = MatchResult result (λ _. P Whole) (λ e. Tells e P)
 
@@ -44,11 +45,11 @@ pub record Chunk : Type 0 where
   pub line : ChunkLine
   pub content : List ℕ
 
--- its bytes: the line, the data, and CR LF
+-- the bytes of a chunk: the line, the data, and CR LF
 abbrev pub print_chunk : Chunk → List ℕ
 print_chunk c = print_chunk_line c.line ++ (c.content ++ crlf)
 
--- its line is short and counts its data, of which there is some
+-- the line of a chunk is short and gives the length of the data, which is not empty
 pub record IsChunk (c : Chunk) : Type 0 where
   pub line : IsChunkLine c.line
   pub short : length (print_chunk_line c.line) ≤ LINE_LIMIT
@@ -59,11 +60,12 @@ pub record IsChunk (c : Chunk) : Type 0 where
 abbrev pub print_chunks : List Chunk → List ℕ
 print_chunks chunks = flat_map print_chunk chunks
 
--- their data, joined
+-- the data of chunks, joined
 abbrev pub content_of : List Chunk → List ℕ
 content_of chunks = flat_map (λ c. c.content) chunks
 
--- the bytes are these chunks and then the rest, and their data has at most `limit` bytes
+-- the bytes are these chunks followed by the rest, and the data of the chunks has at most `limit`
+-- bytes
 pub record HasChunks (limit : ℕ) (bytes : List ℕ) (chunks : List Chunk)
     (rest : List ℕ) : Type 0 where
   pub each : AllByRecursion IsChunk chunks
@@ -72,11 +74,11 @@ pub record HasChunks (limit : ℕ) (bytes : List ℕ) (chunks : List Chunk)
 
 -- ---- a size line
 
--- a line of at most `LINE_LIMIT` bytes stands in front of the rest
+-- a line of at most `LINE_LIMIT` bytes, followed by the rest
 abbrev pub HasLine : List ℕ → ChunkLine → List ℕ → Type 0
 HasLine bytes l rest = ReadsChunkLine bytes l rest × (length (print_chunk_line l) ≤ LINE_LIMIT)
 
--- it says that so many bytes of data follow
+-- the line says that this many bytes of data follow
 abbrev pub HasSize : List ℕ → ℕ → List ℕ → Type 0
 HasSize bytes size rest = (l : ChunkLine) × HasLine bytes l rest × (size ≡ chunk_size l)
 
@@ -90,55 +92,55 @@ HasWrongLine bytes =
 abbrev pub HasPartOfLine : List ℕ → Type 0
 HasPartOfLine bytes = (length bytes < LINE_LIMIT) × HasNoChunkLine bytes × MayBecomeChunkLine bytes
 
--- how a line ends that is not whole
+-- how a line that is not whole ends
 abbrev pub EndsInLine : List ℕ → Ending → Type 0
 EndsInLine bytes o = ((o ≡ Wrong) × HasWrongLine bytes) ⊎ ((o ≡ Part) × HasPartOfLine bytes)
 
--- ---- the data of a chunk, and the CR LF behind it
+-- ---- the data of a chunk, and the CR LF after it
 
--- the bytes do not begin as CR LF does
+-- the bytes do not begin with CR LF, whatever follows
 abbrev pub IsNoCrlf : List ℕ → Type 0
 IsNoCrlf [] = ⊥
 IsNoCrlf (a ∷ []) = a ≢ 13
 IsNoCrlf (a ∷ b ∷ bytes) = (a ≢ 13) ⊎ (b ≢ 10)
 
--- the bytes are less than CR LF
+-- the bytes are only a part of CR LF
 abbrev pub IsPartOfCrlf : List ℕ → Type 0
 IsPartOfCrlf [] = Unit {0}
 IsPartOfCrlf (a ∷ []) = a ≡ 13
 IsPartOfCrlf (a ∷ b ∷ bytes) = ⊥
 
--- how CR LF ends that is not whole
+-- how a CR LF that is not whole ends
 abbrev pub EndsInCrlf : List ℕ → Ending → Type 0
 EndsInCrlf bytes o = ((o ≡ Wrong) × IsNoCrlf bytes) ⊎ ((o ≡ Part) × IsPartOfCrlf bytes)
 
--- the data is there, and no CR LF behind it
+-- the data is there, but no CR LF follows it
 abbrev pub HasWrongData : ℕ → List ℕ → Type 0
 HasWrongData size bytes = (size ≤ length bytes) × IsNoCrlf (drop size bytes)
 
--- the bytes end in the data, or in the CR LF behind it
+-- the bytes end in the data, or in the CR LF after it
 abbrev pub HasPartOfData : ℕ → List ℕ → Type 0
 HasPartOfData size bytes =
     (length bytes < size) ⊎ ((size ≤ length bytes) × IsPartOfCrlf (drop size bytes))
 
--- how data ends that is not whole
+-- how data that is not whole ends
 abbrev pub EndsInData : ℕ → List ℕ → Ending → Type 0
 EndsInData size bytes o =
     ((o ≡ Wrong) × HasWrongData size bytes) ⊎ ((o ≡ Part) × HasPartOfData size bytes)
 
 -- ---- the trailer
 
--- an empty line, or lines of which the last is empty; a line ends in LF, before which a CR may
--- stand (RFC 9112, sections 2.2 and 7.1.2)
+-- an empty line, or lines that end with an empty one; a line ends in LF, which a CR may precede
+-- (RFC 9112, sections 2.2 and 7.1.2)
 unfoldable pub is_trailer : List ℕ → Bool
 is_trailer text =
     bytes_eq text (10 ∷ []) || (bytes_eq text (13 ∷ 10 ∷ []) || ends_in_empty_line text)
 
--- none of the fronts of up to `count` bytes is a trailer
+-- no prefix of up to `count` bytes is a trailer
 abbrev pub LacksTrailer : ℕ → List ℕ → Type 0
 LacksTrailer count bytes = (m : ℕ) → m ≤ count → is_trailer (take m bytes) ≡ false
 
--- a trailer of at most `TRAILER_LIMIT` bytes, the first that there is, and the rest
+-- the first trailer, of at most `TRAILER_LIMIT` bytes, and the rest
 pub record HasTrailer (bytes rest : List ℕ) : Type 0 where
   pub count : ℕ
   pub within : count ≤ length bytes
@@ -151,7 +153,7 @@ pub record HasTrailer (bytes rest : List ℕ) : Type 0 where
 abbrev pub HasWrongTrailer : List ℕ → Type 0
 HasWrongTrailer bytes = (TRAILER_LIMIT ≤ length bytes) × LacksTrailer TRAILER_LIMIT bytes
 
--- none ends here, but one may if more bytes follow
+-- no trailer ends here, but one may if more bytes follow
 abbrev pub HasPartOfTrailer : List ℕ → Type 0
 HasPartOfTrailer bytes = (length bytes < TRAILER_LIMIT) × LacksTrailer (length bytes) bytes
 
@@ -163,20 +165,21 @@ EndsInTrailer bytes o rest =
 
 -- ---- the body
 
--- how the body ends behind a size line: the size is more than there is room for, or it is 0 and the
+-- how the body ends after a size line: the size is larger than the room left, or it is 0 and the
 -- trailer follows, or the data is not whole
 abbrev pub EndsBehindSize : ℕ → ℕ → List ℕ → Ending → List ℕ → Type 0
 EndsBehindSize room size bytes o rest =
     ((o ≡ Long) × (room < size)) ⊎ (((size ≡ 0) × EndsInTrailer bytes o rest)
     ⊎ ((0 < size) × (size ≤ room) × EndsInData size bytes o))
 
--- how the body ends where a further chunk may stand, whose data has room for so many bytes
+-- how the body ends where another chunk may begin, whose data has room for this many bytes
 abbrev pub IsEndAt : ℕ → List ℕ → Ending → List ℕ → Type 0
 IsEndAt room bytes o rest =
     EndsInLine bytes o ⊎ ((size : ℕ) × (tail : List ℕ) × HasSize bytes size tail
     × EndsBehindSize room size tail o rest)
 
--- a body in chunks stands in front of the rest, or none, for this reason (RFC 9112, section 7.1)
+-- a body in chunks followed by the rest, or how a body ends that is not whole (RFC 9112, section
+-- 7.1)
 pub record HasChunkedBody (limit : ℕ) (bytes : List ℕ) (o : Ending)
     (body rest : List ℕ) : Type 0 where
   pub chunks : List Chunk
@@ -185,14 +188,13 @@ pub record HasChunkedBody (limit : ℕ) (bytes : List ℕ) (o : Ending)
   pub ends : IsEndAt (limit - length (content_of chunks)) at o rest
   pub joined : o ≡ Whole → body ≡ content_of chunks
 
--- a body of so many bytes stands in front of the rest, or the bytes end in it (RFC 9112, section
--- 6.2)
+-- a body of this many bytes followed by the rest, or the bytes end in it (RFC 9112, section 6.2)
 abbrev pub HasMeasuredBody : ℕ → List ℕ → Ending → List ℕ → List ℕ → Type 0
 HasMeasuredBody size bytes o body rest =
     ((o ≡ Whole) × (length body ≡ size) × (bytes ≡ body ++ rest))
     ⊎ ((o ≡ Part) × (length bytes < size))
 
--- a body of this coding, whose chunks have at most `limit` bytes (RFC 9112, section 6.3)
+-- a body with this coding, whose chunks have at most `limit` bytes (RFC 9112, section 6.3)
 abbrev pub HasBody : ℕ → Coding → List ℕ → Ending → List ℕ → List ℕ → Type 0
 HasBody limit (Length size) bytes o body rest = HasMeasuredBody size bytes o body rest
 HasBody limit Chunked bytes o body rest = HasChunkedBody limit bytes o body rest

@@ -1,4 +1,4 @@
--- What is found of the fields of a head in one pass (RFC 9110, section 5).
+-- What one pass over the fields of a head finds (RFC 9110, section 5).
 use Rattle.std.specs.Prelude.{◌≡◌, ℕ, ◌<◌, ◌≤◌, ◌⊎◌, List, Bool, true, false, not, ◌&&◌, ◌||◌}
 use Rattle.std.specs.Prelude.{codes, is_some, option_copied}
 use Rattle.std.specs.Str.Parse.{digits_value}
@@ -12,7 +12,7 @@ use Rattle.fedi_http.specs.declared.fields.Slot.{Slot}
 use Rattle.fedi_text.specs.Decimals.{is_decimal}
 use Rattle.fedi_model.specs.Requests.{Field, field_value, is_latest, is_single, closes as closes_by}
 
--- what the fields of this name say: the value of the first, and whether there is another
+-- what the fields with this name say: the value of the first, and whether there is another
 pub record IsSlot (name : List ℕ) (fields : List Field) (slot : Slot) : Type 0 where
   pub value : option_copied slot.value ≡ field_value name fields
   pub repeated : slot.is_repeated ≡ not (is_single name fields)
@@ -29,7 +29,7 @@ pub record AreKnown (fields : List Field) (known : KnownFields) : Type 0 where
   pub idempotency_key : IsSlot (codes "Idempotency-Key") fields known.idempotency_key
   pub closing : known.closes ≡ closes_by fields
 
--- no field is repeated that stands once at most
+-- no field that may occur only once is repeated
 abbrev pub has_no_repeats : KnownFields → Bool
 has_no_repeats known =
     not (known.authorization.is_repeated
@@ -40,7 +40,7 @@ has_no_repeats known =
     || known.content_type.is_repeated
     || known.idempotency_key.is_repeated)
 
--- `Host` stands exactly once, if this version asks for it
+-- `Host` occurs exactly once, if this version requires it
 abbrev pub has_host : ℕ → KnownFields → Bool
 has_host minor known =
     not (is_latest minor) || (is_some known.host.value && not known.host.is_repeated)
@@ -51,7 +51,7 @@ IsLength value coding =
     (is_decimal value ≡ true) × (digits_value 10 value ≤ BODY_LIMIT)
     × (coding ≡ Length (digits_value 10 value))
 
--- the value of a `Content-Length` is refused: it is no number, or one that is too large
+-- the value of a `Content-Length` is refused: it is not a number, or the number is too large
 abbrev pub IsNoLength : List ℕ → Refusal → Type 0
 IsNoLength value refusal =
     ((is_decimal value ≡ false) × (refusal ≡ BadHead))

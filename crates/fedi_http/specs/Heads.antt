@@ -17,37 +17,37 @@ is_line_end byte = nat_eq byte 13 || nat_eq byte 10
 unfoldable pub leading : List ℕ → ℕ
 leading bytes = position_or_len (λ byte. not (is_line_end byte)) bytes
 
--- the bytes from the first that is neither on
+-- the bytes from that index on
 abbrev pub after_leading : List ℕ → List ℕ
 after_leading bytes = drop (leading bytes) bytes
 
--- a line ends in LF, before which a CR may stand (RFC 9112, section 2.2); so an empty line behind
--- another ends in LF LF or in LF CR LF
+-- a line ends in LF, which a CR may precede (RFC 9112, section 2.2); so an empty line after another
+-- line ends in LF LF or in LF CR LF
 abbrev pub ends_in_empty_line : List ℕ → Bool
 ends_in_empty_line text =
     ends_with nat_eq text (10 ∷ 10 ∷ []) || ends_with nat_eq text (10 ∷ 13 ∷ 10 ∷ [])
 
--- whether the first `count` bytes, but for the line ends in front, end with an empty line
+-- whether the first `count` bytes, without the leading line ends, end with an empty line
 unfoldable pub is_end : List ℕ → ℕ → Bool
 is_end bytes count = ends_in_empty_line (after_leading (take count bytes))
 
--- how many bytes the head takes from the front: the least number after which it ends with an empty
+-- how many bytes the head takes at the front: the least number after which it ends with an empty
 -- line (RFC 9112, section 2.1)
 unfoldable pub head_end : List ℕ → Option ℕ
 head_end bytes = find (is_end bytes) (range_with_len 0 (length bytes + 1))
 
--- the head's text: these bytes but for the line ends in front
+-- the text of the head: these bytes without the leading line ends
 abbrev pub head_of : List ℕ → Option (List ℕ)
 head_of bytes = option_map (λ count. after_leading (take count bytes)) (head_end bytes)
 
--- the head of the first `limit` bytes stands from `start` to `end`
+-- the head in the first `limit` bytes extends from `start` to `end`
 pub record IsHeadAt (limit : ℕ) (bytes : List ℕ) (start end : ℕ) : Type 0 where
   pub ends : head_end (take limit bytes) ≡ Some end
   pub ordered : start < end
   pub within : end ≤ length bytes
   pub text : head_of (take limit bytes) ≡ Some (slice_range bytes start end)
 
--- the bytes are fewer than `limit`, and no head ends in them
+-- there are fewer than `limit` bytes, and no head ends in them
 abbrev pub LacksHead : ℕ → List ℕ → Type 0
 LacksHead limit bytes = (length bytes < limit) × (head_end bytes ≡ None)
 
@@ -55,7 +55,7 @@ LacksHead limit bytes = (length bytes < limit) × (head_end bytes ≡ None)
 abbrev pub HasLongHead : ℕ → List ℕ → Type 0
 HasLongHead limit bytes = (limit ≤ length bytes) × (head_end (take limit bytes) ≡ None)
 
--- why no head was read at the front of the bytes, of which a head takes at most `limit`
+-- why no head was read at the front of the bytes, if a head takes at most `limit` bytes
 abbrev pub HasNoHead : ℕ → List ℕ → ReadError → Type 0
 HasNoHead limit bytes End = bytes ≡ []
 HasNoHead limit bytes CutShort = (0 < length bytes) × LacksHead limit bytes
@@ -63,15 +63,15 @@ HasNoHead limit bytes (Refused refusal) = (refusal ≡ HeadTooLong) × HasLongHe
 HasNoHead limit bytes ReadFault = LacksHead limit bytes
 HasNoHead limit bytes Memory = LacksHead limit bytes
 
--- no head ends in the first `looked` bytes, and the first `start` of these are the line ends in
--- front
+-- no head ends in the first `looked` bytes, and the first `start` of these are the leading line
+-- ends
 pub record IsLookedAt (bytes : List ℕ) (looked start : ℕ) : Type 0 where
   pub within : looked ≤ length bytes
   pub front : start ≡ leading (take looked bytes)
   pub none : head_end (take looked bytes) ≡ None
 
--- wherever the bytes are cut from `looked` to `upto` on, the line ends in front are the first
--- `start`
+-- wherever the bytes are cut between `looked` and `upto`, the leading line ends are the first
+-- `start` bytes
 abbrev pub IsSettled : List ℕ → ℕ → ℕ → ℕ → Type 0
 IsSettled bytes looked upto start = (n : ℕ) → looked ≤ n → n ≤ upto → leading (take n bytes) ≡ start
 

@@ -1,4 +1,4 @@
--- What reading does beside its answer.
+-- The effects of reading, apart from its result.
 use Rattle.std.specs.Prelude.{ℕ, zero, suc, ◌≡◌, ◌⊎◌, List, [], ◌++◌, Bool, true, false, Option}
 use Rattle.std.specs.Prelude.{Result, Ok, Err, if◌then◌else◌}
 use Rattle.std.specs.Io.KnownBytes.{Consumes}
@@ -9,23 +9,23 @@ use Rattle.fedi_http.specs.declared.read_error.ReadError.{ReadError}
 use Rattle.fedi_http.specs.declared.read_error.ReadError.TheVariants.{End, CutShort, Refused}
 use Rattle.fedi_http.specs.declared.read_error.ReadError.TheVariants.{ReadFault, Memory}
 
--- what a buffer holds: a body, and the bytes behind it that were read and are not used up yet
+-- what a buffer holds: a body, and the bytes after it that were read and are not used yet
 pub record Held : Type 0 where
   pub body : List ℕ
   pub pending : List ℕ
 
--- known bytes lose those that are behind the pending ones now
+-- the bytes that now follow the pending ones were taken from the known bytes
 abbrev pub ReadsBehind : Option (List ℕ) → Option (List ℕ) → List ℕ → List ℕ → Type 0
 ReadsBehind old new pending now = (more : List ℕ) × Consumes old new more × (now ≡ pending ++ more)
 
--- bytes were taken from a source, of which this holds, and a read that failed was counted
+-- bytes were taken from a source, a fact holds of them, and a failed read was counted
 pub record Reads {T : Type 0}
     (left_of : T → Option (List ℕ)) (faults_of : T → ℕ) (beside_of : T → Option (List ℕ) × ℕ)
     (before after : T) (failed : Bool) (Lacks : Type 0) (P : List ℕ → Type 0) : Type 0 where
-  pub more : List ℕ  -- those that were taken
+  pub more : List ℕ  -- the bytes that were taken
   pub taken : Consumes (left_of before) (left_of after) more
   pub holds : P more
-  -- nothing is read where what was at hand is enough
+  -- nothing is read if the bytes at hand were enough
   pub idle : Lacks ⊎ ((after ≡ before) × (more ≡ []))
   pub beside : beside_of after ≡ beside_of before
   pub faults :
@@ -44,7 +44,7 @@ abbrev pub has_fault : {T : Type 0} → Result T ReadError → Bool
 has_fault (Ok value) = false
 has_fault (Err error) = is_fault error
 
--- a fact for the errors that come where the input ended
+-- a fact for the errors that occur at the end of the input
 abbrev pub OnEnd : ReadError → Type 0 → Type 0
 OnEnd End P = P
 OnEnd CutShort P = P
@@ -52,7 +52,7 @@ OnEnd (Refused refusal) P = Unit {0}
 OnEnd ReadFault P = Unit {0}
 OnEnd Memory P = Unit {0}
 
--- the error came inside a request
+-- the error occurred inside a request
 abbrev pub StopsReading : ReadError → Type 0
 StopsReading End = ⊥
 StopsReading CutShort = Unit {0}
@@ -60,12 +60,12 @@ StopsReading (Refused refusal) = ⊥
 StopsReading ReadFault = Unit {0}
 StopsReading Memory = Unit {0}
 
--- the error of what is refused
+-- the error for a refusal
 abbrev pub error_by : Refusal → ReadError
 error_by refusals.Memory = Memory
 error_by refusal = Refused refusal
 
--- the same error behind so many bytes of a request
+-- the same error, after this many bytes of a request
 abbrev pub error_after : ReadError → ℕ → ReadError
 error_after End count = End
 error_after CutShort zero = End

@@ -15,7 +15,7 @@ use fedi_model::{BODY_LIMIT, Refusal, Request};
 use fedi_outside::Source;
 use std::alloc::Global;
 
-/// What stands at the front of a stream, or why reading it stopped.
+/// What is at the front of a stream, or why reading it stopped.
 #[derive(Drop)]
 pub enum Arrived {
     /// A request. Its body is in the buffer.
@@ -24,11 +24,11 @@ pub enum Arrived {
     End,
     /// The input ended inside a request.
     CutShort,
-    /// The request is refused: its head, or its body. What follows is not looked at.
+    /// The request is refused, for its head or its body. What follows is not examined.
     Refused(Refusal),
     /// A read failed.
     ReadFault,
-    /// There was no memory for the request or for its bytes. The head is not refused.
+    /// Memory ran out for the request or for its bytes. The head is not refused.
     Memory,
 }
 
@@ -49,31 +49,34 @@ impl From<ReadError> for Arrived {
     }
 }
 
-/// Reads the next request (RFC 9112, sections 2 to 7): from the source into the buffer, until what
-/// was read holds a head and its body, or what is refused, or the input ends. What is pending comes
-/// first, and the source is read only if it holds no answer: a client that waits for one gets it.
+/// Reads the next request (RFC 9112, sections 2 to 7) from the source into the buffer, until the
+/// bytes that were read contain a head and its body, or something that is refused, or the input
+/// ends. The pending bytes come first. The source is read only if they do not determine the answer,
+/// so a client that waits for one gets it.
 ///
-/// The first of these that holds refuses a request:
+/// A request is refused for the first of these that holds:
 ///
 /// | Refusal | If |
 /// |---|---|
-/// | `HeadTooLong` | no head ends in the first `HEAD_LIMIT` bytes, or over `MOST_FIELDS` lines stand between its first line and its end |
+/// | `HeadTooLong` | no head ends in the first `HEAD_LIMIT` bytes |
+/// | `HeadTooLong` | over `MOST_FIELDS` lines are between the first line of the head and its end |
 /// | `BadHead`, `NoCoding`, `NoLength`, `TooLong` | the head is refused by `read_request_head` |
 /// | `BadHead` | a size line has no end within `LINE_LIMIT` bytes or is wrong, no CR LF follows the data of a chunk, or the trailer does not end within `TRAILER_LIMIT` bytes |
 /// | `TooLong` | the sizes of the chunks that were read add up to over `BODY_LIMIT`; their data is not waited for |
 ///
-/// After `Request` the buffer lends the body until the next call, however it came, and what is
-/// behind it stays pending. Each byte that was pending or was taken from the source is accounted
-/// for. After `Refused`, `ReadFault` and `Memory` the buffer is not to be read from again: part of
-/// a request may be gone from it.
+/// After `Request` the buffer lends the body until the next call, whatever its coding, and the
+/// bytes after it stay pending. Every byte that was pending or was taken from the source is
+/// accounted for. After `Refused`, `ReadFault` and `Memory` the buffer must not be read from again:
+/// it may have lost part of a request.
 pub fn read_request<S: Source>(alloc: Global, source: &mut S, buffer: &mut Buffer) -> Arrived
-    // What was pending and what was taken begins so. Nothing is taken if what was pending does.
+    // The bytes that were pending, followed by those that were taken, begin with this arrival.
+    // Nothing is taken if the pending bytes alone determine it.
     ensures reads { Reads S.left S.read_faults S.beside_source source.old source.new
         (is_read_fault result) (LacksRequest HEAD_LIMIT MOST_FIELDS buffer.old.pending)
         (λ more. IsArrival HEAD_LIMIT MOST_FIELDS (buffer.old.pending ++ more) result
         buffer.new.body buffer.new.pending) }
-    // If the source tells what is to come, this stands at the front of all of it, and the rest is
-    // what is then pending and to come.
+    // If it is known what the source still holds, this is at the front of the whole stream, and the
+    // rest is what is then pending, followed by what the source then holds.
     ensures told { IfSome (prepend_known buffer.old.pending (S.left source.old))
         (λ stream. TellsOfStream result → (rest : List ℕ)
         × IsArrival HEAD_LIMIT MOST_FIELDS stream result buffer.new.body rest
@@ -86,7 +89,7 @@ pub fn read_request<S: Source>(alloc: Global, source: &mut S, buffer: &mut Buffe
     }
 }
 
-// Reads the next request, or why there is none.
+// Reads the next request. The error says why there is no request.
 fn next_request<S: Source>(
     alloc: Global,
     source: &mut S,
@@ -105,8 +108,8 @@ fn next_request<S: Source>(
     read_body(source, buffer, request.coding).and(Ok(request))
 }
 
-/// At most one answer is true of the front of a stream, if the answer tells of the stream at all;
-/// and if it is a request, it has one body and one rest.
+/// At most one of the answers that describe a stream is true of its front. If it is a request, its
+/// body and the rest are unique too.
 pub fn arrivals_are_determined()
     ensures { (limit most : ℕ) (stream : List ℕ) (a b : Arrived) (body text rest more : List ℕ)
         → 0 < limit → IsArrival limit most stream a body rest
@@ -114,7 +117,7 @@ pub fn arrivals_are_determined()
         → (a ≡ b) × OnRequest a ((body ≡ text) × (rest ≡ more)) }
 {}
 
-/// The limits, in figures.
+/// The limits, as numbers.
 pub fn limits_are_fixed()
     ensures head { HEAD_LIMIT ≡ 16384 }
     ensures fields { MOST_FIELDS ≡ 64 }

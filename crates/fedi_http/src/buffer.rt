@@ -12,17 +12,17 @@ use fedi_outside::{Failed, Source};
 use std::alloc::{AllocError, Global};
 use std::marker::Model;
 
-/// How many bytes a buffer has at most, read or room: those of one head and one body.
+/// The maximum number of bytes in a buffer, used or free: those of one head and one body.
 pub const BUFFER_LIMIT: usize = HEAD_LIMIT + BODY_LIMIT;
 
-/// The body of the last request, and bytes behind it that were read and are not yet used up: those
-/// that are pending. It has at most `BUFFER_LIMIT` bytes, read or room.
+/// The body of the last request, and the pending bytes: those after it that were read and are not
+/// used yet. It has at most `BUFFER_LIMIT` bytes, used or free.
 #[derive(Drop)]
 pub struct Buffer {
     bytes: Vec<u8>,
-    // The body are the first `held` bytes, and what is pending are the `count` bytes from `start`
-    // on. The rest is room. What is between the two was used up: a body that comes in chunks is
-    // joined there.
+    // The body is the first `held` bytes, and the pending bytes are the `count` bytes from `start`
+    // on. The rest is free. The bytes between the two were used up: a body that arrives in chunks
+    // is joined there.
     held: usize,
     start: usize,
     count: usize,
@@ -45,7 +45,7 @@ impl Model for Buffer {
 }
 
 impl Buffer {
-    /// A buffer with no body and nothing pending, which takes no memory yet.
+    /// A buffer with no body and no pending bytes, which allocates nothing yet.
     pub fn new(alloc: Global) -> Self
         ensures { result ≡ record { body = []; pending = [] } }
     {
@@ -57,7 +57,7 @@ impl Buffer {
         }
     }
 
-    /// The bytes that are pending.
+    /// The pending bytes.
     pub fn pending(&self) -> &[u8]
         ensures pending { result.now ≡ self.now.pending }
         ensures bound { length self.now.body + length self.now.pending ≤ BUFFER_LIMIT }
@@ -65,7 +65,7 @@ impl Buffer {
         &self.bytes[self.start..self.start + self.count]
     }
 
-    /// The body of the request that was read last.
+    /// The body of the last request that was read.
     pub fn body(&self) -> &[u8]
         ensures body { result.now ≡ self.now.body }
         ensures bound { length self.now.body + length self.now.pending ≤ BUFFER_LIMIT }
@@ -73,7 +73,7 @@ impl Buffer {
         &self.bytes[..self.held]
     }
 
-    // Drops this many bytes from the front of what is pending.
+    // Drops this many bytes from the front of the pending bytes.
     pub(crate) fn skip(&mut self, count: usize)
         requires { count ≤ length self.old.pending }
         ensures body { self.new.body ≡ self.old.body }
@@ -91,7 +91,7 @@ impl Buffer {
         self.held = 0;
     }
 
-    // Moves this many bytes from the front of what is pending to the end of the body.
+    // Moves this many bytes from the front of the pending bytes to the end of the body.
     pub(crate) fn join(&mut self, count: usize)
         requires { count ≤ length self.old.pending }
         ensures body { self.new.body ≡ self.old.body ++ take count self.old.pending }
@@ -103,9 +103,9 @@ impl Buffer {
         self.count -= count;
     }
 
-    // Reads once into the room behind what is pending, which has at least `limit` bytes with what
-    // is pending. The error is `CutShort` at the end of the input, `ReadFault` or `Memory`, and no
-    // byte came then.
+    // Reads once into the free bytes after the pending bytes; together these are at least `limit`
+    // bytes. The error is `CutShort` at the end of the input, `ReadFault` or `Memory`. After an
+    // error no byte was read.
     pub(crate) fn fill<S: Source>(&mut self, source: &mut S, limit: usize) -> Result<(), ReadError>
         requires short { length self.old.pending < limit }
         requires bound { length self.old.body + limit ≤ BUFFER_LIMIT }
@@ -140,7 +140,7 @@ fn move_down(bytes: &mut [u8], to: usize, from: usize, count: usize)
     }
 }
 
-// Moves the `count` bytes at `from` down to `to`. There is then room for `limit` bytes from there
+// Moves the `count` bytes at `from` down to `to`. There is then room for `limit` bytes from `to`
 // on, and for a head as far as `BUFFER_LIMIT` allows.
 fn make_room(
     bytes: &mut Vec<u8>,
@@ -169,8 +169,8 @@ fn make_room(
     Ok(())
 }
 
-// Reads into the room behind the `count` bytes at `start`, and answers how many bytes came. The
-// error is `CutShort` at the end of the input, or `ReadFault`.
+// Reads into the free bytes after the `count` bytes at `start`, and returns how many bytes were
+// read. The error is `CutShort` at the end of the input, or `ReadFault`.
 fn read_behind<S: Source>(
     source: &mut S,
     bytes: &mut [u8],

@@ -18,25 +18,25 @@ use fedi_model::{BODY_LIMIT, Coding, Refusal};
 use fedi_outside::Source;
 use httparse::{InvalidChunkSize, Status, parse_chunk_size};
 
-/// How many bytes the size line of a chunk may have, its CR LF with them.
+/// The maximum number of bytes in the size line of a chunk, including its CR LF.
 pub const LINE_LIMIT: usize = 256;
 
-/// How many bytes a trailer may have, its empty line with them.
+/// The maximum number of bytes in a trailer, including its empty line.
 pub const TRAILER_LIMIT: usize = 16_384;
 
-/// A size line: how many bytes it has, and how many bytes of data it says.
+/// A size line: its length in bytes, and the number of bytes of data that it gives.
 #[derive(Clone, Copy)]
 pub(crate) struct Line {
     pub(crate) length: usize,
     pub(crate) size: u64,
 }
 
-/// Reads a body of this coding behind the head, from the front of what is pending and then from the
-/// source, which is read only if the body is not whole in what is pending. The error is `Refused`
-/// with `BadHead` if a size line is wrong or has no end within `LINE_LIMIT` bytes, if no CR LF
-/// follows the data of a chunk, or if a trailer does not end within `TRAILER_LIMIT` bytes; with
-/// `TooLong` as soon as the sizes that were read add up to more than `BODY_LIMIT`; and else
-/// `CutShort`, `ReadFault` or `Memory`.
+/// Reads a body with this coding after the head. It takes the pending bytes first, and reads the
+/// source only if they do not hold the whole body. The error is `Refused` with `BadHead` if a size
+/// line is wrong or has no end within `LINE_LIMIT` bytes, if no CR LF follows the data of a chunk,
+/// or if a trailer does not end within `TRAILER_LIMIT` bytes. It is `Refused` with `TooLong` as
+/// soon as the sizes that were read add up to more than `BODY_LIMIT`. Otherwise it is `CutShort`,
+/// `ReadFault` or `Memory`.
 pub(crate) fn read_body<S: Source>(
     source: &mut S,
     buffer: &mut Buffer,
@@ -56,7 +56,7 @@ pub(crate) fn read_body<S: Source>(
     }
 }
 
-// Reads a body in chunks. Their data is joined in the buffer.
+// Reads a body in chunks. Joins their data in the buffer.
 fn read_chunks<S: Source>(source: &mut S, buffer: &mut Buffer) -> Result<(), ReadError>
     requires { buffer.old.body ≡ [] }
     ensures reads { Reads S.left S.read_faults S.beside_source source.old source.new
@@ -77,7 +77,7 @@ fn read_chunks<S: Source>(source: &mut S, buffer: &mut Buffer) -> Result<(), Rea
     }
 }
 
-// Reads a size line, and answers the size.
+// Reads a size line, and returns the size.
 fn read_line<S: Source>(source: &mut S, buffer: &mut Buffer) -> Result<u64, ReadError>
     requires { length buffer.old.body ≤ BODY_LIMIT }
     ensures reads { Reads S.left S.read_faults S.beside_source source.old source.new
@@ -97,7 +97,7 @@ fn read_line<S: Source>(source: &mut S, buffer: &mut Buffer) -> Result<u64, Read
     }
 }
 
-// The size line in front, if it is whole. The error is `BadHead`: no line can stand there.
+// The size line at the front, if it is whole. The error is `BadHead`: there is no valid line.
 fn line_in(bytes: &[u8]) -> Result<Option<Line>, Refusal>
     ensures { IsLineIn bytes.now result }
 {
@@ -110,7 +110,7 @@ fn line_in(bytes: &[u8]) -> Result<Option<Line>, Refusal>
     }
 }
 
-// Reads the data of a chunk and the CR LF behind it, and joins the data to the body.
+// Reads the data of a chunk and the CR LF after it, and joins the data to the body.
 fn read_data<S: Source>(source: &mut S, buffer: &mut Buffer, size: usize) -> Result<(), ReadError>
     requires { length buffer.old.body + size ≤ BODY_LIMIT }
     ensures reads { Reads S.left S.read_faults S.beside_source source.old source.new
@@ -122,7 +122,7 @@ fn read_data<S: Source>(source: &mut S, buffer: &mut Buffer, size: usize) -> Res
     read_crlf(source, buffer)
 }
 
-// Reads so many bytes, and joins them to the body.
+// Reads `size` bytes, and joins them to the body.
 fn read_content<S: Source>(
     source: &mut S,
     buffer: &mut Buffer,
@@ -162,8 +162,8 @@ fn read_crlf<S: Source>(source: &mut S, buffer: &mut Buffer) -> Result<(), ReadE
     Ok(())
 }
 
-// Whether CR LF stands in front, or less than that. The error is `BadHead`: what stands there is
-// neither.
+// Whether the bytes begin with CR LF. `false` means that they are only a part of it. The error is
+// `BadHead`: they begin with something else.
 fn begins_with_crlf(bytes: &[u8]) -> Result<bool, Refusal>
     ensures { IsCrlfIn bytes.now result }
 {
@@ -198,7 +198,8 @@ fn read_trailer<S: Source>(source: &mut S, buffer: &mut Buffer) -> Result<(), Re
     }
 }
 
-// How many bytes the trailer in front has, if it is whole. No front of up to `looked` bytes is one.
+// The length of the trailer at the front, if it is whole. No prefix of up to `looked` bytes is a
+// trailer.
 fn trailer_in(bytes: &[u8], looked: usize) -> Option<usize>
     requires within { looked ≤ length bytes.now }
     requires short { looked ≤ TRAILER_LIMIT }
@@ -216,7 +217,7 @@ fn trailer_in(bytes: &[u8], looked: usize) -> Option<usize>
     None
 }
 
-// Whether the text is an empty line, or lines of which the last is empty.
+// Whether the text is an empty line, or lines that end with an empty one.
 #[tactic(auto, unfolding(crate::specs::Chunks::is_trailer))]
 fn is_trailer(text: &[u8]) -> bool
     ensures { result ≡ trailer_test text.now }

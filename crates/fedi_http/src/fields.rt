@@ -9,7 +9,7 @@ ghost use Rattle.fedi_http.specs.Fields.{AreKnown, IsSlot, has_host, has_no_repe
 use crate::framing::lists_close;
 use httparse::spans::HeaderSpan;
 
-/// Whether the names are equal without case (RFC 9110, section 5.1).
+/// Whether the names are equal, ignoring case (RFC 9110, section 5.1).
 pub fn is_same_name(one: &[u8], other: &[u8]) -> bool
     ensures { result
         ≡ bytes_eq (map to_ascii_lowercase one.now) (map to_ascii_lowercase other.now) }
@@ -22,12 +22,12 @@ pub fn is_same_name(one: &[u8], other: &[u8]) -> bool
 pub(crate) struct Slot<'a> {
     /// The value of the first of them.
     pub(crate) value: Option<&'a [u8]>,
-    /// Whether there is another.
+    /// Whether there is another one.
     pub(crate) is_repeated: bool,
 }
 
 impl<'a> Slot<'a> {
-    /// What no field says.
+    /// The slot before any field is read.
     fn new(name: &str) -> Self
         ensures { IsSlot name.now [] result }
     {
@@ -37,7 +37,7 @@ impl<'a> Slot<'a> {
         }
     }
 
-    /// With one field more, which counts if it has the name.
+    /// The slot after one more field, which counts if it has the name.
     #[tactic(auto, using(crate::proofs::FieldLemmas::slots))]
     fn with(self, wanted: &str, name: &[u8], value: &'a [u8]) -> Self
         ensures { (fields : List Field) → IsSlot wanted.now fields self.entry
@@ -59,7 +59,7 @@ impl<'a> Slot<'a> {
     }
 }
 
-/// What the fields of a head say that the server reads.
+/// What the fields of a head say, for those fields that the server reads.
 #[derive(Clone, Copy)]
 pub(crate) struct KnownFields<'a> {
     pub(crate) host: Slot<'a>,
@@ -70,12 +70,12 @@ pub(crate) struct KnownFields<'a> {
     pub(crate) peer_host: Slot<'a>,
     pub(crate) peer_mac: Slot<'a>,
     pub(crate) idempotency_key: Slot<'a>,
-    /// Whether some field `Connection` lists `close` (RFC 9112, section 9.6).
+    /// Whether a `Connection` field lists `close` (RFC 9112, section 9.6).
     pub(crate) closes: bool,
 }
 
 impl<'a> KnownFields<'a> {
-    /// What the fields at these places say.
+    /// What the fields at these positions say.
     #[tactic(auto, using(crate::proofs::RequestLemmas::fields_more))]
     pub(crate) fn read(text: &'a [u8], spans: &[HeaderSpan]) -> Self
         requires { All (IsHeaderWithin (length text.now)) spans.now }
@@ -88,7 +88,8 @@ impl<'a> KnownFields<'a> {
         known
     }
 
-    /// What no field of the text says. The text is named so that the values may be lent from it.
+    /// What is known before any field is read. The text is a parameter so that the values can
+    /// borrow from it.
     fn new(_text: &'a [u8]) -> Self
         ensures { AreKnown [] result }
     {
@@ -105,7 +106,7 @@ impl<'a> KnownFields<'a> {
         }
     }
 
-    /// With one field more.
+    /// What is known after one more field.
     fn with(self, name: &[u8], value: &'a [u8]) -> Self
         ensures { (fields : List Field) → AreKnown fields self.entry
             → AreKnown (fields ++ field_of (name.now, value.now) ∷ []) result }
@@ -126,7 +127,7 @@ impl<'a> KnownFields<'a> {
         }
     }
 
-    /// Whether no field is repeated that stands once at most.
+    /// Whether no field that may occur only once is repeated.
     pub(crate) fn has_no_repeats(&self) -> bool
         ensures { result ≡ has_no_repeats self.now }
     {
@@ -138,7 +139,7 @@ impl<'a> KnownFields<'a> {
             || self.content_type.is_repeated
             || self.idempotency_key.is_repeated)
     }
-    /// Whether `Host` stands exactly once, if the version asks for it: HTTP/1.0 does not (RFC 9112,
+    /// Whether `Host` occurs exactly once, if the version requires it: HTTP/1.0 does not (RFC 9112,
     /// section 3.2).
     pub(crate) fn has_host(&self, minor: u8) -> bool
         ensures { result ≡ has_host minor self.now }

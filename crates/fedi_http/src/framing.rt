@@ -10,12 +10,12 @@ use crate::fields::{KnownFields, is_same_name};
 use fedi_model::{BODY_LIMIT, Coding, Refusal};
 use fedi_text::read_decimal;
 
-/// How the end of the body is found of a request with a method of this name, this version and these
-/// fields, or why it is refused. It is `BadHead` unless `Host` stands exactly once or the version
-/// is HTTP/1.0, no field is repeated that stands once at most, the body is not measured by both
-/// `Content-Length` and `Transfer-Encoding`, and the length is a number of 1 to 19 digits. Then it
-/// is `NoCoding` unless `Transfer-Encoding` is `chunked`, in any case, `NoLength` for a POST with
-/// neither, and `TooLong` for a length over `BODY_LIMIT`.
+/// How the end of the body is found, for a request with a method of this name, this version and
+/// these fields. The error says why the request is refused. It is `BadHead` unless `Host` occurs
+/// exactly once or the version is HTTP/1.0, no field that may occur only once is repeated, the body
+/// is not measured by both `Content-Length` and `Transfer-Encoding`, and the length is a number of
+/// 1 to 19 digits. Otherwise it is `NoCoding` unless `Transfer-Encoding` is `chunked`, ignoring
+/// case, `NoLength` for a POST with neither field, and `TooLong` for a length over `BODY_LIMIT`.
 pub(crate) fn coding_of(method: &[u8], minor: u8, known: &KnownFields) -> Result<Coding, Refusal>
     ensures coding { (fields : List Field) → AreKnown fields known.now → MatchResult result
         (λ coding. (model.fields_refusal method.now minor fields ≡ None)
@@ -37,14 +37,14 @@ pub(crate) fn coding_of(method: &[u8], minor: u8, known: &KnownFields) -> Result
     }
 }
 
-/// Whether the method of this name posts.
+/// Whether the method with this name is POST.
 fn is_post(method: &[u8]) -> bool
     ensures { result ≡ model.is_post method.now }
 {
     method == b"POST".as_slice()
 }
 
-/// Whether the coding is `chunked`, in any case.
+/// Whether the coding is `chunked`, ignoring case.
 #[tactic(auto, unfolding(fedi_model::specs::Requests::is_chunked))]
 fn is_chunked(coding: &[u8]) -> bool
     ensures { result ≡ model.is_chunked coding.now }
@@ -52,8 +52,8 @@ fn is_chunked(coding: &[u8]) -> bool
     is_same_name(coding, b"chunked")
 }
 
-/// The length that a `Content-Length` writes. It is `BadHead` if that is no number of 1 to 19
-/// digits, and `TooLong` if it is over `BODY_LIMIT`.
+/// The length that a `Content-Length` gives. The error is `BadHead` if the value is not a number of
+/// 1 to 19 digits, and `TooLong` if the length is over `BODY_LIMIT`.
 fn length_of(value: &[u8]) -> Result<Coding, Refusal>
     ensures length { MatchResult result
         (λ coding. IsLength value.now coding)
@@ -75,7 +75,7 @@ pub(crate) fn lists_close(value: &[u8]) -> bool
     value.split(|byte| *byte == b',').any(is_close)
 }
 
-/// Whether the element is `close`, in any case, without the blanks around it.
+/// Whether the element without the blanks around it is `close`, ignoring case.
 #[tactic(auto, unfolding(fedi_model::specs::Requests::is_close))]
 fn is_close(element: &[u8]) -> bool
     ensures { result ≡ model.is_close element.now }
@@ -83,7 +83,7 @@ fn is_close(element: &[u8]) -> bool
     is_same_name(trim_end(trim_start(element)), b"close")
 }
 
-/// The text from its first byte that is not blank.
+/// The text from its first byte on that is not blank.
 fn trim_start(text: &[u8]) -> &[u8]
     ensures { result.now ≡ model.trim_start text.now }
 {
@@ -93,7 +93,7 @@ fn trim_start(text: &[u8]) -> &[u8]
     }
 }
 
-/// Where the first byte stands that is not blank.
+/// The index of the first byte that is not blank.
 fn first_not_blank(text: &[u8]) -> Option<usize>
     ensures { result ≡ position (λ byte. not (model.is_blank byte)) text.now }
 {
@@ -111,7 +111,7 @@ pub fn trim_end(text: &[u8]) -> &[u8]
     &text[..end]
 }
 
-/// A space or a tab.
+/// Whether the byte is a space or a tab.
 fn is_blank(byte: u8) -> bool
     ensures { result ≡ model.is_blank byte }
 {

@@ -13,25 +13,24 @@ use fedi_model::{BODY_LIMIT, Refusal};
 use fedi_outside::Source;
 use memchr::memchr;
 
-/// How many bytes a head may take at most, with the line ends in front of it.
+/// The maximum number of bytes in a head, including the line ends before it.
 pub const HEAD_LIMIT: usize = 16_384;
 
-/// Where a head stands in what is pending: its text is the bytes `start..end`, and it takes the
-/// first `end` of them.
+/// The position of a head in the pending bytes: its text is the bytes `start..end`, and it takes
+/// the first `end` bytes.
 #[derive(Clone, Copy)]
 pub(crate) struct HeadPlace {
     pub(crate) start: usize,
     pub(crate) end: usize,
 }
 
-/// Reads the head of a request (RFC 9112, sections 2.1 and 2.2): from the source into the buffer,
-/// until what is pending holds a head, or has `HEAD_LIMIT` bytes with none, or the input ends. What
-/// is pending already comes first, and the source is read only if it holds no head. The error
-/// `Refused` says that the head is too long.
+/// Reads the head of a request (RFC 9112, sections 2.1 and 2.2) from the source into the buffer,
+/// until the pending bytes contain a head, or `HEAD_LIMIT` of them contain none, or the input ends.
+/// Bytes that are already pending come first, and the source is read only if they contain no head.
+/// The error `Refused` means that the head is too long.
 ///
-/// Reading moves bytes from the source to the end of what is pending, and loses none on any answer.
-/// The head stays there, for `skip`. After `ReadFault` and `Memory` no head stands in what is
-/// pending.
+/// Reading moves bytes from the source to the end of the pending bytes, and never loses any. The
+/// head stays there until `skip`. After `ReadFault` and `Memory` the pending bytes contain no head.
 pub(crate) fn read_head<S: Source>(
     source: &mut S,
     buffer: &mut Buffer,
@@ -66,17 +65,17 @@ pub(crate) fn read_head<S: Source>(
     }
 }
 
-// How far the pending bytes were looked at, so that no byte is looked at again when more come.
+// How far the pending bytes were searched, so that no byte is searched again when more arrive.
 #[derive(Clone, Copy)]
 struct Search {
     looked: usize,
-    // How many of these are the line ends in front.
+    // How many of these bytes are leading line ends.
     start: usize,
 }
 
 impl Search {
-    // Looks for the end of a head in the first `HEAD_LIMIT` bytes. `start` is then where its text
-    // starts.
+    // Looks for the end of a head in the first `HEAD_LIMIT` bytes. `start` is then the offset of
+    // its text.
     fn look(&mut self, bytes: &[u8]) -> Option<usize>
         requires known { IsLookedAt bytes.now self.old.looked self.old.start }
         requires within { self.old.looked ≤ HEAD_LIMIT }
@@ -96,8 +95,8 @@ impl Search {
         None
     }
 
-    // Looks at the line ends in front, as far as `upto`. Where the text starts is then settled for
-    // all of these bytes.
+    // Skips the leading line ends, up to `upto`. The start of the text is then settled for all of
+    // these bytes.
     fn skip_line_ends(&mut self, bytes: &[u8], upto: usize)
         requires known { IsLookedAt bytes.now self.old.looked self.old.start }
         requires within { self.old.looked ≤ upto }
@@ -116,7 +115,7 @@ impl Search {
     }
 }
 
-// Where the next LF stands, from `from` up to `upto`.
+// The offset of the next LF, from `from` up to `upto`.
 fn next_line_feed(bytes: &[u8], from: usize, upto: usize) -> Option<usize>
     requires ordered { from ≤ upto }
     requires inside { upto ≤ length bytes.now }
@@ -130,7 +129,7 @@ fn next_line_feed(bytes: &[u8], from: usize, upto: usize) -> Option<usize>
     }
 }
 
-// CR or LF.
+// Whether the byte is CR or LF.
 fn is_line_end(byte: u8) -> bool
     ensures { result ≡ line_end byte }
 {

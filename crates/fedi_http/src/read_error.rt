@@ -22,8 +22,8 @@ impl ReadError {
     ghost use Rattle.std.specs.Prelude.{◌≡◌};
     ghost use Rattle.fedi_http.specs.Moves.{error_after};
 
-    /// The same error behind so many bytes of a request. An input that ends behind none is not cut
-    /// short.
+    /// The same error, after this many bytes of a request. An input that ends after 0 bytes is not
+    /// cut short.
     pub(crate) fn after(self, count: usize) -> Self
         ensures { result ≡ error_after self count }
     {

@@ -12,18 +12,18 @@ use http::StatusCode;
 use itoa::Buffer;
 use std::alloc::{AllocError, Global};
 
-/// The room for the lines whose length has a bound.
+/// The capacity for the lines whose length has a bound.
 const LINES: usize = 320;
 
 /// What ends a line.
 const END: &[u8] = b"\r\n";
 
-/// The reply when there is no memory for another. It closes the connection.
+/// The reply when memory runs out for another one. It closes the connection.
 const MEMORY_TEXT: &[u8] =
     b"HTTP/1.1 507 Insufficient Storage\r\nContent-Length: 0\r\nConnection: close\r\n\r\n";
 
-/// The reply when there is no memory for another (RFC 4918, section 11.5): 507, which closes the
-/// connection. It takes no memory.
+/// The reply when memory runs out for another one (RFC 4918, section 11.5): 507, which closes the
+/// connection. It allocates nothing.
 #[tactic(auto, unfolding(fedi_model::specs::ReplyText::memory_text))]
 pub fn memory_text() -> &'static [u8]
     ensures { result.now ≡ model.memory_text }
@@ -31,10 +31,11 @@ pub fn memory_text() -> &'static [u8]
     MEMORY_TEXT
 }
 
-/// The text of the reply at this moment (RFC 9112, section 4): the status line, the fields `Date`,
+/// The bytes of the reply at this moment (RFC 9112, section 4): the status line, the fields `Date`,
 /// `Location`, `Allow`, `WWW-Authenticate`, `Access-Control-Allow-Origin`, `Content-Type`,
 /// `Content-Length` and `Connection`, each if it applies, an empty line, and the body unless
-/// `head_only`. The connection is told to close if `closing`. The error is that there is no memory.
+/// `head_only`. If `closing`, the reply says that the connection closes. The error is out of
+/// memory.
 pub fn reply_bytes(
     alloc: Global,
     reply: &Reply,
@@ -66,7 +67,7 @@ fn push_reply(
     push_end(text, reply.body.bytes(), head_only)
 }
 
-/// Room for the text of the reply.
+/// The capacity for the text of the reply.
 fn room_for(reply: &Reply) -> usize
     ensures small { result ≤ 2368 + length reply.now.body }
 {
@@ -144,7 +145,7 @@ fn push_location(text: &mut Vec<u8>, location: &Option<Iri>) -> Result<(), Alloc
     }
 }
 
-/// Appends the lines by the kind of reply.
+/// Appends the lines that depend on the kind of reply.
 #[tactic(auto, unfolding(fedi_model::specs::ReplyText::kind_text))]
 fn push_kind(text: &mut Vec<u8>, reply: &Reply) -> Result<(), AllocError>
     ensures { OnOk result (text.new.items ≡ text.old.items ++ model.kind_text reply.now) }
@@ -166,7 +167,7 @@ fn allow_line(allow: Option<Allow>) -> &'static [u8]
     }
 }
 
-/// The line that asks for a key, if the reply says that one is missing or wrong.
+/// The line that asks for a key, if the status says that the key is missing or wrong.
 #[tactic(auto, unfolding(fedi_model::specs::ReplyText::challenge_line))]
 fn challenge_line(status: StatusCode) -> &'static [u8]
     ensures { result.now ≡ model.challenge_line status }
@@ -178,7 +179,7 @@ fn challenge_line(status: StatusCode) -> &'static [u8]
     }
 }
 
-/// The line that lets each site read a JRD.
+/// The line that lets every site read a JRD.
 #[tactic(auto, unfolding(fedi_model::specs::ReplyText::origin_line))]
 fn origin_line(form: Form, status: StatusCode) -> &'static [u8]
     ensures { result.now ≡ model.origin_line form status }
@@ -189,7 +190,7 @@ fn origin_line(form: Form, status: StatusCode) -> &'static [u8]
     }
 }
 
-/// Appends the lines by the body.
+/// Appends the lines that depend on the body.
 #[tactic(auto, unfolding(fedi_model::specs::ReplyText::content_text))]
 fn push_content(text: &mut Vec<u8>, reply: &Reply, closing: bool) -> Result<(), AllocError>
     ensures { OnOk result
@@ -236,7 +237,7 @@ fn push_length(text: &mut Vec<u8>, body: &[u8]) -> Result<(), AllocError>
     )
 }
 
-/// The line that tells that the connection is closed, if it is.
+/// The line that says that the connection closes, if it does.
 #[tactic(auto, unfolding(fedi_model::specs::ReplyText::connection_line))]
 fn connection_line(closing: bool) -> &'static [u8]
     ensures { result.now ≡ model.connection_line closing }

@@ -20,23 +20,23 @@ use httparse::spans::{EMPTY_HEADER_SPAN, HeaderSpan, RequestSpans, parse_request
 use memchr::memchr_iter;
 use std::alloc::{AllocError, Global};
 
-/// The most fields that a head may have.
+/// The maximum number of fields in a head.
 pub const MOST_FIELDS: usize = 64;
 
-/// Reads the text of one whole head as a request, whose body is still to come. It is `HeadTooLong`
-/// if over 64 lines stand between the first line and the empty line. It is `BadHead` if the text is
-/// not one head of at most 64 fields, or one that is not served: whose target does not begin with a
-/// slash, which has not exactly one `Host` under HTTP/1.1, which repeats a field that stands once,
-/// which has both `Content-Length` and `Transfer-Encoding`, or whose `Content-Length` is no number
-/// of 1 to 19 digits. Then it is `NoCoding` if `Transfer-Encoding` is not `chunked`, `NoLength` for
-/// a POST with neither of the two, `TooLong` if `Content-Length` is over 262,144, and `Memory` if
-/// there is no memory for the request.
+/// Reads the bytes of one whole head as a request, whose body is still to be read. The error is
+/// `HeadTooLong` if there are more than 64 lines between the first line and the empty line. It is
+/// `BadHead` if the bytes are not one head of at most 64 fields, or if the head is not served: its
+/// target does not begin with a slash, it does not have exactly one `Host` under HTTP/1.1, it
+/// repeats a field that may occur only once, it has both `Content-Length` and `Transfer-Encoding`,
+/// or its `Content-Length` is not a number of 1 to 19 digits. Otherwise it is `NoCoding` if
+/// `Transfer-Encoding` is not `chunked`, `NoLength` for a POST with neither of the two, `TooLong`
+/// if `Content-Length` is over 262,144, and `Memory` if memory runs out for the request.
 #[tactic(auto, using(crate::proofs::RequestLemmas::reads_once))]
 pub fn read_request_head(alloc: Global, text: &[u8]) -> Result<Request, Refusal>
     ensures ok { IfOk result (λ request. model.ReadsAs MOST_FIELDS text.now (Ok request)) }
     ensures refused { IfErr result (λ e.
         e ≢ Refusal.Memory → model.ReadsAs MOST_FIELDS text.now (Err e)) }
-    // Memory is wanted for a head alone that is not refused.
+    // Memory runs out only for a head that is not refused.
     ensures memory { IfErr result (λ e. e ≡ Refusal.Memory
         → (request : Request) × model.ReadsAs MOST_FIELDS text.now (Ok request)) }
     ensures short { IfOk result (λ request. model.length_in request.coding ≤ BODY_LIMIT) }
@@ -52,14 +52,14 @@ pub fn read_request_head(alloc: Global, text: &[u8]) -> Result<Request, Refusal>
     }
 }
 
-/// How many lines stand between the first line of the head and the empty line that ends it.
+/// The number of lines between the first line of the head and the empty line that ends it.
 fn line_count(text: &[u8]) -> usize
     ensures { result ≡ model.line_count text.now }
 {
     memchr_iter(b'\n', text).count().saturating_sub(2)
 }
 
-/// The places of the parts of the head, if the text is one whole head whose fields have room.
+/// The positions of the parts of the head, if the text is one whole head whose fields fit.
 fn whole_head(text: &[u8], spans: &mut [HeaderSpan]) -> Option<RequestSpans>
     ensures within { IfSome result (IsRequestWithin text.now spans.new) }
     ensures head { IfSome result (λ head. (h : RequestHead)
@@ -75,7 +75,7 @@ fn whole_head(text: &[u8], spans: &mut [HeaderSpan]) -> Option<RequestSpans>
     }
 }
 
-/// The method of this name, which is a token. The error is that there is no memory for a long one.
+/// The method with this name, which is a token. The error is that memory runs out for a long name.
 fn method_of(alloc: Global, name: &[u8]) -> Result<Method, Refusal>
     requires { IsToken name.now }
     ensures ok { IfOk result (λ method. method ≡ name.now) }
@@ -87,7 +87,7 @@ fn method_of(alloc: Global, name: &[u8]) -> Result<Method, Refusal>
     }
 }
 
-/// The request of the head at these places.
+/// The request of the head at these positions.
 fn request_at(
     alloc: Global,
     text: &[u8],
@@ -126,7 +126,7 @@ fn request_at(
     })
 }
 
-/// Copies of the values that are read after the head.
+/// Copies of the values that are still needed after the head.
 fn read_fields(alloc: Global, known: &KnownFields) -> Result<Fields, Refusal>
     ensures ok { IfOk result (λ copies. (fields : List Field)
         → AreKnown fields known.now → copies ≡ model.known_fields fields) }
@@ -163,7 +163,7 @@ fn copied(alloc: Global, bytes: &[u8]) -> Result<Bytes, Refusal>
     }
 }
 
-/// The text that these bytes are, if they are UTF-8 (RFC 3629).
+/// The bytes as a text, if they are UTF-8 (RFC 3629).
 pub fn text_of(bytes: &[u8]) -> Option<&str>
     ensures { option_copied result ≡ (if is_utf8 bytes.now then Some bytes.now else None) }
 {

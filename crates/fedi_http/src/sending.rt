@@ -5,8 +5,8 @@ ghost use Rattle.fedi_http.specs.Sending.{Sends};
 
 use fedi_outside::{Failed, Sink};
 
-/// Sends all of the bytes, in as many writes as the sink needs. The error is that a write failed: a
-/// proper prefix of them was sent.
+/// Sends all of the bytes, in as many writes as the sink needs. The error is that a write failed:
+/// only a proper prefix of the bytes was sent.
 pub fn send<K: Sink>(sink: &mut K, bytes: &[u8]) -> Result<(), Failed>
     ensures bytes { Sends (K.sent sink.old) (K.sent sink.new) bytes.now result }
     ensures told { is_some (K.sent sink.new) ≡ is_some (K.sent sink.old) }

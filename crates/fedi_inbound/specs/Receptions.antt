@@ -1,4 +1,4 @@
--- What becomes of a post to an inbox, as the judgement on it is told.
+-- What becomes of a post to an inbox, as the judgement on it says.
 use Rattle.std.specs.Prelude.{None}
 use Rattle.fedi_model.specs.AnswerKinds.{Refuse, Misshape}
 use Rattle.fedi_model.specs.Posting.{Judgement, Stop, Repeat, Keep}

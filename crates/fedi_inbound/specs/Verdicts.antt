@@ -15,14 +15,14 @@ use Rattle.fedi_inbound.specs.declared.judging.Verdict.TheVariants.{NotOrigin}
 unfoldable pub is_recipient : List ℕ → Act → Bool
 is_recipient owner x = is_among owner x.recipients
 
--- an activity of this id was accepted
+-- an activity with this id was accepted
 abbrev pub is_known_by : Town → Option (List ℕ) → Bool
 is_known_by t None = false
 is_known_by t (Some id) = is_known t id
 
--- What becomes of a peer's delivery to the inbox of this owner: one that the peer may not deliver
--- is refused, one that the inbox has changes nothing, one that is known comes to one more inbox,
--- and one that is new is accepted.
+-- What becomes of a peer's delivery to the inbox of this owner: if the peer may not deliver it, it
+-- is refused; if the inbox has it, nothing changes; if it is known, it goes to one more inbox; if
+-- it is new, it is accepted.
 abbrev pub verdict : Town → Peer → List ℕ → Activity → Verdict
 verdict t p owner a =
     if is_foreign t.host p a.actor a.id a.object then NotOrigin else (

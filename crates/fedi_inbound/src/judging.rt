@@ -19,7 +19,7 @@ use fedi_town::Peer;
 pub enum Verdict {
     /// Its id is new.
     New,
-    /// Its id is known, and the inbox is one more.
+    /// Its id is known, and this inbox is new for it.
     AddInbox,
     /// The inbox has it already.
     Repeat,
@@ -34,7 +34,7 @@ fn is_recipient(act: &Kept, owner: &Iri) -> bool
     is_among(owner.text(), act.recipients())
 }
 
-// Whether an activity of this id goes to this owner's inbox.
+// Whether an activity with this id goes to this owner's inbox.
 fn goes_to(facts: &Facts, id: &Iri, owner: &Iri) -> bool
     ensures { result ≡ list_any (λ x. has_activity_id id.now x && is_recipient owner.now x)
         facts.now.town.acts }
@@ -44,7 +44,7 @@ fn goes_to(facts: &Facts, id: &Iri, owner: &Iri) -> bool
         .is_some()
 }
 
-// Whether the activity of this id goes to this owner's inbox already. It does if it has no id.
+// Whether the activity with this id goes to this owner's inbox already. It does if it has no id.
 #[tactic(auto, unfolding(crate::specs::Verdicts::is_recipient))]
 fn has_inbox(facts: &Facts, id: Option<&Iri>, owner: &Iri) -> bool
     ensures { result ≡ has_inbox facts.now.town (option_copied id.entry) owner.now }
@@ -55,7 +55,7 @@ fn has_inbox(facts: &Facts, id: Option<&Iri>, owner: &Iri) -> bool
     }
 }
 
-// Whether an activity of this id was accepted.
+// Whether an activity with this id was accepted.
 fn is_known(facts: &Facts, id: &Iri) -> bool
     ensures { result ≡ list_any (has_activity_id id.now) facts.now.town.acts }
 {
@@ -88,7 +88,7 @@ pub fn judge_remote(facts: &Facts, peer: &Peer, owner: &Iri, activity: &Activity
     }
 }
 
-/// Whether the activity of this id does not go to this member's inbox yet. It is false without an
+/// Whether the activity with this id does not go to this member's inbox yet. It is false without an
 /// id, which each delivery has, and without a member.
 pub fn lacks(facts: &Facts, id: Option<&Iri>, owner: Option<&Iri>) -> bool
     ensures { result ≡ lacks facts.now.town (option_copied id.entry) (option_copied owner.entry) }

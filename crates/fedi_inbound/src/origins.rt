@@ -1,4 +1,4 @@
-//! Which activities a peer may deliver (ActivityPub, section 7): by hosts alone.
+//! Which activities a peer may deliver (ActivityPub, section 7). Only hosts decide.
 
 ghost use Rattle.std.specs.Prelude.{◌≡◌, ◌||◌, not, option_copied};
 ghost use Rattle.fedi_town.specs.Legal.{may_deliver};
@@ -19,7 +19,7 @@ fn is_at(host: Option<&Host>, iri: &Iri) -> bool
     }
 }
 
-// Whether the id is there and has the author's host.
+// Whether there is an id and it has the author's host.
 fn is_beside(author: &Iri, id: &Option<Iri>) -> bool
     ensures { result ≡ is_beside author.now id.now }
 {
@@ -29,7 +29,7 @@ fn is_beside(author: &Iri, id: &Option<Iri>) -> bool
     }
 }
 
-// Whether somebody is named who is not the author.
+// Whether somebody other than the author is named.
 fn is_another(author: &Iri, id: &Option<Iri>) -> bool
     ensures { result ≡ is_another author.now id.now }
 {
@@ -46,8 +46,8 @@ fn is_object_of_another(author: &Iri, object: &Object) -> bool
     !is_beside(author, &object.id) || is_another(author, &object.attributed_to)
 }
 
-// Whether the activity carries an object that is of another host than the author, or is attributed
-// to somebody else.
+// Whether the activity carries an object that belongs to another host than the author, or is
+// attributed to somebody else.
 fn is_of_another(author: &Iri, object: &ObjectRef) -> bool
     ensures { result ≡ is_of_another author.now object.now }
 {
@@ -57,9 +57,9 @@ fn is_of_another(author: &Iri, object: &ObjectRef) -> bool
     }
 }
 
-/// Whether the peer may not deliver the activity: its actor is of this host, or of a host that is
-/// not the peer's although the peer is no relay; or its id or the object that it carries is not of
-/// its actor's host.
+/// Whether the peer may not deliver the activity: its actor belongs to this host, or to a host that
+/// is not the peer's although the peer is not a relay; or its id or the object that it carries does
+/// not belong to its actor's host.
 pub fn is_foreign(facts: &Facts, peer: &Peer, activity: &Activity) -> bool
     ensures { result ≡ is_foreign facts.now.town.host peer.now activity.now.actor
         activity.now.id activity.now.object }
@@ -75,7 +75,7 @@ pub fn is_foreign(facts: &Facts, peer: &Peer, activity: &Activity) -> bool
     }
 }
 
-/// Whether the peer is one and may deliver the activity (ActivityPub, section 7).
+/// Whether there is a peer and it may deliver the activity (ActivityPub, section 7).
 pub fn may_deliver(facts: &Facts, peer: Option<&Peer>, activity: &Activity) -> bool
     ensures { result ≡ may_deliver facts.now.town (option_copied peer.entry) activity.now }
 {

@@ -17,7 +17,7 @@ use fedi_town::{Caller, Peer, Refusal};
 pub enum Received {
     /// It is refused for this reason.
     Refused(Refusal),
-    /// It has not the shape of a delivery.
+    /// It does not have the shape of a delivery.
     Misshapen(ShapeFault),
     /// The inbox has its activity already.
     Repeated,
@@ -51,9 +51,9 @@ fn receive_from(facts: &Facts, peer: Option<&Peer>, owner: &Iri, read: Read) -> 
     }
 }
 
-/// What becomes of a post to the inbox of this owner (ActivityPub, section 7). It is refused if
-/// nobody is known to deliver it or it is no peer, for another media type, for what is no JSON or
-/// has not the shape of a delivery, or if the peer may not deliver it. The first reason counts. It
+/// What becomes of a post to the inbox of this owner (ActivityPub, section 7). It is refused if the
+/// caller is unknown or is not a peer, if it has another media type, if it is not JSON or does not
+/// have the shape of a delivery, or if the peer may not deliver it. The first reason counts. It
 /// takes no memory.
 pub fn receive(facts: &Facts, caller: &Caller, owner: &Iri, post: Post) -> Received
     ensures { judgement_in result ≡ judge_inbox facts.now.town caller.now owner.now post }

@@ -1,4 +1,4 @@
--- What is added to the lists in which an activity stands.
+-- What is added to the lists that an activity is in.
 use Rattle.std.proofs.Common.{◌≡◌, ℕ, ◌+◌, ◌<◌, ◌≤◌, arith, Bool, true, false, List, [], ◌∷◌, ◌++◌, Option, Some, None, refl, sym, ap, subst, ◌∙◌, get_or, length, take, eq-eqb}
 use Rattle.std.specs.Prelude.{◌&&◌, ◌||◌, not, if◌then◌else◌}
 use Rattle.std.specs.List.{list_any}
@@ -25,7 +25,7 @@ use Rattle.fedi_town.proofs.Texts.{and_none, or_no, or_true}
 
 -- ---- one list
 
--- what the position lacks of one list
+-- whether the position is missing from one list
 lacking-one : (host : Option (List ℕ)) (kind : Collection) (owner : List ℕ) (place : ℕ) (l : List Listing) (k : Collection) (o : List ℕ)
     → is_lacking place (places_of k o l) (is_one host (Some kind) (Some owner) k o)
     ≡ (is_same_list k o kind owner && (is_of_town host owner && not (ends_in place (places_of kind owner l))))
@@ -75,7 +75,7 @@ pub one_there : (host : Option (List ℕ)) (kind : Collection) (owner : List ℕ
 one_there host kind owner place l there =
     nothing_added (is_one host (Some kind) (Some owner)) place l (λ k o. lacking-one host kind owner place l k o ∙ rw there (and_none (is_same_list k o kind owner)))
 
--- there is room in the list, where the position is to be added
+-- there is room in the list if the position has to be added
 pub one_room : (host : Option (List ℕ)) (kind : Collection) (owner : List ℕ) (place : ℕ) (l : List Listing) → CanAdd (is_one host (Some kind) (Some owner)) place l
     → (is_of_town host owner && not (ends_in place (places_of kind owner l))) ≡ true → 1 ≤ room_of kind owner l
 one_room host kind owner place l can here =
@@ -102,7 +102,7 @@ ends-pushed place [] = eq-eqb place place refl
 ends-pushed place (p ∷ []) = ends-pushed place []
 ends-pushed place (p ∷ q ∷ ps) = ends-pushed place (q ∷ ps)
 
--- what is lacking after the first
+-- whether the position is still missing after the first addition
 left : (place : ℕ) (ps : List ℕ) (s r : Bool) → is_lacking place (ps ++ (if is_lacking place ps s then place ∷ [] else [])) r ≡ (is_lacking place ps (s || r) && not (is_lacking place ps s))
 left place ps s r =
     elim (ends_in place ps) as (λ b. ends_in place ps ≡ b → is_lacking place (ps ++ (if s && not b then place ∷ [] else [])) r ≡ (((s || r) && not b) && not (s && not b))) [
@@ -120,7 +120,7 @@ left place ps s r =
     with_trues true = refl
     with_trues false = refl
 
--- what both add together
+-- what the two add together
 abbrev put : ℕ → Bool → List ℕ
 put place b = if b then place ∷ [] else []
 
@@ -133,7 +133,7 @@ joined place ps false r e =
       | false ↦ append-nil (ps ++ [])
     ]
 
--- what a position takes of the room
+-- how much room a position takes
 abbrev cost : Bool → ℕ
 cost b = if b then 1 else 0
 
@@ -145,7 +145,7 @@ costs false true false a b c p q = omega (arith, p, q)
 costs false false true a b c p q = omega (arith, p, q)
 costs false false false a b c p q = omega (arith, p, q)
 
--- one after the other is both
+-- adding to some lists and then to others is adding to both
 pub once_then : (s r : Collection → List ℕ → Bool) (place : ℕ) (a b c : List Listing) → AddsOnce s place a b → AddsOnce r place b c
     → AddsOnce (λ k o. s k o || r k o) place a c
 once_then s r place a b c first second =
@@ -157,7 +157,7 @@ once_then s r place a b c first second =
       room = λ k o. costs (s k o) (r k o) (ends_in place (places_of k o a)) (room_of k o a) (room_of k o b) (room_of k o c) (first.room k o) (let more = second.room k o in rw (later k o) at more);
     }
 
--- which are the same lists
+-- the same if the two describe the same lists
 pub once_same : (s r : Collection → List ℕ → Bool) (place : ℕ) (a b : List Listing) → ((k : Collection) (o : List ℕ) → s k o ≡ r k o) → AddsOnce s place a b → AddsOnce r place a b
 once_same s r place a b same h = record {
   places = λ k o. rw (← same k o) (h.places k o);
@@ -168,11 +168,12 @@ lacks_part : (e s r : Bool) → (s ≡ true → r ≡ true) → (s && not e) ≡
 lacks_part e true r part is = rw (part refl) is
 lacks_part e false r part is = absurd cc
 
--- there is room in some of these lists
+-- there is room in any part of these lists
 pub can_part : (s r : Collection → List ℕ → Bool) (place : ℕ) (l : List Listing) → ((k : Collection) (o : List ℕ) → s k o ≡ true → r k o ≡ true) → CanAdd r place l → CanAdd s place l
 can_part s r place l part can = record { room = λ k o is. can.room k o (lacks_part (ends_in place (places_of k o l)) (s k o) (r k o) (part k o) is) }
 
--- what lacks the position after another list got it lacked it before, and that list is another
+-- a list that still lacks the position after an addition lacked it before, and that addition did
+-- not concern it
 lacked : (place : ℕ) (ps : List ℕ) (s r : Bool) → is_lacking place (ps ++ put place (is_lacking place ps s)) r ≡ true
     → (is_lacking place ps r ≡ true) × (is_lacking place ps s ≡ false)
 lacked place ps s r is =
@@ -181,7 +182,7 @@ lacked place ps s r is =
       | false ↦ λ e h. (rw (append-nil ps) at h, refl)
     ] refl is
 
--- and there is still room in these lists after one of them got the position
+-- there is still room in these lists after one of them got the position
 pub can_still : (s r : Collection → List ℕ → Bool) (place : ℕ) (a b : List Listing) → AddsOnce s place a b → CanAdd r place a → CanAdd r place b
 can_still s r place a b h can = record {
   room = λ k o is.
@@ -205,14 +206,14 @@ inboxes_more host owners owner k o =
     split true false a b = refl
     split false i a b = refl
 
--- one owner more was gone through
+-- one more owner was processed
 pub inbox_taken : (host : Option (List ℕ)) (owners : List (List ℕ)) (i : ℕ) (owner : List ℕ) → i < length owners → owner ≡ get_or owners i owner → (k : Collection) (o : List ℕ)
     → (is_inbox host (take i owners) k o || is_one host (Some Inbox) (Some owner) k o) ≡ is_inbox host (take (i + 1) owners) k o
 inbox_taken host owners i owner within at k o =
     inboxes_more host (take i owners) owner k o
     ∙ ap (λ (xs : List (List ℕ)). is_inbox host xs k o) (ap (λ (x : List ℕ). take i owners ++ x ∷ []) at ∙ sym (take_more owners i owner within))
 
--- and is one of all
+-- that owner is one of all of them
 pub inbox_part : (host : Option (List ℕ)) (owners : List (List ℕ)) (i : ℕ) (owner : List ℕ) → i < length owners → owner ≡ get_or owners i owner → (k : Collection) (o : List ℕ)
     → is_one host (Some Inbox) (Some owner) k o ≡ true → is_inbox host owners k o ≡ true
 unfolding is_inbox is_one is_among
@@ -259,8 +260,8 @@ object_lists Reject = (refl, refl, refl, refl, refl, refl, refl)
 object_lists Undo = (refl, refl, refl, refl, refl, refl, refl)
 object_lists Other = (refl, refl, refl, refl, refl, refl, refl)
 
--- where the activity stands: in the outbox, in the list of its author, in that of its object, and
--- in the inboxes
+-- the lists that the activity is in: the outbox, the list of its author, that of its object, and
+-- the inboxes
 abbrev pub lists_of : Option (List ℕ) → Act → Collection → List ℕ → Bool
 lists_of host x k o =
     ((is_one host (Some Outbox) (Some x.author) k o || is_one host (list_of_author (deed x)) (Some x.author) k o)
@@ -290,7 +291,7 @@ all_lists host x k o =
     each Likes = rw ((author_lists (deed x)).5, (object_lists (deed x)).5) (or_no (is_like (deed x) && is_id o (ref_id x.activity.object)))
     each Shares = rw ((author_lists (deed x)).6, (object_lists (deed x)).6) (or_no (is_announce (deed x) && is_id o (ref_id x.activity.object)))
 
--- what is told of these lists by their parts
+-- the values that determine these lists are those of the activity
 pub record IsOf (x : Act) (author : List ℕ) (own other : Option Collection) (about : Option (List ℕ)) (to : List (List ℕ)) : Type 0 where
   pub by : author ≡ x.author
   pub its : own ≡ list_of_author (deed x)
@@ -336,7 +337,7 @@ can_add_inboxes host x to place l own can =
     (λ k o is. sym (all_lists host x k o)
     ∙ last_or (is_one host (Some Outbox) (Some x.author) k o) (is_one host (list_of_author (deed x)) (Some x.author) k o) (is_one host (list_of_object (deed x)) (ref_id x.activity.object) k o) _ (rw own at is)) can
 
--- the four parts are all lists of the activity
+-- the four parts together are all lists of the activity
 pub all_added : (host : Option (List ℕ)) (x : Act) (author : List ℕ) (own other : Option Collection) (about : Option (List ℕ)) (to : List (List ℕ)) (place : ℕ) (a b c d e : List Listing)
     → IsOf x author own other about to → AddsOnce (is_one host (Some Outbox) (Some author)) place a b → AddsOnce (is_one host own (Some author)) place b c
     → AddsOnce (is_one host other about) place c d → AddsOnce (is_inbox host to) place d e → AddsOnce (λ k o. is_kept host k o x) place a e

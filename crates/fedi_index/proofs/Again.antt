@@ -1,4 +1,4 @@
--- An item comes again by an earlier Follow of the same two.
+-- An item repeats an earlier Follow of the same actor by the same author.
 use Rattle.std.proofs.Common.{◌≡◌, ℕ, true, false, List, Option, Some, None, refl, sym, subst}
 use Rattle.std.specs.Prelude.{◌&&◌}
 use Rattle.std.specs.Str.{bytes_eq}
@@ -36,7 +36,7 @@ follower-again t c name id x y is =
       keyed id (ref_id y.activity.object) item.1,
     ) refl
 
--- in the collection of the followers: a Follow of the owner by the same one
+-- in the followers collection: a Follow of the owner by the same actor
 pub follower_again : (t : Town) (c : Caller) (which : Which) (name id : List ℕ) (x : Act) → which ≡ Followers name → IsNarrower (is_same_seen t c which id x) (relates_by_key x.author id)
 follower_again t c which name id x is = subst (λ (w : Which). IsNarrower (is_same_seen t c w id x) (relates_by_key x.author id)) (sym is) (follower-again t c name id x)
 
@@ -51,11 +51,11 @@ followed-again t c name id x y is =
       (and_parts (bytes_eq (object_key y) (object_key x)) (sees t c y) parts.1).0,
     ) refl
 
--- in that of those who are followed: a Follow of the same one by the owner
+-- in the following collection: a Follow of the same actor by the owner
 pub followed_again : (t : Town) (c : Caller) (which : Which) (name id : List ℕ) (x : Act) → which ≡ Following name → IsNarrower (is_same_seen t c which id x) (relates_by_key id (object_key x))
 followed_again t c which name id x is = subst (λ (w : Which). IsNarrower (is_same_seen t c w id x) (relates_by_key id (object_key x))) (sym is) (followed-again t c name id x)
 
--- in any other collection no item comes again
+-- in any other collection no item is repeated
 pub neither : (which : Which) → ((name : List ℕ) → which ≡ Followers name → ⊥) → ((name : List ℕ) → which ≡ Following name → ⊥) → false ≡ can_come_again which
 neither (Inbox name) p q = refl
 neither (Outbox name) p q = refl

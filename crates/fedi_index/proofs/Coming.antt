@@ -1,5 +1,4 @@
--- What the entry brings for which there is room: activities, or one inbox more for an activity that
--- is known.
+-- What the entry for which there is room adds: activities, or one more inbox for a known activity.
 use Rattle.std.proofs.Common.{◌≡◌, ℕ, ◌≤◌, List, [], ◌++◌, Option, Some, None, refl, sym, subst, ◌∙◌}
 use Rattle.std.specs.Prelude.{⊤, map}
 use Rattle.std.proofs.lemmas.List.{append-nil}
@@ -28,7 +27,7 @@ alone : (t : Town) (room : Option Entry) (pair : List ℕ × List ℕ) → comin
 alone t None pair is = absurd cc
 alone t (Some e) pair is = no_acts (addition_of t e) pair is
 
--- ---- one inbox more
+-- ---- one more inbox
 
 pub room_there : (h : Holding) (id owner : List ℕ) (lists : List Listing) → Some (id, owner) ≡ coming_inbox_in h → HasInboxRoom (coming_inbox_in h) lists → 1 ≤ room_of kinds.Inbox owner lists
 room_there h id owner lists is room = subst (λ (pair : Option (List ℕ × List ℕ)). HasInboxRoom pair lists) (sym is) room
@@ -39,7 +38,7 @@ room_here h id owner lists is room = subst (λ (pair : Option (List ℕ × List 
 pub may_go_there : (h : Holding) (id owner : List ℕ) → Some (id, owner) ≡ coming_inbox_in h → MayComeIn h.town (coming_inbox_in h) → MayGo h.town id owner
 may_go_there h id owner is may = subst (λ (pair : Option (List ℕ × List ℕ)). MayComeIn h.town pair) (sym is) may
 
--- no activity comes, so none wants room
+-- no activity is added, so none needs room
 pub rooms_of_none : (h : Holding) (id owner : List ℕ) (host : Option (List ℕ)) (lists : List Listing) → Some (id, owner) ≡ coming_inbox_in h → HasRooms host 2 (coming_in h) lists
 rooms_of_none h id owner host lists is = subst (λ (acts : List Act). HasRooms host 2 acts lists) (sym (alone h.town h.room (id, owner) (sym is))) tt
 
@@ -50,7 +49,7 @@ all_sent_on h id owner host lists is are =
     (subst (λ (acts : List Act). AreCandidates host (map (with_recipient id owner) h.town.acts ++ acts) lists) (sym (alone h.town h.room (id, owner) (sym is)))
     (subst (λ (acts : List Act). AreCandidates host acts lists) (sym (append-nil (map (with_recipient id owner) h.town.acts))) are))
 
--- ---- no inbox more
+-- ---- no further inbox
 
 pub no_inbox_room : (h : Holding) (lists : List Listing) → None ≡ coming_inbox_in h → HasInboxRoom (coming_inbox_in h) lists
 no_inbox_room h lists is = subst (λ (pair : Option (List ℕ × List ℕ)). HasInboxRoom pair lists) is tt

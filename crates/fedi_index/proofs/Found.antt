@@ -1,4 +1,4 @@
--- What is found among lists.
+-- Look-ups among lists.
 use Rattle.std.proofs.Common.{◌≡◌, ℕ, zero, suc, ◌+◌, ◌-◌, ◌<◌, ◌≤◌, arith, Bool, true, false, List, [], ◌∷◌, ◌++◌, Option, Some, None, refl, sym, ap, ◌∙◌, length, ltb, append_assoc, set, Global}
 use Rattle.std.specs.Prelude.{slice_get, is_some, option_map, vec_len, vec_capacity, if◌then◌else◌}
 use Rattle.std.specs.List.{find, position_or_len}
@@ -66,7 +66,7 @@ row_placed kind owner rows =
     let none : at + 0 ≡ at = omega arith in
     sym (first-placed kind owner 0 rows ∙ ap (λ (k : ℕ). if ltb at (length rows) then Some k else None) none)
 
--- ---- the list at the first place
+-- ---- the list at the first index
 
 pub list_at : (p : Listing → Bool) (ls : List Listing) → find p ls ≡ list_found ls (first_from p 0 ls)
 list_at p ls = from 0 [] ls refl
@@ -92,7 +92,7 @@ first-within p n i (l ∷ ls) is =
       | false ↦ λ e. let rest = first-within p (suc n) i ls e in (omega (arith, rest.0), omega (arith, rest.1))
     ] is
 
--- ---- one place more
+-- ---- one more position
 
 same_key : (kind : Collection) (owner : List ℕ) (l : Listing) → is_list kind owner l ≡ true → (k : Collection) (o : List ℕ) → is_list k o l ≡ is_same_list k o kind owner
 unfolding is_list
@@ -211,7 +211,7 @@ roomier_marks seed n [] (y ∷ ys) h = absurd h
 roomier_marks seed n (x ∷ xs) [] h = absurd h
 roomier_marks seed n (x ∷ xs) (y ∷ ys) h = rw (h.1, roomier_marks seed (suc n) xs ys h.4) refl
 
--- what is there in the roomier lists
+-- what is found in the roomier lists
 pub roomier_first : (k : Collection) (o : List ℕ) (n : ℕ) (xs ys : List Listing) → AreRoomier xs ys → first_from (is_list k o) n ys ≡ first_from (is_list k o) n xs
 roomier_first k o n [] [] h = refl
 roomier_first k o n [] (y ∷ ys) h = absurd h
@@ -242,7 +242,7 @@ pub new_roomier : (ls : List Listing) (kind : Collection) (owner : List ℕ) →
 unfolding places_of room_of
 new_roomier ls kind owner = record { same = λ k o. (new_found k o ls kind owner).0; room = λ k o. (new_found k o ls kind owner).1 }
 
--- and it is the first where there was none
+-- the new list is the first one found if there was none
 pub new_first : (kind : Collection) (owner : List ℕ) (n : ℕ) (ls : List Listing) → first_from (is_list kind owner) n ls ≡ None
     → first_from (is_list kind owner) n (ls ++ new_list kind owner ∷ []) ≡ Some (n + length ls)
 unfolding is_list
@@ -255,7 +255,7 @@ new_first kind owner n (l ∷ ls) none =
       | false ↦ λ e. rw k (new_first kind owner (suc n) ls e)
     ] none
 
--- where there is room there is a list
+-- if there is room, there is a list
 pub none_room : (kind : Collection) (owner : List ℕ) (ls : List Listing) → 1 ≤ room_of kind owner ls → first_from (is_list kind owner) 0 ls ≡ None → ⊥
 unfolding room_of
 none_room kind owner ls room none =

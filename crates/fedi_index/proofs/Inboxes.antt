@@ -1,5 +1,5 @@
--- A known activity goes to one more inbox: the list of that inbox gets its position, in order, and
--- no other list changes.
+-- A known activity is added to one more inbox: its position is added to the list of that inbox, in
+-- order, and no other list changes.
 use Rattle.std.proofs.Common.{◌≡◌, ℕ, suc, zero, ◌+◌, ◌<◌, ◌≤◌, arith, Bool, true, false, List, [], ◌∷◌, ◌++◌, Option, Some, None, refl, sym, ap, subst, ◌∙◌, get_or, length, ltb}
 use Rattle.std.specs.Prelude.{◌&&◌, ◌||◌, map, nat_lt, if◌then◌else◌}
 use Rattle.std.specs.List.{insert, list_any, position_or_len}
@@ -27,14 +27,14 @@ use Rattle.fedi_town.proofs.Texts.{bytes_eq-is, bytes_eq-same, or_no, or_true}
 
 -- ---- the positions are in order
 
--- what is in order after a number that is not above them
+-- ordered positions are still in order if one that is not above them is put first
 first_ordered : (n : ℕ) (ps : List ℕ) → ((i d : ℕ) → i < length ps → n ≤ get_or ps i d) → IsNonDecreasing ps → IsNonDecreasing (n ∷ ps)
 first_ordered n ps above ordered zero zero d le within = omega arith
 first_ordered n ps above ordered zero (suc j) d le within = above j d (omega (arith, within))
 first_ordered n ps above ordered (suc i) zero d le within = absurd (omega (arith, le))
 first_ordered n ps above ordered (suc i) (suc j) d le within = ordered i j d (omega (arith, le)) (omega (arith, within))
 
--- no position is before the first
+-- no position is below the first
 first_above : (n : ℕ) (ps : List ℕ) → ((i d : ℕ) → i < length ps → n ≤ get_or ps i d) → (i d : ℕ) → i < length (n ∷ ps) → n ≤ get_or (n ∷ ps) i d
 first_above n ps above zero d there = omega arith
 first_above n ps above (suc i) d there = above i d (omega (arith, there))
@@ -56,7 +56,8 @@ places_ordered p n (x ∷ acts) =
       | false ↦ places_ordered p (suc n) acts
     ]
 
--- where those before it are below the position, and the others are not, it is in order
+-- the insertion is in order if the positions before the index are below the new one and the others
+-- are not
 pub put_in_order : (place index : ℕ) (ps : List ℕ) → index ≤ length ps → IsPartitionPoint (λ y. ltb y place ≡ true) (λ y. ltb y place ≡ false) ps index
     → at_index index place ps ≡ in_order place ps
 put_in_order place zero [] within point = refl
@@ -73,7 +74,7 @@ put_in_order place (suc index) (p ∷ ps) within point =
 
 -- ---- the position of the one that passes
 
--- what comes after it stays as it is
+-- the positions after it do not change
 none_passes : (p has : Act → Bool) (f : Act → Act) → ((y : Act) → has y ≡ false → p (f y) ≡ p y) → (n : ℕ) (acts : List Act) → list_any has acts ≡ false
     → places_from p n (map f acts) ≡ places_from p n acts
 none_passes p has f out n [] none = refl
@@ -89,7 +90,8 @@ first_in place p n (x ∷ acts) before =
       | false ↦ first_in place p (suc n) acts (omega (arith, before))
     ]
 
--- one has the id, and is no candidate: when it becomes one, its position comes into the list
+-- one activity has the id and is no candidate: when it becomes one, its position is added to the
+-- list
 pub one_comes_in : (p has : Act → Bool) (f : Act → Act) → ((y : Act) → has y ≡ true → p (f y) ≡ true) → ((y : Act) → has y ≡ false → p (f y) ≡ p y) → (n : ℕ) (acts : List Act)
     → PassesOnce has acts → list_any (λ x. has x && p x) acts ≡ false → list_any has acts ≡ true
     → places_from p n (map f acts) ≡ in_order (position_or_len has acts + n) (places_from p n acts)
@@ -119,7 +121,7 @@ one_comes_in p has f here out n (x ∷ acts) once lacking any =
 
 -- ---- the lists
 
--- an activity that goes to one more inbox is as much a candidate of any other list as before
+-- adding an activity to one more inbox does not change whether it is a candidate of any other list
 passed : (owner : List ℕ) (k : Collection) (o : List ℕ) (y : Act) → is_same_list k o kinds.Inbox owner ≡ false → belongs k o (record y { recipients = y.recipients ++ owner ∷ [] }) ≡ belongs k o y
 unfolding belongs is_by is_about is_among
 passed owner kinds.Inbox o y other = list_any-append (λ u. bytes_eq u o) y.recipients (owner ∷ []) ∙ rw other (or_no (list_any (λ u. bytes_eq u o) y.recipients))
@@ -140,7 +142,7 @@ other_list host id owner k o other y =
       | false ↦ refl
     ])
 
--- the test of the inbox of an owner who is of this host
+-- the test of the inbox of an owner of this host
 own_inbox : (host : Option (List ℕ)) (owner : List ℕ) → is_of_town host owner ≡ true → (x : Act) → is_kept host kinds.Inbox owner x ≡ is_among owner x.recipients
 unfolding is_kept belongs
 own_inbox host owner here x = rw here refl
@@ -153,7 +155,7 @@ comes_there id owner y is =
 stays : (id owner : List ℕ) (y : Act) → has_activity_id id y ≡ false → is_among owner (with_recipient id owner y).recipients ≡ is_among owner y.recipients
 stays id owner y isnt = rw isnt refl
 
--- where the activity is
+-- the position of the activity
 placed : (has : Act → Bool) (acts : List Act) (place : ℕ) → place_where has acts ≡ Some place → (list_any has acts ≡ true) × (position_or_len has acts ≡ place)
 placed has acts place is =
     elim (ltb (position_or_len has acts) (length acts)) as (λ b. ltb (position_or_len has acts) (length acts) ≡ b → (if b then Some (position_or_len has acts) else None) ≡ Some place
@@ -169,7 +171,7 @@ not_placed has acts is =
       | false ↦ λ e h. sym (place_any has acts) ∙ e
     ] refl is
 
--- the positions of the owner's inbox after it
+-- the positions in the owner's inbox afterwards
 inbox_after : (t : Town) (id owner : List ℕ) (place : ℕ) → MayGo t id owner → place_where (has_activity_id id) t.acts ≡ Some place
     → places_from (is_kept t.host kinds.Inbox owner) 0 (map (with_recipient id owner) t.acts) ≡ in_order place (places_from (is_kept t.host kinds.Inbox owner) 0 t.acts)
 inbox_after t id owner place go is =
@@ -182,7 +184,8 @@ inbox_after t id owner place go is =
     ∙ ap (λ (k : ℕ). in_order k (places_from own 0 t.acts)) at
     ∙ ap (in_order place) (sym (places-same (is_kept t.host kinds.Inbox owner) own same 0 t.acts))
 
--- the list of the inbox got the position, so the lists are those of the activities after it
+-- the position was added to the list of the inbox, so the lists are those of the activities
+-- afterwards
 pub inbox_added : (t : Town) (id owner : List ℕ) (place index : ℕ) (old new : List Listing) → MayGo t id owner → place_where (has_activity_id id) t.acts ≡ Some place
     → at_index index place (places_of kinds.Inbox owner old) ≡ in_order place (places_of kinds.Inbox owner old) → HasOneMore kinds.Inbox owner (at_index index place) old new
     → AreCandidates t.host t.acts old → AreCandidates t.host (map (with_recipient id owner) t.acts) new
@@ -197,7 +200,7 @@ inbox_added t id owner place index old new go is ordered more are = record {
       ] refl;
 }
 
--- there is no activity of this id, so none is another
+-- there is no activity with this id, so none changes
 pub nothing_changed : (t : Town) (id owner : List ℕ) (lists : List Listing) → place_where (has_activity_id id) t.acts ≡ None → AreCandidates t.host t.acts lists
     → AreCandidates t.host (map (with_recipient id owner) t.acts) lists
 nothing_changed t id owner lists is are = subst (λ (xs : List Act). AreCandidates t.host xs lists) (sym (unchanged t.acts (not_placed (has_activity_id id) t.acts is))) are

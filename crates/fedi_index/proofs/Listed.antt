@@ -1,4 +1,4 @@
--- The items of a collection stand among its candidates.
+-- The items of a collection are among its candidates.
 use Rattle.std.proofs.Common.{◌≡◌, ◌<◌, ℕ, zero, suc, ◌+◌, arith, Bool, true, false, List, [], ◌∷◌, ◌++◌, Some, ◌*◌, drop, get_or, length, take, refl, ap, ◌∙◌}
 use Rattle.std.specs.Prelude.{◌&&◌, filter, map, slice_get, if◌then◌else◌}
 use Rattle.std.specs.List.{range_with_len}
@@ -43,7 +43,7 @@ listed-belongs t c which id place x at listed =
     let here : is_first_of t c which id (take place t.acts) (Some x) ≡ true = rw at at listed in
     item-belongs which id x (and_parts (is_item which id x) (sees t c x) (and_parts (is_item which id x && sees t c x) _ here).0).0
 
--- ---- of the candidates those pass that pass of all
+-- ---- the candidates that pass are all activities that pass
 
 filtered : (p : ℕ → Bool) (q : Act → Bool) (n : ℕ) (xs : List Act) → ((i : ℕ) (x : Act) → slice_get xs i ≡ Some x → p (n + i) ≡ true → q x ≡ true)
     → filter p (places_from q n xs) ≡ filter p (range_with_len n (length xs))
@@ -88,7 +88,7 @@ candidate_there q i acts places place are within at =
     let h = places-within q 0 i acts (rw are at within) in
     rw (at, are) (omega (arith, h))
 
--- one candidate more
+-- one more candidate
 pub one_more_listed : (p : ℕ → Bool) (places : List ℕ) (i place : ℕ) → i < length places → place ≡ get_or places i 0 → p place ≡ true
     → filter p (take (i + 1) places) ≡ filter p (take i places) ++ place ∷ []
 one_more_listed p places i place within at listed = filter_more p places i 0 within ∙ rw (← at, listed) refl

@@ -36,7 +36,7 @@ use Rattle.fedi_town.specs.Shapes.{is_delivered}
 use Rattle.fedi_town.specs.Towns.{Town, empty_town, has_host, id_of, is_by}
 use Rattle.fedi_town.proofs.Kept.{IsKept, changed-kept}
 
--- ---- what becomes of an activity leaves it in its lists
+-- ---- an effect on an activity leaves it in its lists
 
 where-sent : (p : Act → Bool) (f : Act → Act) (y : Act) → (f y).recipients ≡ y.recipients → (where_passes p f y).recipients ≡ y.recipients
 where-sent p f y same = elim (p y) as (λ b. (if b then f y else y).recipients ≡ y.recipients) [ true ↦ same | false ↦ refl ]
@@ -45,7 +45,7 @@ ended-sent : (a b : List ℕ) (s : State) (y : Act) → (end_follow a b s y).rec
 unfolding end_follow
 ended-sent a b s y = where-sent (is_open_follow a b) (in_state s) y refl
 
--- it goes to the same
+-- its recipients stay the same
 affected-sent : (e : Effect) (y : Act) → (affect e y).recipients ≡ y.recipients
 unfolding rewrite_act
 affected-sent effects.Nothing y = refl
@@ -72,7 +72,7 @@ kept-after t x host k o y = rw (belongs-kept k o y (affect (effect_of t x) y) (c
 
 -- ---- one more entry
 
--- an activity that was added to the lists, and did to those before it what it does
+-- an activity was added to the lists, and its effect was applied to the earlier ones
 accepted : (t : Town) (x : Act) (host : Option (List ℕ)) (lists : List Listing) → AreCandidates host (t.acts ++ x ∷ option_to_list (answer_to t x)) lists
     → AreCandidates host (map (affect (effect_of t x)) t.acts ++ x ∷ option_to_list (answer_to t x)) lists
 accepted t x host lists are = record {
@@ -89,7 +89,7 @@ accepted t x host lists are = record {
 none_new : (host : Option (List ℕ)) (acts : List Act) (lists : List Listing) → AreCandidates host (acts ++ []) lists → AreCandidates host acts lists
 none_new host acts lists are = subst (λ (xs : List Act). AreCandidates host xs lists) (append-nil acts) are
 
--- the lists after what was added: its activities, or one inbox more
+-- the lists after an addition: its activities, or one more inbox
 abbrev AreAfter : Town → Addition → List Listing → Type 0
 AreAfter t a lists = AreCandidates t.host (sent_on (inbox_in a) t.acts ++ acts_in a) lists
 
@@ -129,7 +129,7 @@ hosted None own acts lists unset none are =
     rw none (record { places = no.places })
 hosted (Some host) own acts lists unset ids are = absurd cc
 
--- the lists to which all was added that the entry brings are those of the town after it
+-- the lists after everything that the entry brings was added are those of the town after the entry
 pub candidates_after : (t : Town) (e : Entry) (lists : List Listing) → is_admissible t e ≡ true → HasIds t.host t.acts → AreAfter t (addition_of t e) lists
     → AreCandidates (step t e).host (step t e).acts lists
 candidates_after t (Hosted host moment) lists ok ids are =
@@ -148,7 +148,7 @@ legal_from (d ∷ history) t e legal ok =
     let parts = and_parts (is_admissible t d) (is_legal_from (step t d) history) legal in
     rw (parts.0, legal_from history (step t d) e parts.1 ok) refl
 
--- after an entry that may come next the history is legal
+-- the history is still legal after an entry that may come next
 pub legal_after : (history : List Entry) (t : Town) (e : Entry) → t ≡ town history → IsLegal history → is_admissible t e ≡ true → IsLegal (history ++ e ∷ [])
 legal_after history t e is legal ok = record { admissible = legal_from history empty_town e legal.admissible (rw is at ok) }
 
@@ -163,7 +163,7 @@ pub ids_of_town : (history : List Entry) → IsLegal history → HasIds (town hi
 ids_of_town history legal =
     ids_from history empty_town (record { sound = record { members = refl; peers = refl }; host = refl }) refl legal.admissible
 
--- ---- one inbox more
+-- ---- one more inbox
 
 made_in : (t : Town) (host : Option (List ℕ)) (name digest : List ℕ) (locked : Bool) → MayComeIn t (inbox_in (member_addition host name digest locked))
 made_in t None name digest locked = tt
@@ -185,7 +185,7 @@ delivered_in history (Some owner) inbox (Some author) (Some id) a moment legal o
       | false ↦ tt
     ]
 
--- the activity that the next entry brings to one more inbox may go there
+-- the activity that the next entry adds to one more inbox may be added there
 pub may_go_in : (history : List Entry) (e : Entry) → IsLegal history → is_admissible (town history) e ≡ true → MayComeIn (town history) (inbox_in (addition_of (town history) e))
 may_go_in history (Hosted host moment) legal ok = tt
 may_go_in history (Made name digest locked moment) legal ok = made_in (town history) (town history).host name digest locked

@@ -24,7 +24,7 @@ use Rattle.fedi_town.specs.Towns.{Town, has_name, id_of}
 use Rattle.fedi_town.proofs.Paths.{actor_path_is_plain, object_path_is_plain}
 use Rattle.fedi_town.proofs.Texts.{bytes_eq-same}
 
--- an address at the host is of the host
+-- an address at the host belongs to the host
 address_here : (host path : List ℕ) → host_of (address host path) ≡ host → is_of_host host (address host path) ≡ true
 unfolding is_of_host
 address_here host path own = rw (own, bytes_eq-same host) refl

@@ -1,4 +1,4 @@
--- The positions of those that pass, as activities come and change.
+-- The positions of the activities that pass, as activities are added and changed.
 use Rattle.std.proofs.Common.{◌≡◌, ℕ, suc, ◌+◌, ◌≤◌, arith, Bool, true, false, List, [], ◌∷◌, ◌++◌, Option, Some, None, refl, sym, ap, ◌∙◌, length, nat_eq}
 use Rattle.std.specs.Prelude.{◌-◌, map, slice_get, if◌then◌else◌}
 use Rattle.std.proofs.lemmas.Bool.{ne_eqb}
@@ -48,7 +48,7 @@ one-lacks : (place : ℕ) (ps : List ℕ) (listed : Bool) → ends_in place ps �
 one-lacks place ps true none = rw none refl
 one-lacks place ps false none = refl
 
--- after an activity was added the lists are those of one more
+-- after an activity was added, the lists are those of the activities with it
 pub candidates_added : (host : Option (List ℕ)) (acts : List Act) (x : Act) (place : ℕ) (old new : List Listing) → place ≡ length acts
     → AddsOnce (λ k o. is_kept host k o x) place old new → AreCandidates host acts old → AreCandidates host (acts ++ x ∷ []) new
 candidates_added host acts x place old new at h are = record {
@@ -80,7 +80,7 @@ one_used listed place old new h = record { room = λ k o. cost-one (is_lacking p
 pub none_used : (lists : List Listing) → UsesOne lists lists
 none_used lists = record { room = λ k o. omega arith }
 
--- there is a last position, and it is this
+-- there is a last position, and it is this one
 abbrev pub is_last : ℕ → Option ℕ → Bool
 is_last place None = false
 is_last place (Some p) = nat_eq p place

@@ -1,4 +1,4 @@
--- Room in the lists in which an activity stands.
+-- Room in the lists that an activity is in.
 use Rattle.std.proofs.Common.{◌≡◌, ℕ, ◌≤◌, arith, Bool, true, false, List, [], Option, Some, None, refl, ◌∙◌}
 use Rattle.std.specs.Prelude.{◌&&◌, ◌||◌}
 use Rattle.std.specs.Str.{bytes_eq}
@@ -14,7 +14,7 @@ use Rattle.fedi_index.proofs.Added.{IsOf, all_lists, no-inbox, no-kind, no-owner
 use Rattle.fedi_town.specs.declared.act.Act.{Act}
 use Rattle.fedi_town.specs.Addressing.{is_of_town}
 
--- the owner of this list, and its collection
+-- the owner of this list and its collection
 one-is : (host : Option (List ℕ)) (kind : Collection) (owner : List ℕ) (k : Collection) (o : List ℕ) → is_one host (Some kind) (Some owner) k o ≡ true
     → (is_of_town host o ≡ true) × (kind ≡ k) × (owner ≡ o)
 unfolding is_one

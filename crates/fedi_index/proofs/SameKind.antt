@@ -1,4 +1,4 @@
--- Kinds of collections that are the same.
+-- Equal kinds of collections.
 use Rattle.std.proofs.Common.{◌≡◌, true, refl}
 use Rattle.fedi_index.specs.declared.collection.Collection.{Collection}
 use Rattle.fedi_index.specs.declared.collection.Collection.TheVariants.{Inbox, Outbox, Followers, Following, Liked, Likes, Shares}

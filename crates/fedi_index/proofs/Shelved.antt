@@ -1,4 +1,4 @@
--- What stays true of a shelf.
+-- What remains true of a shelf.
 use Rattle.std.proofs.Common.{◌≡◌, ℕ, suc, Bool, true, List, [], ◌∷◌, ◌++◌, Option, Some, None, refl, sym, ap, subst, ◌∙◌}
 use Rattle.std.proofs.lemmas.List.Sums.{fold_push}
 use Rattle.fedi_effects.specs.Additions.{inbox_in}
@@ -33,7 +33,7 @@ nothing_shelved = record {
 
 -- ---- one more entry
 
--- what the entry brings for which there is room, and its one inbox more, may come
+-- the additional inbox, if any, of the entry for which there is room may be added
 pub may_come_in : (h : Holding) (lists : List Listing) → IsShelf h lists → MayComeIn h.town (coming_inbox_in h)
 may_come_in h lists s = from h.room s.next
   where

@@ -1,5 +1,5 @@
--- The candidates of a collection: the activities that match its rule, whatever their state and
--- whoever sees them.
+-- The candidates of a collection: the activities that match its rule, in any state and whoever may
+-- see them.
 use Rattle.std.specs.Prelude.{ℕ, suc, Bool, true, false, ◌&&◌, List, [], ◌∷◌, if◌then◌else◌}
 use Rattle.fedi_address.specs.Recipients.{is_among}
 use Rattle.fedi_index.specs.declared.collection.Collection.{Collection}
@@ -22,7 +22,7 @@ collection_of (Liked name) = kinds.Liked
 collection_of (Likes name number) = kinds.Likes
 collection_of (Shares name number) = kinds.Shares
 
--- the two are of one kind
+-- the two are of the same kind
 abbrev pub is_same : Collection → Collection → Bool
 is_same kinds.Inbox kinds.Inbox = true
 is_same kinds.Outbox kinds.Outbox = true
@@ -33,9 +33,9 @@ is_same kinds.Likes kinds.Likes = true
 is_same kinds.Shares kinds.Shares = true
 is_same _ _ = false
 
--- The activity may stand in this collection of the owner: what the owner got or posted, the Follows
--- of and by the owner, the Likes by the owner, and the Likes and Announces of the owner, in
--- whatever state.
+-- The activity may be in this collection of the owner: what the owner received or posted, the
+-- Follows of and by the owner, the Likes by the owner, and the Likes and Announces of the owner, in
+-- any state.
 unfoldable pub belongs : Collection → List ℕ → Act → Bool
 belongs kinds.Inbox id x = is_among id x.recipients
 belongs kinds.Outbox id x = is_by id x
@@ -49,7 +49,7 @@ belongs kinds.Shares id x = is_announce (deed x) && is_about id x
 abbrev pub is_candidate : Which → List ℕ → Act → Bool
 is_candidate which id x = belongs (collection_of which) id x
 
--- the positions of those that pass, where the first has this position
+-- the positions of the activities that pass, if the first activity has this position
 abbrev pub places_from : (Act → Bool) → ℕ → List Act → List ℕ
 places_from p n [] = []
 places_from p n (x ∷ xs) = if p x then n ∷ places_from p (suc n) xs else places_from p (suc n) xs

@@ -1,4 +1,4 @@
--- Lists of positions, each of a collection and an owner.
+-- Lists of positions, one for each collection of an owner.
 use Rattle.std.specs.Prelude.{◌≡◌, ℕ, zero, suc, ◌+◌, ◌-◌, ◌≤◌, Bool, ◌&&◌, List, [], ◌∷◌, ◌++◌}
 use Rattle.std.specs.Prelude.{map, Option, None, Some, slice_get, vec_len, vec_capacity}
 use Rattle.std.specs.Prelude.{if◌then◌else◌}
@@ -12,14 +12,14 @@ use Rattle.fedi_register.specs.declared.seeds.Seed.{Seed}
 use Rattle.fedi_register.specs.Marks.{every, marks_from}
 use Rattle.fedi_register.specs.Seeds.{mark_of}
 
--- a list of positions, of this collection of this owner, and how many more there is room for
+-- the positions in a collection of an owner, and the number of further ones that there is room for
 pub record Listing : Type 0 where
   pub collection : Collection
   pub owner : List ℕ
   pub places : List ℕ
   pub room : ℕ
 
--- the list of this collection of this owner
+-- it is the list of this collection of this owner
 unfoldable pub is_list : Collection → List ℕ → Listing → Bool
 is_list kind owner l = is_same l.collection kind && bytes_eq l.owner owner
 
@@ -28,26 +28,26 @@ abbrev pub places_found : Option Listing → List ℕ
 places_found None = []
 places_found (Some l) = l.places
 
--- and its room
+-- the room in the list that was found
 abbrev pub room_found : Option Listing → ℕ
 room_found None = 0
 room_found (Some l) = l.room
 
--- the positions of this collection of this owner
+-- the positions in this collection of this owner
 unfoldable pub places_of : Collection → List ℕ → List Listing → List ℕ
 places_of kind owner lists = places_found (find (is_list kind owner) lists)
 
--- how many more there is room for
+-- the room in the list of this collection of this owner
 unfoldable pub room_of : Collection → List ℕ → List Listing → ℕ
 room_of kind owner lists = room_found (find (is_list kind owner) lists)
 
--- the second is the first's collection, and its owner
+-- the two collections are the same, and the two owners are
 abbrev pub is_same_list : Collection → List ℕ → Collection → List ℕ → Bool
 is_same_list k o kind owner = is_same kind k && bytes_eq owner o
 
 -- ---- what a call does to the lists
 
--- no list has other positions, and none has less room
+-- every list has the same positions and no less room
 pub record IsRoomier (old new : List Listing) : Type 0 where
   pub same : (k : Collection) (o : List ℕ) → places_of k o new ≡ places_of k o old
   pub room : (k : Collection) (o : List ℕ) → room_of k o old ≤ room_of k o new
@@ -60,7 +60,7 @@ at_end place places = places ++ place ∷ []
 abbrev pub at_index : ℕ → ℕ → List ℕ → List ℕ
 at_index index place places = insert places index place
 
--- this one list has one position more, which was put where this says, and room for one less
+-- this one list has one more position, inserted by `put`, and room for one less
 pub record HasOneMore (kind : Collection) (owner : List ℕ) (put : List ℕ → List ℕ)
     (old new : List Listing) : Type 0 where
   pub places : (k : Collection) (o : List ℕ) → places_of k o new
@@ -74,27 +74,27 @@ pub record HasOneMore (kind : Collection) (owner : List ℕ) (put : List ℕ →
 unfoldable pub list_mark : Seed → Listing → ℕ
 list_mark seed l = mark_of seed l.owner
 
--- the place of the first that passes, where the first has this place
+-- the index of the first list that passes, if the first list has this index
 abbrev pub first_from : (Listing → Bool) → ℕ → List Listing → Option ℕ
 first_from p n [] = None
 first_from p n (l ∷ ls) = if p l then Some n else first_from p (suc n) ls
 
--- the list at the place that was found
+-- the list at the index that was found
 abbrev pub list_found : List Listing → Option ℕ → Option Listing
 list_found lists None = None
 list_found lists (Some place) = slice_get lists place
 
--- the list with one position more, which was put where this says
+-- the list with one more position, inserted by `put`
 abbrev pub grown : (List ℕ → List ℕ) → Listing → Listing
 grown put l = record l { places = put l.places; room = l.room - 1 }
 
--- the lists, of which the one at this place has one position more
+-- the lists after the one at this index got one more position
 abbrev pub grown_at : ℕ → (List ℕ → List ℕ) → List Listing → List Listing
 grown_at at put [] = []
 grown_at zero put (l ∷ ls) = grown put l ∷ ls
 grown_at (suc n) put (l ∷ ls) = l ∷ grown_at n put ls
 
--- each list is the same, and has no less room
+-- each list is the same and has no less room
 abbrev pub AreRoomier : List Listing → List Listing → Type 0
 AreRoomier [] [] = Unit {0}
 AreRoomier [] (y ∷ ys) = ⊥
@@ -103,7 +103,7 @@ AreRoomier (x ∷ xs) (y ∷ ys) =
     (x.collection ≡ y.collection) × (x.owner ≡ y.owner) × (x.places ≡ y.places) × (x.room ≤ y.room)
     × AreRoomier xs ys
 
--- a list without positions and room
+-- a list without positions and without room
 abbrev pub new_list : Collection → List ℕ → Listing
 new_list kind owner = record { collection = kind; owner = owner; places = []; room = 0 }
 
@@ -122,7 +122,7 @@ listing_in r = record {
 abbrev pub listings : List Row → List Listing
 listings rows = map listing_in rows
 
--- the list of a row is this one
+-- the list of the row is this one
 unfoldable pub is_row : Collection → List ℕ → Row → Bool
 is_row kind owner r = is_list kind owner (listing_in r)
 
@@ -130,10 +130,10 @@ is_row kind owner r = is_list kind owner (listing_in r)
 unfoldable pub row_mark : Seed → Row → ℕ
 row_mark seed r = mark_of seed r.owner
 
--- the lists, as those see them who look up
+-- the lists, as seen by a look-up
 abbrev pub lists_in : Inside → List Listing
 lists_in l = listings l.rows.items
 
--- each list is looked up by its owner
+-- the lists are indexed by owner
 abbrev pub AreIndexed : Inside → Type 0
 AreIndexed l = l.index.marks ≡ marks_from every (list_mark l.seed) 0 (listings l.rows.items)

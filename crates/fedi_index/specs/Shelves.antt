@@ -12,7 +12,7 @@ use Rattle.fedi_town.specs.Histories.{town}
 use Rattle.fedi_town.specs.Legal.{IsLegal, is_admissible}
 use Rattle.fedi_town.specs.Towns.{Town}
 
--- a collection of an object has the name of a member and a number
+-- a collection of an object has a valid member name and a 64-bit number
 abbrev pub IsNamed : Which → Type 0
 IsNamed (Likes name number) = IsTrue (is_name name) × (number < 2 ^ 64)
 IsNamed (Shares name number) = IsTrue (is_name name) × (number < 2 ^ 64)
@@ -22,14 +22,14 @@ IsNamed (Followers name) = ⊤
 IsNamed (Following name) = ⊤
 IsNamed (Liked name) = ⊤
 
--- the entry for which there is room may come next
+-- the entry for which there is room, if any, may come next
 abbrev pub MayCome : Town → Option Entry → Type 0
 MayCome t None = ⊤
 MayCome t (Some e) = IsTrue (is_admissible t e)
 
--- The history is legal, and the town what it has made; the entry for which there is room may come
--- next; the lists are those of the candidates of all collections of this host; and they have room
--- for what the entry will add.
+-- The history is legal, and the town is its state; the entry for which there is room may come next;
+-- the lists hold exactly the candidates of all collections of this host; and they have room for
+-- what the entry will add.
 pub record IsShelf (h : Holding) (lists : List Listing) : Type 0 where
   pub stands : h.town ≡ town h.history
   pub legal : IsLegal h.history

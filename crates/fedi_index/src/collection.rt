@@ -12,9 +12,9 @@ pub(crate) enum Collection {
     Inbox,
     /// What a member posted (ActivityPub, section 5.1).
     Outbox,
-    /// Who follows a member (ActivityPub, section 5.3).
+    /// The followers of a member (ActivityPub, section 5.3).
     Followers,
-    /// Whom a member follows (ActivityPub, section 5.4).
+    /// The actors that a member follows (ActivityPub, section 5.4).
     Following,
     /// What a member likes (ActivityPub, section 5.5).
     Liked,
@@ -41,7 +41,7 @@ impl Collection {
     }
 }
 
-/// Whether the two are of one kind.
+/// Whether the two are of the same kind.
 pub(crate) fn is_same(a: Collection, b: Collection) -> bool
     ensures { result ≡ is_same a b }
 {

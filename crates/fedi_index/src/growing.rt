@@ -1,7 +1,7 @@
-//! The lists in which an activity stands: that of its author's outbox, those of the inboxes of its
-//! recipients, and where it is a Follow, a Like or an Announce those of its author and of what it
-//! is about. There are lists of owners of this host alone. An activity that comes again, to one
-//! more inbox, changes the list of that inbox alone.
+//! The lists that an activity is in: that of its author's outbox, those of its recipients' inboxes,
+//! and, for a Follow, a Like or an Announce, those of its author and of what it is about. There are
+//! lists only for owners of this host. If a known activity is delivered to one more inbox, only the
+//! list of that inbox changes.
 
 ghost use Rattle.std.specs.Prelude.{◌≡◌, List, ◌+◌, ◌++◌, ◌<◌, ◌≤◌, ◌^◌, ◌&&◌, not, OnOk, Some};
 ghost use Rattle.std.specs.Prelude.{length, map, option_copied, option_map, option_to_list};
@@ -25,7 +25,7 @@ use fedi_register::Kept;
 use fedi_town::Deed;
 use std::alloc::{AllocError, Global};
 
-// Besides the outbox, the collection of its author in which an activity that does this may stand.
+// The collection of its author, besides the outbox, that an activity with this deed may be in.
 fn list_of_author(deed: Deed) -> Option<Collection>
     ensures { result ≡ list_of_author deed }
 {
@@ -36,7 +36,7 @@ fn list_of_author(deed: Deed) -> Option<Collection>
     }
 }
 
-// The collection of what it is about in which an activity that does this may stand.
+// The collection of what it is about that an activity with this deed may be in.
 fn list_of_object(deed: Deed) -> Option<Collection>
     ensures { result ≡ list_of_object deed }
 {
@@ -77,7 +77,7 @@ fn reserve_one(
     Ok(())
 }
 
-// Makes room in a list, where there are a collection and an owner.
+// Makes room in a list, if there are a collection and an owner.
 #[tactic(auto, using(crate::proofs::Found::roomier_itself, crate::proofs::Rooms::room_of_no_kind, crate::proofs::Rooms::room_of_no_owner))]
 fn reserve_some(
     lists: &mut Lists,
@@ -111,7 +111,7 @@ fn reserve_inboxes(
     Ok(())
 }
 
-// Makes room for two positions in each list in which the activity may stand. The error is out of
+// Makes room for two positions in each list that the activity may be in. The error is out of
 // memory.
 fn reserve_each(
     lists: &mut Lists,
@@ -143,7 +143,7 @@ fn reserve_each(
     Ok(())
 }
 
-// Likewise for an activity, if there is one.
+// The same for an activity that may be absent.
 #[tactic(auto, using(crate::proofs::Found::roomier_itself))]
 fn reserve_for(
     lists: &mut Lists,
@@ -161,8 +161,8 @@ fn reserve_for(
     }
 }
 
-// Makes room in each list for the activities that the entry will add for which the facts have room.
-// The error is out of memory.
+// Makes room in each list for the activities that will be added by the entry for which the facts
+// have room. The error is out of memory.
 fn reserve_acts(lists: &mut Lists, alloc: Global, facts: &Facts) -> Result<(), AllocError>
     ensures roomier { IsRoomier lists.old lists.new }
     ensures room { OnOk result (HasRooms facts.now.town.host 2 (coming_in facts.now) lists.new) }
@@ -173,8 +173,8 @@ fn reserve_acts(lists: &mut Lists, alloc: Global, facts: &Facts) -> Result<(), A
     Ok(())
 }
 
-/// Makes room in each list for what the entry will add for which the facts have room: for its
-/// activities, or for one that goes to one more inbox. The error is out of memory.
+/// Makes room in each list for what will be added by the entry for which the facts have room: its
+/// activities, or one more inbox for a known activity. The error is out of memory.
 pub(crate) fn reserve_coming(
     lists: &mut Lists,
     alloc: Global,
@@ -190,10 +190,10 @@ pub(crate) fn reserve_coming(
     }
 }
 
-// ---- one position more
+// ---- one more position
 
-// Whether the list is to get this position: its owner is of this host, and it does not end in it
-// already.
+// Whether this position has to be added to the list: the list's owner is of this host, and the list
+// does not already end in the position.
 fn is_lacking(
     lists: &Lists,
     facts: &Facts,
@@ -247,7 +247,7 @@ fn add_to_inboxes(lists: &mut Lists, facts: &Facts, recipients: &[Iri], place: u
     }
 }
 
-// Adds the position of the activity to each list in which it may stand.
+// Adds the position of the activity to each list that it may be in.
 fn add_to_each(lists: &mut Lists, facts: &Facts, act: &Kept, place: usize)
     requires { CanAdd (λ k o. is_kept facts.now.town.host k o act.now) place lists.old }
     ensures { AddsOnce (λ k o. is_kept facts.now.town.host k o act.now)
@@ -272,8 +272,8 @@ fn add_to_each(lists: &mut Lists, facts: &Facts, act: &Kept, place: usize)
     add_to_inboxes(lists, facts, act.recipients(), place);
 }
 
-// Adds the activity, if there is one, to each list in which it may stand. Its position is the next
-// after those of the activities before it.
+// Adds the activity, if there is one, to each list that it may be in. Its position is the next one
+// after the earlier activities.
 #[tactic(auto, using(crate::proofs::Positions::can_add, crate::proofs::Positions::none_added, crate::proofs::Positions::one_used, crate::proofs::Positions::none_used))]
 fn add_for(lists: &mut Lists, facts: &Facts, act: Option<&Kept>, place: usize)
     requires { HasRooms facts.now.town.host 1 (option_to_list (option_copied act)) lists.old }
@@ -299,7 +299,7 @@ fn place_after(place: usize, act: Option<&Kept>) -> usize
     }
 }
 
-// Adds the activities to the lists that the entry will add for which the facts have room.
+// Adds to the lists the activities that will be added by the entry for which the facts have room.
 fn add_acts(lists: &mut Lists, facts: &Facts)
     requires room { HasRooms facts.now.town.host 2 (coming_in facts.now) lists.old }
     requires candidates { AreCandidates facts.now.town.host facts.now.town.acts lists.old }
@@ -312,7 +312,7 @@ fn add_acts(lists: &mut Lists, facts: &Facts)
     add_for(lists, facts, answer, place_after(place, act));
 }
 
-// How many of the positions, which are in order, are below this one.
+// The number of positions below this one. The positions are in order.
 fn count_below(places: &[usize], place: usize) -> usize
     requires { IsNonDecreasing places.now }
     ensures few { result ≤ length places.now }
@@ -321,8 +321,8 @@ fn count_below(places: &[usize], place: usize) -> usize
     places.partition_point(|p| *p < place)
 }
 
-// Adds the position of the activity of this id to the list of the owner's inbox, in order: an
-// activity that is known goes to one more inbox.
+// Adds the position of the activity with this id to the list of the owner's inbox, in order. This
+// is for a known activity that is delivered to one more inbox.
 fn add_to_inbox(lists: &mut Lists, facts: &Facts, id: &Iri, owner: &Iri)
     requires room { 1 ≤ room_of Inbox owner.now lists.old }
     requires may_go { MayGo facts.now.town id.now owner.now }
@@ -339,8 +339,8 @@ fn add_to_inbox(lists: &mut Lists, facts: &Facts, id: &Iri, owner: &Iri)
     }
 }
 
-/// Adds to the lists what the entry will add for which the facts have room: its activities, or one
-/// inbox more of an activity that is known. It takes no memory.
+/// Adds to the lists what will be added by the entry for which the facts have room: its activities,
+/// or one more inbox for a known activity. This allocates nothing.
 pub(crate) fn add_coming(lists: &mut Lists, facts: &Facts)
     requires room { HasRooms facts.now.town.host 2 (coming_in facts.now) lists.old }
     requires inbox_room { HasInboxRoom (coming_inbox_in facts.now) lists.old }

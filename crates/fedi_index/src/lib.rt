@@ -1,5 +1,5 @@
-//! A history with the positions of the candidates of each collection, so that a page looks at its
-//! own collection alone.
+//! A history with the positions of the candidates of each collection, so that a page looks only at
+//! its own collection.
 #![tactic(auto)]
 
 mod collection;

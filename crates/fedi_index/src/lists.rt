@@ -1,4 +1,4 @@
-//! Lists of positions, each of a collection and an owner.
+//! Lists of positions, one for each collection of an owner.
 
 ghost use Rattle.std.specs.Prelude.{◌≡◌, ◌∷◌, ◌++◌, [], ◌+◌, ◌-◌, ◌<◌, ◌≤◌, IfOk, OnErr, OnOk};
 ghost use Rattle.std.specs.Prelude.{Some, length, map, option_copied, set, slice_get, vec_capacity};
@@ -25,8 +25,8 @@ struct Row {
     places: Vec<usize>,
 }
 
-/// Lists of positions, each of a collection and an owner. A list that is empty takes no memory,
-/// unless room was made in it.
+/// Lists of positions, one for each collection of an owner. An empty list takes no memory unless
+/// room was made in it.
 #[derive(Drop)]
 pub(crate) struct Lists {
     seed: Seed,
@@ -52,7 +52,7 @@ fn is_row(row: &Row, collection: Collection, owner: &Iri) -> bool
     is_same(row.collection, collection) && row.owner == *owner
 }
 
-// The number by which lists are looked up.
+// The mark by which lists are looked up.
 fn mark_of_list(seed: &Seed, owner: &Iri) -> u32
     ensures { result ≡ mark_of seed.now owner.now }
 {
@@ -77,7 +77,7 @@ fn row_of<'a>(
     )
 }
 
-// Where this list is.
+// The index of this list.
 fn position_of(
     seed: &Seed,
     rows: &[Row],
@@ -95,7 +95,7 @@ fn position_of(
     )
 }
 
-// One position more at the end of the list at this place, which has room for it.
+// Appends a position to the list at index `at`, which has room for it.
 fn push_at(rows: &mut Vec<Row>, at: usize, place: usize)
     requires there { at < length rows.old.items }
     requires room { 1 ≤ room_found (slice_get (listings rows.old.items) at) }
@@ -104,8 +104,8 @@ fn push_at(rows: &mut Vec<Row>, at: usize, place: usize)
     rows[at].places.push_reserved(place);
 }
 
-// One position more in the list at this place, which has room for it, before the position at this
-// index.
+// Inserts a position into the list at index `at`, which has room for it, before the position at
+// `index`.
 fn insert_at(rows: &mut Vec<Row>, at: usize, index: usize, place: usize)
     requires there { at < length rows.old.items }
     requires room { 1 ≤ room_found (slice_get (listings rows.old.items) at) }
@@ -116,7 +116,7 @@ fn insert_at(rows: &mut Vec<Row>, at: usize, index: usize, place: usize)
     let _ = rows[at].places.insert(index, place);
 }
 
-// Makes room for so many more in the list at this place. The error is out of memory.
+// Makes room for this many more positions in the list at index `at`. The error is out of memory.
 fn reserve_at(rows: &mut Vec<Row>, at: usize, more: usize) -> Result<(), AllocError>
     requires there { at < length rows.old.items }
     ensures roomier { AreRoomier (listings rows.old.items) (listings rows.new.items) }
@@ -126,7 +126,7 @@ fn reserve_at(rows: &mut Vec<Row>, at: usize, more: usize) -> Result<(), AllocEr
 }
 
 impl Lists {
-    /// No lists. The seed is for the numbers by which they are looked up.
+    /// No lists. The seed is for the marks by which they are looked up.
     pub(crate) fn empty(alloc: Global, seed: Seed) -> Lists
         ensures { result ≡ [] }
     {
@@ -137,7 +137,7 @@ impl Lists {
         }
     }
 
-    /// The positions of this collection of this owner.
+    /// The positions in this collection of this owner.
     pub(crate) fn places(&self, collection: Collection, owner: &Iri) -> &[usize]
         ensures { result.now ≡ places_of collection owner.now self.now }
     {
@@ -147,7 +147,7 @@ impl Lists {
         }
     }
 
-    /// Adds a position at the end of a list that has room for it. It takes no memory.
+    /// Appends a position to a list that has room for it. This allocates nothing.
     pub(crate) fn push(&mut self, collection: Collection, owner: &Iri, place: usize)
         requires { 1 ≤ room_of collection owner.now self.old }
         ensures { HasOneMore collection owner.now (at_end place) self.old self.new }
@@ -158,8 +158,8 @@ impl Lists {
         }
     }
 
-    /// Adds a position to a list that has room for it, before the position at this index. It takes
-    /// no memory.
+    /// Inserts a position into a list that has room for it, before the position at this index. This
+    /// allocates nothing.
     pub(crate) fn insert(&mut self, collection: Collection, owner: &Iri, index: usize, place: usize)
         requires room { 1 ≤ room_of collection owner.now self.old }
         requires index { index ≤ length (places_of collection owner.now self.old) }
@@ -171,7 +171,7 @@ impl Lists {
         }
     }
 
-    // Makes a list without room, where there is none, and tells its place.
+    // Adds a list that does not exist yet, without room, and returns its index.
     fn add(
         &mut self,
         alloc: Global,
@@ -198,7 +198,7 @@ impl Lists {
         Ok(at)
     }
 
-    // The place of this list, which is made where there is none.
+    // The index of this list. The list is added if it does not exist yet.
     fn find_or_add(
         &mut self,
         alloc: Global,
@@ -218,8 +218,8 @@ impl Lists {
         }
     }
 
-    /// Makes room for so many more positions of this collection of this owner. The error is out of
-    /// memory.
+    /// Makes room for this many more positions in this collection of this owner. The error is out
+    /// of memory.
     pub(crate) fn reserve(
         &mut self,
         alloc: Global,

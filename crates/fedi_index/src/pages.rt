@@ -1,4 +1,4 @@
-//! Pages of a collection, of which the candidates alone are read.
+//! Pages of a collection. Only the candidates of the collection are read.
 
 ghost use Rattle.std.specs.Prelude.{◌≡◌, ◌+◌, ◌*◌, ◌<◌, ◌≤◌, drop, filter, length, take};
 ghost use Rattle.std.specs.List.{list_any};
@@ -12,8 +12,9 @@ use fedi_town::{Caller, Which};
 use fedi_visible::{VisiblePage, is_same_seen, is_seen_item};
 use std::sync::ledger::Ledger;
 
-// Whether an activity before this place is the same item, and the caller sees it: an earlier Follow
-// of the same two. The items of all other collections are different ones.
+// Whether an activity before this position is the same item and the caller sees it: an earlier
+// Follow of the same actor by the same author. In all other collections no two activities are the
+// same item.
 fn comes_again(
     facts: &Facts,
     caller: &Caller,
@@ -36,8 +37,8 @@ fn comes_again(
     }
 }
 
-// Whether the activity is an item that the caller sees, and no activity before this place is the
-// same.
+// Whether the activity is an item that the caller sees, and no activity before this position is the
+// same item.
 #[tactic(auto, unfolding(fedi_visible::specs::Places::is_first))]
 fn is_first(
     facts: &Facts,
@@ -54,7 +55,7 @@ fn is_first(
         && !comes_again(facts, caller, which, owner, act, place)
 }
 
-// Whether the activity at this place is the first by which the caller sees its item.
+// Whether the activity at this position is the first through which the caller sees its item.
 fn is_listed<L: Ledger>(
     facts: &Facts,
     caller: &Caller,
@@ -71,7 +72,8 @@ fn is_listed<L: Ledger>(
     is_first(facts, caller, which, owner, act, place)
 }
 
-/// The page of this number of the collection that has these candidates, each of which is read once.
+/// The page with this number of the collection that has these candidates. Each candidate is read
+/// once.
 pub(crate) fn page<L: Ledger>(
     facts: &Facts,
     candidates: &[usize],

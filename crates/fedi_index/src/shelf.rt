@@ -23,8 +23,8 @@ use std::alloc::{AllocError, Global};
 use std::marker::Model;
 use std::sync::ledger::Ledger;
 
-/// The facts of a legal history, and for each collection of this host the positions of its
-/// candidates, so that a page reads each of these once and no other activity.
+/// The facts of a legal history, with the positions of the candidates of each collection of this
+/// host. A page reads each of its candidates once, and no other activity.
 #[derive(Drop)]
 pub struct IndexedShelf {
     facts: Facts,
@@ -56,8 +56,8 @@ fn is_named(which: &Which)
 }
 
 impl IndexedShelf {
-    /// The shelf of no entry. The seed is for the numbers by which all is looked up. The error is
-    /// out of memory.
+    /// An empty shelf, without entries. The seed is for the marks used in all look-ups. The error
+    /// is out of memory.
     pub fn empty(alloc: Global, seed: Seed) -> Result<IndexedShelf, AllocError>
         ensures { IfOk result (λ shelf.
             shelf ≡ record { history = []; town = empty_town; room = None }) }
@@ -69,9 +69,10 @@ impl IndexedShelf {
         })
     }
 
-    /// The positions, among the activities, of the candidates of the owner's collection, in order:
-    /// of those that match its rule (ActivityPub, section 5), in whatever state and whoever sees
-    /// them. The owner is the member or the object whose collection it is. It takes no memory.
+    /// The positions, among the activities, of the candidates of the owner's collection, in order.
+    /// The candidates are the activities that match its rule (ActivityPub, section 5), in any state
+    /// and whoever may see them. The owner is the member or the object that the collection belongs
+    /// to. This allocates nothing.
     pub fn candidates(&self, which: &Which, owner: &Iri) -> &[usize]
         requires { owner_of self.now.town which.now ≡ Some owner.now }
         ensures { result.now

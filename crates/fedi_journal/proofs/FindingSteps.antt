@@ -14,7 +14,7 @@ use Rattle.fedi_outside.proofs.ImageSteps.{no_doubt}
 use Rattle.fedi_journal.specs.Finding.{IsGate, IsScanned}
 use Rattle.fedi_journal.specs.declared.finding.Gate.TheVariants.{Closed, Open, Bad}
 
--- ---- the number behind a gate
+-- ---- the number after a gate
 
 pub number_behind : (all head number : List ℕ) (gate : ℕ) → head ≡ take 9 (drop gate all) → number ≡ drop 1 head → take 8 (drop 1 (drop gate all)) ≡ number
 number_behind all head number gate is_head is_number = sym (is_number ∙ (ap (drop 1) is_head ∙ drop-take 1 8 (drop gate all)))

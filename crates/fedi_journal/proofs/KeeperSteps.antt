@@ -20,13 +20,13 @@ on_err (Err e) P p = p
 abbrev state : Option (List (List ℕ)) → ℕ → Option (List ℕ) → ℕ → ℕ → ℕ → KeeperState
 state records held doubt spare end faults = record { records = records; held = held; doubt = doubt; spare = spare; end = end; faults = faults }
 
--- the same records and count of faults make the same state
+-- the same records and the same count of faults make the same state
 pub shows_same : (held : ℕ) (doubt : Option (List ℕ)) (spare end : ℕ) {records before : Option (List (List ℕ))} {faults counted : ℕ} → records ≡ before → faults ≡ counted
     → state records held doubt spare end faults ≡ state before held doubt spare end counted
 shows_same held doubt spare end {records} {before} {faults} {counted} same count =
     ap (λ (r : Option (List (List ℕ))). state r held doubt spare end faults) same ∙ ap (λ (n : ℕ). state before held doubt spare end n) count
 
--- each gate is so far before the next one, which is not behind the end
+-- each gate is this far before the next one, which is not after the end
 pub apart_next : (gates : List ℕ) (end i : ℕ) → i < length gates → are_apart 9 gates end ≡ true → (get_or gates i end + 9 ≤ get_or gates (i + 1) end) × (get_or gates (i + 1) end ≤ end)
 apart_next gates end i within apart =
     let next : suc i ≡ i + 1 = omega arith in
@@ -48,7 +48,7 @@ pub finds_none : (s : DiskState) (count place : ℕ) → count ≤ place → IfS
 finds_none s count place past =
     if_some s.reads (kept_in plain count) _ (λ bytes is. sym (none_behind (kept_in plain count bytes) place (omega (arith, past, length_kept plain plain_ok count bytes))))
 
--- what is read behind a gate is its record
+-- what is read after a gate is its record
 pub finds_some : (s : DiskState) (c : DiskCrashes) (end : ℕ) (gates : List ℕ) (doubt : Option (List ℕ)) → IsKnown plain s c end gates doubt → IfSome s.reads c.may_leave → (place start count : ℕ) (read : List ℕ) → place < length gates
     → start ≡ get_or gates place end + 9 → count ≡ get_or gates (place + 1) end - get_or gates place end - 9 → IfSome s.reads (λ all. read ≡ take count (drop start all))
     → IfSome (records_told plain (length gates) s) (λ records. Some read ≡ slice_get records place)
@@ -83,7 +83,7 @@ payload_back block p is =
     let size : length (block_of p) - 9 ≡ length p = omega (arith, length_block p) in
     ap payload_of is ∙ (ap (λ (n : ℕ). take n (drop 8 (block_of p))) size ∙ (ap (take (length p)) (behind_size p) ∙ take_at p (0 ∷ []) (length p) refl))
 
--- if nothing is in doubt, nothing is with another block
+-- if nothing is in doubt, nothing is in doubt with another block either
 pub still_sure : (in_doubt : Bool) (block after : List ℕ) → doubt_in in_doubt block ≡ None → doubt_in in_doubt after ≡ None
 still_sure false block after is = refl
 still_sure true block after is = absurd (cc is)

@@ -8,7 +8,7 @@ use Rattle.fedi_outside.proofs.ImageLemmas.{closed_intro, plain_ok}
 use Rattle.fedi_outside.proofs.ImageSteps.{no_doubt, of_some}
 use Rattle.fedi_journal.specs.Making.{blank}
 
--- bytes that are told after a write were told before
+-- bytes that are reported after a write were reported before
 was_told : (o after : Option (List ℕ)) (g : List ℕ → List ℕ) → after ≡ option_map g o → (bytes : List ℕ) → after ≡ Some bytes → (here : List ℕ) × (bytes ≡ g here)
 was_told None after g is bytes told = absurd (cc (is, told))
 was_told (Some here) after g is bytes told = let same : g here ≡ bytes = cc (is, told) in (here, sym same)
@@ -39,7 +39,7 @@ made_known s c before written durable long = record {
       record { closed = λ _. closed; opened = λ _. closed };
 }
 
--- no records are told, if the bytes were
+-- no records are reported, if the bytes were
 pub no_records : (s : DiskState) (before : Option (List ℕ)) (g : List ℕ → List ℕ) → s.reads ≡ option_map g before → records_told plain 0 s ≡ option_map (λ _. []) before
 no_records s None g written = ap (λ (o : Option (List ℕ)). option_map (kept_in plain 0) o) written
 no_records s (Some here) g written = ap (λ (o : Option (List ℕ)). option_map (kept_in plain 0) o) written ∙ ap (λ (rs : List (List ℕ)). Some rs) (kept_none (g here))

@@ -10,7 +10,7 @@ use Rattle.fedi_outside.proofs.Untouched.{elapses_on, untouched_by, untouched_th
 
 -- ---- what is untouched
 
--- what a synced disk has is synced while it is untouched
+-- what a synced disk has stays synced while the disk is untouched
 pub still_synced : (a b : DiskState) (x y : DiskCrashes) → IsUntouched a b x y → IfSome a.reads (LeavesOnly x) → IfSome b.reads (LeavesOnly y)
 still_synced a b x y same synced = subst (λ (o : Option (List ℕ)). IfSome o (LeavesOnly y)) (sym same.reads) (each a.reads refl)
   where
@@ -52,7 +52,7 @@ on_err : {T E : Type 0} (r : Result T E) (P Q : Type 0) → (P → Q) → OnErr 
 on_err (Ok x) P Q f p = tt
 on_err (Err e) P Q f p = f p
 
--- the byte there was read, and written again, or not
+-- the byte at this offset was read, and was written again or not
 pub rewritten : {T E : Type 0} (r : Result T E) (at : ℕ) (b : List ℕ) (old mid new : DiskState) (before between after : DiskCrashes) → mid ≡ old → Elapses before between before.may_leave
     → IfSome old.reads (LeavesOnly before) → IfSome old.reads (λ all. old.size ≡ length all) → at < old.size → IfSome old.reads (λ all. b ≡ take 1 (drop at all))
     → OnOk r (new ≡ after_write at b mid) → OnErr r (HasTorn at b mid new) → Elapses between after (MayTear at b between) → IsUntouched old new before after

@@ -1,9 +1,9 @@
--- What is written behind a gate, and the record in doubt.
+-- What is written after a gate, and the record in doubt.
 use Rattle.std.specs.Prelude.{ℕ, ◌-◌, Bool, List, [], ◌∷◌, ◌++◌, length, take, drop, Option, Some}
 use Rattle.std.specs.Prelude.{None, if◌then◌else◌}
 use Rattle.std.specs.Int.{to_be_bytes, w64}
 
--- the length of a record in eight bytes, the highest first, the record, and a closed gate
+-- the length of a record in eight bytes, the most significant first, the record, and a closed gate
 abbrev pub block_of : List ℕ → List ℕ
 block_of payload = to_be_bytes w64 (length payload) ++ (payload ++ 0 ∷ [])
 

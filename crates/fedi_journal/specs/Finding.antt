@@ -10,7 +10,7 @@ use Rattle.fedi_journal.specs.declared.faults.JournalFault.TheVariants.{Memory}
 use Rattle.fedi_journal.specs.declared.finding.Gate.{Gate}
 use Rattle.fedi_journal.specs.declared.finding.Gate.TheVariants.{Closed, Open, Bad}
 
--- a gate stands at the front of these bytes, and is so
+-- the gate at the start of these bytes is of this kind
 abbrev pub IsGate : List ℕ → Gate → Type 0
 IsGate bytes Closed = (0 < length bytes) × (get_or bytes 0 0 ≡ 0)
 IsGate bytes (Open size) =
@@ -19,30 +19,30 @@ IsGate bytes Bad =
     (0 < length bytes) × (get_or bytes 0 0 ≢ 0)
     × (get_or bytes 0 0 ≡ 1 → length bytes < 10 + size_at bytes)
 
--- the record behind an open gate, and the gate behind that, do not pass this end
+-- the record after an open gate, and the gate after that, do not extend past this end
 abbrev pub IsInside : ℕ → ℕ → Gate → Type 0
 IsInside gate size Closed = Unit {0}
 IsInside gate size (Open length) = gate + (9 + length) < size
 IsInside gate size Bad = Unit {0}
 
--- so far: the file begins with records that have these gates, and the next gate stands there
+-- so far: the file begins with records that have these gates, and the next gate is at this offset
 abbrev pub IsScanned : List ℕ → ℕ → List ℕ → Type 0
 IsScanned gates gate bytes =
     (rs : List (List ℕ)) × Begins plain rs gate bytes × (gates ≡ gates_of plain 8 rs)
 
--- how many faults were counted after this fault
+-- how many faults are counted after this fault
 abbrev pub count_after : JournalFault → ℕ → ℕ
 count_after NotAStore n = n
 count_after (Damaged place) n = n
 count_after Failed n = next_count n
 count_after Memory n = n
 
--- how many faults were counted once gates were found, or were not
+-- how many faults are counted after gates were found, or were not
 abbrev pub faults_found : {T : Type 0} → Result T JournalFault → ℕ → ℕ
 faults_found (Ok found) n = n
 faults_found (Err fault) n = count_after fault n
 
--- how many faults were counted once a journal was opened, or the disk came back
+-- how many faults are counted after a journal was opened, or the disk was handed back
 abbrev pub faults_after : {T D : Type 0} → Result T (JournalFault × D) → ℕ → ℕ
 faults_after (Ok journal) n = n
 faults_after (Err back) n = count_after back.0 n

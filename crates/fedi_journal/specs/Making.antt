@@ -12,7 +12,7 @@ use Rattle.fedi_journal.specs.declared.faults.InitFault.TheVariants.{Exists, Fai
 abbrev pub blank : List ℕ
 blank = plain.magic ++ 0 ∷ []
 
--- what a journal without records shows, which was made of this disk
+-- what a journal without records that was made of this disk shows
 abbrev pub blank_shown : DiskState → KeeperState
 blank_shown before = record {
   records = option_map (λ _. []) before.reads;
@@ -23,11 +23,11 @@ blank_shown before = record {
   faults = before.faults;
 }
 
--- these are more bytes, and begin with others
+-- these bytes are more than those of such a journal, and do not begin with them
 abbrev pub IsOther : List ℕ → Type 0
 IsOther bytes = (9 < length bytes) × (take 9 bytes ≡ blank → ⊥)
 
--- if these are its bytes, the disk is untouched
+-- if the disk has such bytes, it is untouched
 abbrev pub KeepsOther : DiskState → DiskState → DiskCrashes → DiskCrashes → Type 0
 KeepsOther before after was now =
     (bytes : List ℕ) → before.reads ≡ Some bytes → IsOther bytes → IsUntouched before after was now

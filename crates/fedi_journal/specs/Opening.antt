@@ -7,7 +7,7 @@ use Rattle.fedi_journal.specs.declared.journal.Journal.{Journal}
 abbrev pub disk_of : {D : Type 0} {ghosts : Ghosts D} → Journal D ghosts → D
 disk_of journal = journal.disk
 
--- the disk of the journal, or the one that came back
+-- the disk of the journal, or the one that was handed back
 abbrev pub disk_after : {D E : Type 0} {ghosts : Ghosts D} → Result (Journal D ghosts) (E × D) → D
 disk_after (Ok journal) = disk_of journal
 disk_after (Err back) = back.1

@@ -1,17 +1,17 @@
-//! What is written behind a gate.
+//! What is written after a gate.
 ghost use Rattle.std.specs.Prelude.{◌≡◌, ◌+◌, ◌≤◌, length, vec_capacity};
 ghost use Rattle.fedi_outside.specs.Images.{size_code};
 ghost use Rattle.fedi_journal.specs.Blocks.{block_of};
 
-/// The number that these eight bytes spell, the highest first.
+/// The number that these eight bytes encode, the most significant first.
 pub fn number_of(bytes: &[u8; 8]) -> u64
     ensures { bytes.now ≡ size_code result }
 {
     u64::from_be_bytes(*bytes)
 }
 
-/// Writes the length of a record, the record and a closed gate in the place of what stands in the
-/// block. There is room.
+/// Replaces the contents of the block by the length of a record, the record and a closed gate.
+/// There is room.
 pub fn write_block(block: &mut Vec<u8>, payload: &[u8])
     requires room { 9 + length payload.now ≤ vec_capacity block.old }
     ensures bytes { block.new.items ≡ block_of payload.now }

@@ -11,8 +11,8 @@ pub enum JournalFault {
     /// The disk has fewer than 9 bytes, or does not begin with the magic.
     #[error("not a store")]
     NotAStore,
-    /// The byte at this place is to be a gate, and is neither 0 nor 1; or it is 1, and the record
-    /// behind it, or the gate behind that, passes the end.
+    /// The byte at this offset should be a gate, but it is neither 0 nor 1; or it is 1, and the
+    /// record after it, or the gate after that, extends past the end.
     #[error("damaged at {place}")]
     Damaged { place: u64 },
     /// The disk failed, and has counted it.

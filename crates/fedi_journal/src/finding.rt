@@ -16,18 +16,18 @@ use std::alloc::Global;
 /// The bytes that a journal begins with.
 pub const MAGIC: [u8; 8] = *b"FEDIJRN1";
 
-/// What stands at a gate.
+/// What is found at a gate.
 #[derive(Clone, Copy)]
 pub enum Gate {
     /// It is closed: there are no more records.
     Closed,
-    /// It is open, and a record of this length stands behind it.
+    /// It is open, and a record of this length follows it.
     Open(u64),
-    /// It is no gate, or what stands behind it passes the end.
+    /// It is not a valid gate, or what follows it extends past the end.
     Bad,
 }
 
-// Whether the byte there is a closed gate.
+// Whether the byte at this offset is a closed gate.
 fn is_closed<D: Disk>(disk: &mut D, gate: u64) -> Result<bool, Failed>
     requires inside { gate < (D.shown disk.old).size }
     ensures byte { IfOk result (λ yes. (bytes : List ℕ) → (D.shown disk.old).reads ≡ Some bytes
@@ -42,7 +42,7 @@ fn is_closed<D: Disk>(disk: &mut D, gate: u64) -> Result<bool, Failed>
     Ok(byte[0] == 0)
 }
 
-// The gate there, with the length of the record behind it if it is open.
+// The gate at this offset, with the length of the record after it if it is open.
 fn read_head<D: Disk>(disk: &mut D, gate: u64) -> Result<(u8, u64), Failed>
     requires inside { gate + 9 ≤ (D.shown disk.old).size }
     ensures byte { IfOk result (λ head. (bytes : List ℕ) → (D.shown disk.old).reads ≡ Some bytes
@@ -60,7 +60,7 @@ fn read_head<D: Disk>(disk: &mut D, gate: u64) -> Result<(u8, u64), Failed>
     Ok((head[0], number_of(&number)))
 }
 
-// What stands at this gate of a disk of this size.
+// What is found at this gate of a disk of this size.
 fn look<D: Disk>(disk: &mut D, gate: u64, size: u64) -> Result<Gate, Failed>
     requires size { size ≡ (D.shown disk.old).size }
     requires inside { gate < size }
@@ -86,8 +86,8 @@ fn look<D: Disk>(disk: &mut D, gate: u64, size: u64) -> Result<Gate, Failed>
     Ok(Gate::Open(length))
 }
 
-// The gates of the records of a disk of this size that begins with the magic, and where the closed
-// gate stands.
+// The gates of the records of a disk of this size that begins with the magic, and the offset of the
+// closed gate.
 fn scan<D: Disk>(alloc: Global, disk: &mut D, size: u64) -> Result<(Vec<u64>, u64), JournalFault>
     requires size { size ≡ (D.shown disk.old).size }
     requires long { 8 < size }
@@ -140,7 +140,7 @@ fn is_store<D: Disk>(disk: &mut D, size: u64) -> Result<bool, Failed>
     Ok(first == MAGIC)
 }
 
-// Syncs the disk, and asks its size.
+// Syncs the disk, and asks for its size.
 fn synced_size<D: Disk>(disk: &mut D) -> Result<u64, Failed>
     ensures size { IfOk result (λ size. size ≡ (D.shown disk.new).size) }
     ensures only { OnOk result ((bytes : List ℕ) → (D.shown disk.old).reads ≡ Some bytes
@@ -154,7 +154,7 @@ fn synced_size<D: Disk>(disk: &mut D) -> Result<u64, Failed>
     disk.len()
 }
 
-// The gates of the records of a disk, and where the closed gate stands. It syncs before it reads,
+// The gates of the records of a disk, and the offset of the closed gate. It syncs before it reads,
 // so that a crash leaves what it finds.
 fn find_gates<D: Disk>(alloc: Global, disk: &mut D) -> Result<(Vec<u64>, u64), JournalFault>
     ensures found { IfOk result (λ found. (bytes : List ℕ) → (D.shown disk.old).reads ≡ Some bytes
@@ -180,7 +180,8 @@ fn find_gates<D: Disk>(alloc: Global, disk: &mut D) -> Result<(Vec<u64>, u64), J
     scan(alloc, disk, size)
 }
 
-// Reads the byte there and writes it again. Since the disk is synced, a crash leaves it as it was.
+// Reads the byte at this offset and writes it again. Since the disk is synced, a crash leaves it as
+// it was.
 fn rewrite<D: Disk>(disk: &mut D, at: u64) -> Result<(), Failed>
     requires inside { at < (D.shown disk.old).size }
     requires synced { IfSome (D.shown disk.old).reads (LeavesOnly (D.crashes disk.old)) }
@@ -196,7 +197,7 @@ fn rewrite<D: Disk>(disk: &mut D, at: u64) -> Result<(), Failed>
 }
 
 // Writes the last open gate and the closed one again, and syncs. An earlier process may have failed
-// to sync one of them: then reads give it, and the disk may not have it, though the next sync
+// to sync one of them. Reads then give it, but the disk may not have it, even though the next sync
 // succeeds.
 fn rewrite_gates<D: Disk>(disk: &mut D, gates: &[u64], end: u64) -> Result<(), Failed>
     requires apart { are_apart 9 gates.now end ≡ true }
@@ -215,9 +216,9 @@ fn rewrite_gates<D: Disk>(disk: &mut D, gates: &[u64], end: u64) -> Result<(), F
     disk.sync()
 }
 
-/// The gates of the records of a disk, and where the closed gate stands. It syncs before it reads,
-/// and again what it found, so that a crash leaves that. Whatever the answer, reads give the same
-/// bytes, and a crash leaves nothing new.
+/// The gates of the records of a disk, and the offset of the closed gate. It syncs before it reads,
+/// and syncs again what it found, so that a crash leaves that. Whatever the result, reads give the
+/// same bytes, and a crash leaves nothing new.
 pub fn find<D: Disk>(alloc: Global, disk: &mut D) -> Result<(Vec<u64>, u64), JournalFault>
     ensures found { IfOk result (λ found. (bytes : List ℕ) → (D.shown disk.old).reads ≡ Some bytes
         → IsFound plain found.0.items found.1 bytes) }

@@ -16,36 +16,36 @@ use crate::making::make;
 use fedi_outside::{Disk, Failed, Keeper, LoadFault, ReserveFault, write_synced};
 use std::alloc::Global;
 
-/// The last end of a keeper.
+/// The greatest end of a keeper.
 const LIMIT: u64 = 1 << 62;
 
-/// By how much more than its length a record moves the end: its gate, and its length in eight
+/// How much further than its length a record moves the end: its gate, and its length in eight
 /// bytes.
 const GROWTH: u64 = 9;
 
-/// How much more than its length a record needs below the limit: the next gate too.
+/// How much room beyond its length a record needs below the limit: the next gate too.
 const ROOM: u64 = 10;
 
-/// A keeper of records on a disk. It tells its records, and what a crash may leave of them, if the
-/// disk tells its bytes.
+/// A keeper of records on a disk. It reports its records, and what a crash may leave of them, if
+/// the disk reports its bytes.
 ///
-/// Behind the magic stands a gate for each record: a byte 1, the length of the record in eight
-/// bytes, the highest first, and the record. Behind the last one stands a gate that is closed, a
-/// byte 0, and then anything. So what is written behind the closed gate counts for nothing until
-/// the gate is opened, by a write of one byte, which no crash can tear.
+/// After the magic there is a gate for each record: a byte 1, the length of the record in eight
+/// bytes, the most significant first, and the record. After the last one there is a closed gate, a
+/// byte 0, and then anything. So what is written after the closed gate has no effect until the gate
+/// is opened by a write of one byte, which no crash can tear.
 #[derive(Drop)]
 pub struct Journal<D: Disk> {
     disk: D,
-    // Where the gates of the records stand.
+    // The offsets of the gates of the records.
     gates: Vec<u64>,
-    // Where the closed gate stands.
+    // The offset of the closed gate.
     end: u64,
-    // What was last written behind the closed gate: the length of a record, the record, and a
-    // closed gate.
+    // What was last written after the closed gate: the length of a record, the record, and a closed
+    // gate.
     block: Vec<u8>,
     // Whether the gate before it may have been opened.
     in_doubt: bool,
-    // A record that is shorter than this has room.
+    // Any record shorter than this has room.
     spare: usize,
     ghost room: { 0 < spare
         → (spare + 8 ≤ vec_capacity block) × (vec_len gates < vec_capacity gates) },
@@ -64,14 +64,14 @@ impl<D: Disk> Journal<D> {
     ghost use Rattle.fedi_journal.specs.Opening.{disk_after, disk_of};
 
     /// Opens the records of a disk. It syncs before it reads, so that a crash leaves what it finds.
-    /// Then it writes the last open gate and the closed one again, which an earlier process may
-    /// have failed to sync, and syncs once more. Whatever the answer, reads give the same bytes,
+    /// Then it writes the last open gate and the closed gate again, which an earlier process may
+    /// have failed to sync, and syncs once more. Whatever the result, reads give the same bytes,
     /// and a crash leaves nothing new.
     ///
     /// Each error hands the disk back: `NotAStore` if it has fewer than 9 bytes or does not begin
-    /// with the magic, `Damaged` with the place of the first gate that is not as it should be,
-    /// `Failed` if the disk failed, and `Memory`, only if it begins with the magic, if out of
-    /// memory.
+    /// with the magic, `Damaged` with the offset of the first malformed gate, `Failed` if the disk
+    /// failed, and `Memory` if memory runs out, which can only happen if the disk begins with the
+    /// magic.
     pub fn open(alloc: Global, disk: D) -> Result<Journal<D>, (JournalFault, D)>
         ensures found { IfOk result (λ journal. (bytes : List ℕ) → (D.shown disk).reads ≡ Some bytes
             → (rs : List (List ℕ)) × IsImage plain rs bytes
@@ -107,11 +107,11 @@ impl<D: Disk> Journal<D> {
         }
     }
 
-    /// Makes a disk a journal without records, and syncs it. Each error hands the disk back:
-    /// `Exists` if it has more than 9 bytes and does not begin with the magic and a closed gate,
-    /// and its bytes are as before; `Failed` if the disk failed, and then its first nine bytes may
-    /// be torn, so that it can be made a journal again. But other bytes stay, whatever the answer:
-    /// reads give the same, and a crash leaves nothing new. It takes no memory.
+    /// Makes a disk a journal without records, and syncs it. Each error hands the disk back.
+    /// `Exists` if it has more than 9 bytes and does not begin with the magic and a closed gate;
+    /// its bytes are as before. `Failed` if the disk failed; its first nine bytes may then be torn,
+    /// so that it can be made a journal again. But other bytes stay, whatever the result: reads
+    /// give the same, and a crash leaves nothing new. It allocates no memory.
     pub fn init(alloc: Global, disk: D) -> Result<Journal<D>, (InitFault, D)>
         ensures shown { IfOk result (λ journal. ⟦<Journal<D> as Keeper>⟧.shown journal
             ≡ blank_shown (D.shown disk)) }
@@ -141,7 +141,7 @@ impl<D: Disk> Journal<D> {
         }
     }
 
-    /// Its disk. Each image that a crash may leave of it is a file of the records, or of these with
+    /// Its disk. Each image that a crash may leave of it is a file of the records, or of these and
     /// the one in doubt.
     pub fn into_disk(self) -> D
         ensures disk { result ≡ disk_of self }
@@ -155,8 +155,8 @@ impl<D: Disk> Journal<D> {
     }
 }
 
-// Where the record at this place begins, and how many bytes it has, by the gates of all records and
-// the closed gate behind them.
+// The offset and the length of the record at this index, by the gates of all records and the closed
+// gate after them.
 fn span_of(gates: &[u64], end: u64, place: u64) -> Option<(u64, u64)>
     requires apart { are_apart 9 gates.now end ≡ true }
     requires fits { end < 2 ^ 64 }
@@ -255,8 +255,8 @@ impl<D: Disk> Keeper for Journal<D> {
             (Some payload.now)
             (⟦<Journal<D> as Keeper>⟧.crashes self.old)
             (⟦<Journal<D> as Keeper>⟧.crashes self.new) }
-        // A crash on the way leaves an image from before, or a file of the records, or of these
-        // and the payload.
+        // A crash during the call leaves an image from before, or a file of the records, or of
+        // these and the payload.
         ensures images { (kept : List (List ℕ))
             → (⟦<Journal<D> as Keeper>⟧.shown self.old).records ≡ Some kept
             → Elapses (D.crashes (disk_of self.old)) (D.crashes (disk_of self.new))

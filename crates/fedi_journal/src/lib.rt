@@ -1,4 +1,4 @@
-//! A journal: records on a disk, each whole there or not at all, whenever the program stops.
+//! A journal: records on a disk, each of them whole or absent, whenever the program stops.
 #![tactic(auto)]
 
 mod blocks;

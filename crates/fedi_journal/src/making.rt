@@ -31,9 +31,9 @@ fn is_blank<D: Disk>(disk: &mut D, size: u64) -> Result<bool, Failed>
 }
 
 /// Makes a disk a journal without records: writes the magic and a closed gate and syncs, or only
-/// syncs if they are there. `Exists` if it has more than 9 bytes that begin with others; `Failed`
-/// if the disk failed, and then its first nine bytes may be torn. But other bytes stay, whatever
-/// the answer: reads give the same, and a crash leaves nothing new.
+/// syncs if they are there already. `Exists` if the disk has more than 9 bytes and begins with
+/// others; `Failed` if the disk failed, and then its first nine bytes may be torn. But other bytes
+/// stay, whatever the result: reads give the same, and a crash leaves nothing new.
 pub fn make<D: Disk>(disk: &mut D) -> Result<(), InitFault>
     ensures written { OnOk result
         ((D.shown disk.new).reads ≡ option_map (spliced 0 blank) (D.shown disk.old).reads) }

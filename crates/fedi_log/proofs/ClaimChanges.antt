@@ -27,7 +27,7 @@ use Rattle.fedi_log.specs.declared.items.What.{What}
 use Rattle.fedi_log.specs.declared.items.What.TheVariants.{Marked, Released}
 use Rattle.fedi_log.specs.Log.{Log, made_by}
 
--- ---- one row in place of another
+-- ---- one row replaced by another
 
 any-beside : (q : QueueRow → Bool) (before : List QueueRow) (x y : QueueRow) (after : List QueueRow) → q x ≡ q y
     → list_any q (before ++ x ∷ after) ≡ list_any q (before ++ y ∷ after)
@@ -36,7 +36,7 @@ any-beside q before x y after same =
     ∙ ap (λ (b : Bool). list_any q before || (b || list_any q after)) same
     ∙ sym (list_any-append q before (y ∷ after))
 
--- a row that the claim is not of, before and after its change
+-- a row that is not that of the claim, before and after its change
 row-beside : (acts : List Act) (rows before : List QueueRow) (x y : QueueRow) (after : List QueueRow) (p : Pair) (c : Claim) → rows ≡ before ++ x ∷ after
     → is_claimed_at c.activity c.recipient x ≡ false → is_claimed_at c.activity c.recipient y ≡ false → IsRowFor acts rows p c
     → IsRowFor acts (before ++ y ∷ after) p c
@@ -94,7 +94,7 @@ of-pair acts p q row own =
           not_both (is_same_pair q p) (subst (λ (s : Pair). is_same_pair q s ≡ true) (only_pair acts q p row both own) (own_pair q)) differs)
     ] refl
 
--- ---- a claim is given up
+-- ---- a claim ends
 
 -- after an item that ends the claim of a delivery, and that is no claim, the row is released
 record Ends (p : Pair) (what : What) : Type 0 where
@@ -146,7 +146,7 @@ claims-ended h by rows new log p c what legal are ends mine made stand =
           stand.apart one other q d k (older by one log what q d (ends.none q d) has).before (older by other log what q k (ends.none q k) also).before;
     })
   where
-    -- a row that is at both places is found at both
+    -- a row that is at both positions is found at both
     same-row : (rows : List QueueRow) (c d : Claim) (x y : QueueRow) → find (is_claimed_at c.activity c.recipient) rows ≡ Some x
         → find (is_claimed_at d.activity d.recipient) rows ≡ Some y
         → is_claimed_at d.activity d.recipient x ≡ true → is_claimed_at c.activity c.recipient x ≡ true → y ≡ x
@@ -185,7 +185,7 @@ free-parts m row free = let parts = and_parts (not row.claimed) (nat_le row.due 
     by true e = absurd cc
     by false e = refl
 
--- a row of it is claimed
+-- there is a claimed row of it
 any-for : (acts : List Act) (rows : List QueueRow) (q : Pair) (d : Claim) → IsRowFor acts rows q d → list_any (is_claimed_for acts q) rows ≡ true
 unfolding is_claimed_for
 any-for acts rows q d is =
@@ -271,7 +271,7 @@ claims_claimed h by rows new log m x p c legal are first is_claim made named to 
           (stand.apart one other q d k);
     })
   where
-    -- the row of a claim is the one at its place
+    -- the row of a claim is the one at its position
     not-there : (acts : List Act) (rows before : List QueueRow) (x : QueueRow) (after : List QueueRow) (q : Pair) (d : Claim) → rows ≡ before ++ x ∷ after
         → PassesOnce (is_at d.activity d.recipient) rows → x.claimed ≡ false → IsRowFor acts rows q d → is_at d.activity d.recipient x ≡ false
     not-there acts rows before x after q d split once none is =

@@ -1,5 +1,5 @@
--- The rows of a queue, of which some are claimed: each is of a delivery of its own, at a place of
--- its own.
+-- The rows of a queue, some of which are claimed: each is of a delivery of its own and has a
+-- position of its own.
 use Rattle.std.proofs.Common.{inl, inr, ◌⊎◌, ◌≡◌, ◌≤◌, ℕ, zero, suc, arith, Bool, true, false, List, [], ◌∷◌, ◌++◌, length, Option, Some, None, refl, sym, ap, subst, ◌∙◌, append_assoc}
 use Rattle.std.specs.Prelude.{◌&&◌, is_some, map, nat_eq, option_and_then, option_to_list, slice_get, if◌then◌else◌}
 use Rattle.std.specs.List.{list_all, list_any}
@@ -26,11 +26,11 @@ use Rattle.fedi_town.specs.Queues.{Due, Ended}
 use Rattle.fedi_town.specs.Relations.{has_activity_id, is_id}
 use Rattle.fedi_town.specs.Towns.{Town, empty_town}
 
--- the rows of a town, of which some are claimed
+-- the rows of a town, some of which may be claimed
 abbrev pub AreRowsOf : Town → List QueueRow → Type 0
 AreRowsOf t rows = map release rows ≡ rows_of t
 
--- ---- each row has a place of its own
+-- ---- each row has a position of its own
 
 any-row : (a p : ℕ) (b : Bool) (n k : ℕ) (r : List ℕ) (g : Progress) → list_any (is_at a p) (row_where b n k r g) ≡ true → (n ≡ a) × (k ≡ p)
 unfolding is_at
@@ -101,7 +101,7 @@ places-once : (t : Town) (a p : ℕ) → PassesOnce (is_at a p) (rows_of t)
 unfolding rows_of
 places-once t a p = from-once t (is_at_peer t) a p 0 t.acts
 
--- what is claimed of the rows does not matter
+-- it does not matter which rows are claimed
 any-released : (p : QueueRow → Bool) (rows : List QueueRow) → ((row : QueueRow) → p (release row) ≡ p row) → list_any p (map release rows) ≡ list_any p rows
 any-released p [] same = refl
 any-released p (row ∷ rows) same = rw (same row, any-released p rows same) refl
@@ -130,7 +130,7 @@ one_of h rows id r legal same =
     let p = is_row_of (town h).acts id r in
     once-released p rows (of-released (town h).acts id r) (subst (λ (ys : List QueueRow). PassesOnce p ys) (sym same) (one_row h id r legal))
 
--- which delivery that is: of the activity with this id
+-- which delivery that is: the one of the activity with this id
 pub of_id : (acts : List Act) (id r : List ℕ) (row : QueueRow) → is_row_of acts id r row ≡ (is_id id (id_at acts row.activity) && bytes_eq row.recipient r)
 unfolding is_row_of has_activity_id
 of_id acts id r row = by (slice_get acts row.activity) refl
@@ -204,7 +204,7 @@ unfolding rows_of
 ids_of t rows same =
     sym (all-released t.acts rows) ∙ ap (λ (ys : List QueueRow). list_all (has_id t.acts) ys) same ∙ from-ids t (is_at_peer t) [] t.acts 0 refl refl
 
--- ---- ids stay when more is accepted
+-- ---- ids stay when more activities are accepted
 
 mapped-id : (f : Act → Act) (acts more : List Act) (n : ℕ) (id : List ℕ) → ((y : Act) → (f y).activity.id ≡ y.activity.id) → id_at acts n ≡ Some id
     → id_at (map f acts ++ more) n ≡ Some id
@@ -242,7 +242,7 @@ same-id : (own now : Option (List ℕ)) → is_some own ≡ true → ((id : List
 same-id None now some stays = absurd cc
 same-id (Some id) now some stays = stays id refl
 
--- so a row of an activity with an id stays one of its delivery
+-- so a row of an activity with an id remains one of its delivery
 pub of_stays : (h : List Entry) (e : Entry) (id r : List ℕ) (row : QueueRow) → has_id (town h).acts row ≡ true
     → is_row_of (town (h ++ e ∷ [])).acts id r row ≡ is_row_of (town h).acts id r row
 unfolding has_id

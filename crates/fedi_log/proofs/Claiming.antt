@@ -19,9 +19,9 @@ use Rattle.fedi_log.specs.declared.items.What.{What}
 use Rattle.fedi_log.specs.declared.items.What.TheVariants.{Entered, Marked, Claimed, Released}
 use Rattle.fedi_log.specs.Log.{Goes, IsOthers, Log, given, is_same_pass, made_by}
 
--- ---- the last of a pass
+-- ---- the last item of a pass
 
--- the last of a pass after this item
+-- the last item of a pass after this one
 abbrev pub last_after : Option ℕ → Option What → Item → Option What
 last_after by last i = if is_same_pass by i.pass then Some i.what else last
 
@@ -29,7 +29,7 @@ pub last_more : (by other : Option ℕ) (log : Log) (what : What)
     → last_of other (log ++ made_by by what ∷ []) ≡ (if is_same_pass other by then Some what else last_of other log)
 last_more by other log what = fold_push (last_after other) None log (made_by by what)
 
--- what a pass has just claimed is the last that it did
+-- a claim that a pass has just made is the last thing that it did
 pub has_claimed_now : (by : Option ℕ) (log : Log) (p : Pair) (c : Claim) → HasClaimed by (log ++ made_by by (claimed_by p c) ∷ []) p c
 has_claimed_now by log p c =
     last_more by by log (claimed_by p c) ∙ ap (λ (b : Bool). if b then Some (claimed_by p c) else last_of by log) (own_pass by)
@@ -40,7 +40,7 @@ others_last by last (i ∷ rest) a =
     ap (λ (b : Bool). fold (last_after by) (if b then Some i.what else last) rest) (other_pass by i.pass (All-head (IsOthers by) i rest a))
     ∙ others_last by last rest (All-tail (IsOthers by) i rest a)
 
--- items of others leave what a pass did last
+-- items of others do not change what a pass did last
 pub still_last : (by : Option ℕ) (seen log : Log) → Goes by seen log → last_of by log ≡ last_of by seen
 still_last by seen log g =
     ap (last_of by) g.is ∙ fold-append (last_after by) None seen g.rest ∙ others_last by (last_of by seen) g.rest g.others
@@ -55,7 +55,7 @@ claimed_is acts rows log by p c stand has = stand.held by p c has
 
 -- ---- claims that are older than the last item
 
--- the last that this pass did was this claim, and the item after it is of another pass
+-- the last thing that this pass did was this claim, and the item after it is of another pass
 pub record IsOlder (by other : Option ℕ) (log : Log) (p : Pair) (c : Claim) : Type 0 where
   pub apart : by ≢ other
   pub before : HasClaimed other log p c
@@ -63,7 +63,7 @@ pub record IsOlder (by other : Option ℕ) (log : Log) (p : Pair) (c : Claim) : 
 same_then : (by other : Option ℕ) → is_same_pass other by ≡ false → by ≢ other
 same_then by other differs is = not_both (is_same_pass other by) (subst (λ (o : Option ℕ). is_same_pass o by ≡ true) is (own_pass by)) differs
 
--- after an item that is not this claim, the pass that has claimed it so had done so before
+-- after an item that is not this claim, a pass that has made this claim had made it before
 pub older : (by other : Option ℕ) (log : Log) (what : What) (p : Pair) (c : Claim) → what ≢ claimed_by p c
     → HasClaimed other (log ++ made_by by what ∷ []) p c → IsOlder by other log p c
 older by other log what p c differs has =
@@ -111,7 +111,7 @@ same_pair p q same =
 pub own_pair : (p : Pair) → is_same_pair p p ≡ true
 own_pair p = rw (bytes_eq-same p.activity, bytes_eq-same p.recipient) refl
 
--- an item that is a claim says which
+-- the delivery of an item that is a claim
 abbrev pair_in : Pair → What → Pair
 pair_in d (Entered e) = d
 pair_in d (Marked e) = d
@@ -127,9 +127,9 @@ claim_in d (Released p) = d
 pub same_claim : (p q : Pair) (c d : Claim) → claimed_by p c ≡ claimed_by q d → (p ≡ q) × (c ≡ d)
 same_claim p q c d same = (ap (pair_in p) same, ap (claim_in c) same)
 
--- ---- a log that is given
+-- ---- a given log
 
--- the last is no claim
+-- the last item is no claim
 abbrev IsNoClaim : Option What → Type 0
 IsNoClaim None = Unit {0}
 IsNoClaim (Some (Entered e)) = Unit {0}
@@ -161,7 +161,7 @@ pub and_yes : (a : Bool) → (a && true) ≡ a
 and_yes true = refl
 and_yes false = refl
 
--- what the keeper failed to keep of no attempt leaves each claim
+-- an entry that is of no attempt and was not kept leaves each claim
 pub claims_marked : (e : Entry) (by : Option ℕ) (acts : List Act) (rows : List QueueRow) (log : Log) → ((p : Pair) → tries p e ≡ false)
     → ClaimsStand acts rows log
     → ClaimsStand acts rows (log ++ made_by by (Marked e) ∷ [])

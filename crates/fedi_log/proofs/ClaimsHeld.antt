@@ -44,7 +44,7 @@ held-row : (c : Claim) (row : QueueRow) → is_claimed_at c.activity c.recipient
 unfolding is_held_by
 held-row c row own due = rw (own, due) refl
 
--- the row that is claimed at the place of the claim
+-- the claimed row at the position of the claim
 pub record IsRowFor (acts : List Act) (rows : List QueueRow) (p : Pair) (c : Claim) : Type 0 where
   pub row : QueueRow
   pub found : find (is_claimed_at c.activity c.recipient) rows ≡ Some row
@@ -76,7 +76,7 @@ claim_for acts rows p c is =
       sent_to = ap (λ (o : Option QueueRow). option_map (λ (row : QueueRow). row.recipient) o) is.found ∙ ap (λ (r : List ℕ). Some r) is.sent_to;
     }
 
--- it is claimed, and of the delivery
+-- it is claimed, and is of the delivery
 pub row_claimed : (acts : List Act) (rows : List QueueRow) (p : Pair) (c : Claim) (is : IsRowFor acts rows p c) → is.row.claimed ≡ true
 row_claimed acts rows p c is =
     (claimed_at c.activity c.recipient is.row (first_in (is_claimed_at c.activity c.recipient) rows is.row is.found).passes).0
@@ -102,7 +102,7 @@ pub for_parts : (acts : List Act) (p : Pair) (row : QueueRow) → is_claimed_for
 unfolding is_claimed_for
 for_parts acts p row is = and_parts row.claimed (is_row_of acts p.activity p.recipient row) is
 
--- ---- what is claimed stays so
+-- ---- what is claimed stays claimed
 
 is-claimed : (row : QueueRow) → row.claimed ≡ true → is_claimed row ≡ true
 unfolding is_claimed
@@ -112,7 +112,7 @@ stays-on : (acts : List Act) (e : Entry) (row : QueueRow) → row.claimed ≡ tr
 unfolding stays_claimed
 stays-on acts e row own none = and_from row.claimed (not (is_tried acts e row)) own (not_from_false (is_tried acts e row) none)
 
--- an entry that is of no attempt tries no row
+-- an entry that records no attempt records none for a row
 pub untried : (acts : List Act) (e : Entry) (row : QueueRow) → ((p : Pair) → tries p e ≡ false) → is_tried acts e row ≡ false
 unfolding is_tried
 untried acts (Hosted host moment) row none = refl
@@ -131,7 +131,7 @@ pub stays_all : (acts : List Act) (e : Entry) (rows : List QueueRow) → ((p : P
     → filter (stays_claimed acts e) rows ≡ filter is_claimed rows
 stays_all acts e rows none = filter_same (stays_claimed acts e) is_claimed rows (λ row. stays-same acts e row (untried acts e row none))
 
--- a claim whose delivery the entry does not try
+-- a claim whose delivery the entry does not attempt
 pub row_stays : (acts now : List Act) (e : Entry) (rows new : List QueueRow) (p : Pair) (c : Claim) (is : IsRowFor acts rows p c)
     → filter is_claimed new ≡ filter (stays_claimed acts e) rows → is_tried acts e is.row ≡ false → id_at now c.activity ≡ Some p.activity
     → IsRowFor now new p c
@@ -147,7 +147,7 @@ row_stays acts now e rows new p c is same none named =
       sent_to = is.sent_to;
     }
 
--- ---- a log that is given
+-- ---- a given log
 
 none-claimed : (acts : List Act) (p : Pair) (rows : List QueueRow) → filter is_claimed rows ≡ [] → list_any (is_claimed_for acts p) rows ≡ false
 none-claimed acts p rows none =
@@ -198,7 +198,7 @@ claims_kept h e by rows new log are none same stand =
           (older by other log (Entered e) p d (entered-none e p d) also).before;
     }
 
--- ---- what came of an attempt is kept
+-- ---- the outcome of an attempt is kept
 
 tried-is : (acts : List Act) (p : Pair) (came : Came) (m : ℕ) (row : QueueRow)
     → is_tried acts (Tried p.activity p.recipient came m) row ≡ is_row_of acts p.activity p.recipient row
@@ -230,7 +230,7 @@ left-claimed acts p q came m rows =
           not_both (is_same_pair q p) (subst (λ (s : Pair). is_same_pair q s ≡ true) same (own_pair q)) own))))
     ] refl
 
--- the claim is spent, and those of others stay
+-- the claim is used up, and those of others stay
 pub claims_recorded : (h : List Entry) (by : Option ℕ) (rows new : List QueueRow) (log : Log) (p : Pair) (c : Claim) (came : Came) (m : ℕ)
     → AreRowsOf (town h) rows
     → HasClaimed by log p c → filter is_claimed new ≡ filter (stays_claimed (town h).acts (Tried p.activity p.recipient came m)) rows

@@ -1,4 +1,5 @@
--- The first that passes a test, and what stays of it after a change or in a part of a list.
+-- The first element that passes a test, and what remains of it after a change or in a part of a
+-- list.
 use Rattle.std.proofs.Common.{◌≡◌, Bool, true, false, List, [], ◌∷◌, ◌++◌, Option, Some, None, refl, sym, ap, subst, ◌∙◌}
 use Rattle.std.specs.Prelude.{◌||◌, filter, if◌then◌else◌}
 use Rattle.std.specs.List.{find, list_all, list_any}
@@ -10,7 +11,7 @@ use Rattle.fedi_town.specs.Lists.{PassesOnce}
 
 -- ---- what is before and after it
 
--- the first that passes, between others
+-- the first that passes, with the elements before and after it
 pub record IsFirstIn {A : Type 0} (p : A → Bool) (xs : List A) (x : A) : Type 0 where
   pub before : List A
   pub after : List A
@@ -34,7 +35,7 @@ pub find_past : {A : Type 0} (q : A → Bool) (before rest : List A) → list_an
 find_past q [] rest none = refl
 find_past q (y ∷ before) rest none = let parts = or_parts (q y) (list_any q before) none in rw parts.0 (find_past q before rest parts.1)
 
--- what passes behind others that do not is found
+-- an element that passes, after others that do not, is found
 pub find_at : {A : Type 0} (q : A → Bool) (before : List A) (x : A) (after : List A) → list_any q before ≡ false → q x ≡ true
     → find q (before ++ x ∷ after) ≡ Some x
 find_at q before x after none passes = find_past q before (x ∷ after) none ∙ rw passes refl
@@ -42,11 +43,11 @@ find_at q before x after none passes = find_past q before (x ∷ after) none ∙
 pub any_there : {A : Type 0} (q : A → Bool) (before : List A) (x : A) (after : List A) → q x ≡ true → list_any q (before ++ x ∷ after) ≡ true
 any_there q before x after passes = list_any-append q before (x ∷ after) ∙ or_right (list_any q before) (list_any q (x ∷ after)) (rw passes refl)
 
--- what is found passes
+-- what is found passes the test
 pub found_any : {A : Type 0} (q : A → Bool) (xs : List A) (x : A) → find q xs ≡ Some x → list_any q xs ≡ true
 found_any q xs x found = let at = first_in q xs x found in ap (list_any q) at.is ∙ any_there q at.before x at.after at.passes
 
--- a change of the first that passes
+-- the first that passes is changed
 pub changed_in : {A : Type 0} (p : A → Bool) (f : A → A) (before : List A) (x : A) (after : List A) → list_any p before ≡ false → p x ≡ true
     → change_first p f (before ++ x ∷ after) ≡ before ++ f x ∷ after
 changed_in p f [] x after none passes = rw passes refl
@@ -54,7 +55,7 @@ changed_in {A} p f (y ∷ before) x after none passes =
     let parts = or_parts (p y) (list_any p before) none in
     rw parts.0 (ap (λ (zs : List A). y ∷ zs) (changed_in p f before x after parts.1 passes))
 
--- one among others in place of one, where neither passes, leaves which is found
+-- one element replaced by another, neither of which passes, does not change which one is found
 pub find_beside : {A : Type 0} (q : A → Bool) (before : List A) (x y : A) (after : List A) → q x ≡ false → q y ≡ false
     → find q (before ++ x ∷ after) ≡ find q (before ++ y ∷ after)
 find_beside q [] x y after one other = rw (one, other) refl
@@ -80,7 +81,7 @@ once_parts q (y ∷ before) x after once passes =
     false_from_ne_true (q y) (λ own. not_both (list_any q (before ++ x ∷ after)) (any_there q before x after passes) (once.0 own)) in
     (rw here rest.0, rest.1)
 
--- where at most one passes the wider test, and this one does, it alone may pass the narrower one
+-- if at most one passes the wider test, and this one does, it alone may pass the narrower one
 pub once_only : {A : Type 0} (q r : A → Bool) (before : List A) (x : A) (after : List A) → PassesOnce q (before ++ x ∷ after) → q x ≡ true
     → ((y : A) → r y ≡ true → q y ≡ true) → list_any r (before ++ x ∷ after) ≡ r x
 once_only q r before x after once passes implies =
@@ -100,7 +101,7 @@ once_found q r before x after once implies passes =
 
 -- ---- what a filter leaves
 
--- all that passes the first test
+-- everything that passes the first test is kept
 pub any_kept : {A : Type 0} (q s : A → Bool) (xs : List A) → ((x : A) → q x ≡ true → s x ≡ true) → list_any q (filter s xs) ≡ list_any q xs
 any_kept q s [] implies = refl
 any_kept {A} q s (x ∷ xs) implies =
@@ -121,7 +122,7 @@ find_kept {A} q s (x ∷ xs) implies =
           rw here (find_kept q s xs implies)
     ] refl
 
--- nothing that passes the first test
+-- nothing that passes the first test is kept
 pub any_gone : {A : Type 0} (q s : A → Bool) (xs : List A) → ((x : A) → q x ≡ true → s x ≡ false) → list_any q (filter s xs) ≡ false
 any_gone q s [] implies = refl
 any_gone {A} q s (x ∷ xs) implies =
@@ -132,7 +133,7 @@ any_gone {A} q s (x ∷ xs) implies =
       | false ↦ λ own. any_gone q s xs implies
     ] refl
 
--- the first that passes the first test, if it stays
+-- the first that passes the first test, if it is kept
 pub find_left : {A : Type 0} (q s : A → Bool) (xs : List A) (x : A) → find q xs ≡ Some x → s x ≡ true → find q (filter s xs) ≡ Some x
 find_left q s [] x found stays = absurd cc
 find_left {A} q s (y ∷ xs) x found stays =
@@ -154,7 +155,7 @@ pub filter_same : {A : Type 0} (p q : A → Bool) (xs : List A) → ((x : A) →
 filter_same p q [] same = refl
 filter_same p q (x ∷ xs) same = rw (same x, filter_same p q xs same) refl
 
--- on those that pass a third
+-- on the elements that pass a third
 pub any_same : {A : Type 0} (w q r : A → Bool) (xs : List A) → list_all w xs ≡ true → ((x : A) → w x ≡ true → q x ≡ r x) → list_any q xs ≡ list_any r xs
 any_same w q r [] all same = refl
 any_same w q r (x ∷ xs) all same =

@@ -1,4 +1,4 @@
--- The deliveries that are due and that nobody has claimed are those of the rows that are free.
+-- The deliveries that are due and not claimed are those of the free rows.
 use Rattle.std.proofs.Common.{◌≡◌, ℕ, Bool, true, false, List, [], ◌∷◌, ◌++◌, Option, Some, None, refl, sym, ap, subst, ◌∙◌, append_assoc}
 use Rattle.std.specs.Prelude.{◌&&◌, not, filter, is_some, map, nat_le, if◌then◌else◌}
 use Rattle.std.specs.List.{find, list_all, list_any}
@@ -77,13 +77,13 @@ row-taken h rows log before row after legal are stand split =
     (λ y is. (for_parts acts p y is).1)
     ∙ for-row acts row id.0 own
 
--- ---- the rows that are free
+-- ---- the free rows
 
 -- nobody has claimed the delivery
 abbrev is_untaken : Log → Delivery → Bool
 is_untaken log d = not (is_taken_in log d.activity d.recipient)
 
--- of one row more
+-- the same with one row more
 one-freed : (log : Log) (acts : List Act) (m : ℕ) (row : QueueRow) (ds : List Delivery) (free : List QueueRow)
     → is_taken_in log (id_at acts row.activity) row.recipient ≡ row.claimed
     → filter (is_untaken log) ds ≡ map (delivery_in acts) free
@@ -124,7 +124,7 @@ freed h rows log m before (row ∷ after) legal are stand split =
     ∙ one-freed log acts m row ds (filter (is_free_at m) after) (row-taken h rows log before row after legal are stand split)
     (freed h rows log m (before ++ row ∷ []) after legal are stand next)
 
--- the deliveries that are free, as the free rows say them
+-- the free deliveries, as the free rows give them
 free-rows : (h : List Entry) (rows : List QueueRow) (log : Log) (m : ℕ) → IsLegal h → AreRowsOf (town h) rows → ClaimsStand (town h).acts rows log
     → h ≡ history_of log
     → free_in log m ≡ map (delivery_in (town h).acts) (filter (is_free_at m) rows)
@@ -137,7 +137,7 @@ free-rows h rows log m legal are stand of =
     ∙ ap (λ (ys : List QueueRow). filter (is_due_by m) (map (delivery_in t.acts) ys)) (sym are))
     ∙ freed h rows log m [] rows legal are stand refl
 
--- the first row that is free is of the first delivery that is
+-- the first free row is of the first free delivery
 pub first_free : (h : List Entry) (rows : List QueueRow) (log : Log) (m : ℕ) (row : QueueRow) (id r : List ℕ) → IsLegal h → AreRowsOf (town h) rows
     → ClaimsStand (town h).acts rows log → h ≡ history_of log → find (is_free_at m) rows ≡ Some row → id_at (town h).acts row.activity ≡ Some id
     → row.recipient ≡ r
@@ -147,7 +147,7 @@ first_free h rows log m row id r legal are stand of found named to =
     subst (λ (ds : List Delivery). IsFirst id r ds)
     (sym (free-rows h rows log m legal are stand of ∙ ap (map (delivery_in (town h).acts)) first.1)) (named, to)
 
--- and where no row is free, no delivery is
+-- and if no row is free, no delivery is
 pub none_free : (h : List Entry) (rows : List QueueRow) (log : Log) (m : ℕ) → IsLegal h → AreRowsOf (town h) rows → ClaimsStand (town h).acts rows log
     → h ≡ history_of log
     → find (is_free_at m) rows ≡ None → free_in log m ≡ []

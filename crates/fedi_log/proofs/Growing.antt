@@ -10,7 +10,7 @@ use Rattle.fedi_log.specs.declared.items.Item.{Item}
 use Rattle.fedi_log.specs.declared.items.What.{What}
 use Rattle.fedi_log.specs.Log.{Added, Failed, Full, Goes, IsOthers, Kept, Log, NoEntry, Outcome, doubts_after, doubts_of, entry_in, failed_in, given, history_of, is_same_pass, items_of, made_by, mark_in, marks_of}
 
--- ---- a log that is given
+-- ---- a given log
 
 pub given_history : (history : List Entry) → history_of (given history) ≡ history
 given_history [] = refl
@@ -20,7 +20,7 @@ pub given_marks : (history : List Entry) → marks_of (given history) ≡ []
 given_marks [] = refl
 given_marks (e ∷ history) = given_marks history
 
--- ---- what was seen stays at the front
+-- ---- what was seen stays at the beginning
 
 pub goes_here : (by : Option ℕ) (log : Log) → Goes by log log
 goes_here by log = record { rest = []; is = sym (append-nil log); others = All-nil (IsOthers by) }
@@ -74,7 +74,7 @@ added_both by a b c xs ys f g = record {
   own = filter-append (λ (i : Item). is_same_pass by i.pass) f.rest g.rest ∙ (λ k. f.own k ++ g.own k);
 }
 
--- ---- what a log says, of two parts
+-- ---- what a log of two parts says
 
 pub history_append : (a b : Log) → history_of (a ++ b) ≡ history_of a ++ history_of b
 history_append a b = flat_map-append (λ (i : Item). entry_in i.what) a b

@@ -1,4 +1,4 @@
--- A machine stands for a log, turn by turn.
+-- A machine holds a log, turn by turn.
 use Rattle.std.proofs.Common.{◌≡◌, ◌⊎◌, ℕ, suc, ◌+◌, ◌-◌, ◌^◌, ◌≤◌, min, max, List, [], ◌∷◌, ◌++◌, length, map, drop, All, Option, Some, None, option_map, IfSome, inl, inr, refl, sym, ap, subst, ◌∙◌, append_assoc, append-nil, length-append, arith}
 use Rattle.std.specs.Prelude.{Contains, option_to_list}
 use Rattle.std.specs.List.{sum_by}
@@ -21,7 +21,7 @@ same_records : (a : Option (List (List ℕ))) → a ≡ with_records a []
 same_records None = refl
 same_records (Some records) = ap Some (sym (append-nil records))
 
--- nothing was to be kept
+-- there was nothing to keep
 pub unchanged : (growth : ℕ → ℕ) (before after : State) → after.history ≡ before.history → after.keeper.records ≡ before.keeper.records
     → after.keeper.end ≡ before.keeper.end → after.keeper.doubt ≡ before.keeper.doubt → after.keeper.faults ≡ before.keeper.faults → Follows growth before after NoEntry
 unchanged growth before after history records end doubt faults = record {

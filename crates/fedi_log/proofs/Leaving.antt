@@ -1,4 +1,4 @@
--- What a crash leaves at once, and how many records.
+-- What a crash leaves right after the opening, and how many records.
 use Rattle.std.proofs.Common.{◌≡◌, ◌⊎◌, ℕ, ◌+◌, ◌≤◌, List, [], ◌∷◌, ◌++◌, length, map, Option, Some, None, inl, inr, refl, sym, ap, ◌∙◌, append-nil, arith, length-append, length-drop}
 use Rattle.std.specs.Prelude.{Contains, option_to_list}
 use Rattle.std.proofs.lemmas.List.{length-map}
@@ -18,7 +18,7 @@ first_leaves kept None left is = inl (is ∙ sym (append-nil kept))
 first_leaves kept (Some d) left (inl is) = inl (is ∙ sym (append-nil kept))
 first_leaves kept (Some d) left (inr is) = inr (d, (0, omega arith, refl), is ∙ ap (λ (rs : List (List ℕ)). rs ++ d ∷ []) (sym (append-nil kept)))
 
--- what a crash leaves at the opening it may leave along each log
+-- what a crash leaves at the opening, it may leave along each log
 pub left_first : (b : Base) (log : Log) (kept left : List (List ℕ)) → MayLeave kept b.shown.doubt left → IsLeft b log kept left
 left_first b log kept left is = record { past = []; rest = since b log; is = refl; leaves = first_leaves kept b.shown.doubt left is }
 
@@ -30,7 +30,7 @@ one_at_most (Marked e) = omega arith
 one_at_most (Claimed p place moment) = omega arith
 one_at_most (Released p) = omega arith
 
--- an item is one entry at most
+-- an item holds at most one entry
 few_entries : (log : Log) → length (history_of log) ≤ length log
 few_entries [] = omega arith
 few_entries (i ∷ log) = omega (arith, few_entries log, one_at_most i.what, length-append (entry_in i.what) (history_of log))
@@ -48,7 +48,7 @@ pub few_left : (b : Base) (log : Log) (kept left : List (List ℕ)) → IsLeft b
 few_left b log kept left h =
     omega (arith, few_after b kept h.past left h.leaves, ap length h.is, length-append h.past h.rest, length-drop b.kept log)
 
--- where nothing was added
+-- if nothing was added
 pub few_kept : (kept : List (List ℕ)) (doubt : Option (List ℕ)) (left : List (List ℕ)) → MayLeave kept doubt left → length left ≤ length kept + 1
 few_kept kept None left is = omega (arith, ap length is)
 few_kept kept (Some d) left (inl is) = omega (arith, ap length is)

@@ -1,4 +1,4 @@
--- What a life leaves at the front of what later ones open.
+-- What a life leaves is the beginning of what later lives open.
 use Rattle.std.proofs.Common.{◌≡◌, ℕ, zero, suc, List, [], ◌∷◌, ◌++◌, map, Some, inl, inr, refl, sym, ap, subst, ◌∙◌, append_assoc, append-nil}
 use Rattle.std.specs.Prelude.{Contains, slice_get}
 use Rattle.std.specs.List.{AllByRecursion}
@@ -12,7 +12,7 @@ use Rattle.fedi_log.specs.Lives.{AreLives, IsFoundAfter, IsLife, Life, doubts, h
 
 -- ---- entries by their codes
 
--- no other entry whose fields have their forms has its code
+-- no other entry with well-formed fields has its code
 IsAlone : Entry → Type 0
 IsAlone e = (other : Entry) → IsFormed other → code_of e ≡ code_of other → e ≡ other
 
@@ -24,7 +24,7 @@ all_alone : (xs : List Entry) → AllByRecursion IsFormed xs → AllByRecursion 
 all_alone [] formed = tt
 all_alone (x ∷ xs) formed = (alone_formed x formed.0, all_alone xs formed.1)
 
--- the first of these entries too
+-- the same for the first of these entries
 pub formed_front : (xs ys : List Entry) → AllByRecursion IsFormed (xs ++ ys) → AllByRecursion IsFormed xs
 formed_front [] ys formed = tt
 formed_front (x ∷ xs) ys formed = (formed.0, formed_front xs ys formed.1)
@@ -35,7 +35,7 @@ same_heads x y xs ys e = (cc, cc)
 none_there : (x : List ℕ) (xs : List (List ℕ)) → [] ≡ x ∷ xs → ⊥
 none_there x xs e = cc
 
--- whose codes begin with those of these entries begins with these entries
+-- a list whose codes begin with those of these entries begins with these entries
 same_front : (xs ys : List Entry) (rest : List (List ℕ)) → AllByRecursion IsAlone xs → AllByRecursion IsFormed ys → map code_of ys ≡ map code_of xs ++ rest
     → (more : List Entry) × (ys ≡ xs ++ more) × (map code_of more ≡ rest)
 unfolding IsAlone

@@ -1,5 +1,5 @@
 -- What is claimed along a log (ActivityPub, section 7.1): a delivery is given to one pass, which
--- tries it, and to no other until what came of it is recorded or the delivery is released.
+-- attempts it, and to no other until the outcome is recorded or the delivery is released.
 use Rattle.std.specs.Prelude.{◌≡◌, ℕ, ◌&&◌, ◌||◌, Bool, false, not, List, [], ◌∷◌, filter, Option}
 use Rattle.std.specs.Prelude.{None, Some, option_map, if◌then◌else◌}
 use Rattle.std.specs.List.{find, fold, list_any}
@@ -28,7 +28,7 @@ use Rattle.fedi_log.specs.Log.{Log, history_of, is_same_pass}
 abbrev pub is_same_pair : Pair → Pair → Bool
 is_same_pair p q = bytes_eq p.activity q.activity && bytes_eq p.recipient q.recipient
 
--- the entry is of an attempt of this delivery
+-- the entry records an attempt of this delivery
 abbrev pub tries : Pair → Entry → Bool
 tries p (Hosted host moment) = false
 tries p (Made name digest locked moment) = false
@@ -38,8 +38,9 @@ tries p (Remote peer inbox a moment) = false
 tries p (Tried activity recipient came moment) =
     is_same_pair p (record { activity = activity; recipient = recipient })
 
--- Whether the delivery is claimed after this, where it was so before or not: from its claim on,
--- until it is released, or until what came of an attempt of it is kept or fails to be kept.
+-- Whether the delivery is claimed after this, given whether it was before: it is claimed from its
+-- claim on, until it is released, or until the outcome of an attempt of it is kept or fails to be
+-- kept.
 abbrev pub claimed_after : Pair → Bool → What → Bool
 claimed_after p held (Entered e) = held && not (tries p e)
 claimed_after p held (Marked e) = held && not (tries p e)
@@ -50,13 +51,13 @@ claimed_after p held (Released q) = held && not (is_same_pair p q)
 abbrev pub is_claimed_in : Log → Pair → Bool
 is_claimed_in log p = fold (λ (held : Bool) (i : Item). claimed_after p held i.what) false log
 
--- likewise of an activity and a recipient, if the activity has an id
+-- the delivery of an activity to a recipient is claimed, if the activity has an id
 abbrev pub is_taken_in : Log → Option (List ℕ) → List ℕ → Bool
 is_taken_in log None recipient = false
 is_taken_in log (Some id) recipient =
     is_claimed_in log (record { activity = id; recipient = recipient })
 
--- the deliveries that are due at this moment and that nobody has claimed, in the order of the queue
+-- the deliveries that are due at this moment and not claimed, in the order of the queue
 abbrev pub free_in : Log → ℕ → List Delivery
 free_in log moment =
     filter (λ (d : Delivery). not (is_taken_in log d.activity d.recipient))
@@ -69,35 +70,35 @@ IsFirst id recipient (d ∷ left) = IsTo id recipient d
 
 -- ---- who has claimed them
 
--- the last that this pass did
+-- the last thing that this pass did
 abbrev pub last_of : Option ℕ → Log → Option What
 last_of by log =
     fold (λ (last : Option What) (i : Item).
     if is_same_pass by i.pass then Some i.what else last) None log
 
--- this delivery is claimed so
+-- this delivery was claimed with this claim
 abbrev pub claimed_by : Pair → Claim → What
 claimed_by p c = Claimed p (record { activity = c.activity; recipient = c.recipient }) c.moment
 
--- the pass has claimed this delivery so, and did nothing since
+-- the pass has claimed this delivery with this claim, and has done nothing since
 abbrev pub HasClaimed : Option ℕ → Log → Pair → Claim → Type 0
 HasClaimed by log p c = last_of by log ≡ Some (claimed_by p c)
 
 -- ---- a queue and its log
 
--- the row is of this delivery, and claimed
+-- the row is of this delivery, and is claimed
 unfoldable pub is_claimed_for : List Act → Pair → QueueRow → Bool
 is_claimed_for acts p row = row.claimed && is_row_of acts p.activity p.recipient row
 
--- the claim is held among these rows, and it is of this delivery
+-- one of these rows is held by the claim, and it is of this delivery
 pub record IsClaimFor (acts : List Act) (rows : List QueueRow) (p : Pair) (c : Claim) : Type 0 where
   pub held : IsHeld c rows
   pub named : id_at acts c.activity ≡ Some p.activity
   pub sent_to : option_map (λ (row : QueueRow). row.recipient)
       (find (is_claimed_at c.activity c.recipient) rows) ≡ Some p.recipient
 
--- The rows of a queue are claimed as the log says: those of the deliveries that are claimed in it;
--- what a pass has claimed is held for it; and no two passes have claimed one delivery.
+-- The rows of a queue are claimed as the log says: those of the deliveries that are claimed in it.
+-- What a pass has claimed is held for it, and no two passes have claimed one delivery.
 pub record ClaimsStand (acts : List Act) (rows : List QueueRow) (log : Log) : Type 0 where
   pub claimed : (p : Pair) → is_claimed_in log p ≡ list_any (is_claimed_for acts p) rows
   pub held : (by : Option ℕ) (p : Pair) (c : Claim) → HasClaimed by log p c

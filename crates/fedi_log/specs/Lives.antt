@@ -1,5 +1,5 @@
--- Lives of a store, one after another: each goes from an opening to an end or a crash, and the next
--- one opens what was left.
+-- The lives of a store, one after another: each goes from an opening to an end or a crash, and the
+-- next one opens what was left.
 use Rattle.std.specs.Prelude.{◌≡◌, ◌⊎◌, ℕ, List, [], ◌∷◌, ◌++◌, map, option_to_list, Contains}
 use Rattle.std.specs.List.{AllByRecursion}
 use Rattle.fedi_entry.specs.Codes.{code_of}
@@ -16,16 +16,16 @@ pub record Life : Type 0 where
   pub log : Log  -- what happened since, up to the end or the crash
   pub left : List (List ℕ)  -- the records that the end or the crash left
 
--- the history at its end: what was opened, and then what was kept
+-- the history at its end: what was opened, followed by what was kept
 abbrev pub history_at_end : Life → List Entry
 history_at_end l = l.opened ++ history_of l.log
 
--- the records of which one may be in doubt at its end
+-- the records, one of which may be in doubt at its end
 abbrev pub doubts : Life → List (List ℕ)
 doubts l = doubts_of (option_to_list l.base.shown.doubt) l.log
 
--- A life goes so: the entries that were opened, and those that were kept, have fields of the right
--- forms, and what is left are the records of the first, then those of the others, and behind them
+-- What holds of a life: the entries that were opened and those that were kept have well-formed
+-- fields, and what is left are the records of the former, then those of the latter, and after them
 -- at most one that is in doubt.
 pub record IsLife (l : Life) : Type 0 where
   pub formed : AllByRecursion IsFormed (history_at_end l)
@@ -41,8 +41,8 @@ abbrev pub AreLives : List Life → Type 0
 AreLives [] = Unit {0}
 AreLives (l ∷ later) = IsLife l × IsFollowed l later × AreLives later
 
--- what the next opening finds: the history at the end of this life, and behind it at most one
--- entry, whose record was in doubt
+-- what the next opening finds: the history at the end of this life, followed by at most one entry,
+-- whose record was in doubt
 abbrev pub IsFoundAfter : Life → List Entry → Type 0
 IsFoundAfter l found =
     (found ≡ history_at_end l)

@@ -9,11 +9,11 @@ use Rattle.fedi_log.specs.declared.items.Item.{Item}
 use Rattle.fedi_log.specs.declared.items.What.{What}
 use Rattle.fedi_log.specs.declared.items.What.TheVariants.{Entered, Marked, Claimed, Released}
 
--- the items, the first one first
+-- the items, from the first to the last
 abbrev pub Log : Type 0
 Log = List Item
 
--- an item, by the pass of this number or by none
+-- an item, added by the pass of this number or by none
 abbrev pub made_by : Option ℕ → What → Item
 made_by by what = record { what = what; pass = by }
 
@@ -52,14 +52,14 @@ doubts_after doubts (Marked e) = doubts ++ code_of e ∷ []
 doubts_after doubts (Claimed p place moment) = doubts
 doubts_after doubts (Released p) = doubts
 
--- the records of which one may be in doubt after these items, where these were before them
+-- the records, one of which may be in doubt after these items, given those before the items
 abbrev pub doubts_of : List (List ℕ) → Log → List (List ℕ)
 doubts_of before log =
     fold (λ (doubts : List (List ℕ)) (i : Item). doubts_after doubts i.what) before log
 
 -- ---- what a request adds
 
--- what became of the entry that a request was to make
+-- what became of the entry that a request was to add
 pub data Outcome : Type 0 where
   NoEntry : Outcome
   Kept : Entry → Outcome
@@ -73,7 +73,7 @@ items_of by (Kept e) = made_by by (Entered e) ∷ []
 items_of by (Full e) = []
 items_of by (Failed e) = made_by by (Marked e) ∷ []
 
--- the entry that was kept of it
+-- the entry that was kept, if there is one
 abbrev pub kept_in : Outcome → List Entry
 kept_in NoEntry = []
 kept_in (Kept e) = e ∷ []
@@ -89,24 +89,24 @@ failed_in (Failed e) = e ∷ []
 
 -- ---- how a log grows
 
--- the item is not this pass's
+-- the item is not one of this pass
 abbrev pub IsOthers : Option ℕ → Item → Type 0
 IsOthers by i = i.pass ≢ by
 
--- the log goes on from what was seen, by items of others
+-- the log extends what was seen, by items of others alone
 pub record Goes (by : Option ℕ) (seen log : Log) : Type 0 where
   pub rest : Log
   pub is : log ≡ seen ++ rest
   pub others : All (IsOthers by) rest
 
--- two passes, or two times none, are the same
+-- two passes are the same, or there is none in both cases
 abbrev pub is_same_pass : Option ℕ → Option ℕ → Bool
 is_same_pass None None = true
 is_same_pass None (Some n) = false
 is_same_pass (Some m) None = false
 is_same_pass (Some m) (Some n) = m == n
 
--- the items past what was seen that name this pass are these
+-- the items after what was seen that name this pass are these
 pub record Added (by : Option ℕ) (seen log items : Log) : Type 0 where
   pub rest : Log
   pub is : log ≡ seen ++ rest

@@ -1,4 +1,4 @@
-//! What a log is made of.
+//! The items that a log consists of.
 
 use fedi_address::Iri;
 use fedi_objects::Entry;
@@ -11,12 +11,12 @@ pub struct Pair {
     pub recipient: Iri,
 }
 
-/// Where a delivery is in the queue.
+/// The position of a delivery in the queue.
 #[derive(Clone, Copy, Debug, PartialEq, Eq)]
 pub struct Place {
-    /// The place of the activity in the order of acceptance.
+    /// The index of the activity in the order of acceptance.
     pub activity: usize,
-    /// The place of the recipient among those to whom the activity is sent.
+    /// The index of the recipient among those that the activity is sent to.
     pub recipient: usize,
 }
 
@@ -27,7 +27,7 @@ pub enum What {
     Entered(Entry),
     /// The keeper failed to keep this entry, and its record may be in doubt.
     Marked(Entry),
-    /// This delivery, which is there in the queue, was claimed at this moment.
+    /// This delivery, which is in the queue, was claimed at this moment.
     Claimed(Pair, Place, Moment),
     /// This delivery was released.
     Released(Pair),
@@ -37,7 +37,7 @@ pub enum What {
 #[derive(Drop)]
 pub struct Item {
     pub what: What,
-    /// The number of the pass that added it, or none if it was there at the opening or nobody else
-    /// adds any.
+    /// The number of the pass that added it. `None` if it was there at the opening, or if nobody
+    /// else adds items.
     pub pass: Option<u64>,
 }

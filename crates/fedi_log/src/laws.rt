@@ -15,7 +15,7 @@ pub fn given_logs_hold_their_history()
     ensures marks { (history : List Entry) → marks_of (given history) ≡ [] }
 {}
 
-/// A log that others add to still goes on from what was seen of it.
+/// A log that others add to still extends what was seen of it.
 pub fn logs_go_on()
     ensures here { (by : Option ℕ) (log : Log) → Goes by log log }
     ensures on { (by : Option ℕ) (a b c : Log) → Goes by a b → Goes by b c → Goes by a c }
@@ -23,7 +23,7 @@ pub fn logs_go_on()
         → Goes by a (b ++ more) }
 {}
 
-/// The items that a pass added are those that it added before and those that it added since.
+/// The items that a pass added are those that it had added before and those that it added since.
 pub fn items_past_are_added()
     ensures others { (by : Option ℕ) (a b : Log) → Goes by a b → Added by a b [] }
     ensures one { (by : Option ℕ) (a : Log) (what : What)
@@ -32,8 +32,8 @@ pub fn items_past_are_added()
         → Added by a c (xs ++ ys) }
 {}
 
-/// What a request adds to a log is told by its outcome: a kept entry ends all doubts, and one that
-/// the keeper failed to keep has its mark and may be in doubt.
+/// The outcome of a request determines what the request adds to a log: a kept entry ends all
+/// doubts, and one that the keeper failed to keep leaves its mark and may be in doubt.
 pub fn doubts_are_marked()
     ensures marks { (by : Option ℕ) (o : Outcome) (log : Log) → marks_of (log ++ items_of by o)
         ≡ marks_of log ++ failed_in o }
@@ -44,8 +44,8 @@ pub fn doubts_are_marked()
         ≡ doubts_of before log ++ code_of e ∷ [] }
 {}
 
-/// A machine that is opened stands for the log of its history. A turn leaves it standing for the
-/// log with the item that the turn added, and turns follow one another.
+/// A machine that is opened holds the log of its history. After a turn it holds the log with the
+/// item that the turn added, and so on for each turn after it.
 pub fn machines_stand_for_logs()
     ensures opened { (growth room : ℕ → ℕ) (by : Option ℕ) (opened : State)
         → HoldsSince (base_of growth room opened) by (given opened.history) opened

@@ -1,6 +1,7 @@
 //! The log under every connection: which entries were kept, which the keeper failed to keep, and
-//! which deliveries were claimed and released, in order. No log is kept in memory: contracts speak
-//! of it. And what lasts over the lives of a store: runs, crashes and openings, one after another.
+//! which deliveries were claimed and released, in order. No log is kept in memory: only contracts
+//! refer to it. And what persists over the lives of a store: runs, crashes and openings, one after
+//! another.
 #![tactic(auto)]
 
 mod items;

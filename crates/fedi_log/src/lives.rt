@@ -16,9 +16,9 @@ ghost use Rattle.fedi_log.specs.Lives.{history_at_end};
 
 use fedi_outside::Disk;
 
-/// Whatever a crash since the opening leaves on a disk is a file: of the records of the opening,
-/// those of the first of the entries that were kept since, and behind them at most one that was in
-/// doubt. It follows from what a keeper on that disk tells of lists of records alone.
+/// Whatever a crash since the opening leaves on a disk is a file: it holds the records of the
+/// opening, then those of the first of the entries that were kept since, and after them at most one
+/// that was in doubt. This follows from what a keeper on that disk says of lists of records alone.
 pub fn crashes_leave_files<D: Disk>()
     ensures { (f : Format) (opened now : D) (base : Base) (log : Log) (kept : List (List ℕ))
         → let before = D.crashes opened in let after = D.crashes now in
@@ -31,8 +31,8 @@ pub fn crashes_leave_files<D: Disk>()
         → (left : List (List ℕ)) × IsImage f left image × IsLeft base log kept left }
 {}
 
-/// A crash at any moment of a run ends a life, whose log is the run's up to that moment, since the
-/// fields of all that a run keeps have their forms.
+/// A crash at any moment of a run ends a life whose log is that of the run up to that moment, since
+/// the fields of everything that a run keeps are well formed.
 pub fn crashes_end_lives()
     ensures { (base : Base) (opened : List Entry) (log : Log) (left : List (List ℕ))
         → AllByRecursion IsFormed (opened ++ history_of (since base log))
@@ -40,8 +40,8 @@ pub fn crashes_end_lives()
         → IsLife (record { base = base; opened = opened; log = crash.past; left = left }) }
 {}
 
-/// A crash at any moment since an exchange was over ends a life, whose log is that up to the crash,
-/// and begins with all that the exchange found and added: so what was acknowledged is in it.
+/// A crash at any moment after an exchange ended ends a life whose log is the one up to the crash.
+/// That log begins with all that the exchange found and added, so what was acknowledged is in it.
 pub fn later_crashes_end_lives()
     ensures life { (base : Base) (opened : List Entry) (seen log : Log) (left : List (List ℕ))
         → AllByRecursion IsFormed (opened ++ history_of (since base log))
@@ -57,24 +57,24 @@ pub fn later_crashes_end_lives()
         → since base (seen ++ past) ≡ since base seen ++ past }
 {}
 
-/// A life that opens the file that another one left opens the records that this one left.
+/// A life that opens the file that another life left opens the records that the other left.
 pub fn files_join_lives()
     ensures { (f : Format) (life next : Life) (image : List ℕ) → IsFormat f
         → IsImage f life.left image → IsImage f (map code_of next.opened) image
         → IsFollowed life (next ∷ []) }
 {}
 
-/// No record that was kept is lost, none is torn and none changes its place: the records that a
-/// life had at its end are the first of those that each later life opens.
+/// No kept record is lost, torn or moved: the records that a life had at its end are the first of
+/// those that each later life opens.
 pub fn kept_records_stay()
     ensures { (before between after : List Life) (life later : Life)
         → AreLives (before ++ life ∷ (between ++ later ∷ after)) → (more : List (List ℕ))
         × (map code_of later.opened ≡ map code_of (history_at_end life) ++ more) }
 {}
 
-/// No entry that was kept is lost, none is torn and none changes its place: the history of a life
-/// at its end is the front of the history that each later life opens. What the next life finds
-/// behind it is at most the one entry that was in doubt.
+/// No kept entry is lost, torn or moved: the history of a life at its end is the beginning of the
+/// history that each later life opens. After it, the next life finds at most the one entry that was
+/// in doubt.
 pub fn kept_entries_stay()
     ensures history { (before between after : List Life) (life later : Life)
         → AreLives (before ++ life ∷ (between ++ later ∷ after))

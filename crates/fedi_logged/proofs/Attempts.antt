@@ -1,4 +1,4 @@
--- Exchanges, one after the other, and attempts: their exchanges, and what came of them.
+-- Exchanges, one after another, and attempts: their exchanges and outcomes.
 use Rattle.std.proofs.Common.{◌≡◌, ℕ, ◌≤◌, arith, List, [], ◌∷◌, ◌++◌, length, Option, Some, None, Result, Ok, Err, refl, sym, ap, subst, ◌∙◌, append_assoc, append-nil}
 use Rattle.std.specs.Prelude.{All, IsTrue, map, slice_get}
 use Rattle.std.specs.Char.{digit_value, is_ascii_digit}
@@ -62,14 +62,14 @@ exchanged_more first before now xs ys was more = record {
       ∙ sym (fold-append (λ (n : ℕ) (x : Exchange). count_after x.heard n) first.faults xs ys);
 }
 
--- an attempt that came to its end was begun
+-- an attempt that was finished was begun
 pub shown_begun : (t : Town) (id recipient : List ℕ) (exchanges : List Exchange) (came : Came) → ShowsCame t id recipient exchanges came → IsBegun t id recipient exchanges
 shown_begun t id recipient [] came shows = absurd shows
 shown_begun t id recipient (l ∷ []) came shows = shows.0
 shown_begun t id recipient (l ∷ p ∷ []) came shows = (shows.0, shows.1, shows.2, shows.3)
 shown_begun t id recipient (l ∷ p ∷ x ∷ xs) came shows = absurd shows
 
--- ---- what may come of it
+-- ---- the possible outcomes
 
 digit-most : (c : ℕ) → IsTrue (is_ascii_digit c) → digit_value c ≤ 9
 digit-most c is =
@@ -91,7 +91,7 @@ status-may : (step : Sent) (reply rest : List ℕ) (status : ℕ) → HasHead re
 status-may Lookup reply rest status h = (h.known, let most = three-most h.head.digits h.reads.0.digits.0 h.reads.0.digits.1 in omega (arith, most, h.status_is))
 status-may Post reply rest status h = (h.known, let most = three-most h.head.digits h.reads.0.digits.0 h.reads.0.digits.1 in omega (arith, most, h.status_is))
 
--- of a lookup
+-- the outcome of a lookup
 pub lookup_may : (recipient : List ℕ) (row : Option (List ℕ)) (came : Came) → IsFoundIn recipient row (Ended came) → MayCome came.step came.what
 lookup_may recipient None came shows = let is : came ≡ record { step = Lookup; what = Failed } = cc in rw is tt
 lookup_may recipient (Some reply) came shows = of came.step came.what shows.0 shows.1
@@ -104,7 +104,7 @@ lookup_may recipient (Some reply) came shows = of came.step came.what shows.0 sh
     of Post BadActor is ends = absurd cc
     of step (Status status) is ends = status-may step reply ends.0 status ends.1
 
--- of a post
+-- the outcome of a post
 pub post_may : (row : Option (List ℕ)) (came : Came) → IsCameOfPost row came → MayCome came.step came.what
 post_may None came shows = rw shows tt
 post_may (Some reply) came shows = of came.step came.what shows.0 shows.1
@@ -138,7 +138,7 @@ looked t a recipient o address request asked heard result out is_address is_requ
 pub none_sent : (t : Town) (id recipient : List ℕ) (link : Told) (e : AllocError) → EndsAttempt t id recipient link link (Err e)
 none_sent t id recipient link e = ([], tt, exchanged_none link)
 
--- the lookup's reply ended the attempt, or there was no memory to read it
+-- the reply to the lookup ended the attempt, or there was no memory to read it
 pub lookup_ended : (t : Town) (a : Act) (id recipient : List ℕ) (o : Outgoing) (address request : List ℕ) (asked heard : Told) (came : Came) → IsOutgoing t a recipient o
     → address ≡ o.address → request ≡ o.lookup.items → LooksUp asked heard (asking_for address request) recipient (Ok (Ended came)) → EndsAttempt t id recipient asked heard (Ok came)
 lookup_ended t a id recipient o address request asked heard came out is_address is_request l =
@@ -152,7 +152,7 @@ lookup_begun t a id recipient o address request asked heard result e out is_addr
     let x = looked t a recipient o address request asked heard result out is_address is_request l in
     (x.exchange ∷ [], x.lookup, x.exchanged)
 
--- the inbox was found, and the activity posted to it
+-- the inbox was found, and the activity was posted to it
 pub post_ended : (t : Town) (a : Act) (k : ℕ) (id recipient inbox : List ℕ) (o : Outgoing) (address request post : List ℕ) (asked heard later : Told) (came : Came)
     → IsOutgoing t a recipient o → slice_get t.acts k ≡ Some a → a.activity.id ≡ Some id → address ≡ o.address → request ≡ o.lookup.items
     → Some post ≡ post_to t recipient inbox o.body.items → LooksUp asked heard (asking_for address request) recipient (Ok (Inbox inbox))

@@ -1,4 +1,4 @@
--- The claims of a machine go on being those of its log.
+-- The claims of a machine remain those of its log.
 use Rattle.std.proofs.Common.{◌≡◌, ℕ, ◌≤◌, ◌+◌, ◌-◌, ◌^◌, List, [], ◌∷◌, ◌++◌, length, map, Option, Some, None, Result, Ok, Err, IfOk, Vec, refl, sym, ap, subst, ◌∙◌, append-nil, arith}
 use Rattle.std.specs.Prelude.{filter, option_and_then, option_map, slice_get}
 use Rattle.std.specs.List.{find}
@@ -136,7 +136,7 @@ claiming_claimed h h' by m rows new c log now front claimed legal same made more
       room = room;
     })
 
--- what was claimed is the first that was free, or nothing was
+-- what was claimed is the first free delivery, or there was none
 pub claims_one : (h : List Entry) (by : Option ℕ) (m : ℕ) (rows new : List QueueRow) (c : Claim) (log now : Log) (front claimed : ℕ) → IsLegal h → h ≡ history_of log
     → IsRowOf (town h) rows new m c → now ≡ log ++ claim_item by (pair_for (town h).acts new c) c ∷ [] → IsClaiming (town h) rows log front claimed → Claims by m log now (Some c)
 claims_one h by m rows new c log now front claimed legal held r is k = (
@@ -188,7 +188,7 @@ claiming_recorded h h' by p c came m rows new log now front claimed grown queue 
   room = let room = k.room in let counted = k.counted in omega (arith, room, counted, fewer);
 }
 
--- ---- what a claim is held by
+-- ---- what a claim is held for
 
 -- the delivery of a claim, by what the log says of it
 pub pair_is : (t : Town) (rows : List QueueRow) (log : Log) (front claimed : ℕ) (by : Option ℕ) (p : Pair) (c : Claim) → IsClaiming t rows log front claimed → HasClaimed by log p c
@@ -200,7 +200,7 @@ pair_is t rows log front claimed by p c k has =
       recipient = ap (λ (o : Option (List ℕ)). text_of o) is.sent_to i;
     }
 
--- ---- what is noted of a claim
+-- ---- what is noted about a claim
 
 pub pair_noted : (acts : List Act) (rows : List QueueRow) (c : Claim) (d : Delivery) → d.activity.value ≡ claimed_id acts c → d.recipient.value ≡ claimed_recipient rows c
     → pair_of d ≡ pair_for acts rows c
@@ -213,17 +213,17 @@ claim_noted p c d m pair moment = λ i. Claimed (pair i) (record { activity = c.
 pub claimed_silent : (p : Pair) (c : Claim) → IsSilent (claimed_by p c)
 claimed_silent p c = record { entries = refl; marks = refl; doubts = λ ds. refl; may_come = λ h. tt }
 
--- a claim is no entry
+-- a claim adds no entry
 pub claim_history : (by : Option ℕ) (p : Pair) (c : Claim) (log now : Log) → now ≡ log ++ claim_item by p c ∷ [] → history_of now ≡ history_of log
 claim_history by p c log now is = ap history_of is ∙ history_append log (claim_item by p c ∷ []) ∙ append-nil (history_of log)
 
--- nothing was free, so that the machine is as it was
+-- nothing was free, so the machine is unchanged
 pub unclaimed_same : {P : Type 0} (m : ℕ) (before after : Machine P) → after ≡ record before { rows = change_first (is_free_at m) claim before.rows }
     → None ≡ option_map (claim_of m) (find (is_free_at m) before.rows) → after ≡ before
 unclaimed_same {P} m before after made none =
     made ∙ ap (λ (rows : List QueueRow). record before { rows = rows }) (none_changed (is_free_at m) claim before.rows (mapped_none (claim_of m) (find (is_free_at m) before.rows) none))
 
--- ---- what is sent by a claim
+-- ---- what is sent for a claim
 
 pub sending : (h : List Entry) (rows : List QueueRow) (log : Log) (front claimed : ℕ) (by : Option ℕ) (p : Pair) (c : Claim) (recipient : List ℕ) (o : Outgoing)
     → IsClaiming (town h) rows log front claimed → HasClaimed by log p c → IsSentFor (town h) rows c o → recipient ≡ claimed_recipient rows c → h ≡ history_of log
@@ -239,7 +239,7 @@ sending h rows log front claimed by p c recipient o k has sent is held =
       sent = subst (λ (r : List ℕ). IsOutgoing (town h) sent.act r o) to sent.sent;
     })
 
--- the post, wherever there is memory for it
+-- the post, in every case with memory for it
 pub posts_since : {A E : Type 0} (h : List Entry) (rows : List QueueRow) (log : Log) (front claimed : ℕ) (by : Option ℕ) (p : Pair) (c : Claim) (inbox body : List ℕ) (r : Result (Vec ℕ A) E)
     → IsClaiming (town h) rows log front claimed → HasClaimed by log p c → h ≡ history_of log → IsLegal h
     → IfOk r (λ text. IsPostFor (town h) rows c inbox body text.items) → IfOk r (λ text. IsPostSince log p inbox body text.items)

@@ -1,4 +1,4 @@
--- A session stands after some exchanges, and ends.
+-- The state of a session after some exchanges, and how it ends.
 use Rattle.std.proofs.Common.{◌≡◌, ℕ, ◌+◌, ◌<◌, ◌≤◌, Bool, true, false, List, [], ◌∷◌, ◌++◌, Option, Some, None, Result, IfSome, refl, sym, ap, subst, ◌∙◌, arith, lit<}
 use Rattle.std.specs.Prelude.{nat_le, ◌||◌}
 use Rattle.std.proofs.KnownBytes.{Appends-nil, prepend_known-nil}
@@ -14,7 +14,7 @@ use Rattle.fedi_logged.specs.Endings.{Faults, Finishes, IsAt, IsCaused, Output, 
 use Rattle.fedi_logged.specs.Turning.{setting_at}
 use Rattle.fedi_logged.proofs.Talks.{converses-more, progress-more}
 
--- a session stands after some exchanges, and the connection is open for another
+-- the state of a session after some exchanges, with the connection open for another
 pub record Stands (w : Setting) (seen : Log) (first : Output) (now : Scene) (log : Log) (pending : List ℕ) (count : ℕ) (input : List ℕ) : Type 0 where
   pub exchanges : List Exchange
   pub each : Converses w (beginning input seen) exchanges
@@ -42,9 +42,9 @@ begins w seen first (Some input) is = record {
 pub stands_first : (w : Setting) (seen : Log) (first : Scene) → IfSome first.input (Stands w seen first.output first seen [] 0)
 stands_first w seen first = begins w seen first first.input refl
 
--- ---- one exchange more
+-- ---- one more exchange
 
--- who is open has a request left
+-- if the connection is open, there is a request left
 or_second : (a b : Bool) → (a || b) ≡ false → b ≡ false
 or_second true b e = absurd cc
 or_second false b e = e
@@ -121,7 +121,7 @@ pub ends_told : (w : Setting) (seen : Log) (first : Output) (before now : Scene)
 ends_told w seen first before now log next old pending count e None held steps = tt
 ends_told w seen first before now log next old pending count e (Some input) held steps = ends_so w seen first before now log next old pending count e input held steps
 
--- the last request closes the connection, so that none stands open after it
+-- the last request closes the connection, so no session has an open one after it
 none_open : (w : Setting) (seen : Log) (first : Output) (now : Scene) (log : Log) (pending : List ℕ) (count : ℕ) (known : Option (List ℕ)) → 1000 ≤ count
     → IfSome known (Stands w seen first now log pending count) → IfSome known (Serves w seen first now log Closed)
 none_open w seen first now log pending count None many held = tt
@@ -131,7 +131,7 @@ pub stands_not : (w : Setting) (seen : Log) (first now : Scene) (log : Log) (pen
     → IfSome first.input (Stands w seen first.output now log pending count) → IfSome first.input (Serves w seen first.output now log Closed)
 stands_not w seen first now log pending count many held = none_open w seen first.output now log pending count first.input many held
 
--- what no turn changes stays, and so does the pass among it
+-- what no turn changes stays the same, and the pass is part of it
 pub steps_by : (by same : Option ℕ) (told : Option ℕ) (base : Base) (seen : Log) (count : ℕ) (before : Scene) (old : List ℕ) (now : Scene) (pending : List ℕ) (next : Log) (e : Option SessionEnd)
     → by ≡ same → StepsOn (setting_at by told base) seen count before old now pending next e → StepsOn (setting_at same told base) seen count before old now pending next e
 steps_by by same told base seen count before old now pending next e is steps =

@@ -45,9 +45,9 @@ turn_crash (Kept e) k y z h = h.crash
 turn_crash (Full e) k y z h = h.crash
 turn_crash (Failed e) k y z h = h.crash
 
--- ---- it is left of the log with the turn's items
+-- ---- it is what a crash leaves of the log with the turn's items
 
--- the records of the entries that were kept, behind those of the opening
+-- the records of the entries that were kept, after those of the opening
 abbrev with_codes : List (List ℕ) → Log → List (List ℕ)
 with_codes kept past = kept ++ map code_of (history_of past)
 
@@ -67,15 +67,15 @@ leaves_now b kept past None left doubted is = inl is
 leaves_now b kept past (Some d) left doubted (inl is) = inl is
 leaves_now b kept past (Some d) left doubted (inr is) = inr (d, doubted, is)
 
--- the items since the opening, with those of one more turn
+-- the items since the opening, followed by those of one more turn
 since_items : (b : Base) (log items : Log) → b.kept ≤ length log → since b (log ++ items) ≡ since b log ++ items
 since_items b log items opened = drop-append-le b.kept log items opened
 
--- as before the turn
+-- the same as before the turn
 left_before : (b : Base) (log items : Log) (kept left : List (List ℕ)) → b.kept ≤ length log → LeavesAfter b kept (since b log) left → IsLeft b (log ++ items) kept left
 left_before b log items kept left opened h = record { past = since b log; rest = items; is = since_items b log items opened; leaves = h }
 
--- as after it
+-- the same as after it
 left_after : (b : Base) (log items : Log) (kept left : List (List ℕ)) → b.kept ≤ length log → LeavesAfter b kept (since b log ++ items) left → IsLeft b (log ++ items) kept left
 left_after b log items kept left opened h = record {
   past = since b log ++ items;
@@ -125,7 +125,7 @@ turn_left b by o log kept doubt left opened doubted may = of (turn_leaves b by o
     of (inl h) = left_before b log (items_of by o) kept left opened h
     of (inr h) = left_after b log (items_of by o) kept left opened h
 
--- and what was left before stays so
+-- and what could be left before can still be left
 pub left_later : (b : Base) (log items : Log) (kept left : List (List ℕ)) → b.kept ≤ length log → IsLeft b log kept left → IsLeft b (log ++ items) kept left
 left_later b log items kept left opened h = record {
   past = h.past;
@@ -147,7 +147,7 @@ crashes_first b log c now = record {
   }) now;
 }
 
--- one turn more
+-- one more turn
 pub crashes_more : (b : Base) (by : Option ℕ) (k : KeeperState) (log : Log) (o : Outcome) (x y z : Crashes) → Keeps b k log → CrashesAlong b log x y
     → TurnPasses o k y z → CrashesAlong b (log ++ items_of by o) x z
 crashes_more b by k log o x y z keeps along turn = record {
@@ -180,14 +180,14 @@ survives_first b by opened c kept shown now = record {
   marks = given_marks [] opened.history;
 }
 
--- what a turn marks may come where its mark is
+-- what a turn marks may come at the position of its mark
 pub turn_marks : (by : Option ℕ) (history : List Entry) (o : Outcome) → MayFail history o → MarksMayCome history (items_of by o)
 turn_marks by history NoEntry may = tt
 turn_marks by history (Kept e) may = (tt, tt)
 turn_marks by history (Full e) may = tt
 turn_marks by history (Failed e) may = (may, tt)
 
--- one turn more
+-- one more turn
 pub survives_more : (b : Base) (by : Option ℕ) (seen log : Log) (x : Crashes) (before after : Standing) (o : Outcome)
     → Survives b by seen log before.state x before.crashes → Turns b.growth before after o → Survives b by seen (log ++ items_of by o) after.state x after.crashes
 survives_more b by seen log x before after o was turn = record {
@@ -207,9 +207,9 @@ survives_turn b by before after kept shown now turn = (
       (survives_first b by before.state before.crashes kept shown now) turn.1,
 )
 
--- ---- since an exchange was over
+-- ---- after an exchange is over
 
--- a crash now leaves what is after all of the log
+-- a crash now leaves what there is after the whole log
 pub after_now : (b : Base) (log : Log) (s : Standing) → Holds b s.state log → LeavesRecords s.state.keeper s.crashes → CrashesAfter b log log s.crashes.clock s.crashes
 after_now b log s holds now = at s.crashes.told b.shown.records s.state.keeper.records holds.keeper.records now
   where
@@ -228,7 +228,7 @@ after_now b log s holds now = at s.crashes.told b.shown.records s.state.keeper.r
               (leaves_now b kept (since b log) s.state.keeper.doubt left holds.keeper.doubt (may left since_now));
         }
 
--- one turn more
+-- one more turn
 pub after_more : (b : Base) (by : Option ℕ) (seen more log : Log) (moment : ℕ) (o : Outcome) (before after : Standing) → Holds b before.state log
     → log ≡ seen ++ more → moment ≤ before.crashes.clock → CrashesAfter b seen log moment before.crashes → Turns b.growth before after o
     → CrashesAfter b seen (log ++ items_of by o) moment after.crashes
@@ -281,7 +281,7 @@ after_more b by seen more log moment o before after holds goes early was turn =
                   ∙ ap (λ (x : Log). since b x) (ap (λ (x : Log). x ++ items_of by o) goes ∙ append_assoc seen more (items_of by o))) h;
             }
 
--- what is left begins with the records of all that the log had then
+-- what is left begins with the records of everything that the log had at that moment
 pub after_begins : (b : Base) (seen log : Log) (kept left : List (List ℕ)) → b.kept ≤ length seen → IsLeftAfter b seen log kept left
     → (more : List (List ℕ)) × (left ≡ with_codes kept (since b seen) ++ more)
 after_begins b seen log kept left within h = of h.leaves

@@ -1,5 +1,5 @@
--- Over one input, at one moment and from one beginning there is one conversation with a keeper that
--- never fails.
+-- Over one input, at one moment and from one beginning, there is only one conversation with a
+-- keeper that never fails.
 use Rattle.std.proofs.Common.{◌≡◌, ℕ, Bool, true, false, List, [], ◌∷◌, Option, Some, None, Result, Ok, Err, inl, inr, refl, sym, ap, subst, ◌∙◌, arith, lit<}
 use Rattle.fedi_town.specs.declared.refusal.Refusal.{Refusal}
 use Rattle.fedi_http.proofs.ArrivalLemmas.{one_arrival}
@@ -79,12 +79,12 @@ same_answer k log moment (Err e) body a b s t x y ca cb = (x.0 ∙ sym y.0, x.1 
 abbrev IsSameArrival : Result Request Refusal → Result Request Refusal → List ℕ → List ℕ → List ℕ → List ℕ → Type 0
 IsSameArrival a b body text rest more = (a ≡ b) × (body ≡ text) × (rest ≡ more)
 
--- at most one answer is true of what is left
+-- at most one answer holds of what is left
 one_at_front : (left : List ℕ) (a b : Arrived) (body text rest more : List ℕ) → IsArrival HEAD_LIMIT MOST_FIELDS left a body rest → IsArrival HEAD_LIMIT MOST_FIELDS left b text more
     → TellsOfStream a → TellsOfStream b → (a ≡ b) × OnRequest a ((body ≡ text) × (rest ≡ more))
 one_at_front left a b body text rest more x y ta tb = one_arrival HEAD_LIMIT MOST_FIELDS left a b body text rest more (lit< tt) x y ta tb
 
--- what of an arrival is a request or a refusal
+-- the request or the refusal in an arrival
 abbrev request_in : Arrived → Request → Request
 request_in (arrivals.Request q) d = q
 request_in (arrivals.Refused e) d = d
@@ -109,7 +109,7 @@ is_request arrivals.CutShort = false
 is_request arrivals.ReadFault = false
 is_request arrivals.Memory = false
 
--- one thing arrives
+-- only one thing arrives
 same_arrival : (left : List ℕ) (a b : Result Request Refusal) (body text rest more : List ℕ) → Arrives left a body rest → Arrives left b text more
     → IsSameArrival a b body text rest more
 same_arrival left (Ok q) (Ok r) body text rest more x y =
@@ -133,7 +133,7 @@ IsNoRefusal arrivals.CutShort = Unit {0}
 IsNoRefusal arrivals.ReadFault = Unit {0}
 IsNoRefusal arrivals.Memory = Unit {0}
 
--- where nothing more is answered, nothing arrives
+-- if nothing more is answered, nothing arrives
 none_arrives : (left : List ℕ) (a : Result Request Refusal) (body rest : List ℕ) (b : Arrived) → is_request b ≡ false → IsNoRefusal b → TellsOfStream b
     → Arrives left a body rest → StandsAtFront left b → ⊥
 none_arrives left (Ok q) body rest b other none tells x y =
@@ -164,7 +164,7 @@ same_exchange w seconds p x y told a b la lb ca cb =
 
 -- ---- one conversation
 
--- where nothing more is answered there is no further exchange
+-- if nothing more is answered, there is no further exchange
 ended : (w : Setting) (p : Progress) (x : Exchange) → IsAtEnd p → IsExchange w p x → ⊥
 ended w p x (inl (inl closed)) a = let clash : true ≡ false = sym closed ∙ a.open_yet in cc
 ended w p x (inl (inr over)) a = none_arrives p.left x.arrived x.body x.rest arrivals.End refl tt tt a.arrival over.1

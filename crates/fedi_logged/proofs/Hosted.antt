@@ -11,7 +11,7 @@ use Rattle.fedi_town.specs.Legal.{IsLegal, is_admissible}
 use Rattle.fedi_town.specs.Shapes.{is_delivered}
 use Rattle.fedi_town.specs.Towns.{Town, empty_town}
 
--- what is added leaves the host, or sets one
+-- an addition leaves the host unchanged, or sets one
 stays : (t : Town) (a : Addition) → is_some t.host ≡ true → is_some (with_addition t a).host ≡ true
 stays t additions.Nothing there = there
 stays t (additions.Host host) there = refl

@@ -1,4 +1,4 @@
--- The host of a history stays.
+-- The host of a history does not change.
 use Rattle.std.proofs.Common.{◌≡◌, Bool, true, false, List, [], ◌∷◌, ◌++◌, Option, Some, None, is_some, refl, ap, ◌∙◌}
 use Rattle.std.specs.Prelude.{◌&&◌, is_none}
 use Rattle.std.specs.List.{fold}
@@ -16,7 +16,7 @@ use Rattle.std.proofs.lemmas.List.Sums.{fold-append}
 use Rattle.fedi_town.specs.Histories.{member_addition, post_addition, delivery_addition, is_known}
 use Rattle.fedi_town.specs.Towns.{id_of}
 
--- ---- an entry that may come once the host was set leaves it
+-- ---- an entry that may come after the host was set does not change it
 
 clash : (host : Option (List ℕ)) (ok : Bool) → is_some host ≡ true → (is_none (if is_none host then None else Some HostTaken) && ok) ≡ true → ⊥
 clash None ok there may = absurd cc
@@ -60,7 +60,7 @@ legal_after : (t : Town) (a b : List Entry) → is_legal_from t (a ++ b) ≡ tru
 legal_after t [] b legal = legal
 legal_after t (e ∷ a) b legal = legal_after (step t e) a b (and_parts (is_admissible t e) (is_legal_from (step t e) (a ++ b)) legal).1
 
--- the host of a legal history is that of its beginning, once it was set there
+-- the host of a legal history is that of its beginning, if it was set there
 pub host_stays : (a b : List Entry) → IsLegal (a ++ b) → is_some (town a).host ≡ true → (town (a ++ b)).host ≡ (town a).host
 host_stays a b legal there =
     ap (λ (t : Town). t.host) (fold-append step empty_town a b)

@@ -9,12 +9,12 @@ use Rattle.fedi_log.specs.Log.{Log, doubts_after, doubts_of, entry_in, given, hi
 use Rattle.fedi_objects.specs.declared.entry.Entry.{Entry}
 use Rattle.fedi_logged.specs.Marks.{MarksMayCome, MayCome}
 
--- a history that is given has no marks
+-- a given history has no marks
 pub given_marks : (before history : List Entry) → MarksMayCome before (given history)
 given_marks before [] = tt
 given_marks before (e ∷ history) = (tt, given_marks (before ++ e ∷ []) history)
 
--- two logs, one behind the other
+-- two logs, one after the other
 pub marks_append : (history : List Entry) (a b : Log) → MarksMayCome history a → MarksMayCome (history ++ history_of a) b → MarksMayCome history (a ++ b)
 marks_append history [] b first then = subst (λ (h : List Entry). MarksMayCome h b) (append-nil history) then
 marks_append history (i ∷ a) b first then = (
@@ -25,7 +25,7 @@ marks_append history (i ∷ a) b first then = (
 
 -- ---- what may be in doubt
 
--- one item more: each record that may be in doubt is the code of an entry that may come next
+-- one more item: each record that may be in doubt is the code of an entry that may come next
 doubts_stay : (history : List Entry) (doubts : List (List ℕ)) (w : What) → MayCome history w → All (IsNextCode history) doubts
     → All (IsNextCode (history ++ entry_in w)) (doubts_after doubts w)
 doubts_stay history doubts (Entered e) may all = All-nil (IsNextCode (history ++ e ∷ []))

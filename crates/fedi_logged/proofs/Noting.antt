@@ -10,7 +10,7 @@ use Rattle.fedi_logged.specs.declared.noted.Deed.{Deed}
 use Rattle.fedi_logged.specs.declared.noted.Noted.{Noted}
 use Rattle.fedi_logged.specs.Logs.{item_of, log_of, what_of}
 
--- the log has the item of the note
+-- the log has one more item, that of the note
 pub log_more : (first : List Entry) (old new : List Noted) (n : Noted) → new ≡ old ++ n ∷ [] → log_of first new ≡ log_of first old ++ item_of n ∷ []
 log_more first old new n is =
     ap (λ (l : List Noted). given first ++ map item_of l) is
@@ -20,7 +20,7 @@ log_more first old new n is =
 noted_at : (n : Noted) (d : Deed) (by : Option ℕ) → n.deed ≡ d → n.by ≡ by → item_of n ≡ made_by by (what_of d)
 noted_at n d by deed number = λ i. made_by (number i) (what_of (deed i))
 
--- what was noted is this
+-- this is what was noted
 pub noted_more : (first : List Entry) (old new : List Noted) (n : Noted) (d : Deed) (by : Option ℕ) (what : What) → new ≡ old ++ n ∷ [] → n.deed ≡ d → n.by ≡ by → what_of d ≡ what
     → log_of first new ≡ log_of first old ++ made_by by what ∷ []
 noted_more first old new n d by what is deed number same =
@@ -35,7 +35,7 @@ pub marked : (first : List Entry) (old new : List Noted) (n : Noted) (d : Deed) 
     → log_of first new ≡ log_of first old ++ made_by by (Marked e) ∷ []
 marked first old new n d e by is deed number same = noted_more first old new n d by (Marked e) is deed number same
 
--- and is longer by one
+-- and its length grows by one
 pub length_more : (log now : Log) (i : Item) (front : ℕ) → now ≡ log ++ i ∷ [] → front ≡ length log → front + 1 ≡ length now
 length_more log now i front is counts =
     let longer : length now ≡ length log + length (i ∷ []) = ap length is ∙ length-append log (i ∷ []) in omega (arith, longer, counts)

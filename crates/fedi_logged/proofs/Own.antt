@@ -1,4 +1,4 @@
--- A log to which nobody else adds.
+-- A log that nobody else adds to.
 use Rattle.std.proofs.Common.{◌≡◌, ℕ, ◌∷◌, [], ◌++◌, All, Option, Result, Ok, Err, OnErr, refl, sym, ap, subst, ◌∙◌, append_assoc}
 use Rattle.std.proofs.lemmas.List.Elements.{All-append, All-cons, All-nil}
 use Rattle.fedi_log.specs.Keeping.{GoesAlone}

@@ -1,4 +1,4 @@
--- A peer and this host stay as they are, so that the post for a recipient does.
+-- A peer and this host do not change, so the post for a recipient does not either.
 use Rattle.std.proofs.Common.{◌≡◌, ℕ, Bool, true, false, List, [], ◌∷◌, ◌++◌, Option, Some, None, is_some, refl, sym, ap, subst, ◌∙◌, append-nil, append_assoc}
 use Rattle.std.specs.Prelude.{IsTrue, if◌then◌else◌}
 use Rattle.std.specs.List.{find, fold}
@@ -21,7 +21,7 @@ use Rattle.fedi_logged.proofs.Hosts.{host_stays}
 
 -- ---- peers are only added
 
--- these peers, and then more
+-- these peers, followed by more
 record HasMore (before after : List Peer) : Type 0 where
   more : List Peer
   is : after ≡ before ++ more
@@ -77,7 +77,7 @@ post_stays a b recipient inbox body legal some =
     let there = both_some (town a).host (peer_for (town a) recipient) recipient some in
     λ i. post_by (host_stays a b legal there.0 i) (peer_stays a b recipient there.1 i) inbox body
 
--- the post at this log is the post at each earlier one at which there was a lookup
+-- the post at this log is the post at each earlier log that had a lookup
 pub post_since : (history : List Entry) (log : Log) (p : Pair) (inbox body text : List ℕ) → history ≡ history_of log → IsLegal history
     → Some text ≡ post_to (town history) p.recipient inbox body → IsPostSince log p inbox body text
 post_since history log p inbox body text held legal is = λ seen more begins some.

@@ -1,4 +1,4 @@
--- The turn that ends an attempt, by what became of its entry.
+-- The turn that ends an attempt, given what became of its entry.
 use Rattle.std.proofs.Common.{◌≡◌, ℕ, ◌+◌, ◌-◌, List, [], ◌∷◌, ◌++◌, length, Option, Some, None, Result, Ok, Err, IfErr, OnErr, OnOk, refl, sym, ap, subst, ◌∙◌, append-nil}
 use Rattle.std.specs.Prelude.{map}
 use Rattle.fedi_core.specs.Crashing.{PassesTimeUnkept, PassesTimeWith}
@@ -35,7 +35,7 @@ use Rattle.fedi_logged.proofs.Turning.{failed_turn, full_turn, kept_turn, memory
 pub released_silent : (p : Pair) → IsSilent (Released p)
 released_silent p = record { entries = refl; marks = refl; doubts = λ ds. refl; may_come = λ h. tt }
 
--- what became of the machine, where its entry is this one
+-- what became of the machine, if this is its entry
 pub record IsRecorded (growth room : ℕ → ℕ) (before after : Standing) (e : Entry) (r : Result (Unit {0}) RecordFault) : Type 0 where
   pub kept : OnOk r (IsKept growth room before.state.history e before.state.keeper after.state.keeper after.state.history)
   pub refused : IfErr r (λ f. Refuses room (code_of e) (keep_fault f) before.state.keeper after.state.keeper)
@@ -45,7 +45,7 @@ pub record IsRecorded (growth room : ℕ → ℕ) (before after : Standing) (e :
   pub time : OnOk r (PassesTimeWith before.state.keeper.records before.state.keeper.doubt (code_of e) before.crashes after.crashes)
   pub time_refused : IfErr r (λ f. PassesTimeUnkept (keep_fault f) before.state.keeper.records before.state.keeper.doubt (code_of e) before.crashes after.crashes)
 
--- the machine goes on standing for its log
+-- the machine still holds its log
 pub record_stands : (growth room : ℕ → ℕ) (opened : State) (first : Crashes) (by : Option ℕ) (before after : Standing) (log now : Log) (p : Pair) (came : Came) (m : ℕ)
     (r : Result (Unit {0}) RecordFault) → StandsFor growth room opened first before.state before.crashes log → IsRecorded growth room before after (tried p came m) r
     → now ≡ log ++ made_by by (what_after p came m r) ∷ [] → StandsFor growth room opened first after.state after.crashes now
@@ -70,7 +70,7 @@ pub record AreRecorded (h h' : List Entry) (rows new : List QueueRow) (c : Claim
   pub counted : claims_in rows ≡ claims_in new + 1
   pub queue : map release new ≡ rows_of (town h')
 
--- and its claims those of its log
+-- and its claims are still those of its log
 pub record_claims : (growth room : ℕ → ℕ) (before after : Standing) (by : Option ℕ) (p : Pair) (c : Claim) (came : Came) (m : ℕ) (rows new : List QueueRow) (log now : Log) (front claimed : ℕ)
     (r : Result (Unit {0}) RecordFault) → IsLegal before.state.history → IsRecorded growth room before after (tried p came m) r
     → AreRecorded before.state.history after.state.history rows new c (tried p came m) r → HasClaimed by log p c → now ≡ log ++ made_by by (what_after p came m r) ∷ []
@@ -84,7 +84,7 @@ record_claims growth room before after by p c came m rows new log now front clai
 record_claims growth room before after by p c came m rows new log now front claimed (Err Memory) legal k a has is held =
     claiming_released before.state.history after.state.history by p c rows new log now front claimed legal k.same has a.released a.counted is held
 
--- what is said of it
+-- what its contract says
 pub records : (growth room : ℕ → ℕ) (opened : State) (by : Option ℕ) (before after : Standing) (log now : Log) (p : Pair) (came : Came) (m : ℕ) (r : Result (Unit {0}) RecordFault)
     → Holds (base_of growth room opened) before.state log → IsRecorded growth room before after (tried p came m) r
     → now ≡ log ++ made_by by (what_after p came m r) ∷ [] → Records (base_of growth room opened) by log now p came m r

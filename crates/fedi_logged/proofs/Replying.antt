@@ -1,4 +1,4 @@
--- The reply to a request, by what the machine decides for its caller and what its keeper does.
+-- The reply to a request, given what the machine decides for its caller and what its keeper does.
 use Rattle.std.proofs.Common.{◌≡◌, ℕ, List, Option, Some, None, Result, Ok, Err, inl, inr, refl, sym, subst, ◌∙◌}
 use Rattle.fedi_core.specs.Keeping.{IsKept, Refuses}
 use Rattle.fedi_core.specs.declared.keeping.KeepFault.{KeepFault}
@@ -26,13 +26,13 @@ use Rattle.fedi_model.specs.Routes.{Asks}
 use Rattle.fedi_town.specs.Towns.{Town}
 use Rattle.fedi_logged.specs.Conversations.{IsPrivateReply, IsReply, Settles}
 
--- ---- who may not be taken for a caller
+-- ---- a request without a valid caller
 
 -- the refusal of a caller is the answer, and nothing is kept
 refused_answer : (t : Town) (moment : ℕ) (q : Request) (body : List ℕ) (e : Refusal) → caller_of t q body ≡ Err e → Answers t moment q body (refused e) None
 refused_answer t moment q body e caller = subst (λ (c : Result Caller Refusal). AnswersTo t moment c q body (refused e) None) (sym caller) (refl, refl)
 
--- ---- what is decided for a caller
+-- ---- the decision for a caller
 
 -- the reply to a caller for what the request asks
 asked_answer : (t : Town) (moment : ℕ) (q : Request) (body : List ℕ) (c : Caller) (ask : Ask) (r : Reply) → caller_of t q body ≡ Ok c → Asks t.host q body ask → r ≡ reply t c ask
@@ -55,7 +55,7 @@ pub record IsDecided (state : State) (moment : ℕ) (q : Request) (body : List �
   pub made_is : made ≡ entry_of (town state.history) c ask moment
   pub private : IsPrivate state.history c ask r
 
--- the reply that is then given, by what became of the entry
+-- the reply that is then given, given what became of the entry
 settled_reply : (room : ℕ → ℕ) (state : State) (moment : ℕ) (q : Request) (body : List ℕ) (c : Caller) (ask : Ask) (r : Reply) (made : Option Entry) (outcome : Outcome) (given : Reply)
     → IsDecided state moment q body c ask r made → Settles room state.keeper.end r made outcome given
     → IsPrivateReply state.history moment q body given → IsCleanBody given.body → IsReply room state.history state.keeper.end moment q body outcome given
@@ -73,7 +73,7 @@ decided_clean : (state : State) (moment : ℕ) (q : Request) (body : List ℕ) (
     → IsDecided state moment q body c ask r made → IsCleanBody r.body
 decided_clean state moment q body c ask r made d = subst (λ (x : Reply). IsCleanBody x.body) (sym d.reply_is) (reply_is_clean (town state.history) c ask)
 
--- what was decided, by the parts of the decision
+-- the decision, by its parts
 pub decided : (state : State) (moment : ℕ) (q : Request) (body : List ℕ) (c : Caller) (ask : Ask) (r : Reply) (made other : Option Entry) (host : Option (List ℕ))
     → caller_of (town state.history) q body ≡ Ok c → host ≡ (town state.history).host → Asks host q body ask → r ≡ reply (town state.history) c ask → made ≡ entry_of (town state.history) c ask moment
     → IsPrivate state.history c ask r → made ≡ other → IsDecided state moment q body c ask r other
@@ -85,7 +85,7 @@ decided state moment q body c ask r made other host is at asks reply_is made_is 
   private = private;
 }
 
--- ---- the reply, by what became of the entry
+-- ---- the reply, given what became of the entry
 
 pub refused_reply : (room : ℕ → ℕ) (state : State) (moment : ℕ) (q : Request) (body : List ℕ) (e : Refusal) → caller_of (town state.history) q body ≡ Err e
     → IsReply room state.history state.keeper.end moment q body NoEntry (refused e)

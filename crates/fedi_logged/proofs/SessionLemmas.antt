@@ -27,7 +27,7 @@ use Rattle.fedi_logged.specs.Turning.{TurnTells}
 told_of : (P : List ℕ → Type 0) (known : Option (List ℕ)) (left : List ℕ) → known ≡ Some left → IfSome known P → P left
 told_of P known left is h = subst (λ (k : Option (List ℕ)). IfSome k P) is h
 
--- the bytes that were taken since stand in front of what is left now
+-- the bytes that were taken since then precede what is left now
 taken_since : (old more : List ℕ) (before now : Option (List ℕ)) (left : List ℕ) → Consumes before now more → StandsIn old before left → StandsIn (old ++ more) now left
 taken_since old more None now left taken stands = cc
 taken_since old more (Some x) None left taken stands = absurd taken
@@ -63,7 +63,7 @@ unless_failed_on first before now written text was (inr broken) = inr (breaks_on
 goes_to : (by : Option ℕ) (seen log : Log) → seen ≡ log → Goes by seen log
 goes_to by seen log same = subst (λ (l : Log). Goes by seen l) same (goes_here by seen)
 
--- this exchange was made, and its text was sent so
+-- this exchange was made, and its text was sent in this way
 replied : (w : Setting) (first : Output) (before now : Scene) (log : Log) (old pending : List ℕ) (p : Progress) (x : Exchange) (closing : Bool) (ending : Option SessionEnd)
     → closing ≡ closes p.count x.arrived → IsExchange w p x → (after w p x).log ≡ log → IsAt first before old p
     → (closing ≡ false → StandsIn pending now.input x.rest) → Replies before.output now.output (reply_text x.moment (is_head_only x.arrived) closing x.reply) closing ending
@@ -108,7 +108,7 @@ replied w first before now log old pending p x closing ending is next same at st
 abbrev asked : Request → List ℕ → List ℕ → Log → ℕ → Outcome → Reply → Exchange
 asked q body rest log moment outcome r = record { arrived = Ok q; body = body; rest = rest; log = log; moment = moment; outcome = outcome; reply = r }
 
--- from what is the same
+-- from an equal log
 goes_from : (by : Option ℕ) (a b log : Log) → b ≡ a → Goes by a log → Goes by b log
 goes_from by a b log same goes = subst (λ (l : Log). Goes by l log) (sym same) goes
 
@@ -126,7 +126,7 @@ answered w seen next before now count old pending q body moment closing text end
     (record { open_yet = at.open_yet; arrival = came.1; now = is_now; later = goes_from w.by seen p.log t.0 same t.1; reply = t.2.replies })
     (sym t.2.grown) at (λ _. came.2) (subst (λ (x : List ℕ). Replies before.output now.output x closing ending) t.2.text_is sent)
 
--- out of memory: the other side was told so, and others alone added to the log
+-- memory ran out: the other side was informed, and only others added to the log
 given_up : (w : Setting) (seen next : Log) (before now : Scene) (count : ℕ) (old pending : List ℕ) (ending : Option SessionEnd)
     → Goes w.by seen next → GivesUp before.output now.output ending → StepsOn w seen count before old now pending next ending
 given_up w seen next before now count old pending ending goes gives =
@@ -137,8 +137,8 @@ given_up w seen next before now count old pending ending goes gives =
       told = unless_failed_on first before.output now.output p.written memory_text at.written gives.1;
     })
 
--- the line was read before it was written to: the output stayed until then, and what is to be read
--- since
+-- the line was read before it was written to: the output did not change until then, and the input
+-- to come did not change after it
 told_since : (a : Arrived) (body old pending : List ℕ) (before mid now : Option (List ℕ)) → now ≡ mid
     → TellsIfTold old before a body pending mid → TellsIfTold old before a body pending now
 told_since a body old pending before mid now same told =
@@ -269,6 +269,6 @@ pub counts_are : (reads more : ℕ) (before now : Output) → reads ≡ more →
 counts_are reads more before now same quiet =
     ap (λ (r : ℕ). faults_of r now.faults) same ∙ ap (λ (o : Output). faults_of more o.faults) quiet
 
--- until then no fault was counted
+-- no fault was counted until then
 pub counted_on : (first before now : Faults) (e : Option SessionEnd) → before ≡ first → IsCounted before now e → IsCounted first now e
 counted_on first before now e same x = subst (λ (f : Faults). IsCounted f now e) same x

@@ -1,4 +1,4 @@
--- An item that leaves the history, the marks and the doubts: a claim, or a release.
+-- An item that does not change the history, the marks or the doubts: a claim, or a release.
 use Rattle.std.proofs.Common.{◌≡◌, ℕ, ◌≤◌, ◌+◌, List, [], ◌∷◌, ◌++◌, length, Option, refl, sym, ap, subst, ◌∙◌, append_assoc, append-nil, length-append, arith}
 use Rattle.std.specs.Prelude.{option_to_list}
 use Rattle.std.proofs.lemmas.List.{drop-append-le}
@@ -68,7 +68,7 @@ silent_crashes b by w log first now opened c = record {
   }) c.crash;
 }
 
--- The machine stands for the log with such an item, too.
+-- The machine holds the log with such an item too.
 pub stands_silent : (growth room : ℕ → ℕ) (opened : State) (first : Crashes) (by : Option ℕ) (w : What) (state : State) (crashes : Crashes) (log now : Log) → IsSilent w
     → now ≡ log ++ made_by by w ∷ [] → StandsFor growth room opened first state crashes log → StandsFor growth room opened first state crashes now
 stands_silent growth room opened first by w state crashes log now s is stands =

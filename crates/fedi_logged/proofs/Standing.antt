@@ -1,4 +1,4 @@
--- A machine goes on standing for its log, turn by turn.
+-- A machine still holds its log after each turn.
 use Rattle.std.proofs.Common.{◌≡◌, ℕ, Bool, true, List, [], ◌∷◌, ◌++◌, length, Option, None, is_some, refl, sym, ap, subst, ◌∙◌, append_assoc, append-nil, inl, arith, suc}
 use Rattle.fedi_core.proofs.Crashing.{if_told}
 use Rattle.fedi_log.specs.Keeping.{Base, State, base_of}
@@ -17,7 +17,7 @@ use Rattle.fedi_logged.proofs.Crashing.{crashes_more, turn_marks}
 use Rattle.fedi_logged.proofs.Hosts.{host_stays}
 use Rattle.fedi_logged.proofs.Marks.{given_marks, marks_append}
 
--- ---- one turn more
+-- ---- one more turn
 
 pub stands_more : (growth room : ℕ → ℕ) (opened : State) (first : Crashes) (by : Option ℕ) (before after : Standing) (log now : Log) (o : Outcome)
     → StandsFor growth room opened first before.state before.crashes log → IsLegal after.state.history → Turns growth before after o → now ≡ log ++ items_of by o
@@ -69,7 +69,7 @@ given_length : (history : List Entry) → length (given history) ≡ length hist
 given_length [] = refl
 given_length (e ∷ history) = ap (λ (n : ℕ). suc n) (given_length history)
 
--- nothing was noted yet
+-- nothing has been noted yet
 pub stands_opened : (growth room : ℕ → ℕ) (opened now : State) (first c : Crashes) (noted : List Noted) (front : ℕ) → noted ≡ [] → opened ≡ now → AreSame first c
     → IsLegal now.history → LeavesRecords now.keeper c → front ≡ length now.history
     → (front ≡ length (log_of opened.history noted)) × StandsFor growth room opened first now c (log_of opened.history noted)

@@ -53,7 +53,7 @@ own_of_conversation w seen log input written xs c =
     (added_both w.by seen (progress w (beginning input seen) xs).log log (own_items w.by xs) []
     (added_converse w (beginning input seen) xs c.each) (added_others w.by (progress w (beginning input seen) xs).log log c.later))
 
--- ---- each log is a front, and no two exchanges share an item
+-- ---- each log is a beginning, and no two exchanges share an item
 
 pub at_fronts : (w : Setting) (p : Progress) (xs : List Exchange) (log rest : Log) → Converses w p xs → log ≡ (progress w p xs).log ++ rest → AreAtFronts w.by log xs
 at_fronts w p [] log rest held is = tt
@@ -88,7 +88,7 @@ failures_marked w p (x ∷ xs) held =
     let both : length (failures (x ∷ xs)) ≡ length (failed_in x.outcome) + length (failures xs) = length-append (failed_in x.outcome) (failures xs) in
     omega (arith, one, more, both)
 
--- ---- there are no gaps where nobody else adds
+-- ---- there are no gaps if nobody else adds
 
 no_others : (by : Option ℕ) (rest more : Log) → All (IsOthers by) rest → All (λ (i : Item). i.pass ≡ by) (rest ++ more) → rest ≡ []
 no_others by [] more others own = refl

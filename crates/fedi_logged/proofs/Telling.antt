@@ -1,4 +1,4 @@
--- What a turn tells of its log.
+-- What a turn says about its log.
 use Rattle.std.proofs.Common.{◌≡◌, ℕ, List, ◌++◌, Bool, Option, Result, Ok, Err, Vec, IfOk, OnErr, subst}
 use Rattle.fedi_log.specs.Keeping.{Holds, State, base_of}
 use Rattle.fedi_log.specs.Log.{Log, Outcome, history_of, items_of}
@@ -13,7 +13,7 @@ use Rattle.fedi_logged.specs.Turning.{IsReplyAt, Tells}
 use Rattle.fedi_logged.specs.Logs.{MachineLog, TurnsOn}
 use Rattle.fedi_logged.specs.Turns.{standing_by}
 
--- the reply is one at the log for which the machine stands
+-- the reply is one at the log that the machine holds
 reply_at : (growth room : ℕ → ℕ) (opened state : State) (log : Log) (moment : ℕ) (q : Request) (body : List ℕ) (o : Outcome) (r : Reply)
     → Holds (base_of growth room opened) state log → IsReply room state.history state.keeper.end moment q body o r
     → IsReplyAt (base_of growth room opened) log moment q body o r
@@ -28,7 +28,7 @@ tells growth room opened state by log seen now moment q body closing o given tex
     subst (λ (l : Log). Tells (base_of growth room opened) by l now moment q body closing text) same
     (record { outcome = o; reply = given; replies = reply_at growth room opened state log moment q body o given holds reply; text_is = is; grown = grown })
 
--- the same of a text that may find no memory
+-- the same for a text that may lack memory
 pub told : {A E : Type 0} (growth room : ℕ → ℕ) (opened state : State) (by : Option ℕ) (log seen now : Log) (moment : ℕ) (q : Request) (body : List ℕ) (closing : Bool) (o : Outcome) (given : Reply) (r : Result (Vec ℕ A) E)
     → log ≡ seen → Holds (base_of growth room opened) state log → IsReply room state.history state.keeper.end moment q body o given → now ≡ log ++ items_of by o
     → IfOk r (λ t. t.items ≡ reply_text moment q.head_only closing given)
@@ -37,12 +37,12 @@ told growth room opened state by log seen now moment q body closing o given (Ok 
     tells growth room opened state by log seen now moment q body closing o given t.items same holds reply grown is
 told growth room opened state by log seen now moment q body closing o given (Err e) same holds reply grown is = tt
 
--- the log is as it was
+-- the log is unchanged
 pub untold : {T E : Type 0} (r : Result T E) (log now : Log) → now ≡ log → OnErr r (now ≡ log)
 untold (Ok t) log now same = tt
 untold (Err e) log now same = same
 
--- one turn of the machine and its log, which are these
+-- one turn of the machine and this log
 pub turned : {P : Type 0} (growth : ℕ → ℕ) (by : Option ℕ) (shown : P → KeeperState) (crashes : P → Crashes) (m n : MachineLog P) (after : Machine P) (now : Log) → m ≡ n
     → TurnsOn growth by (standing_by shown crashes m.core) (standing_by shown crashes after) m.log now
     → TurnsOn growth by (standing_by shown crashes n.core) (standing_by shown crashes after) n.log now

@@ -1,4 +1,4 @@
--- Turns of the machine, by what became of the entry.
+-- Turns of the machine, given what became of the entry.
 use Rattle.std.proofs.Common.{◌≡◌, ℕ, refl, subst, ◌∙◌, arith}
 use Rattle.fedi_core.proofs.Crashing.{stands_still}
 use Rattle.fedi_core.specs.Crashing.{PassesTimeUnkept, PassesTimeWith}
@@ -66,7 +66,7 @@ failed_turn growth room before after e same next k =
       may_fail = next;
     }
 
--- by a reason that is another's name
+-- with a reason that equals another
 pub unkept_by : (room : ℕ → ℕ) (before after : Standing) (e : Entry) (f fault : KeepFault) → f ≡ fault → IsUnkept room before after e f → IsUnkept room before after e fault
 unkept_by room before after e f fault is k = subst (IsUnkept room before after e) is k
 
@@ -88,7 +88,7 @@ pub failed_turn_by : (growth room : ℕ → ℕ) (before after : Standing) (e : 
 failed_turn_by growth room before after e f is same next refused time =
     failed_turn growth room before after e same next (unkept_by room before after e f faults.Failed is (refused, time))
 
--- ---- it was kept
+-- ---- the entry was kept
 
 pub kept_turn : (growth room : ℕ → ℕ) (before after : Standing) (e : Entry)
     → IsKept growth room before.state.history e before.state.keeper after.state.keeper after.state.history

@@ -1,4 +1,4 @@
--- What a request makes is no attempt of a delivery.
+-- The entry that a request adds is no attempt of a delivery.
 use Rattle.std.proofs.Common.{◌≡◌, ℕ, false, List, Option, Some, None, refl}
 use Rattle.fedi_log.specs.Claims.{tries}
 use Rattle.fedi_log.specs.declared.items.Pair.{Pair}
@@ -13,7 +13,7 @@ use Rattle.fedi_town.specs.declared.caller.Caller.{Caller}
 use Rattle.fedi_town.specs.declared.caller.Caller.TheVariants as callers
 use Rattle.fedi_town.specs.Towns.{Town, id_of}
 
--- the entry is of an attempt of no delivery
+-- the entry records an attempt of no delivery
 abbrev pub IsUntried : Entry → Type 0
 IsUntried e = (p : Pair) → tries p e ≡ false
 

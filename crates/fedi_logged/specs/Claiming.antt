@@ -1,4 +1,4 @@
--- What a pass claims of a machine with its log, and what becomes of it.
+-- What a pass claims of a machine with its log, and what becomes of the claim.
 use Rattle.std.specs.Prelude.{◌≡◌, ◌⊎◌, ℕ, ◌+◌, ◌-◌, ◌^◌, ◌≤◌, List, ◌∷◌, [], ◌++◌, length, map}
 use Rattle.std.specs.Prelude.{IsTrue, Option, None, Some, is_some, Result, Ok, Err, slice_get}
 use Rattle.std.specs.declared.alloc.AllocError.{AllocError}
@@ -28,8 +28,8 @@ use Rattle.fedi_town.specs.Histories.{town}
 use Rattle.fedi_town.specs.Towns.{Town}
 use Rattle.fedi_logged.specs.declared.claims.Sending.{Sending}
 
--- The rows are those of the town, claimed as the log says, so many of them; and the log has room
--- for what ends each claim: it is no longer than a u64 can count.
+-- The rows are those of the town, claimed as the log says, and this many are claimed. The log has
+-- room for the item that ends each claim: its length fits in a u64.
 pub record IsClaiming (t : Town) (rows : List QueueRow) (log : Log)
     (front claimed : ℕ) : Type 0 where
   pub queue : map release rows ≡ rows_of t
@@ -37,7 +37,7 @@ pub record IsClaiming (t : Town) (rows : List QueueRow) (log : Log)
   pub counted : claimed ≡ claims_in rows
   pub room : front + claimed ≤ 2 ^ 64 - 1
 
--- some delivery is claimed so, and the pass did nothing since
+-- some delivery is claimed with this claim, and the pass has done nothing since
 abbrev pub IsClaimed : Option ℕ → Log → Claim → Type 0
 IsClaimed by log c = (p : Pair) × HasClaimed by log p c
 
@@ -45,15 +45,14 @@ IsClaimed by log c = (p : Pair) × HasClaimed by log p c
 abbrev pub claim_item : Option ℕ → Pair → Claim → Item
 claim_item by p c = made_by by (claimed_by p c)
 
--- The first delivery that is due at this moment and that nobody had claimed is claimed; or there is
--- none.
+-- The first delivery that is due at this moment and was not claimed is claimed, or there is none.
 abbrev pub Claims : Option ℕ → ℕ → Log → Log → Option Claim → Type 0
 Claims by moment log now None = (free_in log moment ≡ []) × (now ≡ log)
 Claims by moment log now (Some c) =
     (p : Pair) × (c.moment ≡ moment) × IsFirst p.activity p.recipient (free_in log moment)
     × (now ≡ log ++ claim_item by p c ∷ [])
 
--- the recipient of a claimed delivery, and what is sent to deliver it, but for the post to the
+-- the recipient of a claimed delivery, and what is sent to deliver it, except for the post to the
 -- inbox
 pub record IsSending (t : Town) (p : Pair) (c : Claim) (recipient : List ℕ)
     (o : Outgoing) : Type 0 where
@@ -63,8 +62,8 @@ pub record IsSending (t : Town) (p : Pair) (c : Claim) (recipient : List ℕ)
   pub recipient_is : recipient ≡ p.recipient
   pub sent : IsOutgoing t act p.recipient o
 
--- The first delivery that is due at this moment and that nobody had claimed is claimed, with what
--- is sent to deliver it; or there is none; or there is no memory, and it is released again, or
+-- The first delivery that is due at this moment and was not claimed is claimed, with what is sent
+-- to deliver it; or there is none; or there is no memory, and the delivery is released again or
 -- nothing was claimed.
 abbrev pub TakesUp : Option ℕ → ℕ → Log → Log → Result (Option Sending) AllocError → Type 0
 TakesUp by moment log now (Ok None) = (free_in log moment ≡ []) × (now ≡ log)
@@ -78,20 +77,20 @@ TakesUp by moment log now (Err e) =
     × IsFirst p.activity p.recipient (free_in log moment)
     × (now ≡ (log ++ claim_item by p c ∷ []) ++ made_by by (Released p) ∷ []))
 
--- The text is the post of the body to the inbox for the recipient, as at each earlier log at which
--- there was a lookup of it: neither this host nor a peer changes.
+-- The text is the post of the body to the inbox for the recipient, as at each earlier log that had
+-- a lookup of it: neither this host nor a peer changes.
 abbrev pub IsPostSince : Log → Pair → (inbox body text : List ℕ) → Type 0
 IsPostSince log p inbox body text =
     (seen more : Log) → log ≡ seen ++ more
     → IsTrue (is_some (lookup_to (town (history_of seen)) p.recipient))
     → Some text ≡ post_to (town (history_of seen)) p.recipient inbox body
 
--- the entry of what came of an attempt
+-- the entry of the outcome of an attempt
 abbrev pub tried : Pair → Came → ℕ → Entry
 tried p came moment = Tried p.activity p.recipient came moment
 
--- Whether there was room for an entry of this length, by what became of it: there was if it was
--- kept, or the keeper failed to keep it, and there was none if it is full.
+-- Whether there was room for an entry of this length, given what became of it: there was if it was
+-- kept or the keeper failed to keep it, and there was none if the error is that the keeper is full.
 abbrev pub FitsIf : (ℕ → ℕ) → ℕ → ℕ → Result (Unit {0}) RecordFault → Type 0
 FitsIf room end length (Ok done) = HasRoom room end length
 FitsIf room end length (Err KeeperFault) = HasRoom room end length
@@ -106,7 +105,7 @@ what_after p came moment (Err Full) = Released p
 what_after p came moment (Err Memory) = Released p
 
 -- What becomes of an attempt of the delivery: its entry is kept; or the keeper failed to keep it;
--- or it has no room for it, or there is no memory, and the delivery is released.
+-- or the keeper has no room for it, or there is no memory, and the delivery is released.
 pub record Records (b : Base) (by : Option ℕ) (log now : Log) (p : Pair) (came : Came) (moment : ℕ)
     (recorded : Result (Unit {0}) RecordFault) : Type 0 where
   pub fits : FitsIf b.room (end_of b log) (length (code_of (tried p came moment))) recorded

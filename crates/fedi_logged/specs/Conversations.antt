@@ -1,5 +1,5 @@
 -- What a connection reads and writes, request by request (RFC 9112, sections 2.2, 9.3 and 9.6),
--- over a log that others may add to as well.
+-- over a log that others may add to too.
 use Rattle.std.specs.Prelude.{◌≡◌, ◌⊎◌, ℕ, ◌+◌, ◌-◌, ◌≤◌, min, nat_le, Bool, false, true, not, ◌||◌}
 use Rattle.std.specs.Prelude.{List, [], ◌∷◌, ◌++◌, length, Option, Some, None, Result, Ok, Err}
 use Rattle.std.specs.List.{flat_map, fold}
@@ -24,17 +24,17 @@ use Rattle.fedi_model.specs.ReplyText.{reply_text}
 use Rattle.fedi_objects.specs.declared.entry.Entry.{Entry}
 use Rattle.fedi_outside.specs.Keepers.{HasRoom, IsFull}
 
--- ---- what a conversation is made of
+-- ---- the parts of a conversation
 
--- what stays as it is: the number of the pass that serves the connection, if others add to the log
--- too, what the clock tells, and the keeper at the opening
+-- what stays the same: the number of the pass that serves the connection, if others add to the log
+-- too, the time that the clock gives, if it is known, and the keeper at the opening
 pub record Setting : Type 0 where
   pub by : Option ℕ
   pub told : Option ℕ
   pub base : Base
 
--- a request with its body, or why what stands there is none; what is behind it; the log at which it
--- was answered; and how
+-- a request with its body, or why the bytes there are not a request; the bytes after it; the log at
+-- which it was answered; and how
 pub record Exchange : Type 0 where
   pub arrived : Result Request Refusal
   pub body : List ℕ
@@ -54,13 +54,13 @@ pub record Progress : Type 0 where
 
 -- ---- one exchange
 
--- the moment that a clock gives, up to the last one
+-- the moment that a clock gives, or the last moment if that is later
 abbrev pub IsNow : Option ℕ → ℕ → Type 0
 IsNow None moment = moment ≤ 253402300799
 IsNow (Some told) moment = moment ≡ min told 253402300799
 
--- What the keeper does decides between the machine's reply, which it gives if the entry is kept or
--- none is made, and the two that tell of the keeper.
+-- The keeper decides between the machine's reply, which is given if the entry is kept or there is
+-- none, and the two replies that report on the keeper.
 abbrev pub Settles : (ℕ → ℕ) → ℕ → Reply → Option Entry → Outcome → Reply → Type 0
 Settles room end r None NoEntry given = given ≡ r
 Settles room end r None (Kept e) given = ⊥
@@ -75,14 +75,14 @@ Settles room end r (Some made) (Failed e) given =
     (e ≡ made) × HasRoom room end (length (code_of made)) × (given ≡ refused KeeperFault)
 
 -- the reply is that of each legal history that gives the request the same caller and agrees with
--- this one for that caller, or it tells of the keeper
+-- this one for that caller, or it reports on the keeper
 abbrev pub IsPrivateReply : List Entry → ℕ → Request → List ℕ → Reply → Type 0
 IsPrivateReply history moment q body given =
     IsPrivateAnswer history moment q body given
     ⊎ ((given ≡ refused JournalFull) ⊎ (given ≡ refused KeeperFault))
 
 -- the request with this body is answered at this history and this end of the keeper: with the
--- machine's reply, or with one that tells of the keeper
+-- machine's reply, or with one that reports on the keeper
 pub record IsReply (room : ℕ → ℕ) (history : List Entry) (end moment : ℕ) (q : Request)
     (body : List ℕ) (outcome : Outcome) (given : Reply) : Type 0 where
   pub answer : (r : Reply) × (made : Option Entry) × Answers (town history) moment q body r made
@@ -90,25 +90,26 @@ pub record IsReply (room : ℕ → ℕ) (history : List Entry) (end moment : ℕ
   pub private : IsPrivateReply history moment q body given
   pub clean : IsCleanBody given.body
 
--- what arrived is a request, which is answered at this log, or what is refused as none
+-- what arrived is a request, which is answered at this log, or something that is not, which is
+-- refused
 abbrev pub IsAnswered : Base → Log → ℕ → Result Request Refusal → List ℕ → Outcome → Reply → Type 0
 IsAnswered b log moment (Ok q) body outcome given =
     IsReply b.room (history_of log) (end_of b log) moment q body outcome given
 IsAnswered b log moment (Err e) body outcome given = (outcome ≡ NoEntry) × (given ≡ refused e)
 
--- this stands at the front of the input that is left, and no request
+-- the remaining input begins with this, which is not a request
 abbrev pub StandsAtFront : List ℕ → Arrived → Type 0
 StandsAtFront left arrived = IsArrival HEAD_LIMIT MOST_FIELDS left arrived [] []
 
--- a request with this body stands there, with this behind it, or what is refused: nothing is looked
--- at behind that
+-- the input is a request with this body, followed by these bytes, or it is refused: then nothing
+-- after that is examined
 abbrev pub Arrives : List ℕ → Result Request Refusal → List ℕ → List ℕ → Type 0
 Arrives left (Ok q) body rest = IsArrival HEAD_LIMIT MOST_FIELDS left (arrivals.Request q) body rest
 Arrives left (Err e) body rest =
     StandsAtFront left (arrivals.Refused e) × (body ≡ []) × (rest ≡ left)
 
--- the next exchange, on a connection that is open: it is answered at a log that goes on from the
--- one that was seen
+-- the next exchange, on a connection that is open: it is answered at a log that extends the one
+-- that was seen
 pub record IsExchange (w : Setting) (p : Progress) (x : Exchange) : Type 0 where
   pub open_yet : p.closed ≡ false
   pub arrival : Arrives p.left x.arrived x.body x.rest
@@ -116,14 +117,14 @@ pub record IsExchange (w : Setting) (p : Progress) (x : Exchange) : Type 0 where
   pub later : Goes w.by p.log x.log
   pub reply : IsAnswered w.base x.log x.moment x.arrived x.body x.outcome x.reply
 
--- ---- what comes after an exchange
+-- ---- what follows an exchange
 
 -- the most requests that one connection serves
 abbrev pub most_requests : ℕ
 most_requests = 1000
 
--- what asks to close the connection, as HTTP/1.0 always does, and what is refused, is the last on
--- it (RFC 9112, sections 9.3 and 9.6)
+-- a request that asks to close the connection, as HTTP/1.0 always does, or that is refused, is the
+-- last on it (RFC 9112, sections 9.3 and 9.6)
 abbrev pub ends_by : Result Request Refusal → Bool
 ends_by (Ok q) = not q.keep_alive
 ends_by (Err e) = true
@@ -132,8 +133,8 @@ ends_by (Err e) = true
 abbrev pub closes : ℕ → Result Request Refusal → Bool
 closes count arrived = ends_by arrived || nat_le (most_requests - 1) count
 
--- the reply has no body: its request asks for none (RFC 9110, section 9.3.2); what is refused as no
--- request is told why in full
+-- the reply has no body: its request asks for none (RFC 9110, section 9.3.2); the reply to what is
+-- not a request gives the reason in full
 abbrev pub is_head_only : Result Request Refusal → Bool
 is_head_only (Ok q) = q.head_only
 is_head_only (Err e) = false
@@ -179,14 +180,14 @@ IsCutShort p = (p.closed ≡ false) × StandsAtFront p.left arrivals.CutShort
 abbrev pub IsAtEnd : Progress → Type 0
 IsAtEnd p = IsOver p ⊎ IsCutShort p
 
--- a conversation over a log, from what was seen of it
+-- a conversation over a log, after what was seen of it
 pub record Conversation (w : Setting) (seen log : Log) (input written : List ℕ)
     (xs : List Exchange) : Type 0 where
   pub each : Converses w (beginning input seen) xs
   pub later : Goes w.by (progress w (beginning input seen) xs).log log
   pub written_is : written ≡ (progress w (beginning input seen) xs).written
 
--- ---- what is said of conversations
+-- ---- properties of conversations
 
 -- the keeper did not fail
 abbrev pub IsCalm : Outcome → Type 0
@@ -205,7 +206,7 @@ abbrev pub NoGaps : Setting → Progress → List Exchange → Type 0
 NoGaps w p [] = Unit {0}
 NoGaps w p (x ∷ xs) = (x.log ≡ p.log) × NoGaps w (after w p x) xs
 
--- the place in the log at which a request was answered
+-- the position in the log at which a request was answered
 abbrev pub front : Exchange → ℕ
 front x = length x.log
 
@@ -221,12 +222,12 @@ failures xs = flat_map (λ (x : Exchange). failed_in x.outcome) xs
 abbrev pub IsAtFront : Option ℕ → Log → Exchange → Type 0
 IsAtFront by log x = (rest : Log) × (log ≡ (x.log ++ items_of by x.outcome) ++ rest)
 
--- each of these exchanges stands so in the log
+-- each of these exchanges is in the log in this way
 abbrev pub AreAtFronts : Option ℕ → Log → List Exchange → Type 0
 AreAtFronts by log [] = Unit {0}
 AreAtFronts by log (x ∷ xs) = IsAtFront by log x × AreAtFronts by log xs
 
--- no two share an item, and fronts never fall
+-- no two share an item, and the positions never go back
 abbrev pub StandApart : Option ℕ → ℕ → List Exchange → Type 0
 StandApart by at [] = Unit {0}
 StandApart by at (x ∷ xs) =

@@ -1,4 +1,4 @@
--- A machine stands for its log, from an opening on.
+-- A machine holds its log, from an opening on.
 use Rattle.std.specs.Prelude.{◌≡◌, ℕ, Bool, true, false, List, [], ◌++◌, map, Option}
 use Rattle.fedi_core.specs.Machines.{Machine}
 use Rattle.fedi_log.specs.Keeping.{Holds, State, base_of}
@@ -19,12 +19,12 @@ use Rattle.fedi_logged.specs.declared.noted.Deed.TheVariants as deeds
 use Rattle.fedi_logged.specs.declared.noted.Delivery.{Delivery}
 use Rattle.fedi_logged.specs.declared.noted.Noted.{Noted}
 
--- ---- what a machine stands for
+-- ---- what a machine holds
 
 -- The log begins with the history of the opening. The machine holds it, and its history is legal:
--- its keeper has the record of each entry that was kept since, once and in order, and counted a
--- fault for each mark and no other. Crashes were so along it, and each entry that is marked in it
--- may come where its mark stands.
+-- its keeper has the record of each entry that was kept since, once and in order, and counted one
+-- fault for each mark and no other. Crashes along it are as `CrashesAlong` says, and each entry
+-- that is marked in it may come at the position of its mark.
 pub record StandsFor (growth room : ℕ → ℕ) (opened : State) (first : Crashes) (now : State)
     (crashes : Crashes) (log : Log) : Type 0 where
   pub past : Log
@@ -39,7 +39,7 @@ pub record MachineLog (P : Type 0) : Type 0 where
   pub core : Machine P
   pub log : Log
 
--- the same moment, and a crash since an earlier one might have left the same
+-- the same moment, and a crash since any earlier one might have left the same in both
 pub record AreSame (a b : Crashes) : Type 0 where
   pub clock : a.clock ≡ b.clock
   pub told : a.told ≡ b.told
@@ -53,9 +53,9 @@ abbrev pub TurnsOn : (ℕ → ℕ) → Option ℕ → Standing → Standing → 
 TurnsOn growth by before after log now =
     (o : Outcome) × Turns growth before after o × (now ≡ log ++ items_of by o)
 
--- ---- what is noted of it
+-- ---- what is noted of the log
 
--- what became of the entry, if it was kept or not
+-- what became of the entry, given whether it was kept
 abbrev pub became : Bool → Entry → What
 became true e = Entered e
 became false e = Marked e
@@ -76,6 +76,6 @@ what_of (deeds.Released d) = Released (pair_of d)
 abbrev pub item_of : Noted → Item
 item_of n = made_by n.by (what_of n.deed)
 
--- the log of a history that was given, with what was noted since
+-- the log of a given history, with what was noted since
 abbrev pub log_of : List Entry → List Noted → Log
 log_of first noted = given first ++ map item_of noted

@@ -1,4 +1,4 @@
--- What a session leaves of a machine that nobody else takes turns with.
+-- What a session leaves of a machine that nobody else uses.
 use Rattle.std.specs.Prelude.{IfSome}
 use Rattle.fedi_log.specs.Keeping.{State}
 use Rattle.fedi_log.specs.Log.{Log}
@@ -8,8 +8,8 @@ use Rattle.fedi_logged.specs.Endings.{Scene, Serves}
 use Rattle.fedi_logged.specs.declared.sessions.SessionEnd.{SessionEnd}
 use Rattle.fedi_logged.specs.Marks.{Survives}
 
--- A session ended so: the machine stands for a log that goes on from what was seen, along which
--- crashes were so; and if the input is told, what was read and written is one conversation over
+-- How a session ended: the machine holds a log that extends what was seen, and crashes along it are
+-- as `CrashesAlong` says. If the input is known, what was read and written is one conversation over
 -- this log.
 abbrev pub EndsSession : Setting → Log → Scene → Scene → Crashes → State → Crashes
     → SessionEnd → Type 0

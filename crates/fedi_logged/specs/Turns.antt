@@ -10,8 +10,8 @@ use Rattle.fedi_opening.specs.Opening.{IsNext}
 use Rattle.fedi_outside.specs.Keepers.{Crashes, KeeperState, PassesTime}
 use Rattle.fedi_town.specs.Histories.{town}
 
--- a crash during a turn leaves the records, or these with the one in doubt, or with that of the
--- entry, if the keeper was to keep it
+-- a crash during a turn leaves the records, followed by the one in doubt or, if the keeper was to
+-- keep an entry, by that of the entry, if by any
 abbrev pub TurnPasses : Outcome → KeeperState → Crashes → Crashes → Type 0
 TurnPasses NoEntry k before after = PassesTime k.records k.doubt before after
 TurnPasses (Kept e) k before after = PassesTimeWith k.records k.doubt (code_of e) before after
@@ -25,13 +25,13 @@ MayFail history (Kept e) = Unit {0}
 MayFail history (Full e) = Unit {0}
 MayFail history (Failed e) = IsNext (town history) e
 
--- a machine at a moment: its history, what its keeper shows, and what a crash then leaves of the
--- records
+-- a machine at a moment: its history, what its keeper shows, and what a crash at that moment leaves
+-- of the records
 pub record Standing : Type 1 where
   pub state : State
   pub crashes : Crashes
 
--- this machine, by what tells of keepers of its kind
+-- the state of this machine, by the functions that give it for keepers of its kind
 abbrev pub standing_by : {P : Type 0} → (P → KeeperState) → (P → Crashes) → Machine P → Standing
 standing_by shown crashes core =
     record { state = state_of core.history (shown core.keeper); crashes = crashes core.keeper }

@@ -1,4 +1,4 @@
-//! A machine that nobody else takes turns with.
+//! A machine that nobody else uses.
 ghost use Rattle.std.specs.Prelude.{◌≡◌, ℕ, IfOk, IsTrue, None, OnErr, is_some};
 ghost use Rattle.std.proofs.Common.{refl};
 ghost use Rattle.fedi_log.specs.Keeping.{GoesAlone, base_of, state_of};
@@ -26,7 +26,7 @@ use fedi_visible::Shelf;
 use std::alloc::{AllocError, Global};
 use std::marker::Brand;
 
-/// A machine with its log, to which nobody else adds: each item since the opening is by no pass.
+/// A machine with its log that nobody else adds to: each item since the opening is by no pass.
 #[derive(Drop)]
 pub struct Alone<S: Shelf, P: Keeper, O: Opened> {
     logged: Logged<S, P, O>,
@@ -34,7 +34,7 @@ pub struct Alone<S: Shelf, P: Keeper, O: Opened> {
 }
 
 impl<S: Shelf + Drop, P: Keeper, O: Opened> Alone<S, P, O> {
-    /// The machine that was opened so.
+    /// The machine, as it was opened.
     pub fn of(core: Core<S, P>, routes: Routes) -> Self
         requires unclaimed { core.rows ≡ rows_of (town core.history) }
         requires opened { O.state ≡ state_of core.history (P.shown core.keeper) }
@@ -118,8 +118,8 @@ fn serve_opened<S: Shelf + Drop, P: Keeper, O: Opened, H: Channel, C: Clock>(
     (end, alone.into_core())
 }
 
-/// Serves one connection by a machine that nobody else takes turns with, and hands the machine back
-/// with how the session ended.
+/// Serves one connection with a machine that nobody else uses, and hands the machine back with how
+/// the session ended.
 pub fn serve_alone<S: Shelf + Drop, P: Keeper, H: Channel, C: Clock>(
     alloc: Global,
     core: Core<S, P>,
@@ -130,10 +130,10 @@ pub fn serve_alone<S: Shelf + Drop, P: Keeper, H: Channel, C: Clock>(
     requires unclaimed { core.rows ≡ rows_of (town core.history) }
     requires hosted { IsTrue (is_some (town core.history).host) }
     requires legal { IsLegal core.history }
-    // From the history that the machine has, the log goes on by what is kept and what the keeper
-    // fails to keep. If the input is told, what was read and written is one conversation over this
-    // log. A crash at any moment leaves the records, then the first of those that were kept since,
-    // and then at most one that was in doubt at that moment of the log.
+    // The log extends the machine's history by what is kept and what the keeper fails to keep. If
+    // the input is known, what was read and written is one conversation over this log. A crash at
+    // any moment leaves the records, then the first of those that were kept since, and then at most
+    // one that was in doubt at that moment of the log.
     ensures ends { let opened = state_of core.history (P.shown core.keeper) in EndsSession
         (setting_by P.growth P.room (C.told clock.now) None opened) (given core.history)
         (scene_on H.left H.sent H.write_faults channel.old)

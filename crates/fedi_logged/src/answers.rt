@@ -44,7 +44,7 @@ impl<S: Shelf + Drop, P: Keeper + Drop, O: Opened> Grows for Logged<S, P, O> {
 }
 
 impl<S: Shelf + Drop, P: Keeper, O: Opened> Logged<S, P, O> {
-    /// The machine that was opened so, with the log of its history. None of its deliveries may be
+    /// The machine, as it was opened, with the log of its history. None of its deliveries may be
     /// claimed.
     pub fn of(core: Core<S, P>) -> Self
         requires unclaimed { core.rows ≡ rows_of (town core.history) }
@@ -64,7 +64,7 @@ impl<S: Shelf + Drop, P: Keeper, O: Opened> Logged<S, P, O> {
         }
     }
 
-    /// The machine, which stands for the log.
+    /// The machine, which holds the log.
     pub fn into_core(self) -> Core<S, P>
         ensures core { result ≡ self.core }
         ensures stands { StandsFor P.growth P.room O.state O.crashes
@@ -82,13 +82,13 @@ impl<S: Shelf + Drop, P: Keeper, O: Opened> Logged<S, P, O> {
     }
 
     /// Answers a request that has this body and asks this, in one turn of the machine by the pass
-    /// of this number, or by none if nobody else adds to the log. It hands back the text of the
-    /// reply, which has no body if the method is HEAD; the connection is told to close if
-    /// `closing`. The reply to a post or a delivery is made before its entry is kept, and so is the
-    /// one that reports a keeper that failed.
+    /// of this number, or by no pass if nobody else adds to the log. Returns the text of the reply,
+    /// which has no body if the method is HEAD and says that the connection closes if `closing`.
+    /// The reply to a post or a delivery is made before its entry is kept, and so is the one that
+    /// reports a failure of the keeper.
     ///
-    /// The error is out of memory, and then nothing was kept, and the keeper did not fail. It also
-    /// comes once the log has 2^64 - 1 items, with one for each delivery that is claimed.
+    /// The error is out of memory, and then nothing was kept, and the keeper did not fail. It is
+    /// also returned when the log has 2^64 - 1 items, counting one for each claimed delivery.
     pub fn answer(
         &mut self,
         alloc: Global,
@@ -105,8 +105,8 @@ impl<S: Shelf + Drop, P: Keeper, O: Opened> Logged<S, P, O> {
         ensures text { IfOk result (λ text. Tells (base_of P.growth P.room O.state) by
             self.old.log self.new.log moment request.now body.now closing text.items) }
         ensures lacking { OnErr result (self.new.log ≡ self.old.log) }
-        // A crash on the way leaves the records, with at most one more: the one in doubt, or the
-        // entry's.
+        // A crash during the turn leaves the records, followed by at most one more: the one in
+        // doubt, or that of the entry.
         ensures turn { TurnsOn P.growth by (standing_by P.shown P.crashes self.old.core)
             (standing_by P.shown P.crashes self.new.core) self.old.log self.new.log }
     {

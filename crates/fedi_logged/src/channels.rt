@@ -1,4 +1,4 @@
-//! Where requests come from, and replies go.
+//! The source of requests, and the sink of replies.
 ghost use Rattle.std.specs.Prelude.{◌≡◌, ℕ, List, Option};
 ghost use Rattle.std.proofs.Common.{refl, ◌∙◌};
 ghost use Rattle.fedi_http.specs.Sending.{Sends};
@@ -10,12 +10,12 @@ use fedi_http::{Arrived, Buffer, read_request, send};
 use fedi_outside::{Failed, Line, Sink, Source};
 use std::alloc::Global;
 
-/// The two ways of a connection: requests come in, and replies go out. Each line is one.
+/// The two directions of a connection: requests come in, and replies go out. A line is a channel.
 pub trait Channel {
-    /// The bytes to come, if it tells them.
+    /// The bytes to come, if they are known.
     ghost left: { Self → Option (List ℕ) };
 
-    /// The bytes that were sent, if it tells them.
+    /// The bytes that were sent, if they are known.
     ghost sent: { Self → Option (List ℕ) };
 
     /// How many reads failed. The count saturates at 2^64 - 1.
@@ -24,10 +24,12 @@ pub trait Channel {
     /// How many writes failed. The count saturates at 2^64 - 1.
     ghost write_faults: { Self → ℕ };
 
-    /// From the first state to the second, all that no call changes is as it was: what it borrows.
+    /// From the first state to the second, everything that no call changes is the same: what the
+    /// channel borrows.
     ghost same: { Self → Self → Type 0 };
 
-    /// Reads the next request into the buffer, as `read_request` does. What was sent stays.
+    /// Reads the next request into the buffer, as `read_request` does. It does not change what was
+    /// sent.
     fn receive(&mut self, alloc: Global, buffer: &mut Buffer) -> Arrived
         ensures takes { Takes buffer.old.pending (left self.old) (left self.new) result
             buffer.new.body buffer.new.pending }
@@ -39,7 +41,7 @@ pub trait Channel {
         ensures same { same self.old self.new };
 
     /// Sends all of the bytes. The error is that a write failed: a proper prefix of them was sent.
-    /// What is to come stays.
+    /// It does not change what is to come.
     fn send(&mut self, bytes: &[u8]) -> Result<(), Failed>
         ensures bytes { Sends (sent self.old) (sent self.new) bytes.now result }
         ensures cause { HasCause (write_faults self.old) (write_faults self.new) result }
@@ -47,10 +49,10 @@ pub trait Channel {
         ensures reads { read_faults self.new ≡ read_faults self.old }
         ensures same { same self.old self.new };
 
-    /// No call changes nothing.
+    /// Without a call, nothing changes.
     ghost same_none: { (channel : Self) → same channel channel };
 
-    /// What two calls leave as it was is as it was.
+    /// What neither of two calls changes stays the same over both.
     ghost same_both: { (first middle last : Self)
         → same first middle → same middle last → same first last };
 }
@@ -79,7 +81,7 @@ impl<L: Line> Channel for L {
     }
 }
 
-/// An input and an output that are borrowed, as one channel.
+/// A borrowed input and a borrowed output, as one channel.
 #[derive(Drop)]
 pub struct Joined<'a, 'b, S, O> {
     pub input: &'a mut S,

@@ -1,4 +1,4 @@
-//! Deliveries, by one who has claimed them.
+//! Deliveries that a pass has claimed.
 ghost use Rattle.std.specs.Prelude.{◌≡◌, ◌∷◌, [], ◌++◌, ◌≤◌, ℕ, IfOk, OnErr, Option, Some};
 ghost use Rattle.fedi_core.specs.Delivering.{claimed_id, claimed_recipient};
 ghost use Rattle.fedi_entry.specs.Fields.{MayCome};
@@ -28,13 +28,13 @@ use fedi_visible::Shelf;
 use std::alloc::{AllocError, Global};
 use std::snapshot::Snapshot;
 
-/// A delivery that is claimed, and what is sent to deliver. It is spent by `record` or `release`.
+/// A claimed delivery, and what is sent to deliver it. It is used up by `record` or `release`.
 pub struct Sending {
     /// The claim.
     pub claim: Claim,
     /// The recipient.
     pub recipient: Iri,
-    /// What is sent, but for the post to the inbox.
+    /// What is sent, except for the post to the inbox.
     pub outgoing: Outgoing,
 }
 
@@ -51,7 +51,7 @@ fn delivery_of<S: Shelf + Drop, P: Keeper>(core: &Core<S, P>, claim: &Claim) -> 
     }
 }
 
-// What an attempt of the delivery adds to the log, by what became of its entry.
+// What an attempt of the delivery adds to the log, given what became of its entry.
 fn deed_after(
     delivery: Delivery,
     came: Came,
@@ -78,8 +78,8 @@ fn deed_after(
 }
 
 impl<S: Shelf + Drop, P: Keeper, O: Opened> Logged<S, P, O> {
-    // Claims the first delivery that is due at this moment and that nobody has claimed. The error
-    // comes if the log has no room for the claim and for what ends it.
+    // Claims the first delivery that is due at this moment and not claimed. The error is returned
+    // if the log has no room for the claim and for the item that ends it.
     fn claim(&mut self, by: Option<u64>, moment: Moment) -> Result<Option<Claim>, AllocError>
         ensures claimed { IfOk result (Claims by moment self.old.log self.new.log) }
         ensures lacking { OnErr result (self.new.log ≡ self.old.log) }
@@ -120,14 +120,14 @@ impl<S: Shelf + Drop, P: Keeper, O: Opened> Logged<S, P, O> {
         Ok((recipient, outgoing))
     }
 
-    /// Claims the first delivery that is due at this moment and that nobody has claimed, for the
-    /// pass of this number, and makes what is sent to deliver it (ActivityPub, section 7.1): there
-    /// is none exactly if it returns none. Until the pass records what came of it or releases it,
-    /// nobody else is given it.
+    /// Claims the first delivery that is due at this moment and not claimed, for the pass of this
+    /// number, and makes what is sent to deliver it (ActivityPub, section 7.1). Returns `None`
+    /// exactly if there is no such delivery. Until the pass records the outcome or releases the
+    /// delivery, nobody else is given it.
     ///
-    /// The error is out of memory, and then nothing is claimed by this call. It also comes once the
-    /// log has 2^64 - 2 items, with one for each delivery that is claimed: room for what ends a
-    /// claim is made before it.
+    /// The error is out of memory, and then this call leaves nothing claimed. It is also returned
+    /// when the log has 2^64 - 2 items, counting one for each claimed delivery: room for the item
+    /// that ends a claim is made before the claim.
     pub fn take_up(
         &mut self,
         alloc: Global,
@@ -185,10 +185,10 @@ impl<S: Shelf + Drop, P: Keeper, O: Opened> Logged<S, P, O> {
         self.claimed -= 1;
     }
 
-    /// Keeps what came of an attempt of a delivery that the pass of this number has claimed, and
-    /// ends the claim (ActivityPub, section 7.1). After an error the history is as before and the
-    /// delivery may be claimed again: `Full` if the keeper has no room for the entry, `KeeperFault`
-    /// if the keeper failed, and `Memory` if out of memory.
+    /// Keeps the outcome of an attempt of a delivery that the pass of this number has claimed, and
+    /// ends the claim (ActivityPub, section 7.1). After an error the history is unchanged and the
+    /// delivery may be claimed again. The error is `Full` if the keeper has no room for the entry,
+    /// `KeeperFault` if the keeper failed, and `Memory` if memory runs out.
     pub fn record(
         &mut self,
         alloc: Global,

@@ -12,10 +12,10 @@ use fedi_outside::Keeper;
 /// What was acknowledged survives a crash at any later moment, before or after the end of its
 /// session.
 ///
-/// Once an exchange is over, a crash leaves the records of all of the log at that moment, with at
-/// most the one in doubt (`now`). Each further turn adds only what comes after that log (`on`). So
-/// whatever a crash since that moment leaves begins with the records of the opening and of all that
-/// was kept up to then (`entries`), and ends a life whose log goes on from that log.
+/// After an exchange is over, a crash leaves the records of the whole log at that moment, followed
+/// by at most the one in doubt (`now`). Each further turn adds only what comes after that log
+/// (`on`). So whatever a crash since that moment leaves begins with the records of the opening and
+/// of everything that was kept up to then (`entries`), and ends a life whose log extends that log.
 pub fn acknowledged_entries_survive<P: Keeper>()
     ensures now { (b : Base) (log : Log) (core : Machine P)
         → let is = standing_by P.shown P.crashes core in Holds b is.state log

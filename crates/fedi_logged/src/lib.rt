@@ -1,8 +1,8 @@
 //! A machine with its log: which entries were kept and which the keeper failed to keep since the
-//! opening, and which deliveries were claimed and released, in order, and by whom. Nothing is held
-//! of the log but its length: contracts see it.
+//! opening, and which deliveries were claimed and released, in order, and by which pass. Only the
+//! length of the log is stored. Its items exist in contracts alone.
 //!
-//! And what a connection reads and writes, request by request, over any machine and any log,
+//! Also what a connection reads and writes, request by request, over any machine and any log,
 //! whether others add to the log or not.
 #![tactic(auto)]
 

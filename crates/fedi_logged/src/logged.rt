@@ -7,15 +7,15 @@ use fedi_register::Trace;
 use fedi_visible::Shelf;
 use std::marker::{Model, PhantomData};
 
-/// A machine with the log for which it stands, from the opening on. A contract sees it as both.
-/// Nothing is held of the log but its length.
+/// A machine with the log that it holds, from the opening on. Contracts see both. Only the length
+/// of the log is stored.
 #[derive(Drop)]
 pub struct Logged<S: Shelf, P: Keeper, O: Opened> {
     pub(crate) core: Core<S, P>,
     pub(crate) noted: Trace<Noted>,
     // The length of the log.
     pub(crate) front: u64,
-    // How many deliveries are claimed: for each there is room in the log for the item that ends its
+    // How many deliveries are claimed. For each of them the log has room for the item that ends its
     // claim.
     pub(crate) claimed: u64,
     pub(crate) of: PhantomData<O>,

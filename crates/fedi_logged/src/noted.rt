@@ -1,11 +1,11 @@
-//! What a turn adds to a log, of which nothing is held.
+//! What a turn adds to a log. None of it is stored.
 use fedi_address::Iri;
 use fedi_log::Place;
 use fedi_objects::{Came, Entry};
 use fedi_text::Moment;
 use std::snapshot::Snapshot;
 
-/// A delivery, of which nothing is held.
+/// A delivery. Nothing of it is stored.
 #[derive(Drop)]
 pub struct Delivery {
     pub activity: Snapshot<Iri>,
@@ -26,7 +26,7 @@ pub enum Deed {
         place: Place,
         moment: Moment,
     },
-    /// The keeper kept what came of an attempt of this delivery, or failed to keep it.
+    /// The keeper kept the outcome of an attempt of this delivery, or failed to keep it.
     Tried {
         delivery: Delivery,
         came: Came,

@@ -1,4 +1,4 @@
-//! The opening from which a log goes on, for contracts alone.
+//! The opening that a log begins with, for contracts alone.
 ghost use Rattle.std.specs.Prelude.{[], None, false};
 ghost use Rattle.fedi_log.specs.Keeping.{State};
 ghost use Rattle.fedi_outside.specs.Keepers.{Crashes};
@@ -6,12 +6,12 @@ ghost use Rattle.fedi_outside.specs.Keepers.{Crashes};
 use std::marker::Brand;
 
 /// The machine as it was opened, for contracts alone. A call that opens a machine picks `Brand` for
-/// it, and says of which machine it speaks.
+/// it, and specifies the machine that it denotes.
 pub trait Opened {
     /// The history, and what its keeper showed.
     ghost state: { State };
 
-    /// What a crash might have left of the keeper's records up to then.
+    /// What a crash might have left of the keeper's records up to that moment.
     ghost crashes: { Crashes };
 }
 

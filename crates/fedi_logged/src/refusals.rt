@@ -1,4 +1,4 @@
-//! The text of a reply that tells a refusal.
+//! The text of a reply that reports a refusal.
 ghost use Rattle.std.specs.Prelude.{◌≡◌, IfOk};
 ghost use Rattle.fedi_model.specs.Refusing.{refused};
 ghost use Rattle.fedi_model.specs.ReplyText.{reply_text};
@@ -8,8 +8,8 @@ use fedi_model::{Refusal, refusal_reply};
 use fedi_text::Moment;
 use std::alloc::{AllocError, Global};
 
-/// The text of the reply that tells a refusal, without its body if `head_only`; the connection is
-/// told to close if `closing`. The error is out of memory.
+/// The text of the reply that reports a refusal, without its body if `head_only`. It says that the
+/// connection closes if `closing`. The error is out of memory.
 pub fn refusal_text(
     alloc: Global,
     refusal: Refusal,

@@ -20,7 +20,7 @@ const MOST_REQUESTS: u64 = 1_000;
 /// How a session ended.
 #[derive(Clone, Copy, Debug)]
 pub enum SessionEnd {
-    /// The input ended where a request would begin.
+    /// The input ended at a point where a request would begin.
     End,
     /// The input ended inside a request.
     CutShort,
@@ -30,12 +30,12 @@ pub enum SessionEnd {
     ReadFault,
     /// A write failed.
     WriteFault,
-    /// Out of memory. The other side was told so, unless that write failed.
+    /// Memory ran out. The other side was informed, unless that write failed.
     Memory,
 }
 
 /// Sends a reply of this text, which closes the connection if `closing`. If there was no memory for
-/// the text, it tells the other side so. The answer is how the session ends, if it does.
+/// the text, it sends the reply that says so. Returns how the session ends, if it does.
 fn send_reply<H: Channel>(
     channel: &mut H,
     text: Result<Vec<u8>, AllocError>,
@@ -64,16 +64,16 @@ fn send_reply<H: Channel>(
     }
 }
 
-/// Whether a request is the last on its connection, after so many were served: it asks to close, or
-/// no more are served (RFC 9112, section 9.6).
+/// Whether a request is the last on its connection after this many were served: it asks to close,
+/// or no more are served (RFC 9112, section 9.6).
 fn is_last(request: &Request, served: u64) -> bool
     ensures { result ≡ (not request.now.keep_alive || nat_le (most_requests - 1) served) }
 {
     !request.keep_alive || served >= MOST_REQUESTS - 1
 }
 
-/// Reads the next request and answers it, after so many were served. What is behind it stays
-/// pending. The answer is how the session ends, if it does.
+/// Reads the next request and answers it, after this many were served. The bytes after it stay
+/// pending. Returns how the session ends, if it does.
 pub fn exchange<T: Turns, H: Channel, C: Clock>(
     alloc: Global,
     turns: &mut T,
@@ -86,7 +86,7 @@ pub fn exchange<T: Turns, H: Channel, C: Clock>(
     ensures ready { T.ready turns.new }
     ensures same { T.same turns.old turns.new }
     ensures channel { H.same channel.old channel.new }
-    // The log goes on by what others add to it, and by one turn at most.
+    // The log grows by what others add to it, and by one turn at most.
     ensures steps { StepsOn (setting_at (T.by turns.old) (C.told clock.now) T.base)
         (T.seen turns.old) served
         (scene_on H.left H.sent H.write_faults channel.old) buffer.old.pending
@@ -114,7 +114,7 @@ pub fn exchange<T: Turns, H: Channel, C: Clock>(
     }
 }
 
-/// Serves one connection: answers the requests on the channel one after the other, until it ends, a
+/// Serves one connection: answers the requests on the channel one after another, until it ends, a
 /// reply closes it, or a read or a write fails (RFC 9112, sections 9.3 and 9.6).
 pub fn session<T: Turns, H: Channel, C: Clock>(
     alloc: Global,
@@ -126,8 +126,8 @@ pub fn session<T: Turns, H: Channel, C: Clock>(
     ensures ready { T.ready turns.new }
     ensures same { T.same turns.old turns.new }
     ensures channel { H.same channel.old channel.new }
-    // If the input is told, what was read and written is one conversation, from the log that was
-    // seen to the one that was seen last.
+    // If the input is known, what was read and written is one conversation, from the log that was
+    // seen before to the one that was seen last.
     ensures serves { IfSome (H.left channel.old) (Serves
         (setting_at (T.by turns.old) (C.told clock.now) T.base) (T.seen turns.old)
         (output_by H.sent H.write_faults channel.old)

@@ -1,4 +1,4 @@
-//! What answers requests, each in one turn.
+//! A machine that answers requests, each in one turn.
 ghost use Rattle.std.specs.Prelude.{◌≡◌, ℕ, IfOk, OnErr, Option};
 ghost use Rattle.fedi_log.specs.Keeping.{Base};
 ghost use Rattle.fedi_log.specs.Log.{Goes, Log};
@@ -8,28 +8,28 @@ use fedi_model::Request;
 use fedi_text::Moment;
 use std::alloc::{AllocError, Global};
 
-/// A machine, for one connection after the other: it answers requests, each in one turn. Between
-/// two turns others may add to the log of the machine.
+/// A machine that serves one connection after another: it answers requests, each in one turn.
+/// Between two turns others may add to the log of the machine.
 pub trait Turns {
-    /// The number of the pass by which it adds to the log, if others add to it too.
+    /// The number of the pass that it adds to the log as, if others add to the log too.
     ghost by: { Self → Option ℕ };
 
     /// The keeper of the machine at the opening.
     ghost base: { Base };
 
-    /// The log, as it was last seen.
+    /// The log as it was last seen.
     ghost seen: { Self → Log };
 
-    /// What each turn needs, and leaves so.
+    /// What each turn requires, and preserves.
     ghost ready: { Self → Type 0 };
 
-    /// From the first state to the second, all that no turn changes is as it was: its pass, and
-    /// what it borrows.
+    /// From the first state to the second, everything that no turn changes is the same: its pass,
+    /// and what it borrows.
     ghost same: { Self → Self → Type 0 };
 
-    /// Answers a request that has this body in one turn, and hands back the text of the reply,
-    /// which has no body if the method is HEAD; the connection is told to close if `closing`. The
-    /// error is out of memory, and then nothing was kept, and the keeper did not fail.
+    /// Answers a request that has this body in one turn. Returns the text of the reply, which has
+    /// no body if the method is HEAD and says that the connection closes if `closing`. The error is
+    /// out of memory, and then nothing was kept, and the keeper did not fail.
     fn answer(
         &mut self,
         alloc: Global,
@@ -45,13 +45,13 @@ pub trait Turns {
             (seen self.new) moment request.now body.now closing text.items) }
         ensures lacking { OnErr result (Goes (by self.old) (seen self.old) (seen self.new)) };
 
-    /// No turn changes nothing.
+    /// Without a turn, nothing changes.
     ghost same_none: { (turns : Self) → same turns turns };
 
-    /// What two turns leave as it was is as it was.
+    /// What neither of two turns changes stays the same over both.
     ghost same_both: { (first middle last : Self)
         → same first middle → same middle last → same first last };
 
-    /// The pass is among it.
+    /// The pass is part of it.
     ghost same_by: { (before after : Self) → same before after → by after ≡ by before };
 }

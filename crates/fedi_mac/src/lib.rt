@@ -26,9 +26,9 @@ pub fn digest(bytes: &[u8]) -> [u8; 32]
 }
 
 /// Whether the two are equal. Each byte is compared whatever the bytes before it were, so that the
-/// time does not tell where a wrong code first differs. It is for codes that a caller shows and the
-/// server computes by `Mac`. A key is found by its SHA-256 digest, of which the time tells nothing
-/// that helps to guess the key, so digests are compared by `==`. No clause speaks of time.
+/// time does not show where a wrong code first differs. It is for codes that a caller sends and the
+/// server computes by `Mac`. A key is found by its SHA-256 digest: the time of that comparison does
+/// not help to guess the key, so digests are compared by `==`. No clause speaks of time.
 pub fn matches(a: &[u8; 32], b: &[u8; 32]) -> bool
     ensures { IsTrue result ↔ (a.now ≡ b.now) }
 {

@@ -22,7 +22,7 @@ pub struct Mac {
     outer: Sha256,
 }
 
-// Puts the key in front of the zeros of a block.
+// Copies the key to the start of a block of zeros.
 fn fill(block: &mut [u8; BLOCK_SIZE], key: &[u8])
     requires zeros { block.old ≡ replicate 64 0 }
     requires short { length key.now ≤ 64 }

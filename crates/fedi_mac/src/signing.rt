@@ -8,8 +8,8 @@ use crate::mac::Mac;
 
 /// The code of a request under the key that two servers share: the HMAC-SHA-256 of its method, a
 /// space, its target, a line feed, the host of the server that sends it, a line feed and its body,
-/// which is empty where there is none. The sender shows it, and the other computes it to compare
-/// the two by `matches`.
+/// which is empty if there is none. The sender sends it; the receiver computes it again and
+/// compares the two by `matches`.
 #[tactic(auto, unfolding(crate::specs::Signing::signed_text))]
 pub fn sign(key: &[u8; 32], method: &[u8], target: &[u8], host: &str, body: &[u8]) -> [u8; 32]
     ensures { result ≡ hmac key.now (signed_text method.now target.now host.now body.now) }

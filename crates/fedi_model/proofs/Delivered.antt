@@ -1,4 +1,4 @@
--- What is read of a delivery has the shape of one.
+-- What is read of a delivery has the shape of a delivery.
 use Rattle.std.proofs.Common.{◌≡◌, ℕ, List, Bool, true, false, not, ◌&&◌, ◌||◌, Option, Some, None, codes, refl, sym, ap, subst, ⊎_elim, ◌∙◌}
 use Rattle.std.specs.Prelude.{Ok, IsTrue, is_none, is_some}
 use Rattle.std.specs.Option.{option_map_or}
@@ -29,7 +29,7 @@ some_of : {A : Type 0} (found : Option A) → is_none found ≡ false → is_som
 some_of None h = absurd cc
 some_of (Some x) h = refl
 
--- an address that is read for a property that is there
+-- an address is read if the property is there
 there : (key : List ℕ) (d : Data) (id : Option (List ℕ)) → has_no key d ≡ false → reads_iri (reference_at key d) ≡ Ok id → is_some id ≡ true
 there key d id h k = some_of id (read_there (reference_at key d) id k ∙ h)
 
@@ -43,7 +43,7 @@ ref_sent : (deed : Deed) (about : Option (List ℕ)) → (is_other deed || not (
 ref_sent deed None h = elim (is_other deed) as (λ b. (b || false) ≡ true → b ≡ true) [ true ↦ λ _. refl | false ↦ λ k. k ] h
 ref_sent deed (Some id) h = refl
 
--- the actor is followed or blocked by another
+-- an actor follows or blocks another actor
 another : (kind : Kind) (a : Activity) (actor about : Option (List ℕ)) → a.kind ≡ kind → a.object ≡ object_ref about → is_own_target actor (need_of kind) about ≡ false → is_actor_target actor a ≡ false
 another kind a None about h k l = refl
 another kind a (Some author) about h k l = rw (h, k) (self_same author kind about ∙ l)
@@ -73,13 +73,13 @@ bare_kept kind d a h =
 
 -- ---- one that carries its object
 
--- a Create or an Update carries one
+-- an activity that carries an object is a Create or an Update
 carries : (kind : Kind) (d o : Data) → carried (need_of kind) d ≡ Some o → (is_create (deed_of kind) || is_update (deed_of kind)) ≡ true
 carries kinds.Create d o h = refl
 carries kinds.Update d o h = refl
 carries kind d o h = absurd cc
 
--- and is of no other actor
+-- and it does not follow or block its own actor
 of_nobody : (kind : Kind) (d o : Data) (actor : Option (List ℕ)) (a : Activity) → carried (need_of kind) d ≡ Some o → a.kind ≡ kind → is_actor_target actor a ≡ false
 of_nobody kinds.Create d o None a h k = refl
 of_nobody kinds.Create d o (Some author) a h k = rw k refl
@@ -87,7 +87,7 @@ of_nobody kinds.Update d o None a h k = refl
 of_nobody kinds.Update d o (Some author) a h k = rw k refl
 of_nobody kind d o actor a h k = absurd cc
 
--- the object keeps each limit
+-- the object is within each limit
 object_within : (d o : Data) (a : Activity) (kind : Kind) (h : HasObject kind d o a) → is_object_within 501 (told h.full.own h.full.both.1 h.full.object_words o) ≡ true
 object_within d o a kind h =
     let own = own_parts (object_of_kind h.type) o h.full.own h.full.own_read in

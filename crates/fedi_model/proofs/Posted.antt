@@ -1,4 +1,4 @@
--- What is read of an object that a client posts alone has the shape of a post.
+-- An object that a client posts by itself is read in the shape of a post.
 use Rattle.std.proofs.Common.{◌≡◌, ℕ, ◌≤◌, List, [], length, true, false, Option, Some, None, codes, refl, sym, subst}
 use Rattle.std.specs.Prelude.{Ok, IsTrue}
 use Rattle.std.specs.Cmp.Lexicographic.{pointwise}
@@ -19,7 +19,7 @@ use Rattle.fedi_objects.specs.Limits.{is_text}
 use Rattle.fedi_town.proofs.Once.{once_folded}
 use Rattle.fedi_town.specs.Shapes.{is_none_or, is_each_once, are_addressed, are_same, are_tags, is_posted}
 
--- ---- lists without doubles
+-- ---- lists without duplicates
 
 named_once : (key : List ℕ) (d : Data) → is_each_once (named_by key d) ≡ true
 unfolding distinct
@@ -33,7 +33,7 @@ same_names names = (lists_equiv nat_list_eq_equiv).refl names
 pub same_people : (r : Recipients) → are_same r r ≡ true
 same_people r = rw (same_names r.to, same_names r.cc, same_names r.bto, same_names r.bcc, same_names r.audience) refl
 
--- the recipients that are read are at most so many, and none is there twice in a field
+-- there are at most so many recipients, and none is repeated in a field
 pub addressed : (most : ℕ) (d : Data) (r : Recipients) → AreNamed d r → length (all_of r) ≤ most → are_addressed most r ≡ true
 addressed most d r named few =
     let to : is_each_once r.to ≡ true = rw named.to (named_once (codes "to") d) in
@@ -54,7 +54,7 @@ pub named_shortly : (d : Data) → are_tags (tags_of d) ≡ true
 unfolding is_text
 named_shortly d = tags_kept d
 
--- the Create of an object that is read keeps each limit
+-- the Create of an object that was read is within each limit
 object_kept : (author : List ℕ) (d : Data) (o : Object) → IsMadeOf d o → is_posted author (wrapped o) ≡ true
 object_kept author d o h =
     let type = type_kept d h.kind h.kind_read in

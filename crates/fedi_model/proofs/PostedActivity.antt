@@ -35,7 +35,7 @@ once_named : (key : List ℕ) (d o : Data) → is_each_once (named_by_both key d
 unfolding named_by_both distinct
 once_named key d o = once_folded [] (filter_map recipient_of (entries_at key d ++ entries_at key o)) refl
 
--- whom both name are at most 500, and none is there twice in a field
+-- both together name at most 500 recipients, and none is repeated in a field
 all_addressed : (d o : Data) (r : Recipients) → r ≡ union d o → length (all_of r) ≤ 500 → are_addressed 500 r ≡ true
 all_addressed d o r same few =
     let count = le-leb (length (all_of r)) 500 few in
@@ -102,7 +102,7 @@ update_kept author d o a h =
 
 -- ---- every other activity
 
--- the address that is read is there if there is a text for it
+-- an address is read exactly if there is a text for it
 pub read_there : (reference id : Option (List ℕ)) → reads_iri reference ≡ Ok id → is_none id ≡ is_none reference
 read_there None id h = let same : None ≡ id = cc in rw (← same) refl
 read_there (Some text) id h =
@@ -116,7 +116,7 @@ id_there need reference id =
     elim (needs_id need && is_none reference) as (λ b. (needs_id need && is_none reference) ≡ b → cond b (Err NoObject) (reads_iri reference) ≡ Ok id → (needs_id need && is_none id) ≡ false)
     [ true ↦ λ same h. absurd cc | false ↦ λ same h. rw (read_there reference id h) same ] refl
 
--- what needs no `id` has no effect
+-- an activity that needs no `id` has no effect
 pub needs_same : (kind : Kind) → needs_id (need_of kind) ≡ not (is_other (deed_of kind))
 needs_same kinds.Accept = refl
 needs_same kind = refl
@@ -130,7 +130,7 @@ ref_kept : (d : Deed) (r : Recipients) (id : Option (List ℕ)) → is_create d 
 ref_kept d r None h k l = elim (is_other d) as (λ b. (b || false) ≡ true → b ≡ true) [ true ↦ λ _. refl | false ↦ λ m. m ] l
 ref_kept d r (Some id) h k l = rw (h, k) refl
 
--- a Follow or a Block is of another
+-- a Follow or a Block is about another actor
 pub self_same : (author : List ℕ) (kind : Kind) (id : Option (List ℕ)) → ((is_follow (deed_of kind) || is_block (deed_of kind)) && is_id author (ref_id (object_ref id))) ≡ is_oneself author (need_of kind) id
 self_same author kinds.Follow None = refl
 self_same author kinds.Follow (Some id) = refl

@@ -1,5 +1,5 @@
 -- The answer to a request: the refusal of its caller, or the reply to the caller for what it asks.
--- A body is that of the request, and is empty where it has none.
+-- A body is the body of the request, and is empty if there is none.
 use Rattle.std.specs.Prelude.{◌≡◌, ℕ, List, Option, None, Result, Ok, Err}
 use Rattle.fedi_town.specs.declared.refusal.Refusal.{Refusal}
 use Rattle.fedi_objects.specs.declared.entry.Entry.{Entry}
@@ -35,7 +35,7 @@ Answers t moment q body r made = AnswersTo t moment (caller_of t q body) q body 
 
 -- ---- what the answer may depend on
 
--- the histories agree for the caller, where there is one
+-- the histories agree for the caller, if there is one
 abbrev pub AgreeFor : Town → Town → Result Caller Refusal → Type 0
 AgreeFor g h (Ok c) = Agree g h c
 AgreeFor g h (Err e) = Unit {0}
@@ -45,7 +45,7 @@ pub record AgreeOn (g h : Town) (q : Request) (body : List ℕ) : Type 0 where
   pub caller : caller_of g q body ≡ caller_of h q body
   pub known : AgreeFor g h (caller_of h q body)
 
--- the reply is the answer of each legal history that agrees with this one for the caller of the
+-- the reply is the answer in each legal history that agrees with this one for the caller of the
 -- request
 abbrev pub IsPrivateAnswer : List Entry → ℕ → Request → List ℕ → Reply → Type 0
 IsPrivateAnswer history moment q body r =

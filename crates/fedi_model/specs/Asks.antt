@@ -18,7 +18,7 @@ use Rattle.fedi_model.specs.Posting.{post_answer, delivery_answer, entry_at, inb
 use Rattle.fedi_model.specs.Reading.{actor_or_missing, webfinger_answer, activity_answer}
 use Rattle.fedi_model.specs.Reading.{object_answer, collection_answer}
 
--- the id of this number at the host, once the server was set up
+-- the id with this number at the host, if the server was set up
 abbrev pub id_at : Option (List ℕ) → (List ℕ → List ℕ → ℕ → List ℕ) → List ℕ → ℕ → Option (List ℕ)
 id_at host f name number = option_map (λ h. f h name number) host
 
@@ -34,7 +34,7 @@ answer_of t c (Object name number) = object_answer t c (id_at t.host object_id n
 answer_of t c (Outbox name post) = post_answer t c name post (id_of t name)
 answer_of t c (Inbox name post) = delivery_answer t c post (id_of t name)
 
--- the entry that the ask makes at this moment: that of a post or a delivery that is kept
+-- the entry that the ask makes at this moment: the entry of a post or a delivery that is kept
 abbrev pub entry_of : Town → Caller → Ask → ℕ → Option Entry
 entry_of t c Nowhere moment = None
 entry_of t c (WrongMethod allow) moment = None
@@ -46,20 +46,20 @@ entry_of t c (Object name number) moment = None
 entry_of t c (Outbox name post) moment = entry_at t c name post moment (id_of t name)
 entry_of t c (Inbox name post) moment = inbox_entry_at t c name post moment (id_of t name)
 
--- ---- what reading leaves
+-- ---- the shape after reading
 
--- an activity that was read passes the test
+-- an activity, if one was read, passes the test
 abbrev pub IsRead : (activities.Activity → Bool) → Read → Type 0
 IsRead p NotJson = Unit {0}
 IsRead p (Bad fault) = Unit {0}
 IsRead p (Ready a) = p a ≡ true
 
--- what was read for the author's outbox, where there is one, has the shape of the author's post
+-- what was read for the author's outbox, if there is one, has the shape of the author's post
 abbrev pub IsReadFor : Option (List ℕ) → Read → Type 0
 IsReadFor None read = Unit {0}
 IsReadFor (Some author) read = IsRead (is_posted author) read
 
--- what the ask holds has the shape that reading leaves
+-- the contents of the ask have the shape that reading gives them
 abbrev pub IsPostable : Town → Ask → Type 0
 IsPostable t Nowhere = Unit {0}
 IsPostable t (WrongMethod allow) = Unit {0}

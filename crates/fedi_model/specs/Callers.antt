@@ -1,5 +1,5 @@
--- Who a caller is, by the credentials of a request (RFC 6750, section 2.1, for bearer keys; RFC
--- 2104 for codes).
+-- Who a caller is, according to the credentials of a request (RFC 6750, section 2.1, for bearer
+-- keys; RFC 2104 for codes).
 use Rattle.std.specs.Prelude.{ℕ, Bool, List, bytes_eq, Option, Some, None, Result, Ok, Err}
 use Rattle.std.specs.Prelude.{if◌then◌else◌}
 use Rattle.std.specs.List.{find}
@@ -24,13 +24,13 @@ member_or_refused (Some a) = Ok (callers.Actor a.name)
 unfoldable pub is_signed : List ℕ → Signature → Bool
 is_signed key s = bytes_eq (hmac key (signed_text s.method s.target s.host s.body)) s.mac
 
--- the peer, or the refusal of a request that no peer of its host signed by the key that it shares
+-- the peer, or the refusal of a request that no peer of its host signed with the key that it shares
 -- with this server
 abbrev pub peer_or_refused : Signature → Option Peer → Result Caller Refusal
 peer_or_refused s None = Err WrongMac
 peer_or_refused s (Some p) = if is_signed p.key s then Ok (callers.Peer p.host) else Err WrongMac
 
--- nobody without credentials, the member whose key has the digest of the bearer's, and the peer
+-- nobody without credentials, the member whose key has the digest of the bearer's key, or the peer
 -- that signed the request
 unfoldable pub caller_by : Town → Shows → Result Caller Refusal
 caller_by t Nothing = Ok callers.Nobody

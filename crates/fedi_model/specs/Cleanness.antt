@@ -1,4 +1,4 @@
--- No answer and no reply names those who are hidden (ActivityPub, section 6).
+-- No answer and no reply names a hidden recipient (ActivityPub, section 6).
 use Rattle.std.specs.Prelude.{◌≡◌, ◌⊎◌, ℕ, Bool, true, List, []}
 use Rattle.serde_json.specs.Data.{Data}
 use Rattle.serde_json.specs.Written.{compact_text}
@@ -6,7 +6,7 @@ use Rattle.fedi_objects.specs.Forms.{is_clean}
 use Rattle.fedi_model.specs.AnswerKinds.{Answer, Refuse, Misshape, Disallow, Document, Profile}
 use Rattle.fedi_model.specs.AnswerKinds.{Tombstone, Created, Accepted}
 
--- in what is answered no member at any depth is named `bto` or `bcc`
+-- in the answer, no member at any depth is named `bto` or `bcc`
 abbrev pub is_clean_answer : Answer → Bool
 is_clean_answer (Refuse r) = true
 is_clean_answer (Misshape fault) = true

@@ -1,4 +1,4 @@
--- What the fields of a request show of who makes it (RFC 6750, section 2.1; RFC 9110, section
+-- What the fields of a request show about who makes it (RFC 6750, section 2.1; RFC 9110, section
 -- 11.6.2).
 use Rattle.std.specs.Prelude.{ℕ, Bool, ◌&&◌, ◌||◌, nat_le, List, take, drop, map, codes, bytes_eq}
 use Rattle.std.specs.Prelude.{Option, Some, None, option_map, if◌then◌else◌}
@@ -13,7 +13,7 @@ use Rattle.fedi_model.specs.declared.credentials.Credentials.TheVariants.{Mac as
 use Rattle.fedi_model.specs.declared.credentials.Signed.{Signed}
 use Rattle.fedi_model.specs.declared.request.Request.{Request}
 
--- the key after `Bearer`, in any case, and one space (RFC 6750, section 2.1; RFC 9110, section
+-- the key after `Bearer`, ignoring case, and one space (RFC 6750, section 2.1; RFC 9110, section
 -- 11.1)
 abbrev pub bearer_key : List ℕ → Option (List ℕ)
 bearer_key value =
@@ -24,11 +24,11 @@ bearer_key value =
 abbrev pub is_lower_digit : ℕ → Bool
 is_lower_digit b = (nat_le 48 b && nat_le b 57) || (nat_le 97 b && nat_le b 102)
 
--- each byte is a hexadecimal digit, none in upper case
+-- each byte is a hexadecimal digit, and none is in upper case
 unfoldable pub is_lower_hex : List ℕ → Bool
 is_lower_hex text = list_all is_lower_digit text
 
--- the 32 bytes of an authentication code, whose digits are in lower case
+-- the 32 bytes of an authentication code, written in lower-case digits
 abbrev pub code_of : List ℕ → Option (List ℕ)
 code_of text = if is_lower_hex text then key_of text else None
 
@@ -40,19 +40,19 @@ pub record Signature : Type 0 where
   pub target : List ℕ
   pub body : List ℕ
 
--- the request with this body as this host signed it by this code
+-- the request with this body, as this host signed it with this code
 abbrev pub signed_by : Request → List ℕ → List ℕ → List ℕ → Signature
 signed_by q body host mac =
     record { host = host; mac = mac; method = q.method; target = q.target; body = body }
 
--- both fields stand, the host is a text, and the code is one
+-- both fields are present, the host is a text, and the code is valid
 abbrev pub signature_of : Request → List ℕ → Option (List ℕ) → Option (List ℕ) → Option Signature
 signature_of q body (Some host) (Some code) =
     if is_utf8 host then option_map (signed_by q body host) (code_of code) else None
 signature_of q body (Some host) None = None
 signature_of q body None code = None
 
--- what a request shows of who makes it
+-- what a request shows about who makes it
 pub data Shows : Type 0 where
   Nothing : Shows
   Bearer : Option (List ℕ) → Shows
@@ -66,7 +66,7 @@ credentials_by q body None None None = Nothing
 credentials_by q body None None (Some code) = Mac (signature_of q body None (Some code))
 credentials_by q body None (Some host) code = Mac (signature_of q body (Some host) code)
 
--- what a request with this body shows of who makes it
+-- what a request with this body shows about who makes it
 abbrev pub credentials_of : Request → List ℕ → Shows
 credentials_of q body =
     credentials_by q body q.fields.authorization q.fields.peer_host q.fields.peer_mac

@@ -42,7 +42,7 @@ self_link id =
     object (put (codes "href") (string id) (put (codes "rel") (string (codes "self"))
     (put (codes "type") (string (codes "application/activity+json")) no_members)))
 
--- the links of the relations that are asked for, or all where none is (RFC 7033, section 4.3)
+-- the links for the requested relations, or all links if none is requested (RFC 7033, section 4.3)
 abbrev pub links_of : List ℕ → List (List ℕ) → List Data
 links_of id rels =
     if length rels == 0 || is_among (codes "self") rels then self_link id ∷ [] else []
@@ -56,7 +56,7 @@ jrd_form host name rels =
 
 -- ---- items
 
--- an activity as it stands in a page
+-- an activity as it occurs in a page
 unfoldable pub embedded_form : Town → Act → Data
 embedded_form t x = activity_form (is_of_town t.host x.author) false x.author (shown_activity t x)
 
@@ -86,7 +86,7 @@ collection_id (Shares name n) id = shares_id id
 abbrev pub page_id : List ℕ → ℕ → List ℕ
 page_id id k = id ++ (codes "?page=" ++ decimal k)
 
--- the members, with the newest and the oldest page of so many items, where there are any
+-- the members, with the newest and the oldest page of so many items, if there are any
 abbrev pub with_ends : List ℕ → ℕ → Members → Members
 with_ends id zero ms = ms
 with_ends id (suc n) ms =

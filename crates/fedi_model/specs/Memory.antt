@@ -1,4 +1,4 @@
--- Which callers take memory to be found, and which asks to be answered.
+-- Which callers take memory to find, and which asks take memory to answer.
 use Rattle.std.specs.Prelude.{ℕ, List, Bool, true, false, not, ◌||◌, Option, None, Some, Result, Ok}
 use Rattle.std.specs.Prelude.{Err}
 use Rattle.fedi_model.specs.declared.ask.Ask.{Ask}
@@ -25,7 +25,7 @@ abbrev pub copies_host : Result Caller Refusal → Bool
 copies_host (Ok c) = is_peer c
 copies_host (Err refusal) = false
 
--- the answer is that what was asked is refused
+-- the answer refuses what was asked
 abbrev pub is_refused : Answer → Bool
 is_refused (Refuse r) = true
 is_refused (Misshape fault) = true
@@ -36,7 +36,7 @@ is_refused (Tombstone d) = false
 is_refused (Created id) = false
 is_refused Accepted = false
 
--- the Likes or the Announces of an object, whose id is made to find it, unless the page is no
+-- the Likes or the Announces of an object, whose id is built to find it, unless the page is not a
 -- number
 abbrev pub finds_marked : Which → PageAsk → Bool
 finds_marked (inbox name) part = false
@@ -47,19 +47,19 @@ finds_marked (Liked name) part = false
 finds_marked (Likes name number) part = not (is_malformed part)
 finds_marked (Shares name number) part = not (is_malformed part)
 
--- what was delivered is kept
+-- the delivered activity is kept
 abbrev pub is_kept : Judgement → Bool
 is_kept (Stop a) = false
 is_kept (Repeat id) = false
 is_kept (Keep a) = true
 
--- the delivery to an inbox, whose owner was found or not, is kept
+-- the delivery to an inbox is kept, given the inbox's owner if it was found
 abbrev pub keeps_delivery : Town → Caller → Post → Option (List ℕ) → Bool
 keeps_delivery t c post None = false
 keeps_delivery t c post (Some owner) = is_kept (judge_inbox t c owner post)
 
--- The answer takes memory: an id is made to find what is asked for, or it is not refused. A
--- delivery takes memory for its entry alone.
+-- The answer takes memory: an id is built to find what is asked for, or the answer is not a
+-- refusal. A delivery takes memory only for its entry.
 abbrev pub takes_memory : Town → Caller → Ask → Bool
 takes_memory t c Nowhere = false
 takes_memory t c (WrongMethod allow) = false

@@ -1,4 +1,4 @@
--- Which part of a collection a query asks for (ActivityStreams 2.0 Core, section 5).
+-- The part of a collection that a query asks for (ActivityStreams 2.0 Core, section 5).
 use Rattle.std.specs.Prelude.{ℕ, Bool, ◌&&◌, nat_le, List, [], ◌∷◌, length, codes, if◌then◌else◌}
 use Rattle.std.specs.Char.{is_ascii_digit}
 use Rattle.std.specs.List.{list_all}
@@ -12,7 +12,7 @@ abbrev pub is_page_number : List ℕ → Bool
 is_page_number text =
     nat_le 1 (length text) && nat_le (length text) 10 && list_all is_ascii_digit text
 
--- the page of the number that the text writes
+-- the page whose number is written in the text
 abbrev pub page_of_text : List ℕ → PageAsk
 page_of_text text = if is_page_number text then Page (digits_value 10 text) else Malformed
 

@@ -1,5 +1,5 @@
--- The paths of the server (RFC 3986, section 3.3), and the methods that each has (RFC 9110, section
--- 9.1). Paths are compared byte for byte and never decoded.
+-- The paths of the server (RFC 3986, section 3.3), and the methods of each (RFC 9110, section 9.1).
+-- Paths are compared byte for byte and never decoded.
 use Rattle.std.specs.Prelude.{◌≡◌, ℕ, ◌≤◌, ◌<◌, ◌^◌, List, codes, IsTrue}
 use Rattle.fedi_address.specs.Names.{is_name}
 use Rattle.fedi_model.specs.declared.ask.Allow.{Allow}
@@ -17,13 +17,13 @@ use Rattle.fedi_model.specs.declared.place.Place.TheVariants.{Activity, Object}
 abbrev pub IsNumber : ℕ → Type 0
 IsNumber number = (1 ≤ number) × (number < 2 ^ 32)
 
--- the collection is of a name that members may have, and for an object's of such a number
+-- the collection has a name that members may have, and an object's collection also such a number
 abbrev pub IsWhich : Which → Type 0
 IsWhich (Likes name number) = IsTrue (is_name name) × IsNumber number
 IsWhich (Shares name number) = IsTrue (is_name name) × IsNumber number
 IsWhich which = IsTrue (is_name (name_of which))
 
--- the place is of a name that members may have, and of a number that activities may have
+-- the endpoint has a name that members may have, and a number that activities may have
 abbrev pub IsPlace : Place → Type 0
 IsPlace Webfinger = Unit {0}
 IsPlace (Actor name) = IsTrue (is_name name)
@@ -31,13 +31,13 @@ IsPlace (Collection which) = IsWhich which
 IsPlace (Activity name number) = IsTrue (is_name name) × IsNumber number
 IsPlace (Object name number) = IsTrue (is_name name) × IsNumber number
 
--- the path of the member or the object whose collection it is
+-- the path of the member or the object that the collection belongs to
 abbrev pub owner_path : Which → List ℕ
 owner_path (Likes name number) = object_path name number
 owner_path (Shares name number) = object_path name number
 owner_path which = actor_path (name_of which)
 
--- the path of the place (for WebFinger RFC 7033, section 4)
+-- the path of the endpoint (for WebFinger RFC 7033, section 4)
 abbrev pub place_path : Place → List ℕ
 place_path Webfinger = codes "/.well-known/webfinger"
 place_path (Actor name) = actor_path name
@@ -45,13 +45,13 @@ place_path (Collection which) = collection_id which (owner_path which)
 place_path (Activity name number) = activity_path name number
 place_path (Object name number) = object_path name number
 
--- the path leads to the place
+-- the path leads to the endpoint
 pub record LeadsTo (path : List ℕ) (place : Place) : Type 0 where
   pub there : IsPlace place
   pub spelled : path ≡ place_path place
 
--- the methods of the place: all are read, and an outbox and an inbox are posted to (ActivityPub,
--- sections 3.2, 6 and 7)
+-- the methods of the endpoint: each can be read, and an outbox and an inbox can be posted to
+-- (ActivityPub, sections 3.2, 6 and 7)
 abbrev pub allow_of : Place → Allow
 allow_of (Collection (Outbox name)) = GetHeadPost
 allow_of (Collection (Inbox name)) = GetHeadPost

@@ -8,7 +8,7 @@ use Rattle.form_urlencoded.specs.Form.{decode, raw_pairs}
 abbrev pub query_of : List ℕ → List ℕ
 query_of target = after_first (λ b. b == 63) target
 
--- the text that a name or a value writes
+-- the text that a name or a value encodes
 abbrev pub decoded : List ℕ → List ℕ
 decoded bytes = utf8_lossy (decode bytes)
 
@@ -20,6 +20,6 @@ has_key key pair = bytes_eq (decoded pair.0) key
 abbrev pub value_of : List ℕ × List ℕ → List ℕ
 value_of pair = decoded pair.1
 
--- the values of the pairs of this name, in order
+-- the values of the pairs with this name, in order
 unfoldable pub values_of : List ℕ → List ℕ → List (List ℕ)
 values_of key query = map value_of (filter (has_key key) (raw_pairs query))

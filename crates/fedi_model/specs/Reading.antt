@@ -1,5 +1,5 @@
--- What a reader is answered (ActivityPub, sections 3.2 and 5). What the reader does not see is
--- missing to the reader.
+-- The answers to a reader (ActivityPub, sections 3.2 and 5). What the reader does not see does not
+-- exist for the reader.
 use Rattle.std.specs.Prelude.{ℕ, Bool, true, false, nat_le, List, map, length, Option, Some, None}
 use Rattle.std.specs.Prelude.{if◌then◌else◌}
 use Rattle.std.specs.Str.{bytes_eq}
@@ -31,13 +31,13 @@ use Rattle.fedi_model.specs.Documents.{page_form}
 
 -- ---- callers
 
--- nobody is known
+-- the caller is nobody
 abbrev pub is_nobody : Caller → Bool
 is_nobody callers.Nobody = true
 is_nobody (callers.Actor own) = false
 is_nobody (callers.Peer host) = false
 
--- the caller is the member of this name
+-- the caller is the member with this name
 abbrev pub is_self : Caller → List ℕ → Bool
 is_self callers.Nobody name = false
 is_self (callers.Actor own) name = bytes_eq own name
@@ -51,19 +51,19 @@ is_peer (callers.Peer host) = true
 
 -- ---- members
 
--- the document of the member of this name, whose id was found or not
+-- the document of the member with this name, given the member's id if it was found
 abbrev pub actor_or_missing : Option (List ℕ) → List ℕ → Option (List ℕ) → Answer
 actor_or_missing None name id = Refuse NotFound
 actor_or_missing (Some host) name None = Refuse NotFound
 actor_or_missing (Some host) name (Some id) = Document (actor_form host name)
 
--- what WebFinger says of the member of this name (RFC 7033, section 4.2)
+-- what WebFinger says about the member with this name (RFC 7033, section 4.2)
 abbrev pub profile_or_missing : Option (List ℕ) → List ℕ → List (List ℕ) → Option (List ℕ) → Answer
 profile_or_missing None name rels id = Refuse NotFound
 profile_or_missing (Some host) name rels None = Refuse NotFound
 profile_or_missing (Some host) name rels (Some id) = Profile (jrd_form host name rels)
 
--- the member whom a resource names, if any
+-- the answer for the member that a resource names, if any
 abbrev pub resource_answer : Town → Option (List ℕ) → List (List ℕ) → Answer
 resource_answer t None rels = Refuse NotFound
 resource_answer t (Some name) rels = profile_or_missing t.host name rels (id_of t name)
@@ -80,12 +80,12 @@ unfoldable pub activity_document : Town → Act → Answer
 activity_document t x =
     Document (activity_form (is_of_town t.host x.author) true x.author (shown_activity t x))
 
--- the document of the activity that was found, or that there is none
+-- the document of the activity if it was found, else a refusal
 abbrev pub activity_or_missing : Town → Option Act → Answer
 activity_or_missing t None = Refuse NotFound
 activity_or_missing t (Some x) = activity_document t x
 
--- the answer to who reads the activity of this id
+-- the answer to reading the activity with this id
 abbrev pub activity_answer : Town → Caller → Option (List ℕ) → Answer
 activity_answer t c None = Refuse NotFound
 activity_answer t c (Some id) = activity_or_missing t (seen_act t c id)
@@ -101,19 +101,19 @@ object_document (Some o) =
 unfoldable pub maker_document : Town → Act → Answer
 maker_document t x = object_document (whole_of (shown_activity t x).object)
 
--- the document of the object whose Create was found, or that there is none
+-- the document of the object if its Create was found, else a refusal
 abbrev pub object_or_missing : Town → Option Act → Answer
 object_or_missing t None = Refuse NotFound
 object_or_missing t (Some x) = maker_document t x
 
--- the answer to who reads the object of this id
+-- the answer to reading the object with this id
 abbrev pub object_answer : Town → Caller → Option (List ℕ) → Answer
 object_answer t c None = Refuse NotFound
 object_answer t c (Some id) = object_or_missing t (seen_maker t c id)
 
 -- ---- collections
 
--- the name of the member whose collection it is, or who made its object
+-- the name of the member that the collection belongs to, or that made its object
 abbrev pub name_of : Which → List ℕ
 name_of (Inbox name) = name
 name_of (Outbox name) = name
@@ -123,7 +123,7 @@ name_of (Liked name) = name
 name_of (Likes name n) = name
 name_of (Shares name n) = name
 
--- an inbox is read by its owner alone (ActivityPub, section 5.2)
+-- only its owner may read an inbox (ActivityPub, section 5.2)
 abbrev pub reading_rule : Caller → Which → Option Refusal
 reading_rule c (Inbox name) =
     if is_nobody c then Some NoKey else (if is_self c name then None else Some NotOwner)
@@ -134,12 +134,12 @@ reading_rule c (Liked name) = None
 reading_rule c (Likes name n) = None
 reading_rule c (Shares name n) = None
 
--- an object whose Likes or Announces are read was not deleted
+-- an object whose Likes or Announces are read must not have been deleted
 abbrev pub marks_rule : Option Act → Option Refusal
 marks_rule None = Some NotFound
 marks_rule (Some m) = if is_deleted m then Some Gone else None
 
--- the rule on the object of this id, where it is an object's collection
+-- the rule for the object with this id, if the collection is an object's
 abbrev pub object_rule : Town → Caller → Which → List ℕ → Option Refusal
 object_rule t c (Inbox name) id = None
 object_rule t c (Outbox name) id = None
@@ -149,39 +149,39 @@ object_rule t c (Liked name) id = None
 object_rule t c (Likes name n) id = marks_rule (seen_maker t c id)
 object_rule t c (Shares name n) id = marks_rule (seen_maker t c id)
 
--- the part that is asked for, of the collection of this id with so many items, where `at` gives
--- those of a page; a page above the highest is missing
+-- the requested part of the collection with this id and so many items, where `at` gives the items
+-- of a page; a page above the highest is missing
 abbrev pub part_answer : PageAsk → List ℕ → ℕ → (ℕ → List Data) → Answer
 part_answer Summary id total at = Document (summary_form id total)
 part_answer (Page k) id total at =
     if nat_le k (highest total) then Document (page_form id k total (at k)) else Refuse NotFound
 part_answer Malformed id total at = Refuse BadQuery
 
--- the part that is asked for, of what the caller sees of the owner's collection
+-- the requested part of what the caller sees of the owner's collection
 unfoldable pub items_answer : Town → Caller → Which → List ℕ → PageAsk → Answer
 items_answer t c which id ask =
     part_answer ask (collection_id which id) (length (items t c which id))
     (λ k. map (item_form t which) (page_of k (items t c which id)))
 
--- the same, where there is such an owner and the rules hold
+-- the same, if there is such an owner and the rules hold
 abbrev pub owner_answer : Town → Caller → Which → PageAsk → Option (List ℕ) → Answer
 owner_answer t c which ask None = Refuse NotFound
 owner_answer t c which ask (Some id) =
     unless_refused (reading_rule c which)
     (unless_refused (object_rule t c which id) (items_answer t c which id ask))
 
--- no page is asked for by what is no number
+-- the page is not a number, so no page is asked for
 abbrev pub is_malformed : PageAsk → Bool
 is_malformed Malformed = true
 is_malformed Summary = false
 is_malformed (Page k) = false
 
--- the answer to who reads a collection of the member whose id was found or not
+-- the answer to reading a collection of a member, given the member's id if it was found
 abbrev pub member_answer : Town → Caller → Which → PageAsk → Option (List ℕ) → Answer
 member_answer t c which ask None = Refuse NotFound
 member_answer t c which ask (Some id) =
     if is_malformed ask then Refuse BadQuery else owner_answer t c which ask (owner_of t which)
 
--- the answer to who reads a collection
+-- the answer to reading a collection
 abbrev pub collection_answer : Town → Caller → Which → PageAsk → Answer
 collection_answer t c which ask = member_answer t c which ask (id_of t (name_of which))

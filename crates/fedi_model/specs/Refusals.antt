@@ -1,4 +1,4 @@
--- What a reply says of each reason for a refusal.
+-- What a reply says for each reason of a refusal.
 use Rattle.std.specs.Prelude.{ℕ, List, ◌++◌, codes}
 use Rattle.fedi_town.specs.declared.refusal.Refusal.{Refusal}
 use Rattle.fedi_town.specs.declared.refusal.Refusal.TheVariants.{

@@ -19,7 +19,7 @@ use Rattle.fedi_model.specs.declared.reply.Form.TheVariants as forms
 use Rattle.fedi_model.specs.declared.reply.Reply.{Reply}
 use Rattle.fedi_model.specs.Refusing.{refused, misshapen}
 
--- the path has these methods alone (RFC 9110, sections 10.2.1 and 15.5.6)
+-- the path has only these methods (RFC 9110, sections 10.2.1 and 15.5.6)
 abbrev pub disallowed : Allow → Reply
 disallowed allow = record (refused WrongMethod) { allow = Some allow }
 
@@ -34,10 +34,10 @@ without_body status location =
     record { status = status; form = forms.None; location = location; allow = None; body = [] }
 
 -- The answer as a reply: a document (RFC 9110, section 15.3.1; as ActivityStreams, ActivityPub,
--- section 3.2, or as JRD, RFC 7033, section 10.2); what is left of what was deleted (RFC 9110,
--- section 15.5.11; ActivityPub, section 6.4); where the thing that was made stands (RFC 9110,
--- sections 10.2.2 and 15.3.2; ActivityPub, section 6); or that a delivery was taken (RFC 9110,
--- section 15.3.3).
+-- section 3.2, or as JRD, RFC 7033, section 10.2); what is left of a deleted object (RFC 9110,
+-- section 15.5.11; ActivityPub, section 6.4); the address of what was created (RFC 9110, sections
+-- 10.2.2 and 15.3.2; ActivityPub, section 6); or that a delivery was accepted (RFC 9110, section
+-- 15.3.3).
 abbrev pub reply_of : Answer → Reply
 reply_of (Refuse r) = refused r
 reply_of (Misshape fault) = misshapen fault
@@ -52,7 +52,7 @@ reply_of Accepted = without_body 202 None
 abbrev pub reply : Town → Caller → Ask → Reply
 reply t c ask = reply_of (answer_of t c ask)
 
--- the reply is that of each legal history that agrees with this one for the caller
+-- the reply is the same in each legal history that agrees with this one for the caller
 abbrev pub IsPrivate : List Entry → Caller → Ask → Reply → Type 0
 IsPrivate history c ask r =
     (g : List Entry) → IsLegal g → Agree (town g) (town history) c → reply (town g) c ask ≡ r

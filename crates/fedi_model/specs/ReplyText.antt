@@ -22,7 +22,7 @@ status_line status =
 unfoldable pub date_line : ℕ → List ℕ
 date_line moment = codes "Date: " ++ (http_date_text moment ++ codes "\r\n")
 
--- where what was made stands (RFC 9110, section 10.2.2)
+-- the address of what was created (RFC 9110, section 10.2.2)
 unfoldable pub location_line : Option (List ℕ) → List ℕ
 location_line None = []
 location_line (Some iri) = codes "Location: " ++ (iri ++ codes "\r\n")
@@ -33,7 +33,7 @@ allow_line None = []
 allow_line (Some GetHead) = codes "Allow: GET, HEAD\r\n"
 allow_line (Some GetHeadPost) = codes "Allow: GET, HEAD, POST\r\n"
 
--- the challenge of a reply that wants a key (RFC 9110, section 11.6.1; RFC 6750, section 3)
+-- the challenge of a reply that asks for a key (RFC 9110, section 11.6.1; RFC 6750, section 3)
 unfoldable pub challenge_line : ℕ → List ℕ
 challenge_line status = if status == 401 then codes "WWW-Authenticate: Bearer\r\n" else []
 
@@ -44,7 +44,7 @@ is_jrd Activity = false
 is_jrd Jrd = true
 is_jrd Json = false
 
--- a JRD may be read from each site (RFC 7033, section 5; Fetch Standard, section 3.3)
+-- a JRD may be read from any site (RFC 7033, section 5; Fetch Standard, section 3.3)
 unfoldable pub origin_line : Form → ℕ → List ℕ
 origin_line form status =
     if is_jrd form && status == 200 then codes "Access-Control-Allow-Origin: *\r\n" else []
@@ -56,11 +56,11 @@ type_of Activity = codes "Content-Type: application/activity+json\r\n"
 type_of Jrd = codes "Content-Type: application/jrd+json\r\n"
 type_of Json = codes "Content-Type: application/json\r\n"
 
--- it is named where there is a body
+-- the type is given if there is a body
 unfoldable pub type_line : Form → List ℕ → List ℕ
 type_line form body = if length body == 0 then [] else type_of form
 
--- the length of the body, also where the body is left out (RFC 9110, section 8.6)
+-- the length of the body, even if the body is omitted (RFC 9110, section 8.6)
 unfoldable pub length_line : List ℕ → List ℕ
 length_line body = codes "Content-Length: " ++ (decimal (length body) ++ codes "\r\n")
 
@@ -76,11 +76,11 @@ body_text head_only body = if head_only then [] else body
 unfoldable pub start_text : ℕ → Reply → List ℕ
 start_text moment r = status_line r.status ++ (date_line moment ++ location_line r.location)
 
--- the lines by the kind of reply
+-- the lines that depend on the kind of reply
 unfoldable pub kind_text : Reply → List ℕ
 kind_text r = allow_line r.allow ++ (challenge_line r.status ++ origin_line r.form r.status)
 
--- the lines by the body
+-- the lines that depend on the body
 unfoldable pub content_text : Bool → Reply → List ℕ
 content_text closing r = type_line r.form r.body ++ (length_line r.body ++ connection_line closing)
 
@@ -93,8 +93,7 @@ reply_text moment head_only closing r =
     ++ (codes "\r\n"
     ++ body_text head_only r.body)))
 
--- the reply of a server that is out of memory (RFC 4918, section 11.5), of which no part is
--- computed
+-- the reply of a server that is out of memory (RFC 4918, section 11.5); no part of it is computed
 unfoldable pub memory_text : List ℕ
 memory_text =
     codes "HTTP/1.1 507 Insufficient Storage\r\nContent-Length: 0\r\nConnection: close\r\n\r\n"

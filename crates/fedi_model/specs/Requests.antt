@@ -1,5 +1,5 @@
--- What the head of a request asks, and which requests are served (RFC 9112, sections 2 to 6 and 9;
--- RFC 9110, sections 5 and 7 to 9).
+-- What the head of a request asks for, and which requests are served (RFC 9112, sections 2 to 6 and
+-- 9; RFC 9110, sections 5 and 7 to 9).
 use Rattle.std.specs.Prelude.{◌≡◌, ℕ, ◌≤◌, ◌<◌, ◌-◌, Bool, true, not, ◌&&◌, ◌||◌, ◌==◌, nat_eq}
 use Rattle.std.specs.Prelude.{nat_le, List, [], length, take, drop, map, find, count_by, codes}
 use Rattle.std.specs.Prelude.{bytes_eq, Option, Some, None, option_map, ◌⊎◌, if◌then◌else◌, Result}
@@ -20,7 +20,7 @@ use Rattle.fedi_model.specs.declared.request.Fields.{Fields}
 use Rattle.fedi_model.specs.declared.request.Request.{Request}
 use Rattle.fedi_model.specs.declared.request.TheConstants.{BODY_LIMIT}
 
--- the text is one whole head of at most so many fields (RFC 9112, section 2.1)
+-- the text is one whole head with at most so many fields (RFC 9112, section 2.1)
 abbrev pub IsHead : ℕ → List ℕ → RequestHead → Type 0
 IsHead most text h = ReadsRequest text h [] × (length h.fields ≤ most)
 
@@ -40,7 +40,7 @@ field_of pair = record { name = pair.0; value = pair.1 }
 abbrev pub fields_of : RequestHead → List Field
 fields_of h = map field_of (map name_and_value h.fields)
 
--- the fields at these places of the text
+-- the fields at these positions of the text
 abbrev pub fields_at : List ℕ → List HeaderSpan → List Field
 fields_at text spans = map field_of (map (header_bytes text) spans)
 
@@ -64,49 +64,49 @@ is_once name fields = count_named name fields == 1
 abbrev pub is_missing : List ℕ → List Field → Bool
 is_missing name fields = count_named name fields == 0
 
--- one field at most has this name
+-- at most one field has this name
 abbrev pub is_single : List ℕ → List Field → Bool
 is_single name fields = nat_le (count_named name fields) 1
 
 -- ---- the length of the body
 
--- a value that is there is one digit or more, of which there are so few that the number has 64 bits
--- (RFC 9110, section 8.6)
+-- a value, if there is one, is one or more digits, so few that the number fits in 64 bits (RFC
+-- 9110, section 8.6)
 abbrev pub is_length_if_any : Option (List ℕ) → Bool
 is_length_if_any None = true
 is_length_if_any (Some value) = is_decimal value
 
--- the number that the digits write
+-- the number that the digits denote
 abbrev pub length_by : Option (List ℕ) → ℕ
 length_by None = 0
 length_by (Some value) = digits_value 10 value
 
--- how many bytes the body has that does not come in chunks: as many as `Content-Length` says, and
--- none if it is missing (RFC 9112, section 6.2)
+-- how many bytes a body has that is not sent in chunks: as many as `Content-Length` says, and none
+-- if it is missing (RFC 9112, section 6.2)
 unfoldable pub body_length : List Field → ℕ
 body_length fields = length_by (field_value (codes "Content-Length") fields)
 
--- the coding is `chunked`, in any case (RFC 9112, sections 6.1 and 7)
+-- the coding is `chunked`, ignoring case (RFC 9112, sections 6.1 and 7)
 unfoldable pub is_chunked : List ℕ → Bool
 is_chunked value = bytes_eq (map to_ascii_lowercase value) (codes "chunked")
 
--- a coding that is there is `chunked`
+-- a coding, if there is one, is `chunked`
 abbrev pub is_chunked_if_any : Option (List ℕ) → Bool
 is_chunked_if_any None = true
 is_chunked_if_any (Some value) = is_chunked value
 
--- how the end of the body is found: by its chunks if its transfer is coded, and else by its length
--- (RFC 9112, section 6.3)
+-- how the end of the body is found: by its chunks if the body has a transfer coding, else by its
+-- length (RFC 9112, section 6.3)
 unfoldable pub coding_of : List Field → Coding
 coding_of fields =
     if is_missing (codes "Transfer-Encoding") fields then Length (body_length fields) else Chunked
 
--- the number of bytes that is told in front of the body, if it is
+-- the number of bytes that is announced before the body, if there is one
 abbrev pub length_in : Coding → ℕ
 length_in (Length n) = n
 length_in Chunked = 0
 
--- ---- whether the connection goes on
+-- ---- whether the connection stays open
 
 -- a space or a tab
 abbrev pub is_blank : ℕ → Bool
@@ -120,7 +120,7 @@ trim_start text = drop (position_or_len (λ byte. not (is_blank byte)) text) tex
 abbrev pub trim_end : List ℕ → List ℕ
 trim_end text = take (length text - suffix_len is_blank text) text
 
--- the element of a list is `close`, in any case (RFC 9110, sections 5.6.1 and 7.6.1)
+-- the element of a list is `close`, ignoring case (RFC 9110, sections 5.6.1 and 7.6.1)
 unfoldable pub is_close : List ℕ → Bool
 is_close element =
     bytes_eq (map to_ascii_lowercase (trim_end (trim_start element)))
@@ -134,7 +134,7 @@ lists_close value = list_any is_close (slice_split (λ byte. byte == 44) value)
 abbrev pub is_closing : Field → Bool
 is_closing field = is_named (codes "Connection") field && lists_close field.value
 
--- the connection closes after the reply, as the fields say (RFC 9112, section 9.6)
+-- the connection closes after the reply, according to the fields (RFC 9112, section 9.6)
 unfoldable pub closes : List Field → Bool
 closes fields = list_any is_closing fields
 
@@ -156,11 +156,11 @@ is_reading method = is_get method || is_head method
 abbrev pub is_post : List ℕ → Bool
 is_post method = bytes_eq method (codes "POST")
 
--- the version is HTTP/1.1, and not HTTP/1.0 (RFC 9112, section 2.3)
+-- the version is HTTP/1.1, not HTTP/1.0 (RFC 9112, section 2.3)
 abbrev pub is_latest : ℕ → Bool
 is_latest minor = minor == 1
 
--- what the fields say that is read after the head
+-- the values of the fields that are used after the head was read
 abbrev pub known_fields : List Field → Fields
 known_fields fields = record {
   authorization = field_value (codes "Authorization") fields;
@@ -170,7 +170,7 @@ known_fields fields = record {
   idempotency_key = field_value (codes "Idempotency-Key") fields;
 }
 
--- a request of these parts; the connection goes on after HTTP/1.1 alone (RFC 9112, section 9.3)
+-- a request with these parts; the connection stays open only after HTTP/1.1 (RFC 9112, section 9.3)
 abbrev pub request_with : List ℕ → List ℕ → ℕ → List Field → Request
 request_with method target minor fields = record {
   method = method;
@@ -181,7 +181,7 @@ request_with method target minor fields = record {
   head_only = is_head method;
 }
 
--- the request that a head writes
+-- the request that a head denotes
 abbrev pub request_of : RequestHead → Request
 request_of h = request_with h.method h.target h.minor (fields_of h)
 
@@ -191,36 +191,36 @@ request_of h = request_with h.method h.target h.minor (fields_of h)
 abbrev pub is_served_target : List ℕ → Bool
 is_served_target target = starts_with nat_eq target (codes "/")
 
--- of the fields that say who asks there is one of each at most (RFC 9110, section 5.3)
+-- each of the fields that say who asks occurs at most once (RFC 9110, section 5.3)
 unfoldable pub has_single_credentials : List Field → Bool
 has_single_credentials fields =
     is_single (codes "Authorization") fields
     && is_single (codes "Peer-Host") fields
     && is_single (codes "Peer-Mac") fields
 
--- and so of those that speak of the body
+-- and so does each of those that describe the body
 unfoldable pub has_single_content : List Field → Bool
 has_single_content fields =
     is_single (codes "Content-Length") fields
     && is_single (codes "Transfer-Encoding") fields
     && is_single (codes "Content-Type") fields
 
--- no field is repeated that stands once at most
+-- no field is repeated that may occur only once
 unfoldable pub has_no_repeats : List Field → Bool
 has_no_repeats fields =
     has_single_credentials fields && has_single_content fields
     && is_single (codes "Idempotency-Key") fields
 
--- `Host` stands exactly once, unless the version is HTTP/1.0 (RFC 9112, section 3.2)
+-- `Host` occurs exactly once, unless the version is HTTP/1.0 (RFC 9112, section 3.2)
 abbrev pub has_host : ℕ → List Field → Bool
 has_host minor fields = not (is_latest minor) || is_once (codes "Host") fields
 
--- the body is not measured in both ways (RFC 9112, section 6.3)
+-- the length of the body is not given in both ways (RFC 9112, section 6.3)
 unfoldable pub has_one_measure : List Field → Bool
 has_one_measure fields =
     is_missing (codes "Content-Length") fields || is_missing (codes "Transfer-Encoding") fields
 
--- a `Content-Length` that is there is a number (RFC 9112, section 6.3)
+-- a `Content-Length`, if there is one, is a number (RFC 9112, section 6.3)
 unfoldable pub has_plain_length : List Field → Bool
 has_plain_length fields = is_length_if_any (field_value (codes "Content-Length") fields)
 
@@ -232,7 +232,7 @@ has_served_fields minor fields =
 
 -- ---- why a head is refused
 
--- the transfer is coded in no other way than by chunks
+-- the body has no transfer coding other than chunks
 unfoldable pub has_served_coding : List Field → Bool
 has_served_coding fields = is_chunked_if_any (field_value (codes "Transfer-Encoding") fields)
 
@@ -241,21 +241,21 @@ abbrev pub has_no_measure : List Field → Bool
 has_no_measure fields =
     is_missing (codes "Content-Length") fields && is_missing (codes "Transfer-Encoding") fields
 
--- why no body is read after the good fields of a request with this method: for its coding (RFC
--- 9112, section 6.1), for want of a length (RFC 9110, section 15.5.12), or for the length (RFC
--- 9110, section 15.5.14)
+-- why no body is read after the good fields of a request with this method: its coding (RFC 9112,
+-- section 6.1), a missing length (RFC 9110, section 15.5.12), or the length (RFC 9110, section
+-- 15.5.14)
 abbrev pub body_refusal : List ℕ → List Field → Option Refusal
 body_refusal method fields =
     if not (has_served_coding fields) then Some NoCoding
     else (if is_post method && has_no_measure fields then Some NoLength
     else (if nat_le (body_length fields) BODY_LIMIT then None else Some TooLong))
 
--- why a request with this method and version is refused by its fields
+-- why a request with this method and version is refused because of its fields
 abbrev pub fields_refusal : List ℕ → ℕ → List Field → Option Refusal
 fields_refusal method minor fields =
     if has_served_fields minor fields then body_refusal method fields else Some BadHead
 
--- why a request of these parts is refused
+-- why a request with these parts is refused
 abbrev pub refusal_with : List ℕ → List ℕ → ℕ → List Field → Option Refusal
 refusal_with method target minor fields =
     if is_served_target target then fields_refusal method minor fields else Some BadHead
@@ -264,13 +264,13 @@ refusal_with method target minor fields =
 abbrev pub head_refusal : RequestHead → Option Refusal
 head_refusal h = refusal_with h.method h.target h.minor (fields_of h)
 
--- how many lines stand between the first line of a head and the empty line that ends it: a line
+-- how many lines there are between the first line of a head and the empty line that ends it; a line
 -- ends in LF
 unfoldable pub line_count : List ℕ → ℕ
 line_count text = count_by (λ byte. byte == 10) text - 2
 
--- what a text of few lines is read as: the request of the head that it is, or why that head is
--- refused; what is no head is bad
+-- what a text with few enough lines is read as: the request of its head, or why that head is
+-- refused; a text that is not a head is bad
 abbrev pub ReadsHead : ℕ → List ℕ → Result Request Refusal → Type 0
 ReadsHead most text (Ok q) =
     (h : RequestHead) × IsHead most text h × (head_refusal h ≡ None) × (q ≡ request_of h)
@@ -285,7 +285,7 @@ ReadsAs most text outcome =
     ((line_count text ≤ most) × ReadsHead most text outcome)
     ⊎ ((most < line_count text) × (outcome ≡ Err HeadTooLong))
 
--- a text is read in one way at most
+-- a text is read in at most one way
 abbrev pub IsReadOnce : ℕ → List ℕ → Type 0
 IsReadOnce most text =
     (a b : Result Request Refusal) → ReadsAs most text a → ReadsAs most text b → a ≡ b

@@ -54,31 +54,31 @@ is_read_type type =
     bytes_eq type (codes "application/activity+json")
     || (bytes_eq type (codes "application/ld+json") || bytes_eq type (codes "application/json"))
 
--- the body is said to be of such a type
+-- the declared type of the body is one of these
 abbrev pub is_typed : Option (List ℕ) → Bool
 is_typed None = false
 is_typed (Some value) = is_read_type (media_type value)
 
--- what is read of a body that is no JSON, or whose value this reading gives an activity or a fault
--- of its shape
+-- what is read of a body: it is not JSON, or this reading gives an activity or a fault of shape for
+-- its value
 abbrev pub ReadsBody : (Data → Result activities.Activity ShapeFault) → List ℕ → Read → Type 0
 ReadsBody reads body NotJson = (d : Data) → ¬ (IsBodyOf body d)
 ReadsBody reads body (Bad fault) = (d : Data) × IsBodyOf body d × (reads d ≡ Err fault)
 ReadsBody reads body (Ready a) = (d : Data) × IsBodyOf body d × (reads d ≡ Ok a)
 
--- the request shows nothing of who makes it
+-- the request shows nothing about who makes it
 abbrev pub is_anonymous : Request → Bool
 is_anonymous q =
     is_none q.fields.authorization && (is_none q.fields.peer_host && is_none q.fields.peer_mac)
 
--- What is read of a post. Of one that shows nothing of who makes it nothing is: nobody may post,
+-- What is read of a post. If it shows nothing about who makes it, nothing is read: nobody may post,
 -- whatever it holds.
 abbrev pub ReadsPost : (Data → Result activities.Activity ShapeFault) → Request → List ℕ
     → Read → Type 0
 ReadsPost reads q body read =
     MatchBool (is_anonymous q) (read ≡ NotJson) (ReadsBody reads body read)
 
--- the key under which the post is repeated (the field Idempotency-Key): 1 to 64 bytes 33 to 126
+-- the key that the post is repeated under (the field Idempotency-Key): 1 to 64 bytes from 33 to 126
 abbrev pub repeat_key : Option (List ℕ) → KeyAsk
 repeat_key None = Absent
 repeat_key (Some value) = if is_repeat_key value then Given value else Malformed
@@ -87,21 +87,21 @@ repeat_key (Some value) = if is_repeat_key value then Given value else Malformed
 abbrev pub no_digest : List ℕ
 no_digest = replicate 32 0
 
--- The digest of the body under a key. Without one nobody asks for it, and none is made.
+-- The digest of the body under a key. Without a key the digest is not needed, and none is made.
 abbrev pub digest_under : KeyAsk → List ℕ → List ℕ
 digest_under Absent body = no_digest
 digest_under Malformed body = no_digest
 digest_under (Given key) body = sha256 body
 
--- the author's post that a request with this body makes
+-- the author's post made by a request with this body
 pub record IsPost (q : Request) (author body : List ℕ) (post : Post) : Type 0 where
   pub typed : post.is_typed ≡ is_typed q.fields.content_type
   pub key : post.key ≡ repeat_key q.fields.idempotency_key
   pub digest : post.digest ≡ digest_under post.key body
   pub read : ReadsPost (reads_activity author) q body post.read
 
--- The delivery that a request with this body makes (ActivityPub, section 7). It has no key: the id
--- of its activity tells whether it is a repeat.
+-- The delivery made by a request with this body (ActivityPub, section 7). It has no key: the id of
+-- its activity determines whether it is a repeat.
 pub record IsDelivery (q : Request) (body : List ℕ) (post : Post) : Type 0 where
   pub typed : post.is_typed ≡ is_typed q.fields.content_type
   pub key : post.key ≡ Absent
@@ -110,7 +110,7 @@ pub record IsDelivery (q : Request) (body : List ℕ) (post : Post) : Type 0 whe
 
 -- ---- asks
 
--- what is asked for by reading what stands there (RFC 9110, sections 9.3.1 and 9.3.2)
+-- what a request to read an endpoint asks for (RFC 9110, sections 9.3.1 and 9.3.2)
 abbrev pub read_at : Option (List ℕ) → List ℕ → Place → Ask
 read_at host query place.Webfinger = Webfinger (resource_in host query)
 read_at host query (place.Actor name) = Actor name
@@ -118,42 +118,42 @@ read_at host query (place.Collection which) = Collection which (page_in query)
 read_at host query (place.Activity name number) = Activity name number
 read_at host query (place.Object name number) = Object name number
 
--- what is asked for by a method that the place does not have (RFC 9110, section 15.5.6)
+-- what a request asks for if its endpoint does not have its method (RFC 9110, section 15.5.6)
 abbrev pub refused_at : Place → Ask
 refused_at there = WrongMethod (allow_of there)
 
--- what is asked for by posting to the outbox of this name: before the server was set up nobody has
--- one
+-- what a post to the outbox of this name asks for; before the server was set up, nobody has an
+-- outbox
 abbrev pub PostsAs : Option (List ℕ) → Request → List ℕ → List ℕ → Ask → Type 0
 PostsAs None q body name ask = ask ≡ Nowhere
 PostsAs (Some host) q body name ask =
     (post : Post) × IsPost q (actor_id host name) body post × (ask ≡ Outbox name post)
 
--- what is asked for by posting to the inbox of this name
+-- what a post to the inbox of this name asks for
 abbrev pub DeliversTo : Request → List ℕ → List ℕ → Ask → Type 0
 DeliversTo q body name ask = (post : Post) × IsDelivery q body post × (ask ≡ Inbox name post)
 
--- What is asked for by posting to what stands there: members post to their outboxes (ActivityPub,
--- section 6), and other servers deliver to inboxes (section 7).
+-- What a post to an endpoint asks for. Members post to their outboxes (ActivityPub, section 6), and
+-- other servers deliver to inboxes (section 7).
 abbrev pub PostsTo : Option (List ℕ) → Request → List ℕ → Place → Ask → Type 0
 PostsTo host q body (place.Collection (which.Outbox name)) ask = PostsAs host q body name ask
 PostsTo host q body (place.Collection (which.Inbox name)) ask = DeliversTo q body name ask
 PostsTo host q body there ask = ask ≡ refused_at there
 
--- what a request for what stands there asks for, by its method
+-- what a request to an endpoint asks for, by its method
 abbrev pub AsksAt : Option (List ℕ) → Request → List ℕ → Place → Ask → Type 0
 AsksAt host q body there ask =
     MatchBool (is_reading q.method) (ask ≡ read_at host (query_of q.target) there)
     (MatchBool (is_post q.method) (PostsTo host q body there ask) (ask ≡ refused_at there))
 
--- what a request with this body asks for at the server of this host: its path leads somewhere, or
--- it asks for nothing
+-- what a request with this body asks for at the server of this host: its path leads to an endpoint,
+-- or it asks for nothing
 abbrev pub Asks : Option (List ℕ) → Request → List ℕ → Ask → Type 0
 Asks host q body ask =
     (((there : Place) → ¬ (LeadsTo (path_of q.target) there)) × (ask ≡ Nowhere))
     ⊎ ((there : Place) × LeadsTo (path_of q.target) there × AsksAt host q body there ask)
 
--- a request asks for one thing at most
+-- a request asks for at most one thing
 abbrev pub IsAskedOnce : Option (List ℕ) → Request → List ℕ → Type 0
 IsAskedOnce host q body = (a b : Ask) → Asks host q body a → Asks host q body b → a ≡ b
 

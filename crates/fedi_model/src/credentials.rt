@@ -1,4 +1,4 @@
-//! What a request shows of who makes it.
+//! What a request shows about who makes it.
 
 /// What a peer signed.
 #[derive(Clone, Copy)]
@@ -15,14 +15,14 @@ pub struct Signed<'a> {
     pub body: &'a [u8],
 }
 
-/// What a request shows of who makes it. Its references are into the request.
+/// What a request shows about who makes it. Its references point into the request.
 #[derive(Clone, Copy)]
 pub enum Credentials<'a> {
-    /// None of the fields stands.
+    /// None of the fields is present.
     Nothing,
-    /// A bearer key (RFC 6750, section 2.1), or none where the field has another form.
+    /// A bearer key (RFC 6750, section 2.1), or `None` if the field has another form.
     Bearer(Option<[u8; 32]>),
-    /// A peer's code over the request, or none where one of its fields is missing or has another
+    /// A peer's code over the request, or `None` if one of its fields is missing or has another
     /// form.
     Mac(Option<Signed<'a>>),
 }

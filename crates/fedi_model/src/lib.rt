@@ -1,5 +1,5 @@
-//! Requests and replies: which requests are served, what each asks for and what it is answered,
-//! with the plain types that these definitions speak of.
+//! Requests and replies: which requests are served, what each asks for and how it is answered, with
+//! the plain types used by these definitions.
 #![tactic(auto)]
 
 mod ask;

@@ -1,19 +1,19 @@
-//! What stands at the paths of the server.
+//! What is served at the paths of the server.
 
 use fedi_address::LocalName;
 use fedi_town::Which;
 
-/// What stands at a path.
+/// What is served at a path.
 #[derive(Drop)]
 pub enum Place {
-    /// Who a resource is (RFC 7033, section 4).
+    /// The lookup of a resource (RFC 7033, section 4).
     Webfinger,
     /// The member's actor document (ActivityPub, section 4.1).
     Actor(LocalName),
     /// A collection (ActivityPub, section 5).
     Collection(Which),
-    /// The member's activity of this number (ActivityPub, section 3.2).
+    /// The member's activity with this number (ActivityPub, section 3.2).
     Activity(LocalName, u32),
-    /// The object that the member's activity of this number made.
+    /// The object that the member's activity with this number made.
     Object(LocalName, u32),
 }

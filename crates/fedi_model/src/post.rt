@@ -3,25 +3,25 @@
 use fedi_objects::{Activity, Boxed, RepeatKey};
 use fedi_reading::ShapeFault;
 
-/// What was read of the body of a post.
+/// The result of reading the body of a post.
 #[derive(Drop)]
 pub enum Read {
-    /// The body is no JSON (RFC 8259), or it was not read, since nothing shows who posts it.
+    /// The body is not JSON (RFC 8259), or it was not read, as nothing shows who posts it.
     NotJson,
-    /// The body has not the shape of what may be posted. It is never `ShapeFault::Memory`.
+    /// The body does not have the shape of a post. It is never `ShapeFault::Memory`.
     Bad(ShapeFault),
     /// The body was read as this activity.
     Ready(Boxed<Activity>),
 }
 
-/// The key under which a post is repeated (the header field Idempotency-Key).
+/// The key that a post is repeated under (the header field Idempotency-Key).
 #[derive(Drop)]
 pub enum KeyAsk {
-    /// There is none.
+    /// No key is given.
     Absent,
-    /// It is no key.
+    /// The key is malformed.
     Malformed,
-    /// It is this key.
+    /// This key is given.
     Given(RepeatKey),
 }
 
@@ -30,10 +30,10 @@ pub enum KeyAsk {
 pub struct Post {
     /// Whether the media type is one of JSON and ActivityStreams (RFC 9110, section 8.3).
     pub is_typed: bool,
-    /// The key under which the post is repeated.
+    /// The key that the post is repeated under.
     pub key: KeyAsk,
-    /// Under a key the SHA-256 digest of the body, and else zeros.
+    /// The SHA-256 digest of the body if a key is given, otherwise zeros.
     pub digest: [u8; 32],
-    /// What was read of the body.
+    /// The result of reading the body.
     pub read: Read,
 }

@@ -1,4 +1,4 @@
-//! What a reply says of each reason for a refusal.
+//! What a reply says for each reason of a refusal.
 
 ghost use Rattle.std.specs.Prelude.{◌≡◌};
 ghost use Rattle.fedi_model.specs.Refusals.{refusal_body, status_of};
@@ -6,8 +6,8 @@ ghost use Rattle.fedi_model.specs.Refusals.{refusal_body, status_of};
 use fedi_town::Refusal;
 use http::StatusCode;
 
-/// The status code of the reply to what is refused (RFC 9110, section 15; RFC 6585 for 431 and RFC
-/// 4918 for 422 and 507).
+/// The status code of the reply to a refused request (RFC 9110, section 15; RFC 6585 for 431 and
+/// RFC 4918 for 422 and 507).
 pub fn refusal_status(refusal: Refusal) -> StatusCode
     ensures { result ≡ status_of refusal }
 {
@@ -35,7 +35,7 @@ pub fn refusal_status(refusal: Refusal) -> StatusCode
     }
 }
 
-/// The body of the reply to what is refused: a JSON object that names the reason (RFC 8259). It
+/// The body of the reply to a refused request: a JSON object that names the reason (RFC 8259). It
 /// takes no memory.
 pub fn refusal_body(refusal: Refusal) -> &'static [u8]
     ensures { result.now ≡ refusal_body refusal }

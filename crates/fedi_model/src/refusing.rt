@@ -1,4 +1,4 @@
-//! The replies to what is refused. They take no memory.
+//! The replies to refused requests. They take no memory.
 
 ghost use Rattle.std.specs.Prelude.{◌≡◌};
 ghost use Rattle.fedi_model.specs.Refusing.{fault_body, misshapen, refused, text_reply};
@@ -33,7 +33,7 @@ fn fault_body(fault: ShapeFault) -> &'static [u8]
     }
 }
 
-/// The reply that reports a refusal: its status (RFC 9110, section 15), and its name as JSON. It
+/// The reply that reports a refusal: its status (RFC 9110, section 15), and its name in JSON. It
 /// takes no memory.
 pub fn refusal_reply(refusal: Refusal) -> Reply
     ensures { result ≡ refused refusal }
@@ -41,7 +41,7 @@ pub fn refusal_reply(refusal: Refusal) -> Reply
     text_reply(refusal_status(refusal), refusal_body(refusal))
 }
 
-/// The reply to a post of the wrong shape (RFC 9110, section 15.5.21), which names the fault as
+/// The reply to a post of the wrong shape (RFC 9110, section 15.5.21), which names the fault in
 /// JSON. It takes no memory.
 pub fn misshapen_reply(fault: ShapeFault) -> Reply
     ensures { result ≡ misshapen fault }

@@ -1,4 +1,4 @@
-//! What a request is answered.
+//! The replies to requests.
 
 ghost use Rattle.std.specs.Prelude.{◌≡◌, []};
 
@@ -79,9 +79,9 @@ pub struct Reply {
     pub status: StatusCode,
     /// The media type of the body (RFC 9110, section 8.3).
     pub form: Form,
-    /// Where the new thing is (RFC 9110, section 10.2.2).
+    /// The address of what was created (RFC 9110, section 10.2.2).
     pub location: Option<Iri>,
-    /// The methods that are allowed, if another was asked (RFC 9110, section 10.2.1).
+    /// The allowed methods, if the request used another one (RFC 9110, section 10.2.1).
     pub allow: Option<Allow>,
     /// The body.
     pub body: Body,

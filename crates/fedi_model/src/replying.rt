@@ -1,4 +1,4 @@
-//! The forms that replies have.
+//! The forms of replies.
 
 ghost use Rattle.std.specs.Prelude.{◌≡◌, None};
 ghost use Rattle.fedi_model.specs.Replies.{without_body};
@@ -8,7 +8,7 @@ use fedi_address::Iri;
 use http::StatusCode;
 
 impl Reply {
-    // A reply with this body, which says nothing else.
+    // A reply with this body and nothing else.
     pub(crate) fn with_body(status: StatusCode, form: Form, body: Body) -> Reply
         ensures { result ≡ record {
           status = status;
@@ -53,7 +53,7 @@ impl Reply {
         Reply::with_body(status, form, Body::from(text))
     }
 
-    /// The reply that says where the thing is that was made, now or before (RFC 9110, sections
+    /// The reply that gives the address of what was created, now or earlier (RFC 9110, sections
     /// 10.2.2 and 15.3.2). It takes no memory.
     pub fn created(location: Option<Iri>) -> Reply
         ensures { result ≡ without_body 201 location }
@@ -61,7 +61,8 @@ impl Reply {
         Reply::without_body(StatusCode::CREATED, location)
     }
 
-    /// The reply to what is accepted, now or before (RFC 9110, section 15.3.3). It takes no memory.
+    /// The reply to what was accepted, now or earlier (RFC 9110, section 15.3.3). It takes no
+    /// memory.
     pub fn accepted() -> Reply
         ensures { result ≡ without_body 202 None }
     {

@@ -3,8 +3,9 @@
 use fedi_text::Bytes;
 use http::Method;
 
-/// The values of the fields of a head that are read after it, each of the first field of its name
-/// (RFC 9110, section 5.1), without the white space around it (RFC 9110, section 5.5).
+/// The values of those fields of a head that are used after it was read. Each is from the first
+/// field of its name (RFC 9110, section 5.1), without the white space around it (RFC 9110, section
+/// 5.5).
 #[derive(Drop)]
 pub struct Fields {
     /// `Authorization`: a key (RFC 9110, section 11.6.2).
@@ -15,17 +16,17 @@ pub struct Fields {
     pub peer_mac: Option<Bytes>,
     /// `Content-Type`: the media type of the body (RFC 9110, section 8.3).
     pub content_type: Option<Bytes>,
-    /// `Idempotency-Key`: the key under which a repeat of the request is known.
+    /// `Idempotency-Key`: the key that identifies a repeat of the request.
     pub idempotency_key: Option<Bytes>,
 }
 
-/// The most bytes that a body may have.
+/// The longest body, in bytes.
 pub const BODY_LIMIT: usize = 262_144;
 
 /// How the end of a body is found (RFC 9112, section 6.3).
 #[derive(Clone, Copy, Debug, PartialEq, Eq)]
 pub enum Coding {
-    /// The body has so many bytes (RFC 9112, section 6.2).
+    /// The body has this many bytes (RFC 9112, section 6.2).
     Length(usize),
     /// The body comes in chunks (RFC 9112, section 7.1).
     Chunked,
@@ -38,11 +39,11 @@ pub struct Request {
     pub method: Method,
     /// The target (RFC 9112, section 3.2).
     pub target: Bytes,
-    /// What the fields of the head say.
+    /// The values of the fields of the head.
     pub fields: Fields,
     /// How the end of the body is found.
     pub coding: Coding,
-    /// Whether the connection goes on after the reply, as far as the head says: the version is
+    /// Whether the connection stays open after the reply, as far as the head says: the version is
     /// HTTP/1.1, and no `Connection` lists `close` (RFC 9112, section 9.3).
     pub keep_alive: bool,
     /// Whether the reply has no body: the method is HEAD (RFC 9110, section 9.3.2).

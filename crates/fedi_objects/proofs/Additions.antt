@@ -1,4 +1,4 @@
--- Tokens that are written one after the other.
+-- Tokens that are written one after another.
 use Rattle.std.proofs.Common.{◌≡◌, ◌≢◌, take_all, ℕ, arith, rules, tests, subst, false, cond, Err, ◌+◌, ◌<◌, List, [], ◌∷◌, ◌++◌, map, take, length, get_or, Some, None, Result, Ok, refl, sym, ap, ◌∙◌, append_assoc, append-nil}
 use Rattle.std.specs.Prelude.{◌==◌, OnOk}
 use Rattle.std.proofs.lemmas.List.{take_more, map-append}
@@ -25,7 +25,7 @@ one_added {t = t} {x = x} {y = y} was h = record {
   before = h.room.0;
 }
 
--- where the last token is written, all is
+-- if the last token is written, all tokens are
 pub ended : {E : Type 0} (r : Result (Unit {0}) E) {t : Token} {x y : Written} {P : Type 0} → (Adds (t ∷ []) x y → P) → Writes r x y t → OnOk r P
 ended (Ok u) f h = f record { tokens = h.ok; before = h.room.0 }
 ended (Err e) f h = tt
@@ -75,7 +75,7 @@ unfolding listed
 none_listed k f [] w none = nothing_added w
 none_listed k f (x ∷ xs) w none = absurd (omega (arith, none))
 
--- one value more of a list
+-- one more value of a list
 pub more_added : {X : Type 0} (f : X → Data) (xs : List X) (i : ℕ) (x : X) {v w z : Written} → i < length xs → x ≡ get_or xs i x
     → Adds (values_tokens (map f (take i xs))) v w → Adds (json_tokens (outline (f x))) w z → Adds (values_tokens (map f (take (i + 1) xs))) v z
 more_added f xs i x {v} {w} {z} within is front one =

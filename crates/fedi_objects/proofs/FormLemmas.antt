@@ -1,4 +1,4 @@
--- What is shown names nobody who is hidden.
+-- What is shown never names a hidden recipient.
 use Rattle.std.proofs.Common.{◌≡◌, ℕ, List, [], ◌∷◌, map, length, Bool, true, false, ◌&&◌, cond, codes, Option, Some, None, refl}
 use Rattle.std.specs.Prelude.{◌==◌}
 use Rattle.std.specs.Ordering.{nat_cmp, match_ordering}
@@ -44,7 +44,7 @@ member_shown : (k : List ℕ) (d : Data) (ms : Members) → is_open k ≡ true �
 member_shown k d ms free shown rest =
     record { clean = both _ _ free (both _ _ shown.clean rest.clean) }
 
--- what the members of a shown object are
+-- the parts of a shown object's members
 member_parts : (k : List ℕ) (d : Data) (ms : Members) → HasShown (member k d ms) → (is_open k ≡ true) × IsShown d × HasShown ms
 member_parts k d ms h =
     let free = and_parts _ _ h.clean in
@@ -181,7 +181,7 @@ activity_form_shown local context author a = object_shown _ (with_context_shown 
 pub is_clean-activity_form : (local context : Bool) (author : List ℕ) (a : Activity) → is_clean (activity_form local context author a) ≡ true
 is_clean-activity_form local context author a = (activity_form_shown local context author a).clean
 
--- the form of an object tells nothing of `bto` and `bcc`
+-- the form of an object does not depend on `bto` and `bcc`
 pub object_form_stripped : (local context : Bool) (o : Object) → object_form local context (stripped_object o) ≡ object_form local context o
 unfolding object_form kind_members with_links tombstone_members
 object_form_stripped local context o = refl

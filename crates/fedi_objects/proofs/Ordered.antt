@@ -1,4 +1,4 @@
--- Members that are put in any order stand in the order of their keys.
+-- Members that are put in any order end up in the order of their keys.
 use Rattle.std.proofs.Common.{◌≡◌, ℕ, List, [], ◌∷◌, ◌++◌, Bool, true, false, ◌&&◌, Option, Some, None, refl, ap, ◌∙◌}
 use Rattle.std.specs.Ordering.{nat_cmp, match_ordering}
 use Rattle.std.specs.declared.cmp.Ordering.TheVariants.{Less, Equal, Greater}
@@ -28,7 +28,7 @@ abbrev in_front : List ℕ → Option Data → Members → Members
 in_front k None ms = ms
 in_front k (Some d) ms = member k d ms
 
--- the members that are there, as they stand
+-- the members that are there, in the given order
 abbrev in_order : List Slot → Members
 in_order [] = no_members
 in_order (s ∷ ss) = in_front s.0 s.1 (in_order ss)
@@ -47,12 +47,12 @@ abbrev is_first : List ℕ → List Slot → Bool
 is_first k [] = true
 is_first k (t ∷ ts) = match_ordering (slice_cmp nat_cmp k t.0) (is_first k ts) false false
 
--- the key stands at none of these, and is less than each behind the first that is greater
+-- no member has this key, and the key is less than each one after the first that is greater
 abbrev fits : List ℕ → List Slot → Bool
 fits k [] = true
 fits k (t ∷ ts) = match_ordering (slice_cmp nat_cmp k t.0) (is_first k ts) false (fits k ts)
 
--- no key stands twice
+-- no key is repeated
 abbrev pub are_distinct : List Slot → Bool
 are_distinct [] = true
 are_distinct (s ∷ ss) = fits s.0 (sorted ss) && are_distinct ss
@@ -78,7 +78,7 @@ with_first : (k : List ℕ) (v : Option Data) (ss : List Slot) → is_first k ss
 with_first k None ss h = refl
 with_first k (Some d) ss h = put_first k d ss h
 
--- put among these, a member stands at its place
+-- a member that is put among these ends up at its position
 inserted : (k : List ℕ) (v : Option Data) (ss : List Slot) → fits k ss ≡ true → with_member k v (in_order ss) ≡ in_order (insert (k, v) ss)
 inserted k None [] h = refl
 inserted k (Some d) [] h = refl
@@ -112,7 +112,7 @@ put_all_in_order ((k, v) ∷ ss) h =
     let parts = and_parts (fits k (sorted ss)) (are_distinct ss) h in
     ap (with_member k v) (put_all_in_order ss parts.1) ∙ inserted k v (sorted ss) parts.0
 
--- the tokens of these members as they stand, with the closing bracket
+-- the tokens of these members in the given order, with the closing bracket
 abbrev pub slot_tokens : List Slot → List Token
 slot_tokens [] = Token.end_object ∷ []
 slot_tokens (s ∷ ss) = member_tokens s.0 s.1 ++ slot_tokens ss
@@ -122,7 +122,7 @@ in_order_tokens [] = refl
 in_order_tokens ((k, None) ∷ ss) = in_order_tokens ss
 in_order_tokens ((k, Some d) ∷ ss) = ap (λ ts. Token.key k ∷ (json_tokens (outline d) ++ ts)) (in_order_tokens ss)
 
--- the tokens of an object whose members are put in any order, none twice
+-- the tokens of an object whose members are put in any order, each key once
 pub put_all_tokens : (ss : List Slot) → are_distinct ss ≡ true → json_tokens (outline (object (put_all ss))) ≡ Token.begin_object ∷ slot_tokens (sorted ss)
 put_all_tokens ss h =
     ap (λ ms. Token.begin_object ∷ members_tokens (members_outline ms)) (put_all_in_order ss h)

@@ -1,5 +1,5 @@
--- The JSON in which objects are shown (ActivityStreams 2.0 Core, sections 2 to 4). A property that
--- is absent is not written, and neither is an empty list.
+-- The JSON in which objects are shown (ActivityStreams 2.0 Core, sections 2 to 4). Absent
+-- properties and empty lists are not written.
 use Rattle.std.specs.Prelude.{ℕ, List, [], ◌++◌, map, length, Bool, true, false, not, ◌&&◌, ◌==◌}
 use Rattle.std.specs.Prelude.{Option, Some, None, if◌then◌else◌, codes, bytes_eq}
 use Rattle.serde_json.specs.Data.{Data, null, boolean, number, string, array, object, Items}
@@ -21,7 +21,7 @@ unfoldable pub with_text : List ℕ → Option (List ℕ) → Members → Member
 with_text key None ms = ms
 with_text key (Some text) ms = put key (string text) ms
 
--- the members, with a list that is not empty
+-- the members, with a list if it is not empty
 unfoldable pub with_list : List ℕ → List Data → Members → Members
 with_list key ds ms = if length ds == 0 then ms else put key (array (items_of ds)) ms
 
@@ -46,13 +46,13 @@ tag_form t =
     object (put (codes "href") (string t.href) (put (codes "name") (string t.name)
     (put (codes "type") (string (codes "Mention")) no_members)))
 
--- the members, with whom it is for, but never `bto` and `bcc` (ActivityPub, section 6)
+-- the members, with the recipients, but never `bto` and `bcc` (ActivityPub, section 6)
 unfoldable pub with_audience : List (List ℕ) → List (List ℕ) → List (List ℕ) → Members → Members
 with_audience to cc audience ms =
     with_list (codes "audience") (map string audience)
     (with_list (codes "cc") (map string cc) (with_list (codes "to") (map string to) ms))
 
--- the members, with what it says
+-- the members, with the content, the name, the summary and the mentions
 unfoldable pub with_words : Option (List ℕ) → Option (List ℕ) → Option (List ℕ) → List Tag
     → Members → Members
 with_words content summary name tags ms =
@@ -76,7 +76,7 @@ with_links o ms =
     with_text (codes "attributedTo") o.attributed_to
     (with_text (codes "inReplyTo") o.in_reply_to (with_text (codes "url") o.url ms))
 
--- an object as it stands
+-- the members of an object that was not deleted
 abbrev pub live_members : Bool → Object → Members
 live_members local o =
     with_links o
@@ -100,7 +100,7 @@ is_tombstone o = bytes_eq o.kind (codes "Tombstone")
 abbrev pub object_members : Bool → Object → Members
 object_members local o = if is_tombstone o then tombstone_members o else live_members local o
 
--- an object alone, by whether it is one of this server's, and whether it is a document of its own
+-- an object by itself, given whether it is this server's and whether it is a document of its own
 unfoldable pub object_form : Bool → Bool → Object → Data
 object_form local context o = object (with_context context (object_members local o))
 
@@ -133,8 +133,8 @@ activity_members local author a =
     (with_audience a.recipients.to a.recipients.cc a.recipients.audience
     (with_words a.content a.summary a.name a.tags (activity_kind_members a))))
 
--- an author's activity alone (Core, section 4.2), by whether it is one of this server's, and
--- whether it is a document of its own
+-- an author's activity by itself (Core, section 4.2), given whether it is this server's and whether
+-- it is a document of its own
 unfoldable pub activity_form : Bool → Bool → List ℕ → Activity → Data
 activity_form local context author a =
     object (with_context context (activity_members local author a))

@@ -1,8 +1,8 @@
--- Keys by which a client marks a repeated post (the header field Idempotency-Key).
+-- Keys that a client uses to mark a repeated post (the header field Idempotency-Key).
 use Rattle.std.specs.Prelude.{ℕ, Bool, ◌&&◌, nat_le, List, length}
 use Rattle.std.specs.List.{list_all}
 
--- a byte of ASCII that shows, and no space (VCHAR of RFC 5234, appendix B.1)
+-- a printing ASCII character other than a space (VCHAR of RFC 5234, appendix B.1)
 abbrev pub is_visible : ℕ → Bool
 is_visible b = nat_le 33 b && nat_le b 126
 

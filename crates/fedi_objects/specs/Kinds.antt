@@ -36,14 +36,14 @@ use Rattle.fedi_objects.specs.declared.kind.State.{State}
 use Rattle.fedi_objects.specs.declared.kind.State.TheVariants.{Plain, Done, Pending, Accepted}
 use Rattle.fedi_objects.specs.declared.kind.State.TheVariants.{Rejected, Standing, Undone}
 
--- the types, in the order of the alphabet
+-- the types, in alphabetical order
 abbrev pub kinds : List Kind
 kinds =
     Accept ∷ Add ∷ Announce ∷ Arrive ∷ Block ∷ Create ∷ Delete ∷ Dislike ∷ Flag ∷ Follow ∷ Ignore
     ∷ Invite ∷ Join ∷ Leave ∷ Like ∷ Listen ∷ Move ∷ Offer ∷ Question ∷ Read ∷ Reject ∷ Remove
     ∷ TentativeAccept ∷ TentativeReject ∷ Travel ∷ Undo ∷ Update ∷ View ∷ []
 
--- the place of a type among the 28, in the order of the alphabet
+-- the position of a type among the 28, in alphabetical order
 abbrev pub kind_number : Kind → ℕ
 kind_number Accept = 1
 kind_number Add = 2
@@ -74,7 +74,7 @@ kind_number Undo = 26
 kind_number Update = 27
 kind_number View = 28
 
--- the type as the vocabulary spells it
+-- the name of the type, as spelled in the vocabulary
 abbrev pub kind_name : Kind → List ℕ
 kind_name Accept = codes "Accept"
 kind_name Add = codes "Add"

@@ -1,4 +1,4 @@
--- The limits of what an entry says, each of one field by itself.
+-- The limits on the contents of an entry, each on one field by itself.
 use Rattle.std.specs.Prelude.{ℕ, Bool, ◌&&◌, nat_le, List, length}
 use Rattle.std.specs.List.{list_all}
 use Rattle.fedi_objects.specs.Keys.{is_visible}
@@ -11,7 +11,7 @@ is_text text = nat_le (length text) 65536
 unfoldable pub is_type : List ℕ → Bool
 is_type text = nat_le 1 (length text) && nat_le (length text) 64
 
--- a byte of ASCII that shows, or a space
+-- a printing ASCII character or a space
 abbrev pub is_date_byte : ℕ → Bool
 is_date_byte b = nat_le 32 b && nat_le b 126
 
@@ -19,6 +19,6 @@ is_date_byte b = nat_le 32 b && nat_le b 126
 unfoldable pub is_date : List ℕ → Bool
 is_date text = nat_le (length text) 64 && list_all is_date_byte text
 
--- where a peer is reached: 1 to 255 bytes of ASCII that show, and no space
+-- the address of a peer: 1 to 255 printing ASCII characters other than a space
 abbrev pub is_address : List ℕ → Bool
 is_address text = (nat_le 1 (length text) && nat_le (length text) 255) && list_all is_visible text

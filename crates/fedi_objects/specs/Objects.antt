@@ -1,4 +1,4 @@
--- Objects, activities and changes of few properties, and objects without what is hidden.
+-- Objects, activities and changes with few properties, and objects without what is hidden.
 use Rattle.std.specs.Prelude.{ℕ, List, [], None}
 use Rattle.fedi_address.specs.Recipients.{nobody, stripped}
 use Rattle.fedi_objects.specs.declared.kind.Kind.{Kind}

@@ -1,10 +1,10 @@
--- What is seen of an object by the properties that may be shown.
+-- An object as seen through the properties that may be shown.
 use Rattle.std.specs.Prelude.{[]}
 use Rattle.std.specs.Option.{option_copied}
 use Rattle.fedi_objects.specs.declared.object.Object.{Object}
 use Rattle.fedi_objects.specs.declared.shown.ObjectView.{ObjectView}
 
--- the object of these properties, which names nobody in `bto` and `bcc`
+-- the object with these properties, which names nobody in `bto` and `bcc`
 abbrev pub viewed : ObjectView → Object
 viewed v = record {
   id = option_copied v.id;

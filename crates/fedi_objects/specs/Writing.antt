@@ -1,4 +1,4 @@
--- What is written of a value as JSON, a token at a time (RFC 8259).
+-- What is written of a value as JSON, token by token (RFC 8259).
 use Rattle.std.specs.Prelude.{◌≡◌, ◌==◌, ℕ, List, [], ◌∷◌, ◌++◌, length, Bool, true, false}
 use Rattle.std.specs.Prelude.{if◌then◌else◌, codes, Option, Some, None}
 use Rattle.json.specs.Token.{Token}
@@ -11,16 +11,16 @@ use Rattle.fedi_objects.specs.declared.activity.ObjectRef.{ObjectRef}
 use Rattle.fedi_objects.specs.declared.activity.ObjectRef.TheVariants as refs
 use Rattle.fedi_objects.specs.Forms.{object_form}
 
--- the tokens were written behind what stood there
+-- the tokens were written after the earlier ones
 pub record Adds (ts : List Token) (old new : Written) : Type 0 where
   pub tokens : new.tokens ≡ old.tokens ++ ts
   pub before : new.before ≡ old.before
 
--- the value was written behind what stood there
+-- the value was written after what was there
 abbrev pub IsWritten : Data → Written → Written → Type 0
 IsWritten d old new = Adds (json_tokens (outline d)) old new
 
--- all that was written is the value
+-- the value is all that was written
 pub record IsDocument (d : Data) (out : Written) : Type 0 where
   pub tokens : out.tokens ≡ json_tokens (outline d)
   pub before : out.before ≡ []

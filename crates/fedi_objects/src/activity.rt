@@ -15,7 +15,7 @@ use std::alloc::{AllocError, Global};
 pub enum ObjectRef {
     Nothing,
     Id(Iri),
-    /// The object itself, of a Create or a peer's Update.
+    /// The object itself, in a Create or a peer's Update.
     Whole(Boxed<Object>),
     /// What a client's Update changes.
     Changed(Change),
@@ -54,8 +54,8 @@ pub struct Activity {
 impl Activity {
     ghost use Rattle.fedi_objects.specs.Objects.{activity_of_kind, creation};
 
-    /// The activity of this type about nothing and for nobody, with no other property. It takes no
-    /// memory.
+    /// An activity of this type about nothing and addressed to nobody, with no other property. It
+    /// takes no memory.
     pub fn new(alloc: Global, kind: Kind) -> Activity
         ensures { result ≡ activity_of_kind kind }
     {
@@ -98,7 +98,8 @@ impl Activity {
         })
     }
 
-    // Copies all but the type. To own one activity over many exits is dear to prove, so it is lent.
+    // Copies all but the type. It borrows `self`, as owning one activity over many exits is
+    // expensive to prove.
     fn fill_from(&mut self, other: &Activity) -> Result<(), AllocError>
         ensures { OnOk result (self.new ≡ record other.now { kind = self.old.kind }) }
     {

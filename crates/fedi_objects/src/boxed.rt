@@ -1,4 +1,4 @@
-//! A value on the heap that clauses see as the value itself.
+//! A value on the heap that clauses treat as the value itself.
 
 ghost use Rattle.std.specs.Prelude.{◌≡◌, IfOk};
 
@@ -6,7 +6,7 @@ use std::alloc::{AllocError, Global};
 use std::marker::Model;
 use std::ops::Deref;
 
-/// A value on the heap. It keeps a type that holds it small; a clause sees the value itself.
+/// A value on the heap. A type that holds it stays small, and a clause sees the value itself.
 #[derive(Drop)]
 pub struct Boxed<T> {
     inner: Box<T>,
@@ -19,7 +19,7 @@ impl<T> Model for Boxed<T> {
 }
 
 impl<T: Drop> Boxed<T> {
-    /// Moves a value to the heap. Out of memory it is dropped.
+    /// Moves a value to the heap. Out of memory, the value is dropped.
     pub fn new(alloc: Global, value: T) -> Result<Boxed<T>, AllocError>
         ensures { IfOk result (λ x. x ≡ value) }
     {
@@ -39,7 +39,7 @@ impl<T> Boxed<T> {
         &*self.inner
     }
 
-    /// The value, to be changed.
+    /// The value, for changing it.
     pub fn get_mut(&mut self) -> &mut T
         ensures* writes_back { sem 𝓛 (Lends (the_row T.row) T.row self.entry result (λ w. w)) }
         ensures value { result.now ≡ self.old }
@@ -55,7 +55,7 @@ impl<T> Boxed<T> {
         Box::into_inner(inner)
     }
 
-    /// The allocator that the value's memory is from.
+    /// The allocator that the value's memory comes from.
     pub fn allocator(&self) -> Global {
         *Box::allocator(&self.inner)
     }

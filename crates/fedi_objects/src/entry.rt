@@ -6,14 +6,14 @@ use crate::repeat_key::RepeatKey;
 use fedi_address::{Host, Iri, LocalName};
 use fedi_text::{Moment, Text};
 
-/// Which request to a peer an outcome is of.
+/// The request to a peer that an outcome belongs to.
 #[derive(Clone, Copy, Debug)]
 pub enum Sent {
     Lookup,
     Post,
 }
 
-/// What came of a request to a peer.
+/// The outcome of a request to a peer.
 #[derive(Clone, Copy, Debug)]
 pub enum What {
     /// The exchange failed.
@@ -26,7 +26,7 @@ pub enum What {
     Status(u16),
 }
 
-/// What came of one attempt to deliver.
+/// The outcome of one attempt to deliver.
 #[derive(Clone, Copy, Debug)]
 pub struct Came {
     pub step: Sent,
@@ -56,7 +56,7 @@ pub enum Entry {
         relay: bool,
         moment: Moment,
     },
-    /// A member posted an activity, as it was read, perhaps under a key for repeats with the digest
+    /// A member posted an activity, as it was read. It may have a key for repeats, with the digest
     /// of the body.
     Local {
         name: LocalName,

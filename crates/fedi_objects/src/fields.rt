@@ -1,19 +1,19 @@
-//! What is put in the fields of objects and activities.
+//! Setting the fields of objects and activities.
 
 ghost use Rattle.std.specs.Prelude.{◌≡◌, OnOk};
 
 use std::alloc::AllocError;
 
-/// Puts a value in a field, and drops what stood there.
+/// Puts a value in a field and drops the old one.
 pub fn set<T: Drop>(field: &mut T, value: T)
     ensures { field.new ≡ value }
 {
     *field = value;
 }
 
-/// Puts a copy of a value that may be absent in a field. `Option::clone` says of each case what it
-/// gives; this says that the two are equal, which is what a copy of many fields is proved from. The
-/// error is out of memory.
+/// Puts a copy of a value that may be absent in a field. `Option::clone` gives its result case by
+/// case; this function says that the two are equal, and a copy of many fields is proved from that.
+/// The error is out of memory.
 pub(crate) fn copy_option<T: Clone + Drop>(
     field: &mut Option<T>,
     value: &Option<T>,

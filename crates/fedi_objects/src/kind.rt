@@ -38,7 +38,7 @@ pub enum Kind {
 impl Kind {
     ghost use Rattle.fedi_objects.specs.Kinds.{kind_number, kind_name, is_create};
 
-    /// All of them, in the order of their numbers.
+    /// All types, in the order of their numbers.
     pub const ALL: [Kind; 28] = [
         Kind::Accept,
         Kind::Add,
@@ -70,14 +70,14 @@ impl Kind {
         Kind::View,
     ];
 
-    /// The type's place among the 28, from 1 on.
+    /// The type's position among the 28, counted from 1.
     pub fn number(self) -> u8
         ensures { result ≡ kind_number self }
     {
         self as u8
     }
 
-    /// The type as the vocabulary spells it.
+    /// The name of the type, as spelled in the vocabulary.
     pub fn name(self) -> &'static str
         ensures { result.now ≡ kind_name self }
     {
@@ -137,9 +137,9 @@ pub enum State {
     Accepted,
     /// A follow that was rejected.
     Rejected,
-    /// A like, a boost or a block that stands.
+    /// A like, a boost or a block that is in force.
     Standing,
-    /// A follow, a like, a boost or a block that was taken back.
+    /// A follow, a like, a boost or a block that was undone.
     Undone,
 }
 

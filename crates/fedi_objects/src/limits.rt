@@ -1,17 +1,17 @@
-//! The limits of what an entry says, each of one text by itself.
+//! The limits on the contents of an entry, each on one text by itself.
 
 ghost use Rattle.std.specs.Prelude.{◌≡◌};
 ghost use Rattle.std.specs.List.{list_all};
 ghost use Rattle.fedi_objects.specs.Keys.{is_visible};
 ghost use Rattle.fedi_objects.specs.Limits as limits;
 
-/// The most bytes that a content, a summary or a name has.
+/// The longest content, summary or name, in bytes.
 const LONGEST_TEXT: usize = 65_536;
 
-/// The most bytes that a type or a date has.
+/// The longest type or date, in bytes.
 const LONGEST_WORD: usize = 64;
 
-/// The most bytes that the address of a peer has.
+/// The longest address of a peer, in bytes.
 const LONGEST_ADDRESS: usize = 255;
 
 /// Whether the text may be a content, a summary or a name: at most 65,536 bytes.
@@ -42,8 +42,8 @@ fn has_date_bytes(text: &[u8]) -> bool
     text.iter().all(|byte| is_date_byte(*byte))
 }
 
-/// Whether the text may be a date as it was given: at most 64 bytes, each a printing character of
-/// ASCII or a space (32 to 126).
+/// Whether the text may be a date as it was given: at most 64 bytes, each a printing ASCII
+/// character or a space (32 to 126).
 #[tactic(auto, unfolding(crate::specs::Limits::is_date))]
 pub fn is_date(text: &str) -> bool
     ensures { result ≡ limits.is_date text.now }
@@ -57,15 +57,15 @@ fn is_visible(byte: u8) -> bool
     33 <= byte && byte <= 126
 }
 
-// Whether each byte is a printing character of ASCII, and none a space.
+// Whether each byte is a printing ASCII character other than a space.
 pub(crate) fn has_visible_bytes(text: &[u8]) -> bool
     ensures { result ≡ list_all is_visible text.now }
 {
     text.iter().all(|byte| is_visible(*byte))
 }
 
-/// Whether a peer may be reached at this text: 1 to 255 bytes, each a printing character of ASCII
-/// and none a space (33 to 126).
+/// Whether the text may be the address of a peer: 1 to 255 bytes, each a printing ASCII character
+/// other than a space (33 to 126).
 pub fn is_address(text: &str) -> bool
     ensures { result ≡ limits.is_address text.now }
 {

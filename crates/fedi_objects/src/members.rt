@@ -1,4 +1,4 @@
-//! Documents in JSON and their members, written straight (RFC 8259).
+//! JSON documents and their members, written directly (RFC 8259).
 
 ghost use Rattle.std.specs.Prelude.{◌≡◌, ◌+◌, ◌≤◌, ◌++◌, length, [], map, IfOk, OnOk, Some};
 ghost use Rattle.std.specs.Prelude.{option_map};
@@ -13,13 +13,13 @@ use fedi_text::Text;
 use json::Writer;
 use std::alloc::{AllocError, Global};
 
-/// The room in bytes that a document has before more memory is taken for it.
+/// The initial capacity of a document, in bytes.
 const ROOM: usize = 512;
 
-/// The longest text that is joined of two: an address, and a path after it.
+/// The longest text joined from two parts: an address and a path after it.
 const LONGEST: usize = 2_304;
 
-/// How long most such texts are at most.
+/// Most such texts are at most this long.
 const SHORT: usize = 160;
 
 /// An empty document. The error is out of memory.
@@ -31,7 +31,7 @@ pub fn new_document(alloc: Global) -> Result<Writer, AllocError>
     Ok(Writer::new(bytes))
 }
 
-/// The bytes of a document, with no space between what was written. It takes no memory.
+/// The bytes of a document, with no space between the tokens. It takes no memory.
 pub fn text_of(out: Writer) -> Vec<u8>
     ensures { (d : Data) → IsDocument d out → result.items ≡ compact_text d }
 {
@@ -47,14 +47,14 @@ pub fn write_str(out: &mut Writer, key: &str, text: &str) -> Result<(), AllocErr
     out.string(text)
 }
 
-/// Writes a member with the one text after the other, of at most 2,304 bytes together. The error is
-/// out of memory.
+/// Writes a member whose text is the two texts joined, of at most 2,304 bytes in total. The error
+/// is out of memory.
 pub fn write_joined(out: &mut Writer, key: &str, front: &str, back: &str) -> Result<(), AllocError>
     requires { length front.now + length back.now ≤ 2304 }
     ensures { OnOk result
         (Adds (member_tokens key.now (Some (string (front.now ++ back.now)))) out.old out.new) }
 {
-    // The room is cleared first, so most texts are joined in less of it.
+    // The buffer is cleared first, so most texts are joined in a smaller one.
     if front.len() + back.len() <= SHORT {
         let mut text = ArrayString::<SHORT>::new();
         text.push_str(front);
@@ -91,7 +91,7 @@ pub fn write_iri(out: &mut Writer, key: &str, iri: Option<&Iri>) -> Result<(), A
     }
 }
 
-/// Writes a member with these addresses, if there is one at least. The error is out of memory.
+/// Writes a member with these addresses, if there are any. The error is out of memory.
 pub fn write_iris(out: &mut Writer, key: &str, iris: &[Iri]) -> Result<(), AllocError>
     ensures { OnOk result
         (Adds (member_tokens key.now (listed (map string iris.now))) out.old out.new) }

@@ -1,4 +1,4 @@
-//! Objects, and what a client asks to change in one.
+//! Objects, and the changes that a client asks for.
 
 ghost use Rattle.std.specs.Prelude.{◌≡◌, IfOk, OnOk};
 
@@ -53,7 +53,7 @@ pub struct Object {
 impl Object {
     ghost use Rattle.fedi_objects.specs.Objects.{object_of_kind};
 
-    /// The object of this type for nobody, with no other property. It takes no memory.
+    /// An object of this type addressed to nobody, with no other property. It takes no memory.
     pub fn new(alloc: Global, kind: Text) -> Object
         ensures { result ≡ object_of_kind kind }
     {
@@ -75,7 +75,8 @@ impl Object {
         }
     }
 
-    // Copies all but the type. To own one object over many exits is dear to prove, so it is lent.
+    // Copies all but the type. It borrows `self`, as owning one object over many exits is expensive
+    // to prove.
     fn fill_from(&mut self, other: &Object) -> Result<(), AllocError>
         ensures { OnOk result (self.new ≡ record other.now { kind = self.old.kind }) }
     {
@@ -140,7 +141,7 @@ pub struct Change {
 impl Change {
     ghost use Rattle.fedi_objects.specs.Objects.{no_change};
 
-    /// The change of the object of this id that keeps each property.
+    /// The change of the object with this id that keeps each property.
     pub fn new(id: Iri) -> Change
         ensures { result ≡ no_change id }
     {

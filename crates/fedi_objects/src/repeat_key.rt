@@ -1,4 +1,4 @@
-//! Keys by which a client marks a repeated post.
+//! Keys that a client uses to mark a repeated post.
 
 ghost use Rattle.std.specs.Prelude.{◌≡◌, IsTrue, IsSome, IfSome, ◌↔◌, bytes_eq};
 ghost use Rattle.std.specs.Cmp.{partial_equiv_from_equiv};
@@ -14,8 +14,8 @@ use std::str;
 /// The longest key, in bytes.
 const LONGEST: usize = 64;
 
-/// The key of a post that may come again: 1 to 64 bytes 33 to 126 (Idempotency-Key). It takes no
-/// memory.
+/// The key of a post that may be repeated: 1 to 64 bytes, each from 33 to 126 (Idempotency-Key). It
+/// takes no memory.
 #[derive(Drop)]
 pub struct RepeatKey {
     text: ArrayString<64>,
@@ -39,7 +39,7 @@ fn is_repeat_key(text: &[u8]) -> bool
 }
 
 impl RepeatKey {
-    /// The key of this text. `None` exactly if it is not 1 to 64 bytes 33 to 126.
+    /// The key with these bytes. `None` exactly if they are not 1 to 64 bytes from 33 to 126.
     #[tactic(auto, using(crate::proofs::KeyLemmas::key_is_utf8))]
     pub fn parse(text: &[u8]) -> Option<RepeatKey>
         ensures some { IsSome result ↔ IsTrue (is_repeat_key text.now) }
@@ -53,7 +53,7 @@ impl RepeatKey {
         Some(RepeatKey { text })
     }
 
-    /// The bytes of the key: 1 to 64 bytes 33 to 126.
+    /// The bytes of the key: 1 to 64 bytes from 33 to 126.
     pub fn bytes(&self) -> &[u8]
         ensures value { result.now ≡ self.now }
         ensures shape { IsTrue (is_repeat_key self.now) }

@@ -8,7 +8,7 @@ use fedi_address::Iri;
 use fedi_text::Text;
 use std::marker::Model;
 
-/// An object by the properties that may be shown: all but `bto` and `bcc` (ActivityPub, section 6).
+/// The properties of an object that may be shown: all but `bto` and `bcc` (ActivityPub, section 6).
 #[derive(Drop)]
 pub struct ObjectView<'a> {
     pub id: Option<&'a Iri>,
@@ -29,7 +29,7 @@ pub struct ObjectView<'a> {
     pub tags: &'a [Tag],
 }
 
-/// An object without its `bto` and `bcc`, which nobody can read from here (ActivityPub, section 6).
+/// An object without its `bto` and `bcc`, which cannot be read from here (ActivityPub, section 6).
 #[derive(Drop)]
 pub struct StrippedObject<'a> {
     view: ObjectView<'a>,
@@ -82,7 +82,7 @@ impl<'a> StrippedObject<'a> {
         self.view.kind.text() == TOMBSTONE
     }
 
-    /// The object of these properties.
+    /// The object with these properties.
     pub fn of(view: ObjectView<'a>) -> StrippedObject<'a>
         ensures { result ≡ viewed view.entry }
     {
@@ -102,7 +102,7 @@ impl<'a> StrippedObject<'a> {
 pub enum ShownObject<'a> {
     Nothing,
     Id(&'a Iri),
-    /// The object as it stands now, with empty `bto` and `bcc`.
+    /// The object in its present state, with empty `bto` and `bcc`.
     Present(StrippedObject<'a>),
 }
 

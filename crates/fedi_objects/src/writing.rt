@@ -1,4 +1,4 @@
-//! The JSON in which objects and activities are shown, written straight.
+//! The JSON in which objects and activities are shown, written directly.
 
 ghost use Rattle.std.specs.Prelude.{◌≤◌, length, codes, map, OnOk};
 ghost use Rattle.std.specs.Option.{option_copied};
@@ -34,7 +34,7 @@ fn write_context(out: &mut Writer, context: bool) -> Result<(), AllocError>
     }
 }
 
-// Writes the mentions of an object, if there is one at least (Vocabulary, section 5.5).
+// Writes the mentions of an object, if there are any (Vocabulary, section 5.5).
 fn write_tags(out: &mut Writer, tags: &[Tag]) -> Result<(), AllocError>
     ensures { OnOk result
         (Adds (member_tokens (codes "tag") (listed (map tag_form tags.now))) out.old out.new) }
@@ -81,7 +81,7 @@ fn write_collection(
     }
 }
 
-// Writes an object as it stands.
+// Writes an object that was not deleted.
 fn write_live(
     out: &mut Writer,
     view: &ObjectView,
@@ -127,10 +127,10 @@ fn write_tombstone(out: &mut Writer, view: &ObjectView, context: bool) -> Result
 }
 
 /// Writes an object as everybody who may see it sees it (ActivityStreams 2.0 Core, sections 2 to
-/// 4): never with `bto` and `bcc` (ActivityPub, section 6). `likes` and `shares` stand on a local
-/// object that has an id, and `@context` if it is a document of its own. What is left of a deleted
-/// object, of the type `Tombstone`, has its id, its types and the time of the deletion alone. The
-/// error is out of memory.
+/// 4): never with `bto` and `bcc` (ActivityPub, section 6). A local object that has an id gets
+/// `likes` and `shares`, and an object that is a document of its own gets `@context`. What is left
+/// of a deleted object, of the type `Tombstone`, has only its id, its types and the time of the
+/// deletion. The error is out of memory.
 #[tactic(auto, unfolding(crate::specs::Forms::object_form))]
 pub fn write_object(
     out: &mut Writer,
@@ -166,8 +166,8 @@ fn write_about(out: &mut Writer, local: bool, object: &ShownObject) -> Result<()
 }
 
 /// Writes an activity as everybody who may see it sees it (ActivityStreams 2.0 Core, section 4.2):
-/// never with `bto` and `bcc` (ActivityPub, section 6). `object` is an address, or the object as it
-/// stands, and `@context` stands there if the activity is a document of its own. The error is out
+/// never with `bto` and `bcc` (ActivityPub, section 6). `object` is an address, or the object in
+/// its present state. An activity that is a document of its own gets `@context`. The error is out
 /// of memory.
 pub fn write_activity(out: &mut Writer, shown: &Shown, context: bool) -> Result<(), AllocError>
     ensures { OnOk result (IsWritten

@@ -1,4 +1,4 @@
--- The entries that may come keep the limits of their fields.
+-- Entries that may come next keep the limits of their fields.
 use Rattle.std.proofs.Common.{◌≡◌, ℕ, Bool, true, false, List, [], ◌∷◌, Option, Some, None, refl}
 use Rattle.std.specs.Prelude.{◌&&◌, if◌then◌else◌, is_none}
 use Rattle.std.proofs.lemmas.Bool.{and_parts}

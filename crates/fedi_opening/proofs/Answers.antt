@@ -1,4 +1,4 @@
--- What an opening may find of a list of records excludes all else.
+-- An opening of a list of records has only one possible result.
 use Rattle.std.proofs.Common.{◌≡◌, inl, inr, arith, ℕ, ◌<◌, ◌≤◌, true, List, [], ◌∷◌, length, map, Option, Some, Result, Ok, refl, sym, ap, subst, ◌∙◌}
 use Rattle.std.specs.Prelude.{slice_get, take}
 use Rattle.std.specs.List.{AllByRecursion, fold, list_all}
@@ -28,8 +28,8 @@ one_history (x ∷ a) (y ∷ b) formed_a formed_b same =
     let tail = one_history a b formed_a.1 formed_b.1 others in
     rw (head, tail) refl
 
--- behind the history of a front of the records there comes the entry of the next record, if the
--- records are those of more
+-- after a history of the first records, the entry of the next record may come next, if a longer
+-- history is one of these records too
 further : (t : Town) (records : List (List ℕ)) (a b : List Entry) → AllByRecursion IsFormed a → AllByRecursion IsFormed b
     → is_legal_from t b ≡ true → map code_of a ≡ take (length a) records → map code_of b ≡ take (length b) records
     → length a < length b → (e : Entry) × IsNext (fold step t a) e × (slice_get records (length a) ≡ Some (code_of e))
@@ -52,7 +52,7 @@ further t (r ∷ records) (x ∷ a) (y ∷ b) formed_a formed_b legal is_a is_b 
     further (step t x) records a b formed_a.1 formed_b.1
     (subst (λ (z : Entry). is_legal_from (step t z) b ≡ true) same legal_b) rest_a rest_b (omega (arith, lt))
 
--- no history goes past a place that is damaged
+-- no history extends past a damaged record
 no_further : (records : List (List ℕ)) (held p n : ℕ) (a b : List Entry) → IsDamaged (Some records) held p a → IsRead (Some records) n b → p < n → ⊥
 no_further records held p n a b damaged read lt =
     let spelled_a : map code_of a ≡ take (length a) records = subst (λ (k : ℕ). map code_of a ≡ take k records) (sym damaged.read.counted) damaged.read.spelled in

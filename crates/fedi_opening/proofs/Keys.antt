@@ -36,7 +36,7 @@ none_found None false e = absurd (cc e)
 none_found (Some k) true e = absurd (cc e)
 none_found (Some k) false e = refl
 
--- the author posted nothing under the key exactly if it is a new one
+-- the author has posted nothing under the key exactly if the key is new
 pub key_unused : (t : Town) (author : List ℕ) (repeat : Option (List ℕ × List ℕ)) (r : List ℕ × List ℕ) (found : Option Kept) (passes : Bool)
     → repeat ≡ Some r → found ≡ find (λ q. bytes_eq q.0.0 r.0) (repeats_of t author) → is_some found ≡ not passes
     → passes ≡ is_new_key (filter (is_by author) t.acts) repeat

@@ -1,4 +1,4 @@
--- One record more is read.
+-- One more record is read.
 use Rattle.std.proofs.Common.{◌≡◌, ◌≢◌, arith, ℕ, ◌+◌, ◌<◌, Bool, true, false, List, [], ◌∷◌, ◌++◌, length, map, Option, Some, None, refl, sym, ap, subst, ◌∙◌}
 use Rattle.std.specs.Cmp.Derive.{both_true}
 use Rattle.std.specs.Prelude.{◌&&◌, IfSome, slice_get, take}
@@ -66,12 +66,12 @@ read_more records n h e read next is = record {
   spelled = if_spelled records n h e read.spelled is;
 }
 
--- what is loaded at a place is a record there
+-- what is loaded at an index is the record there
 pub record_is : (records : Option (List (List ℕ))) (place : ℕ) (bytes code : List ℕ) → IfSome records (λ told. slice_get told place ≡ Some bytes)
     → code ≡ bytes → IfSome records (λ told. slice_get told place ≡ Some code)
 record_is records place bytes code is same = subst (λ (b : List ℕ). IfSome records (λ told. slice_get told place ≡ Some b)) (sym same) is
 
--- the record at a place is the code of no entry that may come next
+-- the record at an index is the code of no entry that may come next
 pub of_none : (records : Option (List (List ℕ))) (place : ℕ) (bytes : List ℕ) (t : Town) → IfSome records (λ told. slice_get told place ≡ Some bytes)
     → ((e : Entry) → IsNext t e → code_of e ≢ bytes) → IfSome records (λ told. IsOfNone t told place)
 of_none None place bytes t is none = tt

@@ -1,4 +1,4 @@
--- What a crash may leave, over several calls of a keeper that change no record.
+-- What a crash may leave over several calls of a keeper that change no record.
 use Rattle.std.proofs.Common.{◌≡◌, inl, inr, ⊎_elim, ℕ, ◌≤◌, arith, Bool, true, false, List, Option, Some, None, refl, sym, subst, ◌∙◌}
 use Rattle.fedi_outside.specs.Keepers.{Adds, Crashes, IfTold, KeeperState, LeavesRecords, MayLeave, PassesTime}
 
@@ -33,7 +33,7 @@ adds_then before now first middle last added le one two = record {
   keeps = λ moment list earlier past. two.keeps moment list (omega (arith, earlier, le)) (one.keeps moment list earlier past);
 }
 
--- one call after others
+-- one more call
 pub more_time : (records : Option (List (List ℕ))) (doubt : Option (List ℕ)) (a b c : Crashes) → PassesTime records doubt a b → PassesTime records doubt b c
     → PassesTime records doubt a c
 more_time records doubt a b c one two = record {

@@ -12,13 +12,13 @@ use Rattle.fedi_town.specs.Towns.{Town}
 use Rattle.fedi_opening.specs.declared.fault.OpenFault.{OpenFault}
 use Rattle.fedi_opening.specs.declared.fault.OpenFault.TheVariants.{Failed, Damaged, Empty, Memory}
 
--- the entry may come next, and its fields have their forms
+-- the entry may come next, and its fields are well formed
 pub record IsNext (t : Town) (e : Entry) : Type 0 where
   pub formed : IsFormed e
   pub admissible : IsTrue (is_admissible t e)
 
--- The history is that of the first so many records: it is legal, the fields of its entries have
--- their forms, and if the records are told, they are the codes of its entries in order.
+-- The history is that of this many first records: it is legal, the fields of its entries are well
+-- formed, and if the records are known, they are the codes of its entries in order.
 pub record IsRead (records : Option (List (List ℕ))) (count : ℕ)
     (history : List Entry) : Type 0 where
   pub legal : IsLegal history
@@ -26,12 +26,12 @@ pub record IsRead (records : Option (List (List ℕ))) (count : ℕ)
   pub counted : length history ≡ count
   pub spelled : IfSome records (λ told. map code_of history ≡ take count told)
 
--- the record at this place is the code of no entry that may come next
+-- the record at this index is the code of no entry that may come next
 abbrev pub IsOfNone : Town → List (List ℕ) → ℕ → Type 0
 IsOfNone t records place = (e : Entry) → IsNext t e → slice_get records place ≢ Some (code_of e)
 
--- The first record that is damaged is at this place: the history is that of those before it, and if
--- the records are told, this one is the code of no entry that may come next.
+-- The first damaged record is at this index: the history is that of the records before it, and if
+-- the records are known, this one is the code of no entry that may come next.
 pub record IsDamaged (records : Option (List (List ℕ))) (held place : ℕ)
     (history : List Entry) : Type 0 where
   pub there : place < held
@@ -45,7 +45,7 @@ IsStopped (Damaged place) k history = IsDamaged k.records k.held place history
 IsStopped Empty k history = k.held ≡ 0
 IsStopped Memory k history = Unit {0}
 
--- after an opening: all is as before, and a fault of the keeper is counted
+-- after an opening: nothing has changed, except that a fault of the keeper is counted
 abbrev pub after_open : {T : Type 0} → Result T OpenFault → KeeperState → KeeperState
 after_open (Ok opened) k = k
 after_open (Err Failed) k = after_fault k

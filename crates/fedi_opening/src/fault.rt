@@ -12,10 +12,10 @@ pub enum OpenFault {
     /// The keeper failed, and has counted it.
     #[error("the keeper failed")]
     Failed,
-    /// No entry that may come next has the bytes of a record.
+    /// The bytes of a record are not those of any entry that may come next.
     #[error("the record at place {place} is that of no entry that may stand there")]
     Damaged {
-        /// The place of the first such record, counted from 0.
+        /// The index of the first such record, counted from 0.
         place: u64,
     },
     /// There is no record.

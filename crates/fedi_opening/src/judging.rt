@@ -18,7 +18,7 @@ use fedi_effects::{Facts, judge_local, judge_tried};
 use fedi_inbound::{lacks, may_deliver};
 use fedi_objects::{Activity, Entry, RepeatKey};
 
-// For the proof: shows that a host has no other text than that of one. It does nothing when it
+// For the proof: shows that the text of a `Host` is always that of a host. It does nothing when it
 // runs.
 fn show_host(host: &Host)
     ensures { IsHost host.now }
@@ -26,15 +26,15 @@ fn show_host(host: &Host)
     let _ = host.text();
 }
 
-// For the proof: shows that a name has no other text than that of one. It does nothing when it
-// runs.
+// For the proof: shows that the text of a `LocalName` is always that of a name. It does nothing
+// when it runs.
 fn show_name(name: &LocalName)
     ensures { IsTrue (is_name name.now) }
 {
     let _ = name.text();
 }
 
-// Whether the server may be set up for the host. A `Host` has no other text than that of one.
+// Whether the server may be set up for the host. The text of a `Host` is always that of a host.
 fn may_be_set_up(facts: &Facts, host: &Host) -> bool
     requires { IsTrue (is_host_text host.now) }
     ensures { result ≡ (is_none facts.now.town.host && is_host_text host.now) }
@@ -49,7 +49,7 @@ fn is_allowed(facts: &Facts, command: &Entry) -> bool
     facts.judge_command(command).is_ok()
 }
 
-// Whether the author posted nothing under this key before, if there is one.
+// Whether the author has posted nothing under this key before, if there is a key.
 fn is_new_key(facts: &Facts, author: &Iri, repeat: &Option<(RepeatKey, [u8; 32])>) -> bool
     ensures { result ≡ is_new_key (filter (is_by author.now) facts.now.town.acts) repeat.now }
 {
@@ -68,7 +68,7 @@ fn breaks_no_rule(facts: &Facts, name: &LocalName, author: &Iri, activity: &Acti
     judge_local(facts, author, activity).is_ok()
 }
 
-// Whether the post of the member of this name may come.
+// Whether the post of the member of this name may come next.
 fn may_post(
     facts: &Facts,
     name: &LocalName,
@@ -99,12 +99,13 @@ fn may_be_delivered(facts: &Facts, peer: &Host, inbox: &LocalName, activity: &Ac
         && lacks(facts, activity.id.as_ref(), facts.id_of(inbox))
 }
 
-/// Whether an entry may come next in the history of these facts. The server is set up once and
-/// first. A member has a name and a key that no member had before, and a peer another host than the
-/// server and any peer before, and an address. A post is a member's, has the shape of one, breaks
-/// no rule (ActivityPub, section 6; that its author has fewer than 4,294,967,295 activities is the
-/// last), and comes under a key that is new. A delivery has the shape of one, its peer may deliver
-/// it (section 7), and the member's inbox lacks it. An attempt is one to deliver what is due.
+/// Whether an entry may come next in the history of these facts. The server is set up once, by the
+/// first entry. A member has a name and a key that no member had before. A peer has an address, and
+/// a host that is neither the server's nor that of an earlier peer. A post is by a member, has the
+/// shape of a post, breaks no rule (ActivityPub, section 6; the last rule is that its author has
+/// fewer than 4,294,967,295 activities), and is under a new key, if it has one. A delivery has the
+/// shape of a delivery, its peer may deliver it (section 7), and the member's inbox lacks it. An
+/// attempt is one to deliver something that is due.
 pub fn may_come(facts: &Facts, entry: &Entry) -> bool
     ensures { result ≡ is_admissible facts.now.town entry.now }
 {

@@ -1,4 +1,4 @@
-//! What an opening may find excludes all else, and which entries can be written.
+//! An opening has only one possible result, and admissible entries can be written.
 
 ghost use Rattle.std.specs.Prelude.{◌≡◌, ◌<◌, ℕ, IsTrue, List, Some, length};
 ghost use Rattle.fedi_entry.specs.Limits.{IsAttemptWithin, KeepsLimits};
@@ -7,8 +7,8 @@ ghost use Rattle.fedi_town.specs.Legal.{is_admissible};
 ghost use Rattle.fedi_town.specs.Towns.{Town};
 ghost use Rattle.fedi_opening.specs.Opening.{IsDamaged, IsRead};
 
-/// Each list of records has one answer: it is the records of one history at most, it is damaged at
-/// one place at most, the first, and it is not both. And if there is no record, it is not damaged.
+/// Each list of records has one answer: it is the records of at most one history, it is damaged at
+/// one index at most, the first, and it is not both. And if there is no record, it is not damaged.
 pub fn records_have_one_answer()
     ensures opened { (records : List (List ℕ)) (a b : List Entry)
         → IsRead (Some records) (length records) a → IsRead (Some records) (length records) b
@@ -21,8 +21,8 @@ pub fn records_have_one_answer()
         → IsDamaged (Some records) (length records) p b → ⊥ }
 {}
 
-/// An entry that may come next can be written: each of its fields keeps its limit, if what came of
-/// an attempt does. That attempt was due, which says nothing of what came of it.
+/// An entry that may come next can be written: each of its fields keeps its limit, if the outcome
+/// of an attempt does. That the attempt was due says nothing about its outcome.
 #[tactic(auto, using(crate::proofs::AdmissibleLimits::admissible_keeps))]
 pub fn admissible_entries_keep_limits()
     ensures { (t : Town) (e : Entry) → IsTrue (is_admissible t e) → IsAttemptWithin e

@@ -1,5 +1,5 @@
-//! A history opened from the records that a keeper holds: which entry may come next, and the shape
-//! in which reading leaves what a member posts and what another server delivers.
+//! A history opened from the records that a keeper holds: which entry may come next, and the shapes
+//! that reading gives a member's post and another server's delivery.
 #![tactic(auto)]
 
 mod delivered;

@@ -1,4 +1,4 @@
-//! The limits of what activities, objects and changes say.
+//! The limits on the contents of activities, objects and changes.
 
 ghost use Rattle.std.specs.Prelude.{◌≡◌, ℕ};
 ghost use Rattle.std.specs.Cmp.Lexicographic.{pointwise};
@@ -47,7 +47,7 @@ fn are_tags(tags: &[Tag]) -> bool
     tags.iter().all(|tag| is_content(tag.name.text()))
 }
 
-// Whether no IRI is there twice.
+// Whether no IRI occurs twice.
 fn is_each_once(iris: &[Iri]) -> bool
     ensures { result ≡ shapes.is_each_once iris.now }
 {
@@ -61,8 +61,8 @@ fn is_each_once(iris: &[Iri]) -> bool
     true
 }
 
-// Whether the five fields name at most so many, and none of them anybody twice. How many they are
-// is tested first, since the time to look for a name twice grows with the square.
+// Whether the five fields name at most this many, and none of them names anybody twice. The number
+// is tested first, since the time to look for duplicates grows with its square.
 fn are_addressed(limit: usize, recipients: &Recipients) -> bool
     ensures { result ≡ shapes.are_addressed limit recipients.now }
 {
@@ -80,7 +80,7 @@ fn is_same_field(left: &[Iri], right: &[Iri]) -> bool
     left == right
 }
 
-/// Whether each of the five fields names the same, in the same order (ActivityPub, section 6.2).
+/// Whether each of the five fields has the same names in the same order (ActivityPub, section 6.2).
 pub fn are_same(left: &Recipients, right: &Recipients) -> bool
     ensures { result ≡ shapes.are_same left.now right.now }
 {
@@ -93,7 +93,7 @@ pub fn are_same(left: &Recipients, right: &Recipients) -> bool
 
 // ---- objects, activities and changes
 
-/// Whether what an object says keeps the limits, and its recipients are at most so many.
+/// Whether the contents of an object keep the limits, and it has at most this many recipients.
 pub fn is_object_within(limit: usize, object: &Object) -> bool
     ensures { result ≡ shapes.is_object_within limit object.now }
 {
@@ -109,7 +109,7 @@ pub fn is_object_within(limit: usize, object: &Object) -> bool
         && are_addressed(limit, &object.recipients)
 }
 
-/// Whether what an activity says keeps the limits, and its recipients are at most so many.
+/// Whether the contents of an activity keep the limits, and it has at most this many recipients.
 pub fn is_activity_within(limit: usize, activity: &Activity) -> bool
     ensures { result ≡ shapes.is_activity_within limit activity.now }
 {
@@ -139,7 +139,7 @@ fn is_tags_edit(edit: &Edit<Items<Tag>>) -> bool
     }
 }
 
-/// Whether what a change gives keeps the limits.
+/// Whether what a change sets keeps the limits.
 pub fn is_change_within(change: &Change) -> bool
     ensures { result ≡ shapes.is_change_within change.now }
 {

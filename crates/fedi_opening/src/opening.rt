@@ -1,4 +1,4 @@
-//! A history opened.
+//! The opening of a history.
 
 ghost use Rattle.std.specs.Prelude.{◌≡◌, ◌↔◌, ◌+◌, ◌<◌, [], IfErr, IfOk, IfSome, IsErrOf, OnOk};
 ghost use Rattle.std.specs.Prelude.{Some, map, slice_get};
@@ -13,7 +13,7 @@ use fedi_outside::{Keeper, LoadFault};
 use fedi_visible::Shelf;
 use std::alloc::Global;
 
-// The record at this place, which is there.
+// The record at this index, which exists.
 fn load_record<P: Keeper>(alloc: Global, keeper: &mut P, place: u64) -> Result<Vec<u8>, OpenFault>
     requires there { place < (P.shown keeper.old).held }
     ensures loaded { IfSome (P.shown keeper.old).records (λ records.
@@ -32,7 +32,7 @@ fn load_record<P: Keeper>(alloc: Global, keeper: &mut P, place: u64) -> Result<V
     }
 }
 
-// Adds the entry of the record at this place to the history of those before it.
+// Adds the entry of the record at this index to the history of those before it.
 fn open_record<S: Shelf, P: Keeper>(
     alloc: Global,
     keeper: &mut P,
@@ -58,15 +58,15 @@ fn open_record<S: Shelf, P: Keeper>(
     Ok(())
 }
 
-/// Opens the history of the records that the keeper holds: each is read as the entry of which it is
-/// the code, which has to be one that may come there. The shelf, which held no history, then holds
-/// this one.
+/// Opens the history of the records that the keeper holds. Each record is read as the entry that it
+/// is the code of, which has to be one that may come next there. The shelf, which held no history,
+/// then holds this one.
 ///
-/// The errors are `Empty`, exactly if there is no record; `Damaged`, with the place of the first
-/// record that is the code of no entry that may come there; `Failed`, if the keeper failed, which
-/// it counts once; and `Memory`, out of memory. After an error the shelf holds the history of the
-/// records before that. The keeper's records, what is in doubt and the end of it are as before,
-/// whatever comes, and what lies outside is read and not written.
+/// The errors are `Empty`, exactly if there is no record; `Damaged`, with the index of the first
+/// record that is not the code of any entry that may come next; `Failed`, if the keeper failed,
+/// which it counts once; and `Memory`, out of memory. After an error the shelf holds the history of
+/// the records that were read before it. In every case the keeper's records, the record in doubt
+/// and the keeper's end are unchanged, and what lies outside is read and not written.
 pub fn open_history<S: Shelf, P: Keeper>(
     alloc: Global,
     keeper: &mut P,

@@ -10,10 +10,10 @@ use fedi_effects::ref_id;
 use fedi_objects::{Activity, Object, ObjectRef, TOMBSTONE};
 use fedi_town::Deed;
 
-/// The most recipients that the five fields of a post name, and those of its object.
+/// The most recipients that the five fields of a post may name, and those of its object.
 const MOST_RECIPIENTS: usize = 500;
 
-// Whether an object has nothing that the server sets, and is no Tombstone.
+// Whether an object has nothing that only the server sets, and is no Tombstone.
 fn is_unset_object(object: &Object) -> bool
     ensures { result ≡ shapes.is_unset_object object.now }
 {
@@ -26,8 +26,7 @@ fn is_unset_object(object: &Object) -> bool
         && object.kind.text() != TOMBSTONE
 }
 
-// Whether a Create may carry the object, which names the same recipients (ActivityPub, section
-// 6.2).
+// Whether a Create may carry the object: it names the same recipients (ActivityPub, section 6.2).
 fn is_new_object(object: &Object, recipients: &Recipients) -> bool
     ensures { result ≡ (shapes.is_unset_object object.now
         && (shapes.is_object_within 500 object.now
@@ -38,8 +37,8 @@ fn is_new_object(object: &Object, recipients: &Recipients) -> bool
         && are_same(recipients, &object.recipients)
 }
 
-// Whether the deed may be about this: a Create about its object, an Update about a change
-// (ActivityPub, section 6.3.1), each other deed with a side effect about an id.
+// Whether the deed may be about this: a Create is about its object, an Update about a change
+// (ActivityPub, section 6.3.1), and any other deed with a side effect about an id.
 fn is_posted_ref(deed: Deed, recipients: &Recipients, object: &ObjectRef) -> bool
     ensures { result ≡ shapes.is_posted_ref deed recipients.now object.now }
 {
@@ -53,7 +52,7 @@ fn is_posted_ref(deed: Deed, recipients: &Recipients, object: &ObjectRef) -> boo
     }
 }
 
-// Whether there is an id, and it is this.
+// Whether `own` is given and equals the id.
 fn is_id(id: &Iri, own: Option<&Iri>) -> bool
     ensures { result ≡ is_id id.now (option_copied own.entry) }
 {
@@ -73,11 +72,11 @@ pub(crate) fn is_self_target(author: &Iri, activity: &Activity) -> bool
     }
 }
 
-/// Whether the activity has the shape in which reading leaves the author's post (ActivityPub,
-/// section 6): it has neither an id nor an actor nor a date, which the server sets; it is about
-/// what its type asks for, and not about the author if it is a Follow or a Block; its texts have at
-/// most 65,536 bytes, and its five fields name at most 500 recipients, none of them anybody twice.
-/// The object of a Create names the same, keeps the same limits and is no Tombstone.
+/// Whether the activity has the shape that reading gives the author's post (ActivityPub, section
+/// 6): it has no id, no actor and no date, which the server sets. It is about what its type asks
+/// for, and not about the author if it is a Follow or a Block. Its texts have at most 65,536 bytes,
+/// and its five fields name at most 500 recipients, none of them anybody twice. The object of a
+/// Create names the same recipients, keeps the same limits and is no Tombstone.
 pub fn is_posted(author: &Iri, activity: &Activity) -> bool
     ensures { result ≡ shapes.is_posted author.now activity.now }
 {

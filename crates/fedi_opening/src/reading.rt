@@ -13,9 +13,9 @@ use fedi_entry::{EntryFault, KnownHosts, decode};
 use fedi_objects::Entry;
 use std::alloc::Global;
 
-/// The entry that comes next in the history of these facts, whose code the bytes of the record at
-/// this position are. The errors are `Damaged`, if no entry that may come next has this code, and
-/// `Memory`, out of memory.
+/// The entry that comes next in the history of these facts and whose code is the bytes of the
+/// record at this index. The errors are `Damaged`, if no entry that may come next has this code,
+/// and `Memory`, out of memory.
 #[tactic(auto, using(crate::proofs::Records::next_by, crate::proofs::Records::none_by))]
 pub(crate) fn read_next(
     alloc: Global,

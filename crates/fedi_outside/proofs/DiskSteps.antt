@@ -1,4 +1,4 @@
--- What writes that fail, or that are not synced, leave of bytes.
+-- What writes that fail or are not synced make of bytes.
 use Rattle.std.proofs.Common.{◌≡◌, inl, inr, ℕ, ◌+◌, ◌≤◌, List, ◌++◌, length, take, drop, refl, sym, ◌∙◌, ap, subst, append_assoc, arith, length-append, length-drop}
 use Rattle.std.specs.Prelude.{Option, None, Some, IfSome, Result, Ok, Err, OnErr, option_map}
 use Rattle.std.proofs.lemmas.List.{take_at, drop_at, length-take}
@@ -29,7 +29,7 @@ tears : (at : ℕ) (bytes : List ℕ) (size : ℕ) (reads : Option (List ℕ)) �
 tears at bytes size None told inside = refl
 tears at bytes size (Some all) told inside = (spliced at bytes all, refl, torn_whole at bytes all (omega (arith, told)))
 
--- a write that was done is torn if the call behind it fails
+-- a write that was done is torn if the call after it fails
 pub torn_unsynced : {T E : Type 0} (r : Result T E) (at : ℕ) (bytes : List ℕ) (old mid new : DiskState) → IfSome old.reads (λ all. old.size ≡ length all) → at ≤ old.size
     → mid ≡ after_write at bytes old → new ≡ after_reading r mid → OnErr r (HasTorn at bytes old new)
 torn_unsynced (Ok x) at bytes old mid new told inside written same = tt

@@ -1,5 +1,5 @@
--- Whether bytes are a file of records, and of which; and what a crash leaves as images, if it is
--- told what it leaves as lists of records.
+-- Whether bytes are a file of records, and which records they hold; and which images a crash
+-- leaves, if it is known which lists of records it leaves.
 use Rattle.std.proofs.Common.{◌≡◌, ◌⊎◌, inl, inr, ℕ, zero, suc, ◌+◌, ◌≤◌, ◌^◌, Bool, true, false, cond, ◌&&◌, nat_lt, List, [], ◌∷◌, ◌++◌, length, drop, Option, Some, None, refl, sym, ◌∙◌, ap, subst, arith, length-append}
 use Rattle.std.specs.Prelude.{Decides}
 use Rattle.std.specs.Str.{bytes_eq}
@@ -11,7 +11,7 @@ use Rattle.fedi_outside.specs.Images.{AreShort, Format, IsFormat, IsImage, Stand
 use Rattle.fedi_outside.specs.Known.{record_crashes}
 use Rattle.fedi_outside.proofs.ImageLemmas.{kept_image, length_front, one_image}
 
--- so many empty records
+-- this many empty records
 many : ℕ → List (List ℕ)
 many zero = []
 many (suc n) = [] ∷ many n
@@ -33,7 +33,7 @@ short-Decides [] = (λ e. tt, λ s. refl)
 short-Decides (r ∷ rs) = Decides-and (nat_lt (length r) (2 ^ 64)) (are_short rs) (Decides-ltb (length r) (2 ^ 64)) (short-Decides rs)
 
 module _ (f : Format) where
-  -- it is a file of the first so many records that stand there
+  -- the bytes are a file of this many records, those that they begin with
   is_image_of : ℕ → List ℕ → Bool
   is_image_of n bytes =
       let rs = kept_in f n bytes in
@@ -48,7 +48,7 @@ module _ (f : Format) where
       (λ p. record { short = p.0; spelled = p.1 }) (λ i. (i.short, i.spelled))
       (Decides-and (are_short rs) (bytes_eq bytes spelled) (short-Decides rs) (bytes_eq-Decides bytes spelled))
 
-  -- the records of a file of so many or fewer
+  -- the records of a file of this many or fewer
   found_to : ℕ → List ℕ → Option (List (List ℕ))
   found_to zero bytes = cond (is_image_of 0 bytes) (Some (kept_in f 0 bytes)) None
   found_to (suc n) bytes = cond (is_image_of (suc n) bytes) (Some (kept_in f (suc n) bytes)) (found_to n bytes)
@@ -76,7 +76,7 @@ module _ (f : Format) where
         | false ↦ λ t e. found_back n bytes rs e
       ] refl
 
-  -- what is found is a file's
+  -- what is found are the records of a file
   pub found_is : (bytes : List ℕ) (rs : List (List ℕ)) → found_in bytes ≡ Some rs → IsImage f rs bytes
   unfolding found_in
   found_is bytes rs e = found_back (length bytes) bytes rs e
@@ -118,7 +118,7 @@ module _ (f : Format) where
     count_image rs bytes image =
         omega (arith, ap length image.spelled, length-append (front f rs) (0 ∷ drop (length (front f rs) + 1) bytes), length_front f ok rs, count_blocks [] rs)
 
-    -- what a file has is found
+    -- the records of a file are found
     pub is_found : (bytes : List ℕ) (rs : List (List ℕ)) → IsImage f rs bytes → found_in bytes ≡ Some rs
     unfolding found_in
     is_found bytes rs image = found_here (length bytes) bytes rs image (count_image rs bytes image)
@@ -133,9 +133,9 @@ module _ (f : Format) where
 
     -- ---- from lists to images
 
-    -- A crash may have left these images. If each list that one of them stands for is as told, and
-    -- all such lists are bounded, then each of them is a file of such a list: what is no file of
-    -- records would stand for a list that is too long.
+    -- A crash may have left these images. If each list that one of them represents is as given, and
+    -- all such lists are bounded, then each of them is a file of such a list: bytes that are no
+    -- file of records would represent a list that is too long.
     pub files_of_lists : (now : List ℕ → Type 0) (told : List (List ℕ) → Type 0) (bound : ℕ)
         → ((image : List ℕ) (rs : List (List ℕ)) → now image → StandsFor f image rs → told rs)
         → ((rs : List (List ℕ)) → told rs → length rs ≤ bound)
@@ -148,8 +148,8 @@ module _ (f : Format) where
               absurd (omega (arith, long, length_many (suc bound)))
         ]
 
-    -- A crash before may have left those images, each a file of old records, and a crash since then
-    -- these. If each list that one of these stands for is one that one of those stands for, or new,
+    -- An earlier crash may have left those images, each a file of old records, and a crash since
+    -- then these. If each list that one of these represents is new, or represented by one of those,
     -- then each of these is a file of old records or of new ones.
     pub lists_to_images : (past now : List ℕ → Type 0) (old new : List (List ℕ) → Type 0) (bound : ℕ)
         → ((image : List ℕ) → past image → (rs : List (List ℕ)) × IsImage f rs image × old rs)
@@ -169,7 +169,7 @@ module _ (f : Format) where
         few rs (inl left) = few_old rs left
         few rs (inr left) = few_new rs left
 
-    -- The same of a keeper on a disk: its calls added these lists alone to what a crash since an
+    -- The same for a keeper on a disk: its calls added only these lists to what a crash since an
     -- earlier moment may have left.
     pub images_left : (shown later : DiskState) (before after : DiskCrashes) (old new : List (List ℕ) → Type 0) (bound moment : ℕ)
         → moment ≤ before.clock
@@ -181,7 +181,7 @@ module _ (f : Format) where
         lists_to_images (before.left_since moment) (after.left_since moment) old new bound files
         (λ image rs left stands. adds.nothing_else moment rs earlier (image, left, stands)) few_old few_new
 
-    -- And of a keeper of which it is known, too, which lists a crash at the first moment may have
+    -- The same for a keeper if it is also known which lists a crash at the first moment may have
     -- left.
     pub images_known : (shown later : DiskState) (before after : DiskCrashes) (old new : List (List ℕ) → Type 0) (bound : ℕ)
         → ((rs : List (List ℕ)) → (record_crashes f shown before).left_since before.clock rs → old rs)

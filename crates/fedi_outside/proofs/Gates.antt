@@ -1,4 +1,4 @@
--- Where gates stand, and where that leaves the bytes of a record.
+-- The offsets of gates, and the position of a record's bytes that follows from them.
 use Rattle.std.proofs.Common.{◌≡◌, ℕ, zero, suc, ◌+◌, ◌-◌, ◌<◌, ◌≤◌, Bool, true, false, ◌&&◌, nat_le, List, [], ◌∷◌, ◌++◌, length, get_or, take, drop, refl, sym, ◌∙◌, ap, append_assoc, arith, length-append}
 use Rattle.std.specs.Prelude.{Some, slice_get}
 use Rattle.std.proofs.lemmas.Bool.{leb-true, le-leb}
@@ -29,7 +29,7 @@ first_before step (gate ∷ gates) end is =
     let parts = both (nat_le (gate + step) (get_or gates 0 end)) (are_apart step gates end) is in
     omega (arith, leb-true _ _ parts.0, first_before step gates end parts.1)
 
--- each gate is so far before the next one, which is not behind the end
+-- each gate is this far before the next one, which is not after the end
 pub apart_at : (step : ℕ) (gates : List ℕ) (end i : ℕ) → i < length gates → are_apart step gates end ≡ true → (get_or gates i end + step ≤ get_or gates (suc i) end) × (get_or gates (suc i) end ≤ end)
 apart_at step [] end i within is = absurd (omega (arith, within))
 apart_at step (gate ∷ gates) end zero within is =
@@ -71,7 +71,7 @@ module _ (f : Format) (ok : IsFormat f) where
   next_gate before [] at end is = omega (arith, is)
   next_gate before (r ∷ rs) at end is = refl
 
-  -- between a gate and the next one stands its record, if these bytes come before the first gate
+  -- a record is between its gate and the next one, if these bytes come before the first gate
   bytes_at : (pre : List ℕ) (before rs : List (List ℕ)) (rest : List ℕ) (at end i : ℕ) → at ≡ length pre → end ≡ at + length (blocks f before rs) → i < length rs
       → slice_get rs i ≡ Some (take (get_or (gates_of f at rs) (suc i) end - get_or (gates_of f at rs) i end - (9 + f.width)) (drop (get_or (gates_of f at rs) i end + 9) (pre ++ (blocks f before rs ++ rest))))
   bytes_at pre before [] rest at end i is ends within = absurd (omega (arith, within))

@@ -1,5 +1,5 @@
--- What files of records are made of: one list fits at most, records are found again, and what the
--- steps of a journal make of one.
+-- What files of records consist of: at most one list fits, records are read back, and what the
+-- steps of a journal make of a file.
 use Rattle.std.proofs.Common.{◌≡◌, ℕ, zero, suc, ◌+◌, ◌<◌, ◌≤◌, ◌^◌, List, [], ◌∷◌, ◌++◌, length, take, drop, refl, sym, ◌∙◌, ap, subst, append_assoc, arith, length-append, take-append-drop}
 use Rattle.std.specs.Int.{to_be_bytes, from_be_bytes, w64}
 use Rattle.std.proofs.lemmas.Nat.{from_be_bytes-to_be_bytes_8}
@@ -16,7 +16,7 @@ pub length_size : (n : ℕ) → length (size_code n) ≡ 8
 unfolding size_code
 length_size n = refl
 
--- ---- spelled bytes determine what they spell
+-- ---- encoded bytes determine what they encode
 
 size_back : (m n : ℕ) (s t : List ℕ) → m < 2 ^ 64 → n < 2 ^ 64 → size_code m ++ s ≡ size_code n ++ t → (m ≡ n) × (s ≡ t)
 unfolding size_code
@@ -79,7 +79,7 @@ module _ (f : Format) (ok : IsFormat f) where
       let parts = same_length sealed_a sealed_b s t same sizes.1 in
       ((same_length a b (f.seal before a) (f.seal before b) sizes.0 parts.0).0, parts.1)
 
-  -- a record behind its gate is read as it was written
+  -- a record after its gate is read as it was written
   record_at : (before : List (List ℕ)) (r rest : List ℕ) → length r < 2 ^ 64
       → (size_at (1 ∷ (record_code f before r ++ rest)) ≡ length r) × (drop 9 (1 ∷ (record_code f before r ++ rest)) ≡ r ++ (f.seal before r ++ rest))
   unfolding record_code size_at size_code
@@ -92,7 +92,7 @@ module _ (f : Format) (ok : IsFormat f) where
       let here = record_at before r rest fits in
       ap (λ n. take n (drop 9 whole)) here.0 ∙ (ap (take (length r)) here.1 ∙ take-append_seam r (f.seal before r ++ rest))
 
-  -- an open gate with a record and more behind it is whole
+  -- an open gate followed by a record and more is whole
   whole_block : (before : List (List ℕ)) (r rest : List ℕ) → length r < 2 ^ 64 → 0 < length rest → IsWhole f before (1 ∷ (record_code f before r ++ rest))
   whole_block before r rest fits more =
       let whole : List ℕ = 1 ∷ (record_code f before r ++ rest) in
@@ -105,8 +105,8 @@ module _ (f : Format) (ok : IsFormat f) where
         sealed = ap (take f.width) behind ∙ (take_at (f.seal before r) rest f.width (ok.wide before r) ∙ ap (f.seal before) (sym (payload_at before r rest fits)));
       }
 
-  -- Records behind open gates end where no whole record stands behind the next gate: so bytes begin
-  -- with one list of them, if they end there.
+  -- Records after open gates end where no whole record follows the next gate. So bytes that end
+  -- there begin with only one list of them.
   blocks_back : (before xs ys : List (List ℕ)) (s t : List ℕ) → AreShort xs → AreShort ys → 0 < length s → 0 < length t
       → (IsWhole f (before ++ xs) s → ⊥) → (IsWhole f (before ++ ys) t → ⊥) → blocks f before xs ++ s ≡ blocks f before ys ++ t → (xs ≡ ys) × (s ≡ t)
   blocks_back before [] [] s t short_x short_y some_s some_t ends_s ends_t e = (refl, e)
@@ -131,7 +131,7 @@ module _ (f : Format) (ok : IsFormat f) where
       (λ whole. ends_t (subst (λ (b : List (List ℕ)). IsWhole f b t) (append_assoc before (x ∷ []) ys ∙ ap (λ (z : List ℕ). before ++ z ∷ ys) one.0) whole)) here in
       (ap (λ (z : List ℕ). z ∷ xs) one.0 ∙ ap (λ (zs : List (List ℕ)). y ∷ zs) others.0, others.1)
 
-  -- the same of whole files
+  -- the same for whole files
   pub fronts_back : (xs ys : List (List ℕ)) (s t : List ℕ) → AreShort xs → AreShort ys → 0 < length s → 0 < length t
       → (IsWhole f xs s → ⊥) → (IsWhole f ys t → ⊥) → front f xs ++ s ≡ front f ys ++ t → (xs ≡ ys) × (s ≡ t)
   unfolding front
@@ -139,7 +139,7 @@ module _ (f : Format) (ok : IsFormat f) where
       blocks_back [] xs ys s t short_x short_y some_s some_t ends_s ends_t
       (append_cancel_left f.magic _ _ (sym (append_assoc f.magic (blocks f [] xs) s) ∙ (e ∙ append_assoc f.magic (blocks f [] ys) t)))
 
-  -- a closed gate is no open one
+  -- a closed gate is not an open one
   pub closed_ends : (before : List (List ℕ)) (rest : List ℕ) → IsWhole f before (0 ∷ rest) → ⊥
   closed_ends before rest whole = omega (arith, whole.opened)
 
@@ -191,7 +191,7 @@ module _ (f : Format) (ok : IsFormat f) where
       ∙ drop_at (front f rs ++ 0 ∷ []) rest (length (front f rs) + 1) (length-append (front f rs) (0 ∷ [])) in
       is ∙ ap (λ (l : List ℕ). front f rs ++ 0 ∷ l) (sym behind)
 
-  -- what is behind a gate that is open before one more record
+  -- what follows a gate that is open before one more record
   pub opened_split : (rs : List (List ℕ)) (p bytes : List ℕ) → IsClosedAfter f (rs ++ p ∷ []) bytes
       → bytes ≡ front f rs ++ 1 ∷ (record_code f rs p ++ 0 ∷ drop (length (front f (rs ++ p ∷ [])) + 1) bytes)
   opened_split rs p bytes closed =
@@ -205,7 +205,7 @@ module _ (f : Format) (ok : IsFormat f) where
       ap (λ (l : List ℕ). l ++ (bytes ++ drop (n + length bytes) (xs ++ ys))) (take_at xs ys n (sym is))
       ∙ ap (λ (l : List ℕ). xs ++ (bytes ++ l)) back
 
-  -- a closed gate stays closed if something behind it is torn
+  -- a closed gate stays closed if something after it is torn
   pub torn_behind : (rs : List (List ℕ)) (at : ℕ) (bytes old new : List ℕ) → length (front f rs) + 1 ≤ at → IsTorn at bytes old new → IsClosedAfter f rs old → IsClosedAfter f rs new
   torn_behind rs at bytes old new behind torn closed =
       let n = length (front f rs) + 1 in
@@ -216,7 +216,7 @@ module _ (f : Format) (ok : IsFormat f) where
       let whole : new ≡ head ++ drop n new = sym (take-append-drop n new) ∙ ap (λ (l : List ℕ). l ++ drop n new) (same ∙ front_old) in
       whole ∙ append_assoc (front f rs) (0 ∷ []) (drop n new)
 
-  -- a file whose closed gate has a record behind it, and a closed gate behind that
+  -- a file whose closed gate is followed by a record, and that by a closed gate
   pub IsStaged : List (List ℕ) → List ℕ → List ℕ → Type 0
   IsStaged rs p bytes = (rest : List ℕ) × (bytes ≡ front f rs ++ 0 ∷ (record_code f rs p ++ 0 ∷ rest))
 
@@ -247,7 +247,7 @@ module _ (f : Format) (ok : IsFormat f) where
       closed_intro (rs ++ p ∷ []) _ ready.0
       (done ∙ (sym (append_assoc (front f rs) (1 ∷ record_code f rs p) (0 ∷ ready.0)) ∙ ap (λ (l : List ℕ). l ++ 0 ∷ ready.0) (sym (front_push rs p))))
 
-  -- a gate is closed that is closed, or open before one more record
+  -- a gate is closed that was closed, or open before one more record
   pub closes : (rs : List (List ℕ)) (bytes : List ℕ) (gate : ℕ) → gate ≡ length (front f rs) → IsClosedAfter f rs bytes → IsClosedAfter f rs (spliced gate (0 ∷ []) bytes)
   closes rs bytes gate is closed =
       closed_intro rs _ _ (ap (spliced gate (0 ∷ [])) closed ∙ spliced_seam gate (0 ∷ []) (front f rs) (0 ∷ drop (length (front f rs) + 1) bytes) is)

@@ -1,4 +1,4 @@
--- What the device calls of a journal leave of what is known of its disk.
+-- What is still known of the disk of a journal after each of its device calls.
 use Rattle.std.proofs.Common.{◌≡◌, ◌⊎◌, inl, inr, ⊎_elim, ℕ, suc, ◌+◌, ◌-◌, ◌<◌, ◌≤◌, ◌^◌, max, List, [], ◌∷◌, ◌++◌, length, get_or, take, drop, refl, sym, ◌∙◌, ap, subst, arith, length-append}
 use Rattle.std.specs.Prelude.{Option, Some, None, option_map, is_some, slice_get, IfSome}
 use Rattle.std.proofs.lemmas.Bool.{cases_eq}
@@ -9,9 +9,9 @@ use Rattle.fedi_outside.specs.Known.{FitsDoubt, IsKnown, record_crashes, records
 use Rattle.fedi_outside.proofs.ImageLemmas.{IsStaged, closes, closes_again, kept_front, kept_image, length_front_push, length_kept, opened_split, opens, short_records, staged, staged_closed, torn_behind}
 use Rattle.fedi_outside.proofs.Gates.{apart_push, gates_grown, record_found}
 
--- ---- what is told before and after
+-- ---- what is reported before and after
 
--- told before and after, or neither
+-- reported before and after, or neither
 pub StaysTold : Option (List ℕ) → Option (List ℕ) → Type 0
 StaysTold None after = after ≡ None
 StaysTold (Some before) after = (bytes : List ℕ) × (after ≡ Some bytes)
@@ -59,7 +59,7 @@ if_told : (o : Option (List ℕ)) (g : List ℕ → List (List ℕ)) (P : List (
 if_told None g P each = tt
 if_told (Some bytes) g P each = each bytes refl
 
--- records that are told before and after
+-- records that are reported before and after
 told_records : (g h : List ℕ → List (List ℕ)) (k : List (List ℕ) → List (List ℕ)) (before after : Option (List ℕ)) → StaysTold before after
     → ((here there : List ℕ) → before ≡ Some here → after ≡ Some there → h there ≡ k (g here)) → option_map h after ≡ option_map k (option_map g before)
 unfolding StaysTold
@@ -121,7 +121,7 @@ module _ (f : Format) (ok : IsFormat f) where
   kept_holds rs None image fits fits_doubt (inr closed) = kept_image f ok rs image (short_records f ok rs fits) closed
   kept_holds rs (Some p) image fits fits_doubt (inr closed) = ap (kept_in f (length rs)) (opened_split f ok rs p image closed) ∙ kept_front f ok rs _ (short_records f ok rs fits)
 
-  -- a list that such an image stands for
+  -- a list that such an image represents
   list_left : (rs : List (List ℕ)) (doubt : Option (List ℕ)) (image : List ℕ) (list : List (List ℕ)) → length (front f rs) < 2 ^ 64 → FitsDoubt f (length (front f rs)) doubt
       → Holds rs doubt image → StandsFor f image list → MayLeave rs doubt list
   unfolding Holds
@@ -185,7 +185,7 @@ module _ (f : Format) (ok : IsFormat f) where
   some_is None g kept is = absurd (cc is)
   some_is (Some bytes) g kept is = (bytes, refl, cc is)
 
-  -- each image that a crash may leave is a file of the records, or of these with the one in doubt
+  -- each image that a crash may leave is a file of the records, or of these and the one in doubt
   pub images_left : (s : DiskState) (c : DiskCrashes) (end : ℕ) (gates : List ℕ) (doubt : Option (List ℕ)) → IsKnown f s c end gates doubt → (kept : List (List ℕ)) → records_told f (length gates) s ≡ Some kept
       → (image : List ℕ) → c.may_leave image → (list : List (List ℕ)) × IsImage f list image × MayLeave kept doubt list
   images_left s c end gates doubt known kept told image left =
@@ -195,7 +195,7 @@ module _ (f : Format) (ok : IsFormat f) where
       let found = image_of (kept_in f (length gates) bytes) doubt image (omega (arith, known.fits, ends)) (λ p in_doubt. omega (arith, ends, known.fits_doubt p in_doubt)) (known_holds s c end gates doubt known bytes image here.1 left) in
       (found.0, found.1, subst (λ (rs : List (List ℕ)). MayLeave rs doubt found.0) here.2 found.2)
 
-  -- what was known of the records is known still, of another state of the disk and with this doubt
+  -- what was known of the records still holds, for another state of the disk and with this doubt
   pub record IsCarried (old new : DiskState) (after : DiskCrashes) (end : ℕ) (gates : List ℕ) (doubt : Option (List ℕ)) : Type 0 where
     pub records : records_told f (length gates) new ≡ records_told f (length gates) old
     pub known : IsKnown f new after end gates doubt
@@ -238,7 +238,7 @@ module _ (f : Format) (ok : IsFormat f) where
       carry old new before after end gates doubt doubt known torn.no_shorter (torn_told end (0 ∷ []) old.reads new.reads torn.reads) stay known.fits_doubt
       (λ bytes image is left. let from = time.now image left in shut_torn (kept_in f (length gates) bytes) doubt end from.0 image (known.ends bytes is) (known_holds old before end gates doubt known bytes from.0 is from.1) from.2)
 
-  -- it was done, for good
+  -- it was done and is durable
   pub settle_done : (old new : DiskState) (before after : DiskCrashes) (end : ℕ) (gates : List ℕ) (doubt : Option (List ℕ)) → IsKnown f old before end gates doubt → IfSome old.reads before.may_leave → IfSome new.reads after.may_leave
       → new ≡ after_write end (0 ∷ []) old → IfSome new.reads (LeavesOnly after) → IsCarried old new after end gates None
   unfolding Holds
@@ -249,7 +249,7 @@ module _ (f : Format) (ok : IsFormat f) where
       let rs = kept_in f (length gates) bytes in
       inl (subst (IsClosedAfter f rs) (sym (one_left _ old.reads new.reads after reads durable bytes image is left)) (shut_done rs doubt end bytes (known.ends bytes is) (read_holds old before end gates doubt known stayed bytes is))))
 
-  -- the write of a record behind the closed gate failed
+  -- the write of a record after the closed gate failed
   pub stage_failed : (old new : DiskState) (before after : DiskCrashes) (end at : ℕ) (gates block : List ℕ) → at ≡ end + 1 → IsKnown f old before end gates None → IfSome new.reads after.may_leave
       → HasTorn at block old new → Elapses before after (MayTear at block before) → IsCarried old new after end gates None
   unfolding Holds
@@ -258,13 +258,13 @@ module _ (f : Format) (ok : IsFormat f) where
       (λ bytes image is left. let from = time.now image left in
       inl (torn_behind f ok (kept_in f (length gates) bytes) at block from.0 image (omega (arith, is_at, known.ends bytes is)) from.2 (sure _ _ (known_holds old before end gates None known bytes from.0 is from.1))))
 
-  -- a record stands behind the closed gate, and no other image is left
+  -- a record follows the closed gate, and no other image is left
   pub record IsReady (old mid : DiskState) (between : DiskCrashes) (end : ℕ) (gates p : List ℕ) : Type 0 where
     pub grown : max old.size (end + (10 + f.width + length p)) ≤ mid.size
     pub told : StaysTold old.reads mid.reads
     pub staged : (bytes image : List ℕ) → old.reads ≡ Some bytes → between.may_leave image → IsStaged f ok (kept_in f (length gates) bytes) p image
 
-  -- how the code spells the record behind the gate, whatever records come before it
+  -- how the code encodes the record after the gate, whatever records come before it
   unfoldable pub SpellsBlock : ℕ → DiskState → List ℕ → List ℕ → Type 0
   SpellsBlock count s p block = (length block ≡ 9 + f.width + length p) × ((bytes : List ℕ) → s.reads ≡ Some bytes → block ≡ record_code f (kept_in f count bytes) p ++ 0 ∷ [])
 
@@ -289,7 +289,7 @@ module _ (f : Format) (ok : IsFormat f) where
       carry old new before after end gates None (Some p) known (omega (arith, ready.grown, torn.no_shorter)) (told_on old.reads mid.reads new.reads ready.told (torn_told end (1 ∷ []) mid.reads new.reads torn.reads)) stay (one_doubt end p room)
       (λ bytes image is left. let from = time.now image left in open_torn (kept_in f (length gates) bytes) p end from.0 image (known.ends bytes is) (ready.staged bytes from.0 is from.1) from.2)
 
-  -- it was done, for good: there is one more record
+  -- it was done and is durable: there is one more record
   pub record HasGrown (old new : DiskState) (after : DiskCrashes) (end : ℕ) (gates p : List ℕ) : Type 0 where
     pub records : records_told f (length (gates ++ end ∷ [])) new ≡ option_map (λ kept. kept ++ p ∷ []) (records_told f (length gates) old)
     pub known : IsKnown f new after (end + (9 + f.width + length p)) (gates ++ end ∷ []) None
@@ -332,7 +332,7 @@ module _ (f : Format) (ok : IsFormat f) where
   begins rs None image (inr closed) = (0 ∷ drop (length (front f rs) + 1) image, closed)
   begins rs (Some p) image (inr closed) = (1 ∷ (record_code f rs p ++ 0 ∷ drop (length (front f (rs ++ p ∷ [])) + 1) image), opened_split f ok rs p image closed)
 
-  -- between a gate and the next one reads give its record
+  -- between a gate and the next one, reads give its record
   pub record_read : (s : DiskState) (c : DiskCrashes) (end : ℕ) (gates : List ℕ) (doubt : Option (List ℕ)) → IsKnown f s c end gates doubt → IfSome s.reads c.may_leave → (bytes : List ℕ) → s.reads ≡ Some bytes
       → (i : ℕ) → i < length gates → slice_get (kept_in f (length gates) bytes) i ≡ Some (take (get_or gates (i + 1) end - get_or gates i end - (9 + f.width)) (drop (get_or gates i end + 9) bytes))
   record_read s c end gates doubt known stay bytes is i within =
@@ -352,7 +352,7 @@ module _ (f : Format) (ok : IsFormat f) where
 
   -- ---- crashes
 
-  -- a crash now leaves the records, or these with the one in doubt
+  -- a crash now leaves the records, or the records and the one in doubt
   pub leaves_records : (s : DiskState) (c : DiskCrashes) (end : ℕ) (gates : List ℕ) (doubt : Option (List ℕ)) → ((image : List ℕ) → c.left_since c.clock image → c.may_leave image) → IsKnown f s c end gates doubt
       → IfTold (is_some s.reads) (records_told f (length gates) s) (λ kept. (left : List (List ℕ)) → (record_crashes f s c).left_since c.clock left → MayLeave kept doubt left)
   leaves_records s c end gates doubt only known =
@@ -361,7 +361,7 @@ module _ (f : Format) (ok : IsFormat f) where
       list_left (kept_in f (length gates) bytes) doubt past.0 left (omega (arith, known.fits, ends)) (λ p in_doubt. omega (arith, ends, known.fits_doubt p in_doubt))
       (known_holds s c end gates doubt known bytes past.0 is (only past.0 past.1)) past.2)
 
-  -- the images that a call adds hold the records, or these with the one in doubt
+  -- the images that a call adds hold the records, or the records and the one in doubt
   passes : (old new : DiskState) (before after : DiskCrashes) (end : ℕ) (gates : List ℕ) (was doubt : Option (List ℕ)) (added : List ℕ → Type 0) → IsKnown f old before end gates was
       → Elapses before after added → StaysTold old.reads new.reads → FitsDoubt f end doubt → ((bytes image : List ℕ) → old.reads ≡ Some bytes → added image → Holds (kept_in f (length gates) bytes) doubt image)
       → PassesTime (records_told f (length gates) old) doubt (record_crashes f old before) (record_crashes f new after)
@@ -425,7 +425,7 @@ module _ (f : Format) (ok : IsFormat f) where
 
   -- ---- crashes, by images
 
-  -- each image that a call adds is a file of the records, or of these with the one in doubt
+  -- each image that a call adds is a file of the records, or of these and the one in doubt
   adds_files : (old : DiskState) (before after : DiskCrashes) (end : ℕ) (gates : List ℕ) (was doubt : Option (List ℕ)) (added : List ℕ → Type 0) → IsKnown f old before end gates was
       → Elapses before after added → FitsDoubt f end doubt → ((bytes image : List ℕ) → old.reads ≡ Some bytes → added image → Holds (kept_in f (length gates) bytes) doubt image)
       → (kept : List (List ℕ)) → records_told f (length gates) old ≡ Some kept

@@ -27,7 +27,7 @@ pub owed_as_before : (rows spare capacity : ℕ) (turns rest : List (Turn Memory
 owed_as_before rows spare capacity turns rest next is room =
     let longer : length turns ≡ length (option_to_list next) + length rest = ap length is ∙ length-append (option_to_list next) rest in omega (arith, longer, room)
 
--- where no line is out, the row of the rest is owed
+-- if no line is out, the row of the rest is owed
 pub owed_idle : {X : Type 0} (f : X → Coming) (out : Option X) (rows spare capacity : ℕ) (turns rest : List (Turn MemoryLine)) (t : Turn MemoryLine)
     → option_map f out ≡ None → turns ≡ t ∷ rest → rows + spare + length turns ≤ capacity → rows + owed out true + length rest ≤ capacity
 owed_idle f None rows spare capacity turns rest t none is room = owed_by_turn rows spare capacity turns rest t is room

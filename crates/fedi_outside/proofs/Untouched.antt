@@ -6,7 +6,7 @@ use Rattle.fedi_outside.specs.Disks.{DiskCrashes, DiskState, Elapses, IsUntouche
 pub nothing_elapses : (c : DiskCrashes) → Elapses c c c.may_leave
 nothing_elapses c = record { clock = omega arith; now = λ image left. left; nothing_else = λ moment image past left. inl left; keeps = λ moment image past left. left }
 
--- a call that leaves nothing new, behind another
+-- a call that leaves nothing new, after another one
 pub elapses_on : (a b c : DiskCrashes) → Elapses a b a.may_leave → Elapses b c b.may_leave → Elapses a c a.may_leave
 elapses_on a b c one two = record {
   clock = omega (arith, one.clock, two.clock);

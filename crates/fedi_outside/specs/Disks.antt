@@ -6,19 +6,19 @@ use Rattle.fedi_outside.specs.Causes.{next_count}
 -- a disk, as its callers see it
 pub record DiskState : Type 0 where
   pub size : ℕ  -- how many bytes it has
-  pub reads : Option (List ℕ)  -- the bytes that reads give, if it tells them
+  pub reads : Option (List ℕ)  -- the bytes that reads give, if it reports them
   pub faults : ℕ  -- how many calls failed; it saturates at 2^64 - 1
 
 -- the moment, and what a crash may leave of the bytes: an image of the disk
 pub record DiskCrashes : Type 1 where
-  pub clock : ℕ  -- a moment, as a number that never falls
+  pub clock : ℕ  -- a moment, as a number that never decreases
   pub may_leave : List ℕ → Type 0  -- a crash now may leave this image
   -- a crash at some moment since that one might have left this image
   pub left_since : ℕ → List ℕ → Type 0
 
 -- ---- what a write does to bytes
 
--- the bytes, with these in the place of those at this offset, and past the end
+-- the bytes, with these written over those at this offset, and past the end
 abbrev pub spliced : ℕ → List ℕ → List ℕ → List ℕ
 spliced at bytes before = take at before ++ (bytes ++ drop (at + length bytes) before)
 
@@ -52,7 +52,7 @@ after_write at bytes d = record d {
   reads = option_map (spliced at bytes) d.reads;
 }
 
--- the bytes that reads give were torn, if they are told
+-- the bytes that reads give were torn, if they are reported
 abbrev pub TearsTold : ℕ → List ℕ → Option (List ℕ) → Option (List ℕ) → Type 0
 TearsTold at bytes None after = after ≡ None
 TearsTold at bytes (Some before) after =
@@ -75,8 +75,8 @@ LeavesOnly crashes bytes = (image : List ℕ) → crashes.may_leave image → im
 abbrev pub MayTear : ℕ → List ℕ → DiskCrashes → List ℕ → Type 0
 MayTear at bytes before image = (old : List ℕ) × before.may_leave old × IsTorn at bytes old image
 
--- The moments of a call add these images alone to those that a crash since an earlier moment might
--- have left, and take none away. A crash after the call leaves one of these.
+-- During a call, only these images are added to those that a crash since an earlier moment might
+-- have left, and none is removed. A crash after the call leaves one of these.
 pub record Elapses (before after : DiskCrashes) (added : List ℕ → Type 0) : Type 0 where
   pub clock : before.clock ≤ after.clock
   pub now : (image : List ℕ) → after.may_leave image → added image
@@ -85,8 +85,8 @@ pub record Elapses (before after : DiskCrashes) (added : List ℕ → Type 0) : 
   pub keeps : (moment : ℕ) (image : List ℕ) → moment ≤ before.clock → before.left_since moment image
       → after.left_since moment image
 
--- reads give the bytes that they gave, and if these are told, a crash on the way or afterwards
--- leaves nothing new
+-- reads give the same bytes as before, and if these are reported, a crash during the call or after
+-- it leaves nothing new
 pub record IsUntouched (before after : DiskState) (was now : DiskCrashes) : Type 0 where
   pub reads : after.reads ≡ before.reads
   pub clock : was.clock ≤ now.clock

@@ -1,4 +1,4 @@
--- What a door gives, what it is told, and the rows that it tells.
+-- What a door gives, what is reported to it, and the rows that it reports.
 use Rattle.std.specs.Prelude.{◌≡◌, ℕ, Bool, false, true, List, [], ◌∷◌, ◌++◌, Option, Some, None}
 use Rattle.std.specs.Prelude.{IfSome, option_map}
 use Rattle.fedi_outside.specs.Causes.{next_count}
@@ -10,14 +10,14 @@ use Rattle.fedi_outside.specs.declared.turns.Turn.TheVariants.{Line, Idle, Close
 
 -- a line as it came
 pub record Coming : Type 0 where
-  pub input : Option (List ℕ)  -- the bytes to come, if it tells them
-  pub begun : Option (List ℕ)  -- the bytes that were sent before, if it tells them
+  pub input : Option (List ℕ)  -- the bytes to come, if it reports them
+  pub begun : Option (List ℕ)  -- the bytes that were sent before, if it reports them
 
 -- a line that came back
 pub record Spoken : Type 0 where
   pub came : Coming
-  pub left : Option (List ℕ)  -- the bytes that were not taken, if it tells them
-  pub sent : Option (List ℕ)  -- the bytes that were sent, if it tells them
+  pub left : Option (List ℕ)  -- the bytes that were not taken, if it reports them
+  pub sent : Option (List ℕ)  -- the bytes that were sent, if it reports them
   pub reads : ℕ  -- how many reads failed
   pub writes : ℕ  -- how many writes failed
 
@@ -26,11 +26,11 @@ pub data Row : Type 0 where
   Served : Spoken → Row
   Rested : Rest → Row
 
--- the line as it came, by these meanings of a line
+-- the line as it came, given these meanings of a line
 abbrev pub coming_by : {L : Type 0} → (L → Option (List ℕ)) → (L → Option (List ℕ)) → L → Coming
 coming_by left sent line = record { input = left line; begun = sent line }
 
--- the line that came so and is now this one, by these meanings of a line
+-- the line that came like this and is now this one, given these meanings of a line
 abbrev pub spoken_by : {L : Type 0} → (L → Option (List ℕ)) → (L → Option (List ℕ)) → (L → ℕ)
     → (L → ℕ) → Coming → L → Spoken
 spoken_by left sent reads writes came line = record {
@@ -41,7 +41,7 @@ spoken_by left sent reads writes came line = record {
   writes = writes line;
 }
 
--- one row more, if rows are told
+-- one more row, if rows are reported
 abbrev pub with_row : Row → Option (List Row) → Option (List Row)
 with_row row rows = option_map (λ (rs : List Row). rs ++ row ∷ []) rows
 
@@ -52,8 +52,8 @@ abbrev pub IsNewLine : {L : Type 0} → (L → Option (List ℕ)) → (L → ℕ
 IsNewLine sent reads writes line =
     IfSome (sent line) (λ (text : List ℕ). text ≡ []) × (reads line ≡ 0) × (writes line ≡ 0)
 
--- which line is out, whether the door waits to be told of a rest, and whether it is closed, after
--- it gave this turn
+-- after the door gave this turn: which line is out, whether it waits for the report of a rest, and
+-- whether it is closed
 abbrev pub Gives : {L : Type 0} → (L → Option (List ℕ)) → (L → Option (List ℕ)) → (L → ℕ) → (L → ℕ)
     → Option Coming → Bool → Bool → Turn L → Type 0
 Gives left sent reads writes out idle closed (Line l) =
@@ -65,7 +65,7 @@ Gives left sent reads writes out idle closed Closed =
 Gives left sent reads writes out idle closed Failed =
     (out ≡ None) × (idle ≡ false) × (closed ≡ false)
 
--- a turn that failed is counted, and no other
+-- a failed turn is counted, and no other
 abbrev pub IsTurnCounted : {L : Type 0} → ℕ → ℕ → Turn L → Type 0
 IsTurnCounted before now (Line l) = now ≡ before
 IsTurnCounted before now Idle = now ≡ before

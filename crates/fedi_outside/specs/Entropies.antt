@@ -3,7 +3,7 @@ use Rattle.std.specs.Prelude.{ℕ, List, Option, Result, MatchResult}
 use Rattle.std.specs.Io.KnownBytes.{Consumes, Keeps}
 use Rattle.fedi_outside.specs.Plans.{Plan}
 
--- the bytes to come, if they are told, began with these and lost them; a fill that failed took none
+-- the bytes to come, if reported, began with these, which were taken; a failed fill took none
 abbrev pub FillConsumes : {T E : Type 0} → Option (List ℕ) → Option (List ℕ) → Result T E
     → List ℕ → Type 0
 FillConsumes before after result filled =

@@ -8,20 +8,20 @@ use Rattle.fedi_outside.specs.declared.keepers.LoadFault.TheVariants.{Failed, Me
 
 -- a keeper, as its callers see it
 pub record KeeperState : Type 0 where
-  pub records : Option (List (List ℕ))  -- the records, if it tells them
+  pub records : Option (List (List ℕ))  -- the records, if it reports them
   pub held : ℕ  -- how many records there are
-  pub doubt : Option (List ℕ)  -- a record that a failed append may have left behind the others
-  pub spare : ℕ  -- a record that is shorter than this has room
+  pub doubt : Option (List ℕ)  -- a record that a failed append may have left after the others
+  pub spare : ℕ  -- any record shorter than this has room
   pub end : ℕ  -- where the records end
   pub faults : ℕ  -- how many calls failed; it saturates at 2^64 - 1
 
 -- ---- room
 
--- behind this end, a record of this length would go past the limit of a keeper
+-- after this end, a record of this length would exceed the limit of a keeper
 abbrev pub IsFull : (ℕ → ℕ) → ℕ → ℕ → Type 0
 IsFull room end length = 2 ^ 62 < end + room length
 
--- behind this end there is room for a record of this length
+-- after this end there is room for a record of this length
 abbrev pub HasRoom : (ℕ → ℕ) → ℕ → ℕ → Type 0
 HasRoom room end length = end + room length ≤ 2 ^ 62
 
@@ -37,11 +37,11 @@ after_load (Ok found) k = k
 after_load (Err Memory) k = k
 after_load (Err Failed) k = after_fault k
 
--- this was found at this place of the records
+-- this was found at this index of the records
 abbrev pub Finds : {A : Type 0} → List (List ℕ) → ℕ → Option (Vec ℕ A) → Type 0
 Finds records place found = option_map (λ bytes. bytes.items) found ≡ slice_get records place
 
--- after a reserve: all is as before, but for the room that was made
+-- after a reserve: all is as before, except for the room that was made
 pub record OnlyRoomChanged (before after : KeeperState) : Type 0 where
   pub records : after.records ≡ before.records
   pub held : after.held ≡ before.held
@@ -68,9 +68,9 @@ pub record HasFailed (refused : List ℕ) (before after : KeeperState) : Type 0 
 
 -- ---- crashes
 
--- the moment, and what a crash may leave of the records, if the keeper tells it
+-- the moment, and what a crash may leave of the records, if the keeper reports it
 pub record Crashes : Type 1 where
-  pub clock : ℕ  -- a moment, as a number that never falls
+  pub clock : ℕ  -- a moment, as a number that never decreases
   pub told : Bool
   -- a crash at some moment since that one might have left these records
   pub left_since : ℕ → List (List ℕ) → Type 0
@@ -80,14 +80,14 @@ abbrev pub MayLeave : List (List ℕ) → Option (List ℕ) → List (List ℕ) 
 MayLeave records None left = left ≡ records
 MayLeave records (Some more) left = (left ≡ records) ⊎ (left ≡ records ++ more ∷ [])
 
--- if crashes are told, the records are told too, and they are so
+-- if crashes are reported, the records are reported too, and they have this property
 abbrev pub IfTold : Bool → Option (List (List ℕ)) → (List (List ℕ) → Type 0) → Type 0
 IfTold false records P = Unit {0}
 IfTold true None P = ⊥
 IfTold true (Some records) P = P records
 
--- the moments of a call add this alone to what a crash since an earlier moment might have left, and
--- take nothing away
+-- during a call, only this is added to what a crash since an earlier moment might have left, and
+-- nothing is removed
 pub record Adds (before : ℕ) (past since : ℕ → List (List ℕ) → Type 0)
     (added : List (List ℕ) → Type 0) : Type 0 where
   pub nothing_else : (moment : ℕ) (left : List (List ℕ)) → moment ≤ before → since moment left
@@ -95,8 +95,8 @@ pub record Adds (before : ℕ) (past since : ℕ → List (List ℕ) → Type 0)
   pub keeps : (moment : ℕ) (left : List (List ℕ)) → moment ≤ before → past moment left
       → since moment left
 
--- the clock does not fall, and a crash during the call leaves the records, or these with the one in
--- doubt
+-- the clock does not go back, and a crash during the call leaves the records, or the records and
+-- the one in doubt
 pub record PassesTime (records : Option (List (List ℕ))) (doubt : Option (List ℕ))
     (before after : Crashes) : Type 0 where
   pub clock : before.clock ≤ after.clock
@@ -104,7 +104,7 @@ pub record PassesTime (records : Option (List (List ℕ))) (doubt : Option (List
   pub crash : IfTold before.told records
       (λ kept. Adds before.clock before.left_since after.left_since (MayLeave kept doubt))
 
--- a crash now leaves the records, or these with the one in doubt
+-- a crash now leaves the records, or the records and the one in doubt
 abbrev pub LeavesRecords : KeeperState → Crashes → Type 0
 LeavesRecords k crashes =
     IfTold crashes.told k.records (λ kept. (left : List (List ℕ))

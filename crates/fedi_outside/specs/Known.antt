@@ -6,7 +6,7 @@ use Rattle.fedi_outside.specs.Keepers.{Crashes}
 use Rattle.fedi_outside.specs.Images.{Format, StandsAtGate, StandsFor, front, gates_of, kept_in}
 use Rattle.fedi_outside.specs.Images.{with_doubt}
 
--- each gate stands at least so far before the next one, and the last before the end
+-- each gate is at least this far before the next one, and the last before the end
 abbrev pub are_apart : ℕ → List ℕ → ℕ → Bool
 are_apart step [] end = true
 are_apart step (gate ∷ gates) end =
@@ -18,9 +18,9 @@ module _ (f : Format) where
   FitsDoubt end doubt = (p : List ℕ) → doubt ≡ Some p → end + (10 + f.width + length p) ≤ 2 ^ 62
 
   -- What is known of a disk with these gates of records, a gate at the end, and a record that may
-  -- be in doubt: the gates stand apart and before the end; and if the bytes are told, they are
-  -- those of the records, and each image that a crash may leave has the records, without the one in
-  -- doubt or with it.
+  -- be in doubt. The gates are apart and before the end. If the bytes are reported, they are those
+  -- of the records, and each image that a crash may leave has the records, without the one in doubt
+  -- or with it.
   pub record IsKnown (shown : DiskState) (crashes : DiskCrashes) (end : ℕ) (gates : List ℕ)
       (doubt : Option (List ℕ)) : Type 0 where
     pub inside : end < shown.size
@@ -35,11 +35,11 @@ module _ (f : Format) where
         → StandsAtGate f (kept_in f (length gates) bytes)
         (with_doubt (kept_in f (length gates) bytes) doubt) image
 
-  -- the records of a disk with so many, if it tells its bytes
+  -- the records of a disk with this many, if it reports its bytes
   abbrev pub records_told : ℕ → DiskState → Option (List (List ℕ))
   records_told count shown = option_map (kept_in f count) shown.reads
 
-  -- what a crash may leave of the records, if the disk tells its bytes
+  -- what a crash may leave of the records, if the disk reports its bytes
   abbrev pub record_crashes : DiskState → DiskCrashes → Crashes
   record_crashes shown crashes = record {
     clock = crashes.clock;

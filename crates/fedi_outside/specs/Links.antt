@@ -1,4 +1,4 @@
--- What a link to other servers tells.
+-- What a link to other servers reports.
 use Rattle.std.specs.Prelude.{◌≡◌, ℕ, ⊤, Bool, true, false, List, [], ◌∷◌, ◌++◌, take, Option, Some}
 use Rattle.std.specs.Prelude.{None, Result, Ok, Err}
 use Rattle.fedi_outside.specs.declared.failure.Failed.{Failed}
@@ -11,8 +11,8 @@ pub record Asking : Type 0 where
   pub address : List ℕ
   pub request : List ℕ
 
--- One more row is told, if rows still are: a link that finds no memory for a row tells none from
--- then on.
+-- There is one more row, if rows are still reported: if memory for a row runs out, a link reports
+-- none from then on.
 abbrev pub AddsRow : {A : Type 0} → Option (List A) → Option (List A) → A → Type 0
 AddsRow before None row = ⊤
 AddsRow None (Some rows) row = ⊥
@@ -25,16 +25,16 @@ heard_by (Err failed) into = None
 
 -- ---- a link in memory
 
--- the request that a row of it tells
+-- the request that one of its rows reports
 abbrev pub asking_in : Asked → Asking
 asking_in a = record { address = a.address.items; request = a.request.items }
 
--- the reply that a row of it tells
+-- the reply that one of its rows reports
 abbrev pub reply_in : Heard → Option (List ℕ)
 reply_in heards.Nothing = None
 reply_in (heards.Reply bytes) = Some bytes.items
 
--- the rows, if they are told
+-- the rows, if they are reported
 abbrev pub told_if : {A : Type 0} → Bool → List A → Option (List A)
 told_if true rows = Some rows
 told_if false rows = None

@@ -1,5 +1,5 @@
--- What a disk in memory tells of now: a crash after all of its calls is one since each earlier
--- moment, and the only one since now.
+-- What a disk in memory says about now: a crash after all of its calls is a crash since each
+-- earlier moment, and the only one since now.
 use Rattle.std.proofs.Common.{ℕ, ◌≤◌, List, length, sym, subst, arith}
 use Rattle.std.proofs.lemmas.List.{take_all}
 use Rattle.fedi_outside.specs.MemoryDisks.{LeftSince, MayBeLeft, contents_of}

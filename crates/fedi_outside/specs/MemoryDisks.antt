@@ -1,5 +1,4 @@
--- A disk in memory: the calls that it was asked, what they make of its bytes, and what a crash
--- leaves.
+-- A disk in memory: the calls made on it, what they make of its bytes, and what a crash leaves.
 use Rattle.std.specs.Prelude.{ℕ, ◌≡◌, ◌⊎◌, ◌+◌, ◌≤◌, Bool, true, false, nat_eq, nat_le, ◌||◌, List}
 use Rattle.std.specs.Prelude.{[], ◌∷◌, length, take, fold, Option, None, Some, Result, Ok, Err}
 use Rattle.std.specs.Prelude.{if◌then◌else◌}
@@ -16,11 +15,11 @@ pub record MemoryDiskState : Type 0 where
   pub stop : Option ℕ  -- the calls from this number on fail too
   pub faults : ℕ  -- how many calls failed
 
--- such a disk with these bytes, of which no call was asked and none is to fail
+-- such a disk with these bytes, on which no call was made and no call is to fail
 abbrev pub fresh_disk : List ℕ → MemoryDiskState
 fresh_disk bytes = record { base = bytes; calls = []; failing = []; stop = None; faults = 0 }
 
--- whether the call of this number is to fail
+-- whether the call with this number is to fail
 abbrev pub is_failing : MemoryDiskState → ℕ → Bool
 is_failing d number = list_any (λ n. nat_eq n number) d.failing || reaches d.stop
   where
@@ -28,7 +27,7 @@ is_failing d number = list_any (λ n. nat_eq n number) d.failing || reaches d.st
     reaches None = false
     reaches (Some stop) = nat_le stop number
 
--- A call fails exactly if it is to fail, and is recorded. One that found no memory for its record
+-- A call fails if and only if it is to fail, and is recorded. If memory for its record runs out, it
 -- fails too, and is not recorded.
 abbrev pub FailsByPlan : {T E : Type 0} → MemoryDiskState → MemoryDiskState → Result T E → Type 0
 FailsByPlan before after (Ok x) =

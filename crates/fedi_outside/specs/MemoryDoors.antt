@@ -11,8 +11,8 @@ use Rattle.fedi_outside.specs.declared.turns.Turn.TheVariants.{Line, Idle, Close
 pub record MemoryDoorState : Type 0 where
   pub turns : List (Turn MemoryLine)  -- the turns to come
   pub out : Option MemoryLine  -- the line that is out, as it came
-  pub idle : Bool  -- whether it waits to be told of a rest
-  pub closed : Bool  -- whether its last turn was that it is closed
+  pub idle : Bool  -- whether it waits for the report of a rest
+  pub closed : Bool  -- whether its last turn said that it is closed
   pub rows : List MemoryRow  -- the lines that came back, and the rests
   pub faults : ℕ  -- how many turns failed
 
@@ -32,7 +32,7 @@ line_reads l = l.source.plan.faults
 abbrev pub line_writes : MemoryLine → ℕ
 line_writes l = l.sink.plan.faults
 
--- if it is a line, it is a new one
+-- if the turn is a line, the line is new
 abbrev pub IsNewTurn : Turn MemoryLine → Type 0
 IsNewTurn (Line l) = IsNewLine line_sent line_reads line_writes l
 IsNewTurn Idle = ⊤
@@ -43,14 +43,14 @@ IsNewTurn Failed = ⊤
 abbrev pub out_of : MemoryDoorState → Option Coming
 out_of d = option_map (coming_by line_left line_sent) d.out
 
--- the row that this one in memory is
+-- the row that this row in memory represents
 abbrev pub row_of : MemoryRow → Row
 row_of (rows.Spoken came line) =
     Served (spoken_by line_left line_sent line_reads line_writes
     (coming_by line_left line_sent came.value) line)
 row_of (rows.Rested rest) = Rested rest
 
--- how many rows are owed: one for a line that is out, and one for a rest that is to be told
+-- how many rows are owed: one for a line that is out, and one for a rest that is to be reported
 abbrev pub owed : {X : Type 0} → Option X → Bool → ℕ
 owed None false = 0
 owed None true = 1

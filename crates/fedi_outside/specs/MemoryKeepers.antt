@@ -8,10 +8,10 @@ pub record CalmKeeperState : Type 0 where
   pub records : List (List ℕ)
   -- the record of the last append, if that failed and nothing was settled since
   pub doubt : Option (List ℕ)
-  pub spare : ℕ  -- a record that is shorter has room
+  pub spare : ℕ  -- any record shorter than this has room
   pub end : ℕ
 
--- a keeper with no records, whose end is this
+-- a keeper with no records and this end
 abbrev pub no_records : ℕ → CalmKeeperState
 no_records end = record { records = []; doubt = None; spare = 0; end = end }
 
@@ -36,6 +36,6 @@ shown_with faults k = record {
   faults = faults;
 }
 
--- a keeper in memory tells nothing of crashes
+-- a keeper in memory reports nothing about crashes
 abbrev pub no_crashes : Crashes
 no_crashes = record { clock = 0; told = false; left_since = λ _ _. ⊥ }

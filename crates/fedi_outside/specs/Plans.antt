@@ -25,7 +25,7 @@ after_call p = record p {
   faults = if is_to_fail p then next_count p.faults else p.faults;
 }
 
--- how many bytes one call moves if there is room for so many: a limit of 0 counts as 1
+-- how many bytes one call moves if there is room for this many: a limit of 0 counts as 1
 abbrev pub moved : Option ℕ → ℕ → ℕ
 moved None room = room
 moved (Some limit) room = min (max limit 1) room

@@ -10,7 +10,7 @@ pub record MemorySinkState : Type 0 where
   pub limit : Option ℕ  -- how many bytes one write takes at most
   pub plan : Plan
 
--- a write of so many bytes fails if it is to, and if not, then only for want of room
+-- a write of this many bytes fails if it is planned to; otherwise it fails only for lack of room
 pub record FailsByPlan {T E : Type 0} (before : MemorySinkState) (count : ℕ)
     (result : Result T E) : Type 0 where
   pub planned : is_to_fail before.plan ≡ true → IsErr result

@@ -8,6 +8,6 @@ pub record MemorySourceState : Type 0 where
   pub pieces : List ℕ  -- how many bytes the read with this number gives at most
   pub plan : Plan
 
--- how many bytes the next read gives into this much room
+-- how many bytes the next read gives if there is this much room
 abbrev pub given : MemorySourceState → ℕ → ℕ
 given s room = min (moved (slice_get s.pieces s.plan.calls) room) (length s.left)

@@ -12,13 +12,13 @@ use std::alloc::Global;
 use std::marker::Model;
 use std::mem;
 
-/// The last end of a keeper.
+/// The greatest end of a keeper.
 const LIMIT: u64 = 1 << 62;
 
-/// By how much more than its length a record moves the end.
+/// How much further than its length a record moves the end.
 const GROWTH: u64 = 9;
 
-/// How much more than its length a record needs below the limit.
+/// How much room beyond its length a record needs below the limit.
 const ROOM: u64 = 10;
 
 /// A record that is kept in memory.
@@ -42,8 +42,8 @@ impl Record {
     }
 }
 
-/// A keeper in memory that never fails. It tells its records, and its count of faults is 0. Only
-/// `reserve` and `load` take memory.
+/// A keeper in memory that never fails. It reports its records, and its count of faults is 0. Only
+/// `reserve` and `load` allocate memory.
 #[derive(Drop)]
 pub struct CalmKeeper {
     alloc: Global,
@@ -82,7 +82,7 @@ impl CalmKeeper {
         CalmKeeper::at(alloc, 0)
     }
 
-    /// A keeper with no records, whose end is this.
+    /// A keeper with no records and this end.
     pub(crate) fn at(alloc: Global, end: u64) -> Self
         ensures { result ≡ no_records end }
     {
@@ -103,8 +103,8 @@ impl CalmKeeper {
         &self.records
     }
 
-    /// Leaves these bytes in doubt, as an append of them that failed does. There is room for them,
-    /// which stays.
+    /// Leaves these bytes in doubt, as a failed append of them does. There is room for them, and it
+    /// is kept.
     pub(crate) fn leave_in_doubt(&mut self, payload: &[u8])
         requires { length payload.now < self.old.spare }
         ensures { self.new ≡ record self.old { doubt = Some payload.now } }
@@ -200,7 +200,7 @@ impl Keeper for CalmKeeper {
     }
 }
 
-// Writes the payload in place of what stands there. There is room.
+// Overwrites what is there with the payload. There is room.
 fn write(blank: &mut Vec<u8>, payload: &[u8])
     requires { length payload.now ≤ vec_capacity blank.old }
     ensures bytes { blank.new.items ≡ payload.now }

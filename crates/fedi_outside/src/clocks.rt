@@ -5,7 +5,7 @@ use std::marker::Model;
 
 /// A clock.
 pub trait Clock {
-    /// The moment that the clock stands at, if it tells it.
+    /// The moment that the clock shows, if it reports it.
     ghost told: { Self → Option ℕ };
 
     /// The moment, in seconds since 1970-01-01T00:00:00Z.
@@ -13,7 +13,7 @@ pub trait Clock {
         ensures { IfSome (told self.now) (λ moment. result ≡ moment) };
 }
 
-/// A clock that stands still, and tells its moment.
+/// A clock that does not advance, and reports its moment.
 #[derive(Clone, Copy, Debug)]
 pub struct FixedClock {
     seconds: u64,
@@ -28,7 +28,7 @@ impl Model for FixedClock {
 }
 
 impl FixedClock {
-    /// A clock that stands at this many seconds since 1970-01-01T00:00:00Z.
+    /// A clock that always shows this many seconds since 1970-01-01T00:00:00Z.
     pub fn new(seconds: u64) -> Self
         ensures { result ≡ seconds }
     {

@@ -6,27 +6,28 @@ ghost use Rattle.fedi_outside.specs.Doors.{spoken_by, with_row};
 use crate::{Line, Rest, Turn};
 
 /// Where connections come from, one after the other. Each line that it gives is handed back before
-/// it is asked again, and each time that none waits it is told what was done.
+/// it is asked again. Each time that no connection waits, what was done meanwhile is reported to
+/// it.
 pub trait Door {
     type L: Line + Drop + Send;
 
-    /// The line that it gave and that has not come back, as it came.
+    /// The line that it gave and that has not come back yet, as it came.
     ghost out: { Self → Option Coming };
 
-    /// Whether it said that no connection waits, and was not told yet what was done.
+    /// Whether it said that no connection waits, and the report of what was done is still due.
     ghost idle: { Self → Bool };
 
-    /// One row for each line that came back and for each rest that it was told, in order, if it
-    /// tells them.
+    /// One row for each line that came back and for each rest that was reported to it, in order, if
+    /// it reports them.
     ghost served: { Self → Option (List Row) };
 
-    /// Whether its last turn was that there will be no connection any more.
+    /// Whether its last turn said that there will be no more connections.
     ghost closed: { Self → Bool };
 
     /// How often it failed. The count saturates at 2^64 - 1.
     ghost faults: { Self → ℕ };
 
-    /// The next turn. On a line that it gives nothing was sent and no call has failed.
+    /// The next turn. On a line that it gives, nothing was sent and no call has failed.
     fn next(&mut self) -> Turn<Self::L>
         requires out { out self.old ≡ None }
         requires idle { idle self.old ≡ false }
@@ -35,7 +36,7 @@ pub trait Door {
         ensures served { served self.new ≡ served self.old }
         ensures cause { IsTurnCounted (faults self.old) (faults self.new) result };
 
-    /// Takes a line back. It takes no memory.
+    /// Takes a line back. It allocates no memory.
     fn back(&mut self, line: Self::L)
         requires out { is_some (out self.old) ≡ true }
         requires idle { idle self.old ≡ false }
@@ -46,7 +47,7 @@ pub trait Door {
             came line)) (served self.old) }
         ensures faults { faults self.new ≡ faults self.old };
 
-    /// Takes note of what was done while no connection waited. It takes no memory.
+    /// Takes note of what was done while no connection waited. It allocates no memory.
     fn rested(&mut self, rest: Rest)
         requires out { out self.old ≡ None }
         requires idle { idle self.old ≡ true }
@@ -56,7 +57,8 @@ pub trait Door {
         ensures faults { faults self.new ≡ faults self.old };
 }
 
-/// What one worker serves and delivers by: where connections come from, and how requests are sent.
+/// What one worker serves and delivers with: where connections come from, and how requests are
+/// sent.
 #[derive(Drop)]
 pub struct Bench<W, K> {
     pub door: W,

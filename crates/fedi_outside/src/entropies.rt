@@ -10,16 +10,16 @@ use crate::plans::FaultPlan;
 use std::alloc::Global;
 use std::marker::Model;
 
-/// Something that gives random bytes, of which keys are made.
+/// Something that gives random bytes, from which keys are made.
 pub trait Entropy {
-    /// The bytes to come, if it tells them.
+    /// The bytes to come, if it reports them.
     ghost next: { Self → Option (List ℕ) };
 
     /// How many calls failed. The count saturates at 2^64 - 1.
     ghost faults: { Self → ℕ };
 
     /// Fills `into` with the next 32 bytes. After an error the bytes to come are as before, and
-    /// `into` holds any bytes.
+    /// `into` may hold any bytes.
     fn fill(&mut self, into: &mut [u8; 32]) -> Result<(), Failed>
         ensures bytes { FillConsumes (next self.old) (next self.new) result into.new }
         ensures told { is_some (next self.new) ≡ is_some (next self.old) }
@@ -27,7 +27,7 @@ pub trait Entropy {
 }
 
 /// An entropy that never fails, and gives the same 32 bytes in each call. What it gives has no end,
-/// so it tells no bytes to come. Its count of faults is 0.
+/// so it reports no bytes to come. Its count of faults is 0.
 #[derive(Clone, Copy, Debug)]
 pub struct CalmEntropy {
     bytes: [u8; 32],
@@ -67,7 +67,7 @@ impl Entropy for CalmEntropy {
     }
 }
 
-/// An entropy over bytes in memory, which may be made to fail. It tells its bytes and counts its
+/// An entropy over bytes in memory that can be made to fail. It reports its bytes and counts its
 /// faults. If fewer than 32 bytes are left, a fill fails too.
 #[derive(Drop)]
 pub struct MemoryEntropy {
@@ -101,7 +101,7 @@ impl MemoryEntropy {
         }
     }
 
-    /// The same entropy, whose calls with these numbers, counted from 0, fail.
+    /// The same entropy, except that the calls with these numbers, counted from 0, fail.
     pub fn failing(self, calls: Vec<u64>) -> Self
         ensures { result ≡ record self { plan = record self.plan { failing = calls.items } } }
     {

@@ -3,19 +3,19 @@ ghost use Rattle.std.specs.Prelude.{◌≡◌, ℕ, List};
 ghost use Rattle.fedi_outside.specs.Images.{Format, IsFormat, IsImage, plain};
 ghost use Rattle.fedi_outside.specs.Opening.{IsDamagedAt, IsNoStore};
 
-/// The format without seals is one.
+/// The format without seals is a format.
 pub fn plain_is_a_format()
     ensures { IsFormat plain }
 {}
 
-/// A file has one list of records at most.
+/// A file has at most one list of records.
 pub fn files_have_one_list()
     ensures { (f : Format) → IsFormat f → (xs ys : List (List ℕ)) (bytes : List ℕ)
         → IsImage f xs bytes → IsImage f ys bytes → xs ≡ ys }
 {}
 
-/// What an opening may find excludes all else: a file of records is not damaged, what is no store
-/// is neither, and a damaged file has one place of damage.
+/// The possible findings of an opening exclude each other: a file of records is not damaged, what
+/// is no store is neither, and a damaged file is damaged at one offset only.
 pub fn openings_exclude_each_other()
     ensures place { (f : Format) → IsFormat f → (here there : ℕ) (bytes : List ℕ)
         → IsDamagedAt f here bytes → IsDamagedAt f there bytes → here ≡ there }

@@ -61,22 +61,22 @@ pub trait Keeper {
     /// What a crash may leave of the records.
     ghost crashes: { Self → Crashes };
 
-    /// By how much a record of this length moves the end.
+    /// How far a record of this length moves the end.
     ghost growth: { ℕ → ℕ };
 
     /// How far from the limit the end has to be before a record of this length is added.
     ghost room: { ℕ → ℕ };
 
-    /// From the first state to the second what lies outside was only read, so that it is as it was.
+    /// Between the first state and the second, the outside was only read, so it is unchanged.
     ghost only_read: { Self → Self → Type 0 };
 
     /// How many records there are.
     fn count(&self) -> u64
         ensures { result ≡ (shown self.now).held };
 
-    /// The record at this place, counted from 0, or none exactly if the place is at least the
-    /// count. All is as before, also after an error: `Failed` if the keeper failed, `Memory` if
-    /// there is such a record and no memory for it. What lies outside is read, and not written.
+    /// The record at this index, counted from 0, or `None` if and only if the index is at least the
+    /// count. Everything is as before, even after an error: `Failed` if the keeper failed, `Memory`
+    /// if there is such a record but no memory for it. The outside is read, but not written.
     fn load(&mut self, alloc: Global, place: u64) -> Result<Option<Vec<u8>>, LoadFault>
         ensures found { IfSome (shown self.old).records
             (λ records. IfOk result (Finds records place)) }
@@ -87,9 +87,10 @@ pub trait Keeper {
         ensures time { PassesTime (shown self.old).records (shown self.old).doubt
             (crashes self.old) (crashes self.new) };
 
-    /// Makes room for a record of this length. `Full` exactly if the end and the room for it come
-    /// to more than 2^62; `Memory` if there was no such room yet and there is no memory for it. All
-    /// else is as before, and after an error the room too. Nothing outside is written.
+    /// Makes room for a record of this length. `Full` if and only if the end and the room for it
+    /// add up to more than 2^62; `Memory` if there was no such room yet and there is no memory for
+    /// it. Everything else is as before, and after an error so is the room. The outside is not
+    /// written.
     fn reserve(&mut self, length: usize) -> Result<(), ReserveFault>
         ensures full { IsErrOf result ReserveFault.Full ↔ IsFull room (shown self.old).end length }
         ensures spare { OnOk result (length < (shown self.new).spare) }
@@ -100,16 +101,16 @@ pub trait Keeper {
         ensures time { PassesTime (shown self.old).records (shown self.old).doubt
             (crashes self.old) (crashes self.new) };
 
-    /// Removes what a failed append may have left, so that nothing is in doubt. It takes no memory,
-    /// and after an error all is in doubt as before.
+    /// Removes what a failed append may have left, so that nothing is in doubt. It allocates no
+    /// memory. After an error the doubt is as before.
     fn settle(&mut self) -> Result<(), Failed>
         ensures settled { OnOk result (shown self.new ≡ record (shown self.old) { doubt = None }) }
         ensures refused { OnErr result (shown self.new ≡ after_fault (shown self.old)) }
         ensures time { PassesTime (shown self.old).records (shown self.old).doubt
             (crashes self.old) (crashes self.new) };
 
-    /// Adds the payload as the last record. It takes no memory: nothing is in doubt, and room was
-    /// made. After an error the records and the room are as before, and this record may be in
+    /// Adds the payload as the last record. It allocates no memory: nothing is in doubt, and room
+    /// was made. After an error the records and the room are as before, and this record may be in
     /// doubt.
     fn append(&mut self, payload: &[u8]) -> Result<(), Failed>
         requires settled { (shown self.old).doubt ≡ None }
@@ -121,18 +122,18 @@ pub trait Keeper {
         ensures time { PassesTime (shown self.old).records (Some payload.now)
             (crashes self.old) (crashes self.new) };
 
-    /// A crash now leaves the records, or these with the one in doubt: after a call that settled,
-    /// the records alone.
+    /// A crash now leaves the records, or the records and the one in doubt. After a call that
+    /// settled, it leaves the records alone.
     ghost crash_now: { (keeper : Self) → LeavesRecords (shown keeper) (crashes keeper) };
 
-    /// No call reads only.
+    /// Making no call counts as only reading.
     ghost read_none: { (keeper : Self) → only_read keeper keeper };
 
-    /// Two calls that read only are calls that read only.
+    /// Two calls in a row that only read count as only reading.
     ghost read_both: { (first middle last : Self)
         → only_read first middle → only_read middle last → only_read first last };
 
-    /// The count is the number of the records.
+    /// The count is the number of records.
     ghost told_held: { (keeper : Self) → IfSome (shown keeper).records
         (λ records. (shown keeper).held ≡ length records) };
 }

@@ -1,12 +1,12 @@
 //! What lies outside the server: where bytes come from, where they go, where records are kept, what
-//! time it is, and what nobody can guess.
+//! time it is, and where random bytes come from.
 //!
-//! Each trait says what a caller may rely on. Its ghost members are what contracts see of a value:
-//! some are optional, and a value that has one is said to tell it. Each trait has an implementation
-//! in memory, which tells all that it does.
+//! Each trait says what a caller may rely on. Its ghost members are what contracts see of a value.
+//! Some of them are optional, and a value that has one is said to report it. Each trait has an
+//! implementation in memory, which reports everything that it does.
 //!
-//! Beside the traits stands what a file of records is on a disk, in any format: what it looks like,
-//! what it is found to be when it is opened, and what is known of a disk with one.
+//! Besides the traits, there is what a file of records is on a disk, in any format: what it looks
+//! like, what it is found to be when it is opened, and what is known of a disk that has one.
 #![tactic(auto)]
 
 mod calm_keepers;

@@ -5,15 +5,15 @@ ghost use Rattle.fedi_outside.specs.Links.{AddsRow, Asking, heard_by};
 
 use crate::Failed;
 
-/// How many bytes of a reply are read: what follows is not.
+/// How many bytes of a reply are read. What follows is not read.
 pub const REPLY_LENGTH: usize = 65_536;
 
-/// Something that sends a request on a connection of its own, and reads the reply.
+/// Something that sends a request on its own connection, and reads the reply.
 pub trait Link {
-    /// The addresses and requests so far, if it tells them.
+    /// The addresses and requests so far, if it reports them.
     ghost asked: { Self → Option (List Asking) };
 
-    /// What was heard of each, if it tells it: the reply that was read, or none.
+    /// What was heard for each of them, if it reports it: the reply that was read, or none.
     ghost heard: { Self → Option (List (Option (List ℕ))) };
 
     /// How many exchanges failed. The count saturates at 2^64 - 1.
@@ -21,7 +21,7 @@ pub trait Link {
 
     /// Sends the request to the address on a new connection, and reads the reply until the other
     /// side closes or `into`, which has room for `REPLY_LENGTH` bytes, is full. The reply is at the
-    /// front of `into`, and its length is the answer. After an error, which it counts, nothing is
+    /// front of `into`, and its length is returned. After an error, which it counts, nothing is
     /// known of what was sent.
     fn exchange(&mut self, address: &str, request: &[u8], into: &mut [u8]) -> Result<usize, Failed>
         requires { length into.old ≡ 65536 }

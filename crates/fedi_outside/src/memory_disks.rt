@@ -14,12 +14,12 @@ use crate::disks::Disk;
 use std::alloc::{AllocError, Global};
 use std::marker::Model;
 
-/// A call that a disk was asked.
+/// A call that was made on a disk.
 #[derive(Drop)]
 pub enum Call {
     /// The size.
     Len,
-    /// A read of so many bytes at this offset.
+    /// A read of this many bytes at this offset.
     Read { at: u64, count: usize },
     /// A write at this offset, and whether it was done.
     Write { at: u64, bytes: Vec<u8>, done: bool },
@@ -27,10 +27,10 @@ pub enum Call {
     Sync { done: bool },
 }
 
-/// A disk in memory that may be made to fail. It tells its bytes and what a crash may leave, keeps
-/// a record of its calls, and counts its faults. A call fails by its plan alone, but for one that
-/// finds no memory for its record, which has no other effect and is not recorded. A write that
-/// fails leaves the bytes as they were.
+/// A disk in memory that can be made to fail. It reports its bytes and what a crash may leave,
+/// keeps a record of its calls, and counts its faults. A call fails if and only if it is planned
+/// to, with one exception: if memory for its record runs out, the call fails, has no other effect
+/// and is not recorded. A failed write leaves the bytes as they were.
 #[derive(Drop)]
 pub struct MemoryDisk {
     alloc: Global,
@@ -60,8 +60,8 @@ impl Model for MemoryDisk {
 }
 
 impl MemoryDisk {
-    /// A disk with these bytes, which count as synced. It fails only if out of memory. The error is
-    /// out of memory.
+    /// A disk with these bytes, which count as synced. It fails only if memory runs out. The error
+    /// is out of memory.
     pub fn new(alloc: Global, bytes: Vec<u8>) -> Result<Self, AllocError>
         ensures { IfOk result (λ disk. disk ≡ fresh_disk bytes.items) }
     {
@@ -76,7 +76,7 @@ impl MemoryDisk {
         })
     }
 
-    /// The same disk, whose calls with these numbers, counted from 0, fail.
+    /// The same disk, except that the calls with these numbers, counted from 0, fail.
     pub fn failing(self, calls: Vec<u64>) -> Self
         ensures { result ≡ record self { failing = calls.items } }
     {
@@ -85,7 +85,7 @@ impl MemoryDisk {
         disk
     }
 
-    /// The same disk, of which all calls from this number on, counted from 0, fail.
+    /// The same disk, except that all calls from this number on, counted from 0, fail.
     pub fn stopping(self, call: u64) -> Self
         ensures { result ≡ record self { stop = Some call } }
     {
@@ -132,8 +132,8 @@ impl MemoryDisk {
     }
 }
 
-// Puts bytes in the place of those at this offset, and past the end. The error is out of memory,
-// and then nothing changes.
+// Writes bytes over those at this offset, and past the end. The error is out of memory, and then
+// nothing changes.
 fn splice(bytes: &mut Vec<u8>, at: usize, from: &[u8]) -> Result<(), AllocError>
     requires { at ≤ length bytes.old.items }
     ensures ok { OnOk result (bytes.new.items ≡ spliced at from.now bytes.old.items) }

@@ -11,7 +11,7 @@ use std::vec::IntoIter;
 /// A row of a door in memory.
 #[derive(Drop)]
 pub enum MemoryRow {
-    /// A line that came back, and as it came.
+    /// A line that came back, and the line as it came.
     Spoken {
         came: Snapshot<MemoryLine>,
         line: MemoryLine,
@@ -20,8 +20,8 @@ pub enum MemoryRow {
     Rested(Rest),
 }
 
-/// A door in memory that gives these turns, and is closed after them. It tells its rows, and counts
-/// the turns that failed.
+/// A door in memory that gives these turns, and is closed after them. It reports its rows, and
+/// counts the turns that failed.
 #[derive(Drop)]
 pub struct MemoryDoor {
     turns: IntoIter<Turn<MemoryLine>>,
@@ -48,8 +48,8 @@ impl Model for MemoryDoor {
       faults = d.faults;
     } };
 
-    // Each line that is to come is new, and there is room for a row of each turn to come and of the
-    // one that is open.
+    // Each line to come is new, and there is room for one row for each turn to come and for the
+    // open turn.
     ghost invariant = { λ d. All IsNewTurn (into_iter_items d.turns)
         × (length d.rows.items + owed d.out d.idle + length (into_iter_items d.turns)
         ≤ vec_capacity d.rows) };

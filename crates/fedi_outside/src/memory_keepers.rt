@@ -13,8 +13,8 @@ use crate::plans::FaultPlan;
 use std::alloc::Global;
 use std::marker::Model;
 
-/// A keeper in memory that may be made to fail. It tells its records and counts its faults. Only
-/// `reserve` and `load` take memory. A failed append leaves its record in doubt.
+/// A keeper in memory that can be made to fail. It reports its records and counts its faults. Only
+/// `reserve` and `load` allocate memory. A failed append leaves its record in doubt.
 #[derive(Drop)]
 pub struct MemoryKeeper {
     keeper: CalmKeeper,
@@ -38,7 +38,7 @@ impl MemoryKeeper {
         MemoryKeeper::at(alloc, 0)
     }
 
-    /// A keeper with no records, whose end is this. It does not fail.
+    /// A keeper with no records and this end. It does not fail.
     pub fn at(alloc: Global, end: u64) -> Self
         ensures keeper { result.keeper ≡ no_records end }
         ensures plan { result.plan ≡ no_faults }
@@ -49,8 +49,8 @@ impl MemoryKeeper {
         }
     }
 
-    /// The same keeper, whose calls with these numbers fail. All calls of `load`, `settle` and
-    /// `append` are counted, from 0.
+    /// The same keeper, except that the calls with these numbers fail. All calls of `load`,
+    /// `settle` and `append` are counted, from 0.
     pub fn failing(self, calls: Vec<u64>) -> Self
         ensures { result ≡ record self { plan = record self.plan { failing = calls.items } } }
     {

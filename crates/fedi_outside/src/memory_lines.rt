@@ -4,7 +4,7 @@ ghost use Rattle.std.proofs.Common.{refl};
 
 use crate::{Failed, Line, MemorySink, MemorySource, Sink, Source};
 
-/// A connection over bytes in memory: it is read from the one, and written to the other.
+/// A connection over bytes in memory: it reads from the source, and writes to the sink.
 #[derive(Drop)]
 pub struct MemoryLine {
     pub source: MemorySource,

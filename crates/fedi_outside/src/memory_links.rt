@@ -26,9 +26,9 @@ pub enum Heard {
     Reply(Vec<u8>),
 }
 
-/// A link in memory, which gives these replies in order, and may be made to fail; without any more
-/// it fails. It tells what it was asked and what was heard, unless it finds no memory for that:
-/// then it fails, and tells nothing from then on.
+/// A link in memory that gives these replies in order, and can be made to fail. It also fails when
+/// no reply is left. It reports what it was asked and what was heard. If memory for that runs out,
+/// it fails, and reports nothing from then on.
 #[derive(Drop)]
 pub struct MemoryLink {
     replies: Vec<Vec<u8>>,
@@ -88,7 +88,7 @@ fn note_heard(
     Ok(())
 }
 
-// Puts the reply at the front, as far as there is room.
+// Copies as much of the reply as there is room for to the front.
 fn give(reply: &[u8], into: &mut [u8]) -> usize
     ensures within { result ≤ length into.new }
     ensures room { length into.new ≡ length into.old }
@@ -98,7 +98,7 @@ fn give(reply: &[u8], into: &mut [u8]) -> usize
     count
 }
 
-// What the exchange of this number gives.
+// What the exchange with this number gives.
 fn answer(
     replies: &[Vec<u8>],
     number: usize,
@@ -141,8 +141,8 @@ impl MemoryLink {
         }
     }
 
-    /// The same link, whose exchanges with these numbers, counted from 0, fail. Their replies are
-    /// skipped.
+    /// The same link, except that the exchanges with these numbers, counted from 0, fail. Their
+    /// replies are skipped.
     pub fn failing(self, exchanges: Vec<u64>) -> Self
         ensures { result ≡ record self { plan = record self.plan { failing = exchanges.items } } }
     {
@@ -151,7 +151,7 @@ impl MemoryLink {
         link
     }
 
-    /// What it was asked, in order, unless it found no memory for that.
+    /// What it was asked, in order, unless memory for that ran out.
     pub fn asked(&self) -> &[Asked]
         ensures { result.now ≡ self.now.asked.items }
     {

@@ -23,7 +23,7 @@ impl Model for FaultPlan {
 }
 
 impl FaultPlan {
-    /// A plan by which no call fails.
+    /// A plan in which no call fails.
     pub fn new(alloc: Global) -> Self
         ensures { result ≡ no_faults }
     {
@@ -48,7 +48,7 @@ impl FaultPlan {
         self.calls
     }
 
-    /// Counts a call, and says whether it is to fail: then its fault is counted too.
+    /// Counts a call, and returns whether it is to fail. If it is, its fault is counted too.
     pub fn next_fails(&mut self) -> bool
         ensures answer { result ≡ is_to_fail self.old }
         ensures after { self.new ≡ after_call self.old }
@@ -69,7 +69,7 @@ impl FaultPlan {
     }
 }
 
-/// How many bytes one call moves if there is room for so many. A limit of 0 counts as 1.
+/// How many bytes one call moves if there is room for this many. A limit of 0 counts as 1.
 pub(crate) fn allowed(limit: Option<usize>, room: usize) -> usize
     ensures value { result ≡ moved limit room }
     ensures within { result ≤ room }

@@ -14,13 +14,13 @@ use std::marker::Model;
 
 /// Something that bytes are written to.
 pub trait Sink {
-    /// The bytes that were written, if it tells them.
+    /// The bytes that were written, if it reports them.
     ghost sent: { Self → Option (List ℕ) };
 
     /// How many writes failed. The count saturates at 2^64 - 1.
     ghost write_faults: { Self → ℕ };
 
-    /// A further meaning that a write leaves as it was: of a connection, what is to be read from it
+    /// Further state that a write leaves unchanged: for a connection, what is to be read from it
     /// and its count of failed reads.
     ghost beside_sink: { Self → Option (List ℕ) × ℕ };
 
@@ -35,9 +35,9 @@ pub trait Sink {
         ensures cause { HasCause (write_faults self.old) (write_faults self.new) result };
 }
 
-/// A sink that keeps what is written in memory, and may be made to take little at once and to fail.
-/// It tells its bytes and counts its faults. A write for which there is room fails by its plan
-/// alone; one that needs more room, and finds no memory for it, fails too.
+/// A sink that keeps what is written in memory. It can be made to take only a few bytes at once and
+/// to fail. It reports its bytes and counts its faults. A write for which there is room fails if
+/// and only if it is planned to. A write that needs more room also fails if memory runs out.
 #[derive(Drop)]
 pub struct MemorySink {
     bytes: Vec<u8>,
@@ -60,7 +60,7 @@ impl Model for MemorySink {
 }
 
 impl MemorySink {
-    /// An empty sink that takes all that it is given, and fails only if out of memory.
+    /// An empty sink that takes all that it is given, and fails only if memory runs out.
     pub fn new(alloc: Global) -> Self
         ensures sent { result.sent ≡ [] }
         ensures limit { result.limit ≡ None }
@@ -73,7 +73,7 @@ impl MemorySink {
         }
     }
 
-    /// The same sink, whose writes each take at most this many bytes, of which a 0 counts as 1.
+    /// The same sink, except that each write takes at most this many bytes; a 0 counts as 1.
     pub fn limited(self, limit: usize) -> Self
         ensures { result ≡ record self { limit = Some limit } }
     {
@@ -82,7 +82,7 @@ impl MemorySink {
         sink
     }
 
-    /// The same sink, whose writes with these numbers, counted from 0, fail.
+    /// The same sink, except that the writes with these numbers, counted from 0, fail.
     pub fn failing(self, calls: Vec<u64>) -> Self
         ensures { result ≡ record self { plan = record self.plan { failing = calls.items } } }
     {
@@ -91,7 +91,7 @@ impl MemorySink {
         sink
     }
 
-    /// The same sink, with room for so many bytes in all, those that were written among them. The
+    /// The same sink, with room for this many bytes in all, including those already written. The
     /// error is out of memory.
     pub fn with_room(self, bytes: usize) -> Result<Self, AllocError>
         ensures room { IfOk result (λ sink. bytes ≤ sink.capacity) }

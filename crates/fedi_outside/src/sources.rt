@@ -14,18 +14,19 @@ use std::marker::Model;
 
 /// Something that bytes are read from.
 pub trait Source {
-    /// The bytes to come, if it tells them.
+    /// The bytes to come, if it reports them.
     ghost left: { Self → Option (List ℕ) };
 
     /// How many reads failed. The count saturates at 2^64 - 1.
     ghost read_faults: { Self → ℕ };
 
-    /// A further meaning that a read leaves as it was: of a connection, what was sent on it and its
+    /// Further state that a read leaves unchanged: for a connection, what was sent on it and its
     /// count of failed writes.
     ghost beside_source: { Self → Option (List ℕ) × ℕ };
 
-    /// Writes the next bytes to the front of `into`, and returns how many. 0 for an `into` that is
-    /// not empty is the end of the input. After an error the bytes to come are as before.
+    /// Writes the next bytes to the front of `into`, and returns how many. A result of 0 for an
+    /// `into` that is not empty means the end of the input. After an error the bytes to come are as
+    /// before.
     fn read(&mut self, into: &mut [u8]) -> Result<usize, Failed>
         ensures bound { ReadsAtMost result into.new }
         ensures bytes { ReadConsumes (left self.old) (left self.new) result into.new }
@@ -34,7 +35,7 @@ pub trait Source {
         ensures cause { HasCause (read_faults self.old) (read_faults self.new) result };
 }
 
-/// A source over bytes in memory that never fails, and tells its bytes. Its count of faults is 0.
+/// A source over bytes in memory that never fails, and reports its bytes. Its count of faults is 0.
 #[derive(Drop)]
 pub struct CalmSource {
     bytes: Vec<u8>,
@@ -92,7 +93,7 @@ impl Source for CalmSource {
     }
 }
 
-/// A source over bytes in memory, which may be made to give them in pieces and to fail. It tells
+/// A source over bytes in memory that can be made to give them in pieces and to fail. It reports
 /// its bytes and counts its faults.
 #[derive(Drop)]
 pub struct MemorySource {
@@ -123,9 +124,9 @@ impl MemorySource {
         }
     }
 
-    /// The same source, whose read with the number `k`, counted from 0 and with those that fail,
-    /// gives at most `pieces[k]` bytes, of which a 0 counts as 1. A read that has no piece gives as
-    /// much as there is room for.
+    /// The same source, except that the read with the number `k` gives at most `pieces[k]` bytes; a
+    /// 0 counts as 1. Reads are counted from 0, including those that fail. A read without a piece
+    /// gives as much as there is room for.
     pub fn cut(self, pieces: Vec<usize>) -> Self
         ensures { result ≡ record self { pieces = pieces.items } }
     {
@@ -134,7 +135,7 @@ impl MemorySource {
         source
     }
 
-    /// The same source, whose reads with these numbers, counted from 0, fail.
+    /// The same source, except that the reads with these numbers, counted from 0, fail.
     pub fn failing(self, calls: Vec<u64>) -> Self
         ensures { result ≡ record self { plan = record self.plan { failing = calls.items } } }
     {

@@ -1,13 +1,13 @@
-//! What a door gives, and what it is told.
+//! What a door gives, and what is reported to it.
 
 /// What a door gives.
 #[derive(Drop)]
 pub enum Turn<L> {
     /// A connection, which is to be handed back.
     Line(L),
-    /// No connection waits. The door is to be told what was done.
+    /// No connection waits. What is done meanwhile is to be reported to the door.
     Idle,
-    /// There will be no connection any more.
+    /// There will be no more connections.
     Closed,
     /// The door failed, and has counted it.
     Failed,
@@ -18,7 +18,7 @@ pub enum Turn<L> {
 pub enum Rest {
     /// A delivery was tried.
     Tried {
-        /// The place of its claim in the log.
+        /// The position of its claim in the log.
         claimed: u64,
     },
     /// No delivery was due.
@@ -28,6 +28,6 @@ pub enum Rest {
         /// The moment, in seconds since 1970-01-01T00:00:00Z.
         moment: u64,
     },
-    /// Nothing is told of what was done.
+    /// What was done is not reported.
     Lost,
 }

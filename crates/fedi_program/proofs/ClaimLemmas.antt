@@ -59,13 +59,13 @@ claimed_first {P} m before after rows c legal queue none same is row_is there =
       moment = sym (ap (λ (x : Claim). x.moment) row.2);
     }
 
--- there is no claim exactly where nothing is due
+-- there is no claim exactly if nothing is due
 pub claimed_none : (history : List Entry) (m : ℕ) (rows : List QueueRow) → IsLegal history → map release rows ≡ rows_of (town history) → claims_in rows ≡ 0
     → None ≡ option_map (claim_of m) (find (is_free_at m) rows) → due_in (town history) m ≡ []
 claimed_none history m rows legal same none is =
     none_due history m rows legal same (none-of-none (filter is_claimed rows) none) (mapped_none (claim_of m) (find (is_free_at m) rows) is)
 
--- ---- the machine that has claimed is the machine before, but for its rows
+-- ---- the machine that has claimed is the machine before, except for its rows
 
 pub trial_first : {P : Type 0} (shown : P → KeeperState) (growth room : ℕ → ℕ) (m : ℕ) (before after : Machine P) (rows : List QueueRow) (c : Claim) (next : State) (asked heard : Told)
     (first now : Output) (result : Result (Unit {0}) Stop) → after ≡ record before { rows = rows } → c.moment ≡ m

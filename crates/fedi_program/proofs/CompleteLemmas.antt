@@ -1,4 +1,4 @@
--- Nothing keeps a run from being done where no call fails, and what its task asks for is possible.
+-- If no call fails, and what the task asks for is possible, nothing keeps a run from being done.
 use Rattle.std.proofs.Common.{◌≡◌, ◌⊎◌, ◌≤◌, ◌<◌, ◌+◌, ◌^◌, ◌-◌, ℕ, Bool, true, false, List, [], ◌∷◌, length, max, min, slice_index_or, Option, Some, None, IfSome, arith, inl, inr, refl, sym, ap, subst, ◌∙◌}
 use Rattle.fedi_address.specs.Hosts.{IsHost}
 use Rattle.fedi_address.specs.Names.{is_name}
@@ -82,13 +82,13 @@ found_end : (disk : DiskState) (history : List Entry) (s : State) → HasStore d
 found_end disk history s has opens =
     of_some disk.reads (λ _. s.keeper.end ≡ end_of s.history) opens.end has.0 has.1 ∙ ap end_of (found disk history s has opens)
 
--- its keeper counted no fault if the disk did not
+-- its keeper counted no fault if the disk counted none
 keeper_calm : (before after : Medium) (opened closed : State) (log : Log) → IsServed before after opened closed log
     → IsCalm before.shown.faults after.shown.faults → IsCalm opened.keeper.faults closed.keeper.faults
 keeper_calm before after opened closed log served calm rose =
     calm (subst (λ (n : ℕ). Rose n after.shown.faults) served.opens.faults (subst (λ (n : ℕ). Rose opened.keeper.faults n) served.closes.faults rose))
 
--- a store that is there and was not opened: memory ran out
+-- a store exists and was not opened: memory ran out
 not_opened : (fault : StoreFault) (before after : DiskState) (history : List Entry) → HasStore before history → IsCalm before.faults after.faults
     → ComesBack fault before after → fault ≡ faults.Memory
 not_opened faults.NotAStore before after history (bytes, told, store) calm back =
@@ -106,7 +106,7 @@ by_status : (task : Task) (fault : StoreFault) (before after : Medium) (history 
 by_status task fault before after history status has calm refused is =
     inr (inl (is ∙ ap status_by (not_opened fault before.shown after.shown history has calm refused.back)))
 
--- also where it is told
+-- also if it is reported
 by_told : (task : Task) (fault : StoreFault) (before after : Medium) (history : List Entry) (first now : Output) (status : ℕ) → HasStore before.shown history
     → IsCalm before.shown.faults after.shown.faults → IsRefused before after fault → ReportsStore fault first now status → IsDone task status
 by_told task fault before after history first now status has calm refused told =
@@ -144,7 +144,7 @@ kept task before after first now e line status unbroken fits calm writes (inl (c
     absurd (calm (settled_rose before.keeper unmade.0 after unmade.2.1.1.faults unmade.3))
 kept task before after first now e line status unbroken fits calm writes (inl (commands.Memory, unmade, told)) = inr (inl told.0)
 
--- so over the store of a disk
+-- the same over the store of a disk
 kept_in_store : (task : Task) (before after : Medium) (history : List Entry) (opened closed : State) (log : Log) (first now : Output) (e : Entry) (line : List ℕ) (status : ℕ)
     → HasStore before.shown history → IsServed before after opened closed log → IsCalm before.shown.faults after.shown.faults → IsCalm first.faults now.faults
     → CanBeKept history e → EndsWith growth room opened closed first now e line status → IsDone task status
@@ -270,7 +270,7 @@ inetd_done told before after first now was is status (inr (opened, closed, log, 
 inetd_done told before after first now was is status (inr (opened, closed, log, served, (sessions.Memory, status_is, ran))) causes calm reads writes history has =
     inr (inl status_is)
 
--- an element of a list that has one
+-- an element of a list that is long enough
 one_of : {A : Type 0} (xs : List A) (k : ℕ) → k < length xs → A
 one_of [] k within = absurd (omega (arith, within))
 one_of (x ∷ xs) k within = x
@@ -316,7 +316,7 @@ exported_done table before after first now status (inr (opened, _, _, inr (inr m
 
 -- ---- each task
 
--- so of the task that the arguments ask for
+-- the same for the task that the arguments ask for
 pub asked_complete : (asked : Option Task) (task other : Task) (told : Option ℕ) (before now : Outside) (status : ℕ) → Some task ≡ asked
     → IsComplete task told before now status → asked ≡ Some other → IsComplete other told before now status
 asked_complete asked task other told before now status is complete some =
@@ -324,7 +324,7 @@ asked_complete asked task other told before now status is complete some =
     let tasks : task ≡ other = cc same in
     subst (λ (t : Task). IsComplete t told before now status) tasks complete
 
--- one that only prints
+-- a task that only prints
 pub prints_complete : (task : Task) (told : Option ℕ) (disk after : DiskState) (chance left : Chance) (reads later : ℕ) (first now : Output) (text : List ℕ) (status : ℕ)
     → Prints first now text status
     → IsComplete task told (outside_of disk chance (faults_of reads first.faults)) (outside_of after left (faults_of later now.faults)) status

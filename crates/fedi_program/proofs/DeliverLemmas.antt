@@ -94,8 +94,8 @@ exchanges-more tried x =
 
 -- ---- while there is more to try
 
--- the first of the deliveries that were due were tried, those are left that are due now, and the
--- line of each is printed
+-- the first of the deliveries that were due were tried, those that are due now are left, and the
+-- line of each trial is printed
 pub record IsTrying (growth room : ℕ → ℕ) (moment : ℕ) (opened now : State) (asked heard : Told) (first out : Output) : Type 0 where
   pub tried : List Trial
   pub each : TriesEach growth room moment opened tried now
@@ -106,7 +106,7 @@ pub record IsTrying (growth room : ℕ → ℕ) (moment : ℕ) (opened now : Sta
 pub trying_first : (growth room : ℕ → ℕ) (moment : ℕ) (opened : State) (link : Told) (out : Output) → Writes out out [] → IsTrying growth room moment opened opened link link out out
 trying_first growth room moment opened link out nothing = record { tried = []; each = refl; due = refl; exchanged = exchanged_none link; written = nothing }
 
--- what one trial leaves, but for its line
+-- what one trial leaves, except for its line
 record TriedOn (growth room : ℕ → ℕ) (moment : ℕ) (opened next : State) (asked later : Told) (tried : List Trial) (rest : List Delivery) (x : Trial) : Type 0 where
   each : TriesEach growth room moment opened (tried ++ x ∷ []) next
   due : AreFirst (due_in (town opened.history) moment) (tried ++ x ∷ []) rest
@@ -146,7 +146,7 @@ each-grown growth room moment opened now (x ∷ xs) each =
     let one : length each.0.history ≡ length opened.history + 1 = ap length each.2.history ∙ length-append opened.history (entry_of moment x ∷ []) in
     omega (arith, rest, one)
 
--- one delivery that was claimed was tried, and the others are left
+-- one claimed delivery was tried, and the others are left
 pub trial_more : (growth room : ℕ → ℕ) (moment : ℕ) (opened now next : State) (asked heard later : Told) (first out after : Output) (id recipient : List ℕ) (d : Delivery) (rest : List Delivery)
     (done : Unit {0}) → IsTrying growth room moment opened now asked heard first out → due_in (town now.history) moment ≡ d ∷ rest → IsTo id recipient d → IsLegal next.history
     → EndsTrial growth room moment id recipient now next heard later out after (Ok done)
@@ -165,11 +165,11 @@ trying_grown growth room moment opened now asked heard first out t = let grown =
 
 -- ---- how it ends
 
--- no exchange is beyond those of the trials
+-- there is no exchange beyond those of the trials
 none-beyond : (asked heard : Told) (tried : List Trial) → HasExchanged asked heard (exchanges_of tried) → HasExchanged asked heard (exchanges_of tried ++ [])
 none-beyond asked heard tried e = subst (HasExchanged asked heard) (sym (append-nil (exchanges_of tried))) e
 
--- nothing is left that is due, and the last line was printed, or that write failed
+-- nothing that is due is left, and the last line was printed, or that write failed
 pub trying_done : (growth room : ℕ → ℕ) (told : Option ℕ) (moment count : ℕ) (opened now : State) (asked heard : Told) (first out last : Output) (status : ℕ) → IsNow told moment
     → IsTrying growth room moment opened now asked heard first out → due_in (town now.history) moment ≡ [] → count ≡ length now.history - length opened.history
     → Prints out last (done_line count) status → TriesDue growth room told opened now asked heard first last status
@@ -209,7 +209,7 @@ trying_none growth room told moment opened link out status is_now is nothing = r
   ends = inr (inr (inr (is, refl, record { records = refl; held = refl; doubt = refl; end = refl; faults = refl }, nothing, inl refl)));
 }
 
--- one more attempt was not kept, or not told
+-- the result of one more attempt was not kept, or not reported
 pub trying_stopped : (growth room : ℕ → ℕ) (told : Option ℕ) (moment : ℕ) (opened now refused after : State) (asked heard later : Told) (first out mid last : Output)
     (id recipient : List ℕ) (d : Delivery) (rest : List Delivery) (stop : Stop) (status : ℕ) → IsNow told moment
     → IsTrying growth room moment opened now asked heard first out → due_in (town now.history) moment ≡ d ∷ rest → IsTo id recipient d
@@ -369,7 +369,7 @@ pub trial_survives : (b : Base) (seen : Log) (x : Crashes) (before after : Stand
     → SurvivesTurn b.growth before after → SurvivesMarked b None seen after.state x after.crashes
 trial_survives b seen x before after was turn = (was.0 ++ items_of None turn.0, survives_more b None seen was.0 x before after turn.0 was.1 turn.1)
 
--- whatever the trial left, the machine stands for a log
+-- whatever the trial left, the machine represents a log
 pub stopped_survives : (b : Base) (room : ℕ → ℕ) (seen : Log) (x : Crashes) (before refused after : Standing) (stop : Stop) (first now : Output) (status : ℕ)
     → SurvivesMarked b None seen before.state x before.crashes → TrialSurvives b.growth room before refused (Err stop)
     → IsStopped stop refused.state after.state first now status

@@ -141,8 +141,8 @@ written_is before now text written first last adds =
     subst (λ (b : Option (List ℕ)). Appends b (Some text) written) first
     (subst (λ (n : Option (List ℕ)). Appends before n written) last adds)
 
--- All requests were answered, by a machine that was opened on the store of a disk and closed, and
--- the disk did not fail.
+-- All requests were answered, by a machine that was opened on the store of a disk and then closed,
+-- and the disk did not fail.
 pub visited : (history : List Entry) (input text : List ℕ) (disk left : MemoryDiskState)
     (crashes : DiskCrashes) (opened closed : State) (log : Log) (first now : Scene) (status : ℕ)
     → HasStore history disk → IsOpened (disk_shown disk) opened
@@ -243,7 +243,7 @@ visited history input text disk left crashes opened closed log first now status 
     some : closed.history ≢ []
     some = (leaves_stores (disk_shown left) crashes opened closed log opens.some goes closes).some
 
--- the same of a session that ended so, at a moment that is that of the demonstration
+-- the same for a session that ended this way, at the moment of the demonstration
 pub session_visited : (history : List Entry) (input text : List ℕ) (disk left : MemoryDiskState)
     (crashes : DiskCrashes) (opened closed : State) (log : Log) (first now : Scene)
     (ending : SessionEnd) (at : ℕ) → HasStore history disk → IsOpened (disk_shown disk) opened
@@ -265,7 +265,7 @@ pub one_more_some : (history : List Entry) (e : Entry) → (history ++ e ∷ [])
 one_more_some [] e = λ is. absurd (cc is)
 one_more_some (f ∷ history) e = λ is. absurd (cc is)
 
--- with one more member the history has those of one more number
+-- with one more member the history is the one for the next count
 pub one_more_member : (h : List Entry) (e : Entry) (count : ℕ) → h ≡ set_up ∷ members count
     → e ≡ member count → h ++ e ∷ [] ≡ set_up ∷ members (count + 1)
 one_more_member h e count is same =
@@ -274,7 +274,7 @@ one_more_member h e count is same =
     ∙ ap (λ (x : Entry). (set_up ∷ members count) ++ x ∷ []) same
     ∙ ap (λ (n : ℕ). set_up ∷ members n) number
 
--- with all members and the peer it is that before the first request
+-- with all members and the peer it is the history before the first request
 pub all_founded : (h : List Entry) (e : Entry) (count : ℕ) → h ≡ set_up ∷ members count → count ≡ 8
     → e ≡ far_peer → h ++ e ∷ [] ≡ founding
 unfolding founding
@@ -294,7 +294,7 @@ pub founding_some : founding ≢ []
 unfolding founding
 founding_some = one_more_some (set_up ∷ members 8) far_peer
 
--- a disk that is calm has the store that it has if it is calm
+-- a calm disk has the store that it has whenever it is calm
 pub calm_store : {E : Type 0} (r : Result MemoryDiskState E) (history : List Entry)
     (disk : MemoryDiskState) → IfOk r (λ calm. (calm ≡ disk) × (disk.faults ≡ 0))
     → (disk.faults ≡ 0 → HasStore history disk) → IfOk r (λ calm. HasStore history calm)

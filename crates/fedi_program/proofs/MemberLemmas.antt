@@ -1,5 +1,5 @@
 -- What the making of a member or a peer leaves: a status that it may end with, and a machine that
--- stands for a log.
+-- represents a log.
 use Rattle.std.proofs.Common.{◌≡◌, ◌⊎◌, ℕ, Bool, true, false, if◌then◌else◌, List, length, ◌++◌, Option, None, Some, Result, Ok, Err, OnOk, OnErr, inl, inr, refl, sym, ap, subst, ◌∙◌}
 use Rattle.std.specs.List.{list_any}
 use Rattle.fedi_core.specs.Commands.{IsCommand}
@@ -35,7 +35,7 @@ use Rattle.fedi_logged.proofs.Turning.{IsUnkept, failed_turn}
 
 -- ---- the status
 
--- a command ended so: each status that this may be is one of the task
+-- a command ended this way: each status that it may have is one of the task
 fault_status : (task : Option Task) (fault : CommandFault) (first now : Output) (status : ℕ)
     → is_status_of task 5 ≡ true → is_status_of task 10 ≡ true → is_status_of task 12 ≡ true → is_status_of task 13 ≡ true
     → ReportsFault fault first now status → is_status_of task status ≡ true
@@ -79,7 +79,7 @@ adds_status told before after chance left first now name locked status (inr (ope
 
 -- ---- a keeper that failed was asked to settle
 
--- and did: then nothing is in doubt
+-- and it did: then nothing is in doubt
 pub settled_turn : (growth room : ℕ → ℕ) (before refused after : Standing) (e : Entry) → refused.state.history ≡ before.state.history → IsNext (town before.state.history) e
     → IsUnkept room before refused e keeps.Failed → after.state.history ≡ refused.state.history
     → after.state.keeper ≡ record refused.state.keeper { doubt = None }
@@ -98,7 +98,7 @@ settled_turn growth room before refused after e same next k still settled time =
       may_fail = next;
     }
 
--- and failed again, which is one fault more
+-- and it failed again, which is one more fault
 pub failed_again : (growth : ℕ → ℕ) (refused after : Standing) (e : Entry) → IsNext (town refused.state.history) e → after.state.history ≡ refused.state.history
     → after.state.keeper ≡ after_fault refused.state.keeper
     → PassesTime refused.state.keeper.records refused.state.keeper.doubt refused.crashes after.crashes → Turns growth refused after (Failed e)
@@ -116,7 +116,7 @@ failed_again growth refused after e next still failed time =
       may_fail = next;
     }
 
--- whatever becomes of it, the machine stands for a log that marks the failures
+-- whatever the result, the machine represents a log that marks the failures
 pub settling_survives : {T E : Type 0} (b : Base) (room : ℕ → ℕ) (before refused after : Standing) (e : Entry) (settled : Result T E)
     → b.kept ≡ length before.state.history → b.shown ≡ before.state.keeper → LeavesRecords before.state.keeper before.crashes
     → refused.state.history ≡ before.state.history → IsNext (town before.state.history) e → IsUnkept room before refused e keeps.Failed
@@ -133,18 +133,18 @@ settling_survives b room before refused after e (Err x) kept shown now same next
           (failed_again b.growth refused after e (subst (λ (h : List Entry). IsNext (town h) e) (sym same) next) still failed time),
     )
 
--- and what was in doubt is settled, or as it was
+-- and what was in doubt is settled, or still in doubt as it was
 pub settles : {T E : Type 0} (refused after : State) (settled : Result T E) → after.history ≡ refused.history
     → OnOk settled (after.keeper ≡ record refused.keeper { doubt = None }) → OnErr settled (after.keeper ≡ after_fault refused.keeper) → IsSettled refused after
 settles refused after (Ok x) still done failed = (still, inl done)
 settles refused after (Err x) still done failed = (still, inr failed)
 
--- a machine to which nothing was done stands for the log of its history
+-- a machine to which nothing was done represents the log of its history
 pub unmoved : (growth room : ℕ → ℕ) (s : State) (crashes : Crashes) → LeavesRecords s.keeper crashes
     → SurvivesMarked (base_of growth room s) None (given s.history) s crashes crashes
 unmoved growth room s crashes now = (given s.history, survives_first (base_of growth room s) None s crashes refl refl now)
 
--- a command that breaks a rule was refused for it
+-- a command that breaks a rule was refused for that
 pub broken_unmade : (room : ℕ → ℕ) (s : State) (e : Entry) (fault : CommandFault) → IsCommand (town s.history) e → broken_command (town s.history) e ≡ Some fault
     → IsUnmade room s s e fault
 broken_unmade room s (Hosted host moment) fault command is = absurd command

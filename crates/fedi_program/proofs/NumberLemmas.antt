@@ -38,7 +38,7 @@ all_digits (c ∷ word) all =
 decimal_digits : (word : List ℕ) → is_decimal word ≡ true → list_all is_ascii_digit word ≡ true
 decimal_digits word decimal = grind (arith, nat_tests)
 
--- it has room in 16 bits
+-- it fits in 16 bits
 pub short_number : (word : List ℕ) → is_decimal word ≡ true → length word ≤ 4
     → digits_value 10 word < 2 ^ 16
 short_number word decimal short =

@@ -1,4 +1,4 @@
--- A number has one demonstration.
+-- A number has at most one demonstration.
 use Rattle.std.proofs.Common.{
   ◌≡◌,
   ℕ,

@@ -98,7 +98,7 @@ refused_status (faults.DamagedRecord place) = refl
 refused_status faults.Failed = refl
 refused_status faults.Memory = refl
 
--- it is told that a store is not opened
+-- it is reported that a store is not opened
 pub told_status : (task : Option Task) (fault : StoreFault) (first now : Output) (status : ℕ) → is_status_of task 3 ≡ true → is_status_of task 4 ≡ true
     → is_status_of task 5 ≡ true → is_status_of task 12 ≡ true → ReportsStore fault first now status → is_status_of task status ≡ true
 told_status task faults.NotAStore first now status three four five twelve told = known_status task status 3 three told.0
@@ -146,7 +146,7 @@ no_calm status zero six eight (inl e) = zero e
 no_calm status zero six eight (inr (inl e)) = six e
 no_calm status zero six eight (inr (inr e)) = eight e
 
--- a session that ended so, with its cause, gives its status with the causes of that
+-- a session that ended this way, with its cause, gives its status with the causes of that status
 pub has_causes : (before now : Faults) (ending : SessionEnd) (status : ℕ) → status ≡ status_of ending → IsCaused before now ending → HasCauses before now status
 has_causes before now End status is caused =
     rw (is, caused) (record { reads = refl; writes = inl refl; failed = λ e. absurd (not_seven 0 (λ z. omega (arith, z)) e); calm = λ _. refl })

@@ -127,7 +127,7 @@ pub ran_alone : (start found later : DiskState) (before middle after : DiskCrash
 ran_alone start found later before middle after opened closed log count opens records same before_now left only survives closes =
     (log, served_alone start found later before middle after opened closed log count opens records same before_now left only survives closes)
 
--- a machine that was opened, and closed before it did anything, for want of memory
+-- a machine that was opened, and closed before it did anything, because memory ran out
 pub given_up : (start found : DiskState) (before middle : DiskCrashes) (opened : State) → IsOpened start opened → IsClosed found middle opened → IsUntouched start found before middle
     → IsRefused (record { shown = start; crashes = before }) (record { shown = found; crashes = middle }) faults.Memory
 given_up start found before middle opened opens closes same = record {
@@ -142,7 +142,7 @@ given_up start found before middle opened opens closes same = record {
 pub not_asked : (shown : DiskState) (crashes : DiskCrashes) → KeepsOther shown shown crashes crashes
 not_asked shown crashes = λ bytes is other. untouched_now shown crashes
 
--- The host whose text was read is the text that was given.
+-- The host that was read is the text that was given.
 pub making_ends : {D : Type 0} (shown : D → DiskState) (crashes : D → DiskCrashes) (told : Option ℕ) (before after : D) (first now : Output)
     (host other : List ℕ) (moment status : ℕ) → other ≡ host → IsHost other → IsNow told moment
     → LeavesAtMost (code_of (Hosted other moment)) (shown before).reads (crashes before) (crashes after)

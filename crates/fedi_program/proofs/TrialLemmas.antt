@@ -21,7 +21,7 @@ use Rattle.fedi_logged.specs.Attempts.{Exchange, HasExchanged, ShowsCame}
 use Rattle.fedi_program.specs.Delivering.{EndsTrial, TrialSurvives, stop_of}
 use Rattle.fedi_logged.proofs.Attempts.{shown_begun}
 
--- what came of it was not kept
+-- its result was not kept
 pub trial_refused : (growth room : ℕ → ℕ) (moment : ℕ) (id recipient : List ℕ) (before after : State) (asked heard : Told) (out : Output) (exchanges : List Exchange) (came : Came)
     (fault : RecordFault) → ShowsCame (town before.history) id recipient exchanges came → HasExchanged asked heard exchanges → after.history ≡ before.history
     → Refuses room (code_of (Tried id recipient came moment)) (keep_fault fault) before.keeper after.keeper

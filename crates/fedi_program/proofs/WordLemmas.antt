@@ -7,13 +7,13 @@ use Rattle.std.specs.Option.{option_and_then}
 use Rattle.fedi_program.specs.Commands.{Reading, Row, is_flag, is_position, positions_of, read, read_by, row_by, row_of}
 use Rattle.fedi_program.specs.declared.words.Row as coded
 
--- how often the flag is there, which was there already or not
+-- how often the flag occurs, given whether it occurred before
 abbrev counted : Bool → ℕ → ℕ
 counted false n = n
 counted true n = suc n
 
--- what is read where these are the positions so far, the flag was there or not, and these words are
--- left
+-- what is read if these are the positional arguments so far, the flag occurred or not, and these
+-- words are left
 abbrev pub answer : Row → List (List ℕ) → Bool → List (List ℕ) → Option Reading
 answer row ps flagged rest =
     if (length (ps ++ positions_of row.flag rest) == row.positions) && list_all is_position (ps ++ positions_of row.flag rest)
@@ -25,7 +25,7 @@ answer row ps flagged rest =
 pub begins : (row : Row) (words : List (List ℕ)) → answer row [] false words ≡ read_by words row
 begins row words = refl
 
--- the flag, which was not there yet
+-- the flag, which did not occur before
 pub flag_first : (row : Row) (ps : List (List ℕ)) (flagged : Bool) (w : List ℕ) (left rest : List (List ℕ)) → left ≡ w ∷ rest → flagged ≡ false
     → is_flag row.flag w ≡ true → answer row ps flagged left ≡ answer row ps true rest
 flag_first row ps flagged w left rest at first is = rw (at, first, is) refl
@@ -38,7 +38,7 @@ and_false true true = refl
 and_false true false = refl
 and_false false b = refl
 
--- and which was
+-- the flag, which did occur before
 pub flag_twice : (row : Row) (ps : List (List ℕ)) (flagged : Bool) (w : List ℕ) (left rest : List (List ℕ)) → left ≡ w ∷ rest → flagged ≡ true
     → is_flag row.flag w ≡ true → answer row ps flagged left ≡ None
 flag_twice row ps flagged w left rest at first is =
@@ -50,7 +50,7 @@ pub position_next : (row : Row) (ps : List (List ℕ)) (flagged : Bool) (w : Lis
     → is_flag row.flag w ≡ false → answer row ps flagged left ≡ answer row (ps ++ w ∷ []) flagged rest
 position_next row ps flagged w left rest at other = rw (at, other, append_assoc ps (w ∷ []) (positions_of row.flag rest)) refl
 
--- what is no position so far, or too much
+-- the words are not positional arguments so far, or too many
 not_taken : (row : Row) (ps : List (List ℕ)) (flagged : Bool) (left : List (List ℕ))
     → ((length (ps ++ positions_of row.flag left) == row.positions) && list_all is_position (ps ++ positions_of row.flag left)) ≡ false
     → answer row ps flagged left ≡ None
@@ -64,7 +64,7 @@ not_taken row ps flagged left bad =
     and_off true false c e = refl
     and_off false b c e = refl
 
--- a word that is neither the flag nor a position
+-- a word that is neither the flag nor a positional argument
 pub no_position : (row : Row) (ps : List (List ℕ)) (flagged : Bool) (w : List ℕ) (left rest : List (List ℕ)) → left ≡ w ∷ rest
     → is_flag row.flag w ≡ false → is_position w ≡ false → answer row ps flagged left ≡ None
 no_position row ps flagged w left rest at other bad =
@@ -76,7 +76,7 @@ no_position row ps flagged w left rest at other bad =
     second_off true = refl
     second_off false = refl
 
--- one position too many
+-- one positional argument too many
 pub too_long : (row : Row) (ps : List (List ℕ)) (flagged : Bool) (w : List ℕ) (left rest : List (List ℕ)) → left ≡ w ∷ rest
     → is_flag row.flag w ≡ false → row.positions ≤ length ps → answer row ps flagged left ≡ None
 too_long row ps flagged w left rest at other full =
@@ -84,7 +84,7 @@ too_long row ps flagged w left rest at other full =
     grind (arith, length-append ps (w ∷ positions_of row.flag rest)) in
     rw at (not_taken row ps flagged (w ∷ rest) (rw (other, longer) refl))
 
--- all words are read, and there are too few positions
+-- all words are read, and there are too few positional arguments
 pub too_short : (row : Row) (ps : List (List ℕ)) (flagged : Bool) → length ps < row.positions → answer row ps flagged [] ≡ None
 too_short row ps flagged few =
     let shorter : (length (ps ++ []) == row.positions) ≡ false = grind (arith, append-nil ps) in
@@ -106,12 +106,12 @@ all_read row ps flagged enough all = rw (append-nil ps, enough, all, same row.po
     once true = refl
     once false = refl
 
--- the word at this place is the first of those from it on
+-- the word at this index is the first of those from it on
 pub next_word : {A : Type 0} (f : A → List ℕ) (xs : List A) (k : ℕ) (x : A) (w : List ℕ) → k < length xs → x ≡ get_or xs k x → w ≡ f x
     → map f (drop k xs) ≡ w ∷ map f (drop (k + 1) xs)
 next_word f xs k x w at is word = rw (drop-cons xs k x at, ← is, word, add-one) refl
 
--- one more position
+-- one more positional argument
 pub more_positions : {A : Type 0} (f : A → List ℕ) (ps : List A) (p : A) → list_all is_position (map f ps) ≡ true → is_position (f p) ≡ true
     → list_all is_position (map f (ps ++ p ∷ [])) ≡ true
 more_positions f [] p so_far is = rw is refl

@@ -47,19 +47,20 @@ task_of (commands.Demo number) = Demo number
 
 -- ---- the table of commands
 
--- a row of it: a command, its name, how many positions it takes, and its flag, if it has one
+-- a row of it: a command, its name, how many positional arguments it takes, and its flag, if it has
+-- one
 pub record Row : Type 0 where
   pub verb : Verb
   pub name : List ℕ
   pub positions : ℕ
   pub flag : Option (List ℕ)
 
--- the row of these
+-- the row with these fields
 abbrev pub row : Verb → List ℕ → ℕ → Option (List ℕ) → Row
 row verb name positions flag =
     record { verb = verb; name = name; positions = positions; flag = flag }
 
--- the rows: the first position is the store, but `usage` and `demo` have none
+-- the rows: the first positional argument is the store, but `usage` and `demo` have none
 abbrev pub rows : List Row
 rows =
     row verbs.Usage (codes "usage") 0 None
@@ -80,7 +81,7 @@ row_of name = find (λ row. bytes_eq name row.name) rows
 
 -- ---- the rule
 
--- a word that begins with `-` is no position
+-- a word that begins with `-` is not a positional argument
 abbrev pub is_position : List ℕ → Bool
 is_position word = not (starts_with nat_eq word (codes "-"))
 
@@ -93,8 +94,8 @@ is_flag (Some flag) word = bytes_eq word flag
 abbrev pub positions_of : Option (List ℕ) → List (List ℕ) → List (List ℕ)
 positions_of flag words = filter (λ word. not (is_flag flag word)) words
 
--- The words after a command are accepted exactly if those that are not its flag are its positions,
--- as many as it takes, of which none begins with `-`, and its flag is among them once at most,
+-- The words after a command are accepted exactly if those that are not its flag are its positional
+-- arguments, as many as it takes, none beginning with `-`, and its flag is among them at most once,
 -- anywhere.
 abbrev pub accepts : Row → List (List ℕ) → Bool
 accepts row words =
@@ -102,7 +103,8 @@ accepts row words =
     && list_all is_position (positions_of row.flag words)
     && nat_le (length (filter (is_flag row.flag) words)) 1
 
--- accepted arguments: the command, its positions in order, and whether its flag is there
+-- accepted arguments: the command, its positional arguments in order, and whether its flag is
+-- present
 pub record Reading : Type 0 where
   pub verb : Verb
   pub positions : List (List ℕ)
@@ -116,7 +118,7 @@ reading_by row words = record {
   flagged = list_any (is_flag row.flag) words;
 }
 
--- so if it accepts them
+-- the same, if the row accepts the words
 abbrev pub read_by : List (List ℕ) → Row → Option Reading
 read_by words row = if accepts row words then Some (reading_by row words) else None
 
@@ -139,11 +141,11 @@ abbrev pub number_of : List ℕ → Option ℕ
 number_of word =
     if nat_le (length word) 4 && is_decimal word then Some (digits_value 10 word) else None
 
--- the position of this number, counted from 0
+-- the positional argument with this number, counted from 0
 abbrev pub word : List (List ℕ) → ℕ → List ℕ
 word positions k = slice_index_or positions k []
 
--- what a command with these positions is to do, with its flag or without
+-- what a command with these positional arguments is to do, with its flag or without
 abbrev pub task_at : Verb → List (List ℕ) → Bool → Option Task
 task_at verbs.Usage positions flagged = Some Usage
 task_at verbs.Init positions flagged = Some (Init (word positions 1))
@@ -179,7 +181,8 @@ names_store (Some (Export table)) = true
 names_store (Some Check) = true
 names_store (Some (Demo number)) = false
 
--- the store that the arguments name: the first position, if they are accepted and the task has one
+-- the store that the arguments name: the first positional argument, if the arguments are accepted
+-- and the task has a store
 abbrev pub store_in : List (List ℕ) → Option (List ℕ)
 store_in arguments =
     if names_store (task_in arguments)

@@ -28,18 +28,18 @@ use Rattle.fedi_program.specs.Peers.{peer_entry}
 
 -- ---- no call fails
 
--- the count of faults did not rise, and is not at its end
+-- the count of faults did not rise, and is not at its limit
 abbrev pub IsCalm : ℕ → ℕ → Type 0
 IsCalm before now = Rose before now → ⊥
 
--- what a run may ask: the disk, the source of keys, and the input and the output, by how many of
+-- what a run may ask: the disk, the source of keys, and the input and the output, with how many of
 -- their calls failed
 pub record Outside : Type 0 where
   pub disk : DiskState
   pub chance : Chance
   pub stream : Faults
 
--- these
+-- these, together
 abbrev pub outside_of : DiskState → Chance → Faults → Outside
 outside_of disk chance stream = record { disk = disk; chance = chance; stream = stream }
 
@@ -50,7 +50,7 @@ pub record AllCalm (before now : Outside) : Type 0 where
   pub reads : IsCalm before.stream.reads now.stream.reads
   pub writes : IsCalm before.stream.writes now.stream.writes
 
--- no door failed, by what counts that
+-- no door failed, by this count of its failures
 abbrev pub DoorsAreCalm : {W K : Type 0} → (W → ℕ) → List (Bench W K) → List (Bench W K) → Type 0
 DoorsAreCalm {W} {K} faults before now =
     (k : ℕ) (b : Bench W K) → k < length before
@@ -66,7 +66,7 @@ HasStore disk history = (bytes : List ℕ) × (disk.reads ≡ Some bytes) × IsS
 abbrev pub IsStore : DiskState → Type 0
 IsStore disk = (history : List Entry) × HasStore disk history
 
--- reads of the disk give bytes of which a store may be made
+-- reads of the disk give bytes that may be made a store
 abbrev pub IsFree : DiskState → Type 0
 IsFree disk = (bytes : List ℕ) × (disk.reads ≡ Some bytes) × (IsOther bytes → ⊥)
 
@@ -75,8 +75,8 @@ abbrev pub CanBeKept : List Entry → Entry → Type 0
 CanBeKept history e =
     (broken_command (town history) e ≡ None) × HasRoom room (end_of history) (length (code_of e))
 
--- behind this end there is room for the records of attempts of these deliveries at this moment, one
--- of each, whatever comes of it
+-- after this end there is room for the records of attempts of these deliveries at this moment, one
+-- for each, whatever its result
 abbrev pub HasRoomForEach : ℕ → ℕ → List Delivery → Type 0
 HasRoomForEach moment end [] = Unit {0}
 HasRoomForEach moment end (d ∷ due) =

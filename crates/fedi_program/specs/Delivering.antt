@@ -38,15 +38,14 @@ use Rattle.fedi_program.specs.declared.delivering.Stop.TheVariants.{Memory}
 
 -- ---- one attempt
 
--- an attempt to deliver the activity of this id to the recipient: its exchanges, and what came of
--- it
+-- an attempt to deliver the activity with this id to the recipient: its exchanges and its result
 pub record Trial : Type 0 where
   pub activity : List ℕ
   pub recipient : List ℕ
   pub exchanges : List Exchange
   pub came : Came
 
--- it was an attempt at this town
+-- it was an attempt in this town
 abbrev pub IsAttempt : Town → Trial → Type 0
 IsAttempt t x = ShowsCame t x.activity x.recipient x.exchanges x.came
 
@@ -62,18 +61,18 @@ word_of Delivered = codes "delivered"
 word_of Again = codes "again"
 word_of GivenUp = codes "gave-up"
 
--- the line that tells of an attempt: the activity, the host of the recipient, who is not named, and
+-- the line that reports an attempt: the activity, the host of the recipient, who is not named, and
 -- the word
 unfoldable pub attempt_line : (id recipient : List ℕ) → Came → List ℕ
 attempt_line id recipient came =
     id
     ++ (codes " " ++ (host_of recipient ++ (codes " " ++ (word_of (outcome came) ++ codes "\n"))))
 
--- that of a trial
+-- the line of a trial
 abbrev pub line_of : Trial → List ℕ
 line_of x = attempt_line x.activity x.recipient x.came
 
--- those of trials, in order
+-- the lines of trials, in order
 abbrev pub lines_of : List Trial → List ℕ
 lines_of tried = flat_map line_of tried
 
@@ -83,12 +82,12 @@ done_line count = codes "done " ++ (decimal count ++ codes "\n")
 
 -- ---- many attempts
 
--- their exchanges, in order
+-- the exchanges of trials, in order
 abbrev pub exchanges_of : List Trial → List Exchange
 exchanges_of tried = flat_map (λ (x : Trial). x.exchanges) tried
 
--- The machine went from the first state to the second by these attempts at this moment, one after
--- the other, each at the history that those before it left, and kept the entry of each.
+-- These attempts at this moment took the machine from the first state to the second, one after the
+-- other, each at the history that those before it left, and the entry of each was kept.
 abbrev pub TriesEach : (growth room : ℕ → ℕ) → ℕ → State → List Trial → State → Type 0
 TriesEach growth room moment before [] after = after ≡ before
 TriesEach growth room moment before (x ∷ xs) after =
@@ -96,7 +95,8 @@ TriesEach growth room moment before (x ∷ xs) after =
     × IsKept growth room before.history (entry_of moment x) before.keeper next.keeper next.history
     × TriesEach growth room moment next xs after
 
--- the trials are of the first of these deliveries, in order, each once, and the others are left
+-- the trials are those of the first of these deliveries, in order, each once, and the others are
+-- left
 abbrev pub AreFirst : List Delivery → List Trial → List Delivery → Type 0
 AreFirst due [] left = due ≡ left
 AreFirst [] (x ∷ xs) left = ⊥
@@ -117,7 +117,7 @@ LosesLine tried first now status =
     × BreaksOff first now (lines_of earlier) (line_of x)
 
 -- the keeper had no room for the entry of one more attempt (13), or it failed and was asked once to
--- settle (5), and this is told
+-- settle (5), and this is reported
 abbrev pub IsUnrecorded : (ℕ → ℕ) → State → State → Entry → List Trial → Output → Output
     → ℕ → Type 0
 IsUnrecorded room last after e tried first now status =
@@ -129,7 +129,7 @@ IsUnrecorded room last after e tried first now status =
     × WritesUnlessFailed first now (lines_of tried) (codes "disk fault\n"))
 
 -- How the trying ends after the deliveries that were tried, with exchanges beyond theirs: nothing
--- that is due is left; or a write failed; or what came of one more attempt was not kept; or there
+-- that is due is left; or a write failed; or the result of one more attempt was not kept; or there
 -- was no memory to end the next attempt, or to begin any (12).
 abbrev pub EndsTrying :
     (ℕ → ℕ) → ℕ → (last after : State) → List Trial → List Delivery → List Exchange
@@ -146,7 +146,7 @@ EndsTrying room moment last after tried left beyond first now status =
     × IsBegun (town last.history) id recipient beyond)))))
 
 -- The deliveries that were due at the one moment that was read were tried in order, each once: all
--- of them at status 0, and else the first of them.
+-- of them at status 0, and otherwise the first of them.
 pub record TriesDue (growth room : ℕ → ℕ) (told : Option ℕ) (opened after : State)
     (before heard : Told) (first now : Output) (status : ℕ) : Type 0 where
   pub moment : ℕ
@@ -160,8 +160,8 @@ pub record TriesDue (growth room : ℕ → ℕ) (told : Option ℕ) (opened afte
   pub exchanged : HasExchanged before heard (exchanges_of tried ++ beyond)
   pub ends : EndsTrying room moment last after tried left beyond first now status
 
--- How a run tries what is due of the store of a disk, over a link: it is not opened, and nothing is
--- asked of the link; or it is.
+-- How a run tries what is due in the store of a disk, over a link: the store is not opened, and
+-- nothing is asked of the link; or it is opened.
 abbrev pub DeliversStore : Option ℕ → Medium → Medium → Told → Told → Output → Output → ℕ → Type 0
 DeliversStore told before after asked heard first now status =
     ((fault : StoreFault) × IsRefused before after fault × (heard ≡ asked)
@@ -171,19 +171,19 @@ DeliversStore told before after asked heard first now status =
 
 -- ---- one claim
 
--- what came of an attempt with which something else came
+-- the result of an attempt, without what else was returned
 abbrev pub came_in : {B E : Type 0} → Result (Came × B) E → Result Came E
 came_in (Ok done) = Ok done.0
 came_in (Err e) = Err e
 
--- why no more is tried, where what came of an attempt was not kept for this reason
+-- why no more is tried, if the result of an attempt was not kept for this reason
 abbrev pub stop_of : RecordFault → Stop
 stop_of records.KeeperFault = KeeperFault
 stop_of records.Full = Full
 stop_of records.Memory = Memory
 
--- How one delivery that was claimed is tried: its entry is kept and its line printed; or that write
--- failed; or the entry was not kept; or there was no memory to end the attempt.
+-- How one claimed delivery is tried: its entry is kept and its line printed; or that write failed;
+-- or the entry was not kept; or there was no memory to end the attempt.
 abbrev pub EndsTrial :
     (growth room : ℕ → ℕ) → ℕ → (id recipient : List ℕ) → (before after : State)
     → (asked heard : Told) → (first now : Output) → Result (Unit {0}) Stop → Type 0
@@ -229,8 +229,8 @@ TrialSurvives growth room before after (Err KeeperFault) =
 TrialSurvives growth room before after (Err Full) = SurvivesTurn growth before after
 TrialSurvives growth room before after (Err Memory) = SurvivesTurn growth before after
 
--- What follows where no more is tried, and the status: it is told why, unless a write failed, or
--- there is no memory; and a keeper that failed is asked once to settle.
+-- What follows if no more is tried, and the status: the reason is reported, unless a write failed,
+-- or there is no memory; and a keeper that failed is asked once to settle.
 abbrev pub IsStopped : Stop → (before after : State) → (first now : Output) → ℕ → Type 0
 IsStopped WriteFault before after first now status = (status ≡ 7) × (after ≡ before) × (now ≡ first)
 IsStopped KeeperFault before after first now status =
@@ -241,8 +241,8 @@ IsStopped Memory before after first now status = (status ≡ 12) × (after ≡ b
 
 -- ---- benches
 
--- How a run tries what is due by the link of the first of these benches: it alone is asked, and all
--- else of the benches stays.
+-- How a run tries what is due by the link of the first of these benches: only this link is asked,
+-- and everything else of the benches stays.
 abbrev pub DeliversBy :
     {W K : Type 0} → (K → Told) → Option ℕ → Medium → Medium → (benches now : List (Bench W K))
     → Output → Output → ℕ → Type 0

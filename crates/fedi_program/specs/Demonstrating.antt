@@ -40,7 +40,7 @@ unfoldable pub member : ℕ → Entry
 member number =
     Made (codes "m" ++ decimal number) (sha256 (replicate 32 number)) false moment
 
--- so many members, from m0 on
+-- this many members, from m0 on
 abbrev pub members : ℕ → List Entry
 members zero = []
 members (suc count) = members count ++ member count ∷ []
@@ -59,17 +59,20 @@ founding = (set_up ∷ members 8) ++ far_peer ∷ []
 
 -- ---- its connections
 
--- nobody else adds to the log, at this moment, over the keeper of a store that was opened so
+-- nobody else adds to the log, at this moment, over the keeper of a store that was opened in this
+-- state
 abbrev pub setting : State → Setting
 setting opened = setting_by growth room (Some moment) None opened
 
--- the progress on a connection, over the machine that was opened so, after these exchanges
+-- the progress on a connection, over the machine that was opened in this state, after these
+-- exchanges
 abbrev pub reached : State → List ℕ → List Exchange → Progress
 reached opened input exchanges =
     progress (setting opened) (beginning input (given opened.history)) exchanges
 
 -- All of the input was answered on one connection, with this text, over a machine that was opened
--- on the store of the first history and has the second one then; and the disk did not fail.
+-- on the store of the first history and has the second history afterwards; and the disk did not
+-- fail.
 pub record IsVisit (before : List Entry) (input : List ℕ) (after : List Entry) (text : List ℕ)
     : Type 0 where
   pub opened : State
@@ -85,7 +88,7 @@ pub record IsVisit (before : List Entry) (input : List ℕ) (after : List Entry)
 
 -- ---- what is printed
 
--- how much the store of this history has
+-- how much the store of this history holds
 abbrev pub held_of : List Entry → Held
 held_of history = record {
   entries = length history;
@@ -94,7 +97,7 @@ held_of history = record {
 }
 
 -- The text of the demonstration with this number: the requests are answered on two connections, one
--- after the other, and the text tells of what was written on them, and of the history in the end.
+-- after the other, and the text describes what was written on them, and the history at the end.
 pub record IsDemo (number : ℕ) (text : List ℕ) : Type 0 where
   pub middle : List Entry
   pub last : List Entry
@@ -105,7 +108,7 @@ pub record IsDemo (number : ℕ) (text : List ℕ) : Type 0 where
   pub text_is : text ≡ summary_text number (held_of last) (first_text ++ second_text)
 
 -- How a run prints a demonstration: the one text of its number is printed, or a proper prefix of it
--- before a write failed (7), or nothing for want of memory (12).
+-- before a write failed (7), or nothing, because memory ran out (12).
 abbrev pub Demonstrates : ℕ → Output → Output → ℕ → Type 0
 Demonstrates number first now status =
     ((text : List ℕ) × IsDemo number text × Prints first now text status)

@@ -1,4 +1,4 @@
--- How a run may end, each with what has then happened.
+-- How a run may end, and what has then happened.
 use Rattle.std.specs.Prelude.{◌≡◌, ◌⊎◌, ℕ, ◌==◌, List, [], IfSome, if◌then◌else◌}
 use Rattle.fedi_log.specs.Keeping.{State}
 use Rattle.fedi_log.specs.Log.{Log, given}
@@ -25,7 +25,7 @@ RunsTo w opened log first now status =
     (ending : SessionEnd) × (status ≡ status_of ending)
     × IfSome first.input (Serves w (given opened.history) first.output now log ending)
 
--- the whole conversation over the input was held over this log, if the input is told
+-- the whole conversation over the input was held over this log, if the input is known
 abbrev pub TalksIfTold : Setting → State → Log → Scene → Scene → Type 0
 TalksIfTold w opened log first now =
     IfSome first.input (Talks w (given opened.history) first.output now log)

@@ -25,29 +25,29 @@ use Rattle.fedi_program.specs.Endings.{Prints}
 
 -- ---- keys
 
--- what keys are drawn from: the bytes to come, if they are told, and how many draws failed
+-- what keys are drawn from: the bytes to come, if they are known, and how many draws failed
 pub record Chance : Type 0 where
   pub next : Option (List ℕ)
   pub faults : ℕ
 
--- the chance of this source of keys, by what tells of such
+-- the chance of this source of keys, as these functions show it
 abbrev pub chance_by : {E : Type 0} → (E → Option (List ℕ)) → (E → ℕ) → E → Chance
 chance_by next faults entropy = record { next = next entropy; faults = faults entropy }
 
--- the key was drawn: it is the bytes that came next
+-- the key was drawn: it consists of the bytes that came next
 pub record Draws (before now : Chance) (key : List ℕ) : Type 0 where
   pub bytes : Consumes before.next now.next key
   pub length_is : length key ≡ 32
   pub calm : now.faults ≡ before.faults
 
--- no key was drawn, since the draw failed
+-- no key was drawn, because the draw failed
 pub record FailsToDraw (before now : Chance) : Type 0 where
   pub bytes : Keeps before.next now.next
   pub cause : now.faults ≡ next_count before.faults
 
 -- ---- what is printed
 
--- the line that tells the operator the key of a new member: the name, a space, and the key in 64
+-- the line that gives the operator the key of a new member: the name, a space, and the key in 64
 -- digits
 unfoldable pub key_line : List ℕ → List ℕ → List ℕ
 key_line name key = name ++ (codes " " ++ (encode_lower key ++ codes "\n"))
@@ -60,9 +60,8 @@ refusal_line reason = codes "refused: " ++ (reason ++ codes "\n")
 abbrev pub Reports : Output → Output → ℕ → List ℕ → ℕ → Type 0
 Reports before now status text given = (given ≡ status) × WritesUnlessFailed before now [] text
 
--- what is printed for a command that was refused, and the status: a rule that is broken is told
--- (10), a keeper that failed (5) and one that has no room (13); out of memory (12) nothing is
--- printed
+-- what is printed for a command that was refused, and the status: the rule that is broken (10), a
+-- keeper that failed (5) or one that has no room (13); if memory ran out (12), nothing is printed
 abbrev pub ReportsFault : CommandFault → Output → Output → ℕ → Type 0
 ReportsFault NameTaken before now status =
     Reports before now 10 (refusal_line (codes "name taken")) status
@@ -78,7 +77,7 @@ ReportsFault Memory before now status = (status ≡ 12) × Writes before now []
 
 -- ---- the command
 
--- the entry of a new member: the digest of the key is kept, and not the key
+-- the entry of a new member: it has the digest of the key, and not the key
 abbrev pub member_entry : List ℕ → List ℕ → Bool → ℕ → Entry
 member_entry name key locked moment = Made name (sha256 key) locked moment
 
@@ -90,8 +89,8 @@ IsMade growth room before after first now e line status =
     × IsKept growth room before.history e before.keeper after.keeper after.history
     × Prints first now line status
 
--- a keeper that failed was asked once to settle what may be in doubt: then nothing is, or that
--- failed too
+-- a keeper that failed was asked once to settle what may be in doubt: then nothing is in doubt, or
+-- that failed too
 abbrev pub IsSettled : State → State → Type 0
 IsSettled failed after =
     (after.history ≡ failed.history)
@@ -110,8 +109,8 @@ IsUnmade room before after e fault =
     × RefusesCommand room (town before.history) e fault before.keeper refused.keeper
     × SettlesAfter fault refused after
 
--- How the command ends that is to keep this entry and then to print this line: the entry is
--- refused, and it is told why, or it is kept.
+-- How a command ends that is to keep this entry and then to print this line: the entry is refused,
+-- and the reason is reported, or the entry is kept.
 abbrev pub EndsWith : (ℕ → ℕ) → (ℕ → ℕ) → State → State → Output → Output → Entry → List ℕ
     → ℕ → Type 0
 EndsWith growth room before after first now e line status =
@@ -119,14 +118,14 @@ EndsWith growth room before after first now e line status =
     × ReportsFault fault first now status)
     ⊎ IsMade growth room before after first now e line status
 
--- a command was refused for this reason, before there was an entry to keep: it is told (10), and
--- nothing was done
+-- a command was refused for this reason, before there was an entry to keep: the reason is reported
+-- (10), and nothing was done
 abbrev pub IsRefusedFor : List ℕ → State → State → Output → Output → ℕ → Type 0
 IsRefusedFor reason before after first now status =
     (after ≡ before) × Reports first now 10 (refusal_line reason) status
 
 -- How the making of a member of this name ends: no key could be drawn (6), or one was drawn, and
--- the text is no name, or else the entry is refused or kept.
+-- the text is not a valid name, or else the entry is refused or kept.
 abbrev pub MakesMember : (ℕ → ℕ) → (ℕ → ℕ) → Option ℕ → Chance → Chance → State → State → Output
     → Output → List ℕ → Bool → ℕ → Type 0
 MakesMember growth room told chance left before after first now name locked status =

@@ -16,13 +16,14 @@ use Rattle.fedi_program.specs.Members.{EndsWith, IsRefusedFor}
 abbrev pub peer_entry : List ℕ → List ℕ → List ℕ → Bool → ℕ → Entry
 peer_entry host key address relay moment = PeerSet host key address relay moment
 
--- the line that tells that a host was made a peer
+-- the line that says that a host was made a peer
 unfoldable pub peer_line : List ℕ → List ℕ
 peer_line host = codes "peer " ++ (host ++ codes "\n")
 
--- How the making of a peer ends, of the texts of its host, its key and its address: out of memory
--- (12); or by the first of these reasons (10): the text is no host, the host is this server's or a
--- peer's, the text is no key; or else the entry is refused, as for its address, or kept.
+-- How the making of a peer ends, given the texts of its host, its key and its address: memory ran
+-- out (12); or it is refused for the first of these reasons (10): the text is not a valid host, the
+-- host is this server's or a peer's, the text is not a valid key; or else the entry is refused, for
+-- instance for its address, or kept.
 abbrev pub MakesPeer : (ℕ → ℕ) → (ℕ → ℕ) → Option ℕ → State → State → Output → Output → List ℕ
     → List ℕ → List ℕ → Bool → ℕ → Type 0
 MakesPeer growth room told before after first now host key address relay status =

@@ -1,4 +1,4 @@
--- What a run does that serves the connections of many doors, and delivers.
+-- What a run does that serves the connections of many doors and delivers.
 use Rattle.std.specs.Prelude.{◌≡◌, ◌⊎◌, ◌<◌, ℕ, Bool, List, length, slice_index_or, Option, Some}
 use Rattle.fedi_delivery.specs.Exchanges.{Told}
 use Rattle.fedi_hall.specs.Serving.{EndsServing, NamesWorkers}
@@ -20,9 +20,9 @@ status_after Closed = 0
 status_after DoorFault = 11
 status_after Memory = 12
 
--- Each item past the history of the opening names one worker, of whom each bench has one; and what
--- each of them did at the connections of its door, and asked and heard over its link, is over this
--- log.
+-- Each item after the history of the opening names one worker, and each bench has one worker. What
+-- each of them did at the connections of its door, and what it asked and heard over its link, is
+-- over this log.
 pub record AreServed
     {W K : Type 0} (told : Option ℕ) (opened : State) (log : Log) (served : W → Option (List Row))
     (tells : K → Told)
@@ -34,9 +34,9 @@ pub record AreServed
       (served (slice_index_or before k b).door) (served (slice_index_or after k b).door)
       (tells (slice_index_or before k b).link) (tells (slice_index_or after k b).link)
 
--- How a run serves the connections of the doors of these benches over the store of a disk: it is
--- not opened, and no door or link is asked; or it is, and all workers work over one log, until each
--- door closes or one fails, or there is no memory for them.
+-- How a run serves the connections of the doors of these benches over the store of a disk: the
+-- store is not opened, and no door or link is asked; or it is opened, and all workers work over one
+-- log, until each door closes or one fails, or there is no memory for them.
 abbrev pub ServesDoors :
     {W K : Type 0} → Option ℕ → Medium → Medium → (W → Option (List Row)) → (K → Told)
     → (W → Bool) → (W → ℕ)

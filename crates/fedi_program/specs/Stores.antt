@@ -1,4 +1,4 @@
--- What a run does with the store of a disk, and what it prints of it.
+-- What a run does with the store of a disk, and what it prints about it.
 use Rattle.std.specs.Prelude.{◌≡◌, ◌⊎◌, ℕ, Bool, List, [], ◌∷◌, ◌++◌, codes, decimal, Option, None}
 use Rattle.std.specs.Prelude.{IfSome}
 use Rattle.fedi_address.specs.Hosts.{IsHost}
@@ -39,11 +39,11 @@ pub record Medium : Type 1 where
   pub shown : DiskState
   pub crashes : DiskCrashes
 
--- the medium of this disk, by what tells of such
+-- the medium of this disk, as these functions show it
 abbrev pub medium_by : {D : Type 0} → (D → DiskState) → (D → DiskCrashes) → D → Medium
 medium_by shown crashes disk = record { shown = shown disk; crashes = crashes disk }
 
--- reads of the disk give the same bytes, and a crash on the way or afterwards leaves nothing new,
+-- reads of the disk give the same bytes, and a crash meanwhile or afterwards leaves nothing new,
 -- image by image
 abbrev pub IsSame : Medium → Medium → Type 0
 IsSame before after = IsUntouched before.shown after.shown before.crashes after.crashes
@@ -54,11 +54,11 @@ pub record IsRefused (before after : Medium) (fault : StoreFault) : Type 0 where
   pub same : IsSame before after
 
 -- A machine was opened over the disk, in the first of these states, and closed in the second, and
--- stands for this log, which begins with the history of the opening. The disk's file has the
--- records of its history. If its bytes are told, a crash after the run leaves a store of that
--- history, or of it with the entry in doubt; a crash on the way left files of the records along the
--- log, if one before did, and these are stores; and from some moment of the run on it left such
--- stores whatever one before did.
+-- represents this log, which begins with the history of the opening. The disk's file has the
+-- records of its history. If the bytes of the disk are known, a crash after the run leaves a store
+-- of that history, or of it followed by the entry in doubt; a crash during the run left files of
+-- the records along the log, if an earlier crash did, and these are stores; and from some moment of
+-- the run on it left such stores whatever an earlier crash did.
 pub record IsServed (before after : Medium) (opened closed : State) (log : Log) : Type 0 where
   pub opens : IsOpened before.shown opened
   pub closes : IsClosed after.shown after.crashes closed
@@ -78,11 +78,11 @@ abbrev pub IsServedAlone : Medium → Medium → State → State → Log → Typ
 IsServedAlone before after opened closed log =
     IsServed before after opened closed log × GoesAlone None (given opened.history) log
 
--- so with some log
+-- the same with some log
 abbrev pub IsRunAlone : Medium → Medium → State → State → Type 0
 IsRunAlone before after opened closed = (log : Log) × IsServedAlone before after opened closed log
 
--- no machine was opened over the disk, or one was, and closed
+-- no machine was opened over the disk, or one was opened and closed
 abbrev pub IsKeptSafe : Medium → Medium → Type 0
 IsKeptSafe before after =
     ((fault : StoreFault) × IsRefused before after fault)
@@ -90,7 +90,7 @@ IsKeptSafe before after =
 
 -- ---- what is printed of a store that is not opened
 
--- the line that tells where a store is damaged
+-- the line that says where a store is damaged
 unfoldable pub damage_line : List ℕ → ℕ → List ℕ
 damage_line what place =
     (((codes "damaged at " ++ what) ++ codes " ") ++ decimal place) ++ codes "\n"
@@ -103,7 +103,7 @@ status_by (DamagedRecord place) = 4
 status_by Failed = 5
 status_by Memory = 12
 
--- and what is printed, but out of memory nothing
+-- and what is printed, which is nothing if memory ran out
 abbrev pub ReportsStore : StoreFault → Output → Output → ℕ → Type 0
 ReportsStore NotAStore before now status = Reports before now 3 (codes "not a store\n") status
 ReportsStore (DamagedByte place) before now status =
@@ -115,8 +115,8 @@ ReportsStore Memory before now status = (status ≡ 12) × Writes before now []
 
 -- ---- what a run does
 
--- How a run serves one connection over the store of a disk: it is not opened, or there is no memory
--- to serve it, and nothing is read or written; or it is, and a session is held.
+-- How a run serves one connection over the store of a disk: the store is not opened, or there is no
+-- memory to serve it, and nothing is read or written; or it is opened, and a session is held.
 abbrev pub ServesStore : Option ℕ → Medium → Medium → Scene → Scene → ℕ → Type 0
 ServesStore told before after first now status =
     ((fault : StoreFault) × IsRefused before after fault × (now ≡ first)
@@ -131,7 +131,7 @@ TalksOverStore told before after first now =
     (opened : State) × (closed : State) × (log : Log) × IsServedAlone before after opened closed log
     × TalksIfTold (setting_by growth room told None opened) opened log first now
 
--- how a run makes a member of the store of a disk
+-- how a run makes a member in the store of a disk
 abbrev pub AddsMember : Option ℕ → Medium → Medium → Chance → Chance → Output → Output → List ℕ
     → Bool → ℕ → Type 0
 AddsMember told before after chance left first now name locked status =
@@ -140,7 +140,7 @@ AddsMember told before after chance left first now name locked status =
     ⊎ ((opened : State) × (closed : State) × IsRunAlone before after opened closed
     × MakesMember growth room told chance left opened closed first now name locked status)
 
--- how a run makes a peer of the store of a disk
+-- how a run makes a peer in the store of a disk
 abbrev pub AddsPeer : Option ℕ → Medium → Medium → Output → Output → List ℕ → List ℕ → List ℕ → Bool
     → ℕ → Type 0
 AddsPeer told before after first now host key address relay status =
@@ -148,13 +148,13 @@ AddsPeer told before after first now host key address relay status =
     ⊎ ((opened : State) × (closed : State) × IsRunAlone before after opened closed
     × MakesPeer growth room told opened closed first now host key address relay status)
 
--- it is printed how much this history has, unless there is no memory for the line (12) or a write
+-- how much this history holds is printed, unless there is no memory for the line (12) or a write
 -- failed (7)
 abbrev pub Counts : Output → Output → List Entry → ℕ → Type 0
 Counts first now history status =
     Prints first now (check_text history) status ⊎ ((status ≡ 12) × Writes first now [])
 
--- how a run counts what the store of a disk has, which is untouched
+-- how a run counts what the store of a disk holds; the disk is untouched
 abbrev pub ChecksStore : Medium → Medium → Output → Output → ℕ → Type 0
 ChecksStore before after first now status =
     ((fault : StoreFault) × IsRefused before after fault × ReportsStore fault first now status)
@@ -168,14 +168,14 @@ table_text Actors t = actors_text t
 table_text Activities t = activities_text t
 table_text Queue t = queue_text t
 
--- the text was printed whole (0), or a proper prefix of it before a write failed (7), or a front of
--- it before memory ran out (12)
+-- the text was printed completely (0), or a proper prefix of it before a write failed (7), or a
+-- prefix of it before memory ran out (12)
 abbrev pub PrintsTable : Output → Output → List ℕ → ℕ → Type 0
 PrintsTable first now text status =
     ((status ≡ 0) × Writes first now text)
     ⊎ (((status ≡ 7) × BreaksOff first now [] text) ⊎ ((status ≡ 12) × Begins first now text))
 
--- how a run prints a table of what the store of a disk has, which is untouched
+-- how a run prints a table of what the store of a disk holds; the disk is untouched
 abbrev pub ExportsStore : Table → Medium → Medium → Output → Output → ℕ → Type 0
 ExportsStore table before after first now status =
     ((fault : StoreFault) × IsRefused before after fault × ReportsStore fault first now status)
@@ -185,17 +185,18 @@ ExportsStore table before after first now status =
 
 -- ---- making a store
 
--- the line that tells that a store was made for this host
+-- the line that says that a store was made for this host
 abbrev pub made_line : List ℕ → List ℕ
 made_line host = codes "made " ++ (host ++ codes "\n")
 
--- what is printed of a store that is not made, but out of memory nothing, and the status
+-- what is printed about a store that is not made, which is nothing if memory ran out, and the
+-- status
 abbrev pub ReportsMaking : MakeFault → Output → Output → ℕ → Type 0
 ReportsMaking makes.Exists before now status = Reports before now 9 (codes "exists\n") status
 ReportsMaking makes.Failed before now status = Reports before now 5 (codes "disk fault\n") status
 ReportsMaking makes.Memory before now status = (status ≡ 12) × Writes before now []
 
--- how the making of a store ends whose first entry is this one
+-- how the making of a store with this first entry ends
 abbrev pub EndsMaking : DiskState → DiskState → DiskCrashes → Output → Output → List ℕ → Entry
     → ℕ → Type 0
 EndsMaking before after crashes first now host e status =
@@ -203,8 +204,9 @@ EndsMaking before after crashes first now host e status =
     ⊎ ((fault : MakeFault) × IsNotMade (code_of e) fault before after
     × ReportsMaking fault first now status)
 
--- How a run makes the disk a store for this host: out of memory (12) or for a text that is no host
--- (10) the disk is not asked; else the first entry says the host and the moment.
+-- How a run makes the disk a store for this host: it ends without asking the disk, because memory
+-- ran out (12) or the text is not a valid host (10); or the first entry says the host and the
+-- moment.
 abbrev pub MakesStore : {D : Type 0} → (D → DiskState) → (D → DiskCrashes) → Option ℕ → D → D
     → Output → Output → List ℕ → ℕ → Type 0
 MakesStore shown crashes told before after first now host status =

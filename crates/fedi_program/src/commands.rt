@@ -96,7 +96,7 @@ fn number_of(word: &str) -> Option<u16>
     u16::try_from(number).ok()
 }
 
-// The command that accepted arguments give, or none if they name no table or no number.
+// The command that accepted arguments give, or `None` if they name no valid table or number.
 fn command_by<'a>(reading: &Reading<'a>) -> Option<Command<'a>>
     ensures { option_map task_of result ≡ task_by (reading_of reading.now) }
 {
@@ -131,16 +131,17 @@ fn command_by<'a>(reading: &Reading<'a>) -> Option<Command<'a>>
     Some(command)
 }
 
-/// The command that the arguments give, or none if they are not accepted: a command's name, then
-/// its positions, of which none begins with `-`, and its flag once at most, anywhere among them.
+/// The command that the arguments give, or `None` if they are not accepted. They are the name of a
+/// command, then its positional arguments, none of them beginning with `-`, and its flag at most
+/// once, anywhere among them.
 pub fn command_of(arguments: &[String]) -> Option<Command<'_>>
     ensures { option_map task_of result ≡ task_in (map string_bytes arguments.now) }
 {
     command_by(&read(arguments)?)
 }
 
-/// The store that the arguments name: the first position after the command. There is none if the
-/// command is done without a store, or if the arguments are not accepted.
+/// The store that the arguments name: the first positional argument after the command. It is `None`
+/// if the command needs no store, or if the arguments are not accepted.
 pub fn store_of(arguments: &[String]) -> Option<&str>
     ensures named { is_some result ≡ names_store (task_in (map string_bytes arguments.now)) }
     ensures store { option_map (λ store. store.now) result
@@ -153,7 +154,7 @@ pub fn store_of(arguments: &[String]) -> Option<&str>
     }
 }
 
-/// The address at which connections are to be served, if that is what the arguments ask for.
+/// The address at which connections are to be served, if the arguments ask for that.
 pub fn address_of(arguments: &[String]) -> Option<&str>
     ensures { option_map (λ address. address.now) result
         ≡ address_of (task_in (map string_bytes arguments.now)) }

@@ -24,8 +24,8 @@ pub struct Connection<S, O, C> {
     pub clock: C,
 }
 
-/// Serves the connection by a machine that nobody else takes turns with, and hands the machine back
-/// with how the session ended.
+/// Serves the connection with a machine that is not shared, and returns the machine with how the
+/// session ended.
 pub fn serve_connection<S: Source, O: Sink, P: Keeper, C: Clock>(
     alloc: Global,
     core: Core<IndexedShelf, P>,
@@ -35,10 +35,10 @@ pub fn serve_connection<S: Source, O: Sink, P: Keeper, C: Clock>(
     requires unclaimed { core.rows ≡ rows_of (town core.history) }
     requires hosted { IsTrue (is_some (town core.history).host) }
     requires legal { IsLegal core.history }
-    // From the history that the machine has, the log goes on by what is kept and what the keeper
-    // fails to keep. If the input is told, what was read and written is one conversation over this
-    // log. A crash at any moment leaves the records, then the first of those that were kept since,
-    // and then at most one that was in doubt at that moment of the log.
+    // From the history that the machine has, the log grows by what is kept and by what the keeper
+    // fails to keep. If the input is known, what was read and written is one conversation over this
+    // log. A crash at any moment leaves the records, followed by the first of those that were kept
+    // since, and by at most one that was in doubt at that moment of the log.
     ensures ends { let opened = state_of core.history (P.shown core.keeper) in EndsSession
         (setting_by P.growth P.room (C.told connection.old.clock) None opened)
         (given core.history)

@@ -36,7 +36,7 @@ use fedi_text::Moment;
 use fedi_town::Outcome;
 use std::alloc::{AllocError, Global};
 
-/// Why no more is tried.
+/// Why no more deliveries are tried.
 #[derive(Clone, Copy)]
 pub(crate) enum Stop {
     /// A write failed.
@@ -51,7 +51,7 @@ pub(crate) enum Stop {
 
 // ---- what is printed
 
-/// The word for what came of an attempt.
+/// The word for the result of an attempt.
 fn word_of(came: Came) -> &'static str
     ensures { result.now ≡ word_of (outcome came) }
 {
@@ -62,8 +62,8 @@ fn word_of(came: Came) -> &'static str
     }
 }
 
-/// The line that tells what came of an attempt to deliver the activity to the recipient, of whom it
-/// names the host alone. The error is out of memory.
+/// The line that reports the result of an attempt to deliver the activity to the recipient. It
+/// names only the recipient's host. The error is out of memory.
 #[tactic(auto, unfolding(crate::specs::Delivering::attempt_line))]
 fn attempt_line(
     alloc: Global,
@@ -84,7 +84,7 @@ fn attempt_line(
     Ok(line)
 }
 
-/// The line that tells how many deliveries were tried.
+/// The line that says how many deliveries were tried.
 #[tactic(auto, unfolding(crate::specs::Delivering::done_line))]
 fn done_line(count: u64) -> ArrayString<32>
     ensures { result.bytes ≡ done_line count }
@@ -99,9 +99,9 @@ fn done_line(count: u64) -> ArrayString<32>
 
 // ---- one attempt
 
-/// Tries the delivery that is claimed over the link (ActivityPub, section 7.1): looks the recipient
-/// up, and posts the activity to the inbox that was found. `buffer` has room for a reply. The error
-/// is out of memory, and what was sent until then is not undone.
+/// Tries the claimed delivery over the link (ActivityPub, section 7.1): looks up the recipient, and
+/// posts the activity to the inbox that was found. `buffer` has room for a reply. The error is out
+/// of memory, and what was sent until then is not undone.
 fn attempt<P: Keeper, K: Link>(
     alloc: Global,
     core: &Core<IndexedShelf, P>,
@@ -130,7 +130,7 @@ fn attempt<P: Keeper, K: Link>(
     }
 }
 
-/// Tries the delivery that is claimed, and makes the line that tells what came of it.
+/// Tries the claimed delivery, and makes the line that reports its result.
 fn attempt_told<P: Keeper, K: Link>(
     alloc: Global,
     core: &Core<IndexedShelf, P>,
@@ -156,7 +156,7 @@ fn attempt_told<P: Keeper, K: Link>(
     Ok((came, line))
 }
 
-// Why no more is tried, where what came of an attempt was not kept for this reason.
+// Why no more is tried, if the result of an attempt was not kept for this reason.
 fn stop_of(fault: RecordFault) -> Stop
     ensures { result ≡ stop_of fault }
 {
@@ -167,9 +167,9 @@ fn stop_of(fault: RecordFault) -> Stop
     }
 }
 
-/// Tries the delivery that is claimed, keeps what came of it, and prints the line that tells of it.
-/// There is a line before the entry is kept. After an error nothing was kept, but for `WriteFault`,
-/// and the claim is released.
+/// Tries the claimed delivery, keeps its result, and prints the line that reports it. The line is
+/// made before the entry is kept. After an error nothing was kept, except for `WriteFault`, and the
+/// claim is released.
 fn try_claimed<O: Sink, P: Keeper, K: Link>(
     alloc: Global,
     core: &mut Core<IndexedShelf, P>,
@@ -213,9 +213,9 @@ fn try_claimed<O: Sink, P: Keeper, K: Link>(
 
 // ---- all that is due
 
-/// Tells why no more is tried. A keeper that failed is asked once to settle what it may have left,
-/// so that the entry is not found by the next opening, unless that fails too. The answer is the
-/// exit status.
+/// Reports why no more is tried. A keeper that failed is asked once to settle what it may have
+/// left, so that the next opening does not find the entry, unless that fails too. Returns the exit
+/// status.
 fn report_stop<O: Sink, P: Keeper>(core: &mut Core<IndexedShelf, P>, out: &mut O, stop: Stop) -> u8
     ensures ends { IsStopped stop
         (state_of core.old.history (P.shown core.old.keeper))
@@ -228,7 +228,7 @@ fn report_stop<O: Sink, P: Keeper>(core: &mut Core<IndexedShelf, P>, out: &mut O
     match stop {
         Stop::WriteFault => WRITE_FAULT,
         Stop::KeeperFault => {
-            // Whatever becomes of it, the command failed.
+            // Whatever the result, the command failed.
             let _ = core.settle();
             report(out, DISK_FAULT, b"disk fault\n")
         }
@@ -237,8 +237,8 @@ fn report_stop<O: Sink, P: Keeper>(core: &mut Core<IndexedShelf, P>, out: &mut O
     }
 }
 
-/// Tries each delivery that is due at this moment, once, in the order of the queue. The answer is
-/// the exit status, as `deliver` says. `buffer` has room for a reply.
+/// Tries each delivery that is due at this moment, once, in the order of the queue. Returns the
+/// exit status, as described for `deliver`. `buffer` has room for a reply.
 fn try_due<O: Sink, P: Keeper, K: Link>(
     alloc: Global,
     core: &mut Core<IndexedShelf, P>,
@@ -274,12 +274,12 @@ fn try_due<O: Sink, P: Keeper, K: Link>(
 }
 
 /// Tries each delivery that is due at the one moment that is read from the clock, once, in the
-/// order of the queue (ActivityPub, sections 7.1 and 7.1.2). What comes of each is kept, and then
-/// the line printed that tells of it, before the next is claimed; the last line tells how many were
-/// tried. The answer is the exit status. It is 0 if nothing is left that was due then; 7 if a write
-/// failed, which may be that of the line of the last that was kept; 5 if the disk failed and 13 if
-/// the store has no room, when what came of one more attempt was to be kept; and 12 if out of
-/// memory. What is kept and what is printed are then those of the first of the deliveries.
+/// order of the queue (ActivityPub, sections 7.1 and 7.1.2). The result of each is kept, and then
+/// the line that reports it is printed, before the next is claimed. The last line says how many
+/// were tried. Returns the exit status. It is 0 if nothing is left that was due then; 7 if a write
+/// failed, which may be that of the line of the last result that was kept; 5 if the disk failed,
+/// and 13 if the store has no room, when the result of one more attempt was to be kept; and 12 if
+/// memory ran out. What is kept and what is printed are then those of the first of the deliveries.
 pub fn deliver<O: Sink, P: Keeper, C: Clock, K: Link>(
     alloc: Global,
     core: &mut Core<IndexedShelf, P>,

@@ -1,4 +1,4 @@
-//! A demonstration: a town in memory, what its members ask of it, and what is printed of the
+//! A demonstration: a town in memory, what its members ask of it, and what is printed about the
 //! replies.
 
 ghost use Rattle.std.specs.Prelude.{◌≡◌, ◌∷◌, ◌++◌, ◌<◌, ◌≤◌, [], ℕ, List, IfOk, IfSome, IsTrue};
@@ -145,7 +145,7 @@ fn set_up(alloc: Global, seed: Seed) -> Result<StoreCore<MemoryDisk>, AllocError
     }
 }
 
-// The disk, if none of its calls failed: what fails in memory does so for want of it.
+// The disk, if none of its calls failed: in memory, a call fails only if memory runs out.
 fn calm(disk: MemoryDisk) -> Result<MemoryDisk, AllocError>
     ensures { IfOk result (λ calm. (calm ≡ disk) × (disk.faults ≡ 0)) }
 {
@@ -180,8 +180,8 @@ fn is_over(end: SessionEnd) -> bool
     }
 }
 
-// Serves the requests on one connection, over the store of the disk, and appends all that was
-// written.
+// Serves the requests on one connection, over the store of the disk, and appends everything that
+// was written.
 fn visit(
     alloc: Global,
     seed: Seed,
@@ -213,7 +213,7 @@ fn visit(
 
 // ---- what is printed
 
-// How much the machine has.
+// How much the machine holds.
 #[tactic(auto, using(fedi_report::proofs::RowLemmas::row_for_each))]
 fn held<P: Keeper>(core: &Core<IndexedShelf, P>) -> Held
     requires { IsLegal core.now.history }
@@ -226,7 +226,7 @@ fn held<P: Keeper>(core: &Core<IndexedShelf, P>) -> Held
     }
 }
 
-// How much the store of the disk has.
+// How much the store of the disk holds.
 #[tactic(auto, using(fedi_startup::proofs::OneAnswer::one_history))]
 fn count(alloc: Global, seed: Seed, disk: MemoryDisk) -> Result<Held, AllocError>
     ensures { (history : List Entry) → HasStore history disk
@@ -250,11 +250,11 @@ fn demo_text(alloc: Global, seed: Seed, number: u16) -> Result<Vec<u8>, AllocErr
     summary(alloc, number, held, &written)
 }
 
-/// Runs the demonstration with this number: 2,000 requests of eight members of a town in memory, by
-/// numbers that are drawn from it on, on two connections. It prints how many replies had each
-/// status, how much the town's store then has, and the length and the digest of all that was
-/// written on the connections. The answer is the exit status: 0, 7 if a write failed, or 12 out of
-/// memory, and then nothing is printed.
+/// Runs the demonstration with this number: 2,000 requests of eight members of a town in memory, on
+/// two connections. The requests are chosen by numbers that are drawn, starting from this one. It
+/// prints how many replies had each status, how much the town's store then holds, and the length
+/// and the digest of everything that was written on the connections. Returns the exit status: 0, or
+/// 7 if a write failed, or 12 if memory ran out, and then nothing is printed.
 pub(crate) fn demo<O: Sink>(alloc: Global, seed: Seed, out: &mut O, number: u16) -> u8
     ensures { Demonstrates number (output_by O.sent O.write_faults out.old)
         (output_by O.sent O.write_faults out.new) result }

@@ -20,7 +20,7 @@ use fedi_outside::{Failed, Keeper, Sink};
 use fedi_town::CommandFault;
 use std::alloc::{AllocError, Global};
 
-/// Tells why a command was refused. The answer is the exit status.
+/// Reports why a command was refused. Returns the exit status.
 fn report_fault<O: Sink>(out: &mut O, fault: CommandFault) -> u8
     ensures { ReportsFault fault (output_by O.sent O.write_faults out.old)
         (output_by O.sent O.write_faults out.new) result }
@@ -36,10 +36,10 @@ fn report_fault<O: Sink>(out: &mut O, fault: CommandFault) -> u8
     }
 }
 
-/// Keeps the entry of a new member or peer, and hands back the line that tells of it. The first
-/// rule that is broken is reported whatever memory is left, and there is a line before the entry is
-/// kept, so that nobody is kept of whom it cannot be told. A keeper that failed is asked once to
-/// settle what it may have left, so that the entry is not found by the next opening, unless that
+/// Keeps the entry of a new member or peer, and returns the line that reports it. The first rule
+/// that is broken is reported however little memory is left, and the line is made before the entry
+/// is kept, so that nobody is kept who cannot be reported. A keeper that failed is asked once to
+/// settle what it may have left, so that the next opening does not find the entry, unless that
 /// fails too.
 #[tactic(auto, using(fedi_core::proofs::Commanding::command_may))]
 fn keep_entry<P: Keeper>(
@@ -56,8 +56,8 @@ fn keep_entry<P: Keeper>(
     ensures unmade { IfErr result (λ fault. IsUnmade P.room
         (state_of core.old.history (P.shown core.old.keeper))
         (state_of core.new.history (P.shown core.new.keeper)) entry fault) }
-    // A crash on the way leaves the records, with at most one more: the one in doubt, or the
-    // entry's.
+    // A crash during the call leaves the records, followed by at most one more: the one in doubt,
+    // or the entry's.
     ensures crashes { SurvivesMarked
         (base_of P.growth P.room (state_of core.old.history (P.shown core.old.keeper)))
         None (given core.old.history) (state_of core.new.history (P.shown core.new.keeper))
@@ -74,7 +74,7 @@ fn keep_entry<P: Keeper>(
         Err(KeepError { fault, .. }) => match fault {
             KeepFault::Full => Err(CommandFault::Full),
             KeepFault::Failed => {
-                // Whatever becomes of it, the command failed.
+                // Whatever the result, the command failed.
                 let _ = core.settle();
                 Err(CommandFault::KeeperFault)
             }
@@ -83,12 +83,10 @@ fn keep_entry<P: Keeper>(
     }
 }
 
-/// Keeps the entry of a new member or peer, and prints the line that tells of it, or why it was
-/// refused. Out of memory for the line, nothing is kept. The answer is the exit status: the entry
-/// was kept at 0 and
-/// 7. At 5 the disk failed: the entry was not kept, unless the disk failed again when it was to
-///    take back
-/// what it had of the entry, and then the next opening may find it.
+/// Keeps the entry of a new member or peer, and prints the line that reports it, or why it was
+/// refused. If there is no memory for the line, nothing is kept. Returns the exit status: at 0 and
+/// 7 the entry was kept. At 5 the disk failed: the entry was not kept, unless the disk failed again
+/// when it was to undo what it had of the entry, and then the next opening may find it.
 pub fn enroll<O: Sink, P: Keeper>(
     alloc: Global,
     core: &mut Core<IndexedShelf, P>,

@@ -39,7 +39,7 @@ fn write_table<O: Sink, P: Keeper>(
     }
 }
 
-/// Prints the table. The answer is the exit status.
+/// Prints the table. Returns the exit status.
 fn print_table<O: Sink, P: Keeper>(
     alloc: Global,
     out: &mut O,
@@ -50,7 +50,7 @@ fn print_table<O: Sink, P: Keeper>(
     ensures printed { PrintsTable (output_by O.sent O.write_faults out.old)
         (output_by O.sent O.write_faults out.new)
         (table_text table (town core.now.history)) result }
-    // The machine is only looked at.
+    // The machine is only read.
     ensures crashes { let opened = state_of core.now.history (P.shown core.now.keeper) in
         Survives (base_of P.growth P.room opened) None (given core.now.history)
         (given core.now.history) opened (P.crashes core.now.keeper) (P.crashes core.now.keeper) }
@@ -62,8 +62,8 @@ fn print_table<O: Sink, P: Keeper>(
     }
 }
 
-/// Prints a table of what the store of the disk has. The answer is the exit status, and the disk
-/// comes back as it was.
+/// Prints a table of what the store of the disk holds. Returns the exit status, and the disk as it
+/// was.
 pub(crate) fn export<O: Sink, D: Disk>(
     alloc: Global,
     seed: Seed,

@@ -20,7 +20,7 @@ use fedi_outside::{Clock, Entropy, Keeper, Sink};
 use fedi_text::Moment;
 use std::alloc::{AllocError, Global};
 
-/// The line that tells the operator the key of a new member. The error is out of memory.
+/// The line that gives the operator the key of a new member. The error is out of memory.
 #[tactic(auto, unfolding(crate::specs::Members::key_line))]
 fn key_line(alloc: Global, name: &str, key: &[u8; 32]) -> Result<Vec<u8>, AllocError>
     ensures { IfOk result (λ line. line.items ≡ key_line name.now key.now) }
@@ -34,10 +34,10 @@ fn key_line(alloc: Global, name: &str, key: &[u8; 32]) -> Result<Vec<u8>, AllocE
 }
 
 /// Makes a member of this name, as an operator asks: draws a key, keeps an entry with the digest of
-/// the key, and prints the name with the key, which is told this once and never kept. The answer is
-/// the exit status: a member was made at 0 and 7. At 5 the disk failed: the member was not made,
-/// unless the disk failed again when it was to take back what it had of the entry, and then the
-/// next opening may find it.
+/// the key, and prints the name with the key, which is shown only this once and never kept. Returns
+/// the exit status: at 0 and 7 a member was made. At 5 the disk failed: the member was not made,
+/// unless the disk failed again when it was to undo what it had of the entry, and then the next
+/// opening may find it.
 pub fn make_member<O: Sink, P: Keeper, C: Clock, E: Entropy>(
     alloc: Global,
     core: &mut Core<IndexedShelf, P>,

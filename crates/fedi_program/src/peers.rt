@@ -21,7 +21,7 @@ use fedi_outside::{Clock, Keeper, Sink};
 use fedi_text::{Moment, Text};
 use std::alloc::{AllocError, Global};
 
-/// The line that tells that a host was made a peer. The error is out of memory.
+/// The line that says that a host was made a peer. The error is out of memory.
 #[tactic(auto, unfolding(crate::specs::Peers::peer_line))]
 fn peer_line(alloc: Global, host: &str) -> Result<Vec<u8>, AllocError>
     ensures { IfOk result (λ line. line.items ≡ peer_line host.now) }
@@ -34,11 +34,11 @@ fn peer_line(alloc: Global, host: &str) -> Result<Vec<u8>, AllocError>
 }
 
 /// Makes another server a peer, as an operator asks: keeps an entry with its host, its key, its
-/// address and whether it is a relay, and prints its host. The answer is the exit status: the peer
-/// was made at 0 and 7. At 10 it is told which is the first that is wrong: the host is malformed,
-/// or is this server's or a peer's, the key is malformed, or the address is. At 5 the disk failed:
-/// the peer was not made, unless the disk failed again when it was to take back what it had of the
-/// entry, and then the next opening may find it.
+/// address and whether it is a relay, and prints its host. Returns the exit status: at 0 and 7 the
+/// peer was made. At 10 it was not, and the first thing that is wrong is reported: the host is
+/// malformed, or is this server's or a peer's, the key is malformed, or the address is. At 5 the
+/// disk failed: the peer was not made, unless the disk failed again when it was to undo what it had
+/// of the entry, and then the next opening may find it.
 pub fn make_peer<O: Sink, P: Keeper, C: Clock>(
     alloc: Global,
     core: &mut Core<IndexedShelf, P>,

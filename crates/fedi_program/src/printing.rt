@@ -1,4 +1,4 @@
-//! What a run prints, and the status that it then ends with.
+//! What a run prints, and the exit status that it then has.
 
 ghost use Rattle.std.specs.Prelude.{OnErr, OnOk, []};
 ghost use Rattle.fedi_logged.specs.Endings.{BreaksOff, Writes, output_by};
@@ -9,7 +9,7 @@ use crate::statuses::{DONE, WRITE_FAULT};
 use fedi_http::send;
 use fedi_outside::{Failed, Sink};
 
-/// Writes the text. The error is that a write failed, and a proper prefix of the text was written.
+/// Writes the text. The error is that a write failed; then a proper prefix of the text was written.
 pub fn write<O: Sink>(out: &mut O, text: &[u8]) -> Result<(), Failed>
     ensures written { OnOk result (Writes (output_by O.sent O.write_faults out.old)
         (output_by O.sent O.write_faults out.new) text.now) }
@@ -19,7 +19,7 @@ pub fn write<O: Sink>(out: &mut O, text: &[u8]) -> Result<(), Failed>
     send(out, text)
 }
 
-/// Prints the text of a run that is done. The answer is the exit status: 0, or 7 if a write failed.
+/// Prints the text of a run that is done. Returns the exit status: 0, or 7 if a write failed.
 pub fn print<O: Sink>(out: &mut O, text: &[u8]) -> u8
     ensures { Prints (output_by O.sent O.write_faults out.old)
         (output_by O.sent O.write_faults out.new) text.now result }
@@ -30,7 +30,7 @@ pub fn print<O: Sink>(out: &mut O, text: &[u8]) -> u8
     }
 }
 
-/// Prints the text that tells of a status other than 0, which stays if a write failed.
+/// Prints the text for a status other than 0. The status stays if a write failed.
 pub fn report<O: Sink>(out: &mut O, status: u8, text: &[u8]) -> u8
     ensures { Reports (output_by O.sent O.write_faults out.old)
         (output_by O.sent O.write_faults out.new) status text.now result }

@@ -74,8 +74,8 @@ fn status_of(end: SessionEnd) -> u8
     }
 }
 
-/// Serves the connection over the store of the disk. The store is opened first, so that what is no
-/// store is told even where memory is short.
+/// Serves the connection over the store of the disk. The store is opened first, so that a disk
+/// without a store is reported even if memory is short.
 fn inetd<S: Source, O: Sink, D: Disk, C: Clock>(
     alloc: Global,
     seed: Seed,
@@ -106,7 +106,7 @@ fn inetd<S: Source, O: Sink, D: Disk, C: Clock>(
     }
 }
 
-/// Makes a member of the store of the disk.
+/// Makes a member in the store of the disk.
 fn add_actor<S, O: Sink, D: Disk, C: Clock, E: Entropy>(
     alloc: Global,
     seed: Seed,
@@ -134,7 +134,7 @@ fn add_actor<S, O: Sink, D: Disk, C: Clock, E: Entropy>(
     }
 }
 
-/// Makes a peer of the store of the disk.
+/// Makes a peer in the store of the disk.
 fn add_peer<S, O: Sink, D: Disk, C: Clock>(
     alloc: Global,
     seed: Seed,
@@ -160,7 +160,7 @@ fn add_peer<S, O: Sink, D: Disk, C: Clock>(
     }
 }
 
-/// Tries what is due of the store of the disk, over the link.
+/// Tries what is due in the store of the disk, over the link.
 fn deliver_over<S, O: Sink, D: Disk, K: Link, C: Clock>(
     alloc: Global,
     seed: Seed,
@@ -187,7 +187,7 @@ fn deliver_over<S, O: Sink, D: Disk, K: Link, C: Clock>(
     }
 }
 
-/// Tries what is due of the store of the disk, by the link of the first bench.
+/// Tries what is due in the store of the disk, by the link of the first bench.
 fn deliver_by<S, O: Sink, D: Disk, W, K: Link, C: Clock>(
     alloc: Global,
     seed: Seed,
@@ -211,12 +211,12 @@ fn deliver_by<S, O: Sink, D: Disk, W, K: Link, C: Clock>(
     deliver_over(alloc, seed, connection, disk, &mut benches[0].link)
 }
 
-/// Prints how much the machine has. The answer is the exit status.
+/// Prints how much the machine holds. Returns the exit status.
 fn count<O: Sink, P: Keeper>(alloc: Global, out: &mut O, core: &Core<IndexedShelf, P>) -> u8
     requires legal { IsLegal core.now.history }
     ensures counted { Counts (output_by O.sent O.write_faults out.old)
         (output_by O.sent O.write_faults out.new) core.now.history result }
-    // The machine is only looked at.
+    // The machine is only read.
     ensures crashes { let opened = state_of core.now.history (P.shown core.now.keeper) in
         Survives (base_of P.growth P.room opened) None (given core.now.history)
         (given core.now.history) opened (P.crashes core.now.keeper) (P.crashes core.now.keeper) }
@@ -227,7 +227,7 @@ fn count<O: Sink, P: Keeper>(alloc: Global, out: &mut O, core: &Core<IndexedShel
     }
 }
 
-/// Counts what the store of the disk has.
+/// Counts what the store of the disk holds.
 fn check<O: Sink, D: Disk>(alloc: Global, seed: Seed, out: &mut O, disk: D) -> (u8, D)
     ensures checked { ChecksStore
         (medium_by D.shown D.crashes disk) (medium_by D.shown D.crashes result.1)
@@ -243,8 +243,8 @@ fn check<O: Sink, D: Disk>(alloc: Global, seed: Seed, out: &mut O, disk: D) -> (
     }
 }
 
-/// Does as `run` does, in this thread alone: whatever the arguments ask for but `serve`. The
-/// benches come back as they were, but for the first one's link, which `deliver` asks.
+/// Does what `run` does, in this thread alone: whatever the arguments ask for, except `serve`. The
+/// benches are returned as they were, except for the first one's link, which `deliver` asks.
 pub fn run_alone<S: Source, O: Sink, D: Disk, W, K: Link, C: Clock, E: Entropy>(
     alloc: Global,
     seed: Seed,
@@ -258,24 +258,24 @@ pub fn run_alone<S: Source, O: Sink, D: Disk, W, K: Link, C: Clock, E: Entropy>(
     requires linked { task_in (map string_bytes arguments.now) ≡ Some Deliver
         → 0 < vec_len benches }
 
-    // The status is one that the task may end with, and 2 exactly if the arguments are not
+    // The status is one that the task may end with, and it is 2 exactly if the arguments are not
     // accepted.
     ensures statuses { IsTrue
         (is_status_of (task_in (map string_bytes arguments.now)) result.status) }
     ensures arguments { (result.status ≡ 2) ↔ (task_in (map string_bytes arguments.now) ≡ None) }
 
-    // At 0 the whole conversation over the input was held, over the history of the disk's file:
-    // each request has the reply that the machine gives at the history so far, which each history
-    // that agrees on what the caller may know gives too, or one that tells of the disk and has its
-    // cause there. What was kept are the entries that were acknowledged.
+    // At 0 the whole conversation over the input was held, over the history of the disk's file.
+    // Each request has the reply that the machine gives at the history so far, and each history
+    // that agrees on what the caller may know gives the same reply; or it has a reply about the
+    // disk, whose cause lies there. The entries that were kept are those that were acknowledged.
     ensures talk { task_in (map string_bytes arguments.now) ≡ Some Inetd → result.status ≡ 0
         → TalksOverStore (C.told connection.old.clock)
         (medium_by D.shown D.crashes disk) (medium_by D.shown D.crashes result.disk)
         (scene_by S.left O.sent O.write_faults connection.old.input connection.old.out)
         (scene_by S.left O.sent O.write_faults connection.new.input connection.new.out) }
 
-    // At every other status, too, it is a conversation as far as it went, or the store was not
-    // opened, for a reason that is told, and nothing was read or written.
+    // At every other status it is a conversation too, as far as it went; or the store was not
+    // opened, for a reason that is reported, and nothing was read or written.
     ensures session { task_in (map string_bytes arguments.now) ≡ Some Inetd
         → ServesStore (C.told connection.old.clock)
         (medium_by D.shown D.crashes disk) (medium_by D.shown D.crashes result.disk)
@@ -283,8 +283,8 @@ pub fn run_alone<S: Source, O: Sink, D: Disk, W, K: Link, C: Clock, E: Entropy>(
         (scene_by S.left O.sent O.write_faults connection.new.input connection.new.out)
         result.status }
 
-    // A member is made of the key that was drawn, or the first reason not to is told, and each
-    // reason has its cause: at 6 the draw failed, at 7 a write, and at 5 the disk.
+    // A member is made with the key that was drawn, or the first reason not to make it is reported.
+    // Each reason has its cause: at 6 the draw failed, at 7 a write, and at 5 the disk.
     ensures added { (name : List ℕ) (locked : Bool)
         → task_in (map string_bytes arguments.now) ≡ Some (AddActor name locked)
         → AddsMember (C.told connection.old.clock)
@@ -293,8 +293,8 @@ pub fn run_alone<S: Source, O: Sink, D: Disk, W, K: Link, C: Clock, E: Entropy>(
         (output_by O.sent O.write_faults connection.old.out)
         (output_by O.sent O.write_faults connection.new.out) name locked result.status }
 
-    // A peer is made of the host, the key and the address, or the first reason not to is told, and
-    // each reason has its cause: at 7 a write failed, and at 5 the disk.
+    // A peer is made from the host, the key and the address, or the first reason not to make it is
+    // reported. Each reason has its cause: at 7 a write failed, and at 5 the disk.
     ensures peered { (host key address : List ℕ) (relay : Bool)
         → task_in (map string_bytes arguments.now) ≡ Some (AddPeer host key address relay)
         → AddsPeer (C.told connection.old.clock)
@@ -303,23 +303,24 @@ pub fn run_alone<S: Source, O: Sink, D: Disk, W, K: Link, C: Clock, E: Entropy>(
         (output_by O.sent O.write_faults connection.new.out)
         host key address relay result.status }
 
-    // A store is made, or the first reason not to is told.
+    // A store is made, or the first reason not to make it is reported.
     ensures made { (host : List ℕ)
         → task_in (map string_bytes arguments.now) ≡ Some (Init host)
         → MakesStore D.shown D.crashes (C.told connection.old.clock) disk result.disk
         (output_by O.sent O.write_faults connection.old.out)
         (output_by O.sent O.write_faults connection.new.out) host result.status }
 
-    // Whatever comes of it, the bytes of a store that is there stay: reads give the same, and a
-    // crash at any moment of the run leaves nothing new.
+    // Whatever the result, the bytes of an existing store stay: reads give the same, and a crash at
+    // any moment of the run leaves nothing new.
     ensures stays { (host : List ℕ)
         → task_in (map string_bytes arguments.now) ≡ Some (Init host)
         → KeepsOther (D.shown disk) (D.shown result.disk)
         (D.crashes disk) (D.crashes result.disk) }
 
     // The deliveries that are due at the one moment that is read are tried, each once and in order,
-    // by the first bench's link: all of them at 0, and else the first of them. What was asked of
-    // the link and what was heard show what came of each, which is kept and then told by its line.
+    // by the first bench's link: all of them at 0, and otherwise the first of them. What was asked
+    // of the link and what was heard show the result of each, which is kept and then reported by
+    // its line.
     ensures delivered { task_in (map string_bytes arguments.now) ≡ Some Deliver
         → DeliversBy (told_by K.asked K.heard K.link_faults) (C.told connection.old.clock)
         (medium_by D.shown D.crashes disk) (medium_by D.shown D.crashes result.disk)
@@ -327,7 +328,7 @@ pub fn run_alone<S: Source, O: Sink, D: Disk, W, K: Link, C: Clock, E: Entropy>(
         (output_by O.sent O.write_faults connection.old.out)
         (output_by O.sent O.write_faults connection.new.out) result.status }
 
-    // What a store has is counted, and the disk is untouched: reads give the same bytes, and a
+    // What a store holds is counted, and the disk is untouched: reads give the same bytes, and a
     // crash at any moment of the run leaves nothing new.
     ensures checked { task_in (map string_bytes arguments.now) ≡ Some Check
         → ChecksStore
@@ -335,7 +336,7 @@ pub fn run_alone<S: Source, O: Sink, D: Disk, W, K: Link, C: Clock, E: Entropy>(
         (output_by O.sent O.write_faults connection.old.out)
         (output_by O.sent O.write_faults connection.new.out) result.status }
 
-    // A table of what a store has is printed, and the disk is untouched, as by the counting.
+    // A table of what a store holds is printed, and the disk is untouched, as it is by counting.
     ensures exported { (table : Table)
         → task_in (map string_bytes arguments.now) ≡ Some (Export table)
         → ExportsStore table
@@ -350,16 +351,16 @@ pub fn run_alone<S: Source, O: Sink, D: Disk, W, K: Link, C: Clock, E: Entropy>(
         → Demonstrates number (output_by O.sent O.write_faults connection.old.out)
         (output_by O.sent O.write_faults connection.new.out) result.status }
 
-    // Whatever the task and the input, a store that is opened comes back with the records of a
+    // Whatever the task and the input, a store that is opened is returned with the records of a
     // legal history: those that the opening found, and those of the entries that the run made. A
-    // crash at any moment of the run leaves the records of before the run, or those that the
-    // opening found with the first of these, none or more, and behind them at most one that was in
-    // doubt then. After the run it leaves the records of all of them, with at most the one in
-    // doubt. One that is not opened is untouched, image by image.
+    // crash at any moment of the run leaves the records from before the run, or those that the
+    // opening found, followed by the first of the new ones, none or more, and by at most one that
+    // was in doubt then. After the run a crash leaves the records of all of them, followed by at
+    // most the one in doubt. A store that is not opened is untouched, image by image.
     ensures crashes { opens_store (task_in (map string_bytes arguments.now)) ≡ true
         → IsKeptSafe (medium_by D.shown D.crashes disk) (medium_by D.shown D.crashes result.disk) }
 
-    // The usage is printed whole, unless a write failed.
+    // The usage is printed completely, unless a write failed.
     ensures usage { task_in (map string_bytes arguments.now) ≡ Some Usage
         → Prints (output_by O.sent O.write_faults connection.old.out)
         (output_by O.sent O.write_faults connection.new.out) usage_text result.status }
@@ -367,8 +368,8 @@ pub fn run_alone<S: Source, O: Sink, D: Disk, W, K: Link, C: Clock, E: Entropy>(
         → WritesUnlessFailed (output_by O.sent O.write_faults connection.old.out)
         (output_by O.sent O.write_faults connection.new.out) [] usage_text }
 
-    // Only a connection is read from, only the tasks of a store ask the disk, and only the making
-    // of a member draws a key.
+    // Only serving a connection reads the input, only the tasks of a store ask the disk, and only
+    // making a member draws a key.
     ensures idle { task_in (map string_bytes arguments.now) ≢ Some Inetd
         → connection.new.input ≡ connection.old.input }
     ensures unasked { names_store (task_in (map string_bytes arguments.now)) ≡ false
@@ -378,20 +379,20 @@ pub fn run_alone<S: Source, O: Sink, D: Disk, W, K: Link, C: Clock, E: Entropy>(
         → entropy.new ≡ entropy.old }
 
     // A failure has its cause outside: the count of failed reads rose exactly at 6, and that of
-    // failed writes at 7. (Of the making of a member, a peer or a store `added`, `peered` and
-    // `made` say so, and of what is tried `delivered` does.)
+    // failed writes at 7. (For making a member, a peer or a store, `added`, `peered` and `made` say
+    // so, and for what is tried `delivered` does.)
     ensures causes { task_in (map string_bytes arguments.now) ≡ Some Inetd → HasCauses
         (faults_by S.read_faults O.write_faults connection.old.input connection.old.out)
         (faults_by S.read_faults O.write_faults connection.new.input connection.new.out)
         result.status }
     ensures clock { connection.new.clock ≡ connection.old.clock }
-    // Only the first link of `deliver` is asked.
+    // Only `deliver` asks a link, the first.
     ensures benches { task_in (map string_bytes arguments.now) ≢ Some Deliver
         → result.benches ≡ benches }
 
     // If no call failed, a task is done (0) unless memory ran out (12), over each store, and `init`
-    // over what may become one, where it breaks no rule and has room. The input of `inetd` may also
-    // have ended inside a request (8).
+    // over a disk that may become one, if the task breaks no rule and has room. The input of
+    // `inetd` may also have ended inside a request (8).
     ensures complete { (task : Task) → task_in (map string_bytes arguments.now) ≡ Some task
         → IsComplete task (C.told connection.old.clock)
         (outside_of (D.shown disk) (chance_by E.next E.faults entropy.old)
@@ -485,44 +486,48 @@ pub fn run_alone<S: Source, O: Sink, D: Disk, W, K: Link, C: Clock, E: Entropy>(
 ///
 /// `usage` prints the arguments that the program takes. `init STORE HOST` makes a store for the
 /// host, and prints `made HOST`. `add-actor STORE NAME` makes a member of this name, whose key is
-/// drawn from the entropy, and prints `NAME KEY`, the key in 64 digits; with `--locked`, which may
-/// stand anywhere behind the command, the member answers each Follow.
-/// `add-peer STORE HOST KEY ADDRESS` makes the server of this host a peer, which is reached at the
-/// address and has the same key, 64 digits, and prints `peer HOST`; with `--relay`, which may stand
-/// anywhere behind the command, the peer may deliver what actors of other hosts did. `inetd STORE`
-/// serves one connection: it answers the requests on the input one after the other, and keeps what
-/// they make. `serve STORE ADDRESS` serves the connections that the doors of the benches give, each
-/// door by a worker in a thread of its own, until all doors close; binding to the address is the
-/// doors' work. `deliver STORE` tries each delivery that is due at one moment once, by the link of
-/// the first bench, and prints `ACTIVITY HOST WORD` for each: the activity's id, the recipient's
-/// host, and `delivered`, `again` or `gave-up`; and then `done N`, the number of those that it
-/// tried. `export STORE TABLE` prints the members (`actors`), the `activities` or the deliveries
-/// that have not ended (`queue`) as comma-separated values (RFC 4180), and names no recipient.
-/// `check STORE` opens the store and prints how many entries, members, activities and deliveries
-/// that have not ended it has. `demo NUMBER` has eight members of a town in memory ask 2,000
-/// requests, which are drawn from a number of one to four digits, and prints how many replies had
-/// each status, what the town then has, and the length and the digest of all replies. Other
-/// arguments are answered with the usage, and do not ask the disk.
+/// drawn from the entropy, and prints `NAME KEY`, the key in 64 digits. With `--locked`, which may
+/// be anywhere after the command, the member answers each Follow. `add-peer STORE HOST KEY ADDRESS`
+/// makes the server of this host a peer, which is reached at the address and has the same key, 64
+/// digits, and prints `peer HOST`. With `--relay`, which may be anywhere after the command, the
+/// peer may deliver what actors of other hosts did. `inetd STORE` serves one connection: it answers
+/// the requests on the input one after the other, and keeps what they make. `serve STORE ADDRESS`
+/// serves the connections that the doors of the benches give, each door by a worker in a thread of
+/// its own, until all doors close; binding to the address is the doors' work. `deliver STORE` tries
+/// each delivery that is due at one moment once, by the link of the first bench. It prints
+/// `ACTIVITY HOST WORD` for each: the activity's id, the recipient's host, and `delivered`, `again`
+/// or `gave-up`; and then `done N`, the number of deliveries that it tried. `export STORE TABLE`
+/// prints the members (`actors`), the `activities` or the deliveries that have not ended (`queue`)
+/// as comma-separated values (RFC 4180), and names no recipient. `check STORE` opens the store and
+/// prints how many entries, members, activities and deliveries that have not ended it has.
+/// `demo NUMBER` has eight members of a town in memory send 2,000 requests, which are drawn from a
+/// number of one to four digits, and prints how many replies had each status, what the town then
+/// has, and the length and the digest of all replies. Other arguments are answered with the usage,
+/// and do not ask the disk.
 ///
-/// | Status | When | Printed, but by `inetd` and `serve` |
+/// | Status | When | Printed, except by `inetd` and `serve` |
 /// |---|---|---|
-/// | 0 | it is done; by `inetd` the input ended behind the last request, or a reply closed the connection; by `serve` each door closed | as above |
+/// | 0 | it is done | as above |
 /// | 2 | the arguments are not accepted | the usage |
 /// | 3 | the disk has fewer than 9 bytes, or does not begin with a store's, or has no record | `not a store` |
 /// | 4 | the store is damaged | `damaged at byte P`, `damaged at record R` |
 /// | 5 | the disk failed | `disk fault` |
 /// | 6 | a read failed, or no key could be drawn | nothing |
-/// | 7 | a write failed; a member, peer or store that was to be made was, and what came of the last attempt of `deliver` was kept | |
+/// | 7 | a write failed | |
 /// | 8 | the input ended inside a request | |
 /// | 9 | a store was to be made, and the disk has other bytes | `exists` |
 /// | 10 | a rule is broken | `refused: bad name`, `refused: name taken`, `refused: key taken`, `refused: bad host`, `refused: host taken`, `refused: bad key`, `refused: bad address` |
 /// | 11 | a door failed | nothing |
-/// | 12 | out of memory | nothing, lines of attempts that were kept, or a front of the table |
-/// | 13 | the store has no room for a member or a peer, or for what came of an attempt | `full` |
+/// | 12 | out of memory | nothing, lines of attempts that were kept, or a prefix of the table |
+/// | 13 | the store has no room for a member or a peer, or for the result of an attempt | `full` |
 ///
-/// A status other than 0 stays if its text cannot be written. The disk comes back with all that was
-/// kept, and the benches come back too. The seed is what texts are looked up by: nothing that can
-/// be seen depends on it but time.
+/// `inetd` is done if the input ended after the last request, or a reply closed the connection, and
+/// `serve` if each door closed. At 7, a member, peer or store that was to be made was made, and the
+/// result of the last attempt of `deliver` was kept.
+///
+/// A status other than 0 stays if its text cannot be written. The disk is returned with everything
+/// that was kept, and the benches are returned too. The seed is used to look up strings: nothing
+/// that can be seen depends on it except time.
 pub fn run<
     R: Threads + Wait + Sync,
     S: Source,
@@ -545,24 +550,24 @@ pub fn run<
     requires some { 0 < vec_len benches }
     requires waiting { All (λ b. IsWaiting W.out W.idle b.door) benches.items }
 
-    // The status is one that the task may end with, and 2 exactly if the arguments are not
+    // The status is one that the task may end with, and it is 2 exactly if the arguments are not
     // accepted.
     ensures statuses { IsTrue
         (is_status_of (task_in (map string_bytes arguments.now)) result.status) }
     ensures arguments { (result.status ≡ 2) ↔ (task_in (map string_bytes arguments.now) ≡ None) }
 
-    // At 0 the whole conversation over the input was held, over the history of the disk's file:
-    // each request has the reply that the machine gives at the history so far, which each history
-    // that agrees on what the caller may know gives too, or one that tells of the disk and has its
-    // cause there. What was kept are the entries that were acknowledged.
+    // At 0 the whole conversation over the input was held, over the history of the disk's file.
+    // Each request has the reply that the machine gives at the history so far, and each history
+    // that agrees on what the caller may know gives the same reply; or it has a reply about the
+    // disk, whose cause lies there. The entries that were kept are those that were acknowledged.
     ensures talk { task_in (map string_bytes arguments.now) ≡ Some Inetd → result.status ≡ 0
         → TalksOverStore (C.told connection.old.clock)
         (medium_by D.shown D.crashes disk) (medium_by D.shown D.crashes result.disk)
         (scene_by S.left O.sent O.write_faults connection.old.input connection.old.out)
         (scene_by S.left O.sent O.write_faults connection.new.input connection.new.out) }
 
-    // At every other status, too, it is a conversation as far as it went, or the store was not
-    // opened, for a reason that is told, and nothing was read or written.
+    // At every other status it is a conversation too, as far as it went; or the store was not
+    // opened, for a reason that is reported, and nothing was read or written.
     ensures session { task_in (map string_bytes arguments.now) ≡ Some Inetd
         → ServesStore (C.told connection.old.clock)
         (medium_by D.shown D.crashes disk) (medium_by D.shown D.crashes result.disk)
@@ -570,8 +575,8 @@ pub fn run<
         (scene_by S.left O.sent O.write_faults connection.new.input connection.new.out)
         result.status }
 
-    // A member is made of the key that was drawn, or the first reason not to is told, and each
-    // reason has its cause: at 6 the draw failed, at 7 a write, and at 5 the disk.
+    // A member is made with the key that was drawn, or the first reason not to make it is reported.
+    // Each reason has its cause: at 6 the draw failed, at 7 a write, and at 5 the disk.
     ensures added { (name : List ℕ) (locked : Bool)
         → task_in (map string_bytes arguments.now) ≡ Some (AddActor name locked)
         → AddsMember (C.told connection.old.clock)
@@ -580,8 +585,8 @@ pub fn run<
         (output_by O.sent O.write_faults connection.old.out)
         (output_by O.sent O.write_faults connection.new.out) name locked result.status }
 
-    // A peer is made of the host, the key and the address, or the first reason not to is told, and
-    // each reason has its cause: at 7 a write failed, and at 5 the disk.
+    // A peer is made from the host, the key and the address, or the first reason not to make it is
+    // reported. Each reason has its cause: at 7 a write failed, and at 5 the disk.
     ensures peered { (host key address : List ℕ) (relay : Bool)
         → task_in (map string_bytes arguments.now) ≡ Some (AddPeer host key address relay)
         → AddsPeer (C.told connection.old.clock)
@@ -590,23 +595,24 @@ pub fn run<
         (output_by O.sent O.write_faults connection.new.out)
         host key address relay result.status }
 
-    // A store is made, or the first reason not to is told.
+    // A store is made, or the first reason not to make it is reported.
     ensures made { (host : List ℕ)
         → task_in (map string_bytes arguments.now) ≡ Some (Init host)
         → MakesStore D.shown D.crashes (C.told connection.old.clock) disk result.disk
         (output_by O.sent O.write_faults connection.old.out)
         (output_by O.sent O.write_faults connection.new.out) host result.status }
 
-    // Whatever comes of it, the bytes of a store that is there stay: reads give the same, and a
-    // crash at any moment of the run leaves nothing new.
+    // Whatever the result, the bytes of an existing store stay: reads give the same, and a crash at
+    // any moment of the run leaves nothing new.
     ensures stays { (host : List ℕ)
         → task_in (map string_bytes arguments.now) ≡ Some (Init host)
         → KeepsOther (D.shown disk) (D.shown result.disk)
         (D.crashes disk) (D.crashes result.disk) }
 
     // The deliveries that are due at the one moment that is read are tried, each once and in order,
-    // by the first bench's link: all of them at 0, and else the first of them. What was asked of
-    // the link and what was heard show what came of each, which is kept and then told by its line.
+    // by the first bench's link: all of them at 0, and otherwise the first of them. What was asked
+    // of the link and what was heard show the result of each, which is kept and then reported by
+    // its line.
     ensures delivered { task_in (map string_bytes arguments.now) ≡ Some Deliver
         → DeliversBy (told_by K.asked K.heard K.link_faults) (C.told connection.old.clock)
         (medium_by D.shown D.crashes disk) (medium_by D.shown D.crashes result.disk)
@@ -614,7 +620,7 @@ pub fn run<
         (output_by O.sent O.write_faults connection.old.out)
         (output_by O.sent O.write_faults connection.new.out) result.status }
 
-    // What a store has is counted, and the disk is untouched: reads give the same bytes, and a
+    // What a store holds is counted, and the disk is untouched: reads give the same bytes, and a
     // crash at any moment of the run leaves nothing new.
     ensures checked { task_in (map string_bytes arguments.now) ≡ Some Check
         → ChecksStore
@@ -622,7 +628,7 @@ pub fn run<
         (output_by O.sent O.write_faults connection.old.out)
         (output_by O.sent O.write_faults connection.new.out) result.status }
 
-    // A table of what a store has is printed, and the disk is untouched, as by the counting.
+    // A table of what a store holds is printed, and the disk is untouched, as it is by counting.
     ensures exported { (table : Table)
         → task_in (map string_bytes arguments.now) ≡ Some (Export table)
         → ExportsStore table
@@ -637,16 +643,16 @@ pub fn run<
         → Demonstrates number (output_by O.sent O.write_faults connection.old.out)
         (output_by O.sent O.write_faults connection.new.out) result.status }
 
-    // Whatever the task and the input, a store that is opened comes back with the records of a
+    // Whatever the task and the input, a store that is opened is returned with the records of a
     // legal history: those that the opening found, and those of the entries that the run made. A
-    // crash at any moment of the run leaves the records of before the run, or those that the
-    // opening found with the first of these, none or more, and behind them at most one that was in
-    // doubt then. After the run it leaves the records of all of them, with at most the one in
-    // doubt. One that is not opened is untouched, image by image.
+    // crash at any moment of the run leaves the records from before the run, or those that the
+    // opening found, followed by the first of the new ones, none or more, and by at most one that
+    // was in doubt then. After the run a crash leaves the records of all of them, followed by at
+    // most the one in doubt. A store that is not opened is untouched, image by image.
     ensures crashes { opens_store (task_in (map string_bytes arguments.now)) ≡ true
         → IsKeptSafe (medium_by D.shown D.crashes disk) (medium_by D.shown D.crashes result.disk) }
 
-    // The usage is printed whole, unless a write failed.
+    // The usage is printed completely, unless a write failed.
     ensures usage { task_in (map string_bytes arguments.now) ≡ Some Usage
         → Prints (output_by O.sent O.write_faults connection.old.out)
         (output_by O.sent O.write_faults connection.new.out) usage_text result.status }
@@ -654,8 +660,8 @@ pub fn run<
         → WritesUnlessFailed (output_by O.sent O.write_faults connection.old.out)
         (output_by O.sent O.write_faults connection.new.out) [] usage_text }
 
-    // Only a connection is read from, only the tasks of a store ask the disk, and only the making
-    // of a member draws a key.
+    // Only serving a connection reads the input, only the tasks of a store ask the disk, and only
+    // making a member draws a key.
     ensures idle { task_in (map string_bytes arguments.now) ≢ Some Inetd
         → connection.new.input ≡ connection.old.input }
     ensures unasked { names_store (task_in (map string_bytes arguments.now)) ≡ false
@@ -665,8 +671,8 @@ pub fn run<
         → entropy.new ≡ entropy.old }
 
     // A failure has its cause outside: the count of failed reads rose exactly at 6, and that of
-    // failed writes at 7. (Of the making of a member, a peer or a store `added`, `peered` and
-    // `made` say so, and of what is tried `delivered` does.)
+    // failed writes at 7. (For making a member, a peer or a store, `added`, `peered` and `made` say
+    // so, and for what is tried `delivered` does.)
     ensures causes { task_in (map string_bytes arguments.now) ≡ Some Inetd → HasCauses
         (faults_by S.read_faults O.write_faults connection.old.input connection.old.out)
         (faults_by S.read_faults O.write_faults connection.new.input connection.new.out)
@@ -674,10 +680,10 @@ pub fn run<
     ensures clock { connection.new.clock ≡ connection.old.clock }
 
     // `serve` serves each connection that a door gives, over one log that begins with the history
-    // of the disk's file: each request has the reply that the machine gives at the log so far.
-    // Where a door is idle, its worker makes one step of delivery: it tries the first that is due
-    // and that nobody has claimed. Each item that was added is that of one request or one attempt
-    // of one worker. A door that failed is the cause of 11, and at 0 each door has closed.
+    // of the disk's file: each request has the reply that the machine gives at the log so far. When
+    // a door is idle, its worker makes one step of delivery: it tries the first delivery that is
+    // due and that nobody has claimed. Each item that was added is that of one request or one
+    // attempt of one worker. A door that failed is the cause of 11, and at 0 each door has closed.
     ensures doors { (address : List ℕ)
         → task_in (map string_bytes arguments.now) ≡ Some (Serve address)
         → ServesDoors (C.told connection.old.clock)
@@ -685,14 +691,14 @@ pub fn run<
         W.served (told_by K.asked K.heard K.link_faults) W.closed W.faults
         benches.items result.benches.items result.status }
 
-    // Only the doors and links of `serve` and the first link of `deliver` are asked.
+    // Only `serve` asks doors and links, and `deliver` the first link.
     ensures benches { address_of (task_in (map string_bytes arguments.now)) ≡ None
         → task_in (map string_bytes arguments.now) ≢ Some Deliver
         → result.benches ≡ benches }
 
     // If no call failed, a task is done (0) unless memory ran out (12), over each store, and `init`
-    // over what may become one, where it breaks no rule and has room. The input of `inetd` may also
-    // have ended inside a request (8).
+    // over a disk that may become one, if the task breaks no rule and has room. The input of
+    // `inetd` may also have ended inside a request (8).
     ensures complete { (task : Task) → task_in (map string_bytes arguments.now) ≡ Some task
         → DoorsAreCalm W.faults benches.items result.benches.items
         → IsComplete task (C.told connection.old.clock)

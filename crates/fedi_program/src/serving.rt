@@ -29,9 +29,9 @@ fn status_after(end: ServeEnd) -> u8
     }
 }
 
-/// Serves the connections that the doors of the benches give, and delivers what is due while none
-/// wait, each bench by a worker in a thread of its own, over the store of the disk, until each door
-/// has closed or failed.
+/// Serves the connections that the doors of the benches give, over the store of the disk, and
+/// delivers what is due while no connection waits. Each bench has a worker in a thread of its own,
+/// until each door has closed or failed.
 pub(crate) fn serve<
     R: Threads + Wait + Sync,
     D: Disk + Send + Drop,

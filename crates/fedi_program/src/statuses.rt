@@ -15,7 +15,7 @@ pub const DAMAGED: u8 = 4;
 /// The disk failed.
 pub const DISK_FAULT: u8 = 5;
 
-/// A read failed, or a draw of random bytes.
+/// A read or a draw of random bytes failed.
 pub const READ_FAULT: u8 = 6;
 
 /// A write failed.
@@ -24,7 +24,7 @@ pub const WRITE_FAULT: u8 = 7;
 /// The input ended inside a request.
 pub const CUT_SHORT: u8 = 8;
 
-/// What is to be made a store holds something else.
+/// The disk that is to be made a store holds something else.
 pub const EXISTS: u8 = 9;
 
 /// A command breaks a rule.

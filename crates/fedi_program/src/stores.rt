@@ -1,4 +1,4 @@
-//! What a run tells of a store that is made, or not opened.
+//! What a run prints about a store that is made, or that is not opened.
 
 ghost use Rattle.std.specs.Prelude.{◌≡◌, ◌≤◌, IfOk, length};
 ghost use Rattle.fedi_journal.specs.Making.{KeepsOther};
@@ -29,7 +29,7 @@ pub fn status_by(fault: StoreFault) -> u8
     }
 }
 
-/// The line that tells where a store is damaged: at which byte, or at which record.
+/// The line that says where a store is damaged: at which byte, or at which record.
 #[tactic(auto, unfolding(crate::specs::Stores::damage_line))]
 fn damage_line(what: &str, place: u64) -> ArrayString<64>
     requires { length what.now ≤ 8 }
@@ -45,7 +45,7 @@ fn damage_line(what: &str, place: u64) -> ArrayString<64>
     line
 }
 
-/// Tells where a store is damaged. The answer is the exit status.
+/// Reports where a store is damaged. Returns the exit status.
 fn report_damage<O: Sink>(out: &mut O, what: &str, place: u64) -> u8
     requires { length what.now ≤ 8 }
     ensures { Reports (output_by O.sent O.write_faults out.old)
@@ -55,7 +55,7 @@ fn report_damage<O: Sink>(out: &mut O, what: &str, place: u64) -> u8
     report(out, DAMAGED, line.as_bytes())
 }
 
-/// Tells why a store is not opened. The answer is the exit status.
+/// Reports why a store is not opened. Returns the exit status.
 pub fn report_store<O: Sink>(out: &mut O, fault: StoreFault) -> u8
     ensures { ReportsStore fault (output_by O.sent O.write_faults out.old)
         (output_by O.sent O.write_faults out.new) result }
@@ -69,7 +69,7 @@ pub fn report_store<O: Sink>(out: &mut O, fault: StoreFault) -> u8
     }
 }
 
-/// Tells why a store is not made. The answer is the exit status.
+/// Reports why a store is not made. Returns the exit status.
 fn report_making<O: Sink>(out: &mut O, fault: MakeFault) -> u8
     ensures { ReportsMaking fault (output_by O.sent O.write_faults out.old)
         (output_by O.sent O.write_faults out.new) result }
@@ -81,7 +81,7 @@ fn report_making<O: Sink>(out: &mut O, fault: MakeFault) -> u8
     }
 }
 
-/// The line that tells that a store was made for this host. The error is out of memory.
+/// The line that says that a store was made for this host. The error is out of memory.
 fn made_line(alloc: Global, host: &str) -> Result<Vec<u8>, AllocError>
     ensures { IfOk result (λ line. line.items ≡ made_line host.now) }
 {
@@ -93,10 +93,10 @@ fn made_line(alloc: Global, host: &str) -> Result<Vec<u8>, AllocError>
 }
 
 /// Makes the disk a store for this host, as an operator asks, and prints that it was made. The line
-/// is made before the store, so that a store is not made of which this cannot be told, being out of
-/// memory. The answer is the exit status: a store was made at 0 and 7. The disk comes back.
-/// Whatever the answer, the bytes of a store that is there stay: reads give the same, and a crash
-/// leaves nothing new.
+/// is made before the store, so that no store is made that could not be reported because memory
+/// runs out. Returns the exit status, and the disk: at 0 and 7 a store was made. Whatever the
+/// status, the bytes of an existing store stay: reads give the same, and a crash leaves nothing
+/// new.
 #[tactic(auto, using(crate::proofs::StoreLemmas::not_asked))]
 pub fn begin_store<O: Sink, D: Disk, C: Clock>(
     alloc: Global,

@@ -37,13 +37,13 @@ pub enum Verb {
 pub struct Row {
     /// The command.
     verb: Verb,
-    /// How many positions it takes.
+    /// How many positional arguments it takes.
     positions: usize,
     /// Its flag, if it has one.
     flag: Option<&'static str>,
 }
 
-/// How many positions a command takes at most.
+/// The most positional arguments that a command takes.
 const POSITIONS: usize = 4;
 
 impl Row {
@@ -115,14 +115,14 @@ fn is_position(word: &str) -> bool
 pub struct Reading<'a> {
     /// The command.
     pub verb: Verb,
-    /// Its positions, in order.
+    /// Its positional arguments, in order.
     positions: ArrayVec<&'a str, POSITIONS>,
     /// Whether its flag is among the words after it.
     pub flagged: bool,
 }
 
 impl<'a> Reading<'a> {
-    /// The position of this number, counted from 0. It is empty where there are fewer.
+    /// The positional argument with this number, counted from 0. It is empty if there are fewer.
     pub fn position(&self, number: usize) -> &'a str
         ensures { result.now ≡ word (reading_of self.now).positions number }
     {
@@ -133,9 +133,9 @@ impl<'a> Reading<'a> {
     }
 }
 
-// The words after a command as its row reads them, if it accepts them: those that are not its flag
-// are its positions, as many as it takes, of which none begins with `-`, and its flag is there once
-// at most.
+// The words after a command as its row reads them, if it accepts them. The words that are not its
+// flag are its positional arguments, as many as it takes, none beginning with `-`, and its flag
+// occurs at most once.
 fn read_by<'a>(words: &'a [String], row: Row) -> Option<Reading<'a>>
     requires { row.positions ≤ POSITIONS }
     ensures { (name : List ℕ) → option_map reading_of result

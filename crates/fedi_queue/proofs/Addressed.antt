@@ -1,5 +1,5 @@
--- In a legal history each activity has an id, that of a member's is of this host, and an activity
--- is sent to nobody twice.
+-- In a legal history each activity has an id, a member's activity has an id of this host, and no
+-- activity is sent to anybody twice.
 use Rattle.std.proofs.Common.{◌≡◌, ℕ, suc, ◌+◌, Bool, true, false, List, [], ◌∷◌, ◌++◌, Option, Some, None, refl, sym, ap, subst, ◌∙◌, arith}
 use Rattle.std.specs.Prelude.{◌&&◌, ◌||◌, not, codes, decimal, is_none, nat_eq, map, option_to_list, if◌then◌else◌}
 use Rattle.std.specs.List.{before_first, find, fold, list_all, flat_map, list_any, position_or_len, starts_with}
@@ -40,7 +40,7 @@ use Rattle.fedi_town.specs.Relations.{has_activity_id, is_id, is_open_follow, re
 use Rattle.fedi_town.specs.Shapes.{is_delivered, is_each_once}
 use Rattle.fedi_town.specs.Towns.{Town, deed, empty_town, has_host, id_of}
 
--- ---- what becomes of an activity leaves what is sent of it
+-- ---- later changes of an activity leave who it is sent to
 
 pub record IsUnmoved (y z : Act) : Type 0 where
   pub own : z.activity.id ≡ y.activity.id
@@ -91,11 +91,11 @@ is_own host local None = false
 is_own host true (Some id) = bytes_eq (host_of id) host
 is_own host false (Some id) = true
 
--- to whom it is sent
+-- who it is sent to
 abbrev pub sent_to : List ℕ → Act → List (List ℕ)
 sent_to host x = if is_of_host host x.author then x.recipients else x.forwards
 
--- likewise, and it is sent to nobody twice
+-- the same, and it is sent to nobody twice
 unfoldable pub is_well : List ℕ → Act → Bool
 is_well host x = is_own host (is_of_host host x.author) x.activity.id && is_each_once (sent_to host x)
 
@@ -104,7 +104,7 @@ pub record AreWell (t : Town) : Type 0 where
 
 -- ---- new activities
 
--- what stands before the first slash depends on nothing after it
+-- what is before the first slash depends on nothing after it
 before-same : (xs ys : List ℕ) → before_first is_slash (xs ++ 47 ∷ ys) ≡ before_first is_slash (xs ++ 47 ∷ [])
 before-same [] ys = refl
 before-same (x ∷ xs) ys =
@@ -116,7 +116,7 @@ before-same (x ∷ xs) ys =
           rw (e, more, less) (ap (λ (zs : List ℕ). x ∷ zs) (before-same xs ys))
     ] refl
 
--- an address at a host is of the host, whatever follows
+-- an address at a host belongs to the host, whatever follows
 host_of-any : (host rest : List ℕ) → is_host_text host ≡ true → host_of (codes "https://" ++ (host ++ 47 ∷ rest)) ≡ host
 unfolding host_of
 host_of-any host rest shape = ap (after_any is_at) (before-same host rest) ∙ host_of-address host (codes "/") shape refl
@@ -129,7 +129,7 @@ own_here : (host id : List ℕ) (local : Bool) → host_of id ≡ host → is_ow
 own_here host id true at = rw at (bytes_eq-same host)
 own_here host id false at = refl
 
--- a member's, with an id of this host
+-- a member's activity, with an id of this host
 record IsMade (host : List ℕ) (x : Act) : Type 0 where
   id : List ℕ
   own : x.activity.id ≡ Some id
@@ -153,7 +153,7 @@ accept_made : (t : Town) (host : List ℕ) (x : Act) (member : Actor) → is_hos
 unfolding accept_by
 accept_made t host x member shape = record { id = _; own = refl; here = id_here host member.name _ shape; once = distinct_once _; unsent = refl }
 
--- an activity of an author elsewhere, who forwards to nobody twice
+-- an activity of a remote author, which is forwarded to nobody twice
 elsewhere : (host author : List ℕ) → bytes_eq (host_of author) host ≡ false → is_of_host host author ≡ false
 unfolding is_of_host
 elsewhere host author other = rw other (none (starts_with nat_eq author (codes "https://")))
@@ -213,7 +213,7 @@ accepted_well t host x hosted shape all own =
 
 -- ---- one more inbox
 
--- the activities of this id are no member's
+-- the activities with this id are not by a member
 pub is_away : (host : List ℕ) (id : List ℕ) (y : Act) → bytes_eq (host_of id) host ≡ false → is_well host y ≡ true → has_activity_id id y ≡ true → is_of_host host y.author ≡ false
 unfolding is_well has_activity_id
 is_away host id y other well has = by (is_of_host host y.author) refl y.activity.id has (and_parts (is_own host (is_of_host host y.author) y.activity.id) _ well).0
@@ -251,7 +251,7 @@ was : (a : Bool) → not a ≡ false → a ≡ true
 was true e = refl
 was false e = absurd cc
 
--- neither its author nor its id is of this host
+-- neither its author nor its id belongs to this host
 pub record IsAway (host author id : List ℕ) : Type 0 where
   pub of_author : bytes_eq (host_of author) host ≡ false
   pub of_id : bytes_eq (host_of id) host ≡ false
@@ -295,7 +295,7 @@ delivered_well t host p (Some owner) (Some author) None a moment hosted shape by
 delivered_well t host p (Some owner) (Some author) (Some id) a moment hosted shape by own ok all =
     came_well t host owner author id a moment hosted shape own (away host p t a author id hosted by own ok) all
 
--- the host stays
+-- the host stays the same
 made-host : (t : Town) (host : Option (List ℕ)) (name digest : List ℕ) (locked : Bool) → (with_addition t (member_addition host name digest locked)).host ≡ t.host
 made-host t None name digest locked = refl
 made-host t (Some host) name digest locked = refl

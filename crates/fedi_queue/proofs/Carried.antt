@@ -1,5 +1,5 @@
--- A host that becomes a peer leaves what is claimed: the rows so far are among those after it, in
--- order.
+-- When a host becomes a peer, what is claimed stays claimed: the earlier rows are among the new
+-- ones, in order.
 use Rattle.std.proofs.Common.{◌≡◌, ◌⊎◌, inl, inr, ℕ, zero, suc, ◌+◌, ◌<◌, ◌≤◌, arith, Bool, true, false, List, [], ◌∷◌, ◌++◌, Option, Some, None, refl, sym, ap, subst, ◌∙◌, eq-eqb, drop, take, length, get_or, set, append_assoc}
 use Rattle.std.specs.Prelude.{⊤, ◌&&◌, ◌||◌, map, filter, nat_eq, nat_le, nat_lt, slice_get, if◌then◌else◌}
 use Rattle.std.specs.List.{list_all}
@@ -14,7 +14,7 @@ use Rattle.fedi_town.specs.Queues.{Progress, is_at_peer, progress_of, sends}
 use Rattle.fedi_town.specs.Queues.{Due, Ended}
 use Rattle.fedi_town.specs.Towns.{Town}
 
--- the first rows are among the second, in order, and those between are of other places
+-- the first rows are among the second, in order, and those between have other positions
 abbrev pub Embeds : List QueueRow → List QueueRow → Type 0
 Embeds [] ys = ⊤
 Embeds (x ∷ xs) [] = ⊥
@@ -80,7 +80,7 @@ embeds_claimed (x ∷ xs) (y ∷ ys) embeds =
 
 -- ---- rows come in order
 
--- the row is of a later activity, or of this one and of this place or a later one
+-- the row is for a later activity, or for this one and this index or a later one
 unfoldable is_past : ℕ → ℕ → QueueRow → Bool
 is_past n k x = nat_lt n x.activity || (nat_eq x.activity n && nat_le k x.place)
 
@@ -146,7 +146,7 @@ past-from t p n j i (x ∷ xs) less =
 record IsMore (p q : List ℕ → Bool) : Type 0 where
   still : (r : List ℕ) → p r ≡ true → q r ≡ true
 
--- one recipient more
+-- one more recipient
 one-more : (b c : Bool) (n k : ℕ) (r : List ℕ) (p : Progress) (xs ys : List QueueRow) → (b ≡ true → c ≡ true) → list_all (is_past n (suc k)) xs ≡ true → Embeds xs ys
     → Embeds (row_where b n k r p ++ xs) (row_where c n k r p ++ ys)
 one-more true true n k r (Due a from) xs ys still past embeds = inl (refl, embeds)
@@ -221,7 +221,7 @@ pub carried_same : (rows : List QueueRow) (n : ℕ) (x y z : QueueRow) (rest : L
     → carried (drop n rows) (y ∷ rest) ≡ z ∷ carried (drop (n + 1) rows) rest
 carried_same rows n x y z rest got same is = rw (dropped-some rows n x (sym got), same, is) refl
 
--- the list so far, and the rest
+-- the changed part of the list, and the rest
 taken-set : (list : List QueueRow) (k : ℕ) (z : QueueRow) → k < length list → take (k + 1) (set list k z) ≡ take k list ++ z ∷ []
 taken-set [] k z lt = absurd (omega arith)
 taken-set (y ∷ list) zero z lt = refl

@@ -61,7 +61,7 @@ due-told acts m (r ∷ rows) =
       | false ↦ due-told acts m rows
     ]
 
--- the deliveries that are due are told by the rows that are
+-- the rows that are due determine the deliveries that are due
 due_rows : (history : List Entry) (m : ℕ) → IsLegal history
     → due_in (town history) m ≡ map (delivery_in (town history).acts) (filter (is_due_row m) (rows_of (town history)))
 due_rows history m legal =
@@ -243,7 +243,7 @@ rows_fresh t =
     let same : map release (rows_of t) ≡ rows_of t = rows_unclaimed t (is_at_peer t) 0 t.acts in
     (same, ap (λ (rows : List QueueRow). filter is_claimed rows) (sym same) ∙ released-unclaimed (rows_of t))
 
--- where nothing is claimed, the first that is given out is the first that is due
+-- if nothing is claimed, the first that is given out is the first that is due
 pub first_due : (history : List Entry) (m : ℕ) (rows : List QueueRow) (row : QueueRow) → IsLegal history → map release rows ≡ rows_of (town history)
     → filter is_claimed rows ≡ [] → find (is_free_at m) rows ≡ Some row
     → (rest : List Delivery) × (due_in (town history) m ≡ delivery_in (town history).acts row ∷ rest)
@@ -256,7 +256,7 @@ first_due history m rows row legal same none found =
           ∙ ap (λ (xs : List QueueRow). map (delivery_in t.acts) xs) first.1,
     )
 
--- and none is given out exactly if none is due
+-- and nothing is given out exactly if nothing is due
 pub none_due : (history : List Entry) (m : ℕ) (rows : List QueueRow) → IsLegal history → map release rows ≡ rows_of (town history) → filter is_claimed rows ≡ []
     → find (is_free_at m) rows ≡ None → due_in (town history) m ≡ []
 none_due history m rows legal same none found =

@@ -55,7 +55,7 @@ none_at p [] none k = refl
 none_at p (x ∷ xs) none zero = (or_none (p x) (list_any p xs) none).0
 none_at p (x ∷ xs) none (suc k) = none_at p xs (or_none (p x) (list_any p xs) none).1 k
 
--- what passes later leaves the first
+-- if a later one passes, the first does not
 first_fails : {A : Type 0} (p : A → Bool) (x : A) (xs : List A) (k : ℕ) (y : A) → PassesOnce p (x ∷ xs) → slice_get xs k ≡ Some y → p y ≡ true → p x ≡ false
 first_fails p x xs k y once got passes =
     elim (p x) as (λ b. p x ≡ b → b ≡ false) [
@@ -177,7 +177,7 @@ got-released [] k y got = absurd cc
 got-released (row ∷ rows) zero y got = let same : row ≡ y = cc in rw same refl
 got-released (row ∷ rows) (suc k) y got = got-released rows k y got
 
--- what was released is the row, but for the claim
+-- a released row is the row itself except for the claim
 was-released : (rows : List QueueRow) (k : ℕ) (y : QueueRow) → slice_get (map release rows) k ≡ Some y → (z : QueueRow) × (slice_get rows k ≡ Some z) × (release z ≡ y)
 was-released [] k y got = absurd cc
 was-released (row ∷ rows) zero y got = (row, refl, (let same : release row ≡ y = cc in same))
@@ -216,7 +216,7 @@ stays-tried : (acts : List Act) (id r : List ℕ) (came : Came) (m : ℕ) (row :
 unfolding stays_claimed is_claimed is_tried
 stays-tried acts id r came m row = refl
 
--- where the delivery has no row nothing changes
+-- if the delivery has no row, nothing changes
 nothing_fits : (t : Town) (id r : List ℕ) (came : Came) (m : ℕ) → list_any (is_row_of t.acts id r) (rows_of t) ≡ false → Fits t (Tried id r came m) changes.Nothing
 nothing_fits t id r came m none =
     let a : Attempt = record { activity = id; recipient = r; came = came; moment = m } in

@@ -1,4 +1,4 @@
--- The rows after one more entry, where it is no attempt.
+-- The rows after one more entry that is not an attempt.
 use Rattle.std.proofs.Common.{◌≡◌, ℕ, ◌+◌, arith, Bool, true, false, List, [], ◌∷◌, ◌++◌, length, Option, Some, None, refl, sym, ap, ◌∙◌}
 use Rattle.std.specs.Prelude.{map, is_none, option_to_list, if◌then◌else◌}
 use Rattle.std.specs.List.{find, list_all}
@@ -123,7 +123,7 @@ made-rows t (Some host) name digest locked =
 
 -- ---- entries
 
--- the rows after an addition: those of its activities come last
+-- the rows after an addition: those of its activities are at the end
 abbrev pub AddsRows : Town → Addition → Type 0
 AddsRows t a = rows_of (with_addition t a) ≡ rows_of t ++ rows_from t (is_at_peer t) (length t.acts) (acts_in a)
 
@@ -156,7 +156,7 @@ delivered-rows t p (Some owner) None id a moment ids w ok by own = adds-nothing 
 delivered-rows t p (Some owner) (Some author) None a moment ids w ok by own = adds-nothing t
 delivered-rows t p (Some owner) (Some author) (Some id) a moment ids w ok by own = came-rows t p owner author id a moment ids w ok by own
 
--- it makes nobody a peer, and is no attempt
+-- it makes nobody a peer and is not an attempt
 abbrev pub is_plain : Entry → Bool
 is_plain (Hosted host moment) = true
 is_plain (Made name digest locked moment) = true
@@ -176,7 +176,7 @@ plain_rows t (Remote peer inbox a moment) k ok plain =
     delivered-rows t (find (has_host peer) t.peers) (id_of t inbox) a.actor a.id a moment k.ids k.well may refl refl
 plain_rows t (Tried activity recipient came moment) k ok plain = absurd cc
 
--- ---- an activity that comes again
+-- ---- a repeated activity
 
 again-rows : (t : Town) (p : Option Peer) (owner author : Option (List ℕ)) (id : List ℕ) (own : Option (List ℕ)) (a : Activity) (moment : ℕ) → HasIds t.host t.acts → AreWell t → may_deliver t p a ≡ true
     → a.actor ≡ author → a.id ≡ own → own ≡ Some id → is_known t id ≡ true → rows_of (with_addition t (delivery_addition t owner author own a moment)) ≡ rows_of t

@@ -1,4 +1,4 @@
--- What a queue holds stays that of its history.
+-- What a queue holds remains that of its history.
 use Rattle.std.proofs.Common.{◌≡◌, ℕ, Bool, true, false, List, [], ◌∷◌, ◌++◌, length, Option, Some, None, refl, sym, ap, subst, ◌∙◌, append-nil, append_assoc, eq-eqb}
 use Rattle.std.specs.Prelude.{◌&&◌, ◌||◌, not, map, filter, nat_le, option_map, IfSome, IsTrue, if◌then◌else◌}
 use Rattle.std.specs.List.{find, list_all, list_any}

@@ -18,7 +18,7 @@ use Rattle.fedi_town.specs.Queues.{after_outcome, outcome}
 
 -- ---- the first that passes
 
--- where none passes none is changed
+-- if none passes, none is changed
 pub none_changed : {A : Type 0} (p : A → Bool) (f : A → A) (xs : List A) → find p xs ≡ None → change_first p f xs ≡ xs
 none_changed p f [] none = refl
 none_changed {A} p f (x ∷ xs) none =
@@ -30,7 +30,7 @@ none_changed {A} p f (x ∷ xs) none =
 pub late_same : {A : Type 0} (p : A → Bool) (f : A → A) (xs : List A) → None ≡ place_where p xs → change_first p f xs ≡ xs
 late_same p f xs none = none_changed p f xs (none_there p xs none)
 
--- the place that was found
+-- the index that was found
 placed : {A : Type 0} (p : A → Bool) (xs : List A) (k : ℕ) → Some k ≡ place_where p xs → (k ≡ position_or_len p xs) × (ltb (position_or_len p xs) (length xs) ≡ true)
 placed p xs k is =
     elim (ltb (position_or_len p xs) (length xs)) as (λ b. ltb (position_or_len p xs) (length xs) ≡ b → Some k ≡ (if b then Some (position_or_len p xs) else None)
@@ -109,7 +109,7 @@ none_earlier e f (row ∷ rows) all less =
     let parts = and_parts (is_not_before e row) (list_all (is_not_before e) rows) all in
     rw (one_earlier e f row parts.0 less) (none_earlier e f rows parts.1 less)
 
--- the rows so far, and one more
+-- the earlier rows, and one more
 pub more_taken : (e f : ℕ) (rows : List QueueRow) (k : ℕ) (row d : QueueRow) → IsTrue (list_all (is_not_before e) (take k rows)) → k < length rows → row ≡ get_or rows k d
     → f ≤ e → IsTrue (is_not_before f row) → IsTrue (list_all (is_not_before f) (take (k + 1) rows))
 more_taken e f [] k row d all lt is less own = absurd (omega arith)
@@ -169,7 +169,7 @@ due_not_before e due rows k y all is =
     by true = refl
     by false = le-leb (min e due) y.due (omega (arith, is))
 
--- ---- what comes of an attempt
+-- ---- the result of an attempt
 
 pub set_at : (due : ℕ) (rows : List QueueRow) (k : ℕ) (y d : QueueRow) → y ∷ [] ≡ settled (Some due) (get_or rows k d) → k < length rows
     → set rows k y ≡ replace_at k (settled (Some due)) rows
@@ -183,7 +183,8 @@ removed_at [] (suc k) = refl
 removed_at (row ∷ rows) zero = refl
 removed_at (row ∷ rows) (suc k) = ap (λ (ys : List QueueRow). row ∷ ys) (removed_at rows k)
 
--- where fewer than eight attempts were made of each row after one more, there were so of this one
+-- if each row has fewer than eight attempts after one more of this row, this row had fewer than
+-- eight before
 pub was_few : (rows : List QueueRow) (k due : ℕ) (d : QueueRow) → IsTrue (list_all is_few (replace_at k (settled (Some due)) rows)) → k < length rows → (get_or rows k d).attempts < 8
 unfolding is_few
 was_few [] k due d all lt = absurd (omega arith)
@@ -207,7 +208,7 @@ pub next_got : (p : QueueRow → Bool) (rows : List QueueRow) (k : ℕ) (d : Que
 next_got p rows k d due came m o found next is =
     rw (got_or rows k d (first_within p rows k found)) (next ∙ ap (λ (r : Outcome). due_of (after_outcome (get_or rows k d).attempts m r)) is)
 
--- those that are claimed are as few times tried
+-- releasing the rows does not change whether each has fewer than eight attempts
 pub few_released : (rows : List QueueRow) → list_all is_few (map release rows) ≡ list_all is_few rows
 unfolding is_few
 few_released [] = refl

@@ -21,7 +21,7 @@ use Rattle.fedi_town.specs.Towns.{Town, has_host}
 
 -- ---- one more recipient, one more activity
 
--- those to the recipients so far, and to one more
+-- those to the earlier recipients, and to one more
 pub rows_to_more : (t : Town) (reached : List ℕ → Bool) (n : ℕ) (id : List ℕ) (m place : ℕ) (rs : List (List ℕ)) (k : ℕ) (d : List ℕ) → k < length rs
     → rows_to t reached n id m place (take (k + 1) rs)
     ≡ rows_to t reached n id m place (take k rs) ++ row_where (reached (get_or rs k d)) n (place + k) (get_or rs k d) (progress_of t id (get_or rs k d) m)
@@ -48,7 +48,7 @@ rows_from_append t reached n (x ∷ xs) ys =
     (rows_from_append t reached (suc n) xs ys ∙ ap (λ (k : ℕ). rows_from t reached (suc n) xs ++ rows_from t reached k ys) further)
     ∙ sym (append_assoc own (rows_from t reached (suc n) xs) (rows_from t reached (n + length (x ∷ xs)) ys))
 
--- those of the activities so far, and of one more
+-- those of the earlier activities, and of one more
 pub rows_from_more : (t : Town) (reached : List ℕ → Bool) (n : ℕ) (xs : List Act) (k : ℕ) (x : Act) → Some x ≡ slice_get xs k
     → rows_from t reached n (take (k + 1) xs) ≡ rows_from t reached n (take k xs) ++ rows_by t reached (n + k) x.moment (sends t x) x.activity.id
 rows_from_more t reached n [] k x got = absurd cc
@@ -66,7 +66,7 @@ rows_from_more t reached n (y ∷ xs) (suc k) x got =
 
 -- ---- towns in which the same is due
 
--- the same recipients are reached, and nothing was tried besides
+-- the same recipients are reached, and the same attempts were made
 pub record IsAlike (t u : Town) (p q : List ℕ → Bool) : Type 0 where
   pub reached : (r : List ℕ) → q r ≡ p r
   pub attempts : u.attempts ≡ t.attempts
@@ -89,7 +89,7 @@ pub record IsSent (t u : Town) (y z : Act) : Type 0 where
   pub moment : z.moment ≡ y.moment
   pub sends : sends u z ≡ sends t y
 
--- activities of which the same is sent have the same rows
+-- activities that send the same have the same rows
 pub mapped_alike : (t u : Town) (p q : List ℕ → Bool) (f : Act → Act) (n : ℕ) (xs : List Act) → IsAlike t u p q → ((y : Act) → IsSent t u y (f y))
     → rows_from u q n (map f xs) ≡ rows_from t p n xs
 mapped_alike t u p q f n [] a same = refl
@@ -97,7 +97,7 @@ mapped_alike t u p q f n (x ∷ xs) a same =
     let s = same x in
     rw (s.sends, s.own, s.moment, by_alike t u p q n x.moment (sends t x) x.activity.id a, mapped_alike t u p q f (suc n) xs a same) refl
 
--- likewise for those that pass a test
+-- the same for those that pass a test
 pub mapped_where : (t u : Town) (p q : List ℕ → Bool) (w : Act → Bool) (f : Act → Act) (n : ℕ) (xs : List Act) → IsAlike t u p q → ((y : Act) → w y ≡ true → IsSent t u y (f y))
     → list_all w xs ≡ true → rows_from u q n (map f xs) ≡ rows_from t p n xs
 mapped_where t u p q w f n [] a same all = refl
@@ -111,12 +111,12 @@ from_alike t u p q n [] a same = refl
 from_alike t u p q n (x ∷ xs) a same =
     rw (same x, by_alike t u p q n x.moment (sends t x) x.activity.id a, from_alike t u p q (suc n) xs a same) refl
 
--- without a new peer those are reached who are of a peer
+-- without a new peer, the reached recipients are those that belong to a peer
 pub reached_now : (t : Town) (r : List ℕ) → is_reached t None r ≡ is_at_peer t r
 unfolding is_reached
 reached_now t r = refl
 
--- with a new peer those of its host are reached besides
+-- with a new peer, those of its host are reached too
 pub reached_then : (t : Town) (p : Peer) (r : List ℕ) → is_at_peer (record t { peers = t.peers ++ p ∷ [] }) r ≡ is_reached t (Some p.host) r
 unfolding is_reached is_at_peer has_host
 reached_then t p r = list_any-append (has_host (host_of r)) t.peers (p ∷ []) ∙ by (list_any (has_host (host_of r)) t.peers) (bytes_eq p.host (host_of r))
@@ -128,7 +128,7 @@ reached_then t p r = list_any-append (has_host (host_of r)) t.peers (p ∷ []) �
 
 -- ---- fewer than eight attempts
 
--- where another attempt is due, there were fewer than eight
+-- if another attempt is due, there were fewer than eight
 abbrev pub is_few_so : Progress → Bool
 is_few_so (Due attempts from) = nat_lt attempts 8
 is_few_so (Ended attempts) = true
@@ -196,7 +196,7 @@ coming_rows t coming first second n count after none one both counted empty of_f
 
 -- ---- as they are gathered
 
--- the rows so far, and those to one more recipient
+-- the earlier rows, and those to one more recipient
 pub gathered_to : (t : Town) (reached : List ℕ → Bool) (n : ℕ) (id : List ℕ) (m : ℕ) (rs : List (List ℕ)) (k : ℕ) (r d : List ℕ) (first before now : List QueueRow) → k < length rs
     → r ≡ get_or rs k d → before ≡ first ++ rows_to t reached n id m 0 (take k rs) → now ≡ before ++ row_where (reached r) n k r (progress_of t id r m)
     → now ≡ first ++ rows_to t reached n id m 0 (take (k + 1) rs)
@@ -208,7 +208,7 @@ gathered_to t reached n id m rs k r d first before now lt is so more =
     ∙ ap (λ (s : List ℕ). first ++ (rows_to t reached n id m 0 (take k rs) ++ row_where (reached s) n k s (progress_of t id s m))) is
     ∙ ap (λ (rows : List QueueRow). first ++ rows) (sym (rw here at (rows_to_more t reached n id m 0 rs k d lt)))
 
--- the rows so far, and those of one more activity
+-- the earlier rows, and those of one more activity
 pub gathered_from : (t : Town) (reached : List ℕ → Bool) (xs : List Act) (k : ℕ) (x : Act) (before now : List QueueRow) → Some x ≡ slice_get xs k
     → before ≡ rows_from t reached 0 (take k xs) → now ≡ before ++ rows_by t reached k x.moment (sends t x) x.activity.id
     → now ≡ rows_from t reached 0 (take (k + 1) xs)

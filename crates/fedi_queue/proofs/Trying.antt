@@ -1,5 +1,4 @@
--- The rows after an attempt: of its delivery there is one row at most, which is tried again or
--- gone.
+-- The rows after an attempt: its delivery has at most one row, which is tried again or gone.
 use Rattle.std.proofs.Common.{◌≡◌, ℕ, suc, Bool, true, false, List, [], ◌∷◌, ◌++◌, length, Option, Some, None, refl, sym, ap, subst, ◌∙◌, append_assoc}
 use Rattle.std.specs.Prelude.{◌&&◌, ◌||◌, not, filter, slice_get, if◌then◌else◌}
 use Rattle.std.specs.List.{flat_map, fold, list_all, list_any}
@@ -26,7 +25,7 @@ use Rattle.fedi_town.specs.Relations.{has_activity_id}
 use Rattle.fedi_town.specs.Shapes.{is_each_once}
 use Rattle.fedi_town.specs.Towns.{Town}
 
--- ---- an attempt changes the progress of its delivery alone
+-- ---- an attempt changes only the progress of its delivery
 
 progress-tried : (t : Town) (a : Attempt) (id r : List ℕ) (m : ℕ)
     → progress_of (record t { attempts = t.attempts ++ a ∷ [] }) id r m ≡ (if is_of_pair id r a then after_attempt (progress_of t id r m) a else progress_of t id r m)
@@ -50,7 +49,7 @@ bytes_eq-turned a b =
 
 -- ---- its rows
 
--- the activity of this number has this id
+-- the activity with this number has this id
 record IsNumbered (acts : List Act) (n : ℕ) (id : List ℕ) : Type 0 where
   is : (i : List ℕ) → is_there (has_activity_id i) (slice_get acts n) ≡ bytes_eq id i
 
@@ -117,7 +116,7 @@ pub attempts_change : AttemptsChangeTheirRows
 unfolding rows_of
 attempts_change t a = from-tried t a [] t.acts 0 refl refl
 
--- ---- of a delivery there is one row at most
+-- ---- a delivery has at most one row
 
 once-append : {A : Type 0} (p : A → Bool) (xs ys : List A) → PassesOnce p xs → PassesOnce p ys → (list_any p xs ≡ true → list_any p ys ≡ false) → PassesOnce p (xs ++ ys)
 once-append p [] ys once all none = all
@@ -130,7 +129,7 @@ once-append p (x ∷ xs) ys once all none = (
     or-true true = refl
     or-true false = refl
 
--- the rows of an activity that has another id
+-- the rows of an activity with another id
 row-none : (acts : List Act) (b : Bool) (n place : ℕ) (r id s : List ℕ) (p : Progress) → is_there (has_activity_id id) (slice_get acts n) ≡ false → list_any (is_row_of acts id s) (row_where b n place r p) ≡ false
 unfolding is_row_of
 row-none acts false n place r id s p none = refl
@@ -166,7 +165,7 @@ from-none t before (x ∷ xs) n id s split count none =
     list_any-append (is_row_of t.acts id s) (rows_by t (is_at_peer t) n x.moment (sends t x) x.activity.id) (rows_from t (is_at_peer t) (suc n) xs)
     ∙ rw (by-none t n x.moment (sends t x) x.activity.id id s (got-there t.acts before xs x n id split count ∙ parts.0), from-none t (before ++ x ∷ []) xs (suc n) id s next more parts.1) refl
 
--- the rows to one who is not named
+-- the rows to somebody who is not named
 row-other : (acts : List Act) (b : Bool) (n place : ℕ) (r id s : List ℕ) (p : Progress) → bytes_eq r s ≡ false → list_any (is_row_of acts id s) (row_where b n place r p) ≡ false
 unfolding is_row_of
 row-other acts false n place r id s p other = refl
@@ -245,7 +244,7 @@ once-hosted : (t : Town) (h : Option (List ℕ)) (id s : List ℕ) → t.host �
 once-hosted t None id s is ids w = subst (λ (xs : List Act). PassesOnce (is_row_of t.acts id s) (rows_from t (is_at_peer t) 0 xs)) (sym ids) tt
 once-hosted t (Some host) id s is ids w = from-once t host [] t.acts 0 id s is refl refl (ids.once id) (w.well host is)
 
--- of a delivery there is one row at most
+-- a delivery has at most one row
 pub rows_once : (t : Town) (id s : List ℕ) → IsKnown t → PassesOnce (is_row_of t.acts id s) (rows_of t)
 unfolding rows_of
 rows_once t id s k = once-hosted t t.host id s refl k.ids k.well

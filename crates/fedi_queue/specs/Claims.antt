@@ -1,4 +1,4 @@
--- Rows of a queue, in order, of which some are claimed: given to one who tries the delivery, and to
+-- Rows of a queue, in order, some of which are claimed: given to one who tries the delivery, and to
 -- nobody else.
 use Rattle.std.specs.Prelude.{ℕ, zero, suc, ◌+◌, ◌-◌, Bool, true, false, not, ◌&&◌, ◌||◌, nat_eq}
 use Rattle.std.specs.Prelude.{nat_le, nat_lt, IsTrue, List, [], ◌∷◌, ◌++◌, Option, Some, None}
@@ -12,15 +12,15 @@ use Rattle.fedi_queue.specs.declared.rows.Rows.TheInside.{Inside}
 unfoldable pub is_free_at : ℕ → QueueRow → Bool
 is_free_at moment row = not row.claimed && nat_le row.due moment
 
--- the row is of this activity, and of the recipient at this place
+-- the row is for this activity and the recipient at this index
 unfoldable pub is_at : ℕ → ℕ → QueueRow → Bool
 is_at activity place row = nat_eq row.activity activity && nat_eq row.place place
 
--- likewise, and it is claimed
+-- the same, and it is claimed
 unfoldable pub is_claimed_at : ℕ → ℕ → QueueRow → Bool
 is_claimed_at activity place row = row.claimed && is_at activity place row
 
--- what is given to the one who tries it at this moment
+-- what is given to whoever tries it at this moment
 abbrev pub claim_of : ℕ → QueueRow → Claim
 claim_of moment row = record { activity = row.activity; recipient = row.place; moment = moment }
 
@@ -28,11 +28,12 @@ claim_of moment row = record { activity = row.activity; recipient = row.place; m
 abbrev pub claim : QueueRow → QueueRow
 claim row = record row { claimed = true }
 
--- not claimed, or not any more
+-- not claimed, or not any longer
 abbrev pub release : QueueRow → QueueRow
 release row = record row { claimed = false }
 
--- after one more attempt: another is due from this moment on, and not claimed, or there is none
+-- after one more attempt: another is due from this moment on and not claimed, or there is no
+-- further attempt
 abbrev pub settled : Option ℕ → QueueRow → List QueueRow
 settled None row = []
 settled (Some due) row = record row { attempts = row.attempts + 1; due = due; claimed = false } ∷ []
@@ -44,7 +45,7 @@ abbrev pub change_first : {A : Type 0} → (A → Bool) → (A → A) → List A
 change_first p f [] = []
 change_first p f (x ∷ xs) = if p x then f x ∷ xs else x ∷ change_first p f xs
 
--- The second rows, of which those are claimed that are so among the first. Both are in one order,
+-- The second rows, with those claimed that are claimed among the first. Both are in the same order,
 -- and the second have more.
 abbrev pub carried : List QueueRow → List QueueRow → List QueueRow
 carried rows [] = []
@@ -53,7 +54,7 @@ carried (x ∷ xs) (y ∷ ys) =
     if is_at x.activity x.place y then record y { claimed = x.claimed } ∷ carried xs ys
     else y ∷ carried (x ∷ xs) ys
 
--- what the one at this place becomes
+-- the list with the item at this index replaced by what it becomes
 abbrev pub replace_at : {A : Type 0} → ℕ → (A → List A) → List A → List A
 replace_at k f [] = []
 replace_at zero f (x ∷ xs) = f x ++ xs
@@ -65,7 +66,7 @@ replace_at (suc k) f (x ∷ xs) = x ∷ replace_at k f xs
 unfoldable pub is_not_before : ℕ → QueueRow → Bool
 is_not_before earliest row = row.claimed || nat_le earliest row.due
 
--- fewer attempts than eight
+-- there were fewer than eight attempts
 unfoldable pub is_few : QueueRow → Bool
 is_few row = nat_lt row.attempts 8
 
@@ -74,7 +75,7 @@ pub record Listed : Type 0 where
   pub rows : List QueueRow
   pub room : ℕ
 
--- the rows, as those see them who ask
+-- the rows, as callers see them
 abbrev pub listed_in : Inside → Listed
 listed_in q = record { rows = q.list.items; room = vec_capacity q.list - vec_len q.list }
 

@@ -17,12 +17,12 @@ is_due_by moment d = is_due_at moment d.progress
 abbrev pub due_in : Town → ℕ → List Delivery
 due_in t moment = filter (is_due_by moment) (queue t)
 
--- the delivery is of the activity with this id, to this recipient
+-- the delivery is that of the activity with this id to this recipient
 abbrev pub IsTo : List ℕ → List ℕ → Delivery → Type 0
 IsTo id recipient d = (d.activity ≡ Some id) × (d.recipient ≡ recipient)
 
--- Whatever comes of an attempt of the first delivery that is due at its moment, the others are due
--- then and no more: the next attempt is due later.
+-- Whatever the result of an attempt of the first delivery that is due at its moment, exactly the
+-- others are due then: the next attempt is due later.
 abbrev pub AttemptsLeaveTheRest : Type 0
 AttemptsLeaveTheRest =
     (history : List Entry) (id recipient : List ℕ) (came : Came) (moment : ℕ) (d : Delivery)

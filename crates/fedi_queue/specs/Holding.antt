@@ -18,7 +18,7 @@ before_in (Some start) = start.facts.value.history
 abbrev pub history_in : Inside → List Entry
 history_in q = before_in q.start ++ q.since
 
--- the entry that there is room for
+-- the entry for which there is room
 abbrev pub entry_in : Option Room → Option Entry
 entry_in None = None
 entry_in (Some r) = Some r.entry.value
@@ -38,6 +38,6 @@ pub record IsSound (history : List Entry) (listed : Listed) (coming : Option Roo
   pub rows : map release listed.rows ≡ rows_of (town history)
   pub room : IsRoom history listed coming
 
--- likewise of what is held
+-- the same of what is held
 abbrev pub IsQueue : Inside → Type 0
 IsQueue q = IsSound (history_in q) q.rows q.room

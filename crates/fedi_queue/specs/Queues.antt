@@ -22,8 +22,8 @@ use Rattle.fedi_town.specs.Queues.{Progress, after_outcome, outcome}
 use Rattle.fedi_town.specs.Queues.{Due, Ended}
 use Rattle.fedi_town.specs.Towns.{Town}
 
--- the history whose deliveries wait, the rows of these, of which some are claimed, and the entry
--- that room was made for
+-- the history whose deliveries wait, their rows, some of which are claimed, and the entry for which
+-- room was made
 pub record Queued : Type 0 where
   pub history : List Entry
   pub rows : List QueueRow
@@ -35,15 +35,15 @@ pub record Queued : Type 0 where
 unfoldable pub is_claimed : QueueRow → Bool
 is_claimed row = row.claimed
 
--- it was claimed so, and was due then
+-- it is claimed as the claim says, and was due then
 unfoldable pub is_held_by : Claim → QueueRow → Bool
 is_held_by c row = is_claimed_at c.activity c.recipient row && nat_le row.due c.moment
 
--- the claim is one of these
+-- one of these rows is held by the claim
 abbrev pub IsHeld : Claim → List QueueRow → Type 0
 IsHeld c rows = IsTrue (list_any (is_held_by c) rows)
 
--- the row is of the delivery that the entry has tried
+-- the row is that of the delivery that the entry has tried
 unfoldable pub is_tried : List Act → Entry → QueueRow → Bool
 is_tried acts (Hosted host moment) row = false
 is_tried acts (Made name digest locked moment) row = false
@@ -52,11 +52,11 @@ is_tried acts (Local name repeat a moment) row = false
 is_tried acts (Remote peer inbox a moment) row = false
 is_tried acts (Tried activity recipient came moment) row = is_row_of acts activity recipient row
 
--- it is claimed, and stays so after the entry
+-- it is claimed, and stays claimed after the entry
 unfoldable pub stays_claimed : List Act → Entry → QueueRow → Bool
 stays_claimed acts e row = row.claimed && not (is_tried acts e row)
 
--- A claim is held as long as its delivery is not tried.
+-- A claim is held until its delivery is tried.
 abbrev pub ClaimsAreHeld : Type 0
 ClaimsAreHeld =
     (acts : List Act) (e : Entry) (rows new : List QueueRow) (c : Claim)
@@ -66,23 +66,23 @@ ClaimsAreHeld =
 
 -- ---- forwards
 
--- to whom an activity of another server is forwarded, when it comes for the first time
+-- who an activity of another server is forwarded to when it arrives for the first time
 -- (ActivityPub, section 7.1.2)
 abbrev pub forwards_by : Town → Option (List ℕ) → Activity → List (List ℕ)
 forwards_by t None a = []
 forwards_by t (Some author) a = forwards_of t author a
 
--- likewise, by its actor
+-- the same, with its actor as the author
 abbrev pub forwards : Town → Activity → List (List ℕ)
 forwards t a = forwards_by t a.actor a
 
 -- ---- what is made ready for an entry
 
--- the row is of the activity of this number, to this recipient
+-- the row is that of the activity with this number, to this recipient
 unfoldable pub is_row_for : ℕ → List ℕ → QueueRow → Bool
 is_row_for activity recipient row = nat_eq row.activity activity && bytes_eq row.recipient recipient
 
--- from when on the next attempt is due, if there is one
+-- the moment from which the next attempt is due, if there is one
 abbrev pub due_of : Progress → Option ℕ
 due_of (Due attempts from) = Some from
 due_of (Ended attempts) = None
@@ -94,8 +94,8 @@ rows_with (changes.Added more) rows = rows ++ more.items
 rows_with (changes.Settled place due) rows = replace_at place (settled due) rows
 rows_with (changes.Rebuilt list) rows = carried rows list.items
 
--- Whatever is claimed: where the rows are those of the town, they are after the change those of the
--- town after the entry, and the same is claimed but for what was tried.
+-- Whatever is claimed: if the rows are those of the town, after the change they are those of the
+-- town after the entry, and the same rows are claimed except what was tried.
 pub record Fits (t : Town) (e : Entry) (change : Change) : Type 0 where
   pub rows : (rows : List QueueRow) → map release rows ≡ rows_of t
       → map release (rows_with change rows) ≡ rows_of (step t e)
@@ -103,26 +103,26 @@ pub record Fits (t : Town) (e : Entry) (change : Change) : Type 0 where
       (rows : List QueueRow) → map release rows ≡ rows_of t
       → filter is_claimed (rows_with change rows) ≡ filter (stays_claimed t.acts e) rows
 
--- there is room for it among so many rows
+-- there is room for it among this many rows
 abbrev pub HasRoom : Change → ℕ → ℕ → Type 0
 HasRoom changes.Nothing count room = ⊤
 HasRoom (changes.Added more) count room = vec_len more ≤ room
 HasRoom (changes.Settled place due) count room = place < count
 HasRoom (changes.Rebuilt list) count room = ⊤
 
--- it is of one of so many rows
+-- it is about one of this many rows
 abbrev pub IsWithin : Change → ℕ → Type 0
 IsWithin changes.Nothing count = ⊤
 IsWithin (changes.Added more) count = ⊤
 IsWithin (changes.Settled place due) count = place < count
 IsWithin (changes.Rebuilt list) count = ⊤
 
--- that is when the next attempt is due of this row after one more
+-- this is when the next attempt of this row is due after one more
 abbrev pub IsNext : Option ℕ → Came → ℕ → Option QueueRow → Type 0
 IsNext due came moment None = ⊥
 IsNext due came moment (Some row) = due ≡ due_of (after_outcome row.attempts moment (outcome came))
 
--- of these rows the first is settled that is of this activity to this recipient, by what came of
+-- the first of these rows that is for this activity and this recipient is settled by the result of
 -- the attempt
 abbrev pub IsSettling : ℕ → List ℕ → Came → ℕ → List QueueRow → Change → Type 0
 IsSettling activity recipient came moment rows changes.Nothing =

@@ -1,5 +1,6 @@
--- The deliveries that wait, as the rows of a queue (ActivityPub, sections 7.1 and 7.1.2): of which
--- activity, to whom, after how many attempts, and from when on the next one is due.
+-- The waiting deliveries, as the rows of a queue (ActivityPub, sections 7.1 and 7.1.2): the
+-- activity, the recipient, the number of attempts so far, and the moment from which the next one is
+-- due.
 use Rattle.std.specs.Prelude.{◌≡◌, ℕ, suc, ◌+◌, ◌≤◌, Bool, true, false, ◌&&◌, ◌||◌, List, [], ◌∷◌}
 use Rattle.std.specs.Prelude.{◌++◌, map, filter, length, Option, Some, None, option_and_then}
 use Rattle.std.specs.Prelude.{option_to_list, slice_get, if◌then◌else◌}
@@ -27,7 +28,7 @@ use Rattle.fedi_town.specs.Towns.{Town, count_of, has_next}
 
 -- ---- the rows
 
--- the row of a delivery that stands so, where another attempt is due
+-- the row of a delivery with this progress, if another attempt is due
 abbrev pub row_of : ℕ → ℕ → List ℕ → Progress → List QueueRow
 row_of number place r (Due attempts from) =
     record {
@@ -40,12 +41,13 @@ row_of number place r (Due attempts from) =
     } ∷ []
 row_of number place r (Ended attempts) = []
 
--- where the recipient is reached
+-- if the recipient is reached
 abbrev pub row_where : Bool → ℕ → ℕ → List ℕ → Progress → List QueueRow
 row_where false number place r p = []
 row_where true number place r p = row_of number place r p
 
--- those of the activity of this number and id to these recipients, of whom the first has this place
+-- those of the activity with this number and id to these recipients, the first of which has this
+-- index
 abbrev pub rows_to : Town → (List ℕ → Bool) → ℕ → List ℕ → ℕ → ℕ → List (List ℕ) → List QueueRow
 rows_to t reached number id moment place [] = []
 rows_to t reached number id moment place (r ∷ rs) =
@@ -58,18 +60,19 @@ abbrev pub rows_by : Town → (List ℕ → Bool) → ℕ → ℕ → List (List
 rows_by t reached number moment rs None = []
 rows_by t reached number moment rs (Some id) = rows_to t reached number id moment 0 rs
 
--- those of activities, of which the first has this number
+-- those of activities, the first of which has this number
 abbrev pub rows_from : Town → (List ℕ → Bool) → ℕ → List Act → List QueueRow
 rows_from t reached number [] = []
 rows_from t reached number (x ∷ xs) =
     rows_by t reached number x.moment (sends t x) x.activity.id
     ++ rows_from t reached (suc number) xs
 
--- all that wait, in the order of acceptance and of recipients: those whose recipients are of peers
+-- all that wait, in the order of acceptance and of recipients: those whose recipients belong to
+-- peers
 unfoldable pub rows_of : Town → List QueueRow
 rows_of t = rows_from t (is_at_peer t) 0 t.acts
 
--- the recipient is of a peer, or of this host, which becomes one
+-- the recipient belongs to a peer, or to this host, which becomes one
 unfoldable pub is_reached : Town → Option (List ℕ) → List ℕ → Bool
 is_reached t None r = is_at_peer t r
 is_reached t (Some host) r = is_at_peer t r || bytes_eq host (host_of r)
@@ -81,11 +84,11 @@ abbrev pub is_waiting : Progress → Bool
 is_waiting (Due attempts from) = true
 is_waiting (Ended attempts) = false
 
--- the id of the activity of this number
+-- the id of the activity with this number
 abbrev pub id_at : List Act → ℕ → Option (List ℕ)
 id_at acts number = option_and_then (λ x. x.activity.id) (slice_get acts number)
 
--- the delivery that a row is of
+-- the delivery that a row represents
 abbrev pub delivery_in : List Act → QueueRow → Delivery
 delivery_in acts row = record {
   activity = id_at acts row.activity;
@@ -109,19 +112,19 @@ AcceptedActivitiesAddRows =
     → rows_of (with_acceptance t (acceptance t x))
     ≡ rows_of t ++ rows_from t (is_at_peer t) (length t.acts) (x ∷ option_to_list (answer_to t x))
 
--- the row is of the delivery of the activity of this id to this recipient
+-- the row is that of the delivery of the activity with this id to this recipient
 unfoldable pub is_row_of : List Act → List ℕ → List ℕ → QueueRow → Bool
 is_row_of acts id recipient row =
     is_there (has_activity_id id) (slice_get acts row.activity) && bytes_eq row.recipient recipient
 
--- what becomes of a row by an attempt
+-- what an attempt makes of a row
 unfoldable pub retried : List Act → Attempt → QueueRow → List QueueRow
 retried acts a row =
     if is_row_of acts a.activity a.recipient row
     then row_of row.activity row.place row.recipient (after_attempt (Due row.attempts row.due) a)
     else row ∷ []
 
--- An activity from elsewhere that comes again adds no row: it is not forwarded a second time
+-- An activity from elsewhere that is repeated adds no row: it is not forwarded a second time
 -- (ActivityPub, section 7.1.2).
 abbrev pub RepeatsAddNoRows : Type 0
 RepeatsAddNoRows =
@@ -130,13 +133,13 @@ RepeatsAddNoRows =
     → a.id ≡ Some id → is_known (town history) id ≡ true
     → rows_of (town (history ++ Remote peer inbox a moment ∷ [])) ≡ rows_of (town history)
 
--- Of the delivery of an activity to a recipient there is one row at most.
+-- The delivery of an activity to a recipient has at most one row.
 abbrev pub DeliveriesHaveOneRow : Type 0
 DeliveriesHaveOneRow =
     (history : List Entry) (id recipient : List ℕ) → IsLegal history
     → PassesOnce (is_row_of (town history).acts id recipient) (rows_of (town history))
 
--- A row that is due is of a delivery that is due.
+-- A row that is due is the row of a delivery that is due.
 abbrev pub RowsAreDue : Type 0
 RowsAreDue =
     (history : List Entry) (k : ℕ) (row : QueueRow) (id : List ℕ) (moment : ℕ) → IsLegal history
@@ -144,7 +147,7 @@ RowsAreDue =
     → id_at (town history).acts row.activity ≡ Some id → row.due ≤ moment
     → is_due (town history) id row.recipient moment ≡ true
 
--- The id of a member's next activity is of no activity yet.
+-- The id of a member's next activity is not yet the id of an activity.
 abbrev pub NextIdsAreNew : Type 0
 NextIdsAreNew =
     (history : List Entry) (host name : List ℕ) → IsLegal history → (town history).host ≡ Some host
@@ -153,7 +156,7 @@ NextIdsAreNew =
     → is_known (town history)
     (activity_id host name (count_of (town history) (actor_id host name) + 1)) ≡ false
 
--- An attempt changes the rows of its delivery alone.
+-- An attempt changes only the rows of its delivery.
 abbrev pub AttemptsChangeTheirRows : Type 0
 AttemptsChangeTheirRows =
     (t : Town) (a : Attempt) → rows_of (record t { attempts = t.attempts ++ a ∷ [] })

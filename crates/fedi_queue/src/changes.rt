@@ -1,4 +1,4 @@
-//! What an entry makes of the deliveries that wait, made ready so that it takes no memory.
+//! What an entry makes of the waiting deliveries, made ready so that it takes no memory.
 
 ghost use Rattle.std.specs.Prelude.{◌≡◌, ◌∷◌, ◌<◌, ◌≤◌, IfOk, IsTrue, List, OnOk, Some, drop};
 ghost use Rattle.std.specs.Prelude.{length, map, option_copied, slice_get};
@@ -24,25 +24,26 @@ use fedi_text::Moment;
 use fedi_town::Outcome;
 use std::alloc::{AllocError, Global};
 
-/// What becomes of the deliveries that wait.
+/// What becomes of the waiting deliveries.
 #[derive(Drop)]
 pub(crate) enum Change {
     /// Nothing.
     Nothing,
-    /// These come last.
+    /// These are added at the end.
     Added(Vec<QueueRow>),
-    /// The one at this place was tried: another attempt is due from a moment on, or there is none.
+    /// The one at this index was tried: another attempt is due from a moment on, or there is no
+    /// further attempt.
     Settled {
-        /// Its place.
+        /// Its index.
         place: usize,
-        /// From when on.
+        /// The moment from which the next attempt is due.
         due: Option<u64>,
     },
-    /// They are these.
+    /// They are replaced by these.
     Rebuilt(Vec<QueueRow>),
 }
 
-// From when on the next attempt is due after one more, if there is one.
+// The moment from which the next attempt is due after one more, if there is one.
 fn next_due(attempts: u8, moment: Moment, outcome: Outcome) -> Option<u64>
     requires { attempts < 8 }
     ensures { result ≡ due_of (after_outcome attempts moment outcome) }
@@ -67,7 +68,7 @@ fn row_position(rows: &[QueueRow], activity: usize, recipient: &Iri) -> Option<u
         .position(|row| is_row_for(row, activity, recipient))
 }
 
-// What becomes of the delivery of the activity at this place among the activities.
+// What becomes of the delivery of the activity at this position among the activities.
 fn settle_at(
     rows: &[QueueRow],
     activity: usize,
@@ -109,8 +110,8 @@ fn settle(
     }
 }
 
-/// What becomes of the deliveries that wait, which are those of the facts, by the entry for which
-/// the facts have room. The error is out of memory.
+/// What the entry for which the facts have room makes of the waiting deliveries, which are those of
+/// the facts. The error is out of memory.
 pub(crate) fn change_for(
     alloc: Global,
     facts: &Facts,
@@ -167,8 +168,8 @@ fn row_at(rows: &[QueueRow], place: usize) -> Option<&QueueRow>
     rows.get(place)
 }
 
-// The row is claimed if it is the next of these and that is so. The answer is which is the next
-// after it.
+// Claims the row if it is the next of these and that one is claimed. Returns the index of the next
+// one after it.
 #[tactic(auto, using(crate::proofs::Carried::carried_past, crate::proofs::Carried::carried_other, crate::proofs::Carried::carried_same, crate::proofs::Carried::got_within))]
 fn carry_one(rows: &[QueueRow], next: usize, row: &mut QueueRow) -> usize
     requires { next ≤ length rows.now }
@@ -188,7 +189,7 @@ fn carry_one(rows: &[QueueRow], next: usize, row: &mut QueueRow) -> usize
     }
 }
 
-// Those of the list are claimed that are so among these rows, which are in the same order.
+// Claims those rows of the list that are claimed among these rows, which are in the same order.
 fn carry(rows: &[QueueRow], list: &mut [QueueRow])
     ensures { list.new ≡ carried rows.now list.old }
 {

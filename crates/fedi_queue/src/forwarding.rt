@@ -1,4 +1,4 @@
-//! To whom an activity of another server is forwarded.
+//! Who an activity of another server is forwarded to.
 
 ghost use Rattle.std.specs.Prelude.{◌≡◌, IfOk};
 ghost use Rattle.fedi_queue.specs.Queues.{forwards};
@@ -8,9 +8,8 @@ use fedi_effects::{Facts, forwards_of};
 use fedi_objects::Activity;
 use std::alloc::{AllocError, Global};
 
-/// To whom an activity of another server is forwarded when it comes for the first time
-/// (ActivityPub, section 7.1.2), each once; to nobody, if it has no actor. The error is out of
-/// memory.
+/// Who an activity of another server is forwarded to when it arrives for the first time
+/// (ActivityPub, section 7.1.2), each once: nobody if it has no actor. The error is out of memory.
 pub fn forwards(alloc: Global, facts: &Facts, activity: &Activity) -> Result<Items<Iri>, AllocError>
     ensures { IfOk result (λ found. found ≡ forwards facts.now.town activity.now) }
 {

@@ -1,4 +1,4 @@
-//! Laws of the deliveries that wait, each the contract of a function that does nothing.
+//! Laws of the waiting deliveries, each the contract of a function that does nothing.
 
 ghost use Rattle.fedi_queue.specs.Due.{AttemptsLeaveTheRest};
 ghost use Rattle.fedi_queue.specs.Queues.{ClaimsAreHeld};
@@ -12,7 +12,7 @@ pub fn rows_are_the_queue()
     ensures { RowsAreTheQueue }
 {}
 
-/// A row that is due is of a delivery that is due, so an attempt of it may come next.
+/// A row that is due is the row of a delivery that is due, so an attempt of it may come next.
 #[tactic(auto, using(crate::proofs::Queued::rows_are_due))]
 pub fn rows_are_due()
     ensures { RowsAreDue }
@@ -24,27 +24,27 @@ pub fn accepted_activities_add_rows()
     ensures { AcceptedActivitiesAddRows }
 {}
 
-/// An activity from elsewhere that comes again adds no row: it is forwarded once (ActivityPub,
+/// An activity from elsewhere that is repeated adds no row: it is forwarded once (ActivityPub,
 /// section 7.1.2).
 #[tactic(auto, using(crate::proofs::Queued::repeats_add_none))]
 pub fn repeats_add_no_rows()
     ensures { RepeatsAddNoRows }
 {}
 
-/// An attempt changes the rows of its delivery alone.
+/// An attempt changes only the rows of its delivery.
 #[tactic(auto, using(crate::proofs::Trying::attempts_change))]
 pub fn attempts_change_their_rows()
     ensures { AttemptsChangeTheirRows }
 {}
 
-/// An attempt of the first delivery that is due at its moment leaves the others due, and no more,
-/// so that each is tried once at one moment (ActivityPub, section 7.1).
+/// An attempt of the first delivery that is due at its moment leaves exactly the others due, so
+/// that each is tried once at one moment (ActivityPub, section 7.1).
 #[tactic(auto, using(crate::proofs::Due::attempts_leave))]
 pub fn attempts_leave_the_rest()
     ensures { AttemptsLeaveTheRest }
 {}
 
-/// Of a delivery there is one row at most.
+/// A delivery has at most one row.
 pub fn deliveries_have_one_row()
     ensures { DeliveriesHaveOneRow }
 {}
@@ -55,7 +55,7 @@ pub fn next_ids_are_new()
     ensures { NextIdsAreNew }
 {}
 
-/// A claim is held as long as its delivery is not tried.
+/// A claim is held until its delivery is tried.
 #[tactic(auto, using(crate::proofs::Held::claims_held))]
 pub fn claims_are_held()
     ensures { ClaimsAreHeld }

@@ -1,4 +1,5 @@
-//! The deliveries that this server owes to others: what is due, who tries it, and what comes of it.
+//! The deliveries that this server owes to others: what is due, who tries it, and what results from
+//! it.
 #![tactic(auto)]
 
 mod changes;

@@ -15,7 +15,7 @@ use std::alloc::{AllocError, Global};
 use std::marker::Brand;
 use std::sync::ledger::{Blank, Ledger};
 
-// An activity that is sent: its place among the activities, its id, and when it was accepted.
+// An activity that is sent: its position among the activities, its id, and when it was accepted.
 #[derive(Drop)]
 struct Sending<'a> {
     activity: usize,
@@ -23,7 +23,7 @@ struct Sending<'a> {
     moment: Moment,
 }
 
-// Whether the recipient is of a peer, or of the host that becomes one.
+// Whether the recipient belongs to a peer, or to the host that becomes one.
 #[tactic(auto, unfolding(crate::specs::Rows::is_reached))]
 fn is_reached(facts: &Facts, new: Option<&Host>, recipient: &Iri) -> bool
     ensures { result ≡ is_reached facts.now.town (option_copied new.entry) recipient.now }
@@ -87,7 +87,7 @@ fn add_rows_to(
     Ok(())
 }
 
-// Adds the rows of the activity at this place among the activities.
+// Adds the rows of the activity at this position among the activities.
 fn add_rows_of(
     rows: &mut Vec<QueueRow>,
     facts: &Facts,
@@ -112,7 +112,7 @@ fn add_rows_of(
     }
 }
 
-// Likewise, if there is one.
+// Adds the rows of the activity in the same way, if there is one.
 fn add_rows_for(
     rows: &mut Vec<QueueRow>,
     facts: &Facts,
@@ -129,7 +129,7 @@ fn add_rows_for(
     }
 }
 
-// The place after that of the activity, if there is one.
+// The position after that of the activity, if there is one.
 fn place_after(place: usize, act: Option<&Kept>) -> usize
     requires { place < 2 ^ 63 }
     ensures { result ≡ place + length (option_to_list (option_copied act.entry)) }
@@ -140,8 +140,8 @@ fn place_after(place: usize, act: Option<&Kept>) -> usize
     }
 }
 
-/// The rows of the activities that the entry will add for which the facts have room. The error is
-/// out of memory.
+/// The rows of the activities that will be added by the entry for which the facts have room. The
+/// error is out of memory.
 pub(crate) fn rows_of_coming(alloc: Global, facts: &Facts) -> Result<Vec<QueueRow>, AllocError>
     ensures { IfOk result (λ rows. rows.items ≡ rows_from facts.now.town
         (is_at_peer facts.now.town) (length facts.now.town.acts) (coming_in facts.now)) }
@@ -175,8 +175,8 @@ fn rows_counted<L: Ledger>(
     Ok(rows)
 }
 
-/// The rows of all activities, where this host is a peer, or becomes one. It goes through all of
-/// them. The error is out of memory.
+/// The rows of all activities if this host is a peer or becomes one. All activities are scanned.
+/// The error is out of memory.
 pub(crate) fn rows_of_all(
     alloc: Global,
     facts: &Facts,

@@ -29,16 +29,16 @@ struct Start {
     facts: Snapshot<Facts>,
 }
 
-// What was made for the entry that comes next.
+// What was made for the next entry.
 #[derive(Drop)]
 struct Room {
     entry: Snapshot<Entry>,
     change: Change,
 }
 
-/// The deliveries of a history that wait, in the order of acceptance and of recipients
-/// (ActivityPub, section 7.1): those to recipients of peers of which another attempt is due. Each
-/// may be claimed, and is then given to nobody else until it is tried or given back.
+/// The waiting deliveries of a history, in the order of acceptance and of recipients (ActivityPub,
+/// section 7.1): those to recipients of peers for which another attempt is due. Each may be
+/// claimed, and is then given to nobody else until it is tried or given back.
 #[derive(Drop)]
 pub struct Queue {
     start: Option<Start>,
@@ -91,8 +91,8 @@ impl Queue {
         }
     }
 
-    /// The queue of the history of these facts, in which nothing is claimed. It goes through all
-    /// activities. The error is out of memory.
+    /// The queue of the history of these facts, in which nothing is claimed. All activities are
+    /// scanned. The error is out of memory.
     pub fn of(alloc: Global, facts: &Facts) -> Result<Queue, AllocError>
         ensures { IfOk result (λ queue. queue ≡ record {
           history = facts.now.history;
@@ -112,7 +112,7 @@ impl Queue {
         })
     }
 
-    /// The deliveries that wait, in order.
+    /// The waiting deliveries, in order.
     pub fn entries(&self) -> &[QueueRow]
         ensures rows { result.now ≡ self.now.rows }
         ensures queue { map release result.now ≡ rows_of (town self.now.history) }
@@ -120,8 +120,9 @@ impl Queue {
         self.rows.as_slice()
     }
 
-    /// Claims the first delivery that is due at this moment and not claimed: there is none exactly
-    /// if it returns none. It takes no memory, and one comparison as long as nothing is due.
+    /// Claims the first delivery that is due at this moment and not claimed. It returns none
+    /// exactly if there is no such delivery. It takes no memory, and only one comparison while
+    /// nothing is due.
     pub fn claim(&mut self, moment: Moment) -> Option<Claim>
         ensures first { result
             ≡ option_map (claim_of moment) (find (is_free_at moment) self.old.rows) }
@@ -133,7 +134,7 @@ impl Queue {
         self.rows.claim(moment)
     }
 
-    /// The recipient of the delivery that is claimed.
+    /// The recipient of the claimed delivery.
     #[tactic(auto, using(crate::proofs::Held::recipient_found, crate::proofs::Held::not_missing))]
     pub fn recipient_of(&self, claim: &Claim) -> &Iri
         requires { IsHeld claim.now self.now.rows }
@@ -146,7 +147,7 @@ impl Queue {
         }
     }
 
-    /// Gives a claim up, so that the delivery may be claimed again. It takes no memory.
+    /// Gives up a claim, so that the delivery may be claimed again. It takes no memory.
     pub fn release(&mut self, claim: Claim)
         requires { IsHeld claim self.old.rows }
         ensures { self.new ≡ record self.old {
@@ -162,9 +163,9 @@ impl Queue {
         self.rows.release(activity, recipient);
     }
 
-    /// Makes room for an entry that may come next, with all that becomes of the deliveries: the
-    /// facts are those of the queue's history, and have room for the entry. The error is out of
-    /// memory, and then there is room for none.
+    /// Makes room for an entry that may come next, with all that it makes of the deliveries. The
+    /// facts are those of the queue's history and have room for the entry. The error is out of
+    /// memory, and then there is room for no entry.
     pub fn reserve(&mut self, alloc: Global, facts: &Facts, entry: &Entry) -> Result<(), AllocError>
         requires history { facts.now.history ≡ self.old.history }
         requires legal { IsLegal self.old.history }
@@ -180,8 +181,8 @@ impl Queue {
         keep_room(&mut self.room, &mut self.rows, Room { entry, change })
     }
 
-    /// Adds the entry for which there is room. Whatever is claimed stays so, but for the delivery
-    /// that the entry has tried. It takes no memory.
+    /// Adds the entry for which there is room. Everything that is claimed stays claimed, except the
+    /// delivery that the entry has tried. It takes no memory.
     pub fn push(&mut self, entry: &Entry)
         requires { self.old.room ≡ Some entry.now }
         ensures history { self.new.history ≡ self.old.history ++ entry.now ∷ [] }

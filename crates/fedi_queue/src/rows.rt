@@ -1,4 +1,4 @@
-//! Deliveries that wait, in order.
+//! Waiting deliveries, in order.
 
 ghost use Rattle.std.specs.Prelude.{◌≡◌, ◌∷◌, ◌++◌, [], ◌+◌, ◌-◌, ◌<◌, ◌≤◌, ◌^◌, IsTrue, OnOk};
 ghost use Rattle.std.specs.Prelude.{OnErr, None, Some, length, option_copied, option_map, vec_len};
@@ -12,39 +12,40 @@ use fedi_text::Moment;
 use std::alloc::{AllocError, Global};
 use std::marker::Model;
 
-/// A delivery that waits: of one activity to one recipient.
+/// A waiting delivery: of one activity to one recipient.
 #[derive(Drop)]
 pub struct QueueRow {
-    /// The place of the activity in the order of acceptance.
+    /// The position of the activity in the order of acceptance.
     pub activity: usize,
-    /// The place of the recipient among those to whom the activity is sent.
+    /// The index of the recipient among those that the activity is sent to.
     pub place: usize,
-    /// The recipient, who is of a peer.
+    /// The recipient, who belongs to a peer.
     pub recipient: Iri,
     /// How many attempts there were: fewer than eight.
     pub attempts: u8,
-    /// From when the next attempt is due, in seconds since 1970-01-01T00:00:00Z.
+    /// The moment from which the next attempt is due, in seconds since 1970-01-01T00:00:00Z.
     pub due: u64,
-    /// Whether somebody has claimed it, who tries it.
+    /// Whether somebody who tries it has claimed it.
     pub claimed: bool,
 }
 
-/// A delivery that its owner has to itself, and tries. It is spent by what comes of the attempt, or
-/// given back.
+/// A delivery that its owner has to itself and tries. It is used up by the result of the attempt,
+/// or given back.
 pub struct Claim {
-    /// The place of the activity in the order of acceptance.
+    /// The position of the activity in the order of acceptance.
     pub activity: usize,
-    /// The place of the recipient among those to whom the activity is sent.
+    /// The index of the recipient among those that the activity is sent to.
     pub recipient: usize,
     /// The moment at which it was claimed.
     pub moment: Moment,
 }
 
-/// Deliveries that wait, in order.
+/// Waiting deliveries, in order.
 #[derive(Drop)]
 pub(crate) struct Rows {
     list: Vec<QueueRow>,
-    // None of them may be claimed before, so that to ask while nothing is due takes one comparison.
+    // None of them may be claimed before this, so that a claim while nothing is due takes one
+    // comparison.
     earliest: u64,
 }
 
@@ -85,7 +86,7 @@ fn first_claimed(rows: &[QueueRow], activity: usize, place: usize) -> Option<usi
         .position(|row| is_claimed_at(row, activity, place))
 }
 
-// The moment before which neither a row of those so far nor this one may be claimed.
+// The moment before which neither one of the earlier rows nor this one may be claimed.
 #[tactic(auto, unfolding(crate::specs::Claims::is_not_before))]
 fn earlier(earliest: u64, row: &QueueRow) -> u64
     ensures none_later { result ≤ earliest }
@@ -98,7 +99,7 @@ fn earlier(earliest: u64, row: &QueueRow) -> u64
     }
 }
 
-// A moment before which none of the rows may be claimed: the last moment, where all are claimed.
+// A moment before which none of the rows may be claimed: the last moment if all are claimed.
 fn earliest_of(rows: &[QueueRow]) -> u64
     ensures { IsTrue (list_all (is_not_before result) rows.now) }
 {
@@ -156,7 +157,7 @@ impl Rows {
         self.list.as_slice()
     }
 
-    /// Makes room for so many more. The error is out of memory.
+    /// Makes room for this many more. The error is out of memory.
     pub(crate) fn reserve(&mut self, more: usize) -> Result<(), AllocError>
         ensures rows { self.new.rows ≡ self.old.rows }
         ensures room { OnOk result (more ≤ self.new.room) }
@@ -164,7 +165,7 @@ impl Rows {
         self.list.reserve(more)
     }
 
-    /// Adds more at the end, where there is room. It takes no memory.
+    /// Adds more at the end, for which there has to be room. It takes no memory.
     #[tactic(auto, using(crate::proofs::Listed::more_few, crate::proofs::Listed::more_not_before))]
     pub(crate) fn append(&mut self, more: &mut Vec<QueueRow>)
         requires room { vec_len more.old ≤ self.old.room }
@@ -177,8 +178,8 @@ impl Rows {
         }
     }
 
-    /// Claims the first delivery that is due at this moment and not claimed, or none if there is no
-    /// such delivery. It takes no memory.
+    /// Claims the first delivery that is due at this moment and not claimed, or returns none if
+    /// there is no such delivery. It takes no memory.
     #[tactic(auto, using(crate::proofs::Listed::early_none, crate::proofs::Listed::early_same, fedi_register::proofs::Edited::none_there, crate::proofs::Listed::late_same, crate::proofs::Listed::first_changed, crate::proofs::Listed::first_found, crate::proofs::Listed::first_within, crate::proofs::Listed::few_claimed, crate::proofs::Listed::claimed_not_before))]
     pub(crate) fn claim(&mut self, moment: Moment) -> Option<Claim>
         ensures first { result
@@ -199,7 +200,7 @@ impl Rows {
         }
     }
 
-    /// Gives up the claim on the delivery of this activity to the recipient at this place, if it is
+    /// Gives up the claim on the delivery of this activity to the recipient at this index, if it is
     /// claimed. It takes no memory.
     #[tactic(auto, using(crate::proofs::Listed::late_same, crate::proofs::Listed::first_changed, crate::proofs::Listed::first_within, crate::proofs::Listed::few_after_release, crate::proofs::Listed::due_not_before))]
     pub(crate) fn release(&mut self, activity: usize, place: usize)
@@ -213,7 +214,7 @@ impl Rows {
         }
     }
 
-    /// The delivery of this activity to the recipient at this place, if it is claimed.
+    /// The delivery of this activity to the recipient at this index, if it is claimed.
     pub(crate) fn claimed(&self, activity: usize, place: usize) -> Option<&QueueRow>
         ensures { option_copied result ≡ find (is_claimed_at activity place) self.now.rows }
     {
@@ -222,8 +223,8 @@ impl Rows {
             .find(|row| is_claimed_at(row, activity, place))
     }
 
-    /// After one more attempt of the delivery at this place: another is due from this moment on, or
-    /// there is none. It takes no memory.
+    /// Records one more attempt of the delivery at this index: another is due from this moment on,
+    /// or there is no further attempt. It takes no memory.
     #[tactic(auto, using(crate::proofs::Listed::was_few, crate::proofs::Listed::set_at, crate::proofs::Listed::removed_at, crate::proofs::Listed::all_removed, crate::proofs::Listed::due_not_before))]
     pub(crate) fn settle(&mut self, place: usize, due: Option<u64>)
         requires there { place < length self.old.rows }

@@ -43,14 +43,14 @@ pub address_fault : (text : List ℕ) → result_err (reads_address text) ≡ on
 unfolding reads_address
 address_fault text = elim (iri text) as (λ o. result_err (option_map_or Ok o (Err BadIri)) ≡ only (is_none o) BadIri) [ None ↦ refl | Some i ↦ refl ]
 
--- the texts of a field of the one and of the other, each once
+-- the texts in a field of both, each once
 named_twice : (key : List ℕ) (d o : Data) → distinct (named_by key d ++ named_by key o) ≡ named_by_both key d o
 unfolding named_by_both
 named_twice key d o =
     distinct_twice (filter_map recipient_of (entries_at key d)) (filter_map recipient_of (entries_at key o))
     ∙ ap distinct (sym (filter_map-append recipient_of (entries_at key d) (entries_at key o)))
 
--- those of both are those that either names
+-- the joined recipients are those that either names
 pub joined_named : (d o : Data) (a b : Recipients) → AreNamed d a → AreNamed o b → joined a b ≡ union d o
 joined_named d o a b h k =
     rw (
@@ -71,12 +71,12 @@ joined_named d o a b h k =
       named_twice (codes "audience") d o,
     ) refl
 
--- what comes next counts where the first has no fault, and knows what the first gave
+-- the next step counts if the first has no fault, and may use what the first returned
 pub then_known : {A B : Type 0} (r : Result A ShapeFault) (f : A → Result B ShapeFault) (first rest : Option ShapeFault) → result_err r ≡ first → ((x : A) → r ≡ Ok x → result_err (f x) ≡ rest) → result_err (r >>= f) ≡ option_or first rest
 then_known (Ok x) f first rest h k = rw (← h) (k x refl)
 then_known (Err e) f first rest h k = rw (← h) refl
 
--- too many entries, or too many recipients of both
+-- too many entries, or too many recipients in both together
 or_crowd : (bad first second both : Bool) → option_or (cond bad (Some BadIri) (only (first || second) TooManyRecipients)) (only both TooManyRecipients)
     ≡ cond bad (Some BadIri) (only (first || (second || both)) TooManyRecipients)
 or_crowd true first second both = refl
@@ -206,11 +206,11 @@ other_fault author kind need d =
 
 -- ---- the whole
 
--- the faults that an activity can have once it is an object in its context
+-- the faults that an activity can have once it is known to be an object with the right context
 abbrev later : List ShapeFault
 later = NoType ∷ NoId ∷ NoActor ∷ NoObject ∷ BadIri ∷ TooManyRecipients ∷ BadText ∷ SelfTarget ∷ []
 
--- the `id` of an object that stands in the activity is that of what the activity is about
+-- the `id` of an object that the activity contains is the `id` of what the activity is about
 embedded_id : (found : Option Data) (o : Data) → option_and_then itself found ≡ Some o → option_and_then id_of found ≡ reference_at (codes "id") o
 unfolding id_of
 embedded_id None o h = absurd cc
@@ -240,7 +240,7 @@ need_fault author kind Another d = other_fault author kind Another d
 need_fault author kind needs.Id d = other_fault author kind needs.Id d
 need_fault author kind Anything d = other_fault author kind Anything d
 
--- what has a type is an object
+-- a value that has a type is an object
 typed_object : (d : Data) (kind : Kind) → kind_of d ≡ Some kind → is_some (as_object d) ≡ true
 unfolding kind_of type_of property
 typed_object null kind h = absurd cc
@@ -260,7 +260,7 @@ unfolding first_fault
 post_fault author d None h = posted_fault d
 post_fault author d (Some kind) h = in_context (is_some (as_object d)) (has_context d) _ _ (typed_object d kind h) (need_fault author kind (need_of kind) d)
 
--- the fault of what is read is the first that holds
+-- reading returns the first fault that holds
 pub activity_fault : (author : List ℕ) (d : Data) → result_err (reads_activity author d) ≡ first_post_fault author d
 unfolding reads_activity first_post_fault
 activity_fault author d = post_fault author d (kind_of d) refl

@@ -1,4 +1,4 @@
--- What holds of the parts of an activity that is read.
+-- What holds of the parts of an activity that was read.
 use Rattle.std.proofs.Common.{◌≡◌, ℕ, ◌≤◌, List, length, true, false, nat_lt, Option, Some, None, codes, bytes_eq, sym, ap, subst}
 use Rattle.std.specs.Prelude.{Result, Ok}
 use Rattle.std.proofs.lemmas.Bool.{ltb-false}
@@ -26,14 +26,14 @@ new_type_ok (Some text) kind h =
     let passed = if_ok (bytes_eq text (codes "Tombstone")) NoType text kind h in
     (ap Some passed.1, subst (λ (t : List ℕ). bytes_eq t (codes "Tombstone") ≡ false) passed.1 passed.0)
 
--- the type of an object to be made has 1 to 64 bytes, and is not that of what is deleted
+-- the type of an object to be created has 1 to 64 bytes, and is not that of deleted objects
 pub new_type_kept : (o : Data) (kind : List ℕ) → reads_new_type o ≡ Ok kind → (is_type kind ≡ true) × (bytes_eq kind (codes "Tombstone") ≡ false)
 unfolding reads_new_type
 new_type_kept o kind h =
     let passed = new_type_ok (type_of o) kind h in
     (typed_kept o kind passed.0, passed.1)
 
--- the recipients of a Create and its object are those that either names, and at most 500
+-- the recipients of a Create and its object are those that either names, at most 500
 pub audience_kept : (d o : Data) (r : Recipients) → reads_audience d o ≡ Ok r → (r ≡ union d o) × (length (all_of r) ≤ 500)
 unfolding reads_audience
 audience_kept d o r h =
@@ -44,12 +44,12 @@ audience_kept d o r h =
     subst (λ (x : Recipients). (x ≡ union d o) × (length (all_of x) ≤ 500)) passed.1
     (joined_named d o found.0.0 found.0.1 both.0.0 both.1.0, ltb-false 500 (length (all_of all)) passed.0)
 
--- ---- the parts of which an activity is made
+-- ---- the parts that make up an activity
 
 pub same_ok : {A : Type 0} (x y : A) → ◌≡◌ {A = Result A ShapeFault} (Ok x) (Ok y) → y ≡ x
 same_ok x y h = cc
 
--- of a Create
+-- the parts of a Create
 pub record IsCreation (d o : Data) (a : Activity) : Type 0 where
   pub kind : List ℕ
   pub target : Option (List ℕ)
@@ -90,7 +90,7 @@ creation_parts d o a h =
       whole = same_ok _ a object_words.2;
     }
 
--- of an Update
+-- the parts of an Update
 pub record IsUpdate (d o : Data) (a : Activity) : Type 0 where
   pub id : List ℕ
   pub target : Option (List ℕ)
@@ -125,7 +125,7 @@ update_parts d o a h =
       whole = same_ok _ a object_words.2;
     }
 
--- of another activity
+-- the parts of another activity
 pub record IsOther (author : List ℕ) (kind : Kind) (need : Need) (d : Data) (a : Activity) : Type 0 where
   pub id : Option (List ℕ)
   pub target : Option (List ℕ)

@@ -1,4 +1,4 @@
--- What is read of an activity whose parts are read.
+-- What is read of an activity whose parts have been read.
 use Rattle.std.proofs.Common.{◌≡◌, ℕ, List, false, Option, codes, refl}
 use Rattle.std.specs.Prelude.{Ok}
 use Rattle.serde_json.specs.Data.{Data}

@@ -38,7 +38,7 @@ members_fault : (d : Data) (is : Bool) → result_err (reads_members d is)
 members_fault d false = refl
 members_fault d true = id_fault d (reference_at (codes "id") d)
 
--- the fault of what is read is the first that holds
+-- reading returns the first fault that holds
 pub actor_fault : (d : Data) → result_err (reads_actor d) ≡ first_actor_fault d
 unfolding reads_actor first_actor_fault
 actor_fault d = members_fault d (is_some (as_object d))

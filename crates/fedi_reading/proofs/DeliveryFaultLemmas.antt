@@ -53,7 +53,7 @@ own_fault made o =
 
 -- ---- the actor itself
 
--- the actor is followed or blocked by itself
+-- the actor follows or blocks itself
 abbrev is_own : Need → Data → Bool
 is_own need d = has_delivery_fault need d SelfTarget
 
@@ -96,7 +96,7 @@ bare_fault a need d =
     (λ words. ended_fault (is_own_target addressed.actor need about) SelfTarget _ ∙ ap (λ b. only b SelfTarget) (own_is a need d addressed about h k)))))
     ∙ in_order_bare (has_bad_address d) (is_bad_reference (object_id d)) (has_bad_entry d) (is_crowded 501 d) (has_fault d BadText) (is_own need d)
 
--- a test of two parts, of which the second cannot hold
+-- a test of two parts, the second of which cannot hold
 one_fault : {A : Type 0} (b : Bool) (e : ShapeFault) (r : Result A ShapeFault) (rest : Option ShapeFault) → result_err r ≡ rest → result_err (cond b (Err e) r) ≡ cond (b || false) (Some e) rest
 one_fault true e r rest h = refl
 one_fault false e r rest h = h
@@ -115,7 +115,7 @@ without_fault kind d h k =
 
 -- ---- one that carries its object
 
--- the tests: addresses, the object's `id` and its others, entries, crowd, words
+-- the tests: addresses, the object's `id` and its other addresses, entries, crowd, words
 in_order_full : (a i x e c w : Bool) → option_or (only a BadIri) (option_or (only (i || x) BadIri) (option_or (cond e (Some BadIri) (only c TooManyRecipients)) (only w BadText)))
     ≡ cond (a || (i || (x || e))) (Some BadIri) (cond c (Some TooManyRecipients) (only w BadText))
 in_order_full true i x e c w = refl
@@ -145,7 +145,7 @@ with_fault kind d o (Some type) =
     test_fault (has_no (codes "id") d || has_no (codes "id") o) NoId _ _
     (test_fault (has_no (codes "actor") d) NoActor _ _ (full_fault (activity_of_kind kind) (object_of_kind type) d o))
 
--- what carries an object is of no other actor
+-- an activity that carries an object needs no other actor
 not_own : (need : Need) (d o : Data) (actor : Option (List ℕ)) → carried need d ≡ Some o → option_map_or (λ author. is_self author need d) actor false ≡ false
 not_own Whole d o None h = refl
 not_own Whole d o (Some author) h = refl
@@ -179,7 +179,7 @@ typed_fault : (d : Data) (found : Option Kind) → kind_of d ≡ found
 typed_fault d None h = rw h refl
 typed_fault d (Some kind) h = sent_fault kind d h
 
--- the fault of what is read is the first that holds
+-- reading returns the first fault that holds
 pub delivery_fault : (d : Data) → result_err (reads_delivered d) ≡ first_delivery_fault d
 unfolding reads_delivered first_delivery_fault
 delivery_fault d =

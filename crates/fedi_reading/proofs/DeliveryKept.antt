@@ -1,4 +1,4 @@
--- What holds of the parts of a delivery that is read.
+-- What holds of the parts of a delivery that was read.
 use Rattle.std.proofs.Common.{◌≡◌, ℕ, List, true, false, not, ◌&&◌, ◌||◌, Option, Some, None, ◌⊎◌, inl, inr, codes, refl, sym}
 use Rattle.std.specs.Prelude.{Ok, Err, is_some, is_none}
 use Rattle.std.specs.Option.{option_map_or}
@@ -32,7 +32,7 @@ pub former_kept : (d : Data) → option_map_or is_type (former_of d) true ≡ tr
 unfolding former_of
 former_kept d = formed_kept is_type (text_at (codes "formerType") d) _ refl
 
--- ---- the parts of which a delivery is made
+-- ---- the parts that make up a delivery
 
 -- the addresses of an activity
 pub record IsAddressed (a : Activity) (d : Data) (b : Activity) : Type 0 where
@@ -83,7 +83,7 @@ own_parts made o own h =
       whole = same_ok _ own in_reply_to.2;
     }
 
--- of an activity that carries no object
+-- the parts of an activity that carries no object
 pub record IsBare (a : Activity) (need : Need) (d : Data) (b : Activity) : Type 0 where
   pub addressed : Activity
   pub about : Option (List ℕ)
@@ -118,7 +118,7 @@ bare_parts a need d b h =
       whole = sym passed.1;
     }
 
--- of one that carries its object
+-- the parts of an activity that carries its object
 pub record IsFull (a : Activity) (made : Object) (d o : Data) (b : Activity) : Type 0 where
   pub addressed : Activity
   pub own : Object
@@ -154,9 +154,9 @@ full_parts a made d o b h =
       whole = same_ok _ b object_words.2;
     }
 
--- ---- what is there in a delivery
+-- ---- what a delivery contains
 
--- of one that carries no object
+-- what an activity that carries no object contains
 pub record HasNoObject (kind : Kind) (d : Data) (a : Activity) : Type 0 where
   pub id_there : has_no (codes "id") d ≡ false
   pub actor_there : has_no (codes "actor") d ≡ false
@@ -176,7 +176,7 @@ without_parts kind d a h =
       bare = bare_parts (activity_of_kind kind) (need_of kind) d a about.1;
     }
 
--- of one that carries this object
+-- what an activity that carries this object contains
 pub record HasObject (kind : Kind) (d o : Data) (a : Activity) : Type 0 where
   pub type : List ℕ
   pub type_read : type_of o ≡ Some type
@@ -197,7 +197,7 @@ with_parts kind d o a (Some type) k h =
       full = full_parts (activity_of_kind kind) (object_of_kind type) d o a actor.1;
     }
 
--- what is read is an activity of a type, which carries no object, or one that is carried
+-- what is read is an activity of some type, which either carries no object or carries one
 pub record IsDelivery (d : Data) (a : Activity) : Type 0 where
   pub kind : Kind
   pub said : HasNoObject kind d a ⊎ ((o : Data) × (carried (need_of kind) d ≡ Some o) × HasObject kind d o a)

@@ -15,11 +15,11 @@ use Rattle.fedi_reading.specs.Faults.{is_bad_reply, is_long, has_fault, first_fa
 use Rattle.fedi_reading.specs.declared.shape_fault.ShapeFault.{ShapeFault}
 use Rattle.fedi_reading.specs.declared.shape_fault.ShapeFault.TheVariants.{NotObject, BadContext, NoType, BadIri, TooManyRecipients, BadText, Memory}
 
--- the fault, where the test holds
+-- the fault, if the test holds
 abbrev pub only : Bool → ShapeFault → Option ShapeFault
 only b e = cond b (Some e) None
 
--- what comes next counts where the first has no fault
+-- the next step counts if the first has no fault
 pub then_fault : {A B : Type 0} (r : Result A ShapeFault) (f : A → Result B ShapeFault) (first rest : Option ShapeFault) → result_err r ≡ first → ((x : A) → result_err (f x) ≡ rest) → result_err (r >>= f) ≡ option_or first rest
 then_fault (Ok x) f first rest h k = rw (← h) (k x)
 then_fault (Err e) f first rest h k = rw (← h) refl
@@ -133,15 +133,15 @@ pub fault_of : {A : Type 0} (r : Result A ShapeFault) (e : ShapeFault) → resul
 fault_of (Ok x) e h = absurd cc
 fault_of (Err e) f h = cc
 
--- one of the entries is bad, however many they are
+-- one of the entries is bad, however many there are
 pub bad_few : (most : ℕ) (d : Data) → list_any is_bad (all_entries d) ≡ true → reads_few most d ≡ Err BadIri
 bad_few most d h = fault_of (reads_few most d) BadIri (few_fault most d ∙ rw h refl)
 
--- none of too many entries is bad
+-- there are too many entries, and none is bad
 pub crowded_few : (most : ℕ) (d : Data) → list_any is_bad (all_entries d) ≡ false → is_crowded most d ≡ true → reads_few most d ≡ Err TooManyRecipients
 crowded_few most d h crowd = fault_of (reads_few most d) TooManyRecipients (few_fault most d ∙ rw (h, crowd) refl)
 
--- one of either's entries is bad
+-- an entry of one of the two is bad
 pub bad_both : (most : ℕ) (d o : Data) → (list_any is_bad (all_entries d) || list_any is_bad (all_entries o)) ≡ true → reads_both most d o ≡ Err BadIri
 bad_both most d o h = fault_of (reads_both most d o) BadIri (both_fault most d o ∙ rw h refl)
 
@@ -174,14 +174,14 @@ object_fault d =
     ∙ or_two (has_fault d BadIri) (has_fault d TooManyRecipients) BadIri TooManyRecipients (only (has_fault d BadText) BadText))
     ∙ or_cond (has_fault d NoType) NoType (cond (has_fault d BadIri) (Some BadIri) (cond (has_fault d TooManyRecipients) (Some TooManyRecipients) (only (has_fault d BadText) BadText)))
 
--- the fault of what is read is the first that holds
+-- reading returns the first fault that holds
 pub posted_fault : (d : Data) → result_err (reads_posted d) ≡ first_fault d
 unfolding reads_posted first_fault
 posted_fault d =
     test_fault (not (is_some (as_object d))) NotObject _ _ (test_fault (not (has_context d)) BadContext _ _
     (then_fault (reads_object d) (λ o. Ok (wrapped o)) _ None (object_fault d) (λ o. refl) ∙ or_none _))
 
--- what is refused is refused for the first fault
+-- what is refused is refused for the first fault that holds
 pub least_of : {A : Type 0} (read r : Result A ShapeFault) (first : Option ShapeFault) → result_err read ≡ first → Gives r read → IfErr r (λ e. e ≢ Memory → first ≡ Some e)
 least_of read (Ok a) first h given = tt
 least_of read (Err e) first h given = λ other. sym h ∙ ap result_err (given other)

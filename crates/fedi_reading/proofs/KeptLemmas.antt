@@ -1,4 +1,4 @@
--- What holds of the parts of an object that is read.
+-- What holds of the parts of an object that was read.
 use Rattle.std.proofs.Common.{◌≡◌, ℕ, ◌+◌, ◌≤◌, List, [], ◌∷◌, ◌++◌, length, length-append, Bool, true, false, cond, ◌||◌, nat_le, nat_lt, Option, Some, None, codes, bytes_eq, refl, ap, sym, subst, arith}
 use Rattle.std.specs.Prelude.{Result, Ok, Err, option_map, not, is_some}
 use Rattle.std.specs.Option.{option_map_or}
@@ -55,7 +55,7 @@ pub typed_kept : (d : Data) (kind : List ℕ) → type_of d ≡ Some kind → is
 unfolding type_of
 typed_kept d kind h = formed_kept is_type _ (Some kind) h
 
--- the type of an object to be made has 1 to 64 bytes, and is not that of what is deleted
+-- the type of an object to be created has 1 to 64 bytes, and is not that of deleted objects
 pub type_kept : (d : Data) (kind : List ℕ) → reads_type d ≡ Ok kind → (is_type kind ≡ true) × (bytes_eq kind (codes "Tombstone") ≡ false)
 unfolding reads_type makes_nothing
 type_kept d kind h =
@@ -88,11 +88,11 @@ words_kept d words h =
 
 -- ---- recipients
 
--- whom the entries of a field name, each once
+-- the recipients that the entries of a field name, each once
 abbrev pub named_by : List ℕ → Data → List (List ℕ)
 named_by key d = distinct (filter_map recipient_of (entries_at key d))
 
--- each field has whom its entries name
+-- each field has the recipients that its entries name
 pub record AreNamed (d : Data) (r : Recipients) : Type 0 where
   pub to : r.to ≡ named_by (codes "to") d
   pub cc : r.cc ≡ named_by (codes "cc") d
@@ -157,7 +157,7 @@ named_few key d =
     let few = length_folded [] texts in
     omega arith
 
--- no more are named than there are entries
+-- there are at most as many recipients as entries
 named_total : (d : Data) (r : Recipients) → AreNamed d r → length (all_of r) ≤ length (all_entries d)
 unfolding all_entries
 named_total d r h =
@@ -168,7 +168,7 @@ named_total d r h =
     let audience = named_few (codes "audience") d in
     rw (h.to, h.cc, h.bto, h.bcc, h.audience) (simp length-append (omega arith))
 
--- the recipients are those that the entries name, and at most so many
+-- the recipients are those that the entries name, at most this many
 abbrev pub IsFew : ℕ → Data → Recipients → Type 0
 IsFew most d r = AreNamed d r × (length (all_of r) ≤ most)
 
@@ -196,7 +196,7 @@ both_kept most d o both h =
     subst (λ (b : Recipients × Recipients). IsFew most d b.0 × IsFew most o b.1) passed.1
     (few_named most d one.0 one.1 few.0, few_named most o other.0 other.1 few.1)
 
--- the recipients that are read are those that the entries name, and at most 500
+-- the recipients that are read are those that the entries name, at most 500
 pub people_kept : (d : Data) (people : Option (List ℕ) × Recipients) → reads_people d ≡ Ok people → IsFew 500 d people.1
 unfolding reads_people
 people_kept d people h =
@@ -244,7 +244,7 @@ tags_kept d = all_found tag_of (λ t. nat_le (length t.name) 65536) tag_kept (en
 
 -- ---- the whole
 
--- the parts of which an object is made
+-- the parts that make up an object
 pub record IsMadeOf (d : Data) (o : Object) : Type 0 where
   pub kind : List ℕ
   pub people : Option (List ℕ) × Recipients

@@ -1,4 +1,4 @@
--- Lists of values, seen as their data.
+-- Lists of values, as their data.
 use Rattle.std.proofs.Common.{◌≡◌, ℕ, ◌+◌, ◌<◌, List, [], ◌∷◌, ◌++◌, append-nil, map, take, drop, drop-cons, find, get_or, length, Bool, true, false, cond, ◌||◌, Option, Some, None, refl, ap, sym, ◌∙◌}
 use Rattle.std.specs.Prelude.{◌≢◌, Ok, Err}
 use Rattle.std.proofs.lemmas.List.{take_more, take-append-drop, map_push}
@@ -20,13 +20,13 @@ pub list_of_items : (ds : List Data) → list_of (items_of ds) ≡ ds
 list_of_items [] = refl
 list_of_items (d ∷ ds) = ap (λ es. d ∷ es) (list_of_items ds)
 
--- a list that has not one entry stands for nothing
+-- a list that does not have exactly one entry counts as absent
 pub none_of_many : {X : Type 0} (f : X → Data) (xs : List X) → length xs ≢ 1 → one_entry (items_of (map f xs)) ≡ None
 none_of_many f [] h = refl
 none_of_many f (y ∷ []) h = absurd (h refl)
 none_of_many f (y ∷ (z ∷ ys)) h = refl
 
--- a test of what the elements are seen as
+-- a test of the data of the elements
 pub list_any_map : {X Y : Type 0} (f : X → Y) (p : Y → Bool) (xs : List X) → list_any p (map f xs) ≡ list_any (λ x. p (f x)) xs
 list_any_map f p [] = refl
 list_any_map f p (x ∷ xs) = ap (λ b. p (f x) || b) (list_any_map f p xs)
@@ -35,11 +35,11 @@ list_any_map f p (x ∷ xs) = ap (λ b. p (f x) || b) (list_any_map f p xs)
 pub map_take_more : {X Y : Type 0} (f : X → Y) (xs : List X) (i : ℕ) (x : X) → i < length xs → map f (take (i + 1) xs) ≡ map f (take i xs) ++ f (get_or xs i x) ∷ []
 map_take_more f xs i x h = ap (map f) (take_more xs i x h) ∙ map_push f (take i xs) (get_or xs i x)
 
--- an element that does not pass is gone past in a search
+-- a search continues after an element that does not pass
 pub find_past : {X : Type 0} (p : X → Bool) (xs : List X) (i : ℕ) (x : X) → i < length xs → find p (take i xs) ≡ None → p (get_or xs i x) ≡ false → find p (take (i + 1) xs) ≡ None
 find_past p xs i x h none fails = rw (take_more xs i x h, find-append p (take i xs) (get_or xs i x ∷ []), none, fails) refl
 
--- the first element that passes is what a search finds
+-- a search finds the first element that passes
 pub find_here : {X : Type 0} (p : X → Bool) (xs : List X) (i : ℕ) (x : X) → i < length xs → find p (take i xs) ≡ None → p (get_or xs i x) ≡ true → find p xs ≡ Some (get_or xs i x)
 find_here p xs i x h none passes =
     sym (ap (find p) (take-append-drop i xs)) ∙ find-append p (take i xs) (drop i xs) ∙ rw (none, drop-cons xs i x h, passes) refl
@@ -54,7 +54,7 @@ entry_err : (d : Data) (e : ShapeFault) → reads_entry d ≡ Err e → (is_bad 
 unfolding reads_entry
 entry_err d e = elim (is_bad d) as (λ b. cond b (Err BadIri) (Ok (recipient_of d)) ≡ Err e → (b ≡ true) × (e ≡ BadIri)) [ true ↦ λ h. (refl, cc) | false ↦ λ h. cc ]
 
--- What is kept of the entries so far, of which none is bad, beside what was there at the start.
+-- What is kept of the entries so far, none of which is bad, after what was there at the start.
 pub record HasRead (start : List (List ℕ)) (ds : List Data) (kept : List (List ℕ)) : Type 0 where
   pub good : list_any is_bad ds ≡ false
   pub once : kept ≡ add_all start ds
@@ -81,11 +81,11 @@ read_more start ds d kept text h e =
       once = rw (filter_map-append recipient_of ds (d ∷ []), read.1, fold-append add_new start (filter_map recipient_of ds) (text ∷ []), ← h.once) refl;
     }
 
--- none is bad with one more that is read
+-- none is bad if one more is read
 pub stays_good : (ds : List Data) (d : Data) (o : Option (List ℕ)) → list_any is_bad ds ≡ false → reads_entry d ≡ Ok o → list_any is_bad (ds ++ d ∷ []) ≡ false
 stays_good ds d o h e = goes_past ds d h (entry_ok d o e).0
 
--- a bad entry is found among all
+-- if one entry is bad, the list has a bad entry
 pub finds_bad : {X : Type 0} (f : X → Data) (xs : List X) (i : ℕ) (x : X) (e : ShapeFault) → i < length xs → reads_entry (f (get_or xs i x)) ≡ Err e → (e ≡ BadIri) × (list_any is_bad (map f xs) ≡ true)
 finds_bad f xs i x e h k =
     let bad = entry_err (f (get_or xs i x)) e k in

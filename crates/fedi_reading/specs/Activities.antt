@@ -37,7 +37,7 @@ use Rattle.fedi_reading.specs.declared.shape_fault.ShapeFault.TheVariants.{SelfT
 unfoldable pub kind_named : List ℕ → Option Kind
 kind_named text = find (λ kind. bytes_eq (kind_name kind) text) all_kinds
 
--- the type of an activity: a document of another type is none
+-- the type of an activity, or nothing if a document has another type
 unfoldable pub kind_of : Data → Option Kind
 kind_of d = option_and_then kind_named (type_of d)
 
@@ -57,7 +57,8 @@ need_of _ = needs.Anything
 
 -- ---- the object
 
--- One value: a list of one stands for its entry, and null and every other list for nothing.
+-- A single value: a list of one entry counts as that entry; null and every other list count as
+-- absent.
 abbrev mutual
   pub one_value : Data → Option Data
   one_value null = None
@@ -76,21 +77,21 @@ abbrev mutual
 unfoldable pub object_at : Data → Option Data
 object_at d = option_and_then one_value (property (codes "object") d)
 
--- a thing that stands there, and not its address
+-- a thing given as an object, and not by its address
 abbrev pub itself : Data → Option Data
 itself d = if is_some (as_object d) then Some d else None
 
--- the object that stands in the activity
+-- the object that the activity contains
 unfoldable pub embedded : Data → Option Data
 embedded d = option_and_then itself (object_at d)
 
--- the object that a Create or an Update carries, if one stands in it
+-- the object that a Create or an Update carries, if it contains one
 abbrev pub carried : Need → Data → Option Data
 carried needs.Whole d = embedded d
 carried needs.Change d = embedded d
 carried need d = None
 
--- the `id` of a thing, or the address that stands for it
+-- the `id` of a thing, or the address that represents it
 unfoldable pub id_of : Data → Option (List ℕ)
 id_of (string text) = Some text
 id_of d = reference_at (codes "id") d
@@ -99,7 +100,7 @@ id_of d = reference_at (codes "id") d
 unfoldable pub object_id : Data → Option (List ℕ)
 object_id d = option_and_then id_of (object_at d)
 
--- what an activity must have
+-- a part that an activity must have
 abbrev pub or_no_object : {A : Type 0} → Option A → Result A ShapeFault
 or_no_object None = Err NoObject
 or_no_object (Some x) = Ok x
@@ -110,13 +111,13 @@ reads_address text = option_map_or Ok (iri text) (Err BadIri)
 
 -- ---- what each activity says
 
--- to whom or to what an activity is directed (Vocabulary, section 4)
+-- the actor or thing that an activity is directed to (Vocabulary, section 4)
 unfoldable pub reads_target : Data → Result (Option (List ℕ)) ShapeFault
 reads_target d = reads_iri (reference_at (codes "target") d)
 
--- An activity of this type, about this, with its target, what it replies to, whom it is for, its
--- words and its mentions: its `id`, its actor and its time are the server's to give (ActivityPub,
--- section 6).
+-- An activity of this type, about this, with its target, what it replies to, its recipients, its
+-- content, summary and name, and its mentions: the server sets its `id`, its actor and its time
+-- (ActivityPub, section 6).
 abbrev pub posted_activity : Kind → ObjectRef → Option (List ℕ) → Option (List ℕ) × Recipients
     → Option (List ℕ) × Option (List ℕ) × Option (List ℕ) → List Tag → Activity
 posted_activity kind about target people words tags = record {
@@ -136,7 +137,7 @@ posted_activity kind about target people words tags = record {
 
 -- ---- a Create (ActivityPub, section 6.2)
 
--- the type of an object to be made: none makes what is deleted
+-- the type of an object to be created, which must not be that of deleted objects
 abbrev pub new_type : Option (List ℕ) → Result (List ℕ) ShapeFault
 new_type None = Err NoType
 new_type (Some text) = if bytes_eq text (codes "Tombstone") then Err NoType else Ok text
@@ -145,15 +146,15 @@ new_type (Some text) = if bytes_eq text (codes "Tombstone") then Err NoType else
 unfoldable pub reads_new_type : Data → Result (List ℕ) ShapeFault
 reads_new_type o = new_type (type_of o)
 
--- Whom a Create and its object are for: each of the two names all that either names (ActivityPub,
--- section 6.2).
+-- The recipients of a Create and its object: both have all recipients that either names
+-- (ActivityPub, section 6.2).
 unfoldable pub reads_audience : Data → Data → Result Recipients ShapeFault
 reads_audience d o = do
   both ← reads_both 500 d o
   if nat_lt 500 (length (all_of (joined both.0 both.1))) then Err TooManyRecipients
       else Ok (joined both.0 both.1)
 
--- A Create of this object. The object's `id` must be an address, and is not kept.
+-- A Create of this object. The object's `id` must be an address, but is not kept.
 unfoldable pub reads_creation : Data → Data → Result Activity ShapeFault
 reads_creation d o = do
   kind ← reads_new_type o
@@ -167,7 +168,7 @@ reads_creation d o = do
   Ok (posted_activity kinds.Create (Whole (made kind (object_reply, recipients) object_words
       (url_of o, tags_of o))) target (reply, recipients) words (tags_of d))
 
--- a Create: it makes the object that stands in it
+-- a Create: it creates the object that it contains
 abbrev pub reads_create : Data → Result Activity ShapeFault
 reads_create d = or_no_object (embedded d) >>= reads_creation d
 
@@ -178,7 +179,7 @@ abbrev pub is_null : Data → Bool
 is_null null = true
 is_null d = false
 
--- what is done to a property: what is given replaces it, null removes it (ActivityPub, section
+-- what is done to a property: a given value replaces it, null removes it (ActivityPub, section
 -- 6.3.1)
 abbrev pub edit : {A : Type 0} → List ℕ → Data → Option A → Edit A
 edit key o (Some given) = Give given
@@ -195,7 +196,7 @@ unfoldable pub given_tags : Data → Option (List Tag)
 given_tags o =
     if option_map_or holds_tags (get (codes "tag") o) false then Some (tags_of o) else None
 
--- what is done to the object of this `id`
+-- what is done to the object with this `id`
 abbrev pub change : List ℕ → Data → Option (List ℕ)
     → Option (List ℕ) × Option (List ℕ) × Option (List ℕ) → Change
 change id o reply words = record {
@@ -212,7 +213,7 @@ change id o reply words = record {
 unfoldable pub reads_own_id : Data → Result (List ℕ) ShapeFault
 reads_own_id o = or_no_object (reference_at (codes "id") o) >>= reads_address
 
--- an Update by this object, which says what changes
+-- an Update by this object, which contains the changes
 unfoldable pub reads_changes : Data → Data → Result Activity ShapeFault
 reads_changes d o = do
   id ← reads_own_id o
@@ -224,7 +225,7 @@ reads_changes d o = do
   Ok (posted_activity kinds.Update
       (Changed (change id o object_reply object_words)) target people words (tags_of d))
 
--- an Update: the object whose `id` stands in it is changed
+-- an Update: it changes the object whose `id` it contains
 abbrev pub reads_update : Data → Result Activity ShapeFault
 reads_update d = or_no_object (embedded d) >>= reads_changes d
 
@@ -250,7 +251,7 @@ abbrev pub object_ref : Option (List ℕ) → ObjectRef
 object_ref None = Nothing
 object_ref (Some id) = Id id
 
--- an activity of another type: of its object the `id` is kept
+-- an activity of another type, which keeps the `id` of its object
 unfoldable pub reads_other : List ℕ → Kind → Need → Data → Result Activity ShapeFault
 reads_other author kind need d = do
   id ← reads_id need (object_id d)
@@ -273,6 +274,6 @@ abbrev pub reads_kind : List ℕ → Data → Kind → Result Activity ShapeFaul
 reads_kind author d kind =
     if has_context d then reads_by_need author kind (need_of kind) d else Err BadContext
 
--- What a client posts: an activity, or an object alone, which is read as the Create of it.
+-- What a client posts: an activity, or an object alone, which is read as a Create of it.
 unfoldable pub reads_activity : List ℕ → Data → Result Activity ShapeFault
 reads_activity author d = option_map_or (reads_kind author d) (kind_of d) (reads_posted d)

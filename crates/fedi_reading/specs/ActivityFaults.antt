@@ -28,34 +28,34 @@ use Rattle.fedi_reading.specs.declared.shape_fault.ShapeFault.TheVariants.{
   Memory,
 }
 
--- the activity makes the object that stands in it, and that is so
+-- the activity creates the object that it contains, and the object passes this test
 abbrev pub has_made : (Data → Bool) → Need → Data → Bool
 has_made test Whole d = option_map_or test (embedded d) false
 has_made test need d = false
 
--- the activity makes or changes the object that stands in it, and that is so
+-- the activity creates or changes the object that it contains, and the object passes this test
 abbrev pub has_read : (Data → Bool) → Need → Data → Bool
 has_read test need d = option_map_or test (carried need d) false
 
--- an object of this type cannot be made
+-- an object of this type cannot be created
 abbrev pub has_wrong_type : Data → Bool
 has_wrong_type o = option_map_or (λ text. bytes_eq text (codes "Tombstone")) (type_of o) true
 
--- the object that the activity needs is not there
+-- the object that the activity needs is missing
 abbrev pub lacks_object : Need → Data → Bool
 lacks_object Whole d = is_none (embedded d)
 lacks_object Change d = is_none (embedded d) || is_none (object_id d)
 lacks_object need d = needs_id need && is_none (object_id d)
 
--- one of the entries names somebody by no address
+-- one of the entries names a recipient by an invalid address
 abbrev pub has_bad_entry : Data → Bool
 has_bad_entry d = list_any is_bad (all_entries d)
 
--- whom a field names of the Create, and then whom it names of the object, each once
+-- the recipients in a field of the Create, then those in that field of the object, each once
 unfoldable pub named_by_both : List ℕ → Data → Data → List (List ℕ)
 named_by_both key d o = distinct (filter_map recipient_of (entries_at key d ++ entries_at key o))
 
--- whom a Create and its object name together
+-- the recipients that a Create and its object name together
 abbrev pub union : Data → Data → Recipients
 union d o = record {
   to = named_by_both (codes "to") d o;
@@ -65,11 +65,11 @@ union d o = record {
   audience = named_by_both (codes "audience") d o;
 }
 
--- the object has too many entries, or names too many together with its Create
+-- the object has too many entries, or names too many recipients together with its Create
 abbrev pub has_crowd : Data → Data → Bool
 has_crowd d o = has_fault o TooManyRecipients || nat_lt 500 (length (all_of (union d o)))
 
--- the object is another's affair, and it is the author
+-- the activity must be about another actor, and it names the author
 abbrev pub is_self : List ℕ → Need → Data → Bool
 is_self author Another d =
     option_map_or (λ id. bytes_eq id author) (option_and_then iri (object_id d)) false
@@ -94,7 +94,7 @@ has_activity_fault author need d BadText =
 has_activity_fault author need d SelfTarget = is_self author need d
 has_activity_fault author need d Memory = false
 
--- The fault holds of what a client posts: an activity by its type, or an object alone.
+-- The fault holds of what a client posts: an activity, by its type, or an object alone.
 abbrev pub has_post_fault : List ℕ → Data → ShapeFault → Bool
 has_post_fault author d fault =
     option_map_or (λ kind. has_activity_fault author (need_of kind) d fault) (kind_of d)

@@ -26,7 +26,7 @@ use Rattle.fedi_reading.specs.declared.shape_fault.ShapeFault.TheVariants.{
   Memory,
 }
 
--- what an actor is named by and where its inbox is, with the name that it prefers
+-- the `id` of an actor and the address of its inbox, with the name that it prefers
 unfoldable pub reads_names : List ℕ → List ℕ → Data → Result ActorDocument ShapeFault
 reads_names id inbox d = do
   own ← reads_address id
@@ -37,17 +37,17 @@ reads_names id inbox d = do
     preferred_username = text_at (codes "preferredUsername") d;
   })
 
--- an actor document with this `id`, of which the inbox is wanted
+-- an actor document with this `id`, whose inbox is still to be read
 abbrev pub reads_inbox : List ℕ → Data → Option (List ℕ) → Result ActorDocument ShapeFault
 reads_inbox id d None = Err NoObject
 reads_inbox id d (Some inbox) = reads_names id inbox d
 
--- an actor document, of which the `id` is wanted
+-- an actor document whose `id` is still to be read
 abbrev pub reads_id : Data → Option (List ℕ) → Result ActorDocument ShapeFault
 reads_id d None = Err NoId
 reads_id d (Some id) = reads_inbox id d (reference_at (codes "inbox") d)
 
--- an actor document, if the value is one
+-- an actor document, if the value is an object
 abbrev pub reads_members : Data → Bool → Result ActorDocument ShapeFault
 reads_members d false = Err NotObject
 reads_members d true = reads_id d (reference_at (codes "id") d)

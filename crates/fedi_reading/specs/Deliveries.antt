@@ -35,7 +35,7 @@ date_at key d = formed is_date (text_at key d)
 unfoldable pub former_of : Data → Option (List ℕ)
 former_of d = formed is_type (text_at (codes "formerType") d)
 
--- to whom an object is attributed (Vocabulary, section 4)
+-- the actor that an object is attributed to (Vocabulary, section 4)
 unfoldable pub reads_attributed : Data → Result (Option (List ℕ)) ShapeFault
 reads_attributed o = reads_iri (reference_at (codes "attributedTo") o)
 
@@ -50,7 +50,7 @@ reads_addresses a d = do
   in_reply_to ← reads_reply d
   Ok (record a { id = id; actor = actor; target = target; in_reply_to = in_reply_to })
 
--- the object with its `id`, to whom it is attributed and what it replies to
+-- the object with its `id`, the actor that it is attributed to and what it replies to
 unfoldable pub reads_own_addresses : Object → Data → Result Object ShapeFault
 reads_own_addresses made o = do
   id ← reads_iri (reference_at (codes "id") o)
@@ -58,9 +58,10 @@ reads_own_addresses made o = do
   in_reply_to ← reads_reply o
   Ok (record made { id = id; attributed_to = attributed_to; in_reply_to = in_reply_to })
 
--- ---- what else an activity and an object say
+-- ---- the other properties of an activity and an object
 
--- the activity, which is about this and for these, with its words, its time and its mentions
+-- the activity, about this and for these recipients, with its content, summary and name, its time
+-- and its mentions
 abbrev pub said : Activity → ObjectRef → Recipients
     → Option (List ℕ) × Option (List ℕ) × Option (List ℕ) → Data → Activity
 said a about recipients words d = record a {
@@ -73,7 +74,8 @@ said a about recipients words d = record a {
   tags = tags_of d;
 }
 
--- the object, which is for these, with its words, its url, its times, what it was and its mentions
+-- the object, for these recipients, with its content, summary and name, its url, its times, its
+-- former type and its mentions
 abbrev pub told : Object → Recipients → Option (List ℕ) × Option (List ℕ) × Option (List ℕ)
     → Data → Object
 told made recipients words o = record made {
@@ -91,11 +93,11 @@ told made recipients words o = record made {
 
 -- ---- an activity that carries no object
 
--- the actor follows or blocks the actor
+-- the actor follows or blocks itself
 abbrev pub is_own_target : Option (List ℕ) → Need → Option (List ℕ) → Bool
 is_own_target actor need about = option_map_or (λ author. is_oneself author need about) actor false
 
--- the activity as it is delivered: of its object the `id` is kept
+-- the activity as it is delivered, which keeps the `id` of its object
 unfoldable pub reads_bare : Activity → Need → Data → Result Activity ShapeFault
 reads_bare a need d = do
   addressed ← reads_addresses a d
@@ -105,7 +107,7 @@ reads_bare a need d = do
   if is_own_target addressed.actor need about then Err SelfTarget
       else Ok (said addressed (object_ref about) recipients words d)
 
--- nothing is named by this property
+-- this property names nothing
 abbrev pub has_no : List ℕ → Data → Bool
 has_no key d = is_none (reference_at key d)
 
@@ -119,8 +121,8 @@ reads_without kind d =
 
 -- ---- one that carries its object
 
--- The activity and its object as they are delivered. Each may have one entry more than a post:
--- another server may have added a recipient that was implied.
+-- The activity and its object as they are delivered. Each may have one entry more than a post,
+-- since another server may have added a recipient that was implied.
 unfoldable pub reads_full : Activity → Object → Data → Data → Result Activity ShapeFault
 reads_full a made d o = do
   addressed ← reads_addresses a d
@@ -130,7 +132,7 @@ reads_full a made d o = do
   object_words ← reads_words o
   Ok (said addressed (Whole (told own both.1 object_words o)) both.0 words d)
 
--- an activity of this type, with an object of that
+-- an activity of this type, with an object of this other type
 abbrev pub reads_with : Kind → Data → Data → Option (List ℕ) → Result Activity ShapeFault
 reads_with kind d o None = Err NoType
 reads_with kind d o (Some type) =
@@ -140,7 +142,7 @@ reads_with kind d o (Some type) =
 
 -- ---- the whole
 
--- an activity of this type, which carries this object or none
+-- an activity of this type, which carries this object or no object
 abbrev pub reads_carried : Kind → Data → Option Data → Result Activity ShapeFault
 reads_carried kind d None = reads_without kind d
 reads_carried kind d (Some o) = reads_with kind d o (type_of o)
@@ -149,7 +151,7 @@ reads_carried kind d (Some o) = reads_with kind d o (type_of o)
 unfoldable pub reads_sent : Data → Kind → Result Activity ShapeFault
 reads_sent d kind = reads_carried kind d (carried (need_of kind) d)
 
--- what another server delivers: an activity, since an object alone is none
+-- what another server delivers: an activity, since an object alone is not a valid delivery
 unfoldable pub reads_delivered : Data → Result Activity ShapeFault
 reads_delivered d =
     if not (is_some (as_object d)) then Err NotObject else (

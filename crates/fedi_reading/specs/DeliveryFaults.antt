@@ -26,22 +26,21 @@ use Rattle.fedi_reading.specs.declared.shape_fault.ShapeFault.TheVariants.{
   Memory,
 }
 
--- what an activity needs as its object: what is none needs nothing
+-- what an activity needs as its object; anything else needs nothing
 abbrev pub needed : Data → Need
 needed d = option_map_or need_of (kind_of d) Anything
 
--- this property names something, but by no address
+-- this property names something, but by an invalid address
 abbrev pub is_bad_at : List ℕ → Data → Bool
 is_bad_at key d = is_bad_reference (reference_at key d)
 
--- the activity says by no address what its `id` is, who its actor is, what its target is or what it
--- replies to
+-- the activity names its `id`, its actor, its target or what it replies to by an invalid address
 abbrev pub has_bad_address : Data → Bool
 has_bad_address d =
     is_bad_at (codes "id") d
     || (is_bad_at (codes "actor") d || (is_bad_at (codes "target") d || is_bad_reply d))
 
--- the object says by no address to whom it is attributed or what it replies to
+-- the object names the actor it is attributed to or what it replies to by an invalid address
 abbrev pub has_bad_source : Data → Bool
 has_bad_source o = is_bad_at (codes "attributedTo") o || is_bad_reply o
 

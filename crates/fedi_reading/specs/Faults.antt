@@ -23,11 +23,11 @@ use Rattle.fedi_reading.specs.declared.shape_fault.ShapeFault.TheVariants.{
   Memory,
 }
 
--- something is named, but by no address
+-- something is named, but by an invalid address
 abbrev pub is_bad_reference : Option (List ℕ) → Bool
 is_bad_reference reference = option_map_or (λ text. is_none (iri text)) reference false
 
--- what is replied to is named, but by no address
+-- what is replied to is named, but by an invalid address
 abbrev pub is_bad_reply : Data → Bool
 is_bad_reply d = is_bad_reference (reference_at (codes "inReplyTo") d)
 
@@ -35,7 +35,7 @@ is_bad_reply d = is_bad_reference (reference_at (codes "inReplyTo") d)
 abbrev pub is_long : Option (List ℕ) → Bool
 is_long text = option_map_or (λ bytes. nat_lt 65536 (length bytes)) text false
 
--- the fault holds of an object that a client posts: the faults of activities cannot
+-- the fault holds of an object that a client posts; the faults of activities cannot
 abbrev pub has_fault : Data → ShapeFault → Bool
 has_fault d NotObject = not (is_some (as_object d))
 has_fault d BadContext = not (has_context d)
@@ -51,7 +51,7 @@ has_fault d BadText =
 has_fault d SelfTarget = false
 has_fault d Memory = false
 
--- the faults, by their numbers
+-- the faults, in the order of their numbers
 abbrev pub faults : List ShapeFault
 faults =
     NotObject ∷ BadContext ∷ NoType ∷ NoId ∷ NoActor ∷ NoObject ∷ BadIri ∷ TooManyRecipients

@@ -28,23 +28,23 @@ use Rattle.fedi_reading.specs.declared.shape_fault.ShapeFault.TheVariants.{Memor
 unfoldable pub is_everyone : List ℕ → Bool
 is_everyone text = bytes_eq text (codes "Public") || bytes_eq text (codes "as:Public")
 
--- whom a text names
+-- the recipient that a text names
 unfoldable pub recipient : List ℕ → Option (List ℕ)
 recipient text = if is_everyone text then Some public_iri else iri text
 
--- whom an entry names
+-- the recipient that an entry names
 unfoldable pub recipient_of : Data → Option (List ℕ)
 recipient_of d = option_and_then recipient (named d)
 
--- the entry names something, but by no address
+-- the entry names something, but by an invalid address
 unfoldable pub is_bad : Data → Bool
 is_bad d = is_some (named d) && is_none (recipient_of d)
 
--- an entry: it is bad, or names somebody, or is skipped
+-- an entry, which is bad, names a recipient or is skipped
 unfoldable pub reads_entry : Data → Result (Option (List ℕ)) ShapeFault
 reads_entry d = if is_bad d then Err BadIri else Ok (recipient_of d)
 
--- the texts, and whom the entries name, each that is not there yet
+-- the list, with each recipient that the entries name and that is not in it yet
 abbrev pub add_all : List (List ℕ) → List Data → List (List ℕ)
 add_all kept ds = fold add_new kept (filter_map recipient_of ds)
 
@@ -80,7 +80,7 @@ abbrev pub Checks : Result (Unit {0}) ShapeFault → List Data → Type 0
 Checks (Ok done) ds = list_any is_bad ds ≡ false
 Checks (Err e) ds = e ≢ Memory → (e ≡ BadIri) × (list_any is_bad ds ≡ true)
 
--- an address that is there must be one
+-- a text that is present must be an address
 abbrev pub reads_iri : Option (List ℕ) → Result (Option (List ℕ)) ShapeFault
 reads_iri None = Ok None
 reads_iri (Some text) = if is_some (iri text) then Ok (iri text) else Err BadIri
@@ -89,24 +89,24 @@ reads_iri (Some text) = if is_some (iri text) then Ok (iri text) else Err BadIri
 unfoldable pub reads_reply : Data → Result (Option (List ℕ)) ShapeFault
 reads_reply d = reads_iri (reference_at (codes "inReplyTo") d)
 
--- more entries than so many, as they are written
+-- more entries than this many, as they are written
 abbrev pub is_crowded : ℕ → Data → Bool
 is_crowded most d = nat_lt most (length (all_entries d))
 
--- the five fields of recipients, which have at most so many entries
+-- the five fields of recipients, which have at most this many entries
 unfoldable pub reads_few : ℕ → Data → Result Recipients ShapeFault
 reads_few most d = do
   recipients ← reads_recipients d
   if is_crowded most d then Err TooManyRecipients else Ok recipients
 
--- those of an activity and those of its object, each of at most so many entries
+-- the recipients of an activity and those of its object, each with at most this many entries
 unfoldable pub reads_both : ℕ → Data → Data → Result (Recipients × Recipients) ShapeFault
 reads_both most d o = do
   recipients ← reads_recipients d
   others ← reads_recipients o
   if is_crowded most d || is_crowded most o then Err TooManyRecipients else Ok (recipients, others)
 
--- what an object replies to, and whom it is for
+-- what an object replies to, and its recipients
 unfoldable pub reads_people : Data → Result (Option (List ℕ) × Recipients) ShapeFault
 reads_people d = do
   in_reply_to ← reads_reply d
@@ -122,7 +122,7 @@ reads_words d = do
   name ← reads_text (codes "name") d
   Ok (content, summary, name)
 
--- the address of a property: what is no address is skipped
+-- the address that a property holds; what is not an address is skipped
 abbrev pub iri_at : List ℕ → Data → Option (List ℕ)
 iri_at key d = option_and_then iri (text_at key d)
 
@@ -130,7 +130,7 @@ iri_at key d = option_and_then iri (text_at key d)
 unfoldable pub url_of : Data → Option (List ℕ)
 url_of d = iri_at (codes "url") d
 
--- a text that is not too long, else the empty text
+-- a text that is not too long, otherwise the empty text
 abbrev pub short_text : Option (List ℕ) → List ℕ
 short_text None = []
 short_text (Some text) = if nat_le (length text) 65536 then text else []
@@ -139,12 +139,12 @@ short_text (Some text) = if nat_le (length text) 65536 then text else []
 abbrev pub mention : List ℕ → List ℕ → Tag
 mention name href = record { href = href; name = name }
 
--- the type of a tag is that of mentions (Vocabulary, section 5.5)
+-- the type of a tag is that of a mention (Vocabulary, section 5.5)
 abbrev pub is_mention : Data → Bool
 is_mention d =
     option_map_or (λ text. bytes_eq text (codes "Mention")) (text_at (codes "type") d) false
 
--- a mention with an address: every other tag is skipped
+-- a mention with an address; every other tag is skipped
 unfoldable pub tag_of : Data → Option Tag
 tag_of d =
     if is_mention d
@@ -155,9 +155,9 @@ tag_of d =
 unfoldable pub tags_of : Data → List Tag
 tags_of d = filter_map tag_of (entries_at (codes "tag") d)
 
--- An object that a client posts, of its type, what it replies to, whom it is for, its words, its
--- url and its mentions: its `id`, its author and its times are the server's to give (ActivityPub,
--- section 6).
+-- An object that a client posts, with its type, what it replies to, its recipients, its content,
+-- summary and name, its url and its mentions: the server sets its `id`, its author and its times
+-- (ActivityPub, section 6).
 abbrev pub made : List ℕ → Option (List ℕ) × Recipients
     → Option (List ℕ) × Option (List ℕ) × Option (List ℕ) → Option (List ℕ) × List Tag → Object
 made kind people words links = record {
@@ -177,7 +177,7 @@ made kind people words links = record {
   tags = links.1;
 }
 
--- an object that a client posts: of its parts the first at fault gives the fault
+-- an object that a client posts; the first part at fault determines the fault
 unfoldable pub reads_object : Data → Result Object ShapeFault
 reads_object d = do
   kind ← reads_type d
@@ -185,13 +185,12 @@ reads_object d = do
   words ← reads_words d
   Ok (made kind people words (url_of d, tags_of d))
 
--- the Create that an object alone is wrapped in, for the same recipients (ActivityPub, section
--- 6.2.1)
+-- the Create that wraps an object alone, for the same recipients (ActivityPub, section 6.2.1)
 abbrev pub wrapped : Object → Activity
 wrapped o = creation o
 
--- What a client posts, read as an activity: the first fault, in the order of the faults' numbers,
--- or the Create.
+-- What a client posts, read as an activity: the first fault in the order of the fault numbers, or
+-- the Create.
 unfoldable pub reads_posted : Data → Result Activity ShapeFault
 reads_posted d =
     if not (is_some (as_object d)) then Err NotObject else (

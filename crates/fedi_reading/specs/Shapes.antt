@@ -1,4 +1,4 @@
--- What is wrong with a posted thing, and what a reader gives.
+-- What is wrong with a posted thing, and what a reader returns.
 use Rattle.std.specs.Prelude.{◌≡◌, ◌≢◌, ℕ, List, codes, Option, Some, None, Result, Ok, Err}
 use Rattle.fedi_reading.specs.declared.shape_fault.ShapeFault.{ShapeFault}
 use Rattle.fedi_reading.specs.declared.shape_fault.ShapeFault.TheVariants.{
@@ -15,7 +15,7 @@ use Rattle.fedi_reading.specs.declared.shape_fault.ShapeFault.TheVariants.{
   Memory,
 }
 
--- the place of a fault in the order in which they are looked for: `Memory` has none
+-- the number of a fault in the order in which faults are checked; `Memory` has none
 abbrev pub fault_number : ShapeFault → Option ℕ
 fault_number NotObject = Some 1
 fault_number BadContext = Some 2
@@ -43,7 +43,7 @@ fault_name BadText = codes "BadText"
 fault_name SelfTarget = codes "SelfTarget"
 fault_name Memory = codes "Memory"
 
--- what is read next, unless a fault came first
+-- what is read next, unless a fault occurred before
 infixl 10 ◌>>=◌
 abbrev pub ◌>>=◌ : {A B : Type 0} → Result A ShapeFault → (A → Result B ShapeFault)
     → Result B ShapeFault
@@ -55,7 +55,7 @@ abbrev pub Gives : {X : Type 0} → Result X ShapeFault → Result X ShapeFault 
 Gives (Ok x) read = read ≡ Ok x
 Gives (Err e) read = e ≢ Memory → read ≡ Err e
 
--- A function left in a value what is read, or ran out of memory.
+-- A function left what is read in a value, or ran out of memory.
 abbrev pub Fills : {X : Type 0} → Result (Unit {0}) ShapeFault → X → Result X ShapeFault → Type 0
 Fills (Ok done) x read = read ≡ Ok x
 Fills (Err e) x read = e ≢ Memory → read ≡ Err e

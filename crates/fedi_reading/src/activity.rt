@@ -26,7 +26,8 @@ use fedi_text::Text;
 use serde_json::Value;
 use std::alloc::{AllocError, Global};
 
-// One value. A list of one stands for its entry, and null and every other list for nothing.
+// A single value. A list of one entry counts as that entry. Null and every other list count as
+// absent.
 fn one_value(value: &Value) -> Option<&Value>
     ensures { option_map (λ v. view v.now) result ≡ activities.one_value (view value.now) }
 {
@@ -46,7 +47,7 @@ fn object_at(value: &Value) -> Option<&Value>
     one_value(property(value, "object")?)
 }
 
-// The object that stands in the activity.
+// The object that the activity contains.
 #[tactic(auto, unfolding(crate::specs::Activities::embedded))]
 pub(crate) fn embedded(value: &Value) -> Option<&Value>
     ensures { option_map (λ v. view v.now) result ≡ activities.embedded (view value.now) }
@@ -59,7 +60,7 @@ pub(crate) fn embedded(value: &Value) -> Option<&Value>
     }
 }
 
-// The `id` of a thing, or the address that stands for it.
+// The `id` of a thing, or the address that represents it.
 #[tactic(auto, unfolding(crate::specs::Activities::id_of))]
 fn id_of(value: &Value) -> Option<&str>
     ensures { option_copied result ≡ activities.id_of (view value.now) }
@@ -78,7 +79,7 @@ pub(crate) fn object_id(value: &Value) -> Option<&str>
     id_of(object_at(value)?)
 }
 
-// To whom or to what an activity is directed.
+// The actor or thing that an activity is directed to.
 #[tactic(auto, unfolding(crate::specs::Activities::reads_target))]
 pub(crate) fn read_target(alloc: Global, value: &Value) -> Result<Option<Iri>, ShapeFault>
     ensures { Gives result (activities.reads_target (view value.now)) }
@@ -97,7 +98,7 @@ fn read_id(alloc: Global, need: Need, reference: Option<&str>) -> Result<Option<
     read_iri(alloc, reference)
 }
 
-// Whether an actor other than the author is needed, and the author is named.
+// Whether an actor other than the author is needed, but the author is named.
 pub(crate) fn is_oneself(author: &Iri, need: Need, id: &Option<Iri>) -> bool
     ensures { result ≡ activities.is_oneself author.now need id.now }
 {
@@ -117,7 +118,7 @@ pub(crate) fn object_ref(id: Option<Iri>) -> ObjectRef
     }
 }
 
-// Reads an activity that keeps the `id` of its object into one that is empty.
+// Reads an activity that keeps the `id` of its object into an empty activity.
 #[tactic(auto, unfolding(crate::specs::Activities::reads_other))]
 fn fill_other(
     alloc: Global,
@@ -161,8 +162,8 @@ fn read_other(
     fill_other(alloc, value, author, need, &mut activity).and(Ok(activity))
 }
 
-// Reads a Create into one that is empty, and its object into one of its type. The Create's object
-// is left.
+// Reads a Create into an empty one, and its object into an empty object of its type. Leaves the
+// Create's `object` unchanged.
 #[tactic(auto, unfolding(crate::specs::Activities::reads_creation, crate::specs::Reading::url_of))]
 fn fill_both(
     alloc: Global,
@@ -197,7 +198,7 @@ fn fill_both(
     Ok(())
 }
 
-// Reads a Create into one that is empty, with the object, which is of this type.
+// Reads a Create into an empty one, with its object, which has this type.
 fn fill_create(
     alloc: Global,
     value: &Value,
@@ -216,7 +217,7 @@ fn fill_create(
     filled
 }
 
-// A Create, with the object that stands in it.
+// A Create, with the object that it contains.
 #[tactic(auto, unfolding(crate::specs::Activities::reads_creation))]
 fn read_create(alloc: Global, value: &Value) -> Result<Activity, ShapeFault>
     ensures { Gives result (activities.reads_create (view value.now)) }
@@ -238,7 +239,7 @@ fn read_own_id(alloc: Global, object: &Value) -> Result<Iri, ShapeFault>
     }
 }
 
-// What is done to a property of which this is given.
+// What an Update does to a property for which this value is given.
 fn edit<T: Drop>(object: &Value, key: &str, given: Option<T>) -> Edit<T>
     ensures { result ≡ activities.edit key.now (view object.now) given }
 {
@@ -262,8 +263,8 @@ fn given_tags(alloc: Global, object: &Value) -> Result<Option<Items<Tag>>, Alloc
     }
 }
 
-// Reads an Update into one that is empty, and what it changes into a change of nothing. The
-// Update's object is left.
+// Reads an Update into an empty one, and what it changes into an empty change. Leaves the Update's
+// `object` unchanged.
 #[tactic(auto, unfolding(crate::specs::Activities::reads_changes, crate::specs::Reading::url_of))]
 fn fill_update(
     alloc: Global,
@@ -307,7 +308,7 @@ fn fill_update(
     Ok(())
 }
 
-// An Update, with what it changes in the object whose `id` stands in it.
+// An Update, with the changes to the object whose `id` it contains.
 #[tactic(auto, unfolding(crate::specs::Activities::reads_changes))]
 fn read_update(alloc: Global, value: &Value) -> Result<Activity, ShapeFault>
     ensures { Gives result (activities.reads_update (view value.now)) }
@@ -335,25 +336,27 @@ fn read_kind(alloc: Global, value: &Value, author: &Iri, kind: Kind) -> Result<A
 }
 
 /// Reads what a client posts to the outbox of this author: an activity of one of the 28 types, or
-/// an object, which is wrapped in a Create as `read_posted` does (ActivityPub, section 6.2.1).
+/// an object, which is wrapped in a Create as in `read_posted` (ActivityPub, section 6.2.1).
 ///
-/// Of an activity its target, the five fields of recipients, what it replies to, its words and its
-/// mentions are kept, and its object: whole for a `Create`, as a change for an `Update` (section
-/// 6.3), and else by its `id`. A `Create` and its object each get the recipients of both (section
-/// 6.2). What the server gives itself is skipped: `id`, `actor`, `attributedTo` and the times.
+/// The result keeps the activity's target, five fields of recipients, what it replies to, its
+/// content, summary and name, its mentions and its object: the whole object for a `Create`, a
+/// change for an `Update` (section 6.3), and otherwise the object's `id`. A `Create` and its object
+/// each get the recipients of both (section 6.2). The properties that the server sets itself are
+/// skipped: `id`, `actor`, `attributedTo` and the times.
 ///
-/// The error is the first fault that holds, in this order; what is said of properties holds of the
-/// activity, and of the object of a `Create` or an `Update`. `NotObject`: the value is no JSON
-/// object. `BadContext`: `@context` is there and is neither the one of ActivityStreams nor a list
-/// that holds it. `NoType`: the type is no text of 1 to 64 bytes, nor a list whose first entry is
-/// one; or an object to be made is a `Tombstone`. `NoObject`: an `Accept`, `Announce`, `Block`,
-/// `Delete`, `Follow`, `Like`, `Reject` or `Undo` names no object, in a `Create` no object stands,
-/// or in an `Update` none with an `id`. `BadIri`: a text that names a recipient, the object, the
-/// target or what is replied to is no web address of at most 2,048 bytes. `TooManyRecipients`: the
-/// five fields of the activity, or of the object of a `Create`, have more than 500 entries as
-/// written, or those of both together name more than 500. `BadText`: the content, the summary or
-/// the name has more than 65,536 bytes. `SelfTarget`: a `Follow` or `Block` is of the author.
-/// `Memory`, out of memory, may come at any time.
+/// The error is the first of these faults that applies, in this order. A fault of a property
+/// applies to the activity, and to the object of a `Create` or an `Update`. `NotObject`: the value
+/// is not a JSON object. `BadContext`: `@context` is present, but is neither the ActivityStreams
+/// context nor a list that contains it. `NoType`: the type is neither a string of 1 to 64 bytes nor
+/// a list whose first entry is one, or an object to be created is a `Tombstone`. `NoObject`: an
+/// `Accept`, `Announce`, `Block`, `Delete`, `Follow`, `Like`, `Reject` or `Undo` names no object, a
+/// `Create` contains no object, or an `Update` contains no object with an `id`. `BadIri`: a string
+/// that names a recipient, the object, the target or what is replied to is not a web address of at
+/// most 2,048 bytes. `TooManyRecipients`: the five fields of the activity, or of the object of a
+/// `Create`, have more than 500 entries as written, or those of both together name more than 500
+/// recipients. `BadText`: the content, the summary or the name has more than 65,536 bytes.
+/// `SelfTarget`: the object of a `Follow` or `Block` is the author. `Memory` (out of memory) can
+/// occur at any time.
 #[tactic(auto, unfolding(crate::specs::Activities::reads_activity))]
 pub fn read_activity(alloc: Global, value: &Value, author: &Iri) -> Result<Activity, ShapeFault>
     ensures exact { Gives result (activities.reads_activity author.now (view value.now)) }
@@ -368,7 +371,7 @@ pub fn read_activity(alloc: Global, value: &Value, author: &Iri) -> Result<Activ
     }
 }
 
-/// What is read of a thing whose type is no activity's is what `read_posted` reads of it.
+/// A thing whose type is not an activity type is read exactly as `read_posted` reads it.
 #[tactic(auto, unfolding(crate::specs::Activities::reads_activity))]
 pub fn objects_alone_are_read_as_posted()
     ensures { (author : List ℕ) (d : Data) → activities.kind_of d ≡ None

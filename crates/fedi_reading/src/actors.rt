@@ -18,13 +18,13 @@ use std::alloc::{AllocError, Global};
 pub struct ActorDocument {
     /// The actor's id.
     pub id: Iri,
-    /// Where it takes deliveries.
+    /// The address where it accepts deliveries.
     pub inbox: Iri,
-    /// The name that it prefers to be called by, if it says one.
+    /// The name that it prefers, if it gives one.
     pub preferred_username: Option<Text>,
 }
 
-// The name that an actor prefers, if it is a text.
+// The name that an actor prefers, if it is a string.
 fn preferred_username(alloc: Global, value: &Value) -> Result<Option<Text>, AllocError>
     ensures { IfOk result (λ name. name ≡ text_at (codes "preferredUsername") (view value.now)) }
 {
@@ -57,9 +57,10 @@ fn read_names(
 /// Reads an actor document (ActivityPub, section 4.1): its `id`, its `inbox` and its
 /// `preferredUsername`. Every other property is skipped.
 ///
-/// The error is the first fault that holds, in this order. `NotObject`: the value is no JSON
-/// object. `NoId`: there is no `id`. `NoObject`: there is no `inbox`. `BadIri`: a text for one of
-/// these is no web address of at most 2,048 bytes. `Memory`, out of memory, may come at any time.
+/// The error is the first of these faults that applies, in this order. `NotObject`: the value is
+/// not a JSON object. `NoId`: there is no `id`. `NoObject`: there is no `inbox`. `BadIri`: a string
+/// for one of these is not a web address of at most 2,048 bytes. `Memory` (out of memory) can occur
+/// at any time.
 #[tactic(auto, unfolding(crate::specs::Actors::reads_actor))]
 pub fn read_actor(alloc: Global, value: &Value) -> Result<ActorDocument, ShapeFault>
     ensures exact { Gives result (reads_actor (view value.now)) }

@@ -1,4 +1,4 @@
-//! Whom an activity or an object is for.
+//! The recipients of an activity or an object.
 
 ghost use Rattle.std.specs.Prelude.{◌≡◌, length, map, IfOk, OnOk};
 ghost use Rattle.serde_json.specs.View.{view};
@@ -14,10 +14,10 @@ use fedi_address::{Iri, Items, Recipients, is_among};
 use serde_json::Value;
 use std::alloc::{AllocError, Global};
 
-/// The most entries that the five fields of recipients may have, as they are written.
+/// The maximum number of entries that the five fields of recipients may have, as they are written.
 pub(crate) const MOST_ENTRIES: usize = 500;
 
-// Whom a text names: the short names stand for everyone (ActivityPub, section 5.6).
+// The recipient that a text names. The short names denote everyone (ActivityPub, section 5.6).
 #[tactic(auto, unfolding(crate::specs::Reading::recipient, crate::specs::Reading::is_everyone))]
 fn recipient(alloc: Global, text: &str) -> Result<Option<Iri>, AllocError>
     ensures { IfOk result (λ iri. iri ≡ reading.recipient text.now) }
@@ -29,7 +29,7 @@ fn recipient(alloc: Global, text: &str) -> Result<Option<Iri>, AllocError>
     }
 }
 
-// Whom an entry names. One that names nothing is skipped.
+// The recipient that an entry names. An entry that names nothing is skipped.
 #[tactic(auto, unfolding(crate::specs::Reading::reads_entry, crate::specs::Reading::is_bad, crate::specs::Reading::recipient_of))]
 fn read_entry(alloc: Global, entry: &Value) -> Result<Option<Iri>, ShapeFault>
     ensures { Gives result (reading.reads_entry (view entry.now)) }
@@ -43,7 +43,7 @@ fn read_entry(alloc: Global, entry: &Value) -> Result<Option<Iri>, ShapeFault>
     }
 }
 
-// Adds an address that is not there yet.
+// Adds an address that is not in the list yet.
 fn add_new(kept: &mut Items<Iri>, iri: Iri) -> Result<(), AllocError>
     ensures { OnOk result (kept.new ≡ recipients.add_new kept.old iri) }
 {
@@ -53,7 +53,7 @@ fn add_new(kept: &mut Items<Iri>, iri: Iri) -> Result<(), AllocError>
     kept.push(iri)
 }
 
-// Refuses an entry that names somebody by no address.
+// Refuses an entry that names a recipient by an invalid address.
 fn check_entries(alloc: Global, entries: &[Value]) -> Result<(), ShapeFault>
     ensures { Checks result (map view entries.now) }
 {
@@ -63,8 +63,8 @@ fn check_entries(alloc: Global, entries: &[Value]) -> Result<(), ShapeFault>
     Ok(())
 }
 
-// Refuses such an entry of any of the five fields. Its time grows with the entries alone, while
-// `read_recipients` looks for each among all before it.
+// Refuses such an entry in any of the five fields. The time is linear in the entries, while
+// `read_recipients` compares each entry with all earlier ones.
 #[tactic(auto, unfolding(crate::specs::Reading::all_entries))]
 fn check_recipients(alloc: Global, value: &Value) -> Result<(), ShapeFault>
     ensures { Checks result (reading.all_entries (view value.now)) }
@@ -76,7 +76,7 @@ fn check_recipients(alloc: Global, value: &Value) -> Result<(), ShapeFault>
     check_entries(alloc, entries_at(value, "audience"))
 }
 
-// Adds the addresses of a field, each that is not there yet.
+// Adds each address of a field that is not in the list yet.
 fn add_entries(alloc: Global, kept: &mut Items<Iri>, entries: &[Value]) -> Result<(), ShapeFault>
     ensures bad { Checks result (map view entries.now) }
     ensures added { OnOk result (kept.new ≡ reading.add_all kept.old (map view entries.now)) }
@@ -125,8 +125,8 @@ fn entry_count(value: &Value) -> usize
         + entries_at(value, "audience").len()
 }
 
-// The five fields of recipients, if they have at most so many entries. The time grows with the
-// entries alone, however many they are.
+// The five fields of recipients, if they have at most `most` entries. The time is linear in the
+// entries, however many there are.
 #[tactic(auto, unfolding(crate::specs::Reading::reads_few))]
 pub(crate) fn read_few(alloc: Global, value: &Value, most: usize) -> Result<Recipients, ShapeFault>
     ensures { Gives result (reading.reads_few most (view value.now)) }
@@ -138,8 +138,8 @@ pub(crate) fn read_few(alloc: Global, value: &Value, most: usize) -> Result<Reci
     read_recipients(alloc, value)
 }
 
-// Those of an activity and those of its object, if each have at most so many entries. The time
-// grows with the entries alone, however many they are.
+// The recipients of an activity and those of its object, if each have at most `most` entries. The
+// time is linear in the entries, however many there are.
 #[tactic(auto, unfolding(crate::specs::Reading::reads_both))]
 pub(crate) fn read_both(
     alloc: Global,
@@ -159,8 +159,8 @@ pub(crate) fn read_both(
     Ok((recipients, others))
 }
 
-// Whom a Create and its object are for: each field has what the Create says and then the rest of
-// what its object says.
+// The recipients of a Create and its object: each field has those of the Create, followed by those
+// of its object that the Create does not name.
 #[tactic(auto, unfolding(crate::specs::Activities::reads_audience))]
 pub(crate) fn read_audience(
     alloc: Global,

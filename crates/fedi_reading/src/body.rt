@@ -12,7 +12,7 @@ use thiserror::Error;
 /// Why a body is not read.
 #[derive(Clone, Copy, Debug, PartialEq, Eq, Error)]
 pub enum BodyFault {
-    /// The bytes are no JSON text in UTF-8, or it is nested more than 127 deep.
+    /// The bytes are not JSON in UTF-8, or the JSON is nested more than 127 levels deep.
     #[error("the body is no JSON in UTF-8, or it is nested more than 127 deep")]
     BadBody,
     /// Out of memory.
@@ -20,8 +20,8 @@ pub enum BodyFault {
     Memory,
 }
 
-/// The value of a body that is JSON in UTF-8 (RFC 8259), nested at most 127 deep. The errors are
-/// `BadBody`, if the bytes are no such text, and `Memory`, out of memory.
+/// The value of a body that is JSON in UTF-8 (RFC 8259), nested at most 127 levels deep. The errors
+/// are `BadBody`, if the bytes are not such JSON, and `Memory`, out of memory.
 pub fn read_body(alloc: Global, bytes: &[u8]) -> Result<Value, BodyFault>
     ensures ok { IfOk result (λ value. IsBodyOf bytes.now (view value)) }
     ensures nests { IfOk result (λ value. depth (view value) ≤ 127) }

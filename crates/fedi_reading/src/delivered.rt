@@ -23,8 +23,8 @@ use fedi_text::Text;
 use serde_json::Value;
 use std::alloc::{AllocError, Global};
 
-/// The most entries that the five fields of recipients may have, as they are written: one more than
-/// in a post, since another server may have added a recipient that was implied.
+/// The maximum number of entries that the five fields of recipients may have, as they are written:
+/// one more than in a post, since another server may have added a recipient that was implied.
 const MOST_DELIVERED: usize = 501;
 
 // A time, as the other server writes it.
@@ -49,7 +49,7 @@ fn former_of(alloc: Global, value: &Value) -> Result<Option<Text>, AllocError>
     }
 }
 
-// To whom an object is attributed.
+// The actor that an object is attributed to.
 #[tactic(auto, unfolding(crate::specs::Deliveries::reads_attributed))]
 fn read_attributed(alloc: Global, object: &Value) -> Result<Option<Iri>, ShapeFault>
     ensures { Gives result (deliveries.reads_attributed (view object.now)) }
@@ -57,7 +57,7 @@ fn read_attributed(alloc: Global, object: &Value) -> Result<Option<Iri>, ShapeFa
     read_iri(alloc, reference_at(object, "attributedTo"))
 }
 
-// Reads into an activity its `id`, its actor, its target and what it replies to.
+// Reads the `id`, the actor, the target and what the activity replies to into an activity.
 #[tactic(auto, unfolding(crate::specs::Deliveries::reads_addresses))]
 fn fill_addresses(alloc: Global, value: &Value, activity: &mut Activity) -> Result<(), ShapeFault>
     ensures { Fills result activity.new
@@ -76,7 +76,7 @@ fn fill_addresses(alloc: Global, value: &Value, activity: &mut Activity) -> Resu
     Ok(())
 }
 
-// Reads into an object its `id`, to whom it is attributed and what it replies to.
+// Reads the `id`, the actor that the object is attributed to and what it replies to into an object.
 #[tactic(auto, unfolding(crate::specs::Deliveries::reads_own_addresses))]
 fn fill_own_addresses(alloc: Global, value: &Value, object: &mut Object) -> Result<(), ShapeFault>
     ensures { Fills result object.new
@@ -88,7 +88,7 @@ fn fill_own_addresses(alloc: Global, value: &Value, object: &mut Object) -> Resu
     Ok(())
 }
 
-// Whether the actor is there, and an activity that needs another actor names the same.
+// Whether there is an actor, and an activity that needs another actor names this one.
 fn is_own_target(actor: &Option<Iri>, need: Need, about: &Option<Iri>) -> bool
     ensures { result ≡ deliveries.is_own_target actor.now need about.now }
 {
@@ -98,7 +98,7 @@ fn is_own_target(actor: &Option<Iri>, need: Need, about: &Option<Iri>) -> bool
     }
 }
 
-// Reads into an activity what a delivery says that carries no object.
+// Reads a delivery that carries no object into an activity.
 #[tactic(auto, unfolding(crate::specs::Deliveries::reads_bare))]
 fn fill_bare(
     alloc: Global,
@@ -128,7 +128,7 @@ fn fill_bare(
     Ok(())
 }
 
-// Reads into an object what it says of itself that is never at fault.
+// Reads the properties of an object that are never at fault into the object.
 #[tactic(auto, unfolding(crate::specs::Reading::url_of))]
 fn fill_links(alloc: Global, value: &Value, object: &mut Object) -> Result<(), AllocError>
     ensures { OnOk result (object.new ≡ record object.old {
@@ -149,8 +149,8 @@ fn fill_links(alloc: Global, value: &Value, object: &mut Object) -> Result<(), A
     Ok(())
 }
 
-// Reads into an activity what a delivery says, and into the other its object. The activity's object
-// is left.
+// Reads a delivery into an activity, and the delivery's object into `made`. Leaves the activity's
+// `object` unchanged.
 #[tactic(auto, unfolding(crate::specs::Deliveries::reads_full))]
 fn fill_full(
     alloc: Global,
@@ -181,7 +181,7 @@ fn fill_full(
     Ok(())
 }
 
-// An activity of this type, with an object of that.
+// An activity of this type, with an object of type `object_type`.
 fn read_full(
     alloc: Global,
     value: &Value,
@@ -200,7 +200,7 @@ fn read_full(
     filled.and(Ok(activity))
 }
 
-// Whether nothing is named by this property.
+// Whether this property names nothing.
 fn has_no(value: &Value, key: &str) -> bool
     ensures { result ≡ deliveries.has_no key.now (view value.now) }
 {
@@ -248,7 +248,7 @@ fn read_with(
     read_full(alloc, value, object, kind, object_type)
 }
 
-// The object that a Create or an Update carries, if there is one in it.
+// The object that a Create or an Update carries, if it carries one.
 fn carried(need: Need, value: &Value) -> Option<&Value>
     ensures { option_map (λ v. view v.now) result ≡ activities.carried need (view value.now) }
 {
@@ -272,23 +272,23 @@ fn read_sent(alloc: Global, value: &Value, kind: Kind) -> Result<Activity, Shape
 /// Reads what another server delivers: an activity of one of the 28 types (ActivityPub, section 7).
 /// Its time grows with the value alone, however many recipients it names.
 ///
-/// Of an activity its `id`, its actor, its target, the five fields of recipients, what it replies
-/// to, its words, its time and its mentions are kept, and its object: whole, as another server
-/// keeps it, if it is in a `Create` or an `Update` (section 7.3), and else by its `id`. A time and
-/// a former type that are not well formed are skipped.
+/// The result keeps the activity's `id`, actor, target, five fields of recipients, what it replies
+/// to, its content, summary and name, its time, its mentions and its object. The object is kept
+/// whole, as another server keeps it, if a `Create` or an `Update` contains it (section 7.3), and
+/// otherwise by its `id`. A time or a former type that is not well formed is skipped.
 ///
-/// The error is the first fault that holds, in this order; what is said of properties holds of the
-/// activity, and of the object that is kept whole. `NotObject`: the value is no JSON object.
-/// `BadContext`: `@context` is there and is neither the one of ActivityStreams nor a list that
-/// holds it. `NoType`: the type is no text of 1 to 64 bytes, nor a list whose first entry is one,
-/// or the activity's is none of the 28. `NoId`: there is no `id`. `NoActor`: the activity has no
-/// actor. `NoObject`: a `Create`, an `Update`, an `Accept`, `Announce`, `Block`, `Delete`,
-/// `Follow`, `Like`, `Reject` or `Undo` names no object. `BadIri`: a text for the `id`, the actor,
-/// the object, the target, to whom an object is attributed, what is replied to or a recipient is no
-/// web address of at most 2,048 bytes. `TooManyRecipients`: the five fields have more than 501
-/// entries as written. `BadText`: the content, the summary or the name has more than 65,536 bytes.
-/// `SelfTarget`: a `Follow` or `Block` is of its actor. `Memory`, out of memory, may come at any
-/// time.
+/// The error is the first of these faults that applies, in this order. A fault of a property
+/// applies to the activity, and to the object if it is kept whole. `NotObject`: the value is not a
+/// JSON object. `BadContext`: `@context` is present, but is neither the ActivityStreams context nor
+/// a list that contains it. `NoType`: the type is neither a string of 1 to 64 bytes nor a list
+/// whose first entry is one, or the activity's type is not one of the 28. `NoId`: there is no `id`.
+/// `NoActor`: the activity has no actor. `NoObject`: a `Create`, an `Update`, an `Accept`,
+/// `Announce`, `Block`, `Delete`, `Follow`, `Like`, `Reject` or `Undo` names no object. `BadIri`: a
+/// string for the `id`, the actor, the object, the target, the actor that an object is attributed
+/// to, what is replied to or a recipient is not a web address of at most 2,048 bytes.
+/// `TooManyRecipients`: the five fields have more than 501 entries as written. `BadText`: the
+/// content, the summary or the name has more than 65,536 bytes. `SelfTarget`: the object of a
+/// `Follow` or `Block` is its own actor. `Memory` (out of memory) can occur at any time.
 #[tactic(auto, unfolding(crate::specs::Deliveries::reads_delivered))]
 pub fn read_delivered(alloc: Global, value: &Value) -> Result<Activity, ShapeFault>
     ensures exact { Gives result (deliveries.reads_delivered (view value.now)) }

@@ -5,12 +5,13 @@ ghost use Rattle.fedi_reading.specs.Activities.{need_of, needs_id};
 
 use fedi_objects::Kind;
 
-/// What an activity needs as its object, by its type (ActivityPub, sections 6.2 to 6.10).
+/// What an activity needs as its object, by the activity's type (ActivityPub, sections 6.2 to
+/// 6.10).
 #[derive(Clone, Copy, Debug, PartialEq, Eq)]
 pub enum Need {
-    /// The object itself, which is made: `Create`.
+    /// The object itself, which is created: `Create`.
     Whole,
-    /// The object's `id`, with what changes in it: `Update`.
+    /// The object's `id`, with what changes in the object: `Update`.
     Change,
     /// The `id` of an actor other than the author: `Follow` and `Block`.
     Another,

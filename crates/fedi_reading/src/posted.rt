@@ -29,7 +29,7 @@ pub(crate) fn read_reply(alloc: Global, value: &Value) -> Result<Option<Iri>, Sh
     read_iri(alloc, reference_at(value, "inReplyTo"))
 }
 
-// What an object replies to, and whom it is for.
+// What an object replies to, and its recipients.
 #[tactic(auto, unfolding(crate::specs::Reading::reads_people))]
 pub(crate) fn read_people(
     alloc: Global,
@@ -42,7 +42,7 @@ pub(crate) fn read_people(
     Ok((in_reply_to, recipients))
 }
 
-// The address of a property, if it is one.
+// The address that a property holds, if it is one.
 pub(crate) fn iri_at(alloc: Global, value: &Value, key: &str) -> Result<Option<Iri>, AllocError>
     ensures { IfOk result (λ iri. iri ≡ reading.iri_at key.now (view value.now)) }
 {
@@ -61,7 +61,7 @@ fn is_mention(tag: &Value) -> bool
     }
 }
 
-// A text that is not too long, else the empty one.
+// A text that is not too long, otherwise the empty text.
 #[tactic(auto, unfolding(fedi_objects::specs::Limits::is_text))]
 fn short_text(text: Option<&str>) -> &str
     ensures { result.now ≡ reading.short_text (option_copied text.entry) }
@@ -123,8 +123,8 @@ pub(crate) fn read_words(
     Ok((content, summary, name))
 }
 
-// Reads an object that a client posts into one that is bare. What the server gives itself is
-// skipped.
+// Reads an object that a client posts into an object that so far has only its type. Skips the
+// properties that the server sets itself.
 #[tactic(auto, unfolding(crate::specs::Reading::reads_object, crate::specs::Reading::url_of))]
 fn fill_object(alloc: Global, value: &Value, object: &mut Object) -> Result<(), ShapeFault>
     requires bare { object.old ≡ object_of_kind object.old.kind }
@@ -152,17 +152,18 @@ fn read_object(alloc: Global, value: &Value) -> Result<Object, ShapeFault>
     fill_object(alloc, value, &mut object).and(Ok(object))
 }
 
-/// Reads what a client posts: an object whose type is none of the activities', which is wrapped in
-/// a Create for the same recipients (ActivityPub, section 6.2.1). What the server gives itself is
-/// skipped: `id`, `actor`, `attributedTo` and the times.
+/// Reads what a client posts: an object whose type is not an activity type. It is wrapped in a
+/// Create for the same recipients (ActivityPub, section 6.2.1). The properties that the server sets
+/// itself are skipped: `id`, `actor`, `attributedTo` and the times.
 ///
-/// The error is the first fault that holds, in this order. `NotObject`: the value is no JSON
-/// object. `BadContext`: `@context` is there and is neither the one of ActivityStreams nor a list
-/// that holds it. `NoType`: the type is no text of 1 to 64 bytes, nor a list whose first entry is
-/// one, or it is an activity's or `Tombstone`. `BadIri`: a text that names a recipient or what is
-/// replied to is no web address of at most 2,048 bytes. `TooManyRecipients`: the five fields of
-/// recipients have more than 500 entries as written. `BadText`: the content, the summary or the
-/// name has more than 65,536 bytes. `Memory`, out of memory, may come at any time.
+/// The error is the first of these faults that applies, in this order. `NotObject`: the value is
+/// not a JSON object. `BadContext`: `@context` is present, but is neither the ActivityStreams
+/// context nor a list that contains it. `NoType`: the type is neither a string of 1 to 64 bytes nor
+/// a list whose first entry is one, or it is an activity type or `Tombstone`. `BadIri`: a string
+/// that names a recipient or what is replied to is not a web address of at most 2,048 bytes.
+/// `TooManyRecipients`: the five fields of recipients have more than 500 entries as written.
+/// `BadText`: the content, the summary or the name has more than 65,536 bytes. `Memory` (out of
+/// memory) can occur at any time.
 #[tactic(auto, unfolding(crate::specs::Reading::reads_posted))]
 pub fn read_posted(alloc: Global, value: &Value) -> Result<Activity, ShapeFault>
     ensures exact { Gives result (reading.reads_posted (view value.now)) }

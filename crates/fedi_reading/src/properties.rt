@@ -17,7 +17,7 @@ use fedi_text::Text;
 use serde_json::Value;
 use std::alloc::{AllocError, Global};
 
-// The value of a property. One that is null is absent.
+// The value of a property. A property that is null counts as absent.
 #[tactic(auto, unfolding(crate::specs::Properties::property))]
 pub(crate) fn property<'a>(value: &'a Value, key: &str) -> Option<&'a Value>
     ensures { option_map (λ v. view v.now) result
@@ -30,7 +30,7 @@ pub(crate) fn property<'a>(value: &'a Value, key: &str) -> Option<&'a Value>
     }
 }
 
-// The text of a property, if it is one.
+// The text of a property, if it is a string.
 #[tactic(auto, unfolding(crate::specs::Properties::text_at))]
 pub(crate) fn text_at<'a>(value: &'a Value, key: &str) -> Option<&'a str>
     ensures { option_copied result ≡ properties.text_at key.now (view value.now) }
@@ -38,7 +38,7 @@ pub(crate) fn text_at<'a>(value: &'a Value, key: &str) -> Option<&'a str>
     value.get(key).and_then(Value::as_str)
 }
 
-// The entries of a list, or the one value.
+// The entries of a list. A value that is not a list is its own single entry.
 #[tactic(auto, using(crate::proofs::ReadingLemmas::list_of_items), unfolding(crate::specs::Properties::entries))]
 pub(crate) fn entries(value: &Value) -> &[Value]
     ensures { map view result.now ≡ properties.entries (view value.now) }
@@ -60,7 +60,7 @@ pub(crate) fn entries_at<'a>(value: &'a Value, key: &str) -> &'a [Value]
     }
 }
 
-// Of a list the first entry counts.
+// The first entry of a list, or the value itself.
 #[tactic(auto, unfolding(crate::specs::Properties::first_of))]
 fn first_of(value: &Value) -> &Value
     ensures { view result.now ≡ properties.first_of (view value.now) }
@@ -82,7 +82,7 @@ pub(crate) fn named(value: &Value) -> Option<&str>
     }
 }
 
-// What a property of one value names.
+// What a single-valued property names.
 #[tactic(auto, unfolding(crate::specs::Properties::reference_at))]
 pub(crate) fn reference_at<'a>(value: &'a Value, key: &str) -> Option<&'a str>
     ensures { option_copied result ≡ properties.reference_at key.now (view value.now) }
@@ -120,7 +120,7 @@ pub(crate) fn has_context(value: &Value) -> bool
     }
 }
 
-// The type of a thing: the first, if it has many.
+// The type of a thing: the first one, if it has several.
 #[tactic(auto, unfolding(crate::specs::Properties::type_of))]
 pub(crate) fn type_of(value: &Value) -> Option<&str>
     ensures { option_copied result ≡ properties.type_of (view value.now) }
@@ -150,7 +150,7 @@ fn kind_named(text: &str) -> Option<Kind>
     named_among(&Kind::ALL, text)
 }
 
-// The type of an activity. A thing of another type has none.
+// The type of an activity. `None` if the type is not an activity type.
 #[tactic(auto, unfolding(crate::specs::Activities::kind_of))]
 pub(crate) fn kind_of(value: &Value) -> Option<Kind>
     ensures { result ≡ activities.kind_of (view value.now) }
@@ -158,7 +158,7 @@ pub(crate) fn kind_of(value: &Value) -> Option<Kind>
     type_of(value).and_then(kind_named)
 }
 
-// Whether the text is one of the types of activities.
+// Whether the text is an activity type.
 #[tactic(auto, unfolding(crate::specs::Properties::is_activity_type))]
 fn is_activity_type(text: &str) -> bool
     ensures { result ≡ properties.is_activity_type text.now }
@@ -166,7 +166,8 @@ fn is_activity_type(text: &str) -> bool
     Kind::ALL.iter().any(|kind| kind.name() == text)
 }
 
-// Whether a client may post no object of this type: one of activities, or that of a deleted object.
+// Whether a client may not post an object of this type: an activity type, or that of deleted
+// objects.
 #[tactic(auto, unfolding(crate::specs::Properties::makes_nothing))]
 fn makes_nothing(text: &str) -> bool
     ensures { result ≡ properties.makes_nothing text.now }
@@ -185,7 +186,7 @@ pub(crate) fn read_new_type(alloc: Global, object: &Value) -> Result<Text, Shape
     }
 }
 
-// The type of an object to be made.
+// The type of an object to be created.
 #[tactic(auto, unfolding(crate::specs::Properties::reads_type))]
 pub(crate) fn read_type(alloc: Global, value: &Value) -> Result<Text, ShapeFault>
     ensures { Gives result (properties.reads_type (view value.now)) }
@@ -199,7 +200,7 @@ pub(crate) fn read_type(alloc: Global, value: &Value) -> Result<Text, ShapeFault
     Ok(Text::from_text(alloc, text)?)
 }
 
-// The text of a property, which must not be too long.
+// The text of a property. The error is `BadText` if it is too long.
 #[tactic(auto, unfolding(crate::specs::Properties::reads_text, fedi_objects::specs::Limits::is_text))]
 pub(crate) fn read_text(alloc: Global, value: &Value, key: &str) -> Result<Option<Text>, ShapeFault>
     ensures { Gives result (properties.reads_text key.now (view value.now)) }
@@ -213,7 +214,7 @@ pub(crate) fn read_text(alloc: Global, value: &Value, key: &str) -> Result<Optio
     Ok(Some(Text::from_text(alloc, text)?))
 }
 
-// The address that a text is read as.
+// The address that a text denotes, if it is valid.
 #[tactic(auto, unfolding(crate::specs::Properties::iri))]
 pub(crate) fn iri_of(alloc: Global, text: &str) -> Result<Option<Iri>, AllocError>
     ensures { IfOk result (λ iri. iri ≡ properties.iri text.now) }
@@ -226,7 +227,7 @@ pub(crate) fn iri_of(alloc: Global, text: &str) -> Result<Option<Iri>, AllocErro
     }
 }
 
-// The address that a text must be.
+// The address that a text denotes. The error is `BadIri` if it is not valid.
 #[tactic(auto, unfolding(crate::specs::Activities::reads_address))]
 pub(crate) fn read_address(alloc: Global, text: &str) -> Result<Iri, ShapeFault>
     ensures { Gives result (activities.reads_address text.now) }
@@ -234,7 +235,7 @@ pub(crate) fn read_address(alloc: Global, text: &str) -> Result<Iri, ShapeFault>
     iri_of(alloc, text)?.ok_or(ShapeFault::BadIri)
 }
 
-// The address that a text must be, if there is one.
+// The same, if there is a text.
 #[tactic(auto, unfolding(crate::specs::Activities::reads_address))]
 pub(crate) fn read_iri(alloc: Global, text: Option<&str>) -> Result<Option<Iri>, ShapeFault>
     ensures { Gives result (reading.reads_iri (option_copied text.entry)) }

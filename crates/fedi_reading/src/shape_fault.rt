@@ -6,17 +6,17 @@ ghost use Rattle.fedi_reading.specs.declared.shape_fault.ShapeFault.TheVariants.
 use std::alloc::AllocError;
 use thiserror::Error;
 
-/// Why a thing that was posted or delivered is refused for its shape. If several faults hold, the
-/// answer is the first of them in this order.
+/// Why a thing that was posted or delivered is refused for its shape. If several faults apply, the
+/// first of them in this order is returned.
 #[derive(Clone, Copy, Debug, PartialEq, Eq, Error)]
 pub enum ShapeFault {
-    /// It is no JSON object.
+    /// It is not a JSON object.
     #[error("the body is no JSON object")]
     NotObject = 1,
-    /// Its `@context` is there, and is not that of ActivityStreams (Core, section 2.1).
+    /// Its `@context` is present, but is not that of ActivityStreams (Core, section 2.1).
     #[error("the context is not that of ActivityStreams")]
     BadContext,
-    /// Its type is missing, has not 1 to 64 bytes, or is none that may be posted.
+    /// Its type is missing, does not have 1 to 64 bytes, or may not be posted.
     #[error("the type is missing, or is none that may be posted")]
     NoType,
     /// An `id` is missing.
@@ -28,7 +28,7 @@ pub enum ShapeFault {
     /// The object is missing.
     #[error("the object is missing")]
     NoObject,
-    /// An address that is read is no web address of at most 2,048 bytes.
+    /// An address that is read is not a web address of at most 2,048 bytes.
     #[error("an address is no web address of at most 2,048 bytes")]
     BadIri,
     /// The five fields of recipients have more than 500 entries as written, or more than 501 in a
@@ -38,7 +38,7 @@ pub enum ShapeFault {
     /// The content, the summary or the name has more than 65,536 bytes.
     #[error("the content, the summary or the name has more than 65,536 bytes")]
     BadText,
-    /// The one who posts is also the target.
+    /// The actor who posts is also the target.
     #[error("the actor is also the target")]
     SelfTarget,
     /// Out of memory.
@@ -49,7 +49,7 @@ pub enum ShapeFault {
 impl ShapeFault {
     ghost use Rattle.fedi_reading.specs.Shapes.{fault_number, fault_name};
 
-    /// The fault's place in the order in which faults are looked for, from 1 on. `Memory` has none.
+    /// The fault's number, from 1 on, in the order in which faults are checked. `Memory` has none.
     pub fn number(self) -> Option<u8>
         ensures { result ≡ fault_number self }
     {

@@ -1,4 +1,4 @@
--- What is kept in chains is found along them.
+-- What is kept in chains is found by following them.
 use Rattle.std.proofs.Common.{◌≡◌, ℕ, zero, suc, ◌<◌, ◌≤◌, arith, Bool, true, false, List, [], ◌∷◌, ◌++◌, Option, Some, None, refl, sym, ap, subst, ◌∙◌, append_assoc, length, take, replicate, set, get_or, below_more}
 use Rattle.std.specs.Prelude.{◌%◌, ◌&&◌, filter, is_some, map, nat_eq, reverse, slice_get, slice_index, option_map, if◌then◌else◌}
 use Rattle.std.specs.Option.{option_or}
@@ -102,7 +102,7 @@ pub heads_linked : (n : ℕ) (steps : List Step) (heads : List ℕ) (k : ℕ) (d
 heads_linked n steps heads k d many there small h =
     heads_after n (marks_of steps) heads (mark_in (get_or steps k d)) k many h small (mark_got steps k (get_or steps k d) (slice_get-get_or steps k d there))
 
--- where a mark's chain begins
+-- the head of a mark's chain
 pub newest_headed : (n mark : ℕ) (steps : List Step) (heads : List ℕ) → n ≡ length heads → (0 < length steps → 0 < n) → HasHeads n (marks_of steps) heads (length steps)
     → slice_index heads (chain_of n mark) ≡ newest n (chain_of n mark) (marks_of steps) (length steps)
 unfolding chain_of
@@ -110,7 +110,7 @@ newest_headed zero mark [] heads many some h = get_or_past heads (mark % 0) 0 (o
 newest_headed zero mark (x ∷ steps) heads many some h = let no : 0 < zero = some (omega arith) in absurd (omega arith)
 newest_headed (suc n) mark steps heads many some h = h.head (mark % suc n) (mod_below mark (suc n) (omega arith))
 
--- nothing is in a chain yet
+-- no step is in a chain yet
 pub none_chained : (n : ℕ) (steps : List Step) → IsChained n steps 0
 none_chained n steps = record { before = λ j x below got. absurd (omega arith) }
 
@@ -157,7 +157,7 @@ heads_more n steps heads e many h small =
 abbrev pub found_in : (ℕ → Bool) → ℕ → List Mark → ℕ → Option ℕ
 found_in q mark marks k = first_place q mark (take k marks)
 
--- what is found of one
+-- what is found at one mark
 abbrev pub found_at : (ℕ → Bool) → ℕ → Mark → Option ℕ
 found_at q mark x = if nat_eq x.mark mark && q x.place then Some x.place else None
 
@@ -188,11 +188,11 @@ found_more q mark (y ∷ marks) (suc k) x got =
       | false ↦ found_more q mark marks k x got
     ]
 
--- those of this mark
+-- the entries with this mark
 abbrev of_mark : ℕ → List Mark → List Mark
 of_mark mark marks = filter (λ m. nat_eq m.mark mark) marks
 
--- those of this mark among the first k
+-- the entries with this mark among the first k
 abbrev same_in : ℕ → List Mark → ℕ → List Mark
 same_in mark marks k = of_mark mark (take k marks)
 
@@ -207,11 +207,11 @@ same_more mark (y ∷ marks) (suc k) x got =
       | false ↦ same_more mark marks k x got
     ]
 
--- of another chain is another mark
+-- a mark of another chain is a different mark
 other_mark : (n mark : ℕ) (x : Mark) → nat_eq (chain_of n x.mark) (chain_of n mark) ≡ false → nat_eq x.mark mark ≡ false
 other_mark n mark x other = ne_eqb x.mark mark (λ same. eqb-false (chain_of n x.mark) (chain_of n mark) other (ap (chain_of n) same))
 
--- those of this mark are those up to the newest of the chain
+-- the entries with this mark are those with it up to the newest of the chain
 same_newest : (n mark : ℕ) (marks : List Mark) (k : ℕ) → same_in mark marks k ≡ same_in mark marks (newest n (chain_of n mark) marks k)
 same_newest n mark marks zero = refl
 same_newest n mark marks (suc k) =
@@ -225,7 +225,7 @@ same_newest n mark marks (suc k) =
           ] refl
     ] refl
 
--- what is found is found among those of this mark
+-- whatever is found is found among the entries with this mark
 first-same : (q : ℕ → Bool) (mark : ℕ) (marks : List Mark) → first_place q mark marks ≡ first_place q mark (of_mark mark marks)
 first-same q mark [] = refl
 first-same q mark (m ∷ marks) =
@@ -235,14 +235,14 @@ first-same q mark (m ∷ marks) =
       | false ↦ λ _. first-same q mark marks
     ] refl
 
--- what is found is found up to the newest of the chain
+-- whatever is found is found up to the newest of the chain
 found_newest : (n : ℕ) (q : ℕ → Bool) (mark : ℕ) (marks : List Mark) (k : ℕ) → found_in q mark marks k ≡ found_in q mark marks (newest n (chain_of n mark) marks k)
 found_newest n q mark marks k =
     first-same q mark (take k marks) ∙ ap (λ (ms : List Mark). first_place q mark ms) (same_newest n mark marks k)
     ∙ sym (first-same q mark (take (newest n (chain_of n mark) marks k) marks))
 
--- along a chain: the step that comes next is of the chain, and what is found among all is found
--- from it on or was found
+-- during the walk along a chain: the next step belongs to the chain, and what is found among all is
+-- found from it on or was already found
 pub record IsAlong (n : ℕ) (says : ℕ → Bool → Type 0) (steps : List Step) (mark next : ℕ) (found : Option ℕ) : Type 0 where
   pub own : (k : ℕ) → next ≡ suc k → is_of n (chain_of n mark) (slice_get (marks_of steps) k) ≡ true
   pub rest : (q : ℕ → Bool) → Decides says q → first_place q mark (marks_of steps) ≡ option_or (found_in q mark (marks_of steps) next) found
@@ -258,7 +258,7 @@ along_first n says steps mark next first =
           ∙ ap (λ (front : List Mark). first_place q mark front) all);
     }
 
--- the step that comes next leads on along the chain
+-- the next step refers to the newest step before it in the chain
 leads_on : (n : ℕ) (steps : List Step) (mark k : ℕ) (x : Step) → IsChained n steps (length steps) → is_of n (chain_of n mark) (slice_get (marks_of steps) k) ≡ true → slice_get steps k ≡ Some x
     → x.before ≡ newest n (chain_of n mark) (marks_of steps) k
 leads_on n steps mark k x chained own got =
@@ -286,7 +286,7 @@ before_less n steps zero x chained got = absurd cc
 before_less n steps (suc k) x chained got =
     omega (arith, chained.before k x (slice_get_within steps k x (sym got)) (sym got), newest_within n (chain_of n x.mark) (marks_of steps) k)
 
--- a step of the chain is there
+-- a step of the chain exists
 ends : (n : ℕ) (steps : List Step) (mark k : ℕ) → is_of n (chain_of n mark) (slice_get (marks_of steps) k) ≡ true → slice_get steps k ≡ None → ⊥
 ends n steps mark k own none =
     let past : slice_get (marks_of steps) k ≡ None = slice_get-map mark_in steps k ∙ ap (λ (o : Option Step). option_map mark_in o) none in
@@ -297,7 +297,7 @@ pub along_last : (n : ℕ) (says : ℕ → Bool → Type 0) (steps : List Step) 
 along_last n says steps mark zero found h none q decides = sym (h.rest q decides)
 along_last n says steps mark (suc k) found h none q decides = absurd (ends n steps mark k (h.own k refl) none)
 
--- one of this mark that passes was found, and none before
+-- one with this mark that passes was found, and none before
 some_later : (o : Option ℕ) (place : ℕ) → is_some (option_or o (Some place)) ≡ true
 some_later None place = refl
 some_later (Some earlier) place = refl
@@ -314,12 +314,12 @@ along_hit n says steps mark (suc k) x h got q decides hit =
 
 -- ---- all of a mark
 
--- the places of these
+-- the positions of these marks
 abbrev places_in : List Mark → List ℕ
 places_in marks = map (λ m. m.place) marks
 
--- along a chain: the step that comes next is of the chain, and the places of the mark are those
--- from it on, and before them those that were found, which are the newest first
+-- during the walk along a chain: the next step belongs to the chain, and the positions with the
+-- mark are those from it on, followed by those already found, which are stored newest first
 pub record IsGathering (n : ℕ) (steps : List Step) (mark next : ℕ) (found : List ℕ) : Type 0 where
   pub own : (k : ℕ) → next ≡ suc k → is_of n (chain_of n mark) (slice_get (marks_of steps) k) ≡ true
   pub rest : places_of mark (marks_of steps) ≡ places_in (same_in mark (marks_of steps) next) ++ reverse found

@@ -1,4 +1,4 @@
--- How many activities each author has.
+-- The number of activities of each author.
 use Rattle.std.proofs.Common.{◌≡◌, ℕ, zero, suc, ◌+◌, ◌<◌, ◌≤◌, ◌^◌, arith, Bool, true, false, List, [], ◌∷◌, ◌++◌, Some, None, get_or, set, length, ltb, refl, sym, ap, subst, ◌∙◌}
 use Rattle.std.proofs.lemmas.Slice.Eq.{bytes_eq-Decides}
 use Rattle.std.specs.Prelude.{◌||◌, filter, nat_lt, if◌then◌else◌}
@@ -68,7 +68,7 @@ is_equal a b e = (bytes_eq-Decides a b).0 e
 is_same : (a : List ℕ) → bytes_eq a a ≡ true
 is_same a = (bytes_eq-Decides a a).1 refl
 
--- the first author of this id is there, and has this place
+-- the first author with this id exists and has this position
 pub record IsFirst (author : List ℕ) (authors : List Author) (i : ℕ) : Type 0 where
   pub place : position_or_len (is_author author) authors ≡ i
   pub any : list_any (is_author author) authors ≡ true
@@ -93,7 +93,7 @@ not_known author authors found known =
       | false ↦ λ e f. absurd (let none : is_among author (ids_of authors) ≡ false = sym (any_known author authors) ∙ sym (place_any (is_author author) authors) ∙ e in cc)
     ] refl found
 
--- what was counted of the author stands at this place
+-- the count of the author is at this position
 count_at : (author : List ℕ) (authors : List Author) (d : Author) → list_any (is_author author) authors ≡ true
     → (get_or authors (position_or_len (is_author author) authors) d).count ≡ count_found (find (is_author author) authors)
 count_at author [] d any = absurd cc
@@ -110,7 +110,7 @@ pub first_count : (author : List ℕ) (authors : List Author) (i : ℕ) (d : Aut
 unfolding count_in
 first_count author authors i d first = ap (λ (k : ℕ). (get_or authors k d).count) (sym first.place) ∙ count_at author authors d first.any
 
--- the author with one activity more
+-- the author with one more activity
 abbrev pub one_more : Author → Author
 one_more a = record a { count = a.count + 1 }
 

@@ -1,4 +1,4 @@
--- What passes a test is edited by looking for the first that passes, again and again.
+-- All items that pass a test are edited by repeatedly looking for the first that passes.
 use Rattle.std.proofs.Common.{◌≡◌, ℕ, zero, suc, ◌+◌, ◌<◌, arith, Bool, true, false, List, [], ◌∷◌, Option, Some, None, refl, sym, ap, subst, ◌∙◌, ltb, length, set}
 use Rattle.std.specs.Prelude.{◌&&◌, not, nat_lt, map, filter, slice_get, if◌then◌else◌}
 use Rattle.std.specs.List.{find, position_or_len}
@@ -18,18 +18,18 @@ use Rattle.fedi_register.proofs.Found.{and_none}
 use Rattle.fedi_register.proofs.Once.{lt_step}
 use Rattle.fedi_register.proofs.Places.{open_narrower}
 
--- what was edited passes no longer
+-- an edited item no longer passes
 abbrev pub Ends : (Act → Bool) → (Act → Act) → Type 0
 Ends p f = (y : Act) → p (f y) ≡ false
 
--- one edit more makes no difference to all edits
+-- one more edit does not change the result of all edits
 pub edited : (p : Act → Bool) (f : Act → Act) → Ends p f → (xs : List Act) (place : ℕ) (y : Act) → slice_get xs place ≡ Some y → p y ≡ true
     → map (where_passes p f) (set xs place (f y)) ≡ map (where_passes p f) xs
 edited p f ends [] place y got passes = absurd cc
 edited p f ends (x ∷ xs) zero y got passes = let same : x ≡ y = cc in rw (same, ends y, passes) refl
 edited p f ends (x ∷ xs) (suc place) y got passes = ap (λ (ys : List Act). where_passes p f x ∷ ys) (edited p f ends xs place y got passes)
 
--- where none passes nothing is edited
+-- if no item passes, nothing is edited
 pub all_edited : (p : Act → Bool) (f : Act → Act) (xs : List Act) → find p xs ≡ None → map (where_passes p f) xs ≡ xs
 all_edited p f [] none = refl
 all_edited p f (x ∷ xs) none =
@@ -38,7 +38,7 @@ all_edited p f (x ∷ xs) none =
       | false ↦ λ e. ap (λ (ys : List Act). x ∷ ys) (all_edited p f xs e)
     ] none
 
--- after an edit fewer pass
+-- fewer items pass after an edit
 pub fewer_pass : (p : Act → Bool) (f : Act → Act) → Ends p f → (xs : List Act) (place : ℕ) (y : Act) → slice_get xs place ≡ Some y → p y ≡ true
     → length (filter p (set xs place (f y))) < length (filter p xs)
 fewer_pass p f ends [] place y got passes = absurd cc
@@ -50,7 +50,7 @@ fewer_pass p f ends (x ∷ xs) (suc place) y got passes =
       | false ↦ rest
     ]
 
--- what is at the place that was found
+-- the item at the position that was found
 pub there : {A : Type 0} (p : A → Bool) (xs : List A) (place : ℕ) → Some place ≡ place_where p xs → (y : A) × (slice_get xs place ≡ Some y) × (p y ≡ true)
 there {A} p xs place is =
     elim (ltb (position_or_len p xs) (length xs)) as (λ b. ltb (position_or_len p xs) (length xs) ≡ b → Some place ≡ (if b then Some (position_or_len p xs) else None)
@@ -91,7 +91,7 @@ none_there {A} p (x ∷ xs) is =
     later true n e = absurd cc
     later false n e = refl
 
--- the marks stay where what is looked up stays
+-- the marks stay the same if the looked-up properties do
 marks-set : (p : Act → Bool) (mark : Act → ℕ) (xs : List Act) (n place : ℕ) (y z : Act) → slice_get xs place ≡ Some y → p z ≡ p y → mark z ≡ mark y
     → marks_from p mark n (set xs place z) ≡ marks_from p mark n xs
 marks-set p mark [] n place y z got passes same = absurd cc
@@ -100,8 +100,8 @@ marks-set p mark (x ∷ xs) n (suc place) y z got passes same = rw (marks-set p 
 
 -- ---- a loop that gives a state to what passes
 
--- how far such a loop has come: all edits make of the activities what they make of those at first,
--- and the marks are theirs
+-- the state of such a loop: all edits turn the current activities into what they turn the initial
+-- ones into, and the marks are those of the current activities
 pub record IsEditing (p : Act → Bool) (f : Act → Act) (q : Act → Bool) (mark : Act → ℕ) (marks : List Mark) (first now : List Act) : Type 0 where
   pub edits : map (where_passes p f) now ≡ map (where_passes p f) first
   pub kept : marks ≡ marks_from q mark 0 now
@@ -109,7 +109,7 @@ pub record IsEditing (p : Act → Bool) (f : Act → Act) (q : Act → Bool) (ma
 pub editing : (p : Act → Bool) (f : Act → Act) (q : Act → Bool) (mark : Act → ℕ) (marks : List Mark) (acts : List Act) → marks ≡ marks_from q mark 0 acts → IsEditing p f q mark marks acts acts
 editing p f q mark marks acts are = record { edits = refl; kept = are }
 
--- what is looked up stays in any state
+-- the looked-up properties are the same in any state
 abbrev pub IsSteady : (Act → Act) → (Act → Bool) → (Act → ℕ) → Type 0
 IsSteady f q mark = (y : Act) → (q (f y) ≡ q y) × (mark (f y) ≡ mark y)
 
@@ -173,7 +173,7 @@ pub follows_end : (a b : List ℕ) (s : State) → Ends (is_unended a b s) (in_s
 unfolding is_unended
 follows_end a b s y = rw (same_state s) (and_none (is_open_follow a b (in_state s y)))
 
--- what has ended so already stays as it is
+-- a Follow that is already in this state does not change
 ended_same : (a b : List ℕ) (s : State) (y : Act) → where_passes (is_unended a b s) (in_state s) y ≡ end_follow a b s y
 unfolding is_unended end_follow
 ended_same a b s y =

@@ -1,4 +1,4 @@
--- What is found by marks is what is found among all.
+-- A look-up by marks finds what a search among all items finds.
 use Rattle.std.proofs.Common.{◌≡◌, ℕ, suc, ◌+◌, ◌≤◌, arith, Bool, true, false, List, [], ◌∷◌, ◌++◌, Option, Some, None, refl, sym, ap, subst, ◌∙◌, append_assoc, eq-eqb, length, ltb, take, Bor}
 use Rattle.std.specs.Prelude.{◌&&◌, ◌||◌, min, nat_eq, is_some, option_copied, if◌then◌else◌}
 use Rattle.std.specs.List.{find, list_any, position_or_len}
@@ -11,7 +11,7 @@ use Rattle.fedi_register.specs.Marks.{Mark, first_place, is_there, item_at, mark
 use Rattle.fedi_register.proofs.Chains.{got_at, longer}
 use Rattle.fedi_register.proofs.Once.{lt_step}
 
--- what passes has a mark, and it is this
+-- each item that passes has a mark, and it is this one
 abbrev pub IsMarkedSo : {A : Type 0} → (A → Bool) → (A → ℕ) → ℕ → (A → Bool) → Type 0
 IsMarkedSo {A} p mark n q = (x : A) → q x ≡ true → (p x ≡ true) × (mark x ≡ n)
 
@@ -19,12 +19,12 @@ pub and_none : (a : Bool) → (a && false) ≡ false
 and_none true = refl
 and_none false = refl
 
--- the place of the first that passes, where the first item has this place
+-- the position of the first item that passes, if the first item has this position
 abbrev place_from : {A : Type 0} → (A → Bool) → ℕ → List A → Option ℕ
 place_from q n [] = None
 place_from q n (x ∷ xs) = if q x then Some n else place_from q (suc n) xs
 
--- what comes after these items is not found among them
+-- a mark after these items is not found among them
 none_past : {A : Type 0} (p q : A → Bool) (mark : A → ℕ) (n : ℕ) (ys xs : List A) (k : ℕ) → length ys ≤ k → first_place (passes_at q ys) n (marks_from p mark k xs) ≡ None
 unfolding passes_at
 none_past p q mark n ys [] k past = refl
@@ -62,7 +62,7 @@ placed-all : {A : Type 0} (p q : A → Bool) (mark : A → ℕ) (n : ℕ) → Is
 placed-all {A} p q mark n so xs =
     subst (λ (ys : List A). first_place (passes_at q xs) n (marks_from p mark 0 ys) ≡ place_from q 0 xs) (append-nil xs) (placed-after p q mark n so [] xs [])
 
--- as a place among all
+-- the result as a position among all items
 place-position : {A : Type 0} (q : A → Bool) (xs : List A) (k : ℕ)
     → place_from q k xs ≡ (if ltb (position_or_len q xs) (length xs) then Some (position_or_len q xs + k) else None)
 place-position q [] k = refl
@@ -75,7 +75,7 @@ place-position q (x ∷ xs) k =
           rw (isnt, lt_step (position_or_len q xs) (length xs), more) (place-position q xs (suc k))
     ] refl
 
--- the place that is found by marks is that of the first that passes among all
+-- the position found by marks is that of the first item that passes among all
 pub placed : {A : Type 0} (p q : A → Bool) (mark : A → ℕ) (n m : ℕ) (ys xs : List A) (marks : List Mark) (place : Option ℕ)
     → place ≡ first_place (passes_at q ys) n marks → ys ≡ xs → n ≡ m → marks ≡ marks_from p mark 0 xs → IsMarkedSo p mark m q → place ≡ place_where q xs
 placed p q mark n m ys xs marks place is same number are so =
@@ -94,7 +94,7 @@ item-found {A} q before (x ∷ xs) =
       | false ↦ rest
     ]
 
--- what is found by marks is the first that passes among all
+-- the item found by marks is the first that passes among all
 pub found : {A : Type 0} (p q : A → Bool) (mark : A → ℕ) (n m : ℕ) (ys xs : List A) (marks : List Mark) (got : Option A)
     → got ≡ item_at ys (first_place (passes_at q ys) n marks) → ys ≡ xs → n ≡ m → marks ≡ marks_from p mark 0 xs → IsMarkedSo p mark m q → got ≡ find q xs
 found p q mark n m ys xs marks got is same number are so =
@@ -120,7 +120,7 @@ take_least k xs n least =
           rw all (take-length xs ∙ sym (take_all k xs past))
     ] refl
 
--- whether something is found by marks among the first items is whether one of these passes
+-- something is found by marks among the first items if and only if one of these passes
 pub any_found : {A : Type 0} (p q : A → Bool) (mark : A → ℕ) (n m : ℕ) (ys after xs : List A) (marks : List Mark) (any : Bool)
     → any ≡ is_some (first_place (passes_at q ys) n marks) → ys ++ after ≡ xs → n ≡ m → marks ≡ marks_from p mark 0 xs → IsMarkedSo p mark m q → any ≡ list_any q ys
 any_found p q mark n m ys after xs marks any is parts number are so =

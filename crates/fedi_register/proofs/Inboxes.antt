@@ -1,4 +1,4 @@
--- An activity that goes to one more inbox.
+-- An activity that is added to one more inbox.
 use Rattle.std.proofs.Common.{◌≡◌, ℕ, suc, ◌+◌, arith, Bool, true, false, List, [], ◌∷◌, ◌++◌, Option, Some, None, refl, sym, ap, ◌∙◌, get_or, length, ltb}
 use Rattle.std.specs.Prelude.{nat_lt, option_map, if◌then◌else◌}
 use Rattle.std.specs.List.{find, list_any, position_or_len}
@@ -7,7 +7,7 @@ use Rattle.fedi_town.specs.Relations.{has_activity_id}
 use Rattle.fedi_register.proofs.Once.{place_any}
 use Rattle.fedi_register.specs.Changes.{longer_of}
 
--- one more owner
+-- the activity with one more recipient
 abbrev pub more : List ℕ → Act → Act
 more owner y = record y { recipients = y.recipients ++ owner ∷ [] }
 

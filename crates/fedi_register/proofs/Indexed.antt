@@ -1,4 +1,4 @@
--- The look-ups stay right.
+-- The indexes stay right.
 use Rattle.std.proofs.Common.{◌≡◌, ℕ, suc, ◌+◌, arith, Bool, true, false, List, [], ◌∷◌, ◌++◌, length, refl, sym, ap, ◌∙◌}
 use Rattle.std.specs.Prelude.{filter, is_some, map, Option, option_map, if◌then◌else◌}
 use Rattle.std.specs.Str.{bytes_eq}
@@ -64,7 +64,7 @@ count_pushed acts x authors authors' h counts id =
 
 -- ---- what is affected
 
--- what is looked up of an activity stays
+-- the looked-up properties of an activity stay the same
 pub record IsAlike (x y : Act) : Type 0 where
   pub author : y.author ≡ x.author
   pub deed : deed y ≡ deed x
@@ -171,7 +171,7 @@ by-alike : (id : List ℕ) (x y : Act) → IsAlike x y → is_by id y ≡ is_by 
 unfolding is_by
 by-alike id x y h = ap (λ (author : List ℕ). bytes_eq author id) h.author
 
--- where all that is looked up of each activity stays
+-- if all looked-up properties of each activity stay the same
 indexed_alike : (f : Act → Act) → ((y : Act) → IsAlike y (f y)) → (seed : Seed) (acts : List Act) (k m i p w : List Mark) (authors : List Author)
     → IsIndexed seed acts k m i p w authors → IsIndexed seed (map f acts) k m i p w authors
 indexed_alike f like seed acts k m i p w authors h = record {
@@ -198,7 +198,7 @@ pub indexed_inbox : (seed : Seed) (id owner : List ℕ) (acts : List Act) (k m i
     → IsIndexed seed (map (with_recipient id owner) acts) k m i p f authors
 indexed_inbox seed id owner = indexed_alike (with_recipient id owner) (inbox-alike id owner) seed
 
--- where the authors count the same
+-- if the counts of the authors are the same
 pub indexed_known : (seed : Seed) (acts : List Act) (k m i p f : List Mark) (old new : List Author) → IsIndexed seed acts k m i p f old → SameCounts old new
     → IsIndexed seed acts k m i p f new
 indexed_known seed acts k m i p f old new h same =

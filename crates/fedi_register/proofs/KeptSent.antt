@@ -1,4 +1,4 @@
--- What of an activity may cross threads.
+-- Which parts of an activity may cross threads.
 use denote.Param.Send.{IsSend, IsSync, view_send, sendable}
 use denote.Param.SendFields.{declared_send, variants_send}
 use Rattle.std.proofs.Crossing.{crosses}

@@ -1,4 +1,4 @@
--- A change of what passes a test is a change at one place, where one passes at most.
+-- A change of what passes a test is a change at one position if at most one item passes.
 use Rattle.std.proofs.Common.{◌≡◌, ℕ, suc, ◌+◌, arith, Bool, true, false, List, [], ◌∷◌, Some, None, refl, sym, ap, ◌∙◌, get_or, set, length, ltb}
 use Rattle.std.proofs.lemmas.Bool.{lt-ltb, le-ltb, ltb-true, ltb-false}
 use Rattle.std.specs.Prelude.{nat_lt, map, if◌then◌else◌, ◌||◌}
@@ -8,7 +8,7 @@ use Rattle.fedi_town.specs.declared.effect.Effect.TheVariants as effects
 use Rattle.fedi_town.specs.Effects.{affect}
 use Rattle.fedi_town.specs.Lists.{PassesOnce}
 
--- neither the first nor another
+-- neither the first nor any other passes
 none_first : (a b : Bool) → (a || b) ≡ false → a ≡ false
 none_first true b e = absurd cc
 none_first false b e = refl
@@ -21,7 +21,7 @@ none-changed : {A : Type 0} (p : A → Bool) (f : A → A) (xs : List A) → lis
 none-changed p f [] none = refl
 none-changed p f (x ∷ xs) none = rw (none_first (p x) (list_any p xs) none, none-changed p f xs (none_other (p x) (list_any p xs) none)) refl
 
--- where one passes at most, a change of what passes is a change at one place
+-- if at most one item passes, a change of what passes is a change at one position
 map-once : {A : Type 0} (p : A → Bool) (f : A → A) (xs : List A) → PassesOnce p xs → list_any p xs ≡ true
     → (d : A) → map (λ x. if p x then f x else x) xs ≡ set xs (position_or_len p xs) (f (get_or xs (position_or_len p xs) d))
 map-once p f [] once any d = absurd cc
@@ -46,7 +46,7 @@ place_any p (x ∷ xs) =
       | false ↦ λ e. rw e (lt_step (position_or_len p xs) (length xs) ∙ place_any p xs)
     ] refl
 
--- the same, where the place is known
+-- the same if the position is known
 pub map_at_once : {A : Type 0} (p : A → Bool) (f : A → A) (xs : List A) (i : ℕ) (y d : A) → PassesOnce p xs
     → (if nat_lt (position_or_len p xs) (length xs) then Some (position_or_len p xs) else None) ≡ Some i → y ≡ f (get_or xs i d)
     → set xs i y ≡ map (λ x. if p x then f x else x) xs
@@ -68,7 +68,7 @@ map_at_none p f xs at =
       | false ↦ λ e h. sym (none-changed p f xs (sym (place_any p xs) ∙ e))
     ] refl at
 
--- what is affected by nothing stays
+-- the effect `Nothing` leaves the activities as they are
 pub nothing_changes : (acts : List Act) → acts ≡ map (affect effects.Nothing) acts
 nothing_changes [] = refl
 nothing_changes (x ∷ acts) = ap (λ (xs : List Act). x ∷ xs) (nothing_changes acts)

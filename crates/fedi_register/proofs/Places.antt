@@ -1,5 +1,5 @@
--- What is looked up is marked so that it is found, and what is gathered at places is what is
--- gathered among all.
+-- Whatever is looked up has the mark by which it is found, and what is gathered from positions is
+-- what is gathered among all.
 use Rattle.std.proofs.Common.{◌≡◌, ℕ, suc, Bool, true, false, List, [], ◌∷◌, ◌++◌, Option, Some, None, refl, sym, ap, subst, ◌∙◌, append_assoc, eq-eqb, length}
 use Rattle.std.specs.Prelude.{not, ◌&&◌, ◌||◌, filter, is_some, map, nat_eq, option_map, slice_get, if◌then◌else◌}
 use Rattle.std.specs.List.{fold, list_any}
@@ -37,11 +37,11 @@ use Rattle.fedi_register.proofs.Found.{IsMarkedSo}
 is_equal : (a b : List ℕ) → bytes_eq a b ≡ true → a ≡ b
 is_equal a b e = (bytes_eq-Decides a b).0 e
 
--- what passes a further test too is marked the same
+-- an item that also passes a narrower test has the same mark
 pub marked_narrower : {A : Type 0} (p q r : A → Bool) (mark : A → ℕ) (n : ℕ) → IsMarkedSo p mark n q → ((x : A) → r x ≡ true → q x ≡ true) → IsMarkedSo p mark n r
 marked_narrower p q r mark n so narrow = λ x is. so x (narrow x is)
 
--- an id is there, and marked so
+-- there is an id, and it has this mark
 id_marked : (seed : Seed) (id : List ℕ) (own : Option (List ℕ)) → is_id id own ≡ true → (is_some own ≡ true) × (ref_mark seed own ≡ mark_of seed id)
 id_marked seed id None is = absurd cc
 id_marked seed id (Some own) is = (refl, ap (mark_of seed) (is_equal own id is))
@@ -87,7 +87,7 @@ id_key : (id : List ℕ) (own : Option (List ℕ)) → is_id id own ≡ true →
 id_key id None is = absurd cc
 id_key id (Some own) is = is
 
--- what does one of these and relates the two is a relation of the two
+-- an activity that does one of these and relates the two is a relation of the two
 relating : (a b : List ℕ) (x : Act) (does stands : Bool) → (does ≡ true → is_relation (deed x) ≡ true) → ((does && stands) && (is_by a x && is_about b x)) ≡ true
     → relates_by_key a b x ≡ true
 unfolding relates_by_key relates is_about
@@ -134,7 +134,7 @@ blocks_narrower a b x is = relating a b x (is_block (deed x)) (is_standing x.sta
 
 -- ---- what is gathered
 
--- what is not marked so does not pass
+-- an item without this mark does not pass
 unmarked : {A : Type 0} (p q : A → Bool) (mark : A → ℕ) (n : ℕ) → IsMarkedSo p mark n q → (x : A) → (p x && nat_eq (mark x) n) ≡ false → q x ≡ false
 unmarked p q mark n so x other =
     elim (q x) as (λ b. q x ≡ b → b ≡ false) [
@@ -142,7 +142,7 @@ unmarked p q mark n so x other =
       | false ↦ λ _. refl
     ] refl
 
--- the author follows by one of these where one is a Follow by the author
+-- the author follows according to these activities if one of them is a Follow by the author
 and_parted : (a b c : Bool) → ((a && b) && c) ≡ (a && (c && b))
 and_parted true true true = refl
 and_parted true true false = refl
@@ -166,7 +166,7 @@ among_before b a before =
     ∙ any-kept (is_by a) (is_following b) before
     ∙ list_any-agree (λ x. is_following b x && is_by a x) (is_follow_of a b) (λ x. and_parted (is_follow (deed x) && is_accepted x.state) (is_about b x) (is_by a x)) before
 
--- those who follow by these activities and one more
+-- the followers according to these activities and one more
 following-push : (b : List ℕ) (acts : List Act) (x : Act)
     → map (λ y. y.author) (filter (is_following b) (acts ++ x ∷ [])) ≡ map (λ y. y.author) (filter (is_following b) acts) ++ (if is_following b x then x.author ∷ [] else [])
 following-push b acts x =
@@ -184,7 +184,7 @@ same_followers : (b : List ℕ) (acts : List Act) (x : Act) → is_following b x
 unfolding followers_in
 same_followers b acts x other = ap (λ (all : List (List ℕ)). distinct all) (following-push b acts x ∙ rw (other, append-nil) refl)
 
--- the author of an activity follows first where nobody found before it is the author
+-- a Follow is its author's first if the author is not among the followers found before it
 add-first : (a : List ℕ) (found : List (List ℕ)) → (if not (is_among a found) then found ++ a ∷ [] else found) ≡ add_new found a
 add-first a found = elim (is_among a found) as (λ c. (if not c then found ++ a ∷ [] else found) ≡ (if c then found else found ++ a ∷ [])) [ true ↦ refl | false ↦ refl ]
 
@@ -199,7 +199,7 @@ found_here b before x xs =
       | false ↦ λ other. sym (same_followers b before x other)
     ] refl)
 
--- what is gathered at places
+-- what is gathered from these positions
 abbrev gathered : List ℕ → List Act → List (List ℕ) → List ℕ → List (List ℕ)
 gathered b all found places = fold (λ f place. with_first_follow all b place f (slice_get all place)) found places
 

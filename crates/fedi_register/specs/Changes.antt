@@ -1,4 +1,4 @@
--- What becomes of one earlier activity, effect by effect.
+-- What each effect does to one earlier activity.
 use Rattle.std.specs.Prelude.{ℕ, Bool, true, false, not, ◌&&◌, nat_lt, List, [], ◌∷◌, ◌++◌, length}
 use Rattle.std.specs.Prelude.{Option, Some, None, option_map, if◌then◌else◌}
 use Rattle.std.specs.List.{find, position_or_len}
@@ -12,25 +12,25 @@ use Rattle.fedi_town.specs.Lists.{PassesOnce}
 use Rattle.fedi_town.specs.Objects.{makes}
 use Rattle.fedi_town.specs.Relations.{has_activity_id, is_open_follow}
 
--- after a Block
+-- the activity after a Block
 unfoldable pub end_both : List ℕ → List ℕ → Act → Act
 end_both a b y = affect (effects.EndBoth a b) y
 
--- after an Accept
+-- the activity after an Accept
 unfoldable pub accept_one : List ℕ → Act → Act
 accept_one id y = affect (effects.Accept id) y
 
--- after the Undo of anything but a Follow
+-- the activity after the Undo of anything but a Follow
 unfoldable pub undo_one : List ℕ → Act → Act
 undo_one id y = affect (effects.Undo id) y
 
--- no object was made twice
+-- no object was created twice
 abbrev pub AreMadeOnce : List Act → Type 0
 AreMadeOnce acts = (id : List ℕ) → PassesOnce (makes id) acts
 
 -- ---- one change after the other
 
--- the place of the first that passes, where one passes
+-- the position of the first item that passes, if there is one
 abbrev pub place_where : {A : Type 0} → (A → Bool) → List A → Option ℕ
 place_where p xs =
     if nat_lt (position_or_len p xs) (length xs) then Some (position_or_len p xs) else None
@@ -46,13 +46,13 @@ is_state Standing Standing = true
 is_state Undone Undone = true
 is_state _ _ = false
 
--- it is a Follow of b by a that waits or was accepted, and is in another state than this
+-- it is a Follow of b by a that is pending or was accepted and is not in this state
 unfoldable pub is_unended : List ℕ → List ℕ → State → Act → Bool
 is_unended a b s y = is_open_follow a b y && not (is_state y.state s)
 
 -- ---- inboxes
 
--- to whom the activity of this id goes, where it goes to one more
+-- the recipients of the activity with this id, with one more added
 abbrev pub longer_of : List ℕ → List ℕ → List Act → Option (List (List ℕ))
 longer_of id owner acts =
     option_map (λ x. x.recipients ++ owner ∷ []) (find (has_activity_id id) acts)

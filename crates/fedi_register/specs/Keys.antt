@@ -1,4 +1,4 @@
--- The keys under which posts are known when they come again.
+-- The keys by which repeated posts are recognized.
 use Rattle.std.specs.Prelude.{ℕ, Bool, ◌&&◌, List}
 use Rattle.fedi_town.specs.declared.act.Act.{Act}
 use Rattle.fedi_town.specs.Legal.{has_key}

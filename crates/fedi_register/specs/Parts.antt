@@ -1,4 +1,4 @@
--- What is seen of what is kept.
+-- What contracts see of the stored form.
 use Rattle.std.specs.Prelude.{ℕ, List, [], Option, Some, None, option_map}
 use Rattle.std.specs.declared.boxed.Box.{Box}
 use Rattle.fedi_objects.specs.declared.activity.ObjectRef.{ObjectRef}
@@ -16,7 +16,7 @@ use Rattle.fedi_register.specs.declared.parts.Rare.{Rare}
 
 -- ---- the object
 
--- nothing that few objects have
+-- none of the properties that few objects have
 abbrev pub no_extras : Extras
 no_extras = record {
   in_reply_to = None;
@@ -29,17 +29,17 @@ no_extras = record {
   tags = [];
 }
 
--- what few objects have, where there is any
+-- the properties that few objects have, if there are any
 abbrev pub extras_in : {A : Type 0} → Option (Box Extras A) → Extras
 extras_in None = no_extras
 extras_in (Some e) = e.value
 
--- without what an Update may set
+-- the extras without what an Update may set
 abbrev pub emptied_extras : Extras → Extras
 emptied_extras e =
     record e { in_reply_to = None; summary = None; name = None; url = None; tags = [] }
 
--- the object, with whom it hides
+-- the object, with its hidden recipients
 abbrev pub whole : KeptObject → Object
 whole k = let e : Extras = extras_in k.extras in record {
   id = k.id;
@@ -73,18 +73,18 @@ referred (abouts.Changed c) = refs.Changed (record c.change.value { id = c.id })
 
 -- ---- what an activity has of its own
 
--- whom an activity or an object names, and when it was published
+-- the addressees of an activity or an object, and when it was published
 pub record Names : Type 0 where
   pub to : List (List ℕ)
   pub cc : List (List ℕ)
   pub audience : List (List ℕ)
   pub published : Option (List ℕ)
 
--- nobody, and at no time
+-- no addressees, and no time of publication
 abbrev pub no_names : Names
 no_names = record { to = []; cc = []; audience = []; published = None }
 
--- those of an object
+-- the names of an object
 abbrev pub named_in : KeptObject → Names
 named_in k = record {
   to = k.common.value.lists.to;
@@ -93,24 +93,24 @@ named_in k = record {
   published = k.published;
 }
 
--- those of an activity that is new
+-- the names of a new activity
 abbrev pub names_given : Named → Names
 names_given n = record { to = n.to; cc = n.cc; audience = n.audience; published = n.published }
 
--- those of the object that is carried
+-- the names of the carried object
 abbrev pub object_names : About → Names
 object_names abouts.Nothing = no_names
 object_names (abouts.Id id) = no_names
 object_names (abouts.Whole k) = named_in k.value
 object_names (abouts.Changed c) = no_names
 
--- those of an activity: its own, or else its object's
+-- the names of an activity: its own, or else those of its object
 abbrev pub named_part : Option Parts → About → Names
 named_part None about = object_names about
 named_part (Some p) about =
     record { to = p.to; cc = p.cc; audience = p.audience; published = p.published }
 
--- nothing that is rare
+-- no rare properties
 abbrev pub no_rare : Rare
 no_rare = record {
   target = None;
@@ -122,33 +122,33 @@ no_rare = record {
   forwards = [];
 }
 
--- what is rare, where there is any
+-- the rare properties, if there are any
 abbrev pub rare_in : {A : Type 0} → Option (Box Rare A) → Rare
 rare_in None = no_rare
 rare_in (Some r) = r.value
 
--- what an activity has that is rare
+-- the rare properties of an activity
 abbrev pub rare_part : Option Parts → Rare
 rare_part None = no_rare
 rare_part (Some p) = rare_in p.rare
 
--- what is lent of it
+-- the borrowed rare properties, if there are any
 abbrev pub rare_lent : Option Rare → Rare
 rare_lent None = no_rare
 rare_lent (Some r) = r
 
--- what lies in a box, where there is one
+-- the content of a box, if there is one
 abbrev pub unboxed : {T A : Type 0} → Option (Box T A) → Option T
 unboxed boxed = option_map (λ b. b.value) boxed
 
--- the parts of its own
+-- the activity's own parts
 abbrev pub parts_in : Beside → Option Parts
 parts_in besides.Nothing = None
 parts_in (besides.Parts p) = Some p.value
 parts_in (besides.Repeat r) = None
 parts_in (besides.Both b) = Some b.value.0.value
 
--- the key under which a repeat is known, and the digest of the posted body
+-- the key by which a repeated post is recognized, and the digest of the posted body
 abbrev pub repeat_in : Beside → Option (List ℕ × List ℕ)
 repeat_in besides.Nothing = None
 repeat_in (besides.Parts p) = None

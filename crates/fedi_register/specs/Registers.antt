@@ -1,4 +1,4 @@
--- The accepted activities, with what is looked up among them.
+-- The accepted activities and the indexes used to look them up.
 use Rattle.std.specs.Prelude.{◌≡◌, ℕ, ◌+◌, ◌<◌, ◌≤◌, ◌^◌, Bool, true, false, ◌&&◌, List, filter}
 use Rattle.std.specs.Prelude.{length, Option, Some, None, is_some, option_map, vec_len}
 use Rattle.std.specs.Prelude.{vec_capacity}
@@ -17,7 +17,7 @@ use Rattle.fedi_register.specs.Authors.{count_in, ids_of}
 use Rattle.fedi_register.specs.Marks.{Mark, marks_from}
 use Rattle.fedi_register.specs.Seeds.{mark_of, mark_of_pair}
 
--- the activities, the authors who are known, and how many more activities there is room for
+-- the activities, the known authors, and the number of further activities that there is room for
 pub record Registered : Type 0 where
   pub acts : List Act
   pub known : List (List ℕ)
@@ -25,7 +25,7 @@ pub record Registered : Type 0 where
 
 -- ---- what is looked up
 
--- it asks to follow
+-- it is a request to follow
 unfoldable pub asks_to_follow : Act → Bool
 asks_to_follow x = is_follow (deed x)
 
@@ -35,7 +35,7 @@ is_keyed x = is_some x.repeat
 
 -- ---- what was made
 
--- it makes something
+-- it creates an object
 unfoldable pub is_making : Act → Bool
 is_making x = is_create (deed x)
 
@@ -64,7 +64,8 @@ own_mark seed x = ref_mark seed x.activity.id
 
 -- ---- relations
 
--- a Follow, a Like, an Announce or a Block: what is looked up by its author and what it is about
+-- a Follow, a Like, an Announce or a Block: these are looked up by their author and what they are
+-- about
 abbrev pub is_relation : Deed → Bool
 is_relation Follow = true
 is_relation Like = true
@@ -80,17 +81,17 @@ relates x = is_relation (deed x)
 unfoldable pub relation_mark : Seed → Act → ℕ
 relation_mark seed x = mark_of_pair seed x.author (object_key x)
 
--- it relates this author to what has this id, or to what has none where the text is empty
+-- it relates this author to the object with this id, or to one without an id if the string is empty
 unfoldable pub relates_by_key : List ℕ → List ℕ → Act → Bool
 relates_by_key author key x = relates x && (is_by author x && bytes_eq (object_key x) key)
 
--- what passes the one test passes the other
+-- whatever passes the first test passes the second
 abbrev pub IsNarrower : (Act → Bool) → (Act → Bool) → Type 0
 IsNarrower p q = (x : Act) → p x ≡ true → q x ≡ true
 
 -- ---- authors
 
--- how many of these activities are the author's
+-- the number of these activities that are by the author
 abbrev pub count_by : List Act → List ℕ → ℕ
 count_by acts id = length (filter (is_by id) acts)
 
@@ -100,7 +101,7 @@ count_by acts id = length (filter (is_by id) acts)
 abbrev pub registered_in : Inside → Registered
 registered_in r = record { acts = r.acts.items; known = ids_of r.authors; room = r.room }
 
--- each look-up finds what stands among the activities
+-- each index matches the activities
 pub record IsIndexed (seed : Seed) (acts : List Act) (keyed made ids pairs followed : List Mark)
     (authors : List Author) : Type 0 where
   pub key : keyed ≡ marks_from is_keyed (key_mark seed) 0 acts
@@ -110,7 +111,7 @@ pub record IsIndexed (seed : Seed) (acts : List Act) (keyed made ids pairs follo
   pub follow : followed ≡ marks_from asks_to_follow (object_mark seed) 0 acts
   pub count : (id : List ℕ) → count_in authors id ≡ count_by acts id
 
--- and there is room in each list, and a place fits its field
+-- the indexes match the activities, there is room in each list, and a position fits its field
 abbrev pub IsRegister : Inside → Type 0
 IsRegister r =
     IsIndexed r.seed r.acts.items r.keyed.marks r.made.marks r.ids.marks r.pairs.marks

@@ -1,4 +1,4 @@
--- An activity, as it is seen.
+-- An activity, as contracts see it.
 use Rattle.fedi_town.specs.declared.act.Act.{Act}
 use Rattle.fedi_register.specs.Parts.{Names, named_part, parts_in, rare_part, referred, repeat_in}
 use Rattle.fedi_register.specs.declared.kept.Kept.TheInside.{Inside}

@@ -1,4 +1,4 @@
-//! What an activity is about, as it is kept.
+//! What an activity is about, in its stored form.
 
 ghost use Rattle.std.specs.Prelude.{◌≡◌, IfOk, option_copied, option_map};
 ghost use Rattle.fedi_town.specs.Objects.{is_tombstone_in, rewrite_ref, tombstone_of};
@@ -17,8 +17,8 @@ use fedi_text::Text;
 use std::alloc::{AllocError, Global};
 use std::snapshot::Snapshot;
 
-// What a client's Update is about. What it changed is seen in the object, and none of it is held
-// here.
+// What a client's Update is about. The changes are visible in the object, and none of them are
+// stored here.
 #[derive(Drop)]
 pub(crate) struct Changed {
     pub(crate) id: Iri,
@@ -35,7 +35,7 @@ pub(crate) enum About {
 }
 
 impl About {
-    /// What an activity is about, made ready to be kept. The error is out of memory.
+    /// Converts what an activity is about to its stored form. The error is out of memory.
     pub(crate) fn new(alloc: Global, object: ObjectRef) -> Result<About, AllocError>
         ensures { IfOk result (λ about. referred about ≡ object) }
     {
@@ -53,7 +53,7 @@ impl About {
         }
     }
 
-    /// The id of what it is.
+    /// The id of what the activity is about.
     pub(crate) fn id(&self) -> Option<&Iri>
         ensures { option_copied result ≡ ref_id (referred self.now) }
     {
@@ -65,7 +65,7 @@ impl About {
         }
     }
 
-    /// The object, where it is carried, as it is shown.
+    /// The carried object, if any, as it is shown.
     pub(crate) fn object(&self) -> Option<StrippedObject<'_>>
         ensures { result ≡ option_map shown_object (whole_of (referred self.now)) }
     {
@@ -75,7 +75,7 @@ impl About {
         }
     }
 
-    /// What the object replies to, where it is carried.
+    /// What the carried object, if any, replies to.
     pub(crate) fn reply(&self) -> Option<&Iri>
         ensures { option_copied result ≡ reply_in (whole_of (referred self.now)) }
     {
@@ -85,7 +85,7 @@ impl About {
         }
     }
 
-    /// Whom the object mentions, where it is carried.
+    /// The actors that the carried object, if any, mentions.
     pub(crate) fn tags(&self) -> &[Tag]
         ensures { result.now ≡ tags_in (whole_of (referred self.now)) }
     {
@@ -95,7 +95,7 @@ impl About {
         }
     }
 
-    /// Whether it is what is left of a deleted object.
+    /// Whether it is the Tombstone of a deleted object.
     pub(crate) fn is_tombstone(&self) -> bool
         ensures { result ≡ is_tombstone_in (whole_of (referred self.now)) }
     {
@@ -105,8 +105,8 @@ impl About {
         }
     }
 
-    /// Changes the object, where it is carried, by what an Update carries. It takes no memory
-    /// but what is spare.
+    /// Applies what an Update carries to the carried object, if any. This uses no memory except
+    /// `spare`.
     pub(crate) fn update(&mut self, by: ObjectRef, stamp: Text, spare: Spare)
         ensures updated { referred self.new
             ≡ rewrite_ref (update_object by stamp) (referred self.old) }
@@ -118,7 +118,7 @@ impl About {
         }
     }
 
-    /// Leaves a Tombstone of the object, where it is carried. It takes no memory but what is spare.
+    /// Replaces the carried object, if any, by a Tombstone. This uses no memory except `spare`.
     pub(crate) fn make_tombstone(&mut self, kind: Text, stamp: Text, spare: Spare)
         ensures buried { referred self.new
             ≡ rewrite_ref (tombstone_of kind stamp) (referred self.old) }
@@ -130,7 +130,7 @@ impl About {
         }
     }
 
-    /// Lets the IRIs that come again and again share the texts of equal ones.
+    /// Makes frequently repeated IRIs share the text of equal ones.
     pub(crate) fn share(&mut self, pool: &mut Pool)
         ensures referred { referred self.new ≡ referred self.old }
         ensures named { object_names self.new ≡ object_names self.old }

@@ -1,6 +1,6 @@
-//! What an accepted activity does to earlier ones: to those alone that it concerns, which are found
-//! by their marks. Nothing here takes memory but what is spare, so that a change which was made
-//! ready cannot fail.
+//! The effect of an accepted activity on earlier ones. Only those that it concerns are touched, and
+//! they are found by their marks. Nothing here uses memory except what is spare, so that a prepared
+//! change cannot fail.
 
 ghost use Rattle.std.specs.Prelude.{◌≡◌, ◌<◌, Some, length, map, set, slice_get};
 ghost use Rattle.fedi_town.specs.declared.act.Act.{Act};
@@ -60,8 +60,8 @@ fn is_unended(act: &Kept, follower: &Iri, followee: &Iri, state: State) -> bool
     is_open_follow(act, follower, followee) && !is_state(act.state(), state)
 }
 
-// The place of the first Follow of the one by the other that waits or was accepted, and has not
-// ended so.
+// The position of the first Follow of `followee` by `follower` that is pending or was accepted and
+// is not yet in this state.
 fn unended_follow(
     acts: &[Kept],
     seed: &Seed,
@@ -77,7 +77,7 @@ fn unended_follow(
     pairs.position_of(acts, mark, |act| is_unended(act, follower, followee, state))
 }
 
-// Each Follow of the one by the other that waits or was accepted ends so.
+// Puts each Follow of `followee` by `follower` that is pending or was accepted into this state.
 fn end_follows(
     acts: &mut [Kept],
     seed: &Seed,
@@ -95,7 +95,7 @@ fn end_follows(
     }
 }
 
-// Each Follow between the two ends, in either direction.
+// Ends each Follow between the two, in either direction.
 fn end_both(acts: &mut [Kept], seed: &Seed, pairs: &Marks, author: &Iri, other: &Iri)
     requires { pairs.now.marks ≡ marks_from relates (relation_mark seed.now) 0 acts.old }
     ensures { acts.new ≡ map (end_both author.now other.now) acts.old }
@@ -120,7 +120,7 @@ fn pending_follow(acts: &[Kept], seed: &Seed, ids: &Marks, id: &Iri) -> Option<u
     ids.position_of(acts, seed.mark_of_iri(id), |act| is_pending_follow(act, id))
 }
 
-// The Follow of this id is accepted, if it waits.
+// Accepts the Follow with this id if it is pending.
 fn accept(acts: &mut [Kept], seed: &Seed, ids: &Marks, follow: &Iri)
     requires { ids.now.marks ≡ marks_from has_own_id (own_mark seed.now) 0 acts.old }
     ensures { acts.new ≡ map (accept_one follow.now) acts.old }
@@ -148,7 +148,7 @@ fn standing_activity(acts: &[Kept], seed: &Seed, ids: &Marks, id: &Iri) -> Optio
     )
 }
 
-// The activity of this id is taken back, if it stands.
+// Undoes the activity with this id if it is in effect.
 fn undo(acts: &mut [Kept], seed: &Seed, ids: &Marks, activity: &Iri)
     requires { ids.now.marks ≡ marks_from has_own_id (own_mark seed.now) 0 acts.old }
     ensures { acts.new ≡ map (undo_one activity.now) acts.old }
@@ -160,7 +160,7 @@ fn undo(acts: &mut [Kept], seed: &Seed, ids: &Marks, activity: &Iri)
 
 // ---- objects
 
-// Where the activity is that made the object.
+// The position of the activity that created the object.
 fn position_of(acts: &[Kept], seed: &Seed, made: &Marks, object: &Iri) -> Option<usize>
     requires { made.now.marks ≡ marks_from is_making (object_mark seed.now) 0 acts.now }
     ensures { result ≡ place_where (makes object.now) acts.now }
@@ -168,7 +168,7 @@ fn position_of(acts: &[Kept], seed: &Seed, made: &Marks, object: &Iri) -> Option
     made.position_of(acts, seed.mark_of_iri(object), |act| makes(act, object))
 }
 
-// The object is changed by what an Update carries.
+// Applies what an Update carries to the object.
 fn update(
     acts: &mut [Kept],
     seed: &Seed,
@@ -188,7 +188,7 @@ fn update(
     }
 }
 
-// A Tombstone is left of the object.
+// Replaces the object by a Tombstone.
 fn make_tombstone(
     acts: &mut [Kept],
     seed: &Seed,
@@ -246,7 +246,7 @@ pub(crate) fn apply_effect(
 
 // ---- inboxes
 
-/// Where the activity of this id is.
+/// The position of the activity with this id.
 pub(crate) fn position_of_id(acts: &[Kept], seed: &Seed, ids: &Marks, id: &Iri) -> Option<usize>
     requires { ids.now.marks ≡ marks_from has_own_id (own_mark seed.now) 0 acts.now }
     ensures { result ≡ place_where (has_activity_id id.now) acts.now }
@@ -254,8 +254,8 @@ pub(crate) fn position_of_id(acts: &[Kept], seed: &Seed, ids: &Marks, id: &Iri) 
     ids.position_of(acts, seed.mark_of_iri(id), |act| has_activity_id(act, id))
 }
 
-/// The activity of this id goes to one more owner of an inbox: `recipients` are those to whom it
-/// goes then.
+/// Adds one more inbox owner to the recipients of the activity with this id: `recipients` is the
+/// resulting list.
 pub(crate) fn add_inbox(
     acts: &mut [Kept],
     seed: &Seed,

@@ -12,14 +12,14 @@ use fedi_address::Iri;
 use std::alloc::{AllocError, Global};
 use std::marker::Model;
 
-// How many activities an author has.
+// An author, and how many activities they have.
 #[derive(Drop)]
 pub(crate) struct Author {
     id: Iri,
     count: usize,
 }
 
-/// The authors in the order in which they became known, looked up by their ids.
+/// The authors in the order in which they became known, looked up by id.
 #[derive(Drop)]
 pub(crate) struct Authors {
     seed: Seed,
@@ -86,7 +86,7 @@ impl Authors {
         )
     }
 
-    /// How many activities were counted of the author.
+    /// The number of activities counted for the author.
     #[tactic(auto, unfolding(crate::specs::Authors::count_in))]
     pub(crate) fn count_of(&self, id: &Iri) -> usize
         ensures { result ≡ count_in self.now id.now }
@@ -103,8 +103,8 @@ impl Authors {
         self.find(id).is_some()
     }
 
-    /// Adds the author with no activities, unless the author is there. The error is out of memory,
-    /// and then all is as before.
+    /// Adds the author with no activities, unless already present. The error is out of memory, and
+    /// then nothing has changed.
     pub(crate) fn add(&mut self, id: &Iri) -> Result<(), AllocError>
         ensures known { OnOk result (ids_of self.new ≡ add_new (ids_of self.old) id.now) }
         ensures counts { SameCounts self.old self.new }
@@ -124,7 +124,7 @@ impl Authors {
         Ok(())
     }
 
-    /// Counts one more activity of an author who is there.
+    /// Counts one more activity of an author who is present.
     pub(crate) fn count_one(&mut self, id: &Iri)
         requires known { IsTrue (is_among id.now (ids_of self.old)) }
         requires few { count_in self.old id.now < 2 ^ 63 }

@@ -1,4 +1,5 @@
-//! What objects of one author have alike, and whom an activity or an object names.
+//! The properties that objects of one author have in common, and the addressees of an activity or
+//! an object.
 
 ghost use Rattle.std.specs.Prelude.{◌≡◌, true, IfOk};
 
@@ -8,7 +9,7 @@ use fedi_address::{Iri, Items, Recipients};
 use std::alloc::{AllocError, Global};
 use std::sync::Arc;
 
-/// Whom an activity or an object names to all who see it.
+/// The addressees of an activity or an object that are shown to everybody who sees it.
 #[derive(Drop)]
 pub(crate) struct Lists {
     pub(crate) to: Iris,
@@ -17,7 +18,7 @@ pub(crate) struct Lists {
 }
 
 impl Lists {
-    /// The same lists, made ready to be kept. The error is out of memory.
+    /// Converts the lists to their stored form. The error is out of memory.
     pub(crate) fn new(
         alloc: Global,
         to: Items<Iri>,
@@ -34,7 +35,7 @@ impl Lists {
         Ok(Lists { to, cc, audience })
     }
 
-    /// Lets the IRIs that come again and again share the texts of equal ones.
+    /// Makes frequently repeated IRIs share the text of equal ones.
     pub(crate) fn share(&mut self, pool: &mut Pool)
         ensures { self.new ≡ self.old }
     {
@@ -44,7 +45,7 @@ impl Lists {
     }
 }
 
-/// What most objects of an author have alike. Equal ones are kept once.
+/// What most objects of an author have in common. Equal values are stored once.
 #[derive(Drop)]
 pub(crate) struct Common {
     pub(crate) attributed_to: Option<Iri>,
@@ -52,7 +53,7 @@ pub(crate) struct Common {
 }
 
 impl Common {
-    /// What the object has, made ready to be kept. The error is out of memory.
+    /// Converts the object's common properties to their stored form. The error is out of memory.
     pub(crate) fn new(
         alloc: Global,
         attributed_to: Option<Iri>,
@@ -74,7 +75,7 @@ impl Common {
         Ok(common)
     }
 
-    /// Lets the IRIs that come again and again share the texts of equal ones.
+    /// Makes frequently repeated IRIs share the text of equal ones.
     pub(crate) fn share(&mut self, pool: &mut Pool)
         ensures { self.new ≡ self.old }
     {
@@ -82,7 +83,7 @@ impl Common {
         self.lists.share(pool);
     }
 
-    /// Whether another is equal to it.
+    /// Whether the other value is equal to this one.
     pub(crate) fn is_same(&self, other: &Common) -> bool
         ensures { result ≡ true → self.now ≡ other.now }
     {

@@ -1,4 +1,4 @@
-//! What few objects have, as it is kept.
+//! The properties that few objects have, in their stored form.
 
 ghost use Rattle.std.specs.Prelude.{◌≡◌, true, IfOk, [], option_copied};
 ghost use Rattle.fedi_town.specs.Objects as objects;
@@ -10,7 +10,8 @@ use fedi_objects::{Edit, Tag, set};
 use fedi_text::Text;
 use std::alloc::{AllocError, Global};
 
-// What few objects have when they are made. An Update or a Delete may give it to any.
+// The properties that few objects have when they are created. An Update or a Delete may add them to
+// any object.
 #[derive(Drop)]
 pub(crate) struct Extras {
     pub(crate) in_reply_to: Option<Iri>,
@@ -23,8 +24,8 @@ pub(crate) struct Extras {
     pub(crate) tags: Items<Tag>,
 }
 
-/// Memory for what an Update or a Delete gives to an object that has nothing of the kind yet, so
-/// that neither takes any.
+/// Memory for what an Update or a Delete adds to an object without extras, so that neither
+/// allocates.
 #[derive(Drop)]
 pub struct Spare {
     extras: Box<Extras>,
@@ -37,7 +38,7 @@ impl Spare {
         Ok(Spare { extras })
     }
 
-    // Nothing yet, in this memory.
+    // Empty extras in this memory.
     fn take(self) -> Box<Extras>
         ensures { result.value ≡ no_extras }
     {
@@ -49,7 +50,7 @@ impl Spare {
 }
 
 impl Extras {
-    // Nothing. It takes no memory.
+    // Empty extras. This allocates nothing.
     fn none(alloc: Global) -> Extras
         ensures { result ≡ no_extras }
     {
@@ -78,7 +79,7 @@ impl Extras {
             && is_empty(&self.tags)
     }
 
-    /// Lets go of all that an Update may set.
+    /// Clears everything that an Update may set.
     pub(crate) fn empty(&mut self)
         ensures { self.new ≡ emptied_extras self.old }
     {
@@ -90,7 +91,7 @@ impl Extras {
         set(&mut self.tags, none);
     }
 
-    /// The extras in a box of their own, if there are any. The error is out of memory.
+    /// The extras in a box of their own, or `None` if there are none. The error is out of memory.
     pub(crate) fn boxed(self, alloc: Global) -> Result<Option<Box<Extras>>, AllocError>
         ensures { IfOk result (λ kept. extras_in kept ≡ self) }
     {
@@ -108,7 +109,7 @@ fn is_empty(tags: &Items<Tag>) -> bool
     tags.as_slice().is_empty()
 }
 
-/// A property after a client's Update.
+/// Applies a client's Update to a property.
 pub(crate) fn edit<T: Drop>(property: &mut Option<T>, by: Edit<T>)
     ensures { property.new ≡ objects.edit by property.old }
 {
@@ -119,7 +120,7 @@ pub(crate) fn edit<T: Drop>(property: &mut Option<T>, by: Edit<T>)
     }
 }
 
-/// A list after a client's Update.
+/// Applies a client's Update to a list.
 pub(crate) fn edit_list<T: Drop>(list: &mut Items<T>, by: Edit<Items<T>>)
     ensures { list.new ≡ objects.edit_list by list.old }
 {
@@ -130,7 +131,7 @@ pub(crate) fn edit_list<T: Drop>(list: &mut Items<T>, by: Edit<Items<T>>)
     }
 }
 
-/// The extras, to be changed: those of the object, or in the spare memory none.
+/// The extras to change: those of the object, or empty ones in the spare memory.
 pub(crate) fn extras_or(extras: Option<Box<Extras>>, spare: Spare) -> Box<Extras>
     ensures { result.value ≡ extras_in extras }
 {
@@ -143,7 +144,7 @@ pub(crate) fn extras_or(extras: Option<Box<Extras>>, spare: Spare) -> Box<Extras
     }
 }
 
-/// Lets go of all that an Update may set.
+/// Clears everything that an Update may set.
 pub(crate) fn empty_extras(extras: &mut Option<Box<Extras>>)
     ensures { extras_in extras.new ≡ emptied_extras (extras_in extras.old) }
 {
@@ -152,7 +153,7 @@ pub(crate) fn empty_extras(extras: &mut Option<Box<Extras>>)
     }
 }
 
-/// Lets the IRIs that come again and again share the texts of equal ones.
+/// Makes frequently repeated IRIs share the text of equal ones.
 pub(crate) fn share_extras(extras: &mut Option<Box<Extras>>, pool: &mut Pool)
     ensures { extras_in extras.new ≡ extras_in extras.old }
 {
@@ -161,7 +162,7 @@ pub(crate) fn share_extras(extras: &mut Option<Box<Extras>>, pool: &mut Pool)
     }
 }
 
-/// The `formerType` of what is left of a deleted object.
+/// The `formerType` of the Tombstone of a deleted object.
 pub(crate) fn former_kind(extras: &Option<Box<Extras>>) -> Option<&Text>
     ensures { option_copied result ≡ (extras_in extras.now).former_kind }
 {
@@ -191,7 +192,7 @@ pub(crate) fn in_reply_to(extras: &Option<Box<Extras>>) -> Option<&Iri>
     }
 }
 
-/// Whom the object mentions.
+/// The actors that the object mentions.
 pub(crate) fn tags(extras: &Option<Box<Extras>>) -> &[Tag]
     ensures { result.now ≡ (extras_in extras.now).tags }
 {

@@ -9,7 +9,7 @@ use std::marker::Model;
 use std::slice;
 use std::sync::Arc;
 
-// Where the IRIs lie. Most lists have none or one.
+// The storage of the IRIs. Most lists have none or one.
 #[derive(Drop)]
 enum Held {
     Nothing,
@@ -17,8 +17,8 @@ enum Held {
     Many(Arc<Vec<Iri>>),
 }
 
-/// A list of IRIs that does not change. One IRI lies in place, and several lie once for all owners
-/// of the list.
+/// An immutable list of IRIs. A single IRI is stored in place, and several are stored once and
+/// shared by all owners of the list.
 #[derive(Drop)]
 pub struct Iris {
     held: Held,
@@ -40,7 +40,7 @@ fn differ(left: &Iri, right: &Iri) -> bool
     left.text() != right.text()
 }
 
-/// Whether two lists have the same IRIs in the same order.
+/// Whether two lists contain the same IRIs in the same order.
 #[tactic(auto, using(std::proofs::lemmas::List::take_more_same))]
 pub(crate) fn are_same(left: &[Iri], right: &[Iri]) -> bool
     ensures { result ≡ true → left.now ≡ right.now }
@@ -56,7 +56,7 @@ pub(crate) fn are_same(left: &[Iri], right: &[Iri]) -> bool
     true
 }
 
-/// The same list, without the spare capacity that reading leaves.
+/// The same list without the spare capacity left over from parsing.
 pub(crate) fn shrunk<T: Drop>(list: Items<T>) -> Items<T>
     ensures { result ≡ list }
 {
@@ -92,7 +92,7 @@ fn longer(alloc: Global, iris: &[Iri], last: &Iri) -> Result<Items<Iri>, AllocEr
 }
 
 impl Iris {
-    /// These IRIs, and one more at the end. The error is out of memory.
+    /// These IRIs and one more at the end. The error is out of memory.
     pub fn with_one(alloc: Global, iris: &[Iri], last: &Iri) -> Result<Iris, AllocError>
         ensures { IfOk result (λ list. list ≡ iris.now ++ last.now ∷ []) }
     {
@@ -123,8 +123,8 @@ impl Iris {
         }
     }
 
-    /// Lets a single IRI share the text of an equal one, and several the memory of an equal list.
-    /// Nothing of it can be seen, and it takes no memory.
+    /// Makes a single IRI share the text of an equal one, and several share the memory of an equal
+    /// list. The effect cannot be observed, and nothing is allocated.
     pub fn share(&mut self, pool: &mut Pool)
         ensures { self.new ≡ self.old }
     {

@@ -1,4 +1,4 @@
-//! One accepted activity, as it is kept.
+//! One accepted activity in its stored form.
 
 ghost use Rattle.std.specs.Prelude.{◌≡◌, IfOk, option_copied, option_map};
 ghost use Rattle.fedi_town.specs.Showing.{shown_object};
@@ -22,16 +22,16 @@ use std::alloc::{AllocError, Global};
 use std::marker::Model;
 use std::snapshot::Snapshot;
 
-/// An accepted activity. A contract sees it as the whole activity of the definitions, of which what
-/// no reader is told, as `bto` and `bcc`, is not held, and what an activity and its object have
-/// alike is held once.
+/// An accepted activity. A contract sees it as the whole activity of the definitions. What is never
+/// shown to a reader, such as `bto` and `bcc`, is not stored, and what an activity and its object
+/// have in common is stored once.
 #[derive(Drop)]
 pub struct Kept {
     author: Iri,
     id: Option<Iri>,
     about: About,
-    // It has no parts of its own if it names whom its object names, was published when its object
-    // was, and has nothing that is rare.
+    // The activity has no parts of its own if it has the same addressees and the same `published`
+    // as its object, and no rare properties.
     beside: Beside,
     recipients: Iris,
     moment: Moment,
@@ -43,7 +43,7 @@ pub struct Kept {
     hidden: Hidden,
 }
 
-// For each activity there is one.
+// There is one for each activity.
 const _: () = prove!(size_of::<Kept>() == 88);
 
 impl Model for Kept {
@@ -57,7 +57,7 @@ impl Model for Kept {
 }
 
 impl Kept {
-    /// The activity, made ready to be kept. The error is out of memory.
+    /// Converts the activity to its stored form. The error is out of memory.
     pub fn new(alloc: Global, act: Act) -> Result<Kept, AllocError>
         ensures { IfOk result (λ kept. kept ≡ act) }
     {
@@ -99,70 +99,72 @@ impl Kept {
         })
     }
 
-    /// The id of its author.
+    /// The id of the activity's author.
     pub fn author(&self) -> &Iri
         ensures { result.now ≡ self.now.author }
     {
         &self.author
     }
 
-    /// Its id.
+    /// The activity's id.
     pub fn id(&self) -> Option<&Iri>
         ensures { option_copied result ≡ self.now.activity.id }
     {
         self.id.as_ref()
     }
 
-    /// Its type.
+    /// The activity's type.
     pub fn kind(&self) -> Kind
         ensures { result ≡ self.now.activity.kind }
     {
         self.kind
     }
 
-    /// What it does.
+    /// The kind of effect that the activity has.
     pub fn deed(&self) -> Deed
         ensures { result ≡ deed_of self.now.activity.kind }
     {
         Deed::of(self.kind)
     }
 
-    /// What has become of it.
+    /// The activity's state.
     pub fn state(&self) -> State
         ensures { result ≡ self.now.state }
     {
         self.state
     }
 
-    /// When it was accepted.
+    /// When the activity was accepted.
     pub fn moment(&self) -> Moment
         ensures { result ≡ self.now.moment }
     {
         self.moment
     }
 
-    /// Whether everybody may see it (ActivityPub, section 5.6).
+    /// Whether everybody may see the activity (ActivityPub, section 5.6).
     pub fn is_public(&self) -> bool
         ensures { result ≡ self.now.is_public }
     {
         self.is_public
     }
 
-    /// Whether it is addressed to its author's followers collection (ActivityPub, section 5.3).
+    /// Whether the activity is addressed to its author's followers collection (ActivityPub, section
+    /// 5.3).
     pub fn is_for_followers(&self) -> bool
         ensures { result ≡ self.now.for_followers }
     {
         self.for_followers
     }
 
-    /// To whom it goes (ActivityPub, section 7.1).
+    /// The recipients of the activity (ActivityPub, section 7.1).
     pub fn recipients(&self) -> &[Iri]
         ensures { result.now ≡ self.now.recipients }
     {
         self.recipients.as_slice()
     }
 
-    /// To whom an activity from elsewhere is forwarded (ActivityPub, section 7.1.2).
+    /// The recipients to which an activity from elsewhere is forwarded (ActivityPub, section
+    /// 7.1.2).
     pub fn forwards(&self) -> &[Iri]
         ensures { result.now ≡ self.now.forwards }
     {
@@ -172,43 +174,44 @@ impl Kept {
         }
     }
 
-    /// The key under which a repeat is known, and the digest of the posted body.
+    /// The key by which a repeated post is recognized, and the digest of the posted body.
     pub fn repeat(&self) -> Option<&(RepeatKey, [u8; 32])>
         ensures { option_copied result ≡ self.now.repeat }
     {
         self.beside.repeat()
     }
 
-    /// The id of what it is about.
+    /// The id of what the activity is about.
     pub fn object_id(&self) -> Option<&Iri>
         ensures { option_copied result ≡ ref_id self.now.activity.object }
     {
         self.about.id()
     }
 
-    /// The object that it carries, as it is shown: without `bto` and `bcc`, and a Tombstone by its
-    /// `id`, `type`, `formerType` and `deleted` alone (ActivityPub, sections 6 and 6.4).
+    /// The object that the activity carries, as it is shown: without `bto` and `bcc`, and a
+    /// Tombstone with only its `id`, `type`, `formerType` and `deleted` (ActivityPub, sections 6
+    /// and 6.4).
     pub fn object(&self) -> Option<StrippedObject<'_>>
         ensures { result ≡ option_map shown_object (whole_of self.now.activity.object) }
     {
         self.about.object()
     }
 
-    /// What the object that it carries replies to, also if it is a Tombstone.
+    /// What the carried object replies to, even if the object is a Tombstone.
     pub fn object_reply(&self) -> Option<&Iri>
         ensures { option_copied result ≡ reply_in (whole_of self.now.activity.object) }
     {
         self.about.reply()
     }
 
-    /// Whom the object that it carries mentions, also if it is a Tombstone.
+    /// The actors that the carried object mentions, even if the object is a Tombstone.
     pub fn object_tags(&self) -> &[Tag]
         ensures { result.now ≡ tags_in (whole_of self.now.activity.object) }
     {
         self.about.tags()
     }
 
-    /// What it is about beside the object: another object or actor.
+    /// What the activity is about in addition to its object: another object or actor.
     pub fn target(&self) -> Option<&Iri>
         ensures { option_copied result ≡ self.now.activity.target }
     {
@@ -218,7 +221,7 @@ impl Kept {
         }
     }
 
-    /// Whom `to` names.
+    /// The IRIs in `to`.
     pub fn to(&self) -> &[Iri]
         ensures { result.now ≡ self.now.activity.recipients.to }
     {
@@ -229,7 +232,7 @@ impl Kept {
         }
     }
 
-    /// Whom `cc` names.
+    /// The IRIs in `cc`.
     pub fn cc(&self) -> &[Iri]
         ensures { result.now ≡ self.now.activity.recipients.cc }
     {
@@ -240,7 +243,7 @@ impl Kept {
         }
     }
 
-    /// Whom `audience` names.
+    /// The IRIs in `audience`.
     pub fn audience(&self) -> &[Iri]
         ensures { result.now ≡ self.now.activity.recipients.audience }
     {
@@ -251,7 +254,7 @@ impl Kept {
         }
     }
 
-    /// What it replies to.
+    /// What the activity replies to.
     pub fn in_reply_to(&self) -> Option<&Iri>
         ensures { option_copied result ≡ self.now.activity.in_reply_to }
     {
@@ -261,7 +264,7 @@ impl Kept {
         }
     }
 
-    /// What it says.
+    /// The activity's content.
     pub fn content(&self) -> Option<&Text>
         ensures { option_copied result ≡ self.now.activity.content }
     {
@@ -271,7 +274,7 @@ impl Kept {
         }
     }
 
-    /// Its summary.
+    /// The activity's summary.
     pub fn summary(&self) -> Option<&Text>
         ensures { option_copied result ≡ self.now.activity.summary }
     {
@@ -281,7 +284,7 @@ impl Kept {
         }
     }
 
-    /// Its name.
+    /// The activity's name.
     pub fn name(&self) -> Option<&Text>
         ensures { option_copied result ≡ self.now.activity.name }
     {
@@ -291,7 +294,7 @@ impl Kept {
         }
     }
 
-    /// When it was published.
+    /// When the activity was published.
     pub fn published(&self) -> Option<&Text>
         ensures { option_copied result ≡ self.now.activity.published }
     {
@@ -302,7 +305,7 @@ impl Kept {
         }
     }
 
-    /// Whom it mentions.
+    /// The actors that the activity mentions.
     pub fn tags(&self) -> &[Tag]
         ensures { result.now ≡ self.now.activity.tags }
     {
@@ -312,21 +315,22 @@ impl Kept {
         }
     }
 
-    /// Gives it another state.
+    /// Sets the activity's state.
     pub fn set_state(&mut self, state: State)
         ensures { self.new ≡ record self.old { state = state } }
     {
         self.state = state;
     }
 
-    /// Gives it other recipients.
+    /// Sets the activity's recipients.
     pub fn set_recipients(&mut self, recipients: Iris)
         ensures { self.new ≡ record self.old { recipients = recipients } }
     {
         self.recipients = recipients;
     }
 
-    /// Whether it made an object that was deleted since (ActivityPub, section 6.4).
+    /// Whether the activity created an object that has since been deleted (ActivityPub, section
+    /// 6.4).
     #[tactic(auto, unfolding(fedi_town::specs::Objects::is_deleted))]
     pub fn is_deleted(&self) -> bool
         ensures { result ≡ is_deleted self.now }
@@ -337,8 +341,9 @@ impl Kept {
         }
     }
 
-    /// Changes the object that it carries by what an Update carries, which was accepted at the
-    /// moment `stamp` (ActivityPub, sections 6.3 and 7.3). It takes no memory but what is spare.
+    /// Applies what an Update carries to the object that the activity carries. The Update was
+    /// accepted at the moment `stamp` (ActivityPub, sections 6.3 and 7.3). This uses no memory
+    /// except `spare`.
     #[tactic(auto, unfolding(fedi_town::specs::Objects::rewrite_act))]
     pub fn update_object(&mut self, by: ObjectRef, stamp: Text, spare: Spare)
         ensures { self.new ≡ rewrite_act (update_object by stamp) self.old }
@@ -346,9 +351,9 @@ impl Kept {
         self.about.update(by, stamp, spare);
     }
 
-    /// Leaves a Tombstone of the object that it carries: `kind` is the type of a Tombstone, and
-    /// `stamp` the moment of the Delete (ActivityPub, sections 6.4 and 7.4). It takes no memory but
-    /// what is spare.
+    /// Replaces the object that the activity carries by a Tombstone: `kind` is the type of a
+    /// Tombstone, and `stamp` the moment of the Delete (ActivityPub, sections 6.4 and 7.4). This
+    /// uses no memory except `spare`.
     #[tactic(auto, unfolding(fedi_town::specs::Objects::rewrite_act))]
     pub fn make_tombstone(&mut self, kind: Text, stamp: Text, spare: Spare)
         ensures { self.new ≡ rewrite_act (tombstone_of kind stamp) self.old }
@@ -356,8 +361,8 @@ impl Kept {
         self.about.make_tombstone(kind, stamp, spare);
     }
 
-    /// Lets the IRIs that come again and again, as the author's, share the texts of equal ones.
-    /// Nothing of it can be seen, and it takes no memory.
+    /// Makes frequently repeated IRIs, such as the author's, share the text of equal ones. The
+    /// effect cannot be observed, and nothing is allocated.
     pub fn share(&mut self, pool: &mut Pool)
         ensures { self.new ≡ self.old }
     {

@@ -1,6 +1,6 @@
-//! The accepted activities, with what is looked up among them, and what is asked of one of them.
-//! Each is kept once, in a form of its own that contracts see as the whole activity of the
-//! definitions.
+//! The accepted activities, the indexes used to look them up, and the questions asked about a
+//! single activity. Each activity is stored once, in a form of its own that contracts see as the
+//! whole activity of the definitions.
 #![tactic(auto)]
 
 mod about;

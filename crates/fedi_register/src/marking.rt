@@ -1,4 +1,4 @@
-//! Which activities are looked up by what, and the numbers by which they are.
+//! Which activities are looked up by which property, and the marks used for this.
 
 ghost use Rattle.std.specs.Prelude.{◌≡◌, option_copied, option_map};
 ghost use Rattle.fedi_register.specs.Registers.{asks_to_follow, has_own_id, is_keyed, is_making};

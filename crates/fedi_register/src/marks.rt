@@ -1,6 +1,6 @@
-//! Marks of the items of a list, by which they are looked up: a mark is a number for what is looked
-//! up of an item. Marks are kept in chains, about as many as there are marks, so that a look-up
-//! goes only through the few marks that are like the one it looks for.
+//! Marks of the items of a list, used to look them up: a mark is a number for the looked-up
+//! property of an item. Marks are kept in chains, about as many as there are marks, so that a
+//! look-up visits only the few marks in the same chain as the one it is looking for.
 
 ghost use Rattle.std.specs.Prelude.{◌≡◌, ℕ, Bool, ◌∷◌, [], ◌+◌, ◌-◌, ◌^◌, ◌<◌, ◌≤◌, ◌++◌, OnErr};
 ghost use Rattle.std.specs.Prelude.{OnOk, IfOk, is_some, length, option_copied, set, slice_index};
@@ -13,15 +13,15 @@ ghost use Rattle.fedi_register.specs.Marks.{Decides, first_place, item_at, passe
 use std::alloc::{AllocError, Global};
 use std::marker::Model;
 
-// How many chains there are at first.
+// The initial number of chains.
 const FEWEST_CHAINS: usize = 16;
 
-/// A list of more items than this gets no room for one more, so that the place of each fits a
+/// A list with more items than this gets no room for another one, so that every position fits a
 /// `u32`.
 pub const MOST_ITEMS: usize = 4_294_967_290;
 
-// A mark with its place, and one more than the number of the newest step before it in its chain, or
-// 0 where it is the chain's first.
+// A mark with its position, and one more than the number of the newest step before it in its chain,
+// or 0 if it is the first of the chain.
 #[derive(Drop)]
 struct Step {
     mark: u32,
@@ -29,14 +29,14 @@ struct Step {
     before: u32,
 }
 
-/// Marks of the items of a list, each with the item's place, in order.
+/// Marks of the items of a list, each with the item's position, in order.
 #[derive(Drop)]
 pub struct Marks {
     steps: Vec<Step>,
-    // One more than the number of each chain's newest step, or 0 where the chain has none. There
-    // are no heads before room is made, so that an empty list takes no memory.
+    // One more than the number of each chain's newest step, or 0 if the chain has none. There are
+    // no heads before room is made, so an empty list takes no memory.
     heads: Vec<u32>,
-    // How many more marks there is room for.
+    // The number of further marks that there is room for.
     room: usize,
 }
 
@@ -70,7 +70,7 @@ fn head_of(heads: &[u32], chain: usize) -> u32
     }
 }
 
-// One more than the number of the newest step of the mark's chain, or 0 where there is none.
+// One more than the number of the newest step of the mark's chain, or 0 if there is none.
 fn newest_of(heads: &[u32], mark: u32) -> u32
     ensures { result ≡ slice_index heads.now (chain_of (length heads.now) mark) }
 {
@@ -88,7 +88,7 @@ fn set_head(heads: &mut Vec<u32>, chain: usize, number: usize)
     heads[chain] = number as u32;
 }
 
-// Puts the step at this place into its chain, after those before it.
+// Links the step at this position into its chain, after the earlier steps.
 fn link(steps: &mut [Step], heads: &mut [u32], place: usize)
     requires there { place < length steps.old }
     requires few { length steps.old < 2 ^ 32 }
@@ -105,7 +105,7 @@ fn link(steps: &mut [Step], heads: &mut [u32], place: usize)
     heads[chain] = (place + 1) as u32;
 }
 
-// Puts each step into its chain, where all chains are empty.
+// Links each step into its chain. All chains are empty.
 fn link_all(steps: &mut [Step], heads: &mut [u32])
     requires few { length steps.old < 2 ^ 32 }
     requires chains { 0 < length heads.old }
@@ -121,7 +121,7 @@ fn link_all(steps: &mut [Step], heads: &mut [u32])
     }
 }
 
-// Empties the chains, and puts each step into its chain anew.
+// Empties the chains and links each step into its chain again.
 fn link_anew(steps: &mut Vec<Step>, heads: &mut Vec<u32>)
     requires few { length steps.old.items < 2 ^ 32 }
     requires chains { 0 < length heads.old.items }
@@ -138,8 +138,8 @@ fn link_anew(steps: &mut Vec<Step>, heads: &mut Vec<u32>)
     link_all(steps.as_mut_slice(), heads.as_mut_slice());
 }
 
-// Makes twice as many chains, at least the fewest, and puts each step into its chain anew. The
-// error is out of memory, and then all is as before.
+// Doubles the number of chains, to at least `FEWEST_CHAINS`, and links each step into its chain
+// again. The error is out of memory, and then nothing has changed.
 fn add_chains(steps: &mut Vec<Step>, heads: &mut Vec<u32>) -> Result<(), AllocError>
     requires few { length steps.old.items < 2 ^ 32 }
     ensures marks { marks_of steps.new.items ≡ marks_of steps.old.items }
@@ -174,8 +174,8 @@ fn step_before(steps: &[Step], number: u32) -> Option<&Step>
     steps.get(number as usize - 1)
 }
 
-// The place of the first of this mark that passes. A chain goes from its newest step to its first,
-// so the last that is found along it is the one.
+// The first position with this mark that passes. A chain runs from its newest step to its first, so
+// the last match found along it is the result.
 fn first_in_chain<F: Fn(usize) -> bool>(
     steps: &[Step],
     chains: usize,
@@ -201,7 +201,8 @@ fn first_in_chain<F: Fn(usize) -> bool>(
     found
 }
 
-// Whether a place of this mark passes. The walk along the chain ends at the first that does.
+// Whether a position with this mark passes. The walk along the chain ends at the first one that
+// does.
 fn any_in_chain<F: Fn(usize) -> bool>(
     steps: &[Step],
     chains: usize,
@@ -226,7 +227,7 @@ fn any_in_chain<F: Fn(usize) -> bool>(
     false
 }
 
-// The places of this mark, in order. The error is out of memory.
+// The positions with this mark, in order. The error is out of memory.
 fn places_in_chain(
     alloc: Global,
     steps: &[Step],
@@ -251,7 +252,7 @@ fn places_in_chain(
     Ok(places)
 }
 
-// Whether there is an item at the place, and it passes.
+// Whether there is an item at the position and it passes.
 #[tactic(auto, unfolding(crate::specs::Marks::passes_at))]
 fn passes_at<T, F: Fn(&T) -> bool>(items: &[T], place: usize, passes: &F) -> bool
     requires { F.IsAlwaysCallable passes.now }
@@ -265,7 +266,7 @@ fn passes_at<T, F: Fn(&T) -> bool>(items: &[T], place: usize, passes: &F) -> boo
 }
 
 impl Marks {
-    /// No marks, and no room.
+    /// No marks and no room.
     pub fn empty(alloc: Global) -> Marks
         ensures { result ≡ record { marks = []; room = 0 } }
     {
@@ -276,7 +277,7 @@ impl Marks {
         }
     }
 
-    /// Makes room for two more marks. The error is out of memory, as it is for more than
+    /// Makes room for two more marks. The error is out of memory, also if there are more than
     /// [`MOST_ITEMS`] marks.
     pub fn reserve(&mut self) -> Result<(), AllocError>
         ensures marks { self.new.marks ≡ self.old.marks }
@@ -294,7 +295,7 @@ impl Marks {
         Ok(())
     }
 
-    /// Appends a mark, where there is room for it. It takes no memory.
+    /// Appends a mark, for which there is room. This allocates nothing.
     pub fn push(&mut self, mark: u32, place: u32)
         requires { 1 ≤ self.old.room }
         ensures { self.new ≡ record {
@@ -313,7 +314,7 @@ impl Marks {
         self.room -= 1;
     }
 
-    // The first place of this mark that passes.
+    // The first position with this mark that passes.
     fn find<F: Fn(usize) -> bool>(&self, mark: u32, passes: F) -> Option<usize>
         requires { F.IsAlwaysCallable passes }
         ensures { (q : ℕ → Bool) → Decides (F.post passes) q
@@ -323,7 +324,7 @@ impl Marks {
         first_in_chain(&self.steps, self.heads.len(), head, mark, passes)
     }
 
-    // Whether a place of this mark passes.
+    // Whether a position with this mark passes.
     fn any<F: Fn(usize) -> bool>(&self, mark: u32, passes: F) -> bool
         requires { F.IsAlwaysCallable passes }
         ensures { (q : ℕ → Bool) → Decides (F.post passes) q
@@ -333,7 +334,7 @@ impl Marks {
         any_in_chain(&self.steps, self.heads.len(), head, mark, passes)
     }
 
-    /// The places of this mark, in order. The error is out of memory.
+    /// The positions with this mark, in order. The error is out of memory.
     pub fn places_of(&self, alloc: Global, mark: u32) -> Result<Vec<usize>, AllocError>
         ensures { IfOk result (λ places. places.items ≡ places_of mark self.now.marks) }
     {
@@ -341,8 +342,8 @@ impl Marks {
         places_in_chain(alloc, &self.steps, self.heads.len(), head, mark)
     }
 
-    /// Whether one of these items has this mark and passes the test. The items may end before those
-    /// that are marked.
+    /// Whether one of these items has this mark and passes the test. The slice may be shorter than
+    /// the list that was marked.
     pub fn any_of<T, F: Fn(&T) -> bool>(&self, items: &[T], mark: u32, passes: F) -> bool
         requires { F.IsAlwaysCallable passes }
         ensures { (p : T → Bool) → Decides (FnReturnsAt F.Fn passes) p
@@ -351,7 +352,7 @@ impl Marks {
         self.any(mark, |place| passes_at(items, place, &passes))
     }
 
-    /// The place of the first of these items that has this mark and passes the test.
+    /// The position of the first of these items that has this mark and passes the test.
     pub fn position_of<T, F: Fn(&T) -> bool>(
         &self,
         items: &[T],

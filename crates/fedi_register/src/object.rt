@@ -1,4 +1,4 @@
-//! The object that an activity carries, as it is kept.
+//! The object that an activity carries, in its stored form.
 
 ghost use Rattle.std.specs.Prelude.{◌≡◌, IfOk};
 ghost use Rattle.fedi_objects.specs.Forms.{is_tombstone};
@@ -21,16 +21,16 @@ use std::mem;
 use std::snapshot::Snapshot;
 use std::sync::Arc;
 
-// Who is hidden from all but the author (ActivityPub, section 6). A contract sees them, and none is
-// held.
+// The recipients hidden from everybody but the author (ActivityPub, section 6). A contract sees
+// them, but they are not stored.
 #[derive(Drop)]
 pub(crate) struct Hidden {
     pub(crate) bto: Snapshot<Items<Iri>>,
     pub(crate) bcc: Snapshot<Items<Iri>>,
 }
 
-// An object. What an Update or a Delete gives to it lies in its extras, or in place, so that
-// neither takes memory if some is spare for the extras.
+// An object. What an Update or a Delete adds to it is stored in its extras or in place, so neither
+// allocates if there is spare memory for the extras.
 #[derive(Drop)]
 pub(crate) struct KeptObject {
     pub(crate) id: Option<Iri>,
@@ -42,10 +42,10 @@ pub(crate) struct KeptObject {
     pub(crate) hidden: Hidden,
 }
 
-// For each post there is one.
+// There is one for each post.
 const _: () = prove!(size_of::<KeptObject>() == 128);
 
-/// Whom `bto` and `bcc` name, for contracts alone.
+/// The IRIs in `bto` and `bcc`, for contracts only.
 pub(crate) fn hidden_of(recipients: &Recipients) -> Hidden
     ensures bto { result.bto.value ≡ recipients.now.bto }
     ensures bcc { result.bcc.value ≡ recipients.now.bcc }
@@ -79,7 +79,7 @@ fn common_and_extras(
 }
 
 impl KeptObject {
-    /// The object, made ready to be kept. The error is out of memory.
+    /// Converts the object to its stored form. The error is out of memory.
     pub(crate) fn new(alloc: Global, object: Object) -> Result<KeptObject, AllocError>
         ensures { IfOk result (λ kept. whole kept ≡ object) }
     {
@@ -111,7 +111,7 @@ impl KeptObject {
         })
     }
 
-    /// Whether it is what is left of a deleted object.
+    /// Whether it is the Tombstone of a deleted object.
     pub(crate) fn is_tombstone(&self) -> bool
         ensures { result ≡ is_tombstone (whole self.now) }
     {
@@ -142,7 +142,7 @@ impl KeptObject {
         })
     }
 
-    // The object without its `bto` and `bcc`, if it has no extras.
+    // The object without its `bto` and `bcc`. It has no extras.
     fn strip_plain(&self) -> StrippedObject<'_>
         requires { extras_in self.now.extras ≡ no_extras }
         ensures { result ≡ stripped_object (whole self.now) }
@@ -202,8 +202,8 @@ impl KeptObject {
         }
     }
 
-    /// The object as it is shown: a Tombstone by its four members alone, any other without its
-    /// `bto` and `bcc` (ActivityPub, section 6).
+    /// The object as it is shown: a Tombstone with only its four members, any other object without
+    /// its `bto` and `bcc` (ActivityPub, section 6).
     pub(crate) fn show(&self) -> StrippedObject<'_>
         ensures { result ≡ shown_object (whole self.now) }
     {
@@ -214,7 +214,7 @@ impl KeptObject {
         }
     }
 
-    // The object after a client's Update.
+    // Applies a client's Update to the object.
     #[tactic(auto, unfolding(fedi_town::specs::Objects::change_object))]
     fn change(&mut self, by: Change, stamp: Text, spare: Spare)
         ensures changed { whole self.new ≡ objects.change_object by stamp (whole self.old) }
@@ -231,7 +231,7 @@ impl KeptObject {
         self.extras = Some(extras);
     }
 
-    // The object after a peer's Update, which gives it whole.
+    // Applies a peer's Update, which carries the whole object, to the object.
     #[tactic(auto, unfolding(fedi_town::specs::Objects::replace_object))]
     fn replace(&mut self, by: Object, spare: Spare)
         ensures replaced { whole self.new ≡ objects.replace_object by (whole self.old) }
@@ -248,8 +248,8 @@ impl KeptObject {
         self.extras = Some(extras);
     }
 
-    /// Changes the object by what an Update carries, of a client (ActivityPub, section 6.3) or of a
-    /// peer (section 7.3). It takes no memory but what is spare.
+    /// Applies what an Update by a client (ActivityPub, section 6.3) or by a peer (section 7.3)
+    /// carries to the object. This uses no memory except `spare`.
     pub(crate) fn update(&mut self, by: ObjectRef, stamp: Text, spare: Spare)
         ensures updated { whole self.new ≡ objects.update_object by stamp (whole self.old) }
         ensures named { named_in self.new ≡ named_in self.old }
@@ -261,7 +261,7 @@ impl KeptObject {
         }
     }
 
-    // Lets go of all that an Update may set.
+    // Clears everything that an Update may set.
     fn empty(&mut self)
         ensures emptied { whole self.new ≡ objects.emptied (whole self.old) }
         ensures named { named_in self.new ≡ named_in self.old }
@@ -270,8 +270,8 @@ impl KeptObject {
         empty_extras(&mut self.extras);
     }
 
-    /// Leaves a Tombstone of the object (ActivityPub, section 6.4), and nothing of what it said. It
-    /// takes no memory but what is spare.
+    /// Replaces the object by a Tombstone (ActivityPub, section 6.4), and keeps nothing of its
+    /// content. This uses no memory except `spare`.
     #[tactic(auto, unfolding(fedi_town::specs::Objects::tombstone_of))]
     pub(crate) fn make_tombstone(&mut self, kind: Text, stamp: Text, spare: Spare)
         ensures buried { whole self.new ≡ objects.tombstone_of kind stamp (whole self.old) }
@@ -285,7 +285,7 @@ impl KeptObject {
         self.extras = Some(extras);
     }
 
-    /// Lets the IRIs that come again and again share the texts of equal ones.
+    /// Makes frequently repeated IRIs share the text of equal ones.
     pub(crate) fn share(&mut self, pool: &mut Pool)
         ensures whole { whole self.new ≡ whole self.old }
         ensures named { named_in self.new ≡ named_in self.old }

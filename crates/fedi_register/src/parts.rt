@@ -1,4 +1,4 @@
-//! What an activity has beside its object, as it is kept.
+//! What an activity has in addition to its object, in its stored form.
 
 ghost use Rattle.std.specs.Prelude.{◌≡◌, true, false, IfOk, [], option_copied};
 ghost use Rattle.fedi_register.specs.Parts.{named_part, names_given, no_names, no_rare};
@@ -16,7 +16,7 @@ use fedi_objects::{ObjectRef, RepeatKey, Tag};
 use fedi_text::Text;
 use std::alloc::{AllocError, Global};
 
-// What few activities have.
+// The properties that few activities have.
 #[derive(Drop)]
 pub(crate) struct Rare {
     pub(crate) target: Option<Iri>,
@@ -28,7 +28,7 @@ pub(crate) struct Rare {
     pub(crate) forwards: Items<Iri>,
 }
 
-// What an activity has of its own, where that is not what its object has too.
+// What an activity has of its own, if its object does not have the same.
 #[derive(Drop)]
 pub(crate) struct Parts {
     pub(crate) to: Iris,
@@ -38,10 +38,11 @@ pub(crate) struct Parts {
     pub(crate) rare: Option<Box<Rare>>,
 }
 
-/// The key under which a repeat is known, and the digest of the posted body.
+/// The key by which a repeated post is recognized, and the digest of the posted body.
 pub(crate) type Repeat = (RepeatKey, [u8; 32]);
 
-// What an activity has beside what it is about. Few have both, and one tag serves for the two.
+// What an activity has in addition to what it is about. Few activities have both parts and a key,
+// and a single tag covers the two.
 #[derive(Drop)]
 pub(crate) enum Beside {
     Nothing,
@@ -50,7 +51,7 @@ pub(crate) enum Beside {
     Both(Box<(Box<Parts>, Box<Repeat>)>),
 }
 
-// Whom an activity names, and when it was published.
+// The addressees of an activity, and when it was published.
 #[derive(Drop)]
 pub(crate) struct Named {
     pub(crate) to: Items<Iri>,
@@ -111,8 +112,8 @@ fn names_nobody(named: &Named) -> bool
         && named.published.is_none()
 }
 
-// Whether an activity names whom its object names, and was published when its object was; without
-// an object, whether it names nobody.
+// Whether an activity has the same addressees and the same `published` as its object. Without an
+// object, whether it has neither.
 fn is_named_as_object(named: &Named, about: &About) -> bool
     ensures { result ≡ true → names_given named.now ≡ object_names about.now }
 {
@@ -155,7 +156,7 @@ fn parts_of(
     Ok(Some(parts))
 }
 
-// What an activity has of its own, where that is not what its object has too.
+// What an activity has of its own, if its object does not have the same.
 fn own_of(
     alloc: Global,
     named: Named,
@@ -172,7 +173,8 @@ fn own_of(
     parts_of(alloc, named, rare)
 }
 
-/// What an activity is about, and what it has of its own beside that. The error is out of memory.
+/// What an activity is about, and what it has of its own in addition to that. The error is out of
+/// memory.
 pub(crate) fn content_of(
     alloc: Global,
     object: ObjectRef,
@@ -193,7 +195,7 @@ pub(crate) fn content_of(
     }
 }
 
-/// The parts of its own and the key of an activity. The error is out of memory.
+/// The activity's own parts and its key. The error is out of memory.
 pub(crate) fn beside_of(
     alloc: Global,
     own: Option<Box<Parts>>,
@@ -214,7 +216,7 @@ pub(crate) fn beside_of(
 }
 
 impl Beside {
-    /// The parts of its own.
+    /// The activity's own parts.
     pub(crate) fn parts(&self) -> Option<&Parts>
         ensures { option_copied result ≡ parts_in self.now }
     {
@@ -225,7 +227,7 @@ impl Beside {
         }
     }
 
-    /// What few activities have, where this one has something of it.
+    /// The rare properties, if this activity has any.
     pub(crate) fn rare(&self) -> Option<&Rare>
         ensures { rare_lent (option_copied result) ≡ rare_part (parts_in self.now) }
     {
@@ -238,7 +240,7 @@ impl Beside {
         }
     }
 
-    /// The key, and the digest of the posted body.
+    /// The key and the digest of the posted body.
     pub(crate) fn repeat(&self) -> Option<&Repeat>
         ensures { option_copied result ≡ repeat_in self.now }
     {
@@ -249,7 +251,7 @@ impl Beside {
         }
     }
 
-    /// Lets the IRIs that come again and again share the texts of equal ones.
+    /// Makes frequently repeated IRIs share the text of equal ones.
     pub(crate) fn share(&mut self, pool: &mut Pool)
         ensures parts { parts_in self.new ≡ parts_in self.old }
         ensures repeat { repeat_in self.new ≡ repeat_in self.old }

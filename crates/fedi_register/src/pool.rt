@@ -1,4 +1,4 @@
-//! IRIs and lists of them that come again and again.
+//! IRIs and lists of IRIs that are frequently repeated.
 
 ghost use Rattle.std.specs.Prelude.{◌≡◌, true};
 
@@ -8,27 +8,28 @@ use fedi_address::Iri;
 use std::alloc::{AllocError, Global};
 use std::sync::Arc;
 
-// How many IRIs are known at most.
+// The maximum number of known IRIs.
 const IRIS: usize = 4096;
 
-// How many lists of recipients are known at most.
+// The maximum number of known lists of recipients.
 const LISTS: usize = 256;
 
-// Of how many authors it is known at most what their objects have alike.
+// The maximum number of authors for which the common properties of their objects are known.
 const COMMON: usize = 4096;
 
-/// What was seen lately: IRIs, as those of authors and of their followers collections, lists of
-/// recipients, and what objects of an author have alike, so that equal ones are kept once. It takes
-/// memory when it is made, and none later.
+/// Recently seen values, so that equal ones are stored once: IRIs, such as those of authors and of
+/// their followers collections, lists of recipients, and the common properties of an author's
+/// objects. Memory is allocated when the pool is created, and none later.
 #[derive(Drop)]
 pub struct Pool {
-    // Each IRI has one place, by a hash of its text, and each list one by its length and its ends.
+    // Each IRI has one slot, chosen by a hash of its text, and each list has one, chosen by its
+    // length and its ends.
     known: Vec<Option<Iri>>,
     lists: Vec<Option<Arc<Vec<Iri>>>>,
     common: Vec<Option<Arc<Common>>>,
 }
 
-// So many places, of which each is free.
+// This many slots, all free.
 fn vacant<T: Drop>(alloc: Global, count: usize) -> Result<Vec<Option<T>>, AllocError> {
     let mut places = Vec::new(alloc);
     for _ in 0..count {
@@ -37,7 +38,7 @@ fn vacant<T: Drop>(alloc: Global, count: usize) -> Result<Vec<Option<T>>, AllocE
     Ok(places)
 }
 
-// What is known at a place, from now on.
+// Replaces the value that is known in a slot.
 fn replace_at<T: Drop>(known: &mut [Option<T>], place: usize, value: T) {
     if let Some(known) = known.get_mut(place) {
         *known = Some(value);
@@ -81,8 +82,8 @@ fn is_same(left: &Iri, right: &Iri) -> bool
     left.text() == right.text()
 }
 
-// Lets an IRI share the text of a known one that is equal to it. It stays as it is if that has too
-// many owners.
+// Makes an IRI share the text of a known one that is equal to it. It is left as it is if the text
+// has too many owners.
 fn share_text(iri: &mut Iri, known: &Iri) -> bool
     ensures { iri.new ≡ iri.old }
 {
@@ -95,7 +96,7 @@ fn share_text(iri: &mut Iri, known: &Iri) -> bool
     true
 }
 
-// The same, if one is known.
+// The same, if a value is known.
 fn is_shared(iri: &mut Iri, known: &Option<Iri>) -> bool
     ensures { iri.new ≡ iri.old }
 {
@@ -105,7 +106,7 @@ fn is_shared(iri: &mut Iri, known: &Option<Iri>) -> bool
     }
 }
 
-// Lets a list be a known one that is equal to it, likewise.
+// Replaces a list by an equal known one in the same way.
 fn share_list(list: &mut Arc<Vec<Iri>>, known: &Arc<Vec<Iri>>) -> bool
     ensures { list.new.value.items ≡ list.old.value.items }
 {
@@ -118,7 +119,7 @@ fn share_list(list: &mut Arc<Vec<Iri>>, known: &Arc<Vec<Iri>>) -> bool
     true
 }
 
-// The same, if one is known.
+// The same, if a value is known.
 fn is_list_shared(list: &mut Arc<Vec<Iri>>, known: &Option<Arc<Vec<Iri>>>) -> bool
     ensures { list.new.value.items ≡ list.old.value.items }
 {
@@ -128,7 +129,7 @@ fn is_list_shared(list: &mut Arc<Vec<Iri>>, known: &Option<Arc<Vec<Iri>>>) -> bo
     }
 }
 
-// Lets what objects have alike be what is known, if that is equal, likewise.
+// Replaces the common properties of objects by equal known ones in the same way.
 fn share_common(common: &mut Arc<Common>, known: &Arc<Common>) -> bool
     ensures { common.new.value ≡ common.old.value }
 {
@@ -141,7 +142,7 @@ fn share_common(common: &mut Arc<Common>, known: &Arc<Common>) -> bool
     true
 }
 
-// The same, if something is known.
+// The same, if a value is known.
 fn is_common_shared(common: &mut Arc<Common>, known: &Option<Arc<Common>>) -> bool
     ensures { common.new.value ≡ common.old.value }
 {
@@ -152,7 +153,7 @@ fn is_common_shared(common: &mut Arc<Common>, known: &Option<Arc<Common>>) -> bo
 }
 
 impl Pool {
-    /// A pool that knows no IRI. The error is out of memory.
+    /// An empty pool. The error is out of memory.
     pub fn new(alloc: Global) -> Result<Pool, AllocError> {
         let known = vacant(alloc, IRIS)?;
         let lists = vacant(alloc, LISTS)?;
@@ -164,7 +165,8 @@ impl Pool {
         })
     }
 
-    /// Lets the IRI share the text of an equal one, if one is known, and else knows it from now on.
+    /// Makes the IRI share the text of an equal one if one is known. Otherwise the IRI is
+    /// remembered.
     pub(crate) fn share(&mut self, iri: &mut Iri)
         ensures { iri.new ≡ iri.old }
     {
@@ -190,7 +192,7 @@ impl Pool {
         }
     }
 
-    /// Lets the list be an equal one, if one is known, and else knows it from now on.
+    /// Replaces the list by an equal one if one is known. Otherwise the list is remembered.
     pub(crate) fn share_list(&mut self, list: &mut Arc<Vec<Iri>>)
         ensures { list.new.value.items ≡ list.old.value.items }
     {
@@ -207,8 +209,8 @@ impl Pool {
         }
     }
 
-    /// Lets what an object has in common with others be what is known, if that is equal. Else it is
-    /// known from now on, and its IRIs share the texts of equal ones.
+    /// Replaces the properties that an object has in common with others by equal known ones. If
+    /// there are none, the properties are remembered, and their IRIs share the text of equal ones.
     pub(crate) fn share_common(&mut self, common: &mut Arc<Common>)
         ensures { common.new.value ≡ common.old.value }
     {

@@ -1,4 +1,4 @@
-//! The accepted activities, with what is looked up among them.
+//! The accepted activities and the indexes used to look them up.
 
 ghost use Rattle.std.specs.Prelude.{◌≡◌, ◌∷◌, Bool, [], ◌+◌, ◌-◌, ◌&&◌, ◌^◌, ◌<◌, ◌≤◌, ◌++◌, IfOk};
 ghost use Rattle.std.specs.Prelude.{IsTrue, OnOk, Some, map, take, vec_len, vec_capacity};
@@ -45,10 +45,10 @@ use std::alloc::{AllocError, Global};
 use std::marker::Model;
 use std::snapshot::Snapshot;
 
-/// The accepted activities in order, with what is looked up for each post, so that it is not sought
-/// among all of them: marks of the keys under which posts were made, of the objects that were made,
-/// of the activities' own ids, of who follows, likes, shares or blocks what, and of whom somebody
-/// follows; and how many activities each author has.
+/// The accepted activities in order, indexed by what is looked up for each post so that no look-up
+/// scans all of them. There are marks of the keys under which posts were made, of the objects that
+/// were created, of the activities' own ids, of who follows, likes, shares or blocks what, and of
+/// who is followed. The number of activities of each author is kept too.
 #[derive(Drop)]
 pub struct Register {
     seed: Seed,
@@ -59,7 +59,7 @@ pub struct Register {
     pairs: Marks,
     followed: Marks,
     authors: Authors,
-    // How many more activities there is room for in each of the lists.
+    // The number of further activities that there is room for in each of the lists.
     room: usize,
 }
 
@@ -73,7 +73,7 @@ impl Model for Register {
     ghost invariant = { IsRegister };
 }
 
-// Appends a mark where the test was passed, to marks that have room for one more.
+// Appends a mark if the test was passed. There is room for one more mark.
 fn mark_if(list: &mut Marks, passes: bool, mark: u32, place: u32)
     requires { 1 ≤ list.old.room }
     ensures marks { list.new.marks ≡ list.old.marks
@@ -94,7 +94,7 @@ fn has_id_where<F: Fn(&Kept) -> bool>(act: &Kept, id: &Iri, passes: &F) -> bool
     has_activity_id(act, id) && passes(act)
 }
 
-// Whether the activity made the object of this id and passes the test.
+// Whether the activity created the object with this id and passes the test.
 fn makes_where<F: Fn(&Kept) -> bool>(act: &Kept, id: &Iri, passes: &F) -> bool
     requires { F.IsAlwaysCallable passes.now }
     ensures { (p : Act → Bool) → Decides (FnReturnsAt F.Fn passes.now) p
@@ -143,7 +143,7 @@ fn add_inbox_in_place(
 }
 
 impl Register {
-    /// No activities. The seed is for the numbers by which they are looked up.
+    /// No activities. The seed is for the marks by which they are looked up.
     pub fn empty(alloc: Global, seed: Seed) -> Register
         ensures { result ≡ record { acts = []; known = []; room = 0 } }
     {
@@ -167,9 +167,9 @@ impl Register {
         self.acts.as_slice()
     }
 
-    /// Whether an activity before this place passes the test: a Follow, a Like, an Announce or a
-    /// Block by the author about this. What has no object counts as about the empty text. The test
-    /// must let nothing else pass.
+    /// Whether an activity before this position passes the test: a Follow, a Like, an Announce or a
+    /// Block by the author about this id. An activity whose object has no id counts as about the
+    /// empty string. The test must let nothing else pass.
     pub fn is_related_before<F: Fn(&Kept) -> bool>(
         &self,
         place: usize,
@@ -187,7 +187,7 @@ impl Register {
             .any_of(earlier, self.seed.mark_of_pair(author, about), passes)
     }
 
-    // Whether one of all activities does.
+    // The same among all activities.
     fn relates<F: Fn(&Kept) -> bool>(&self, author: &Iri, id: &Iri, passes: F) -> bool
         requires { F.IsAlwaysCallable passes }
         ensures { (p : Act → Bool) → Decides (FnReturnsAt F.Fn passes) p
@@ -210,21 +210,21 @@ impl Register {
         self.relates(a, b, |act| is_follow_of(act, a, b))
     }
 
-    /// Whether a likes this: a Like of it by a stands.
+    /// Whether a likes this: a Like of it by a is in effect.
     pub fn likes(&self, a: &Iri, id: &Iri) -> bool
         ensures { result ≡ list_any (is_like_of a.now id.now) self.now.acts }
     {
         self.relates(a, id, |act| is_like_of(act, a, id))
     }
 
-    /// Whether a shares this: an Announce of it by a stands.
+    /// Whether a shares this: an Announce of it by a is in effect.
     pub fn shares(&self, a: &Iri, id: &Iri) -> bool
         ensures { result ≡ list_any (is_announce_of a.now id.now) self.now.acts }
     {
         self.relates(a, id, |act| is_announce_of(act, a, id))
     }
 
-    /// The activity of this id.
+    /// The activity with this id.
     pub fn activity(&self, id: &Iri) -> Option<&Kept>
         ensures { option_copied result ≡ find (has_activity_id id.now) self.now.acts }
     {
@@ -235,14 +235,14 @@ impl Register {
         )
     }
 
-    /// Where the activity of this id is.
+    /// The position of the activity with this id.
     pub fn position_of(&self, id: &Iri) -> Option<usize>
         ensures { result ≡ place_where (has_activity_id id.now) self.now.acts }
     {
         position_of_id(&self.acts, &self.seed, &self.ids, id)
     }
 
-    /// The first activity of this id that passes the test.
+    /// The first activity with this id that passes the test.
     pub fn first_by_id<F: Fn(&Kept) -> bool>(&self, id: &Iri, passes: F) -> Option<&Kept>
         requires { F.IsAlwaysCallable passes }
         ensures { (p : Act → Bool) → Decides (FnReturnsAt F.Fn passes) p
@@ -256,14 +256,14 @@ impl Register {
         )
     }
 
-    /// The activity that made the object of this id.
+    /// The activity that created the object with this id.
     pub fn maker(&self, id: &Iri) -> Option<&Kept>
         ensures { option_copied result ≡ find (makes id.now) self.now.acts }
     {
         self.made.first_of(&self.acts, self.seed.mark_of_iri(id), |act| makes(act, id))
     }
 
-    /// The first activity that made the object of this id and passes the test.
+    /// The first activity that created the object with this id and passes the test.
     pub fn first_maker<F: Fn(&Kept) -> bool>(&self, id: &Iri, passes: F) -> Option<&Kept>
         requires { F.IsAlwaysCallable passes }
         ensures { (p : Act → Bool) → Decides (FnReturnsAt F.Fn passes) p
@@ -276,7 +276,7 @@ impl Register {
         )
     }
 
-    /// What the author posted first under the key.
+    /// The first activity that the author posted under the key.
     pub fn first_under(&self, author: &Iri, key: &RepeatKey) -> Option<&Kept>
         ensures { option_copied result ≡ find (is_repeat author.now key.now) self.now.acts }
     {
@@ -285,15 +285,14 @@ impl Register {
             .first_of(&self.acts, mark, |act| is_repeat(act, author, key))
     }
 
-    // Whether a followed b by a Follow before this place, which was accepted.
+    // Whether a Follow of b by a before this position was accepted.
     fn follows_before(&self, place: usize, a: &Iri, b: &Iri) -> bool
         ensures { result ≡ list_any (is_follow_of a.now b.now) (take place self.now.acts) }
     {
         self.is_related_before(place, a, b.text(), |act| is_follow_of(act, a, b))
     }
 
-    // Whether the activity at this place is a Follow of b that was accepted, and its author's
-    // first.
+    // Whether the activity at this position is the first accepted Follow of b by its author.
     #[tactic(auto, unfolding(crate::specs::Following::is_first_follow))]
     fn is_first_follow(&self, place: usize, act: &Kept, b: &Iri) -> bool
         ensures { result ≡ is_first_follow self.now.acts b.now place act.now }
@@ -330,7 +329,7 @@ impl Register {
         Ok(())
     }
 
-    /// Those who follow b, in the order of their Follows (ActivityPub, section 5.3). The error is
+    /// The followers of b, in the order of their Follows (ActivityPub, section 5.3). The error is
     /// out of memory.
     pub fn followers_of(&self, alloc: Global, b: &Iri) -> Result<Vec<Iri>, AllocError>
         ensures { IfOk result (λ found. found.items ≡ followers_in b.now self.now.acts) }
@@ -351,7 +350,7 @@ impl Register {
             .any_of(&self.acts, self.seed.mark_of_iri(b), passes)
     }
 
-    /// How many activities the author has.
+    /// The number of the author's activities.
     #[tactic(auto, using(crate::proofs::Counts::counted, crate::proofs::Counts::few))]
     pub fn count_of(&self, author: &Iri) -> usize
         ensures value { result ≡ count_by self.now.acts author.now }
@@ -360,8 +359,8 @@ impl Register {
         self.authors.count_of(author)
     }
 
-    /// Makes room for two more activities in each list. The error is out of memory, as it is for
-    /// more than [`MOST_ITEMS`] activities.
+    /// Makes room for two more activities in each list. The error is out of memory, also if there
+    /// are more than [`MOST_ITEMS`] activities.
     pub fn reserve(&mut self) -> Result<(), AllocError>
         ensures acts { self.new.acts ≡ self.old.acts }
         ensures known { self.new.known ≡ self.old.known }
@@ -381,7 +380,7 @@ impl Register {
         Ok(())
     }
 
-    /// Begins to count the activities of the author, if they are not counted yet. The error is out
+    /// Starts counting the activities of the author if they are not counted yet. The error is out
     /// of memory.
     pub fn add_author(&mut self, author: &Iri) -> Result<(), AllocError>
         ensures acts { self.new.acts ≡ self.old.acts }
@@ -391,8 +390,8 @@ impl Register {
         self.authors.add(author)
     }
 
-    /// Does to the activities what an accepted one does to those before it. It takes no memory but
-    /// what is spare.
+    /// Applies the effect of an accepted activity to the earlier ones. This uses no memory except
+    /// `spare`.
     pub fn apply(&mut self, effect: Effect, spare: Spare)
         requires { AreMadeOnce self.old.acts }
         ensures { self.new ≡ record self.old { acts = map (affect effect) self.old.acts } }
@@ -408,9 +407,9 @@ impl Register {
         );
     }
 
-    /// The activity of this id goes to one more owner of an inbox (ActivityPub, section 7.1):
-    /// `recipients` are those to whom it goes then. The owner is for contracts alone. It takes no
-    /// memory.
+    /// Adds one more inbox owner to the recipients of the activity with this id (ActivityPub,
+    /// section 7.1): `recipients` is the resulting list. The owner is for contracts only. This
+    /// allocates nothing.
     pub fn add_inbox(&mut self, id: &Iri, owner: &Snapshot<Iri>, recipients: Iris)
         requires once { PassesOnce (has_activity_id id.now) self.old.acts }
         requires longer { longer_of id.now owner.now.value self.old.acts ≡ Some recipients }
@@ -421,7 +420,7 @@ impl Register {
         add_inbox_in_place(&mut self.acts, &self.seed, &self.ids, id, owner, recipients);
     }
 
-    /// Adds an activity of a known author, where there is room for it. It takes no memory.
+    /// Appends an activity by a known author, for which there is room. This allocates nothing.
     pub fn push(&mut self, act: Kept)
         requires room { 1 ≤ self.old.room }
         requires known { IsTrue (is_among act.author self.old.known) }

@@ -1,4 +1,4 @@
-//! Numbers for texts.
+//! Marks for strings.
 
 ghost use Rattle.std.specs.Prelude.{◌≡◌};
 ghost use Rattle.fedi_register.specs.Seeds.{mark_in, mark_of, mark_of_pair, seed_of};
@@ -6,14 +6,14 @@ ghost use Rattle.fedi_register.specs.Seeds.{mark_in, mark_of, mark_of_pair, seed
 use fedi_address::Iri;
 use std::hash::{DefaultHasher, Hasher};
 
-// A byte that is in no text, to part two.
+// A byte that occurs in no text, used to separate two of them.
 const SEPARATOR: u8 = 0xff;
 
-/// A secret, with which texts are given their numbers by SipHash. Who does not know it cannot
-/// choose many texts of one number, which would make look-ups slow.
+/// A secret with which SipHash computes a mark for a string. Somebody who does not know it cannot
+/// choose many strings with the same mark, which would make look-ups slow.
 #[derive(Clone, Copy)]
 pub struct Seed {
-    // The hasher after the secret bytes.
+    // The hasher after writing the secret bytes.
     state: DefaultHasher,
 }
 
@@ -25,7 +25,7 @@ fn mark_in(hasher: DefaultHasher) -> u32
 }
 
 impl Seed {
-    /// The seed of these bytes. They should be 16 random ones at least, and kept secret.
+    /// The seed of these bytes. There should be at least 16, random and kept secret.
     #[tactic(auto, unfolding(crate::specs::Seeds::seed_of))]
     pub fn new(bytes: &[u8]) -> Seed
         ensures { result ≡ seed_of bytes.now }
@@ -35,7 +35,7 @@ impl Seed {
         Seed { state }
     }
 
-    /// A number for a text, by which most other texts are told apart.
+    /// A number for a string that distinguishes it from most other strings.
     #[tactic(auto, unfolding(crate::specs::Seeds::mark_of))]
     pub fn mark_of(&self, text: &[u8]) -> u32
         ensures { result ≡ mark_of self.now text.now }
@@ -52,7 +52,7 @@ impl Seed {
         self.mark_of(iri.text().as_bytes())
     }
 
-    /// A number for an IRI and a text, by which most other pairs are told apart.
+    /// A number for an IRI and a string that distinguishes the pair from most other pairs.
     #[tactic(auto, unfolding(crate::specs::Seeds::mark_of_pair))]
     pub fn mark_of_pair(&self, iri: &Iri, text: &str) -> u32
         ensures { result ≡ mark_of_pair self.now iri.now text.now }

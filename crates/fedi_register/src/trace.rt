@@ -1,4 +1,4 @@
-//! A list of items that is not held.
+//! A list whose items are not stored.
 
 ghost use Rattle.std.specs.Prelude.{◌≡◌, ◌++◌, ◌∷◌, []};
 
@@ -12,8 +12,8 @@ struct Step<T> {
     last: Snapshot<T>,
 }
 
-/// A list of items, none of which is held: however long it is, it takes one byte. A contract sees
-/// the list, so that it can say what a value has come from while the items themselves are gone.
+/// A list whose items are not stored: it takes one byte, however long it is. A contract sees the
+/// list, so it can say what a value was made from after the items themselves are gone.
 #[cycle(trace)]
 #[derive(Drop)]
 pub struct Trace<T> {
@@ -33,14 +33,15 @@ impl<T> Model for Trace<T> {
 }
 
 impl<T> Trace<T> {
-    /// The list without items.
+    /// The empty list.
     pub fn new() -> Trace<T>
         ensures { result ≡ [] }
     {
         Trace { step: None }
     }
 
-    /// The list with one more item at its end. The item is only lent, and none of it is kept.
+    /// The list with one more item at its end. The item is only borrowed, and nothing of it is
+    /// stored.
     pub fn and(&self, item: &T) -> Trace<T>
         ensures { result ≡ self.now ++ item.now ∷ [] }
     {
@@ -52,7 +53,7 @@ impl<T> Trace<T> {
         }
     }
 
-    /// Adds an item at the end, which is only lent.
+    /// Appends an item, which is only borrowed.
     pub fn push(&mut self, item: &T)
         ensures { self.new ≡ self.old ++ item.now ∷ [] }
     {

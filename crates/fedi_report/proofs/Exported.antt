@@ -24,6 +24,6 @@ activity_text_at xs k =
     let e : 0 + k ≡ k = omega (arith) in
     ap row_or_nothing (activity_row_at xs 0 k ∙ ap (λ n. option_map (activity_row n) (slice_get xs k)) e)
 
--- the text of the row of the thing at a position
+-- the text of the row of the element at a position
 pub mapped_row_at : {A : Type 0} (f : A → List (List ℕ)) (xs : List A) (k : ℕ) → row_at (map f xs) k ≡ row_or_nothing (option_map f (slice_get xs k))
 mapped_row_at f xs k = ap row_or_nothing (slice_get-map f xs k)

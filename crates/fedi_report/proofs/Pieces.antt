@@ -10,7 +10,7 @@ use Rattle.fedi_report.specs.Tables.{Stops}
 use Rattle.fedi_report.specs.declared.tables.ReportFault.{ReportFault}
 use Rattle.fedi_report.specs.declared.tables.ReportFault.TheVariants.{WriteFault, Memory}
 
--- two pieces in turn
+-- two pieces, one after the other
 pub written_both : (a b c : Output) (x y : List ℕ) → Writes a b x → Writes b c y → Writes a c (x ++ y)
 written_both a b c x y first next = record {
   sent = Appends-trans a.sent b.sent c.sent x y first.sent next.sent;
@@ -21,12 +21,12 @@ written_both a b c x y first next = record {
 pub written_none : (a : Output) → Writes a a []
 written_none a = record { sent = Appends-nil a.sent; calm = refl }
 
--- a front of the second piece, behind the first, is one of both and what follows
+-- a prefix of the second piece, after the first, is a prefix of both and what follows
 front_of_all : (x y z : List ℕ) (n : ℕ) → n ≤ length y → take (length x + n) ((x ++ y) ++ z) ≡ x ++ take n y
 front_of_all x y z n short =
     ap (take (length x + n)) (append_assoc x y z) ∙ take-append-add x (y ++ z) n ∙ ap (λ t. x ++ t) (take-append-le n y z short)
 
--- what was sent of the second piece, with the first one
+-- what was sent of the second piece, after the first one
 sent_on : (a b c : Option (List ℕ)) (x y z : List ℕ) (n : ℕ) → n ≤ length y → Appends a b x → Appends b c (take n y)
     → Appends a c (take (length x + n) ((x ++ y) ++ z))
 sent_on a b c x y z n short first next = subst (Appends a c) (sym (front_of_all x y z n short)) (Appends-trans a b c x (take n y) first next)

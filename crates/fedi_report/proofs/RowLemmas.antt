@@ -20,12 +20,12 @@ row_for_each history rows legal same =
     ∙ sym (length-map (rows_of (town history)) (delivery_in (town history).acts))
     ∙ ap (λ (ds : List Delivery). length ds) (rows_are_queued history legal)
 
--- whether a row is claimed is not told
+-- a row does not say whether it is claimed
 released_rows : (acts : List Act) (rows : List QueueRow) → map (queued_row acts) rows ≡ map delivery_row (map (delivery_in acts) (map release rows))
 released_rows acts [] = refl
 released_rows acts (row ∷ rows) = ap (λ (told : List (List (List ℕ))). queued_row acts row ∷ told) (released_rows acts rows)
 
--- the rows tell of the deliveries that have not ended
+-- the rows describe the deliveries that have not ended
 pub queue_rows : (history : List Entry) (rows : List QueueRow) → IsLegal history → map release rows ≡ rows_of (town history)
     → map (queued_row (town history).acts) rows ≡ map delivery_row (filter (λ (d : Delivery). is_waiting d.progress) (queue (town history)))
 queue_rows history rows legal same =

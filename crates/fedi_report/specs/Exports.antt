@@ -1,4 +1,4 @@
--- What an operator takes out of a store: its members, its activities and the deliveries that wait,
+-- What an operator exports from a store: its members, its activities and the deliveries that wait,
 -- each as a table. None of them names a recipient.
 use Rattle.std.specs.Prelude.{ℕ, suc, Bool, true, false, List, [], ◌∷◌, codes, decimal, filter}
 use Rattle.std.specs.Prelude.{length, map}
@@ -18,7 +18,7 @@ use Rattle.fedi_report.specs.Tables.{rows_text}
 
 -- ---- members
 
--- a truth as a field
+-- a boolean as a field
 abbrev pub yes_or_no : Bool → List ℕ
 yes_or_no true = codes "yes"
 yes_or_no false = codes "no"
@@ -40,14 +40,13 @@ actors_text t = rows_text (member_columns ∷ map (member_row t) t.actors)
 
 -- ---- activities
 
--- an activity: its position, its id, who did it, its type, what became of it, and when it was
--- accepted
+-- an activity: its position, its id, its author, its type, its state, and when it was accepted
 abbrev pub activity_row : ℕ → Act → List (List ℕ)
 activity_row position x =
     decimal position ∷ text_of x.activity.id ∷ x.author ∷ kind_name x.activity.kind
     ∷ state_name x.state ∷ moment_text x.moment ∷ []
 
--- activities, of which the first has this position
+-- activities, the first of them at this position
 abbrev pub activity_rows : ℕ → List Act → List (List (List ℕ))
 activity_rows position [] = []
 activity_rows position (x ∷ xs) = activity_row position x ∷ activity_rows (suc position) xs
@@ -69,7 +68,7 @@ abbrev pub progress_fields : Progress → List (List ℕ)
 progress_fields (Due attempts from) = decimal attempts ∷ decimal from ∷ []
 progress_fields (Ended attempts) = decimal attempts ∷ [] ∷ []
 
--- a delivery: the id of its activity, the host of its recipient, and how it goes
+-- a delivery: the id of its activity, the host of its recipient, and its progress
 abbrev pub delivery_row : Delivery → List (List ℕ)
 delivery_row d = text_of d.activity ∷ host_of d.recipient ∷ progress_fields d.progress
 
@@ -84,6 +83,6 @@ queue_text t =
     rows_text (delivery_columns
     ∷ map delivery_row (filter (λ (d : Delivery). is_waiting d.progress) (queue t)))
 
--- the delivery that a row of the queue is of
+-- the delivery that this row of the queue is for
 abbrev pub queued_row : List Act → QueueRow → List (List ℕ)
 queued_row acts row = delivery_row (delivery_in acts row)

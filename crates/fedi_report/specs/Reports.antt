@@ -1,4 +1,4 @@
--- What an operator reads of a store.
+-- What an operator reads about a store.
 use Rattle.std.specs.Prelude.{List, ℕ, ◌++◌, filter, length, codes, decimal}
 use Rattle.fedi_objects.specs.declared.entry.Entry.{Entry}
 use Rattle.fedi_queue.specs.Rows.{is_waiting}

@@ -1,4 +1,4 @@
--- Tables as comma-separated values (RFC 4180), and what becomes of one that is written.
+-- Tables as comma-separated values (RFC 4180), and what becomes of a table that is written.
 use Rattle.std.specs.Prelude.{◌≡◌, ◌≤◌, ℕ, List, [], ◌++◌, drop, flat_map, length, slice_get, take}
 use Rattle.std.specs.Prelude.{Option, None, Some, Result, MatchResult, false}
 use Rattle.std.specs.Io.KnownBytes.{Appends}
@@ -12,7 +12,7 @@ use Rattle.fedi_report.specs.declared.tables.ReportFault.TheVariants.{WriteFault
 
 -- ---- the text of a table
 
--- the rows of a table, each by its fields: a field is in quotes where it has a comma, a quote or a
+-- the rows of a table, each by its fields: a field is in quotes if it has a comma, a quote or a
 -- line break, and each row ends with a line feed
 abbrev pub rows_text : List (List (List ℕ)) → List ℕ
 rows_text rows = flat_map (row_text default_writer) rows
@@ -26,13 +26,13 @@ row_or_nothing (Some row) = row_text default_writer row
 abbrev pub row_at : List (List (List ℕ)) → ℕ → List ℕ
 row_at rows position = row_or_nothing (slice_get rows position)
 
--- so many rows from a position on
+-- this many rows from a position on
 abbrev pub rows_from : List (List (List ℕ)) → ℕ → ℕ → List (List (List ℕ))
 rows_from rows position count = take count (drop position rows)
 
 -- ---- what is written of it
 
--- a writer of rows, which has ended the last one
+-- a writer of rows that has ended the last row
 pub record IsBetweenRows {A : Type 0} (w : Writer (Vec ℕ A)) : Type 0 where
   pub setup : writer_setup w ≡ default_writer
   pub fields : fields_written w ≡ 0
@@ -44,7 +44,7 @@ written w = (writer_under w).items ++ writer_pending w
 
 -- ---- what becomes of a text that is written piece by piece
 
--- a front of the text was sent, and no write failed
+-- a prefix of the text was sent, and no write failed
 pub record Begins (before now : Output) (text : List ℕ) : Type 0 where
   pub prefix : ℕ
   pub within : prefix ≤ length text
@@ -56,7 +56,7 @@ abbrev pub Stops : Output → Output → List ℕ → ReportFault → Type 0
 Stops before now text WriteFault = BreaksOff before now [] text
 Stops before now text Memory = Begins before now text
 
--- the text was sent whole, or in part for a reason
+-- the text was sent completely, or in part for some reason
 abbrev pub Reports : {T : Type 0} → Output → Output → List ℕ → Result T ReportFault → Type 0
 Reports before now text result =
     MatchResult result (λ _. Writes before now text) (Stops before now text)

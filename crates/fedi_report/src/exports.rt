@@ -1,4 +1,4 @@
-//! The tables that an operator takes out of a store. None of them names a recipient.
+//! The tables that an operator exports from a store. None of them names a recipient.
 
 ghost use Rattle.std.specs.Prelude.{◌≡◌, ◌∷◌, ◌++◌, ◌<◌, OnOk, length, map, option_copied};
 ghost use Rattle.std.specs.Prelude.{slice_get};
@@ -30,8 +30,8 @@ use std::alloc::{AllocError, Global};
 use std::marker::Brand;
 use std::sync::ledger::{Blank, Ledger};
 
-// Fields that lie in one array are borrowed for as long as each other: those that last for ever are
-// handed out for as long as what they are told of.
+// The fields of one array are borrowed for the same time, so fields that live for ever are returned
+// for as long as the value that they describe.
 
 fn locked_text(member: &Actor) -> &str
     ensures { result.now ≡ yes_or_no member.now.locked }
@@ -291,10 +291,10 @@ fn write_queue<K: Sink>(
 // ---- tables of a machine
 
 /// Writes the members as comma-separated values (RFC 4180), in the order in which they were made:
-/// `name`, `locked`, `yes` where Follows of the member wait for an answer, and the numbers of its
-/// `activities` and `followers`. It takes the memory of a block of rows and one word for each
-/// follower of one member. `WriteFault` says that a write failed, which the sink counts once, and
-/// `Memory` that there was none: then a front of the text was written.
+/// `name`; `locked`, which is `yes` if Follows of the member wait for an answer; and the numbers of
+/// its `activities` and `followers`. It takes the memory of a block of rows and one word for each
+/// follower of one member. `WriteFault` means that a write failed, which the sink counts once, and
+/// `Memory` that memory ran out; in both cases a prefix of the text was written.
 #[tactic(auto, unfolding(crate::specs::Exports::actors_text))]
 pub fn csv_actors<S: Shelf + Drop, P: Keeper, K: Sink>(
     alloc: Global,
@@ -307,9 +307,9 @@ pub fn csv_actors<S: Shelf + Drop, P: Keeper, K: Sink>(
     write_actors(alloc, core.facts(), sink)
 }
 
-/// Writes the activities in the order of acceptance: the `place`, from 0 on, the `id`, the `actor`,
-/// who is its author, the `type`, the `state` and the `moment` of acceptance (RFC 3339). No
-/// recipient is named. It takes the memory of a block of rows. The errors are those of
+/// Writes the activities in the order of acceptance: the `place`, counted from 0, the `id`, the
+/// `actor`, which is the author, the `type`, the `state` and the `moment` of acceptance (RFC 3339).
+/// No recipient is named. It takes the memory of a block of rows. The errors are those of
 /// `csv_actors`.
 #[tactic(auto, unfolding(crate::specs::Exports::activities_text))]
 pub fn csv_activities<S: Shelf + Drop, P: Keeper, K: Sink>(
@@ -325,8 +325,8 @@ pub fn csv_activities<S: Shelf + Drop, P: Keeper, K: Sink>(
 }
 
 /// Writes the deliveries that have not ended (ActivityPub, section 7.1), in the order of acceptance
-/// and of recipients: the id of the `activity`, the recipient's `host`, and never its name, the
-/// number of `attempts`, and from when on the next one is `due`, in seconds since
+/// and of recipients: the id of the `activity`; the recipient's `host`, but never its name; the
+/// number of `attempts`; and the time from which the next one is `due`, in seconds since
 /// 1970-01-01T00:00:00Z. It takes the memory of a block of rows. The errors are those of
 /// `csv_actors`.
 #[tactic(auto, using(crate::proofs::RowLemmas::queue_rows), unfolding(crate::specs::Exports::queue_text))]

@@ -1,4 +1,4 @@
-//! What an operator reads of a store.
+//! What an operator reads about a store.
 #![tactic(auto)]
 
 mod exports;
@@ -17,7 +17,7 @@ use itoa::Buffer;
 use std::alloc::{AllocError, Global};
 pub use tables::ReportFault;
 
-/// The room for a line of counts, each of which has at most 20 digits.
+/// The room for a line of counts, with at most 20 digits for each.
 const LINE: usize = 128;
 
 // Appends a label and a count.
@@ -38,7 +38,7 @@ fn waiting<S: Shelf + Drop, P: Keeper>(core: &Core<S, P>) -> u64
     core.rows().len() as u64
 }
 
-/// The line that tells how much a store holds, as `entries 12 actors 3 activities 8 queue 2`: how
+/// The line that says how much a store holds, as `entries 12 actors 3 activities 8 queue 2`: how
 /// many entries its history has, how many members and activities these have made, and how many
 /// deliveries have not ended. It ends with a line feed. The error is out of memory.
 pub fn check_line<S: Shelf + Drop, P: Keeper>(

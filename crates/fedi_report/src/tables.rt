@@ -1,4 +1,4 @@
-//! Tables as comma-separated values, which are written block by block.
+//! Tables as comma-separated values, written block by block.
 
 ghost use Rattle.std.specs.Prelude.{◌≡◌, ◌≤◌, ◌-◌, ◌++◌, ◌∷◌, [], ℕ, List, IfOk, OnOk, length, map};
 ghost use Rattle.csv.specs.Writing.{default_writer, row_text};
@@ -11,7 +11,7 @@ use fedi_http::send;
 use fedi_outside::{Failed, Sink};
 use std::alloc::{AllocError, Global};
 
-/// Why a report was not written whole.
+/// Why a report was not written completely.
 #[derive(Clone, Copy, Debug, PartialEq, Eq)]
 pub enum ReportFault {
     /// A write failed, which the sink counts.
@@ -20,7 +20,7 @@ pub enum ReportFault {
     Memory,
 }
 
-/// The rows that are written at once.
+/// How many rows are written at once.
 const BLOCK: usize = 64;
 
 /// A table whose rows are made one at a time.
@@ -55,8 +55,8 @@ fn begin(alloc: Global, room: usize) -> Result<Writer<Vec<u8>>, AllocError>
     Ok(Writer::from_writer(bytes))
 }
 
-/// Writes a row of these fields, each in quotes where it has a comma, a quote or a line break (RFC
-/// 4180, section 2), and ended by a line feed. The error is out of memory.
+/// Writes a row of these fields. A field with a comma, a quote or a line break is in quotes (RFC
+/// 4180, section 2), and the row ends with a line feed. The error is out of memory.
 #[tactic(auto, unfolding(crate::specs::Tables::written))]
 pub(crate) fn csv_row(text: &mut Writer<Vec<u8>>, fields: &[&[u8]]) -> Result<(), AllocError>
     requires { IsBetweenRows text.old }
@@ -64,7 +64,7 @@ pub(crate) fn csv_row(text: &mut Writer<Vec<u8>>, fields: &[&[u8]]) -> Result<()
     ensures row { OnOk result (written text.new
         ≡ written text.old ++ row_text default_writer (map (λ f. f.now) fields.now)) }
 {
-    // A write to memory fails for want of it alone.
+    // A write to memory fails only if memory runs out.
     match text.write_fields(fields) {
         Ok(()) => Ok(()),
         Err(_) => Err(AllocError),
@@ -85,7 +85,7 @@ fn end(text: Writer<Vec<u8>>) -> Result<Vec<u8>, AllocError>
 /// The room for the text of a block.
 const ROOM: usize = 8192;
 
-// The text of the rows from one position to before another.
+// The text of the rows from the position `from` up to, but not including, `to`.
 fn rows_block<T: Table>(
     alloc: Global,
     table: &T,
@@ -105,7 +105,7 @@ fn rows_block<T: Table>(
     end(text)
 }
 
-// The text of the names of the columns.
+// The text of the row of column names.
 fn names_row(alloc: Global, names: &[&[u8]]) -> Result<Vec<u8>, AllocError>
     ensures { IfOk result (λ bytes. bytes.items
         ≡ row_text default_writer (map (λ f. f.now) names.now)) }
@@ -130,9 +130,9 @@ fn send_piece<K: Sink>(sink: &mut K, piece: Result<Vec<u8>, AllocError>) -> Resu
     }
 }
 
-/// Writes a table: a row of the names of its columns, and its rows. They are made and sent in
-/// blocks, so that it takes the memory of one block, however many they are. After an error a front
-/// of the text was sent.
+/// Writes a table: a row of the names of its columns, and its rows. The rows are made and sent in
+/// blocks, so the table takes the memory of one block, however many rows it has. After an error a
+/// prefix of the text was sent.
 pub(crate) fn write_table<T: Table, K: Sink>(
     alloc: Global,
     table: &T,

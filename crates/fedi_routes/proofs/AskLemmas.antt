@@ -1,4 +1,4 @@
--- What a request asks for is one thing at most, and holds what may be posted.
+-- A request asks for at most one thing, which holds only what may be posted.
 use Rattle.std.proofs.Common.{◌≡◌, ℕ, List, Bool, true, false, Option, Some, None, Ok, Err, inl, inr, refl, sym, ◌∙◌, ap, subst}
 use Rattle.std.specs.Prelude.{Result, IfOk, MatchBool}
 use Rattle.serde_json.specs.Data.{Data}
@@ -67,7 +67,7 @@ delivery_once q body x y a b =
     same_post x y (a.typed ∙ sym b.typed) (a.key ∙ sym b.key) (a.digest ∙ sym b.digest)
     (read_once reads_delivered q body x.read y.read a.read b.read)
 
--- what is read as an activity passes a test that each activity passes which the reading gives
+-- an activity that was read passes every test that all the activities that the reading gives pass
 body_passes : (reads : Data → Result activities.Activity ShapeFault) (test : activities.Activity → Bool) → ((d : Data) (a : activities.Activity) → reads d ≡ Ok a → test a ≡ true)
     → (body : List ℕ) (read : Read) → ReadsBody reads body read → IsRead test read
 body_passes reads test passes body NotJson h = tt
@@ -89,7 +89,7 @@ read_for author (Some own) read same h = subst (λ (a : List ℕ). IsRead (is_po
 
 -- ---- asks
 
--- what is asked for at a place holds nothing but what was read of a post
+-- what a read at a place asks for holds nothing but what was read of a post
 read_at_postable : (host : Option (List ℕ)) (query : List ℕ) (there : Place) → IsPostableAt host (read_at host query there)
 read_at_postable host query Webfinger = λ h legal hosted. tt
 read_at_postable host query (Actor name) = λ h legal hosted. tt

@@ -37,7 +37,7 @@ not_routed rs path same none kind name number h =
 
 -- ---- what its parameters took
 
--- they took the segments that make the path
+-- they took the segments that the path is made of
 walked : (kind : Kind) (ps : List (List ℕ)) (path : List ℕ) → AreSegments (pattern_of kind) ps → path ≡ path_by (pattern_of kind) ps
     → walk (pattern_of kind) (route_text kind) path (names_of kind) 0 0 ≡ pairs (route_text kind) (names_of kind) ps
 walked kind ps path segments spelled =
@@ -51,7 +51,7 @@ name_text = name_is_utf8 (codes "name") refl
 number_text : IsUtf8 (codes "number")
 number_text = name_is_utf8 (codes "number") refl
 
--- names and segments are in UTF-8
+-- names and segments are UTF-8
 all_text : (kind : Kind) (ps : List (List ℕ)) → Texts (pattern_of kind) ps → AllText (pairs (route_text kind) (names_of kind) ps)
 all_text Webfinger ps h = tt
 all_text (Member Actor) ps h = (name_text, h.0, tt)
@@ -59,7 +59,7 @@ all_text (Member part) ps h = (name_text, h.0, tt)
 all_text (Numbered Activity) ps h = (name_text, h.0, (number_text, h.1.0, tt))
 all_text (Numbered part) ps h = (name_text, h.0, (number_text, h.1.0, tt))
 
--- the two that are asked for by their names make the path
+-- the two that are looked up by their names make the path
 by_name : (kind : Kind) (ps : List (List ℕ)) (path name number : List ℕ) → name ≡ name_in kind ps → number ≡ number_in kind ps
     → AreSegments (pattern_of kind) ps → path ≡ path_by (pattern_of kind) ps → IsRouted kind name number path
 by_name Webfinger ps path name number n m h e = record { segments = h; spelled = e }
@@ -97,9 +97,10 @@ is_routed rs path pattern text names kind name number same bytes utf8 e n m =
     (ap (λ (r : RouteOf Kind). r.pattern) own.1, ap (λ (r : RouteOf Kind). r.text) own.1, ap (λ (r : RouteOf Kind). r.names) own.1)
     (rw own.0 at f.3) (rw own.0 at f.4) utf8 n m
 
--- ---- a path has one route
+-- ---- a path has only one route
 
--- two ways to make a path are one: the router finds one row, whose parameters take one segment each
+-- two ways to make a path are the same: the router finds one row, whose parameters take one segment
+-- each
 pub record IsSame (k l : Kind) (n m o p : List ℕ) : Type 0 where
   pub kind : k ≡ l
   pub name : name_in k (n ∷ m ∷ []) ≡ name_in k (o ∷ p ∷ [])

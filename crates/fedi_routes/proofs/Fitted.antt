@@ -1,4 +1,4 @@
--- A row that is found is one whose pattern makes the path, of some segments.
+-- A row that is found has a pattern that makes the path, of some segments.
 use Rattle.std.proofs.Common.{◌≡◌, ℕ, zero, suc, ◌-◌, ◌<◌, List, [], ◌∷◌, ◌++◌, append-nil, length, length-append, drop, get_or, Option, Some, None, Bool, true, false, cond, refl, sym, ap, ◌∙◌, arith, ◌==◌, ◌⊎◌, inl, inr}
 use Rattle.std.proofs.lemmas.Bool.{and_from}
 use Rattle.std.proofs.lemmas.Bool.Decides.{nat_tests}
@@ -47,7 +47,7 @@ has_slash-append (b ∷ p) q = by (b == slash) (has_slash-append p q)
     by true ih = refl
     by false ih = ih
 
--- where a slash is left, something stands before it
+-- if a slash is left, there is something before it
 cut-some : (p : List ℕ) → cuts (p ++ slash ∷ []) (slash ∷ []) ≡ true → 0 < length p
 cut-some [] e = cc
 cut-some (b ∷ p) e = omega arith
@@ -55,7 +55,7 @@ cut-some (b ∷ p) e = omega arith
 module _ {K : Type 0} where
   -- ---- rows
 
-  -- plain rows are plain behind their first token
+  -- plain rows are plain after their first token
   pub plain_step : (x : ℕ) (rs : RowsOf K) → are_clear_of [] rs ≡ true → are_clear_of [] (step x rs) ≡ true
   plain_step x [] h = refl
   plain_step x (([], k) ∷ rs) h = plain_step x rs (clear_parts [] [] rs h).2
@@ -67,7 +67,7 @@ module _ {K : Type 0} where
       by true q ih = clear_from [] r (step x rs) refl (plain_rest y r q.1) (ih q.2)
       by false q ih = ih q.2
 
-  -- a row that goes on with these bytes begins with them
+  -- a row that continues with these bytes begins with them
   suffix-has : (s t : List ℕ) (rs : RowsOf K) (r : K) → lookup t (with_suffix s rs) ≡ Some r → same_text (segment t) s ≡ true
   suffix-has s t [] r h = cc
   suffix-has s t ((u, k) ∷ rs) r h = by (same_text (segment u) s) refl h (suffix-has s t rs r)
@@ -82,7 +82,7 @@ module _ {K : Type 0} where
           at true d g2 ih2 = rw (← (bytes_decides u t).0 d) e
           at false d g2 ih2 = ih2 g2
 
-  -- a row that is found among those is one of all
+  -- a row that is found among those is one of all the rows
   pub suffix-lookup : (s t : List ℕ) (rs : RowsOf K) (r : K) → lookup t (with_suffix s rs) ≡ Some r → lookup t rs ≡ Some r
   suffix-lookup s t [] r h = h
   suffix-lookup s t ((u, k) ∷ rs) r h = by (same_text (segment u) s) refl h (suffix-lookup s t rs r) (suffix-has s t rs r)
@@ -136,7 +136,7 @@ module _ {K : Type 0} where
 
 -- ---- the row that is found
 
--- one of the rows has a pattern that makes the path, of some segments
+-- one of the rows has a pattern that makes the path of some segments
 abbrev pub Fits : (K : Type 0) → RowsOf K → K → List ℕ → Type 0
 Fits K rs r path = (t : List ℕ) × (ps : List (List ℕ)) × (lookup t rs ≡ Some r) × AreSegments t ps × (path ≡ path_by t ps)
 
@@ -144,7 +144,7 @@ Fits K rs r path = (t : List ℕ) × (ps : List (List ℕ)) × (lookup t rs ≡ 
 abbrev pub Sound : Type 0 → List ℕ → Type 0
 Sound K path = (skip : ℕ) (rs : RowsOf K) (r : K) → AreBytes path → are_clear_of [] rs ≡ true → seek skip rs path ≡ Some r → Fits K rs r (drop skip path)
 
--- a byte in front, a last segment, and a segment before a slash
+-- a byte before the path, a last segment, and a segment before a slash
 fits-byte : (K : Type 0) (b : ℕ) (path : List ℕ) (rs : RowsOf K) (r : K) → b < 256 → Fits K (step b rs) r path → Fits K rs r (b ∷ path)
 fits-byte K b path rs r low f =
     let n : (b == param_token) ≡ false = grind (arith, nat_tests) in
@@ -163,7 +163,7 @@ or-cases : {K : Type 0} (a b : Option K) (r : K) → or_else a b ≡ Some r → 
 or-cases None b r e = inr e
 or-cases (Some k) b r e = inl e
 
--- what is skipped behind the first byte
+-- what is skipped after the first byte
 rest-drop : (n b : ℕ) (path : List ℕ) → 0 < n → drop (n - 1) path ≡ drop n (b ∷ path)
 rest-drop zero b path h = elim h [ ]
 rest-drop (suc n) b path h = rw (one_less n) refl

@@ -13,7 +13,7 @@ use Rattle.fedi_routes.specs.Patterns.{is_segment_byte, IsSegment, path_by, path
 
 -- ---- segments
 
--- a byte of a segment is no slash, and a byte
+-- a byte of a segment is a byte other than the slash
 pub not_slash : (b : ℕ) → is_segment_byte b ≡ true → (b == slash) ≡ false
 not_slash b h = grind (arith, nat_tests)
 
@@ -61,13 +61,13 @@ cuts-last p h = rw (ends-none (length p - 1) p h) (grind arith)
 pub plain_rest : (x : ℕ) (t : List ℕ) → is_plain (x ∷ t) ≡ true → is_plain t ≡ true
 plain_rest x t h = (and_parts (cond (x == param_token) (ends_segment t) (ltb x 128)) (is_plain t) h).1
 
--- patterns with the same token in front part behind it
+-- patterns with the same first token differ as what follows it does
 pub part_at_bytes-same : (x y : ℕ) (t r : List ℕ) → (y == x) ≡ true → part_at_bytes (x ∷ t) (y ∷ r) ≡ part_at_bytes t r
 part_at_bytes-same x y t r e =
     let n : (x == y) ≡ true = grind (arith, nat_tests) in
     rw n refl
 
--- a parameter and a byte part at a parameter
+-- a parameter and a byte differ at a parameter
 part_at_bytes-param : (c : ℕ) (t r : List ℕ) → c < 256 → part_at_bytes (param_token ∷ t) (c ∷ r) ≡ false
 part_at_bytes-param c t r l =
     let n : (param_token == c) ≡ false = grind (arith, nat_tests) in
@@ -77,11 +77,11 @@ part_at_bytes-param c t r l =
 plain_no_catch : (r : List ℕ) → is_plain (catch_all_token ∷ r) ≡ false
 plain_no_catch r = refl
 
--- behind a parameter of a plain pattern its segment ends
+-- after a parameter of a plain pattern its segment ends
 pub plain_ends : (y : ℕ) (r : List ℕ) → (y == param_token) ≡ true → is_plain (y ∷ r) ≡ true → ends_segment r ≡ true
 plain_ends y r e h = (and_parts (ends_segment r) (is_plain r) (rw e at h)).0
 
--- where a segment ends and the pattern goes on, it goes on with a slash
+-- if a segment ends and the pattern continues, it continues with a slash
 pub segment-slash : (y : ℕ) (t : List ℕ) → ends_segment (y ∷ t) ≡ true → segment (y ∷ t) ≡ slash ∷ []
 segment-slash y t h =
     let s : y ≡ slash = grind (arith, nat_tests) in
@@ -91,7 +91,7 @@ segment-slash y t h =
 pub better-suffix : (seg : List ℕ) (v : Bool) → cuts seg (slash ∷ []) ≡ v → better seg [] (slash ∷ []) ≡ cond v (slash ∷ []) []
 better-suffix seg v e = rw e refl
 
--- a pattern that does not go on with a slash is none that does
+-- a pattern that does not continue with a slash is not one of those that do
 same_text-other : (r t : List ℕ) → ends_segment r ≡ true → same_text (segment r) (slash ∷ []) ≡ false → same_text r (slash ∷ t) ≡ false
 same_text-other [] t h e = refl
 same_text-other (y ∷ r) t h e = cc (rw (segment-slash y r h) at e)
@@ -121,7 +121,7 @@ module _ {K : Type 0} where
   seek-empty (suc k) (b ∷ p) = seek-empty k p
   seek-empty zero (b ∷ p) = simp (seek-empty 0 p, param_step-empty (b ∷ p), seek-empty (((param_step {K = K} [] (b ∷ p)).0) - 1) p)
 
-  -- bytes that are skipped do not count
+  -- skipped bytes do not count
   pub seek-drop : (k : ℕ) (r : RowsOf K) (p : List ℕ) → seek k r p ≡ seek 0 r (drop k p)
   unfolding seek
   seek-drop zero r p = refl
@@ -136,7 +136,7 @@ module _ {K : Type 0} where
   own-is_lookup (([], k) ∷ rs) = refl
   own-is_lookup ((x ∷ t, k) ∷ rs) = own-is_lookup rs
 
-  -- a row is found behind its first token
+  -- a row is found after its first token
   pub lookup-step : (x : ℕ) (t : List ℕ) (rs : RowsOf K) → lookup (x ∷ t) rs ≡ lookup t (step x rs)
   lookup-step x t [] = refl
   lookup-step x t (([], k) ∷ rs) = lookup-step x t rs
@@ -147,7 +147,7 @@ module _ {K : Type 0} where
       by true ih = ap (λ z. cond (same_text r t) (Some k) z) ih
       by false ih = ih
 
-  -- what is tested of the first row, and of the others
+  -- what is tested for the first row, and for the others
   pub clear_parts : (t r : List ℕ) (rs : RowsOf K) → ((part_at_bytes t r && is_plain r) && are_clear_of t rs) ≡ true → (part_at_bytes t r ≡ true) × (is_plain r ≡ true) × (are_clear_of t rs ≡ true)
   clear_parts t r rs h =
       let a = and_parts (part_at_bytes t r && is_plain r) (are_clear_of t rs) h in
@@ -157,7 +157,7 @@ module _ {K : Type 0} where
   pub clear_from : (t r : List ℕ) (rs : RowsOf K) → part_at_bytes t r ≡ true → is_plain r ≡ true → are_clear_of t rs ≡ true → ((part_at_bytes t r && is_plain r) && are_clear_of t rs) ≡ true
   clear_from t r rs a b c = and_from (part_at_bytes t r && is_plain r) (are_clear_of t rs) (and_from (part_at_bytes t r) (is_plain r) a b) c
 
-  -- rows that are clear of a pattern are so behind its first token
+  -- rows that are clear of a pattern are clear of it after its first token
   pub clear-step : (x : ℕ) (t : List ℕ) (rs : RowsOf K) → are_clear_of (x ∷ t) rs ≡ true → are_clear_of t (step x rs) ≡ true
   clear-step x t [] h = refl
   clear-step x t (([], k) ∷ rs) h = clear-step x t rs (clear_parts (x ∷ t) [] rs h).2
@@ -169,7 +169,7 @@ module _ {K : Type 0} where
       by true e q ih = clear_from t r (step x rs) (sym (part_at_bytes-same x y t r e) ∙ q.0) (plain_rest y r q.1) (ih q.2)
       by false e q ih = ih q.2
 
-  -- and so are some of them
+  -- and some of these rows are too
   pub clear-with_suffix : (t s : List ℕ) (rs : RowsOf K) → are_clear_of t rs ≡ true → are_clear_of t (with_suffix s rs) ≡ true
   clear-with_suffix t s [] h = refl
   clear-with_suffix t s ((r, k) ∷ rs) h = by (same_text (segment r) s) (clear_parts t r rs h) (clear-with_suffix t s rs)
@@ -180,7 +180,7 @@ module _ {K : Type 0} where
       by true q ih = clear_from t r (with_suffix s rs) q.0 q.1 (ih q.2)
       by false q ih = ih q.2
 
-  -- where a pattern goes on with a parameter, no row goes on with a byte
+  -- if a pattern continues with a parameter, no row continues with a byte
   pub step-byte : (c : ℕ) (t : List ℕ) (rs : RowsOf K) → c < 256 → are_clear_of (param_token ∷ t) rs ≡ true → step c rs ≡ []
   step-byte c t [] l h = refl
   step-byte c t (([], k) ∷ rs) l h = step-byte c t rs l (clear_parts (param_token ∷ t) [] rs h).2
@@ -210,12 +210,12 @@ module _ {K : Type 0} where
           cc (plain_no_catch r)
       by false e q ih = ih q.2
 
-  -- in each row the segment ends here
+  -- the segment ends here in each row
   abbrev pub Tails : RowsOf K → Type 0
   Tails [] = Unit {0}
   Tails ((r, k) ∷ rs) = (ends_segment r ≡ true) × Tails rs
 
-  -- behind a parameter it does
+  -- it does after a parameter
   pub tails : (t : List ℕ) (rs : RowsOf K) → are_clear_of t rs ≡ true → Tails (step param_token rs)
   tails t [] h = tt
   tails t (([], k) ∷ rs) h = tails t rs (clear_parts t [] rs h).2
@@ -242,7 +242,7 @@ module _ {K : Type 0} where
   longest_from-kept seg (([], k) ∷ rs) h = longest_from-kept seg rs h.1
   longest_from-kept seg ((y ∷ t, k) ∷ rs) h = rw (segment-slash y t h.0) (longest_from-kept seg rs h.1)
 
-  -- a segment with a slash leaves it, if a row goes on with one
+  -- a segment with a slash leaves it, if a row continues with one
   pub longest_from-slash : (seg t : List ℕ) (k : K) (rs : RowsOf K) → cuts seg (slash ∷ []) ≡ true → Tails rs → lookup (slash ∷ t) rs ≡ Some k
       → longest_from seg [] rs ≡ slash ∷ []
   longest_from-slash seg t k [] c h l = cc
@@ -250,7 +250,7 @@ module _ {K : Type 0} where
   longest_from-slash seg t k ((y ∷ r, j) ∷ rs) c h l =
       rw (segment-slash y r h.0, better-suffix seg true c) (longest_from-kept seg rs h.1)
 
-  -- the rows that go on with a slash are found among those
+  -- the rows that continue with a slash are found among those
   pub lookup-with_suffix : (t : List ℕ) (rs : RowsOf K) → Tails rs → lookup (slash ∷ t) (with_suffix (slash ∷ []) rs) ≡ lookup (slash ∷ t) rs
   lookup-with_suffix t [] h = refl
   lookup-with_suffix t ((r, k) ∷ rs) h = by (same_text (segment r) (slash ∷ [])) refl (lookup-with_suffix t rs h.1)
@@ -281,12 +281,12 @@ module _ {K : Type 0} where
 
   -- ---- the row of the pattern
 
-  -- the search goes on behind what a parameter took
+  -- the search continues after what a parameter took
   pub seek-rest : (n : ℕ) (rs : RowsOf K) (b : ℕ) (p : List ℕ) → 0 < n → seek (n - 1) rs p ≡ seek 0 rs (drop n (b ∷ p))
   seek-rest zero rs b p h = elim h [ ]
   seek-rest (suc n) rs b p h = rw (one_less n) (seek-drop n rs p)
 
-  -- where no row goes on with a byte, the parameter decides
+  -- if no row continues with a byte, the parameter decides
   seek-param : (b : ℕ) (t p : List ℕ) (rs : RowsOf K) (n : ℕ) (next : RowsOf K) → b < 256 → are_clear_of (param_token ∷ t) rs ≡ true
       → param_step (step param_token rs) (b ∷ p) ≡ (n, next) → 0 < n
       → seek 0 rs (b ∷ p) ≡ seek 0 next (drop n (b ∷ p))
@@ -303,7 +303,7 @@ module _ {K : Type 0} where
       (param_step-last (b ∷ p) (step param_token rs) h.bytes (tails (param_token ∷ t) rs c)) h.some
       ∙ ap (λ (z : List ℕ). seek 0 (step param_token rs) z) (drop-length (b ∷ p))
 
-  -- or one before a slash
+  -- or the one before a slash
   pub seek-slash : (p q t : List ℕ) (k : K) (rs : RowsOf K) → IsSegment p → are_clear_of (param_token ∷ slash ∷ t) rs ≡ true
       → lookup (slash ∷ t) (step param_token rs) ≡ Some k
       → seek 0 rs (p ++ slash ∷ q) ≡ seek 0 (with_suffix (slash ∷ []) (step param_token rs)) (slash ∷ q)
@@ -319,7 +319,7 @@ module _ {K : Type 0} where
 
 -- ---- all of a pattern
 
--- a path that the pattern makes is found at its row, where the rows are clear of it
+-- a path that the pattern makes is found at its row, if the rows are clear of it
 abbrev pub Finds : Type 0 → List ℕ → Type 0
 Finds K t = (ps : List (List ℕ)) (rs : RowsOf K) (k : K) → lookup t rs ≡ Some k → are_clear_of t rs ≡ true → is_plain t ≡ true → AreSegments t ps
     → seek 0 rs (path_by t ps) ≡ Some k
@@ -330,7 +330,7 @@ unfolding seek
 byte-found K x t ih ps rs k l c p h =
     or-some _ _ k (ih ps (step x rs) k (sym (lookup-step x t rs) ∙ l) (clear-step x t rs c) (plain_rest x t p) h)
 
--- the same behind a parameter
+-- the same after a parameter
 abbrev pub FindsAfter : Type 0 → List ℕ → Type 0
 FindsAfter K t = (ps : List (List ℕ)) (rs : RowsOf K) (k : K) → lookup (param_token ∷ t) rs ≡ Some k
     → are_clear_of (param_token ∷ t) rs ≡ true → is_plain (param_token ∷ t) ≡ true → IsSegment (get_or ps 0 []) × AreSegments t (drop 1 ps)

@@ -6,7 +6,7 @@ use Rattle.std.proofs.lemmas.Str.Parse.{IsNumeralModel, numerals_by_value, tells
 use Rattle.std.specs.Str.Parse.{ParsesUnsigned, AllDigits, digits_value}
 use Rattle.fedi_model.specs.Places.{IsNumber}
 
--- a number from 1 is written with no zero in front
+-- a number from 1 is written without a leading zero
 pub number_begins : (n : ℕ) → IsNumber n → 48 < get_or (decimal n) 0 0
 number_begins n h = first_decimal n (omega arith) (omega arith)
 
@@ -17,7 +17,7 @@ written_above_zero : (bs : List ℕ) (m : ℕ) → decimal m ≡ bs → 48 < get
 written_above_zero bs zero e h = absurd (omega (arith, rw (← e, decimal_digit 0 (omega arith)) at h))
 written_above_zero bs (suc m) e h = omega arith
 
--- a number that is read from digits with no zero in front is written by them
+-- a number that is read from digits without a leading zero is written by them
 pub number_written : (bs : List ℕ) (m : ℕ) → 48 < get_or bs 0 0 → ParsesUnsigned {E = ℕ} 32 10 bs (Ok m)
     → IsNumber m × (bs ≡ decimal m)
 number_written bs m first h =

@@ -1,4 +1,4 @@
--- Names and the paths of places are in UTF-8.
+-- Names and the paths of places are UTF-8.
 use Rattle.std.proofs.Common.{◌≡◌, ℕ, zero, suc, List, [], ◌∷◌, ◌++◌, true, length, refl, arith, Bool}
 use Rattle.std.specs.Prelude.{◌&&◌, codes, decimal, nat_le, nat_lt, IsTrue}
 use Rattle.std.specs.List.{list_all}
@@ -26,7 +26,7 @@ name_is_utf8 text h =
     IsUtf8-from_ascii text
     (name_bytes_ascii text (and_parts (nat_le 1 (length text) && nat_le (length text) 30) (list_all is_name_byte text) h).1)
 
--- a byte of ASCII
+-- an ASCII byte
 abbrev is_low : ℕ → Bool
 is_low b = nat_lt b 128
 

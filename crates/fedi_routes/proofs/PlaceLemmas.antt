@@ -1,4 +1,4 @@
--- A path leads to the place that its route and the texts in it give, and to no other.
+-- A path leads to the place that its route and the texts in it determine, and to no other.
 use Rattle.std.proofs.Common.{◌≡◌, ℕ, List, [], ◌∷◌, ◌++◌, append_assoc, append-nil, length, Option, Some, None, true, refl, sym, ap, ◌∙◌, arith, nat_le}
 use Rattle.std.specs.Prelude.{codes, decimal, IsTrue, MatchOption, ◌&&◌}
 use Rattle.std.specs.List.{list_all}
@@ -85,7 +85,7 @@ number_at (Activity name number) = decimal number
 number_at (Object name number) = decimal number
 number_at place = []
 
--- the path of the route with nothing behind the last parameter, and of an object's collection
+-- the path of a route with nothing after the last parameter, and that of an object's collection
 bare : (name : List ℕ) → codes "/users/" ++ name ≡ codes "/users/" ++ (name ++ [])
 bare name = ap (λ t. codes "/users/" ++ t) (sym (append-nil name))
 
@@ -139,20 +139,20 @@ is_at (Collection (Liked name)) h = (h, refl)
 is_at (Activity name n) h = (h.0, (n, h.1, refl, refl))
 is_at (Object name n) h = (h.0, (n, h.1, refl, refl))
 
--- only the texts that its parameters took count
+-- only the texts that its parameters took matter
 is_at_same : (k : Kind) (n m o p : List ℕ) (place : Place) → name_in k (n ∷ m ∷ []) ≡ name_in k (o ∷ p ∷ [])
     → number_in k (n ∷ m ∷ []) ≡ number_in k (o ∷ p ∷ []) → IsAt k n m place → IsAt k o p place
 is_at_same kind.Webfinger n m o p place name number h = h
 is_at_same (kind.Member part) n m o p place name number h = rw (← name) h
 is_at_same (kind.Numbered part) n m o p place name number h = rw (← name, ← number) h
 
--- what stands at a path stands at the route that is found
+-- what a path leads to is what is at the route that is found
 pub stands_at : (place : Place) (k : Kind) (name number path : List ℕ) → IsRouted k name number path → LeadsTo path place → IsAt k name number place
 stands_at place k name number path r h =
     let one = routed_once (kind_of place) k (name_at place) (number_at place) name number path (routed_at place path h) r in
     rw one.kind at (is_at_same (kind_of place) (name_at place) (number_at place) name number place one.name one.number (is_at place h.there))
 
--- and a path leads to what stands at its route: both have the path that the route makes
+-- and a path leads to what is at its route: both have the path that the route makes
 stands_there : (place : Place) (path : List ℕ) → IsPlace place → IsRouted (kind_of place) (name_at place) (number_at place) path → LeadsTo path place
 stands_there place path h r = record { there = h; spelled = r.spelled ∙ sym (routed_path place h).spelled }
 
@@ -178,7 +178,7 @@ leads_to place (kind.Numbered p) name number path r h = rw h.1.3 (numbered_part 
 
 -- ---- one path, one place
 
--- the kind, the name and the number tell the place
+-- the kind, the name and the number determine the place
 at_once : (k : Kind) (name number : List ℕ) (a b : Place) → IsAt k name number a → IsAt k name number b → a ≡ b
 at_once kind.Webfinger name number a b x y = x ∙ sym y
 at_once (kind.Member p) name number a b x y = x.1 ∙ sym y.1

@@ -13,13 +13,13 @@ use Rattle.fedi_model.specs.Routes.{is_anonymous, ReadsBody, ReadsPost}
 use Rattle.fedi_model.specs.declared.request.Request.{Request}
 use Rattle.fedi_routes.specs.Posts.{HoldsValue, read_of}
 
--- what a reading gave of the value of the body
+-- what a reading of the value of the body gave
 pub value_read : (reads : Data → Result Activity ShapeFault) (q : Request) (body : List ℕ) (d : Data) (outcome : Result Activity ShapeFault)
     → HoldsValue q body (Some d) → Gives outcome (reads d) → outcome ≢ Err Memory → ReadsPost reads q body (read_of outcome)
 value_read reads q body d (Ok a) h gave m = rw h.0 (d, h.1, gave)
 value_read reads q body d (Err fault) h gave m = rw h.0 (d, h.1, gave (λ same. m (ap (λ (e : ShapeFault). Err e) same)))
 
--- nothing, where there is no value
+-- nothing, if there is no value
 pub nothing_read : (reads : Data → Result Activity ShapeFault) (q : Request) (body : List ℕ) → HoldsValue q body None → ReadsPost reads q body NotJson
 nothing_read reads q body = by (is_anonymous q)
   where

@@ -23,13 +23,13 @@ use Rattle.fedi_routes.specs.declared.kinds.NumberedPart.TheVariants.{Activity}
 
 -- ---- the route of each kind
 
--- where the last name of its text begins
+-- the index at which the last name of its text begins
 abbrev start_of : Kind → ℕ
 start_of Webfinger = 0
 start_of (Member part) = 8
 start_of (Numbered part) = 17
 
--- of segments those that its parameters take
+-- those of these segments that its parameters take
 abbrev pub name_in : Kind → List (List ℕ) → List ℕ
 name_in Webfinger ps = []
 name_in (Member part) ps = get_or ps 0 []
@@ -40,7 +40,7 @@ number_in Webfinger ps = []
 number_in (Member part) ps = []
 number_in (Numbered part) ps = get_or (drop 1 ps) 0 []
 
--- what is read of its text
+-- the result of reading its text
 abbrev scan_of : Kind → Scan
 scan_of kind = record {
   pattern = pattern_of kind;
@@ -74,13 +74,13 @@ pub all_plain : are_clear_of [] rows ≡ true
 unfolding rows
 all_plain = refl
 
--- ---- the rows that the inserts make
+-- ---- the rows that the insertions make
 
 pub inserted : (kind : Kind) (old new : RowsOf (RouteOf Kind)) → InsertsRead (parse_route (route_text kind)) kind old new (Ok tt)
     → new ≡ placed (pattern_of kind, route_of kind) old
 inserted kind old new h = (rw (good kind).parsed at h).1
 
--- of a route that conflicts with none the router tells alone that there was no memory
+-- for a route without a conflict, out of memory is the only error of the router
 pub memory_alone : (kind : Kind) (old new : RowsOf (RouteOf Kind)) (e : InsertError) → nearest (pattern_of kind) old ≡ None
     → InsertsRead (parse_route (route_text kind)) kind old new (Err e) → e ≡ OutOfMemory
 memory_alone kind old new e free h = none_other e free (rw (good kind).parsed at h).1
@@ -92,7 +92,7 @@ memory_alone kind old new e free h = none_other e free (rw (good kind).parsed at
     none_other InvalidParam free found = absurd found
     none_other InvalidCatchAll free found = absurd found
 
--- each of these conflicts with none that is there before it
+-- each of these has no conflict with those before it
 abbrev pub are_free : List Kind → RowsOf (RouteOf Kind) → Bool
 are_free [] rs = true
 are_free (kind ∷ rest) rs = is_none (nearest (pattern_of kind) rs) && are_free rest (added (kind ∷ []) rs)
@@ -121,7 +121,7 @@ pub added_all : (i : ℕ) (rs : RowsOf (RouteOf Kind)) → length kinds ≤ i �
 added_all i rs h e =
     let none : drop i kinds ≡ [] = drop_of_length-le kinds h in rw none at e
 
--- ---- each row is a kind's
+-- ---- each row is of a kind
 
 abbrev Ours : RowsOf (RouteOf Kind) → Type 0
 Ours [] = Unit {0}

@@ -1,4 +1,4 @@
--- The segments of a path in UTF-8 are in UTF-8.
+-- The segments of a UTF-8 path are UTF-8.
 use Rattle.std.proofs.Common.{◌≡◌, ℕ, ◌<◌, List, [], ◌∷◌, ◌++◌, append-nil, length, length-append, drop, get_or, Bool, true, false, refl, sym, subst, arith, ◌==◌, ltb}
 use Rattle.std.proofs.lemmas.Bool.{and_parts}
 use Rattle.std.proofs.lemmas.Bool.Decides.{nat_tests}
@@ -11,17 +11,17 @@ use Rattle.fedi_routes.specs.Patterns.{IsSegment, path_by, path_with, AreWith, A
 use Rattle.fedi_routes.proofs.Found.{plain_rest, plain_ends}
 use Rattle.fedi_routes.proofs.Taken.{after}
 
--- the first is in UTF-8, and the rest are as they should be; or all are
+-- the first is UTF-8, and the rest satisfy the predicate; or all do
 abbrev pub TextsWith : Bool → (List (List ℕ) → Type 0) → List (List ℕ) → Type 0
 TextsWith true rest ps = IsUtf8 (get_or ps 0 []) × rest (drop 1 ps)
 TextsWith false rest ps = rest ps
 
--- the segments are in UTF-8
+-- the segments are UTF-8
 abbrev pub Texts : List ℕ → List (List ℕ) → Type 0
 Texts [] = λ ps. Unit {0}
 Texts (x ∷ t) = TextsWith (x == param_token) (Texts t)
 
--- a text may be cut behind a character of ASCII, and at a slash
+-- a string may be cut after an ASCII character, and at a slash
 after_ascii : (x : ℕ) (rest : List ℕ) → x < 128 → IsUtf8 (x ∷ rest) → IsUtf8 rest
 after_ascii x rest l h = IsUtf8-drop (x ∷ rest) 1 h (IsCharBoundary-after_ascii (x ∷ rest) 0 h (omega arith) l)
 
@@ -36,7 +36,7 @@ before_slash p q h = rw (take-append_seam p (slash ∷ q)) at (IsUtf8-take (p ++
 from_slash : (p q : List ℕ) → IsUtf8 (p ++ slash ∷ q) → IsUtf8 (slash ∷ q)
 from_slash p q h = rw (drop-append_seam p (slash ∷ q)) at (IsUtf8-drop (p ++ slash ∷ q) (length p) h (at_slash p q))
 
--- the segments of such a path are in UTF-8
+-- the segments of such a path are UTF-8
 abbrev AreTexts : List ℕ → Type 0
 AreTexts t = (ps : List (List ℕ)) → is_plain t ≡ true → AreSegments t ps → IsUtf8 (path_by t ps) → Texts t ps
 
@@ -69,7 +69,7 @@ one-texts x t ih ps p h u = by (x == param_token) refl h u
         let low : x < 128 = grind (arith, nat_tests, both.0) in
         ih ps (plain_rest x t p) q (after_ascii x (path_by t ps) low u2)
 
--- where a pattern makes a path in UTF-8 of segments, these are in UTF-8
+-- if a pattern makes a UTF-8 path of segments, they are UTF-8
 pub texts : (t : List ℕ) → AreTexts t
 texts [] ps p h u = tt
 texts (x ∷ t) ps p h u = one-texts x t (texts t) ps p h u

@@ -10,20 +10,20 @@ use Rattle.matchit.specs.Params.{wild_stop, part_of, walk}
 use Rattle.fedi_routes.specs.Patterns.{IsSegment, path_by, path_with, AreWith, AreSegments, is_plain}
 use Rattle.fedi_routes.proofs.Found.{segment-before_slash, plain_rest, plain_ends}
 
--- ---- places in lists
+-- ---- indices of lists
 
--- a place from which something follows is inside
+-- an index with something from it on is within the list
 pub inside : (xs : List ℕ) (i y : ℕ) (ys : List ℕ) → drop i xs ≡ y ∷ ys → i < length xs
 inside xs i y ys e = omega (arith, length-drop i xs, ap length e)
 
--- what stands at a place, and what follows it
+-- what is at an index, and what follows it
 pub after : (xs : List ℕ) (i y : ℕ) (ys : List ℕ) → drop i xs ≡ y ∷ ys → (get_or xs i 0 ≡ y) × (drop (i + 1) xs ≡ ys)
 after xs i y ys e =
     let l = inside xs i y ys e in
     let s = drop-cons xs i 0 l in
     rw add-one (cc, cc)
 
--- what follows some bytes further
+-- what follows some bytes later
 pub further : (xs : List ℕ) (i : ℕ) (a b : List ℕ) → drop i xs ≡ a ++ b → drop (i + length a) xs ≡ b
 further xs zero a b e =
     let z : 0 + length a ≡ length a = omega arith in
@@ -34,7 +34,7 @@ further (x ∷ xs) (suc i) a b e =
     let z : suc i + length a ≡ suc (i + length a) = omega arith in
     rw z (further xs i a b e)
 
--- how long a list is, by what follows a place in it
+-- the length of a list, by what follows an index in it
 pub size : (xs : List ℕ) (i : ℕ) (ys : List ℕ) → drop i xs ≡ ys → i ≤ length xs → length xs ≡ i + length ys
 size xs i ys e h = omega (arith, length-drop i xs, ap length e)
 
@@ -44,7 +44,7 @@ size xs i ys e h = omega (arith, length-drop i xs, ap length e)
 abbrev pub Pairs : Type 0
 Pairs = List (List ℕ × List ℕ)
 
--- the names of a route, which stand at these places of its text, with the segments
+-- the names of a route, which are at these positions of its text, with the segments
 abbrev pub pairs : List ℕ → List (ℕ × ℕ) → List (List ℕ) → Pairs
 pairs text [] ps = []
 pairs text (n ∷ rest) ps = (part_of text n.0 n.1, get_or ps 0 []) ∷ pairs text rest (drop 1 ps)
@@ -85,7 +85,7 @@ stop-mid pattern path p q t token at e h f =
     let n : at + length (p ++ slash ∷ []) - 1 ≡ at + length p = simp length-append (omega arith) in
     rw (one, a.0, two, f, segment-before_slash p q h.bytes, a.1) n
 
--- the bytes between two places
+-- the bytes between two indices
 part-here : (path p q : List ℕ) (at stop : ℕ) → drop at path ≡ p ++ q → at ≤ length path → stop ≡ at + length p → part_of path at stop ≡ p
 part-here path p q at stop e h s =
     let len : length path ≡ at + (length p + length q) = size path at (p ++ q) e h ∙ ap (λ (n : ℕ). at + n) (length-append p q) in

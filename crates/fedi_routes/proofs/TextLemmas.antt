@@ -13,14 +13,14 @@ position_Some p xs k h = grind (arith, common_steps)
 position_None : (p : ℕ → Bool) (xs : List ℕ) → position p xs ≡ None → position_or_len p xs ≡ length xs
 position_None p xs h = grind (arith, common_steps, prefix_len-le-length (λ x. not (p x)) xs)
 
--- the front of a text, whether the byte is found or not
+-- the part of a text before the byte, whether it is found or not
 pub front_found : (p : ℕ → Bool) (xs : List ℕ) (k : ℕ) → position p xs ≡ Some k → take k xs ≡ before_first p xs
 front_found p xs k h = ap (λ (n : ℕ). take n xs) (sym (position_Some p xs k h))
 
 pub front_all : (p : ℕ → Bool) (xs : List ℕ) → position p xs ≡ None → xs ≡ before_first p xs
 front_all p xs h = sym (ap (λ (n : ℕ). take n xs) (position_None p xs h) ∙ take-length xs)
 
--- and the back of it, behind the byte
+-- and the part after the byte
 pub back_found : (p : ℕ → Bool) (xs : List ℕ) (k : ℕ) → position p xs ≡ Some k → drop (k + 1) xs ≡ after_first p xs
 back_found p xs k h = ap (λ (n : ℕ). drop (n + 1) xs) (sym (position_Some p xs k h))
 

@@ -1,4 +1,4 @@
--- Fronts of texts, and accounts cut at their last `@`.
+-- Prefixes of texts, and accounts cut at their last `@`.
 use Rattle.std.proofs.Common.{◌≡◌, ◌≢◌, ℕ, ◌+◌, ◌-◌, ◌<◌, ◌≤◌, List, [], ◌++◌, append_assoc, length, length-drop, take, drop, get_or, Option, Some, None, Bool, true, false, not, refl, sym, ap, ◌∙◌, arith, lit<}
 use Rattle.std.specs.Prelude.{◌==◌, MatchOption, codes, nat_eq, option_copied, option_and_then}
 use Rattle.std.specs.Borrow.{Bor}
@@ -16,9 +16,9 @@ use Rattle.fedi_address.specs.Iris.{is_at}
 use Rattle.fedi_town.specs.Ids.{actor_id}
 use Rattle.fedi_model.specs.Webfinger.{after_front}
 
--- ---- fronts
+-- ---- prefixes
 
--- a text that begins so goes on so
+-- a text that begins with a prefix continues with the rest
 after_front-begins : (front text rest : List ℕ) → text ≡ front ++ rest → after_front front text ≡ Some rest
 after_front-begins front text rest e =
     let begins : starts_with nat_eq text front ≡ true = (starts_is Decides-eqb text front (starts_with nat_eq text front) refl).1 rest e in
@@ -37,7 +37,7 @@ pub after_front_stripped : (front text : List ℕ) (r : Option (Bor (List ℕ)))
 after_front_stripped front text None h = sym (after_front-other front text h)
 after_front_stripped front text (Some x) h = sym (after_front-begins front text x.now (h.1.1 ∙ ap (λ t. front ++ t) (sym h.2)))
 
--- what follows one front and then another
+-- what follows one prefix and then another
 after_front-append : (a b text : List ℕ) → after_front (a ++ b) text ≡ option_and_then (after_front b) (after_front a text)
 after_front-append a b text = by (starts_with nat_eq text a) refl
   where

@@ -25,7 +25,7 @@ abbrev pub needs_memory : List ℕ → Place → Bool
 needs_memory method there =
     (is_reading method && has_query there) || (is_post method && has_posts there)
 
--- the request is such a one
+-- the request is one of these
 abbrev pub MayNeedMemory : Request → Type 0
 MayNeedMemory q =
     (there : Place) × LeadsTo (path_of q.target) there × IsTrue (needs_memory q.method there)

@@ -11,13 +11,13 @@ use Rattle.fedi_reading.specs.declared.shape_fault.ShapeFault.TheVariants.{Memor
 use Rattle.fedi_model.specs.declared.request.Request.{Request}
 use Rattle.fedi_model.specs.Routes.{is_anonymous}
 
--- The value of the body, or none where the request shows nothing of who makes it or the body is no
+-- The value of the body, or none if the request shows nothing about who makes it or the body is not
 -- JSON.
 abbrev pub HoldsValue : Request → List ℕ → Option Data → Type 0
 HoldsValue q body None = MatchBool (is_anonymous q) (Unit {0}) ((d : Data) → ¬ (IsBodyOf body d))
 HoldsValue q body (Some d) = (is_anonymous q ≡ false) × IsBodyOf body d
 
--- what a reading is that gave the activity, or this fault
+-- the result of a reading that gave the activity, or this fault
 abbrev pub read_of : Result activities.Activity ShapeFault → Read
 read_of (Ok a) = Ready a
 read_of (Err fault) = Bad fault

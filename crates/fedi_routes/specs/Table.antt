@@ -29,7 +29,7 @@ end_of Followers = codes "/followers"
 end_of Following = codes "/following"
 end_of Liked = codes "/liked"
 
--- what stands between the member's name and the number
+-- what is between the member's name and the number
 abbrev pub middle_of : NumberedPart → List ℕ
 middle_of Activity = codes "/a/"
 middle_of part = codes "/o/"
@@ -55,7 +55,7 @@ pattern_of (Member part) = codes "/users/" ++ param_token ∷ end_of part
 pattern_of (Numbered part) =
     codes "/users/" ++ param_token ∷ (middle_of part ++ param_token ∷ last_of part)
 
--- where the names of its parameters stand in the text
+-- the positions of the names of its parameters in the text
 abbrev pub names_of : Kind → List (ℕ × ℕ)
 names_of Webfinger = []
 names_of (Member part) = (8, 12) ∷ []
@@ -78,7 +78,7 @@ kinds =
     Webfinger ∷ Member Actor ∷ Member Inbox ∷ Member Outbox ∷ Member Followers ∷ Member Following
     ∷ Member Liked ∷ Numbered Activity ∷ Numbered Object ∷ Numbered Likes ∷ Numbered Shares ∷ []
 
--- the rows with the routes of these kinds put in, one after another
+-- the rows after the routes of these kinds are added, one after another
 abbrev pub added : List Kind → RowsOf (RouteOf Kind) → RowsOf (RouteOf Kind)
 added [] rs = rs
 added (kind ∷ rest) rs = added rest (placed (pattern_of kind, route_of kind) rs)
@@ -94,7 +94,7 @@ pub record IsRouted (kind : Kind) (name number path : List ℕ) : Type 0 where
   pub segments : AreSegments (pattern_of kind) (name ∷ number ∷ [])
   pub spelled : path ≡ path_by (pattern_of kind) (name ∷ number ∷ [])
 
--- the part of the member
+-- the place of the part, for the member
 abbrev pub member_place : Part → List ℕ → Place
 member_place Actor name = place.Actor name
 member_place Inbox name = place.Collection (which.Inbox name)
@@ -103,14 +103,14 @@ member_place Followers name = place.Collection (which.Followers name)
 member_place Following name = place.Collection (which.Following name)
 member_place Liked name = place.Collection (which.Liked name)
 
--- the part of the member and the number
+-- the place of the part, for the member and the number
 abbrev pub numbered_place : NumberedPart → List ℕ → ℕ → Place
 numbered_place Activity name number = place.Activity name number
 numbered_place Object name number = place.Object name number
 numbered_place Likes name number = place.Collection (which.Likes name number)
 numbered_place Shares name number = place.Collection (which.Shares name number)
 
--- the place is of the kind, and its name and its number are written so
+-- the place is of the kind, and these bytes write its name and its number
 abbrev pub IsAt : Kind → List ℕ → List ℕ → Place → Type 0
 IsAt Webfinger name number there = there ≡ place.Webfinger
 IsAt (Member part) name number there = IsTrue (is_name name) × (there ≡ member_place part name)

@@ -54,8 +54,8 @@ fn write_person(out: &mut Writer, id: &str, name: &str) -> Result<(), AllocError
     out.end_object()
 }
 
-/// Writes what WebFinger says of the member, with the links of these relations alone, or with all
-/// if there is none. The error is out of memory.
+/// Writes what WebFinger says of the member, with the links of these relations only, or with all
+/// links if there are no relations. The error is out of memory.
 #[tactic(auto, unfolding(fedi_model::specs::Documents::jrd_form))]
 pub fn write_jrd(
     out: &mut Writer,
@@ -113,7 +113,7 @@ fn account_text(alloc: Global, name: &str, host: &str) -> Result<String, AllocEr
     format!(in alloc; "acct:{name}@{host}")
 }
 
-// Writes the links of these relations, or all if there is none.
+// Writes the links of these relations, or all links if there are no relations.
 fn write_links(out: &mut Writer, id: &str, rels: &[Text]) -> Result<(), AllocError>
     ensures { OnOk result
         (IsWritten (array (items_of (links_of id.now rels.now))) out.old out.new) }

@@ -1,4 +1,4 @@
-//! The kinds of places, and the route of each.
+//! The kinds of places that paths lead to, and the route of each.
 
 ghost use Rattle.std.specs.Prelude.{◌≡◌};
 ghost use Rattle.fedi_routes.specs.Table as table;
@@ -6,7 +6,7 @@ ghost use Rattle.fedi_routes.specs.Table as table;
 use fedi_address::LocalName;
 use fedi_model::{Place, Which};
 
-/// What has a path behind a member's name.
+/// What has a path that continues after a member's name.
 #[derive(Clone, Copy, Drop)]
 pub(crate) enum Part {
     Actor,
@@ -17,7 +17,7 @@ pub(crate) enum Part {
     Liked,
 }
 
-/// What has a path behind a member's name and a number.
+/// What has a path that continues after a member's name and a number.
 #[derive(Clone, Copy, Drop)]
 pub(crate) enum NumberedPart {
     Activity,
@@ -26,7 +26,7 @@ pub(crate) enum NumberedPart {
     Shares,
 }
 
-/// A kind of places: those that have one route.
+/// A kind of place: the places that share one route.
 #[derive(Clone, Copy, Drop)]
 pub(crate) enum Kind {
     Webfinger,
@@ -35,7 +35,7 @@ pub(crate) enum Kind {
 }
 
 impl Part {
-    /// The part of this member.
+    /// The place of this part, for this member.
     pub(crate) fn place(self, name: LocalName) -> Place
         ensures { result ≡ table.member_place self name }
     {
@@ -51,7 +51,7 @@ impl Part {
 }
 
 impl NumberedPart {
-    /// The part of this member and this number.
+    /// The place of this part, for this member and this number.
     pub(crate) fn place(self, name: LocalName, number: u32) -> Place
         ensures { result ≡ table.numbered_place self name number }
     {
@@ -80,7 +80,7 @@ impl Kind {
         Kind::Numbered(NumberedPart::Shares),
     ];
 
-    /// The route, as the router writes it: a parameter stands in braces.
+    /// The route as the router writes it: parameters are in braces.
     pub(crate) fn route(self) -> &'static str
         ensures { result.now ≡ table.route_text self }
     {

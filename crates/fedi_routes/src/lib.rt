@@ -1,8 +1,8 @@
-//! What a request asks for, what it shows of who makes it, and the documents that say who a member
-//! is.
+//! What a request asks for, what it shows about who makes it, and the documents that say who a
+//! member is.
 //!
-//! That the router finds exactly the routes whose pattern the path fits, and that each parameter
-//! takes its segment, is shown over the definitions of `matchit`, for routers with values of any
+//! That the router finds exactly the routes whose pattern fits the path, and that each parameter
+//! takes its segment, is proved over the definitions of `matchit`, for routers with values of any
 //! type whose parameters are whole segments.
 #![tactic(auto)]
 

@@ -4,7 +4,7 @@ ghost use Rattle.std.specs.Prelude.{◌≡◌, ◌≢◌, ◌↔◌, ℕ, ◌<�
 ghost use Rattle.std.specs.Prelude.{slice_index};
 ghost use Rattle.fedi_model.specs.Places.{IsNumber};
 
-/// The number, from 1 to 4,294,967,295, that these digits write without a zero in front.
+/// The number, from 1 to 4,294,967,295, that these digits write without a leading zero.
 pub(crate) fn number_of(digits: &str) -> Option<u32>
     ensures { MatchOption result
         ((number : ℕ) → IsNumber number → digits.now ≢ decimal number)
@@ -19,10 +19,10 @@ pub(crate) fn number_of(digits: &str) -> Option<u32>
     }
 }
 
-/// The digit that stands in front of no number.
+/// The digit that no number begins with.
 const ZERO: u8 = b'0';
 
-/// Whether there is a first byte, and it is above the digit 0.
+/// Whether there is a first byte, and it is greater than the digit 0.
 fn begins_above_zero(digits: &[u8]) -> bool
     ensures { IsTrue result ↔ (ZERO < slice_index digits.now 0) }
 {

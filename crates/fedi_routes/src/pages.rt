@@ -8,9 +8,9 @@ use fedi_model::PageAsk;
 use fedi_text::read_decimal;
 use std::alloc::{AllocError, Global};
 
-/// The part that the query asks for: the page of the number that `page` has, or without one the
-/// collection without its items. `Malformed` if `page` stands there twice, or is not 1 to 10
-/// digits. The error is out of memory.
+/// The part that the query asks for: the page whose number `page` gives, or without `page` the
+/// collection without its items. `Malformed` if `page` occurs twice, or is not 1 to 10 digits. The
+/// error is out of memory.
 #[tactic(auto, unfolding(fedi_model::specs::Pages::page_in))]
 pub(crate) fn page_in(alloc: Global, query: &[u8]) -> Result<PageAsk, AllocError>
     ensures { IfOk result (λ part. part ≡ pages.page_in query.now) }
@@ -23,7 +23,7 @@ pub(crate) fn page_in(alloc: Global, query: &[u8]) -> Result<PageAsk, AllocError
     }
 }
 
-/// The page of the number that the text writes.
+/// The page whose number the text writes.
 fn page_of_text(text: &[u8]) -> PageAsk
     ensures { result ≡ pages.page_of_text text.now }
 {

@@ -1,4 +1,4 @@
-//! The places of paths.
+//! The places that paths lead to.
 
 ghost use Rattle.std.specs.Prelude.{◌≡◌, MatchOption};
 ghost use Rattle.fedi_model.specs.Places.{LeadsTo};
@@ -12,7 +12,7 @@ use fedi_address::LocalName;
 use fedi_model::Place;
 use std::str;
 
-/// What stands at the path.
+/// The place that the path leads to.
 pub(crate) fn place_of(routes: &Routes, path: &[u8]) -> Option<Place>
     ensures { MatchOption result
         ((place : Place) → ¬ (LeadsTo path.now place))
@@ -25,7 +25,7 @@ pub(crate) fn place_of(routes: &Routes, path: &[u8]) -> Option<Place>
     place_at(&routed)
 }
 
-/// What stands at the route with these texts.
+/// The place at the route with these texts.
 fn place_at(routed: &Routed) -> Option<Place>
     ensures { MatchOption result
         ((place : Place) → ¬ (IsAt routed.now.kind routed.now.name.now routed.now.number.now place))

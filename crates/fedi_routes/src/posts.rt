@@ -16,8 +16,8 @@ use fedi_reading::{BodyFault, ShapeFault, read_activity, read_body, read_deliver
 use serde_json::Value;
 use std::alloc::{AllocError, Global};
 
-/// The post that the request with this body makes for the author's outbox. The error is that there
-/// is no memory for it.
+/// The post that the request with this body makes to the author's outbox. The error is out of
+/// memory.
 #[tactic(auto, using(crate::proofs::PostLemmas::value_read, crate::proofs::PostLemmas::nothing_read))]
 pub(crate) fn post_of(
     alloc: Global,
@@ -42,7 +42,7 @@ pub(crate) fn post_of(
 }
 
 /// The delivery that the request with this body makes to an inbox (ActivityPub, section 7). The
-/// error is that there is no memory for it.
+/// error is out of memory.
 #[tactic(auto, using(crate::proofs::PostLemmas::value_read, crate::proofs::PostLemmas::nothing_read))]
 pub(crate) fn delivery_of(alloc: Global, request: &Request, body: &[u8]) -> Result<Post, AllocError>
     ensures { IfOk result (λ post. model.IsDelivery request.now body.now post) }
@@ -59,7 +59,7 @@ pub(crate) fn delivery_of(alloc: Global, request: &Request, body: &[u8]) -> Resu
     })
 }
 
-/// The key under which the post is repeated.
+/// The key that the post may be repeated under.
 fn key_of(fields: &Fields) -> KeyAsk
     ensures { result ≡ model.repeat_key fields.now.idempotency_key }
 {
@@ -72,7 +72,7 @@ fn key_of(fields: &Fields) -> KeyAsk
     }
 }
 
-/// The digest of the body, if somebody asks for it: under a key.
+/// The digest of the body, if it is needed: under a key.
 fn digest_under(key: &KeyAsk, body: &[u8]) -> [u8; 32]
     ensures { result ≡ model.digest_under key.now body.now }
 {
@@ -82,7 +82,7 @@ fn digest_under(key: &KeyAsk, body: &[u8]) -> [u8; 32]
     }
 }
 
-/// Whether the request shows nothing of who makes it.
+/// Whether the request shows nothing about who makes it.
 fn is_anonymous(fields: &Fields) -> bool
     ensures { result ≡ (is_none fields.now.authorization
         && (is_none fields.now.peer_host && is_none fields.now.peer_mac)) }
@@ -90,7 +90,8 @@ fn is_anonymous(fields: &Fields) -> bool
     fields.authorization.is_none() && fields.peer_host.is_none() && fields.peer_mac.is_none()
 }
 
-/// The value of the body, or none if it is no JSON or nobody shows who posts it.
+/// The value of the body. `None` if the body is not JSON, or if the request does not show who posts
+/// it.
 fn value_of(alloc: Global, request: &Request, body: &[u8]) -> Result<Option<Value>, AllocError>
     ensures { IfOk result (λ value. HoldsValue request.now body.now (option_map view value)) }
 {
@@ -116,7 +117,7 @@ fn read_as(alloc: Global, outcome: Result<Activity, ShapeFault>) -> Result<Read,
     }
 }
 
-/// Whether the body is said to be JSON or ActivityStreams.
+/// Whether the request says that its body is JSON or ActivityStreams.
 fn is_typed(fields: &Fields) -> bool
     ensures { result ≡ model.is_typed fields.now.content_type }
 {
@@ -126,7 +127,7 @@ fn is_typed(fields: &Fields) -> bool
     }
 }
 
-/// The media type without its parameters (RFC 9110, section 8.3.1), as it was written.
+/// The media type as it was written, without its parameters (RFC 9110, section 8.3.1).
 #[tactic(auto, unfolding(fedi_model::specs::Routes::media_type))]
 fn media_type(value: &[u8]) -> &[u8]
     ensures { map to_ascii_lowercase result.now ≡ model.media_type value.now }
@@ -134,7 +135,7 @@ fn media_type(value: &[u8]) -> &[u8]
     trim_end(before(value, b';'))
 }
 
-/// Whether this is, in any case, a media type of JSON or of ActivityStreams.
+/// Whether this is a media type of JSON or of ActivityStreams, in upper or lower case.
 #[tactic(auto, unfolding(fedi_model::specs::Routes::is_read_type))]
 fn is_read_type(media_type: &[u8]) -> bool
     ensures { result ≡ model.is_read_type (map to_ascii_lowercase media_type.now) }

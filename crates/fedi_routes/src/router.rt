@@ -12,15 +12,15 @@ use crate::kinds::Kind;
 use matchit::{InsertError, Params, Router};
 use std::alloc::{AllocError, Global};
 
-/// The routes of the server. They are made once, and lent to whoever routes a request.
+/// The routes of the server. They are built once, and lent to whatever routes a request.
 #[derive(Drop)]
 pub struct Routes {
     router: Router<Kind>,
     ghost whole: { router ≡ table.rows },
 }
 
-/// The route that a path has, with the texts of its parameters. A text is empty if the route has no
-/// such parameter.
+/// The route of a path, with the texts of its parameters. A text is empty if the route has no such
+/// parameter.
 #[derive(Clone, Copy, Drop)]
 pub(crate) struct Routed<'p> {
     pub(crate) kind: Kind,
@@ -55,8 +55,9 @@ impl Routes {
     }
 }
 
-/// Adds the route of a kind of places, which conflicts with none that is there. The error is out of
-/// memory: the router has no other for a route that is well formed and conflicts with none.
+/// Adds the route of a kind of place, which conflicts with no route that is already there. The
+/// error is out of memory: the router has no other error for a well-formed route without a
+/// conflict.
 fn add(router: &mut Router<Kind>, kind: Kind) -> Result<(), AllocError>
     requires { nearest (table.pattern_of kind) router.old ≡ None }
     ensures { OnOk result (router.new ≡ table.added (kind ∷ []) router.old) }
@@ -67,14 +68,14 @@ fn add(router: &mut Router<Kind>, kind: Kind) -> Result<(), AllocError>
     }
 }
 
-/// The error of a router that had no memory for a route.
+/// The error of a router that ran out of memory for a route.
 fn out_of_memory(_error: InsertError) -> AllocError
     requires { _error ≡ InsertError.OutOfMemory }
 {
     AllocError
 }
 
-/// What the parameter of this name took, or nothing if there is none.
+/// What the parameter of this name took, or the empty text if there is no such parameter.
 fn parameter<'p>(params: &Params<'_, 'p>, name: &str) -> &'p str
     ensures { let taken = walk params.now.pattern.now params.now.text.now params.now.path.now
         params.now.names.now 0 0

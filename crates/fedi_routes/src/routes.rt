@@ -19,18 +19,18 @@ use fedi_town::actor_iri;
 use http::Method;
 use std::alloc::{AllocError, Global};
 
-/// What the request with this body asks for, at the server of this host, once that is set: by the
-/// place to which its path leads, and then by its method.
+/// What the request with this body asks for, at the server of this host once the host is set: the
+/// place that its path leads to decides first, and then its method.
 ///
-/// Members, activities, objects, collections and WebFinger are read by GET and HEAD, and outboxes
-/// and inboxes are posted to. Another method asks for `Ask::WrongMethod`. A path that leads nowhere
+/// Members, activities, objects, collections and WebFinger are read by GET and HEAD. Outboxes and
+/// inboxes are posted to. Any other method asks for `Ask::WrongMethod`. A path that leads nowhere
 /// asks for `Ask::Nowhere`, and so does a post to an outbox before the host is set. The path is the
 /// target up to its first question mark (RFC 3986, section 3.3). It is compared byte for byte and
 /// never decoded.
 ///
-/// The error is out of memory. It comes only of a query of WebFinger or of a collection, and of a
-/// post to an outbox or an inbox, whose body is read unless the request shows nothing of who makes
-/// it.
+/// The error is out of memory. It occurs only for a query of WebFinger or of a collection, and for
+/// a post to an outbox or an inbox, whose body is read unless the request shows nothing about who
+/// makes it.
 #[tactic(auto, using(crate::proofs::AskLemmas::asked_once))]
 pub fn route(
     alloc: Global,
@@ -42,8 +42,8 @@ pub fn route(
     ensures asks { IfOk result (λ ask.
         model.Asks (option_copied host.entry) request.now body.now ask) }
     ensures once { model.IsAskedOnce (option_copied host.entry) request.now body.now }
-    // An activity to be posted is one that a history at this host may take from its author, and one
-    // that is delivered has the shape of a delivery.
+    // An activity to be posted is one that a history at this host may accept from its author, and
+    // one that is delivered has the shape of a delivery.
     ensures postable { IfOk result (λ ask. model.IsPostableAt (option_copied host.entry) ask) }
     ensures memory { OnErr result (MayNeedMemory request.now) }
 {
@@ -60,14 +60,14 @@ fn path_of(request: &Request) -> &[u8]
     before(request.target.bytes(), b'?')
 }
 
-/// The target behind its first question mark, or nothing.
+/// The target after its first question mark, or nothing.
 fn query_of(request: &Request) -> &[u8]
     ensures { result.now ≡ queries.query_of request.now.target }
 {
     after(request.target.bytes(), b'?')
 }
 
-/// What the request asks for at the place.
+/// What the request asks for at this place.
 fn ask_at(
     alloc: Global,
     request: &Request,
@@ -95,7 +95,7 @@ fn is_reading(method: &Method) -> bool
     *method == Method::GET || *method == Method::HEAD
 }
 
-/// What is asked for by reading the place.
+/// What reading this place asks for.
 fn read_at(
     alloc: Global,
     query: &[u8],
@@ -115,7 +115,7 @@ fn read_at(
     }
 }
 
-/// What is asked for by posting to the place.
+/// What posting to this place asks for.
 fn post_to(
     alloc: Global,
     request: &Request,
@@ -137,7 +137,7 @@ fn post_to(
     }
 }
 
-/// What is asked for by posting to the outbox of this name.
+/// What posting to the outbox of this name asks for.
 fn outbox_of(
     alloc: Global,
     request: &Request,
@@ -155,14 +155,14 @@ fn outbox_of(
     Ok(Ask::Outbox(name, post_of(alloc, request, body, &author)?))
 }
 
-/// What is asked for by a method that the place does not have.
+/// What a method asks for that this place does not have.
 fn refused_at(place: Place) -> Ask
     ensures { result ≡ model.refused_at place }
 {
     Ask::WrongMethod(allow_of(&place))
 }
 
-/// The methods that the place has.
+/// The methods that this place has.
 fn allow_of(place: &Place) -> Allow
     ensures { result ≡ places.allow_of place.now }
 {

@@ -1,4 +1,4 @@
-//! What a request shows of who makes it (RFC 6750, section 2.1; RFC 9110, section 11.6.2).
+//! What a request shows about who makes it (RFC 6750, section 2.1; RFC 9110, section 11.6.2).
 
 ghost use Rattle.std.specs.Prelude.{◌≡◌, Some, option_map};
 ghost use Rattle.fedi_model.specs.Callers.{is_signed};
@@ -11,11 +11,11 @@ use fedi_model::{Credentials, Request, Signed};
 /// The scheme of a bearer key and the one space after it.
 const SCHEME: &[u8] = b"bearer ";
 
-/// What the request with this body shows of who makes it, by the fields `Authorization`,
-/// `Peer-Host` and `Peer-Mac`. If `Authorization` stands, it alone counts: the key is there exactly
-/// if the value is `Bearer`, in any case, one space and 64 hexadecimal digits (RFC 6750, section
-/// 2.1). A code is there exactly if both other fields stand, the host is UTF-8 and the code has 64
-/// hexadecimal digits, none in upper case. It takes no memory.
+/// What the request with this body shows about who makes it, by the fields `Authorization`,
+/// `Peer-Host` and `Peer-Mac`. If `Authorization` is present, it alone counts: there is a key
+/// exactly if the value is `Bearer`, in upper or lower case, one space and 64 hexadecimal digits
+/// (RFC 6750, section 2.1). There is a code exactly if both other fields are present, the host is
+/// UTF-8 and the code has 64 hexadecimal digits, none in upper case. It takes no memory.
 pub fn credentials<'a>(request: &'a Request, body: &'a [u8]) -> Credentials<'a>
     ensures { model.shown_by result ≡ model.credentials_of request.now body.now }
 {
@@ -32,7 +32,7 @@ pub fn credentials<'a>(request: &'a Request, body: &'a [u8]) -> Credentials<'a>
     }
 }
 
-/// The key after `Bearer`, in any case, and one space.
+/// The key after `Bearer`, in upper or lower case, and one space.
 #[tactic(auto, unfolding(fedi_mac::specs::Keys::key_of))]
 fn bearer_key(value: &[u8]) -> Option<[u8; 32]>
     ensures { result ≡ model.bearer_key value.now }
@@ -63,7 +63,7 @@ fn code_of(text: &[u8]) -> Option<[u8; 32]>
     }
 }
 
-/// The request with this body as this host signed it by this code.
+/// The request with this body, as this host signed it with this code.
 fn signed<'a>(
     request: &'a Request,
     body: &'a [u8],
@@ -84,8 +84,8 @@ fn signed<'a>(
     })
 }
 
-/// Whether the code that a peer shows is that of the request under this key, which is the one that
-/// the peer and this server share. It takes no memory.
+/// Whether the code that a peer shows is that of the request under this key, which the peer and
+/// this server share. It takes no memory.
 #[tactic(auto, unfolding(fedi_model::specs::Callers::is_signed))]
 pub fn is_signed(key: &[u8; 32], signed: &Signed) -> bool
     ensures { result ≡ is_signed key.now (model.signature_in signed.now) }

@@ -3,7 +3,7 @@
 ghost use Rattle.std.specs.Prelude.{◌≡◌, ◌==◌, position};
 ghost use Rattle.std.specs.List.{before_first, after_first};
 
-/// The text up to the first of these bytes, or all of it.
+/// The bytes before the first of these bytes, or all of them.
 pub(crate) fn before(text: &[u8], mark: u8) -> &[u8]
     ensures { result.now ≡ before_first (λ b. b == mark) text.now }
 {
@@ -13,7 +13,7 @@ pub(crate) fn before(text: &[u8], mark: u8) -> &[u8]
     }
 }
 
-/// The text after the first of these bytes, or nothing.
+/// The bytes after the first of these bytes, or nothing.
 pub(crate) fn after(text: &[u8], mark: u8) -> &[u8]
     ensures { result.now ≡ after_first (λ b. b == mark) text.now }
 {
@@ -23,7 +23,7 @@ pub(crate) fn after(text: &[u8], mark: u8) -> &[u8]
     }
 }
 
-/// Where this byte first stands.
+/// The index at which this byte first occurs.
 fn first(text: &[u8], wanted: u8) -> Option<usize>
     ensures { result ≡ position (λ b. b == wanted) text.now }
 {

@@ -1,4 +1,4 @@
-//! Whom a query asks for by WebFinger (RFC 7033, sections 4.1 to 4.3).
+//! The member that a WebFinger query asks for (RFC 7033, sections 4.1 to 4.3).
 
 ghost use Rattle.std.specs.Prelude.{◌≡◌, [], Some, IfOk, MatchOption, option_copied};
 ghost use Rattle.std.specs.List.{before_last, after_last};
@@ -12,7 +12,7 @@ use fedi_model::Resource;
 use std::alloc::{AllocError, Global};
 
 /// The resource that the query asks for, at the server of this host, with the relations that it
-/// asks for. `None` if no resource stands there or several, or if it is malformed: neither an
+/// asks for. `None` if there is no resource or more than one, or if it is malformed: neither an
 /// account (`acct:`, RFC 7565) nor an IRI. The error is out of memory.
 #[tactic(auto, unfolding(fedi_model::specs::Webfinger::resource_in))]
 pub(crate) fn resource_in(
@@ -34,7 +34,7 @@ pub(crate) fn resource_in(
     Ok(Some(Resource { name, rels }))
 }
 
-/// Whom the resource names: a member, or nobody here for certain. `None` if it is malformed.
+/// What the resource names: a member, or certainly nobody here. `None` if it is malformed.
 #[tactic(auto, unfolding(fedi_model::specs::Webfinger::resource_name))]
 fn resource_name(
     alloc: Global,
@@ -50,7 +50,7 @@ fn resource_name(
     }
 }
 
-/// Whom the account names: a member or nobody. `None` if it is no account.
+/// What the account names: a member or nobody. `None` if it is not an account.
 fn name_of_account(host: Option<&Host>, account: &str) -> Option<Option<LocalName>>
     ensures { result ≡ webfinger.name_of_account (option_copied host.entry) account.now }
 {
@@ -61,7 +61,7 @@ fn name_of_account(host: Option<&Host>, account: &str) -> Option<Option<LocalNam
     Some(account_name(host, user, domain))
 }
 
-/// Whom the text names that is read as an IRI: a member or nobody. `None` if it is no IRI.
+/// What the string names when it is read as an IRI: a member or nobody. `None` if it is not an IRI.
 fn name_of_iri(
     alloc: Global,
     host: Option<&Host>,
@@ -77,7 +77,8 @@ fn name_of_iri(
     }
 }
 
-/// The user and the host of the account, around its last `@`. `None` if there is none.
+/// The user and the host of the account: what is before and after its last `@`. `None` if it has no
+/// `@`.
 fn account_parts(account: &str) -> Option<(&str, &str)>
     ensures { MatchOption result (before_last is_at account.now ≡ [])
         (λ parts. (parts.0.now ≡ before_last is_at account.now)
@@ -97,14 +98,14 @@ fn account_name(host: Option<&Host>, user: &str, domain: &str) -> Option<LocalNa
     }
 }
 
-/// The member whose id it is.
+/// The member with this id.
 fn id_name(host: Option<&Host>, iri: &str) -> Option<LocalName>
     ensures { result ≡ webfinger.id_name (option_copied host.entry) iri.now }
 {
     name_in(after_users(host?.text(), iri)?)
 }
 
-/// What follows the front of a member's id.
+/// What follows the beginning that the ids of members have.
 fn after_users<'a>(host: &str, iri: &'a str) -> Option<&'a str>
     ensures { option_copied result ≡ webfinger.after_front (actor_id host.now []) iri.now }
 {
@@ -120,7 +121,7 @@ fn name_in(text: &str) -> Option<LocalName>
     LocalName::parse(text)
 }
 
-/// What follows this front of the text, if it begins so.
+/// What follows this prefix of the text, if it begins with it.
 fn after_front<'a>(text: &'a str, front: &str) -> Option<&'a str>
     ensures { option_copied result ≡ webfinger.after_front front.now text.now }
 {

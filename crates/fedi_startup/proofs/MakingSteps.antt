@@ -49,7 +49,7 @@ which : (b : Bool) → (b ≡ true) ⊎ (b ≡ false)
 which true = inl refl
 which false = inr refl
 
--- these are other bytes, or not
+-- these bytes differ from a journal without records, or not
 other_or_free : (bytes : List ℕ) → IsOther bytes ⊎ (IsOther bytes → ⊥)
 other_or_free bytes =
     let long = Decides-ltb 9 (length bytes) in
@@ -180,12 +180,12 @@ blank_file : (bytes : List ℕ) → IsImage plain [] (spliced 0 blank bytes)
 unfolding front
 blank_file bytes = record { short = tt; spelled = closed_intro plain plain_ok [] (spliced 0 blank bytes) (drop 9 bytes) refl }
 
--- What crashes may leave once a disk is a journal without records: what was left then, or a file of
--- no record, or of this one.
+-- What crashes may leave once a disk is a journal without records: what they could leave then, or a
+-- file of no record, or of this one.
 abbrev MayLeaveSince : List ℕ → DiskCrashes → List ℕ → Type 0
 MayLeaveSince code begun image = begun.may_leave image ⊎ HasRecords [] (Some code) image
 
--- only room was made since
+-- since then only room was made
 pub room_since : (code : List ℕ) (found later : DiskState) (begun after : DiskCrashes) → IsUntouched found later begun after
     → (bytes : List ℕ) → found.reads ≡ Some bytes → Elapses begun after (MayLeaveSince code begun)
 room_since code found later begun after same bytes is =
@@ -197,7 +197,7 @@ room_since code found later begun after same bytes is =
       keeps = time.keeps;
     }
 
--- and then the record was written, or was to be
+-- and then the record was written, or was about to be
 pub written_since : (code : List ℕ) (found later : DiskState) (begun ready after : DiskCrashes) (records : Option (List (List ℕ))) → IsUntouched found later begun ready
     → ((bytes : List ℕ) → found.reads ≡ Some bytes → records ≡ Some [])
     → ((kept : List (List ℕ)) → records ≡ Some kept → Elapses ready after (HasRecords kept (Some code)))
@@ -224,7 +224,7 @@ blank_records start found k m is room written bytes here = room.records ∙ (ap 
     none None e = absurd (cc e)
     none (Some before) e = refl
 
--- a journal was made, and then its first record was to be kept
+-- a journal was made, and then its first record was about to be kept
 pub at_most : (code : List ℕ) (start found : DiskState) (before begun after : DiskCrashes) → ((image : List ℕ) → begun.left_since begun.clock image → begun.may_leave image)
     → found.reads ≡ option_map (spliced 0 blank) start.reads → IfSome found.reads (LeavesOnly begun) → Elapses before begun (MayTear 0 blank before) → begun.clock ≤ after.clock
     → ((bytes : List ℕ) → found.reads ≡ Some bytes → Elapses begun after (MayLeaveSince code begun)) → LeavesAtMost code start.reads before after

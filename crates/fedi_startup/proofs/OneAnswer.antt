@@ -1,4 +1,4 @@
--- What an opening may answer excludes all else.
+-- The answers that an opening may give exclude each other.
 use Rattle.std.proofs.Common.{◌≡◌, inl, inr, ℕ, ◌+◌, ◌<◌, List, [], ◌∷◌, ◌++◌, length, take, drop, Some, refl, sym, ap, subst, ◌∙◌, arith, length-append}
 use Rattle.std.proofs.lemmas.List.{length-map, take_all}
 use Rattle.fedi_entry.specs.Codes.{code_of}
@@ -63,7 +63,7 @@ none_record place bytes (inr none) bad =
 pub byte_record : (here there : ℕ) (bytes : List ℕ) → IsDamagedAt plain here bytes → HasBadRecord there bytes → ⊥
 byte_record here there bytes damaged bad = not_damaged plain plain_ok bad.0 here bytes bad.1 damaged
 
--- a store begins with an open gate behind the magic
+-- a store begins with the magic and an open gate
 pub store_other : (history : List Entry) (bytes : List ℕ) → IsStoreOf history bytes → IsOther bytes
 unfolding front
 store_other [] bytes store = absurd (store.some refl)

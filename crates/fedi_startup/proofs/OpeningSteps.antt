@@ -1,4 +1,4 @@
--- What is known of a disk once a machine was opened over it, or was not.
+-- What is known of a disk after a machine was opened over it, or was not.
 use Rattle.std.proofs.Common.{◌≡◌, ◌⊎◌, inl, inr, ℕ, ◌+◌, List, [], ◌∷◌, ◌++◌, length, map, take, drop, Option, Some, None, refl, sym, ap, subst, ◌∙◌, append_assoc, arith}
 use Rattle.std.specs.Prelude.{◌≢◌, Err, IfSome, is_some, option_map}
 use Rattle.std.proofs.lemmas.List.{take_at}
@@ -28,7 +28,7 @@ use Rattle.fedi_startup.proofs.Told.{each_some, of_told, told_bytes, untold_byte
 
 -- ---- crashes
 
--- what left files of some records, and was untouched since, leaves such files
+-- a disk that left files of some records, and was untouched since, leaves such files
 pub untouched_files : (start found : DiskState) (before middle : DiskCrashes) (bytes : List ℕ) (records : List (List ℕ)) (doubt : Option (List ℕ))
     → IsUntouched start found before middle → start.reads ≡ Some bytes → ((image : List ℕ) → before.left_since before.clock image → before.may_leave image)
     → LeavesFiles before records doubt → LeftFiles before.clock middle records doubt

@@ -71,7 +71,7 @@ stored : (history : List Entry) (image : List ℕ) (rs : List (List ℕ)) → hi
 stored history image rs some sound file is =
     record { some = some; sound = sound; file = subst (λ (l : List (List ℕ)). IsImage plain l image) is file }
 
--- the records with one code more, which is that of an entry that may come next
+-- the records and one more code, that of an entry that may come next
 stored_more : (history : List Entry) (image code : List ℕ) (rs : List (List ℕ)) → history ≢ [] → IsSound history → IsImage plain rs image
     → rs ≡ records_of history ++ code ∷ [] → (next : IsNextCode history code) → IsStoreOf (history ++ next.0 ∷ []) image
 stored_more history image code rs some sound file is next =
@@ -96,7 +96,7 @@ pub leaves_one : (crashes : DiskCrashes) (history : List Entry) (doubt : Option 
 leaves_one crashes history doubt image leaves may =
     let file = leaves.files image may in around crashes history doubt image file.0 leaves file.1 file.2
 
--- what a crash during the run may leave of what it opened
+-- what a crash during the run may leave of what the run opened
 first_part : (opened now : State) (log : Log) (image : List ℕ) (rs : List (List ℕ)) → opened.history ≢ [] → opened.keeper.doubt ≡ None → IsSound now.history
     → now.history ≡ opened.history ++ history_of (since (opened_base opened) log) → MarksMayCome opened.history (since (opened_base opened) log)
     → IsImage plain rs image → IsLeft (opened_base opened) log (records_of opened.history) rs
@@ -141,13 +141,13 @@ given_length : (history : List Entry) → length (given history) ≡ length hist
 given_length [] = refl
 given_length (e ∷ history) = ap suc (given_length history)
 
--- the items behind those that were given
+-- the items after the given ones
 since_given : (opened : State) (log past : Log) → log ≡ given opened.history ++ past → since (opened_base opened) log ≡ past
 since_given opened log past is =
     ap (λ (n : ℕ). drop n log) (sym (given_length opened.history))
     ∙ (ap (λ (l : Log). drop (length (given opened.history)) l) is ∙ drop-append_seam (given opened.history) past)
 
--- the history is the one that was opened, with what came to it
+-- the history is the one that was opened, followed by what was added to it
 pub now_grown : (opened now : State) (log : Log) → HoldsFrom (opened_base opened) (given opened.history) now log
     → now.history ≡ opened.history ++ history_of (since (opened_base opened) log)
 now_grown opened now log holds =
@@ -155,7 +155,7 @@ now_grown opened now log holds =
     ∙ (ap (λ (es : List Entry). es ++ history_of holds.past) (given_history opened.history)
     ∙ ap (λ (l : Log). opened.history ++ history_of l) (sym (since_given opened log holds.past holds.is)))))
 
--- What a closed machine leaves of a disk that tells its bytes are stores.
+-- What a closed machine leaves of a disk whose bytes are known are stores.
 pub leaves_stores : (disk : DiskState) (crashes : DiskCrashes) (opened now : State) (log : Log) → opened.history ≢ []
     → HoldsFrom (opened_base opened) (given opened.history) now log → IsClosed disk crashes now
     → IfSome disk.reads (λ _. LeavesStores crashes now.history now.keeper.doubt)
@@ -167,7 +167,7 @@ leaves_stores disk crashes opened now log some holds closed =
       files = of_some disk.reads (λ _. LeavesFiles crashes (records_of now.history) now.keeper.doubt) closed.leaves bytes is;
     })
 
--- each mark since the opening may come where it is
+-- each mark since the opening may occur where it is
 marks_since : (opened now : State) (log : Log) → HoldsFrom (opened_base opened) (given opened.history) now log → MarksMayCome [] log
     → MarksMayCome opened.history (since (opened_base opened) log)
 marks_since opened now log holds marks =
@@ -191,7 +191,7 @@ stores_along before after opened now log some settled sound holds marks survives
           (store.0, store.1, inr store.2)
     ]
 
--- and from a moment at which the files were found, of the first part alone
+-- and from a moment at which the files were found, stores of the first part alone
 pub stores_from : (moment : ℕ) (after : DiskCrashes) (opened now : State) (log : Log) → opened.history ≢ [] → opened.keeper.doubt ≡ None → IsSound now.history
     → HoldsFrom (opened_base opened) (given opened.history) now log → MarksMayCome [] log → LeavesFoundFrom moment after opened log
     → LeavesStoresFrom moment after opened.history (since (opened_base opened) log)
@@ -205,7 +205,7 @@ pub stores_found : (before after : DiskCrashes) (opened now : State) (log : Log)
 stores_found before after opened now log some settled sound holds marks survives =
     (survives.moment, survives.during, stores_from survives.moment after opened now log some settled sound holds marks survives.found)
 
--- The moment is that at which the opening ended.
+-- The moment is the one at which the opening ended.
 pub stores_since_opening : (start found later : DiskState) (middle after : DiskCrashes) (opened now : State) (log : Log) (count : ℕ) (bytes : List ℕ)
     → start.reads ≡ Some bytes → IsOpened start opened → opened.keeper.records ≡ records_told plain count found
     → LeavesFiles middle (records_of opened.history) None → ((image : List ℕ) → middle.left_since middle.clock image → middle.may_leave image)

@@ -18,11 +18,11 @@ use Rattle.fedi_startup.specs.Surviving.{LeavesAlong, LeavesFoundFrom, SurvivesO
 use Rattle.fedi_startup.proofs.OpeningSteps.{untouched_files}
 use Rattle.fedi_startup.proofs.Told.{each_some, is_told, of_told}
 
--- nothing came to it yet
+-- nothing was added to it yet
 none_left : (b : Base) (log : Log) (kept left : List (List ℕ)) → left ≡ kept → IsLeft b log kept left
 none_left b log kept left is = record { past = []; rest = since b log; is = refl; leaves = inl (is ∙ sym (append-nil kept)) }
 
--- A machine was opened over a disk that tells its bytes, and then its keeper survived: the crashes
+-- A machine was opened over a disk whose bytes are known, and then its keeper survived: the crashes
 -- since the opening.
 module _ (found later : DiskState) (middle after : DiskCrashes) (opened : State) (log : Log) (count : ℕ)
     (told : opened.keeper.records ≡ records_told plain count found)
@@ -48,12 +48,12 @@ module _ (found later : DiskState) (middle after : DiskCrashes) (opened : State)
       either left (inl same) = none_left (opened_base opened) log (records_of opened.history) left same
       either left (inr kept) = kept
 
--- the records of a machine that was opened over a disk that tells its bytes
+-- the records of a machine that was opened over a disk whose bytes are known
 pub records_held : (start : DiskState) (opened : State) (bytes : List ℕ) → IsOpened start opened → start.reads ≡ Some bytes → opened.keeper.records ≡ Some (records_of opened.history)
 records_held start opened bytes opening is = opening.records ∙ ap (option_map (λ _. records_of opened.history)) is
 
--- What is known of the records that a machine's keeper has on its disk holds of the disk, if it
--- tells its bytes. The disk was so before the opening, the keeper found it so, and left it so.
+-- What is known of the records that a machine's keeper has on its disk also holds of the disk, if
+-- its bytes are known. This was so before the opening, the keeper found it so, and left it so.
 pub survives_on_disk : (start found later : DiskState) (before middle after : DiskCrashes) (opened : State) (log : Log) (count : ℕ)
     → IsOpened start opened → opened.keeper.records ≡ records_told plain count found → IsUntouched start found before middle
     → ((image : List ℕ) → before.left_since before.clock image → before.may_leave image)

@@ -1,4 +1,4 @@
--- What follows where a disk tells its bytes.
+-- What follows if the bytes of a disk are known.
 use Rattle.std.proofs.Common.{◌≡◌, ℕ, Bool, true, List, Option, Some, None, refl, sym, ap, subst}
 use Rattle.std.specs.Prelude.{IfSome, is_some, option_map}
 use Rattle.fedi_outside.specs.Images.{plain}
@@ -6,17 +6,17 @@ use Rattle.fedi_outside.specs.Known.{records_told}
 use Rattle.fedi_outside.specs.Disks.{DiskState}
 use Rattle.fedi_outside.specs.Keepers.{IfTold}
 
--- it holds of the bytes, if it holds of what they are
+-- it holds of the bytes, if it holds of whatever they are
 pub each_some : (o : Option (List ℕ)) {P : List ℕ → Type 0} → ((bytes : List ℕ) → o ≡ Some bytes → P bytes) → IfSome o P
 each_some None f = tt
 each_some (Some bytes) f = f bytes refl
 
--- of records that are told
+-- of records that are known
 pub of_told : (told : Bool) (records : Option (List (List ℕ))) (rs : List (List ℕ)) (P : List (List ℕ) → Type 0) → told ≡ true → records ≡ Some rs
     → IfTold told records P → P rs
 of_told told records rs P is_told is h = subst (λ (o : Option (List (List ℕ))). IfTold true o P) is (subst (λ (b : Bool). IfTold b records P) is_told h)
 
--- records that are told are those of bytes that are told
+-- known records are those of known bytes
 pub told_bytes : (f : List ℕ → List (List ℕ)) (o : Option (List ℕ)) (rs : List (List ℕ)) → option_map f o ≡ Some rs → (bytes : List ℕ) × (o ≡ Some bytes)
 told_bytes f None rs is = absurd (cc is)
 told_bytes f (Some bytes) rs is = (bytes, refl)

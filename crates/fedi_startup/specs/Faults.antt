@@ -1,4 +1,4 @@
--- What the faults of a journal, of a history and of a keeper are to a store.
+-- How the faults of a journal, of a history and of a keeper are reported as faults of a store.
 use Rattle.fedi_journal.specs.declared.faults.InitFault.{InitFault}
 use Rattle.fedi_journal.specs.declared.faults.InitFault.TheVariants as inits
 use Rattle.fedi_journal.specs.declared.faults.JournalFault.{JournalFault}

@@ -10,7 +10,7 @@ use Rattle.fedi_startup.specs.Stores.{IsDuring, IsStoreOf, LeavesFiles, LeftFile
 use Rattle.fedi_startup.specs.declared.faults.MakeFault.{MakeFault}
 use Rattle.fedi_startup.specs.declared.faults.MakeFault.TheVariants.{Exists, Failed, Memory}
 
--- it did not have more bytes that begin with others than those of a journal without records
+-- it was not both longer than a journal without records and different at the beginning
 abbrev pub WasFree : Option (List ℕ) → Type 0
 WasFree reads = IfSome reads (λ bytes. IsOther bytes → ⊥)
 
@@ -23,15 +23,16 @@ pub record IsMade (history : List Entry) (before after : DiskState)
   pub leaves : IfSome after.reads (λ _. LeavesFiles crashes (records_of history) None)
   pub faults : after.faults ≡ before.faults
 
--- reads give the same bytes, or the disk was free, and they give those of a file without records
+-- reads give the same bytes, or the disk was free, and they give the bytes of a file without
+-- records
 abbrev pub MayBeEmpty : Option (List ℕ) → Option (List ℕ) → Type 0
 MayBeEmpty None after = after ≡ None
 MayBeEmpty (Some bytes) after =
     (other : List ℕ) × (after ≡ Some other)
     × ((other ≡ bytes) ⊎ ((IsOther bytes → ⊥) × IsImage plain [] other))
 
--- Reads give the same bytes. Or the disk was free, and the first nine are torn, or reads give those
--- of a file without records, or with this one.
+-- Reads give the same bytes. Or the disk was free, and the first nine bytes are torn, or reads give
+-- the bytes of a file without records, or with this one.
 abbrev pub MayBeBegun : List ℕ → Option (List ℕ) → Option (List ℕ) → Type 0
 MayBeBegun code None after = after ≡ None
 MayBeBegun code (Some bytes) after =
@@ -48,21 +49,21 @@ IsNotMade code Failed before after =
 IsNotMade code Memory before after =
     MayBeEmpty before.reads after.reads × (after.faults ≡ before.faults)
 
--- an image that a crash before might have left, of which the first nine bytes may be torn, or a
--- file of no record, or of this one
+-- an image that an earlier crash might have left, except that its first nine bytes may be torn, or
+-- a file of no record, or of this one
 abbrev pub MayBegin : List ℕ → DiskCrashes → List ℕ → Type 0
 MayBegin code before image = MayTear 0 blank before image ⊎ HasRecords [] (Some code) image
 
--- What crashes may leave once a disk that told its bytes has been a journal without records since
--- this moment: such images, and from that moment on files of no record, or of this one.
+-- What crashes may leave once a disk whose bytes were known has been a journal without records
+-- since this moment: such images, and from that moment on files of no record, or of this one.
 abbrev pub LeavesFirst : List ℕ → ℕ → DiskCrashes → DiskCrashes → Type 0
 LeavesFirst code moment before after =
     Elapses before after (MayBegin code before) × LeftFiles moment after [] (Some code)
 
--- What a crash may leave while a disk of which reads gave these bytes is made a store whose first
--- record is this one: an image that one before might have left, of which the first nine bytes may
--- be torn; or, if it came to that, a file of no record, or of this one, and from some moment of the
--- call on such a file alone.
+-- What a crash may leave while a disk whose reads gave these bytes is made a store with this first
+-- record: an image that an earlier crash might have left, except that its first nine bytes may be
+-- torn; or, if the call got that far, a file of no record, or of this one, and from some moment of
+-- the call on such a file alone.
 abbrev pub LeavesAtMost : List ℕ → Option (List ℕ) → DiskCrashes → DiskCrashes → Type 0
 LeavesAtMost code reads before after =
     Elapses before after (MayTear 0 blank before)

@@ -1,5 +1,5 @@
 -- Stores: disks with the file of the records of a history, and what becomes of a disk that is
--- opened or closed as one.
+-- opened or closed as a store.
 use Rattle.std.specs.Prelude.{◌≡◌, ◌∷◌, ◌++◌, ◌≢◌, ◌⊎◌, ◌≤◌, ℕ, List, [], length, map, take, IfSome}
 use Rattle.std.specs.Prelude.{IsTrue, Option, Some, None, option_map, Result, Ok, Err}
 use Rattle.std.specs.List.{AllByRecursion}
@@ -32,8 +32,8 @@ records_of history = map code_of history
 abbrev pub end_of : List Entry → ℕ
 end_of history = length (front plain (records_of history))
 
--- a machine may go on from this history: it is legal, and the fields of its entries have their
--- forms
+-- a machine may continue from this history: it is legal, and the fields of its entries are well
+-- formed
 pub record IsSound (history : List Entry) : Type 0 where
   pub legal : IsLegal history
   pub formed : AllByRecursion IsFormed history
@@ -44,14 +44,14 @@ pub record IsStoreOf (history : List Entry) (bytes : List ℕ) : Type 0 where
   pub sound : IsSound history
   pub file : IsImage plain (records_of history) bytes
 
--- the bytes are a file of records, of which the one at this place is the first that is the code of
--- no entry that may stand there
+-- the bytes are a file of records, and the record at this index is the first that is not the code
+-- of an entry that may occur there
 abbrev pub HasBadRecord : ℕ → List ℕ → Type 0
 HasBadRecord place bytes =
     (rs : List (List ℕ)) × IsImage plain rs bytes
     × ((history : List Entry) × IsDamaged (Some rs) (length rs) place history)
 
--- the bytes are no file of records, or a file of none
+-- the bytes are not a file of records, or a file without records
 abbrev pub HasNoRecord : List ℕ → Type 0
 HasNoRecord bytes = IsNoStore plain bytes ⊎ IsImage plain [] bytes
 
@@ -61,8 +61,8 @@ HasNoRecord bytes = IsNoStore plain bytes ⊎ IsImage plain [] bytes
 abbrev pub IsDuring : DiskCrashes → DiskCrashes → ℕ → Type 0
 IsDuring before after moment = (before.clock ≤ moment) × (moment ≤ after.clock)
 
--- each image that a crash now may leave is a file of these records, or of these with the one in
--- doubt
+-- each image that a crash now may leave is a file of these records, or of these followed by the one
+-- in doubt
 abbrev pub LeavesFiles : DiskCrashes → List (List ℕ) → Option (List ℕ) → Type 0
 LeavesFiles crashes records doubt =
     (image : List ℕ) → crashes.may_leave image → HasRecords records doubt image
@@ -74,13 +74,13 @@ LeftFiles moment crashes records doubt =
 
 -- ---- which stores these files are
 
--- this history, or it with the entry in doubt
+-- this history, or this history followed by the entry in doubt
 abbrev pub IsAround : List Entry → Option (List ℕ) → List Entry → Type 0
 IsAround history doubt left =
     (left ≡ history) ⊎ ((e : Entry) × (doubt ≡ Some (code_of e)) × (left ≡ history ++ e ∷ []))
 
--- each image that a crash now may leave is a store of this history, or of it with the entry in
--- doubt, which may come next
+-- each image that a crash now may leave is a store of this history, or of it followed by the entry
+-- in doubt, which may come next
 pub record LeavesStores (crashes : DiskCrashes) (history : List Entry)
     (doubt : Option (List ℕ)) : Type 0 where
   pub some : history ≢ []
@@ -110,7 +110,7 @@ IsNotOpened (DamagedRecord place) disk = IfSome disk.reads (HasBadRecord place)
 IsNotOpened Failed disk = Unit {0}
 IsNotOpened Memory disk = IfSome disk.reads (λ bytes. take 8 bytes ≡ plain.magic)
 
--- how many faults were counted after this one
+-- how many faults are counted after this one
 abbrev pub count_after : StoreFault → ℕ → ℕ
 count_after NotAStore n = n
 count_after (DamagedByte place) n = n
@@ -123,7 +123,7 @@ pub record ComesBack (fault : StoreFault) (before after : DiskState) : Type 0 wh
   pub why : IsNotOpened fault before
   pub faults : after.faults ≡ count_after fault before.faults
 
--- the disk of the machine, or the one that came back
+-- the disk of the machine, or the one that was returned
 abbrev pub disk_left : {D E : Type 0} {ghosts : Ghosts D}
     → Result (Machine (Journal D ghosts)) (E × D) → D
 disk_left (Ok core) = disk_of core.keeper
@@ -131,9 +131,9 @@ disk_left (Err back) = back.1
 
 -- ---- closing
 
--- The disk keeps what this machine has: its file has the records of the machine's history, and
--- behind them at most the one in doubt, which may come next, and so has each image that a crash now
--- may leave.
+-- The disk keeps what this machine has: its file has the records of the machine's history, followed
+-- by at most the one in doubt, which may come next, and so does each image that a crash now may
+-- leave.
 pub record IsClosed (disk : DiskState) (crashes : DiskCrashes) (s : State) : Type 0 where
   pub sound : IsSound s.history
   pub doubted : IfSome s.keeper.doubt (IsNextCode s.history)

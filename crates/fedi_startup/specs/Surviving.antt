@@ -11,11 +11,11 @@ use Rattle.fedi_objects.specs.declared.entry.Entry.{Entry}
 use Rattle.fedi_startup.specs.Stores.{IsAround, IsDuring, IsStoreOf, LeavesFiles, LeavesStores}
 use Rattle.fedi_startup.specs.Stores.{records_of}
 
--- a record of this length moves the end so far
+-- a record of this length moves the end by this much
 abbrev pub growth : ℕ → ℕ
 growth length = 9 + length
 
--- and so far from the limit the end has to be before
+-- and beforehand the end has to be this far from the limit
 abbrev pub room : ℕ → ℕ
 room length = 10 + length
 
@@ -23,10 +23,10 @@ room length = 10 + length
 abbrev pub opened_base : State → Base
 opened_base opened = base_of growth room opened
 
--- If each image that a crash before the run may leave is a file of these records, or of these with
--- the one in doubt, then an image that a crash during the run may leave is such a file too, or one
--- of the records that the opening found, with those of the first entries that the run kept, none or
--- more, and behind them at most one that was in doubt then.
+-- If each image that a crash before the run may leave is a file of these records, or of these
+-- followed by the one in doubt, then an image that a crash during the run may leave is such a file
+-- too, or a file of the records that the opening found, followed by those of the first entries that
+-- the run kept, none or more, and by at most one that was in doubt then.
 abbrev pub LeavesAlong : DiskCrashes → DiskCrashes → State → Log → Type 0
 LeavesAlong before after opened log =
     (records : List (List ℕ)) (doubt : Option (List ℕ)) → LeavesFiles before records doubt
@@ -35,9 +35,9 @@ LeavesAlong before after opened log =
     × (MayLeave records doubt left
     ⊎ IsLeft (opened_base opened) log (records_of opened.history) left)
 
--- From this moment on, whatever a crash before may have left, a crash left a file of the records
--- that the opening found, with those of the first entries that the run kept, none or more, and
--- behind them at most one that was in doubt then.
+-- From this moment on, whatever an earlier crash may have left, a crash left a file of the records
+-- that the opening found, followed by those of the first entries that the run kept, none or more,
+-- and by at most one that was in doubt then.
 abbrev pub LeavesFoundFrom : ℕ → DiskCrashes → State → Log → Type 0
 LeavesFoundFrom moment after opened log =
     (image : List ℕ) → after.left_since moment image
@@ -54,8 +54,8 @@ pub record SurvivesOnDisk (before after : DiskCrashes) (opened : State) (log : L
 
 -- ---- as stores
 
--- the history that was opened, with the first of the entries that these items added, none or more,
--- and at most one entry more, whose record was in doubt then
+-- the history that was opened, followed by the first of the entries that these items added, none or
+-- more, and by at most one more entry, whose record was in doubt then
 abbrev pub IsFirstPart : List Entry → Log → List Entry → Type 0
 IsFirstPart opened added left =
     (past : Log) × (rest : Log) × (added ≡ past ++ rest)
@@ -63,10 +63,11 @@ IsFirstPart opened added left =
     ⊎ ((e : Entry) × Contains (doubts_of [] past) (code_of e)
     × (left ≡ (opened ++ history_of past) ++ e ∷ [])))
 
--- If each image that a crash before the run may leave is a store of some history, or of it with the
--- entry in doubt, then an image that a crash during the run may leave is such a store too, or that
--- of the history that was opened with the first entries that the run kept, none or more, and at
--- most the one entry that was in doubt then. So whatever it is, it can be opened.
+-- If each image that a crash before the run may leave is a store of some history, or of it followed
+-- by the entry in doubt, then an image that a crash during the run may leave is such a store too,
+-- or a store of the history that was opened, followed by the first entries that the run kept, none
+-- or more, and by at most the one entry that was in doubt then. So whatever it is, it can be
+-- opened.
 abbrev pub LeavesStoresAlong : DiskCrashes → DiskCrashes → List Entry → Log → Type 0
 LeavesStoresAlong before after opened added =
     (history : List Entry) (doubt : Option (List ℕ)) → LeavesStores before history doubt
@@ -74,9 +75,9 @@ LeavesStoresAlong before after opened added =
     → (left : List Entry) × IsStoreOf left image
     × (IsAround history doubt left ⊎ IsFirstPart opened added left)
 
--- From this moment on, whatever a crash before may have left, a crash left a store of the history
--- that was opened with the first entries that the run kept, none or more, and at most the one entry
--- that was in doubt then.
+-- From this moment on, whatever an earlier crash may have left, a crash left a store of the history
+-- that was opened, followed by the first entries that the run kept, none or more, and by at most
+-- the one entry that was in doubt then.
 abbrev pub LeavesStoresFrom : ℕ → DiskCrashes → List Entry → Log → Type 0
 LeavesStoresFrom moment after opened added =
     (image : List ℕ) → after.left_since moment image

@@ -8,8 +8,8 @@ use crate::opening::StoreCore;
 use fedi_journal::Journal;
 use fedi_outside::{Disk, Keeper};
 
-/// The disk of a machine that is closed. It has the records of the machine's history, and behind
-/// them at most the one in doubt, and so has what a crash may leave.
+/// The disk of a machine that is closed. It has the records of the machine's history, followed by
+/// at most the one in doubt, and so does whatever a crash may leave.
 pub fn close_store<D: Disk>(core: StoreCore<D>) -> D
     ensures disk { result ≡ disk_of core.keeper }
     ensures closed { IsClosed (D.shown result) (D.crashes result)

@@ -12,16 +12,16 @@ pub enum StoreFault {
     /// The disk has fewer than 9 bytes, or does not begin with the magic, or has no record.
     #[error("not a store")]
     NotAStore,
-    /// The gate at this byte is not as it should be, or its record passes the end.
+    /// The gate at this byte is invalid, or its record extends past the end.
     #[error("damaged at byte {place}")]
     DamagedByte {
-        /// The place of the gate, counted from 0.
+        /// The offset of the gate, counted from 0.
         place: u64,
     },
-    /// The record at this place is the code of no entry that may stand there.
+    /// The record at this index is not the code of an entry that may occur there.
     #[error("damaged at record {place}")]
     DamagedRecord {
-        /// The place of the first such record, counted from 0.
+        /// The index of the first such record, counted from 0.
         place: u64,
     },
     /// The disk failed, and has counted it.

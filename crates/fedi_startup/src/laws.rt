@@ -1,4 +1,4 @@
-//! What an opening may answer excludes all else, and what was opened stays.
+//! The answers that an opening may give exclude each other, and what was opened stays.
 ghost use Rattle.std.specs.Prelude.{◌≡◌, [], ℕ, List, None, Some};
 ghost use Rattle.fedi_outside.specs.Images.{plain};
 ghost use Rattle.fedi_outside.specs.Opening.{IsDamagedAt};
@@ -18,7 +18,7 @@ use crate::opening::StoreCore;
 use fedi_journal::Journal;
 use fedi_outside::{Disk, Keeper};
 
-/// The bytes of a disk have one answer at most: they are the store of one history, they have no
+/// The bytes of a disk have at most one answer: they are the store of one history, they have no
 /// record, they are damaged at one byte, or they are damaged at one record.
 pub fn stores_have_one_answer()
     ensures history { (a b : List Entry) (bytes : List ℕ)
@@ -41,18 +41,18 @@ pub fn stores_have_one_answer()
         → IsDamagedAt plain here bytes → HasBadRecord there bytes → ⊥ }
 {}
 
-/// A store has other bytes than a journal without records, so that the making of a store leaves it
-/// as it is.
+/// The bytes of a store differ from those of a journal without records, so making a store on the
+/// same disk leaves them as they are.
 pub fn stores_are_not_made_anew()
     ensures { (history : List Entry) (bytes : List ℕ) → IsStoreOf history bytes → IsOther bytes }
 {}
 
-/// What was opened stays. From the moment at which `open_store` gave a machine over a disk that
-/// tells its bytes, whatever a crash before may have left, a crash leaves a store of the history
-/// that was opened, with the first of the entries that were kept since, none or more, and at most
-/// the one that was in doubt then. The premises on the first machine are what `open_store` says of
-/// it, and those on the last are what is said of it where its session ended, or those of all
-/// workers.
+/// What was opened stays. Suppose that `open_store` returned a machine over a disk whose bytes are
+/// known. From that moment on, whatever an earlier crash may have left, a crash leaves a store of
+/// the history that was opened, followed by the first of the entries that were kept since, none or
+/// more, and at most the one that was in doubt then. The premises on the first machine are what
+/// `open_store` ensures, and those on the last are what is ensured where its session ended, or by
+/// all workers.
 pub fn what_was_opened_stays<D: Disk>(opened: &StoreCore<D>, closed: &StoreCore<D>)
     ensures { (start : DiskState) (bytes : List ℕ) (log : Log)
         → let first = state_of opened.now.history

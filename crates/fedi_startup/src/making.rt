@@ -20,22 +20,22 @@ fn first_entry(host: Host, moment: Moment) -> Entry
     ensures entry { result ≡ Hosted host moment }
     ensures sound { IsSound (Hosted host moment ∷ []) }
 {
-    // For the proof: these show that the host and the moment are such by their types.
+    // For the proof: these show that the host and the moment are valid, as their types say.
     let _ = host.text();
     let _ = moment.seconds();
     Entry::Hosted { host, moment }
 }
 
 /// Makes a disk a store: a journal whose first record says for which host the server was set up,
-/// and when. It hands the disk back, synced.
+/// and when. It returns the disk, synced.
 ///
-/// The error is `Exists`, if the disk has more than 9 bytes and does not begin with the magic and a
-/// closed gate, and then all is as before; `Failed`, if the disk failed, which it counts once; and
-/// `Memory`, if out of memory. After `Failed` the first nine bytes may be torn, or the disk may be
-/// a journal without records or with the first one. After `Memory` all is as before, or the disk is
-/// a journal without records. A journal without records can be made a store again. But the bytes of
-/// a store that is there stay, whatever the answer: reads give the same, and a crash leaves nothing
-/// new.
+/// The error is `Exists` if the disk has more than 9 bytes and does not begin with the magic and a
+/// closed gate, and then nothing has changed. It is `Failed` if the disk failed, which the disk
+/// counts once, and `Memory` if memory runs out. After `Failed` the first nine bytes may be torn,
+/// or the disk may be a journal without records or with the first one. After `Memory` nothing has
+/// changed, or the disk is a journal without records. A journal without records can be made a store
+/// again. But the bytes of an existing store stay, whatever the answer: reads give the same, and a
+/// crash leaves nothing new.
 #[tactic(auto, unfolding(fedi_entry::specs::Limits::KeepsLimits))]
 pub fn make_store<D: Disk>(
     alloc: Global,

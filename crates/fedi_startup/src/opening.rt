@@ -50,15 +50,15 @@ fn open_core<P: Keeper>(
 }
 
 /// Opens the machine over the store of a disk: finds the records of its file, and the history that
-/// they are the codes of. No delivery is claimed. The disk is synced, and the gates that are found
-/// are written again, so that a crash leaves what is found. The seed is what texts are looked up
-/// by. Whatever the answer, reads give the same bytes, and a crash leaves nothing new.
+/// they encode. No delivery is claimed. The disk is synced, and the gates that are found are
+/// written again, so that a crash leaves what is found. The seed is used to look up strings.
+/// Whatever the answer, reads give the same bytes, and a crash leaves nothing new.
 ///
-/// Each error hands the disk back. It is `NotAStore`, if the disk has fewer than 9 bytes, or does
-/// not begin with the magic, or has no record; `DamagedByte`, with the place of the first gate that
-/// is not as it should be; `DamagedRecord`, with the place of the first record that is the code of
-/// no entry that may stand there; `Failed`, if the disk failed, which it counts once; and `Memory`,
-/// if out of memory, and only if the disk begins with the magic.
+/// Each error returns the disk. It is `NotAStore` if the disk has fewer than 9 bytes, does not
+/// begin with the magic, or has no record; `DamagedByte`, with the offset of the first gate that is
+/// invalid; `DamagedRecord`, with the index of the first record that is not the code of an entry
+/// that may occur there; `Failed` if the disk failed, which the disk counts once; and `Memory` if
+/// memory runs out, which is reported only if the disk begins with the magic.
 pub fn open_store<D: Disk>(
     alloc: Global,
     seed: Seed,

@@ -25,7 +25,7 @@ unfolding jiff_months http_months
 months_agree y zero = refl
 months_agree y (suc n) = ap (λ (k : ℕ). k + days_in_month y (suc n)) (months_agree y n)
 
--- `jiff` counts years from 10000 BC on, of which 1970 is the 11970th
+-- `jiff` counts years from 10000 BC on, and 1970 is the 11970th
 years_agree : (n : ℕ) → jiff_years (11970 + n) ≡ 4371953 + http_years n
 unfolding http_years
 years_agree zero = omega (arith, days_of_years-march_days 11970)
@@ -96,7 +96,7 @@ epoch_is date ymd =
     let day : date.day ≡ 1 = omega (arith, signed_arith) in
     rw (ymd.0, month, day) known_days.0
 
--- the nanoseconds of its first second are none
+-- a first second has no nanoseconds
 pub epoch_nanos : (clock : DateTime) → IsYmd (pos 1970) (pos 1) (pos 1) clock.date → IsHms (pos 0) (pos 0) (pos 0) (pos 0) clock.time → civil_nanos clock ≡ pos 0
 epoch_nanos clock ymd hms =
     let day = epoch_is clock.date ymd in omega (arith, signed_arith, civil_nanos-parts clock, day)

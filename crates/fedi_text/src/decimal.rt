@@ -11,7 +11,7 @@ ghost use Rattle.fedi_text.specs.Decimals.{is_decimal};
 const MOST_DIGITS: usize = 19;
 
 /// The number that these digits write. `None` exactly if the text is not 1 to 19 decimal digits
-/// (DIGIT of RFC 5234, appendix B.1). Zeros may stand in front; a sign or a blank may not.
+/// (DIGIT of RFC 5234, appendix B.1). Leading zeros are allowed; signs and blanks are not.
 pub fn read_decimal(text: &[u8]) -> Option<u64>
     ensures some { IsSome result ↔ IsTrue (is_decimal text.now) }
     ensures value { IfSome result (λ number. number ≡ digits_value 10 text.now) }

@@ -1,4 +1,4 @@
--- The Accept that follows a member's Follow is seen by nobody who does not see the Follow.
+-- Nobody who does not see a member's Follow sees the Accept that follows it.
 use Rattle.std.proofs.Common.{◌≡◌, ℕ, Bool, true, false, List, [], ◌∷◌, Option, Some, None, ◌⊎◌, ⊎_elim, inl, inr, refl, sym, subst, ◌∙◌}
 use Rattle.std.specs.Prelude.{◌&&◌, ◌||◌, not, cond}
 use Rattle.std.specs.List.{list_any}
@@ -41,7 +41,7 @@ or_true2 : (a b : Bool) → (a || (true && (b || true))) ≡ true
 or_true2 true b = refl
 or_true2 false b = or_true b
 
--- whoever is the one that is followed sees the Follow
+-- the followed one sees the Follow
 followed_sees : (t : Town) (x : Act) (follower b : List ℕ) → x.author ≡ follower → Reaches t follower b x → sees_as t b x ≡ true
 unfolding sees_as is_by is_for_follower
 followed_sees t x follower b own r =
@@ -138,7 +138,7 @@ hidden_from t host x z follower b h unseen =
     let other : is_of_peer host z.author ≡ false = rw h.author (is_false (is_of_peer host b) (not_of_peer t host x follower b h.followed_by h.reaching u)) in
     rw (h.open_to_none, other, none_reached t host x z follower b h u, h.for_none) refl
 
--- Who does not see the Follow does not see its Accept.
+-- Whoever does not see the Follow does not see its Accept.
 pub hidden_too : (t : Town) (c : Caller) (x z : Act) (follower b : List ℕ) → IsHidden t x follower b z → sees t c x ≡ false → sees t c z ≡ false
 unfolding sees
 hidden_too t Nobody x z follower b h unseen = h.open_to_none

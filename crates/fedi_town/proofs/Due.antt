@@ -30,7 +30,7 @@ use Rattle.fedi_town.specs.declared.act.Peer.{Peer}
 use Rattle.fedi_town.specs.declared.effect.Effect.{Effect}
 use Rattle.fedi_town.specs.declared.effect.Effect.TheVariants as effects
 
--- the activity goes where it went
+-- the activity still goes to its recipients
 pub record GoesOn (y z : Act) : Type 0 where
   pub own : z.activity.id ≡ y.activity.id
   pub author : z.author ≡ y.author
@@ -121,7 +121,7 @@ any_on p q f h (x ∷ xs) e =
 any_more : {A : Type 0} (p : A → Bool) (xs ys : List A) → list_any p xs ≡ true → list_any p (xs ++ ys) ≡ true
 any_more p xs ys e = list_any-append p xs ys ∙ rw e refl
 
--- each activity goes on, and more may come
+-- each activity still goes to its recipients, and more activities may come
 mapped_on : (t u : Town) (id r : List ℕ) (m n : ℕ) (f : Act → Act) (more : List Act) → IsLater t u id r → m ≤ n → ((y : Act) → GoesOn y (f y))
     → is_due t id r m ≡ true → list_any (is_due_in u id r n) (map f t.acts ++ more) ≡ true
 mapped_on t u id r m n f more l le g e =
@@ -149,7 +149,7 @@ map-same : (xs : List Act) → map (λ y. y) xs ≡ xs
 map-same [] = refl
 map-same (x ∷ xs) = rw (map-same xs) refl
 
--- what does not touch activities
+-- an entry that does not touch activities
 pub held_on : (t u : Town) (id r : List ℕ) (m n : ℕ) → IsLater t u id r → u.acts ≡ t.acts → m ≤ n → is_due t id r m ≡ true → is_due u id r n ≡ true
 held_on t u id r m n l acts le e =
     subst (λ (xs : List Act). list_any (is_due_in u id r n) xs ≡ true) (map-same t.acts ∙ sym acts)
@@ -184,7 +184,7 @@ made_on : (host : Option (List ℕ)) (t : Town) (name digest : List ℕ) (locked
 made_on None t name digest locked i r m n le e = held_on t t i r m n (same_later t t i r refl refl refl) refl le e
 made_on (Some host) t name digest locked i r m n le e = held_on t _ i r m n (same_later t _ i r refl refl refl) refl le e
 
--- the entry is no attempt of this pair, and sets up no host
+-- the entry is not an attempt of this pair, and does not set up a host
 abbrev pub IsOtherEntry : List ℕ → List ℕ → Entry → Type 0
 IsOtherEntry id r (Hosted host moment) = ⊥
 IsOtherEntry id r (Made name digest locked moment) = Unit {0}

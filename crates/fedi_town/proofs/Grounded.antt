@@ -1,4 +1,4 @@
--- Each Update that is done is of an object that was made.
+-- The object of each Update that is done was made.
 use Rattle.std.proofs.Common.{◌≡◌, ℕ, Bool, true, false, List, [], ◌∷◌, ◌++◌, Option, Some, None, refl, subst, ◌∙◌}
 use Rattle.std.specs.Prelude.{◌&&◌, ◌||◌, not, map, if◌then◌else◌, option_to_list}
 use Rattle.std.specs.List.{list_any, list_all, find, fold}
@@ -70,7 +70,7 @@ or_first false b e = absurd cc
 push-grows : (acts ys : List Act) → Grows acts (acts ++ ys)
 push-grows acts ys = record { made = λ id there. list_any-append (makes id) acts ys ∙ or_first (list_any (makes id) acts) (list_any (makes id) ys) there }
 
--- one more, whose own is there
+-- one more activity, whose own object was made
 pushed : (acts : List Act) (x : Act) → AreGrounded acts → is_grounded acts x ≡ true → AreGrounded (acts ++ x ∷ [])
 pushed acts x h own = record {
   all =
@@ -107,7 +107,7 @@ own_made author p acts live =
       | false ↦ λ e. absurd (let h : is_own_live author None ≡ true = rw (find-none p acts e) at live in cc)
     ] refl
 
--- an Update is done only where its object was made
+-- an Update is done only if its object was made
 new_state : (t : Town) (local : Bool) (author : List ℕ) (full : Bool) (id : Option (List ℕ))
     → is_done (state_with t local author Update full id) ≡ true → is_made t.acts id ≡ true
 new_state t local author full None done = absurd cc
@@ -213,6 +213,6 @@ fold-grounded : (history : List Entry) (t : Town) → AreGrounded t.acts → Are
 fold-grounded [] t h = h
 fold-grounded (e ∷ history) t h = fold-grounded history (step t e) (step-grounded t e h)
 
--- In each history each Update that is done is of an object that was made.
+-- In each history, the object of each Update that is done was made.
 pub town_grounded : (history : List Entry) → AreGrounded (town history).acts
 town_grounded history = fold-grounded history empty_town (record { all = refl })

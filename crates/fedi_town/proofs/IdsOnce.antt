@@ -1,4 +1,4 @@
--- In a legal history no two activities have one id.
+-- In a legal history no two activities have the same id.
 use Rattle.std.proofs.Common.{◌≡◌, ℕ, ◌+◌, ◌^◌, ◌<◌, Bool, true, false, List, [], ◌∷◌, ◌++◌, length, Some, refl, ap, subst, ◌∙◌, arith}
 use Rattle.std.specs.Prelude.{◌||◌, map, filter, codes, decimal, if◌then◌else◌}
 use Rattle.std.specs.List.{list_any, list_all}
@@ -71,7 +71,7 @@ count-map author f same acts =
     ap (λ (ys : List Act). length ys) (filter-through f (is_by author) (is_by author) (λ y. rw (same y) refl) acts)
     ∙ length-map (filter (is_by author) acts) f
 
--- ---- what is kept
+-- ---- what stays true
 
 -- numbers above an author's count are free
 pub record IsFresh (host : List ℕ) (acts : List Act) : Type 0 where
@@ -84,7 +84,7 @@ pub record AreOnce (host : List ℕ) (acts : List Act) : Type 0 where
 either_none : (a b : Bool) → a ≡ false → b ≡ false → (a || b) ≡ false
 either_none a b p q = rw (p, q) refl
 
--- one more, whose id is new and no member's free number
+-- one more activity, whose id is new and is no free number of a member
 pushed : (host : List ℕ) (acts : List Act) (x : Act) → AreOnce host acts → ((id : List ℕ) → has_activity_id id x ≡ true → list_any (has_activity_id id) acts ≡ false)
     → ((name : List ℕ) (n : ℕ) → is_name name ≡ true → count (actor_id host name) (acts ++ x ∷ []) < n → n < 2 ^ 32 → has_activity_id (activity_id host name n) x ≡ false)
     → AreOnce host (acts ++ x ∷ [])
@@ -127,7 +127,7 @@ foreign_once host acts x id h shape own new other =
     let at : host_of id ≡ host = ap host_of same ∙ host_of-address host (activity_path name n) shape (activity_path_is_plain name n (omega arith) named) in
     not_both (bytes_eq (host_of id) host) (rw at (bytes_eq-same host)) other)))
 
--- changes that leave author and id
+-- changes that keep author and id
 pub mapped_once : (host : List ℕ) (f : Act → Act) → ((y : Act) → (f y).author ≡ y.author) → ((y : Act) → (f y).activity.id ≡ y.activity.id)
     → (acts : List Act) → AreOnce host acts → AreOnce host (map f acts)
 unfolding has_activity_id

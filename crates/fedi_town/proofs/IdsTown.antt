@@ -1,4 +1,4 @@
--- In a legal history no two activities have one id: the steps.
+-- In a legal history no two activities have the same id: the steps.
 use Rattle.std.proofs.Common.{◌≡◌, ℕ, ◌+◌, ◌^◌, ◌<◌, Bool, true, false, List, [], ◌∷◌, ◌++◌, length, Option, Some, None, refl, sym, ap, subst, ◌∙◌, arith}
 use Rattle.std.specs.Prelude.{◌&&◌, ◌||◌, not, map, filter, nat_lt, is_none, if◌then◌else◌, option_map, option_to_list}
 use Rattle.std.specs.List.{list_any, list_all, find, fold}
@@ -47,7 +47,7 @@ use Rattle.fedi_town.specs.declared.deed.Deed.TheVariants.{Follow}
 use Rattle.fedi_town.proofs.Texts.{bytes_eq-is}
 use Rattle.fedi_town.proofs.Posted.{follows_is}
 
--- nothing before the server was set up, and then each id once
+-- nothing before the server was set up, and after that each id once
 abbrev pub HasIds : Option (List ℕ) → List Act → Type 0
 HasIds None acts = acts ≡ []
 HasIds (Some host) acts = AreOnce host acts
@@ -232,7 +232,7 @@ numbered None true e = refl
 numbered None false e = absurd cc
 numbered (Some x) n e = absurd cc
 
--- the author that may post
+-- an author that may post
 poster : (t : Town) (host name : List ℕ) (repeat : Option (List ℕ × List ℕ)) (a : Activity) (id : Option (List ℕ)) → list_all (is_member (Some host)) t.actors ≡ true
     → id_of t name ≡ id → may_post t name repeat a id ≡ true → nat_lt (count_of t (actor_id host name)) 4294967295 ≡ true
 poster t host name repeat a None all is ok = absurd cc
@@ -249,7 +249,7 @@ found_any p (x ∷ xs) id e =
       | false ↦ λ h. found_any p xs id h
     ] e
 
--- the name of a member who has an id is one
+-- the name of a member who has an id is valid
 poster_name : (t : Town) (host name : List ℕ) (repeat : Option (List ℕ × List ℕ)) (a : Activity) (id : Option (List ℕ)) → list_all (is_member (Some host)) t.actors ≡ true
     → id_of t name ≡ id → may_post t name repeat a id ≡ true → is_name name ≡ true
 poster_name t host name repeat a None all is ok = absurd cc
@@ -338,7 +338,7 @@ once_by : (host : Option (List ℕ)) (acts : List Act) → HasIds host acts → 
 once_by None acts h id = rw h tt
 once_by (Some host) acts h id = h.once id
 
--- In a legal history no two activities have one id.
+-- In a legal history no two activities have the same id.
 pub town_ids : (history : List Entry) → IsLegal history → (id : List ℕ) → PassesOnce (has_activity_id id) (town history).acts
 town_ids history legal id =
     once_by (town history).host (town history).acts

@@ -1,4 +1,4 @@
--- What becomes of an activity keeps its type, whether it is done, and what it is about.
+-- However an activity changes, its type, whether it is done, and what it is about stay the same.
 use Rattle.std.proofs.Common.{◌≡◌, ℕ, Bool, true, false, List, [], ◌∷◌, ◌++◌, Option, Some, None, refl, sym, ◌∙◌}
 use Rattle.std.specs.Prelude.{◌&&◌, if◌then◌else◌}
 use Rattle.fedi_objects.specs.declared.activity.ObjectRef.{ObjectRef}
@@ -77,7 +77,7 @@ last true true c e = e
 last true false c e = absurd cc
 last false b c e = absurd cc
 
--- one that was not done gets a state that is not done
+-- an activity that was not done gets a state that is not done
 restated : (s : State) → is_done s ≡ false → (y : Act) → is_done y.state ≡ false → IsKept y (in_state s y)
 restated s not_set y not_done = record { kind = refl; done = not_set ∙ sym not_done; about = refl }
 
@@ -85,7 +85,7 @@ ended-kept : (a b : List ℕ) (s : State) → is_done s ≡ false → (y : Act) 
 unfolding end_follow is_open_follow
 ended-kept a b s not_set y = passing (is_open_follow a b) (in_state s) y (λ e. restated s not_set y (open_not_done y.state (inner (is_follow (deed y)) (is_open y.state) _ e)))
 
--- a change of an object that leaves its id
+-- a change of an object that keeps its id
 record KeepsId (f : Object → Object) : Type 0 where
   same : (o : Object) → (f o).id ≡ o.id
 
@@ -110,7 +110,7 @@ tombstone-keeps : (kind stamp : List ℕ) → KeepsId (tombstone_of kind stamp)
 unfolding tombstone_of
 tombstone-keeps kind stamp = record { same = λ o. refl }
 
--- a state to which Follows end is not that of what is done
+-- the state in which Follows end is not the state of something done
 abbrev pub IsFair : Effect → Type 0
 IsFair effects.Nothing = Unit {0}
 IsFair (effects.Update id by stamp) = Unit {0}
@@ -194,7 +194,7 @@ ref_id-received author moment (Changed c) = refl
 
 -- ---- one more recipient
 
--- what makes no difference to the rest of an activity
+-- a choice that makes no difference to the rest of an activity
 choice-same : {A : Type 0} (g : Act → A) (b : Bool) (y z : Act) → g z ≡ g y → g (if b then z else y) ≡ g y
 choice-same g true y z e = e
 choice-same g false y z e = refl

@@ -1,5 +1,5 @@
--- Members: each has the id that its name gives, and no id of a member is a collection's or
--- Public's.
+-- Members: each has the id that its name gives, and no member's id is that of a collection or
+-- Public.
 use Rattle.std.proofs.Common.{◌≡◌, ℕ, Bool, true, false, leb, List, [], ◌∷◌, ◌++◌, length, Option, Some, None, refl, sym, ap, subst, ◌∙◌, arith, append_assoc}
 use Rattle.std.specs.Prelude.{◌&&◌, codes, slice_index}
 use Rattle.std.specs.List.{list_all, find}
@@ -17,7 +17,7 @@ use Rattle.fedi_town.specs.declared.act.Actor.{Actor}
 use Rattle.fedi_town.proofs.Paths.{actor_path_is_plain}
 use Rattle.fedi_town.proofs.Texts.{is_false, bytes_eq-is}
 
--- the member's name is one, and gives its id at the host
+-- the member's name is valid, and gives its id at the host
 abbrev pub is_member : Option (List ℕ) → Actor → Bool
 is_member None a = false
 is_member (Some host) a = is_host_text host && (is_name a.name && bytes_eq a.id (actor_id host a.name))
@@ -73,9 +73,9 @@ not_followers host n m ref_id =
     let tail : n ≡ m ++ codes "/followers" = append_cancel_left (codes "/users/") _ _ path in
     no_slash m (codes "followers") (subst (λ (s : List ℕ). list_all is_name_byte s ≡ true) tail (name_bytes n ref_id)))
 
--- ---- the member that is found
+-- ---- the found member
 
--- what is found passes, and has what all have
+-- the found element passes, and has the property that all have
 pub record IsFound {A : Type 0} (p q : A → Bool) (x : A) : Type 0 where
   pub passes : p x ≡ true
   pub kept : q x ≡ true

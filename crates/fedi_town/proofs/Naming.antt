@@ -1,4 +1,4 @@
--- In a legal history a member's id is that of the member's name.
+-- In a legal history a member's id is the one that the member's name gives.
 use Rattle.std.proofs.Common.{◌≡◌, ℕ, true, List, Option, Some, subst}
 use Rattle.std.specs.List.{list_all}
 use Rattle.fedi_address.specs.Names.{is_name}

@@ -1,4 +1,4 @@
--- Lists in which each thing stands once, made by adding one thing after the other.
+-- Lists in which each element occurs once, built by adding one element after another.
 use Rattle.std.proofs.Common.{◌≡◌, ℕ, Bool, true, false, List, [], ◌∷◌, ◌++◌, refl, sym, ap, subst, ◌∙◌}
 use Rattle.std.specs.Prelude.{◌||◌, not, filter, cond, if◌then◌else◌}
 use Rattle.std.specs.List.{fold, list_any}
@@ -14,7 +14,7 @@ use Rattle.fedi_town.proofs.Texts.{bytes_eq-is, or_no, or_true}
 use Rattle.fedi_town.specs.Lists.{differs, firsts}
 use Rattle.fedi_town.specs.Shapes.{is_each_once}
 
--- the earlier one is the same as this
+-- the earlier element is the same as this one
 unfoldable pub is_same_as : {A : Type 0} → (A → A → Bool) → A → A → Bool
 is_same_as same y x = same x y
 
@@ -35,7 +35,7 @@ or_more : (a b c : Bool) → ((a || b) || c) ≡ (a || (b || c))
 or_more true b c = refl
 or_more false b c = refl
 
--- one more at the end is one of the firsts unless an earlier one is the same
+-- an element added at the end is one of the firsts unless an earlier one is the same
 pub firsts-push : {A : Type 0} (same : A → A → Bool) (xs : List A) (y : A)
     → firsts same (xs ++ y ∷ []) ≡ (if list_any (is_same_as same y) xs then firsts same xs else firsts same xs ++ y ∷ [])
 unfolding is_same_as
@@ -54,7 +54,7 @@ firsts-push {A} same (x ∷ xs) y =
 
 -- ---- texts
 
--- of those that pass a test it is one where it is one of all and passes
+-- a text that passes a test is among those that pass exactly if it is among all
 pub filter-among : (p : List ℕ → Bool) (b : List ℕ) (xs : List (List ℕ)) → p b ≡ true → is_among b (filter p xs) ≡ is_among b xs
 unfolding is_among
 filter-among p b [] passes = refl
@@ -68,7 +68,7 @@ filter-among p b (x ∷ xs) passes =
           ]
     ] refl
 
--- of the distinct ones it is one where it is one of all
+-- a text is among the distinct ones exactly if it is among all
 among-added : (b : List ℕ) (kept : List (List ℕ)) (x : List ℕ) → is_among b (add_new kept x) ≡ (is_among b kept || bytes_eq x b)
 unfolding is_among
 among-added b kept x =
@@ -101,14 +101,14 @@ pub once-push : (xs : List (List ℕ)) (y : List ℕ) → distinct (xs ++ y ∷ 
 unfolding distinct
 once-push xs y = fold-append add_new [] xs (y ∷ [])
 
--- ---- lists without doubles
+-- ---- lists without duplicates
 
--- a name that is not there is not there either with another behind
+-- a name that is not in a list is not in it after another name is appended either
 still_new : (name text : List ℕ) (others : List (List ℕ)) → is_among name others ≡ false → bytes_eq text name ≡ false → is_among name (others ++ text ∷ []) ≡ false
 unfolding is_among
 still_new name text others new other = rw (list_any-append (λ u. bytes_eq u name) others (text ∷ []), new, other) refl
 
--- a new name makes no double
+-- a new name makes no duplicate
 once_pushed : (kept : List (List ℕ)) (text : List ℕ) → is_each_once kept ≡ true → is_among text kept ≡ false → is_each_once (kept ++ text ∷ []) ≡ true
 unfolding is_among
 once_pushed [] text once new = refl
@@ -120,7 +120,7 @@ once_pushed (name ∷ others) text once new =
     let rest : is_each_once (others ++ text ∷ []) ≡ true = once_pushed others text first.1 apart.1 in
     rw (front, rest) refl
 
--- each text is added where it is new, so that no double comes
+-- a text is added only if it is new, so no duplicate arises
 once_added : (kept : List (List ℕ)) (text : List ℕ) → is_each_once kept ≡ true → is_each_once (add_new kept text) ≡ true
 once_added kept text once =
     elim (is_among text kept) as (λ b. is_among text kept ≡ b → is_each_once (cond b kept (kept ++ text ∷ [])) ≡ true)

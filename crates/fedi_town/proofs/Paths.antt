@@ -36,7 +36,7 @@ name_in_path (b ∷ name) h =
     let rest = name_in_path name ((and_parts (is_name_byte b) (list_all is_name_byte name) h).1) in
     both_true (rw first refl) rest
 
--- what a name gives a path
+-- the properties of a name as part of a path
 record NameFacts (name : List ℕ) : Type 0 where
   short : length name ≤ 30
   bytes : list_all is_path_byte name ≡ true
@@ -49,7 +49,7 @@ name_facts name h =
       bytes = name_in_path name ((and_parts (leb 1 (length name) && leb (length name) 30) (list_all is_name_byte name) h).1);
     }
 
--- after `/users/` a short text of such bytes makes a plain path
+-- `/users/` followed by a short text of such bytes is a plain path
 plain_after_users : (tail : List ℕ) → length tail ≤ 121 → list_all is_path_byte tail ≡ true → IsTrue (is_plain_path (codes "/users/" ++ tail))
 plain_after_users tail short bytes =
     let room : leb (length (codes "/users/" ++ tail)) 128 ≡ true = le-leb (length (codes "/users/" ++ tail)) 128 (omega arith) in

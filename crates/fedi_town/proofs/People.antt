@@ -1,4 +1,4 @@
--- Members: who they are by their names.
+-- Members: what their names determine.
 use Rattle.std.proofs.Common.{◌≡◌, ℕ, Bool, true, false, List, [], ◌∷◌, Option, Some, None, refl, sym, ap, subst, ◌∙◌}
 use Rattle.std.specs.Prelude.{◌&&◌, option_map}
 use Rattle.std.specs.List.{list_any, list_all, find}
@@ -29,7 +29,7 @@ name_of (Some host) a is =
     let rest = (and_parts (is_host_text host) (is_name a.name && bytes_eq a.id (actor_id host a.name)) is).1 in
     (and_parts (is_name a.name) (bytes_eq a.id (actor_id host a.name)) rest).0
 
--- the name of a member is one
+-- the name of a member is valid
 pub named_is : (name : List ℕ) (host : Option (List ℕ)) (xs : List Actor) → list_all (is_member host) xs ≡ true → list_any (has_name name) xs ≡ true → is_name name ≡ true
 unfolding has_name
 named_is name host [] all any = absurd cc
@@ -54,7 +54,7 @@ pub id_of-is : (t : Town) (own name id : List ℕ) → list_all (is_member (Some
 id_of-is t own name id all is =
     found_id own name (find (has_name name) t.actors) id (λ a e. found (has_name name) (is_member (Some own)) t.actors a all e) is
 
--- a member of the name is found
+-- a member with the name is found
 pub some_found : {A : Type 0} (p : A → Bool) (xs : List A) → list_any p xs ≡ true → (x : A) × (find p xs ≡ Some x)
 some_found p [] any = absurd cc
 some_found {A} p (x ∷ xs) any =

@@ -47,7 +47,7 @@ among_one : (one : List ℕ) → bytes_eq one public_iri ≡ false → is_public
 unfolding is_among
 among_one one other = rw other refl
 
--- what is known of the member that is followed
+-- what is known of the followed member
 record IsOf (host : List ℕ) (b : List ℕ) (member : Member) : Type 0 where
   shape : is_host_text host ≡ true
   name : is_name member.name ≡ true

@@ -24,9 +24,9 @@ pub is_between-quiet : (t : Town) (xs : List Act) → AreQuiet xs → (a b : Lis
 unfolding has_block_between
 is_between-quiet t xs q a b = rw (blocks-quiet t xs q a b, blocks-quiet t xs q b a) refl
 
--- ---- who follows whom, where none of the new ones is seen
+-- ---- Follows, if none of the new activities is seen
 
--- where one test passes another does
+-- if one test passes, another does too
 none_of : {A : Type 0} (p s : A → Bool) → ((x : A) → p x ≡ true → s x ≡ true) → (xs : List A) → list_any s xs ≡ false → list_any p xs ≡ false
 none_of p s all [] none = refl
 none_of p s all (x ∷ xs) none =
@@ -91,7 +91,7 @@ sees_with-quiet : (t : Town) (xs : List Act) → AreQuiet xs → (id : Option (L
 sees_with-quiet t xs q None unseen x = refl
 sees_with-quiet t xs q (Some id) unseen x = sees_as-quiet t xs q id unseen x
 
--- what the caller sees of the others stays, where the caller sees none of the new ones
+-- what the caller sees of the others stays the same if the caller sees none of the new ones
 pub sees-quiet : (t : Town) (xs : List Act) → AreQuiet xs → (c : Caller) → list_any (sees t c) xs ≡ false → (x : Act) → sees (with_acts t xs) c x ≡ sees t c x
 unfolding sees
 sees-quiet t xs q Nobody unseen x = refl

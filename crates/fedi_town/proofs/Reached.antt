@@ -1,4 +1,4 @@
--- Whom a member's Follow reaches: the one that is followed, who sees it.
+-- A member's Follow reaches the followed member, who sees it.
 use Rattle.std.proofs.Common.{◌≡◌, ℕ, Bool, true, false, List, [], ◌∷◌, ◌++◌, Option, Some, ◌⊎◌, inl, inr, refl, sym, subst, ◌∙◌}
 use Rattle.std.specs.Prelude.{◌&&◌, ◌||◌, not, filter, cond, if◌then◌else◌}
 use Rattle.std.specs.List.{list_any, flat_map}
@@ -33,7 +33,7 @@ is_among-last : (b : List ℕ) (found : List (List ℕ)) → is_among b (found +
 unfolding is_among
 is_among-last b found = list_any-append (λ u. bytes_eq u b) found (b ∷ []) ∙ rw (bytes_eq-same b) (or_true (list_any (λ u. bytes_eq u b) found))
 
--- what passes is among those that pass
+-- a text that passes is among those that pass
 filter-among : (p : List ℕ → Bool) (b : List ℕ) (xs : List (List ℕ)) → p b ≡ true → is_among b xs ≡ true → is_among b (filter p xs) ≡ true
 unfolding is_among
 filter-among p b [] passes there = absurd cc
@@ -55,7 +55,7 @@ second-among : (b : List ℕ) (xs ys : List (List ℕ)) → is_among b ys ≡ tr
 unfolding is_among
 second-among b xs ys there = list_any-append (λ u. bytes_eq u b) xs ys ∙ rw there (or_true (list_any (λ u. bytes_eq u b) xs))
 
--- a name that stands for itself
+-- a name that denotes itself
 one-among : (b : List ℕ) → is_among b (b ∷ []) ≡ true
 unfolding is_among
 one-among b = rw (bytes_eq-same b) refl
@@ -77,14 +77,14 @@ flat-among t author b (iri ∷ iris) one there =
           second-among b (addressees t author iri) (flat_map (addressees t author) iris) (flat-among t author b iris one rest)
     ] refl
 
--- who may get the activity and is named gets it
+-- a named actor who may get the activity gets it
 gets : (t : Town) (author b : List ℕ) (r : Recipients) (others : List (List ℕ)) → is_recipient t author b ≡ true → bytes_eq b (followers_id author) ≡ false
     → names r b ≡ true → is_among b (recipients_with t author r others) ≡ true
 gets t author b r others passes one named =
     once-among b (filter (is_recipient t author) (flat_map (addressees t author) (all_of r) ++ others)) ∙ (filter-among (is_recipient t author) b _ passes
     (first-among b (flat_map (addressees t author) (all_of r)) others (flat-among t author b (all_of r) one named)))
 
--- ---- whom a Follow names
+-- ---- the recipients that a Follow names
 
 implied_named : (author b : List ℕ) (r : Recipients) → bytes_eq b author ≡ false → names (with_implied author (Some b) r) b ≡ true
 unfolding is_among
@@ -95,7 +95,7 @@ implied_named author b r other =
           (list_any-append (λ u. bytes_eq u b) (r.to ++ b ∷ []) (r.cc ++ (r.bto ++ (r.bcc ++ r.audience))) ∙ rw (is_among-last b r.to) refl)
     ] refl
 
--- ---- the one that is followed
+-- ---- the followed member
 
 accepted_follow : (t : Town) (author b : List ℕ) (full : Bool) → is_accepted (state_about t true author Follow full b) ≡ true
     → (is_actor t b ≡ true) × (has_block_between t author b ≡ false)
@@ -137,7 +137,7 @@ recipient_by : (t : Town) (author b : List ℕ) → bytes_eq b public_iri ≡ fa
 unfolding is_recipient
 recipient_by t author b p q r s = rw (p, q, r, s) refl
 
--- whom a Follow of b goes to
+-- the recipients of a Follow of b
 reached_by : (t : Town) (author b : List ℕ) (r : Recipients) → bytes_eq b (followers_id author) ≡ false → is_actor t b ≡ true → has_block_between t b author ≡ false
     → (is_public (with_implied author (Some b) r) ≡ true) ⊎ ((bytes_eq b author ≡ true) ⊎ (is_among b (recipients_with t author (with_implied author (Some b) r) []) ≡ true))
 reached_by t author b r one here free =
@@ -164,7 +164,7 @@ reaches_by t author b d full r x public to one state =
     let free : has_block_between t b author ≡ false = between_swap t b author ∙ facts.1 in
     record { is = rw (public, to) (reached_by t author b r one facts.0 free); free = free }
 
--- A member's accepted Follow reaches the one that is followed.
+-- A member's accepted Follow reaches the followed member.
 pub follow_reaches : (t : Town) (host name : List ℕ) (repeat : Option (List ℕ × List ℕ)) (a : Activity) (moment : ℕ) (b : List ℕ)
     → deed_of a.kind ≡ Follow → ref_id (local_act t host name repeat a moment).activity.object ≡ Some b
     → is_accepted (local_act t host name repeat a moment).state ≡ true

@@ -1,4 +1,4 @@
--- In a legal history each member has the id of its name, and each peer is another host.
+-- In a legal history each member has the id that its name gives, and each peer is another host.
 use Rattle.std.proofs.Common.{◌≡◌, ℕ, Bool, true, false, List, [], ◌∷◌, Option, Some, None, refl, ◌∙◌}
 use Rattle.std.specs.Prelude.{◌&&◌, ◌||◌, not, is_none, is_some, if◌then◌else◌}
 use Rattle.std.specs.List.{list_all, list_any, fold}
@@ -32,7 +32,7 @@ pub record IsSound (t : Town) : Type 0 where
   pub members : list_all (is_member t.host) t.actors ≡ true
   pub peers : list_all (is_apart t.host) t.peers ≡ true
 
--- before the server was set up there are neither
+-- before the server was set up there are no members and no peers
 none_yet : {A : Type 0} (p q : A → Bool) (xs : List A) → ((x : A) → p x ≡ false) → list_all p xs ≡ true → list_all q xs ≡ true
 none_yet p q [] h all = refl
 none_yet p q (x ∷ xs) h all = absurd (let e : p x ≡ true = (and_parts (p x) (list_all p xs) all).0 in let f : p x ≡ false = h x in cc)
@@ -45,7 +45,7 @@ hosted_peers : (host : Option (List ℕ)) (own : List ℕ) (xs : List Peer) → 
 hosted_peers None own xs none all = none_yet (is_apart None) (is_apart (Some own)) xs (λ x. refl) all
 hosted_peers (Some h) own xs none all = absurd cc
 
--- the host is one, where it is set
+-- the host is valid, if it is set
 abbrev pub is_set : Option (List ℕ) → Bool
 is_set None = true
 is_set (Some host) = is_host_text host
@@ -65,7 +65,7 @@ made_sound (Some host) t name digest locked own named h =
       host = h.host;
     }
 
--- what an activity makes leaves them
+-- adding an activity keeps members and peers
 record KeepsPeople (t u : Town) : Type 0 where
   host : u.host ≡ t.host
   actors : u.actors ≡ t.actors
@@ -94,7 +94,7 @@ delivered_keeps t (Some owner) None id a moment = record { host = refl; actors =
 delivered_keeps t (Some owner) (Some author) None a moment = record { host = refl; actors = refl; peers = refl }
 delivered_keeps t (Some owner) (Some author) (Some id) a moment = as_keeps t owner author id a moment
 
--- what is broken unless this holds
+-- the fault unless this holds
 abbrev taken_unless : Bool → Option CommandFault
 taken_unless held = if held then None else Some HostTaken
 
@@ -102,11 +102,11 @@ holds_untaken : (held : Bool) → is_none (taken_unless held) ≡ true → held 
 holds_untaken true ok = refl
 holds_untaken false ok = ok
 
--- a server that may be set up was not
+-- a server that may be set up was not set up before
 pub not_hosted : (t : Town) (host : List ℕ) (moment : ℕ) → is_none (broken_command t (Hosted host moment)) ≡ true → is_none t.host ≡ true
 not_hosted t host moment ok = holds_untaken (is_none t.host) ok
 
--- what a peer breaks: its host is taken, or its address is bad
+-- the fault of a peer: its host is taken, or its address is bad
 abbrev peer_fault : Bool → Bool → Bool → Option CommandFault
 peer_fault other known well = if not other || known then Some HostTaken else (if well then None else Some BadAddress)
 

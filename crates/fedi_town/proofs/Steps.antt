@@ -36,6 +36,6 @@ answers t x = option_to_list (answer_to t x)
 abbrev pub accepts_for : Option (List ℕ) → Town → Act → Option Actor → List Act
 accepts_for host t x member = option_to_list (accept_for host t x member)
 
--- an activity is accepted by its effect, then itself, then its answer
+-- accepting an activity applies its effect, then appends the activity, then its answer
 pub accept_in_steps : (t : Town) (x : Act) → (with_act t x).acts ++ answers t x ≡ (accept t x).acts
 accept_in_steps t x = append_assoc (map (affect (effect_of t x)) t.acts) (x ∷ []) (answers t x)

@@ -1,4 +1,4 @@
--- Texts that are equal, and truths that are not both.
+-- Texts that are equal, and conditions that do not both hold.
 use Rattle.std.proofs.Common.{◌≡◌, ℕ, Bool, true, false, List, refl}
 use Rattle.std.specs.Prelude.{◌&&◌, ◌||◌}
 use Rattle.std.specs.Str.{bytes_eq}

@@ -46,7 +46,7 @@ told-still : (t : Town) (x : Act) → changes_nothing (deed x) ≡ true → effe
 unfolding effect_of
 told-still t x told = choice-still (takes_effect (deed x) x.state) _ (with-still t x (ref_id x.activity.object) told)
 
--- what is appended with it
+-- the activities that are appended with it
 abbrev pub with_answers : Town → Act → List Act
 with_answers t x = x ∷ answers t x
 
@@ -101,7 +101,7 @@ pub told_agrees : (t : Town) (x : Act) (c : Caller) → AreGrounded t.acts → c
 told_agrees t x c g told unseen =
     subst (λ (u : Town). Agree u t c) (sym (accepted-told t x told)) (unseen_agree t (with_answers t x) c g (told_quiet t x told) unseen)
 
--- ---- an activity that is no Follow
+-- ---- an activity that is not a Follow
 
 not_answered : (t : Town) (x : Act) → is_follow (deed x) ≡ false → answers t x ≡ []
 not_answered t x none = rw none refl

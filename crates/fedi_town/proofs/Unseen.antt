@@ -86,7 +86,7 @@ same_peer t xs Nobody = refl
 same_peer t xs (Actor name) = refl
 same_peer t xs (Peer host) = refl
 
--- Activities that block nobody, and of which the caller sees none.
+-- Activities that block nobody, none of which the caller sees.
 pub unseen_agree : (t : Town) (xs : List Act) (c : Caller) → AreGrounded t.acts → AreQuiet xs → list_any (sees t c) xs ≡ false → Agree (with_acts t xs) t c
 unseen_agree t xs c g q unseen = record {
   host = refl;

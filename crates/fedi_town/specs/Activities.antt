@@ -22,7 +22,7 @@ use Rattle.fedi_town.specs.Towns.{Town, count_of}
 
 -- ---- a member's activity
 
--- the object of a member's Create: it gets the id of this number, the author, and the moment
+-- the object of a member's Create: it gets the id with this number, the author, and the moment
 -- (ActivityPub, section 6.2)
 abbrev pub complete_object : List ℕ → List ℕ → ℕ → ℕ → Object → Object
 complete_object host name number moment o = record o {
@@ -31,15 +31,15 @@ complete_object host name number moment o = record o {
   published = Some (moment_text moment);
 }
 
--- an object that the activity carries is completed; anything else stays
+-- an object that the activity carries is completed; anything else is unchanged
 abbrev pub complete_ref : List ℕ → List ℕ → ℕ → ℕ → ObjectRef → ObjectRef
 complete_ref host name number moment Nothing = Nothing
 complete_ref host name number moment (Id iri) = Id iri
 complete_ref host name number moment (Whole o) = Whole (complete_object host name number moment o)
 complete_ref host name number moment (Changed change) = Changed change
 
--- the member's activity of this number: it gets its id, its actor, the moment, its object likewise,
--- and whom it implies (ActivityPub, section 6)
+-- the member's activity with this number: it gets its id, its actor, the moment, its completed
+-- object, and the recipients that it implies (ActivityPub, section 6)
 abbrev pub complete_activity : Town → List ℕ → List ℕ → ℕ → ℕ → Activity → Activity
 complete_activity t host name number moment a =
     let object = complete_ref host name number moment a.object in
@@ -52,8 +52,8 @@ complete_activity t host name number moment a =
           (ref_id object) a.recipients;
     }
 
--- the author's activity as it is accepted, once it was completed; an Update and a Delete go to whom
--- the Create of their object went besides
+-- the author's activity as it is accepted, after it was completed; an Update or a Delete also goes
+-- to the recipients of its object's Create
 abbrev pub act_by : Town → List ℕ → Option (List ℕ × List ℕ) → ℕ → Activity → Act
 act_by t author repeat moment a =
     let create = original t (deed_of a.kind) (ref_id a.object) in
@@ -79,7 +79,7 @@ local_act t host name repeat a moment =
 
 -- ---- an activity of another server
 
--- a Tombstone tells its former type and when it was deleted (ActivityStreams 2.0 Vocabulary,
+-- a Tombstone has its former type and the time of its deletion (ActivityStreams 2.0 Vocabulary,
 -- section 3.3)
 abbrev pub complete_tombstone : ℕ → Object → Object
 complete_tombstone moment o = record o {
@@ -87,7 +87,7 @@ complete_tombstone moment o = record o {
   deleted = Some (unwrap_or o.deleted (moment_text moment));
 }
 
--- an object that another server gives: a Tombstone is completed
+-- an object from another server: a Tombstone is completed
 unfoldable pub receive_object : ℕ → Object → Object
 receive_object moment o = if is_tombstone o then complete_tombstone moment o else o
 
@@ -103,8 +103,8 @@ receive_ref author moment (Id iri) = Id iri
 receive_ref author moment (Whole o) = Whole (attribute author (receive_object moment o))
 receive_ref author moment (Changed change) = Changed change
 
--- an activity of somebody elsewhere that was delivered to this member's inbox, and is new
--- (ActivityPub, section 7)
+-- a new activity of somebody elsewhere that was delivered to this member's inbox (ActivityPub,
+-- section 7)
 abbrev pub remote_act : Town → List ℕ → List ℕ → Activity → ℕ → Act
 remote_act t owner author a moment = record {
   author = author;

@@ -25,21 +25,21 @@ abbrev pub is_of_town : Option (List ℕ) → List ℕ → Bool
 is_of_town None iri = false
 is_of_town (Some host) iri = is_of_host host iri
 
--- the IRI is of this host, and no member's id
+-- the IRI is of this host, but is not a member's id
 unfoldable pub is_nobody_here : Town → List ℕ → Bool
 is_nobody_here t iri = is_of_town t.host iri && not (is_actor t iri)
 
--- This one may get the author's activity. Public is everybody and nobody's address (ActivityPub,
--- section 5.6), the author needs no copy, what is of this host and no member's id has no inbox, and
--- a Block keeps both sides away (6.9).
+-- This one may get the author's activity. Public means everybody and is nobody's address
+-- (ActivityPub, section 5.6). The author needs no copy. An IRI of this host that is not a member's
+-- id has no inbox. A Block keeps the two sides apart (6.9).
 unfoldable pub is_recipient : Town → List ℕ → List ℕ → Bool
 is_recipient t author iri =
     not (bytes_eq iri public_iri)
     && (not (bytes_eq iri author)
     && (not (is_nobody_here t iri) && not (has_block_between t iri author)))
 
--- for whom a name stands: that of the author's followers collection for the present followers, any
--- other for itself (ActivityPub, section 7.1)
+-- the recipients that a name denotes: the author's followers collection denotes the present
+-- followers, any other name denotes itself (ActivityPub, section 7.1)
 unfoldable pub addressees : Town → List ℕ → List ℕ → List (List ℕ)
 addressees t author iri =
     if bytes_eq iri (followers_id author) then followers t author else iri ∷ []
@@ -50,9 +50,9 @@ abbrev pub recipients_with : Town → List ℕ → Recipients → List (List ℕ
 recipients_with t author r others =
     distinct (filter (is_recipient t author) (flat_map (addressees t author) (all_of r) ++ others))
 
--- ---- whom an activity implies
+-- ---- the recipients that an activity implies
 
--- the activity of this id
+-- the activity with this id
 abbrev pub act_of : Town → Option (List ℕ) → Option Act
 act_of t id = option_and_then (λ i. find (has_activity_id i) t.acts) id
 
@@ -60,7 +60,8 @@ act_of t id = option_and_then (λ i. find (has_activity_id i) t.acts) id
 abbrev pub author_of : Option Act → Option (List ℕ)
 author_of found = option_map (λ x. x.author) found
 
--- whom a Follow, a Like or an Announce of this implies: whom it follows, or the object's author
+-- the recipient that a Follow, a Like or an Announce of this implies: the followed actor, or the
+-- object's author
 abbrev pub relation_recipient : Town → Deed → Option (List ℕ) → Option (List ℕ)
 relation_recipient t Follow id = id
 relation_recipient t Like id = author_of (maker_of t id)
@@ -74,13 +75,13 @@ relation_recipient t Reject id = None
 relation_recipient t Undo id = None
 relation_recipient t Other id = None
 
--- whom the Undo of this implies: the one that it implied
+-- the recipient that the Undo of this implies: the one that the undone activity implied
 abbrev pub undo_recipient : Town → Option Act → Option (List ℕ)
 undo_recipient t None = None
 undo_recipient t (Some y) = relation_recipient t (deed y) (ref_id y.activity.object)
 
--- Whom an activity about this goes to although it may not name them: those whom its side effect
--- concerns (ActivityPub, sections 6.5, 6.8, 6.10, 7.6, 7.7 and 7.11).
+-- The recipient that an activity about this goes to even if it does not name it: the one that its
+-- side effect concerns (ActivityPub, sections 6.5, 6.8, 6.10, 7.6, 7.7 and 7.11).
 unfoldable pub implied_recipient : Town → Deed → Option (List ℕ) → Option (List ℕ)
 implied_recipient t Follow id = relation_recipient t Follow id
 implied_recipient t Like id = relation_recipient t Like id
@@ -103,7 +104,7 @@ abbrev pub is_block_in : Option Act → Bool
 is_block_in None = false
 is_block_in (Some y) = is_block (deed y)
 
--- an activity about this goes to nobody: a Block (ActivityPub, section 6.9), and its Undo
+-- an activity about this goes to nobody: a Block (ActivityPub, section 6.9), or its Undo
 abbrev pub is_silent : Town → Deed → Option (List ℕ) → Bool
 is_silent t Block id = true
 is_silent t Undo id = is_block_in (act_of t id)
@@ -123,13 +124,13 @@ with_implied author None r = r
 with_implied author (Some i) r =
     if names r i || bytes_eq i author then r else record r { to = r.to ++ i ∷ [] }
 
--- whom a member's activity names once it is completed
+-- the recipients that a member's activity names after it is completed
 unfoldable pub complete_recipients : Town → List ℕ → Deed → Option (List ℕ) → Recipients
     → Recipients
 complete_recipients t author d id r =
     if is_silent t d id then no_recipients else with_implied author (implied_recipient t d id) r
 
--- ---- whom an Update or a Delete reaches
+-- ---- the recipients of an Update or a Delete
 
 -- the Create of the object that an Update or a Delete is about
 abbrev pub original : Town → Deed → Option (List ℕ) → Option Act
@@ -145,17 +146,17 @@ original t Reject id = None
 original t Undo id = None
 original t Other id = None
 
--- it goes to whom the Create went
+-- the recipients of the Create
 abbrev pub original_recipients : Option Act → List (List ℕ)
 original_recipients None = []
 original_recipients (Some m) = m.recipients
 
--- it is public where the Create is
+-- it is public if the Create is
 abbrev pub is_original_public : Option Act → Bool
 is_original_public None = false
 is_original_public (Some m) = m.is_public
 
--- it is for the author's followers where the Create is
+-- it is for the author's followers if the Create is
 abbrev pub is_original_for_followers : Option Act → Bool
 is_original_for_followers None = false
 is_original_for_followers (Some m) = m.for_followers

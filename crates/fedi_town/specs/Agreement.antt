@@ -23,12 +23,12 @@ pub record SameOwn (g h : Town) (id : List ℕ) : Type 0 where
   pub repeats : repeats_of g id ≡ repeats_of h id
   pub blockers : (b : List ℕ) → blocks g b id ≡ blocks h b id
 
--- the caller's own, where the caller is a member
+-- the caller's own, if the caller is a member
 abbrev pub IsSameOwn : Town → Town → Option (List ℕ) → Type 0
 IsSameOwn g h None = Unit {0}
 IsSameOwn g h (Some id) = SameOwn g h id
 
--- the peer that calls
+-- the calling peer
 abbrev pub peer_of : Town → Caller → Option Peer
 peer_of t callers.Nobody = None
 peer_of t (callers.Actor name) = None

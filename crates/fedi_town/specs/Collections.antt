@@ -24,7 +24,7 @@ text_of (Some text) = text
 abbrev pub object_key : Act → List ℕ
 object_key x = text_of (ref_id x.activity.object)
 
--- the id of the member or the object whose collection it is
+-- the id of the member or the object that the collection belongs to
 abbrev pub owner_of : Town → Which → Option (List ℕ)
 owner_of t (Inbox name) = id_of t name
 owner_of t (Outbox name) = id_of t name
@@ -34,9 +34,9 @@ owner_of t (Liked name) = id_of t name
 owner_of t (Likes name number) = option_map (λ host. object_id host name number) t.host
 owner_of t (Shares name number) = option_map (λ host. object_id host name number) t.host
 
--- The activity stands in this collection of the owner: what the owner got or posted, the Follows of
--- and by the owner that were accepted, the Likes by the owner and the Likes and Announces of the
--- owner that stand.
+-- The activity is in this collection of the owner: what the owner received or posted, the accepted
+-- Follows of and by the owner, the Likes by the owner that are in force, and the Likes and
+-- Announces of the owner that are in force.
 unfoldable pub is_item : Which → List ℕ → Act → Bool
 is_item (Inbox name) id x = is_among id x.recipients
 is_item (Outbox name) id x = is_by id x
@@ -46,8 +46,8 @@ is_item (Liked name) id x = (is_like (deed x) && is_standing x.state) && is_by i
 is_item (Likes name number) id x = (is_like (deed x) && is_standing x.state) && is_about id x
 is_item (Shares name number) id x = (is_announce (deed x) && is_standing x.state) && is_about id x
 
--- two activities of the collection stand for the same item: the same follower, or the same one that
--- is followed
+-- two activities of the collection denote the same item: the same follower, or the same followed
+-- actor
 unfoldable pub is_same_item : Which → Act → Act → Bool
 is_same_item (Inbox name) x y = false
 is_same_item (Outbox name) x y = false
@@ -57,14 +57,14 @@ is_same_item (Liked name) x y = false
 is_same_item (Likes name number) x y = false
 is_same_item (Shares name number) x y = false
 
--- what of the owner's collection the caller sees, the first of each item, in the order of
--- acceptance
+-- the part of the owner's collection that the caller sees, with the first of each item, in the
+-- order of acceptance
 abbrev pub items : Town → Caller → Which → List ℕ → List Act
 items t c which id = firsts (is_same_item which) (filter (is_item which id) (seen t c))
 
 -- ---- pages of 20 items
 
--- the highest page of so many items, which has the newest
+-- the highest page of so many items, which has the newest ones
 abbrev pub highest : ℕ → ℕ
 highest total = (total - 1) / 20
 

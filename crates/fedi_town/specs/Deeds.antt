@@ -64,7 +64,7 @@ abbrev pub is_other : Deed → Bool
 is_other Other = true
 is_other _ = false
 
--- whatever comes of it, an activity that does this changes nothing in earlier ones
+-- whatever becomes of it, an activity that does this changes no earlier one
 abbrev pub changes_nothing : Deed → Bool
 changes_nothing Create = true
 changes_nothing Follow = true
@@ -101,7 +101,7 @@ is_open Pending = true
 is_open Accepted = true
 is_open _ = false
 
--- it is a Like, an Announce or a Block that stands
+-- it is a Like, an Announce or a Block that is in force
 abbrev pub is_standing : State → Bool
 is_standing Standing = true
 is_standing _ = false

@@ -1,6 +1,6 @@
 -- What an accepted activity does to earlier ones (ActivityPub, sections 6 and 7), and the Accept
--- that follows a Follow. All of it is a function of the town before the activity, so it can be made
--- ready before the activity is kept.
+-- that follows a Follow. All of it is a function of the town before the activity, so it can be
+-- prepared before the activity is kept.
 use Rattle.std.specs.Prelude.{ℕ, ◌+◌, Bool, false, ◌&&◌, List, [], ◌∷◌, ◌++◌, map, codes, Option}
 use Rattle.std.specs.Prelude.{Some, None, option_to_list, if◌then◌else◌}
 use Rattle.std.specs.List.{find}
@@ -30,7 +30,7 @@ use Rattle.fedi_town.specs.Towns.{Town, deed, has_id, count_after}
 
 -- ---- what becomes of an earlier activity
 
--- what becomes of one that passes the test; others stay
+-- an activity that passes the test is changed; others are not
 abbrev pub where_passes : (Act → Bool) → (Act → Act) → Act → Act
 where_passes p f y = if p y then f y else y
 
@@ -38,15 +38,15 @@ where_passes p f y = if p y then f y else y
 abbrev pub in_state : State → Act → Act
 in_state s y = record y { state = s }
 
--- it is the Follow of this id, and waits
+-- it is the Follow with this id, and waits
 unfoldable pub is_pending_follow : List ℕ → Act → Bool
 is_pending_follow id y = has_activity_id id y && (is_follow (deed y) && is_pending y.state)
 
--- it is the activity of this id, and stands
+-- it is the activity with this id, and is in force
 unfoldable pub is_standing_activity : List ℕ → Act → Bool
 is_standing_activity id y = has_activity_id id y && is_standing y.state
 
--- a Follow of b by a that waits or was accepted ends so
+-- a Follow of b by a that waits or was accepted ends in this state
 unfoldable pub end_follow : List ℕ → List ℕ → State → Act → Act
 end_follow a b s y = where_passes (is_open_follow a b) (in_state s) y
 
@@ -64,24 +64,24 @@ affect (effects.Undo id) y = where_passes (is_standing_activity id) (in_state Un
 
 -- ---- the effect of an activity
 
--- each Follow of the same pair as this Follow ends so
+-- each Follow of the same pair as this Follow ends in this state
 abbrev pub pair_ends : State → Act → Option (List ℕ) → Effect
 pair_ends s f None = effects.Nothing
 pair_ends s f (Some b) = effects.EndFollows f.author b s
 
--- likewise, where there is such a Follow
+-- the same, if there is such a Follow
 abbrev pub follow_ends : State → Option Act → Effect
 follow_ends s None = effects.Nothing
 follow_ends s (Some f) = pair_ends s f (ref_id f.activity.object)
 
--- the Undo of this: each Follow of its pair ends, or the one activity is taken back (ActivityPub,
--- sections 6.10 and 7.12)
+-- the effect of undoing this: each Follow of its pair ends, or the one activity is undone
+-- (ActivityPub, sections 6.10 and 7.12)
 abbrev pub undo_effect : List ℕ → Option Act → Effect
 undo_effect id None = effects.Nothing
 undo_effect id (Some z) =
     if is_follow (deed z) then follow_ends Undone (Some z) else effects.Undo id
 
--- what an activity about this id does, where its side effect happens
+-- what an activity about this id does, if its side effect happens
 abbrev pub effect_about : Town → Act → Deed → List ℕ → Effect
 effect_about t x Update id = effects.Update id x.activity.object (moment_text x.moment)
 effect_about t x Delete id = effects.Delete id (codes "Tombstone") (moment_text x.moment)
@@ -100,7 +100,7 @@ abbrev pub effect_with : Town → Act → Option (List ℕ) → Effect
 effect_with t x None = effects.Nothing
 effect_with t x (Some id) = effect_about t x (deed x) id
 
--- the side effect happens: that of a Block where it stands, that of any other activity where it is
+-- the side effect happens: that of a Block if it is in force, that of any other activity if it is
 -- done
 abbrev pub takes_effect : Deed → State → Bool
 takes_effect Block s = is_standing s
@@ -123,11 +123,11 @@ effect_of t x =
 
 -- ---- the Accept of a member who is not locked (ActivityPub, section 7.5)
 
--- to this one alone
+-- recipients with this one alone
 abbrev pub to_one : List ℕ → Recipients
 to_one id = record no_recipients { to = id ∷ [] }
 
--- the Accept of this id, by b, of the Follow x
+-- the Accept with this id, by b, of the Follow x
 abbrev pub accept_activity : List ℕ → List ℕ → Act → Activity
 accept_activity id b x = record {
   id = Some id;
@@ -166,24 +166,24 @@ accept_for None t x member = None
 accept_for (Some host) t x None = None
 accept_for (Some host) t x (Some member) = Some (accept_by t host x member)
 
--- the member of this id, whom a Follow is of
+-- the member with this id, which a Follow is about
 abbrev pub followee : Town → Option (List ℕ) → Option Actor
 followee t None = None
 followee t (Some id) = find (has_id id) t.actors
 
--- the Accept that follows a Follow which is accepted
+-- the Accept that follows an accepted Follow
 abbrev pub answer_to : Town → Act → Option Act
 answer_to t x =
     if is_follow (deed x) && is_accepted x.state
     then accept_for t.host t x (followee t (ref_id x.activity.object)) else None
 
--- ---- an activity that is accepted
+-- ---- an accepted activity
 
 -- the activity, what it does to earlier ones, and its answer
 abbrev pub acceptance : Town → Act → Acceptance
 acceptance t x = record { act = x; effect = effect_of t x; answer = answer_to t x }
 
--- the town after it: the earlier ones as they are now, the activity, and its answer
+-- the town after it: the earlier activities in their present state, the activity, and its answer
 abbrev pub with_acceptance : Town → Acceptance → Town
 with_acceptance t a =
     record t { acts = map (affect a.effect) t.acts ++ a.act ∷ option_to_list a.answer }

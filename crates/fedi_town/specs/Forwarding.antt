@@ -1,4 +1,4 @@
--- To whom an activity of another server is forwarded (ActivityPub, section 7.1.2).
+-- The recipients that an activity of another server is forwarded to (ActivityPub, section 7.1.2).
 use Rattle.std.specs.Prelude.{ℕ, Bool, false, not, ◌&&◌, ◌||◌, List, [], ◌++◌, map, filter, Option}
 use Rattle.std.specs.Prelude.{Some, None, option_to_list, if◌then◌else◌}
 use Rattle.std.specs.List.{list_any, find, flat_map}
@@ -17,13 +17,13 @@ use Rattle.fedi_town.specs.Towns.{Town}
 
 -- ---- what an activity refers to
 
--- what an object replies to and whom it mentions
+-- what an object replies to and who it mentions
 abbrev pub object_mentions : Option Object → List (List ℕ)
 object_mentions None = []
 object_mentions (Some o) = option_to_list o.in_reply_to ++ map (λ g. g.href) o.tags
 
 -- what an activity refers to: by `inReplyTo`, `object`, `target` and `tag`, by those of the object
--- that it carries, and by those of the object as it is kept
+-- that it carries, and by those of the stored object
 abbrev pub mentions : Town → Activity → List (List ℕ)
 mentions t a =
     option_to_list a.in_reply_to
@@ -40,7 +40,7 @@ is_local t (Some m) = is_of_town t.host m.author
 unfoldable pub is_ours : Town → List ℕ → Bool
 is_ours t iri = is_actor t iri || is_local t (maker t iri)
 
--- ---- to whom it goes
+-- ---- the recipients
 
 -- the follower is neither of this host nor of the author's
 unfoldable pub is_far : Town → List ℕ → List ℕ → Bool
@@ -50,7 +50,7 @@ is_far t author f = not (is_of_town t.host f) && not (bytes_eq (host_of f) (host
 unfoldable pub has_followers_at : List ℕ → Actor → Bool
 has_followers_at iri b = bytes_eq (followers_id b.id) iri
 
--- the far followers of the member, where the member does not block the author
+-- the far followers of the member, unless the member blocks the author
 abbrev pub far_followers : Town → List ℕ → Option Actor → List (List ℕ)
 far_followers t author None = []
 far_followers t author (Some b) =
@@ -60,9 +60,9 @@ far_followers t author (Some b) =
 unfoldable pub forwards_at : Town → List ℕ → List ℕ → List (List ℕ)
 forwards_at t author iri = far_followers t author (find (has_followers_at iri) t.actors)
 
--- To whom the author's activity is forwarded, when it comes for the first time: where it refers to
--- what is of this server, to the far followers of each member whose followers it is addressed to,
--- each once.
+-- The recipients that the author's activity is forwarded to when it arrives for the first time. If
+-- it refers to something of this server, these are the far followers of each member whose followers
+-- it is addressed to, each once.
 unfoldable pub forwards_of : Town → List ℕ → Activity → List (List ℕ)
 forwards_of t author a =
     if list_any (is_ours t) (mentions t a)

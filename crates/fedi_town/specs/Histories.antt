@@ -1,4 +1,4 @@
--- Histories: what the entries make, one after the other.
+-- Histories: what the entries make, one after another.
 use Rattle.std.specs.Prelude.{ℕ, Bool, List, [], ◌∷◌, ◌++◌, map, Option, Some, None, if◌then◌else◌}
 use Rattle.std.specs.List.{fold, list_any}
 use Rattle.fedi_objects.specs.declared.activity.Activity.{Activity}
@@ -14,35 +14,35 @@ use Rattle.fedi_town.specs.Ids.{actor_id}
 use Rattle.fedi_town.specs.Relations.{has_activity_id}
 use Rattle.fedi_town.specs.Towns.{Town, empty_town, id_of}
 
--- ---- what an entry adds: a function of the town before it, which can be made ready before the
--- entry is kept
+-- ---- what an entry adds: a function of the town before it, which can be prepared before the entry
+-- is kept
 
--- the member, once the server was set up
+-- the member, if the server was set up
 abbrev pub member_addition : Option (List ℕ) → List ℕ → List ℕ → Bool → Addition
 member_addition None name digest locked = additions.Nothing
 member_addition (Some host) name digest locked =
     additions.Member
     (record { name = name; id = actor_id host name; digest = digest; locked = locked })
 
--- the activity that a member's post makes, once the server was set up (ActivityPub, section 6)
+-- the activity that a member's post makes, if the server was set up (ActivityPub, section 6)
 abbrev pub post_addition : Option (List ℕ) → Town → List ℕ → Option (List ℕ × List ℕ) → Activity
     → ℕ → Addition
 post_addition None t name repeat a moment = additions.Nothing
 post_addition (Some host) t name repeat a moment =
     additions.Activity (acceptance t (local_act t host name repeat a moment))
 
--- an activity of this id was accepted
+-- an activity with this id was accepted
 abbrev pub is_known : Town → List ℕ → Bool
 is_known t id = list_any (has_activity_id id) t.acts
 
--- what a delivery to this owner's inbox makes: one more inbox where the id is known, so that an
--- activity acts once, and else the activity (ActivityPub, section 7.1)
+-- what a delivery to this owner's inbox adds: one more inbox if the id is known, so that an
+-- activity acts only once, else the activity (ActivityPub, section 7.1)
 abbrev pub inbox_addition : Town → List ℕ → List ℕ → List ℕ → Activity → ℕ → Addition
 inbox_addition t owner author id a moment =
     if is_known t id then additions.Inbox id owner
     else additions.Activity (acceptance t (remote_act t owner author a moment))
 
--- what a delivery makes that has an id and an actor, and goes to a member's inbox
+-- what a delivery adds if it has an id and an actor and goes to a member's inbox
 abbrev pub delivery_addition : Town → Option (List ℕ) → Option (List ℕ) → Option (List ℕ) → Activity
     → ℕ → Addition
 delivery_addition t None author id a moment = additions.Nothing
@@ -66,7 +66,7 @@ addition_of t (Tried activity recipient came moment) =
 
 -- ---- the town after it
 
--- the activity of this id goes to one more owner
+-- the activity with this id goes to one more owner
 abbrev pub with_recipient : List ℕ → List ℕ → Act → Act
 with_recipient id owner y =
     if has_activity_id id y then record y { recipients = y.recipients ++ owner ∷ [] } else y

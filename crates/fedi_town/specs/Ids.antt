@@ -1,5 +1,5 @@
 -- The ids of this server's actors, activities, objects and collections (ActivityPub, sections 3.1
--- and 5), and whose an IRI is.
+-- and 5), and the host that an IRI belongs to.
 use Rattle.std.specs.Prelude.{ℕ, Bool, ◌&&◌, List, ◌++◌, codes, decimal, nat_eq}
 use Rattle.std.specs.List.{starts_with}
 use Rattle.std.specs.Str.{bytes_eq}
@@ -10,11 +10,11 @@ use Rattle.fedi_address.specs.Iris.{host_of}
 abbrev pub actor_path : List ℕ → List ℕ
 actor_path name = codes "/users/" ++ name
 
--- the path of the member's activity of this number
+-- the path of the member's activity with this number
 abbrev pub activity_path : List ℕ → ℕ → List ℕ
 activity_path name number = codes "/users/" ++ (name ++ (codes "/a/" ++ decimal number))
 
--- the path of the object that the member's activity of this number made
+-- the path of the object that the member's activity with this number made
 abbrev pub object_path : List ℕ → ℕ → List ℕ
 object_path name number = codes "/users/" ++ (name ++ (codes "/o/" ++ decimal number))
 
@@ -22,15 +22,15 @@ object_path name number = codes "/users/" ++ (name ++ (codes "/o/" ++ decimal nu
 unfoldable pub actor_id : List ℕ → List ℕ → List ℕ
 actor_id host name = address host (actor_path name)
 
--- the id of a member's activity of this number
+-- the id of a member's activity with this number
 unfoldable pub activity_id : List ℕ → List ℕ → ℕ → List ℕ
 activity_id host name number = address host (activity_path name number)
 
--- the id of the object that the member's activity of this number made
+-- the id of the object that the member's activity with this number made
 unfoldable pub object_id : List ℕ → List ℕ → ℕ → List ℕ
 object_id host name number = address host (object_path name number)
 
--- the IRI is of this host: by https, and with its text as host
+-- the IRI is of this host: it uses https and has exactly this host
 unfoldable pub is_of_host : List ℕ → List ℕ → Bool
 is_of_host host iri = starts_with nat_eq iri (codes "https://") && bytes_eq (host_of iri) host
 

@@ -36,7 +36,7 @@ abbrev pub is_new_key : List Act → Option (List ℕ × List ℕ) → Bool
 is_new_key acts None = true
 is_new_key acts (Some r) = not (list_any (λ x. has_key r.0 x.repeat) acts)
 
--- the post is a member's; its shape is that of a post; none of the author's activities was posted
+-- the post is a member's; it has the shape of a post; none of the author's activities was posted
 -- under the same key; and it breaks no rule
 abbrev pub may_post : Town → List ℕ → Option (List ℕ × List ℕ) → Activity → Option (List ℕ) → Bool
 may_post t name repeat a None = false
@@ -52,7 +52,7 @@ abbrev pub lacks : Town → Option (List ℕ) → Option (List ℕ) → Bool
 lacks t id None = false
 lacks t id (Some owner) = not (has_inbox t id owner)
 
--- the peer is one, and may deliver the activity
+-- the peer exists, and may deliver the activity
 abbrev pub may_deliver : Town → Option Peer → Activity → Bool
 may_deliver t None a = false
 may_deliver t (Some p) a = not (is_foreign t.host p a.actor a.id a.object)
@@ -70,9 +70,9 @@ is_other_host (Some own) host = not (bytes_eq host own)
 abbrev pub is_taken_host : Town → List ℕ → Bool
 is_taken_host t host = not (is_other_host t.host host) || list_any (has_host host) t.peers
 
--- The first rule that an operator's command breaks: the server is set up once; a member's name and
--- key are new; a peer is another host that is new, and is reached at an address. Other entries are
--- no commands and break none.
+-- The first rule that an operator's command breaks. The server is set up once. A member's name and
+-- key are new. A peer is another host, which is new and has a valid address. Other entries are not
+-- commands and break no rule.
 abbrev pub broken_command : Town → Entry → Option CommandFault
 broken_command t (Hosted host moment) = if is_none t.host then None else Some HostTaken
 broken_command t (Made name digest locked moment) =
@@ -87,9 +87,9 @@ broken_command t (Tried activity recipient came moment) = None
 
 -- ---- entries
 
--- The server is set up for a host, first. A member's name is one, and a peer's host. None of these
--- breaks the rules of commands. A post and a delivery may come as said above. An attempt is made
--- when it is due.
+-- First the server is set up for a host. The names of members and the hosts of peers are valid.
+-- None of these breaks the rules of commands. A post and a delivery may come as defined above. An
+-- attempt is made when it is due.
 abbrev pub is_admissible : Town → Entry → Bool
 is_admissible t (Hosted host moment) =
     is_none (broken_command t (Hosted host moment)) && is_host_text host
@@ -106,7 +106,7 @@ is_admissible t (Tried activity recipient came moment) = is_due t activity recip
 
 -- ---- histories
 
--- each entry is admissible where it stands
+-- each entry is admissible at its position
 abbrev pub is_legal_from : Town → List Entry → Bool
 is_legal_from t [] = true
 is_legal_from t (e ∷ entries) = is_admissible t e && is_legal_from (step t e) entries

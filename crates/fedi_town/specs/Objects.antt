@@ -1,5 +1,5 @@
--- Objects: who made them, and how they stand after an Update or a Delete (ActivityPub, sections 6.2
--- to 6.4 and 7.2 to 7.4).
+-- Objects: who made them, and their state after an Update or a Delete (ActivityPub, sections 6.2 to
+-- 6.4 and 7.2 to 7.4).
 use Rattle.std.specs.Prelude.{ℕ, Bool, true, false, ◌&&◌, List, [], Option, Some, None}
 use Rattle.std.specs.Prelude.{option_and_then}
 use Rattle.std.specs.List.{find}
@@ -31,15 +31,15 @@ is_whole (Id iri) = false
 is_whole (Whole o) = true
 is_whole (Changed change) = false
 
--- the activity made the object of this id: a Create that is done (ActivityPub, section 6.2)
+-- the activity made the object with this id: a Create that is done (ActivityPub, section 6.2)
 unfoldable pub makes : List ℕ → Act → Bool
 makes id x = (is_create (deed x) && is_done x.state) && is_about id x
 
--- the activity that made the object of this id
+-- the activity that made the object with this id
 abbrev pub maker : Town → List ℕ → Option Act
 maker t id = find (makes id) t.acts
 
--- the activity that made what has this id, where there is one
+-- the activity that made the object with this id, if there is one
 abbrev pub maker_of : Town → Option (List ℕ) → Option Act
 maker_of t id = option_and_then (maker t) id
 
@@ -48,7 +48,7 @@ abbrev pub object_of : Option Act → Option Object
 object_of None = None
 object_of (Some m) = whole_of m.activity.object
 
--- the object of this id as it stands
+-- the object with this id in its present state
 abbrev pub object_at : Town → List ℕ → Option Object
 object_at t id = object_of (maker t id)
 
@@ -71,7 +71,7 @@ edit edits.Keep old = old
 edit edits.Remove old = None
 edit (edits.Give new) old = Some new
 
--- a list after a client's Update, likewise
+-- a list after a client's Update, in the same way
 abbrev pub edit_list : {A : Type 0} → Edit (List A) → List A → List A
 edit_list edits.Keep old = old
 edit_list edits.Remove old = []
@@ -89,7 +89,7 @@ change_object c stamp o = record o {
   updated = Some stamp;
 }
 
--- the object after a peer's Update, which gives it whole (ActivityPub, section 7.3)
+-- the object after a peer's Update, which carries the whole object (ActivityPub, section 7.3)
 unfoldable pub replace_object : Object → Object → Object
 replace_object new o = record o {
   content = new.content;

@@ -1,4 +1,4 @@
--- What is to be delivered (ActivityPub, section 7.1), and when.
+-- What has to be delivered (ActivityPub, section 7.1), and when.
 use Rattle.std.specs.Prelude.{ℕ, ◌+◌, ◌*◌, ◌^◌, ◌==◌, Bool, false, ◌&&◌, ◌||◌, nat_le, nat_lt, List}
 use Rattle.std.specs.Prelude.{Option, map, filter, if◌then◌else◌}
 use Rattle.std.specs.List.{list_any, fold, flat_map}
@@ -19,19 +19,20 @@ use Rattle.fedi_town.specs.Collections.{text_of}
 use Rattle.fedi_town.specs.Relations.{is_id, has_activity_id}
 use Rattle.fedi_town.specs.Towns.{Town, has_host}
 
--- ---- what came of an attempt
+-- ---- the outcome of an attempt
 
 -- a successful status of the post means that the activity arrived (RFC 9110, section 15.3)
 abbrev pub step_outcome : Sent → ℕ → Outcome
 step_outcome Lookup status = Again
 step_outcome Post status = if nat_le 200 status && nat_lt status 300 then Delivered else Again
 
--- whoever is not found or gone gets no further attempt (RFC 9110, sections 15.5.5 and 15.5.11)
+-- a recipient that is not found or gone gets no further attempt (RFC 9110, sections 15.5.5 and
+-- 15.5.11)
 abbrev pub status_outcome : Sent → ℕ → Outcome
 status_outcome sent status =
     if status == 404 || status == 410 then GivenUp else step_outcome sent status
 
--- what came of one request
+-- the outcome of one request
 abbrev pub request_outcome : Sent → What → Outcome
 request_outcome sent Failed = Again
 request_outcome sent NoHead = Again
@@ -42,15 +43,15 @@ request_outcome sent (Status status) = status_outcome sent status
 abbrev pub outcome : Came → Outcome
 outcome came = request_outcome came.step came.what
 
--- ---- how a delivery stands
+-- ---- the progress of a delivery
 
--- after so many attempts the next is due from a moment on, or there is none
+-- after so many attempts, the next one is due from some moment on, or there is no next one
 pub data Progress : Type 0 where
   Due : ℕ → ℕ → Progress
   Ended : ℕ → Progress
 
--- The next attempt is due 60, 120, 240, 480, 960, 1920 and 3840 seconds after the one before it.
--- The eighth is the last.
+-- The next attempt is due 60, 120, 240, 480, 960, 1920 and 3840 seconds after the previous one. The
+-- eighth is the last.
 abbrev pub next_attempt : ℕ → ℕ → Progress
 next_attempt before moment =
     if before + 1 == 8 then Ended (before + 1) else Due (before + 1) (moment + 60 * 2 ^ before)
@@ -66,23 +67,23 @@ abbrev pub after_attempt : Progress → Attempt → Progress
 after_attempt (Ended attempts) a = Ended attempts
 after_attempt (Due attempts from) a = after_outcome attempts a.moment (outcome a.came)
 
--- the attempt was one to deliver this activity to this recipient
+-- the attempt was to deliver this activity to this recipient
 unfoldable pub is_of_pair : List ℕ → List ℕ → Attempt → Bool
 is_of_pair id recipient a = bytes_eq a.activity id && bytes_eq a.recipient recipient
 
--- how a delivery stands whose activity was accepted at this moment: first it is due from then on
+-- the progress of a delivery whose activity was accepted at this moment, which is due from then on
 unfoldable pub progress_of : Town → List ℕ → List ℕ → ℕ → Progress
 progress_of t id recipient moment =
     fold after_attempt (Due 0 moment) (filter (is_of_pair id recipient) t.attempts)
 
 -- ---- the queue
 
--- to whom this server sends the activity: a member's to its recipients, any other to those to whom
--- it is forwarded (ActivityPub, section 7.1.2)
+-- the recipients that this server sends the activity to: a member's activity goes to its
+-- recipients, any other to those that it is forwarded to (ActivityPub, section 7.1.2)
 unfoldable pub sends : Town → Act → List (List ℕ)
 sends t x = if is_of_town t.host x.author then x.recipients else x.forwards
 
--- the recipient is of a peer
+-- the recipient belongs to a peer
 unfoldable pub is_at_peer : Town → List ℕ → Bool
 is_at_peer t recipient = list_any (has_host (host_of recipient)) t.peers
 

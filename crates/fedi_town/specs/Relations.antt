@@ -1,5 +1,5 @@
--- Who follows whom and who blocks whom (ActivityPub, sections 6.5 and 6.9), and what an activity is
--- about.
+-- The Follows and Blocks between actors (ActivityPub, sections 6.5 and 6.9), and what an activity
+-- is about.
 use Rattle.std.specs.Prelude.{ℕ, Bool, false, ◌&&◌, ◌||◌, List, map, filter, Option, Some, None}
 use Rattle.std.specs.List.{list_any}
 use Rattle.std.specs.Str.{bytes_eq}
@@ -19,7 +19,7 @@ ref_id (Id iri) = Some iri
 ref_id (Whole o) = o.id
 ref_id (Changed change) = Some change.id
 
--- there is an id, and it is this
+-- there is an id, and it is this one
 abbrev pub is_id : List ℕ → Option (List ℕ) → Bool
 is_id id None = false
 is_id id (Some own) = bytes_eq own id
@@ -38,7 +38,7 @@ is_actor t iri = list_any (has_id iri) t.actors
 
 -- ---- Blocks
 
--- it is a Block of b by a that stands
+-- it is a Block of b by a that is in force
 unfoldable pub is_block_of : List ℕ → List ℕ → Act → Bool
 is_block_of a b x = (is_block (deed x) && is_standing x.state) && (is_by a x && is_about b x)
 
@@ -52,7 +52,7 @@ has_block_between t a b = blocks t a b || blocks t b a
 
 -- ---- Follows
 
--- it is a Follow of b by a that was accepted
+-- it is an accepted Follow of b by a
 unfoldable pub is_follow_of : List ℕ → List ℕ → Act → Bool
 is_follow_of a b x = (is_follow (deed x) && is_accepted x.state) && (is_by a x && is_about b x)
 
@@ -64,10 +64,10 @@ follows t a b = list_any (is_follow_of a b) t.acts
 unfoldable pub is_open_follow : List ℕ → List ℕ → Act → Bool
 is_open_follow a b x = (is_follow (deed x) && is_open x.state) && (is_by a x && is_about b x)
 
--- it is a Follow of b that was accepted
+-- it is an accepted Follow of b
 unfoldable pub is_following : List ℕ → Act → Bool
 is_following b x = (is_follow (deed x) && is_accepted x.state) && is_about b x
 
--- those who follow b, in the order of their Follows (ActivityPub, section 5.3)
+-- the followers of b, in the order of their Follows (ActivityPub, section 5.3)
 unfoldable pub followers : Town → List ℕ → List (List ℕ)
 followers t b = distinct (map (λ x. x.author) (filter (is_following b) t.acts))

@@ -1,5 +1,5 @@
--- An object, replayed: what the activities made and changed, one after the other, each as it was
--- accepted.
+-- An object, replayed: what the activities made and changed, one after another, each in the form in
+-- which it was accepted.
 use Rattle.std.specs.Prelude.{ℕ, Bool, ◌&&◌, List, [], ◌∷◌, ◌++◌, Option, Some, None}
 use Rattle.std.specs.Prelude.{option_to_list, codes, if◌then◌else◌}
 use Rattle.std.specs.List.{fold}
@@ -17,7 +17,7 @@ use Rattle.fedi_town.specs.Towns.{Town, empty_town, deed}
 
 -- ---- the activities, as they were accepted
 
--- the activities that an addition brings
+-- the activities in an addition
 abbrev pub acts_in : Addition → List Act
 acts_in additions.Nothing = []
 acts_in (additions.Host host) = []
@@ -27,7 +27,7 @@ acts_in (additions.Activity a) = a.act ∷ option_to_list a.answer
 acts_in (additions.Inbox id owner) = []
 acts_in (additions.Attempt attempt) = []
 
--- the activities that the entries bring after this town
+-- the activities that the entries add to this town
 abbrev pub acts_from : Town → List Entry → List Act
 acts_from t [] = []
 acts_from t (e ∷ entries) = acts_in (addition_of t e) ++ acts_from (step t e) entries
@@ -46,12 +46,11 @@ updates id x = (is_update (deed x) && is_done x.state) && is_about id x
 unfoldable pub deletes : List ℕ → Act → Bool
 deletes id x = (is_delete (deed x) && is_done x.state) && is_about id x
 
--- the object of this id after one more activity, where there was none: a Create that is done makes
--- it
+-- the object of this id after one more activity, if there was none: a Create that is done makes it
 abbrev pub first_form : List ℕ → Act → Option Object
 first_form id x = if makes id x then whole_of x.activity.object else None
 
--- where there was one: an Update that is done changes it, and a Delete that is done leaves a
+-- if there was one: an Update that is done changes it, and a Delete that is done replaces it with a
 -- Tombstone
 abbrev pub next_form : List ℕ → Act → Object → Object
 next_form id x o =

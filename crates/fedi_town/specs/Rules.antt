@@ -1,5 +1,5 @@
--- The rules that a member's post may break (ActivityPub, section 6), by what its author sees. What
--- the author does not see is missing to the author (section 3.2).
+-- The rules that a member's post may break (ActivityPub, section 6). They depend on what the author
+-- sees: anything else does not exist for the author (section 3.2).
 use Rattle.std.specs.Prelude.{ℕ, Bool, true, false, not, ◌&&◌, List, Option, Some, None}
 use Rattle.std.specs.List.{find}
 use Rattle.fedi_town.specs.declared.refusal.Refusal.{Refusal}
@@ -21,7 +21,7 @@ use Rattle.fedi_town.specs.Seeing.{seen}
 use Rattle.fedi_town.specs.States.{can_be_undone}
 use Rattle.fedi_town.specs.Towns.{Town, deed, is_by, has_next, count_of}
 
--- this refusal where the condition holds, and else what the further rules say
+-- this refusal if the condition holds, else the result of the further rules
 abbrev pub refuse_if : Bool → Refusal → Option Refusal → Option Refusal
 refuse_if true r rest = Some r
 refuse_if false r rest = rest
@@ -55,11 +55,11 @@ undo_rule author None = Some NotFound
 undo_rule author (Some y) =
     refuse_if (not (is_by author y)) NotOwner (refuse_if (not (can_be_undone y)) NotStanding None)
 
--- the activity that made the object of this id, where the caller sees it
+-- the activity that made the object with this id, if the caller sees it
 abbrev pub seen_maker : Town → Caller → List ℕ → Option Act
 seen_maker t c id = find (makes id) (seen t c)
 
--- the activity of this id, where the caller sees it
+-- the activity with this id, if the caller sees it
 abbrev pub seen_act : Town → Caller → List ℕ → Option Act
 seen_act t c id = find (has_activity_id id) (seen t c)
 
@@ -95,7 +95,7 @@ abbrev pub first_broken : Option Refusal → Option Refusal → Option Refusal
 first_broken None second = second
 first_broken (Some r) second = Some r
 
--- the first rule that the author's post breaks, the last of which is that there is a number for it
+-- the first rule that the author's post breaks; the last rule is that there is a number for it
 abbrev pub broken_post : Town → Caller → List ℕ → Activity → Option Refusal
 broken_post t c author a =
     first_broken (broken t c author (deed_of a.kind) (ref_id a.object)) (number_rule t author)

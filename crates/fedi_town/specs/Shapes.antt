@@ -1,5 +1,5 @@
--- The shape in which reading leaves an activity: of a client's post (ActivityPub, section 6), and
--- of a delivery (section 7).
+-- The shape of an activity after it is read: from a client's post (ActivityPub, section 6), and
+-- from a delivery (section 7).
 use Rattle.std.specs.Prelude.{ℕ, Bool, true, false, not, ◌&&◌, ◌||◌, nat_le, List, [], ◌∷◌, length}
 use Rattle.std.specs.Prelude.{Option, Some, None, is_some, is_none}
 use Rattle.std.specs.List.{list_all}
@@ -23,21 +23,21 @@ use Rattle.fedi_town.specs.Relations.{ref_id, is_id}
 
 -- ---- limits
 
--- where there is one, it passes
+-- if there is one, it passes
 abbrev pub is_none_or : (List ℕ → Bool) → Option (List ℕ) → Bool
 is_none_or p None = true
 is_none_or p (Some text) = p text
 
--- the names of mentions are texts
+-- the names of mentions are within the limit of a text
 abbrev pub are_tags : List Tag → Bool
 are_tags tags = list_all (λ g. is_text g.name) tags
 
--- no name stands twice
+-- no name is repeated
 abbrev pub is_each_once : List (List ℕ) → Bool
 is_each_once [] = true
 is_each_once (name ∷ others) = not (is_among name others) && is_each_once others
 
--- at most so many names in the five fields, and none twice in a field
+-- at most so many names in the five fields, with none repeated in a field
 abbrev pub are_addressed : ℕ → Recipients → Bool
 are_addressed limit r =
     nat_le (length (all_of r)) limit
@@ -50,7 +50,7 @@ are_same a b =
     pointwise bytes_eq a.to b.to && (pointwise bytes_eq a.cc b.cc && (pointwise bytes_eq a.bto b.bto
     && (pointwise bytes_eq a.bcc b.bcc && pointwise bytes_eq a.audience b.audience)))
 
--- what an object says keeps the limits
+-- the contents of an object are within the limits
 abbrev pub is_object_within : ℕ → Object → Bool
 is_object_within limit o =
     (is_type o.kind && (is_none_or is_text o.content
@@ -59,26 +59,26 @@ is_object_within limit o =
     && (is_none_or is_date o.updated && is_none_or is_date o.deleted))
     && (is_none_or is_type o.former_kind && (are_tags o.tags && are_addressed limit o.recipients)))
 
--- what an activity says keeps the limits
+-- the contents of an activity are within the limits
 abbrev pub is_activity_within : ℕ → Activity → Bool
 is_activity_within limit a =
     ((is_none_or is_text a.content && (is_none_or is_text a.summary && is_none_or is_text a.name))
     && is_none_or is_date a.published)
     && (are_tags a.tags && are_addressed limit a.recipients)
 
--- the text that a change gives keeps the limit
+-- the text that a change sets is within the limit
 abbrev pub is_text_edit : Edit (List ℕ) → Bool
 is_text_edit Keep = true
 is_text_edit Remove = true
 is_text_edit (Give text) = is_text text
 
--- and so do the tags
+-- and so are the tags that it sets
 abbrev pub is_tags_edit : Edit (List Tag) → Bool
 is_tags_edit Keep = true
 is_tags_edit Remove = true
 is_tags_edit (Give tags) = are_tags tags
 
--- what a change gives keeps the limits
+-- what a change sets is within the limits
 abbrev pub is_change_within : Change → Bool
 is_change_within c =
     is_text_edit c.content
@@ -86,15 +86,17 @@ is_change_within c =
 
 -- ---- a client's post
 
--- what the server sets is not there, and nobody makes a Tombstone (ActivityPub, section 6.2)
+-- the properties that the server sets are absent, and nobody makes a Tombstone (ActivityPub,
+-- section 6.2)
 abbrev pub is_unset_object : Object → Bool
 is_unset_object o =
     (is_none o.id && (is_none o.attributed_to && (is_none o.published
     && (is_none o.updated && (is_none o.former_kind && is_none o.deleted)))))
     && not (is_tombstone o)
 
--- a Create carries its object, which names the same as the Create (ActivityPub, section 6.2); an
--- Update a change (6.3.1); each other activity with a side effect at most an id, and it has one
+-- a Create carries its object, which names the same recipients as the Create (ActivityPub, section
+-- 6.2); an Update carries a change (6.3.1); each other activity with a side effect carries an id
+-- only
 abbrev pub is_posted_ref : Deed → Recipients → ObjectRef → Bool
 is_posted_ref d r Nothing = is_other d
 is_posted_ref d r (Id iri) = not (is_create d) && not (is_update d)
@@ -102,12 +104,12 @@ is_posted_ref d r (Whole o) =
     is_create d && (is_unset_object o && (is_object_within 500 o && are_same r o.recipients))
 is_posted_ref d r (Changed c) = is_update d && is_change_within c
 
--- the author follows or blocks the author
+-- the author follows or blocks itself
 abbrev pub is_self_target : List ℕ → Activity → Bool
 is_self_target author a =
     (is_follow (deed_of a.kind) || is_block (deed_of a.kind)) && is_id author (ref_id a.object)
 
--- an activity as the author's post leaves it
+-- an activity as it is read from the author's post
 abbrev pub is_posted : List ℕ → Activity → Bool
 is_posted author a =
     (is_none a.id && (is_none a.actor && is_none a.published))
@@ -125,12 +127,12 @@ is_delivered_ref d (Whole o) =
     (is_create d || is_update d) && (is_some o.id && is_object_within 501 o)
 is_delivered_ref d (Changed change) = false
 
--- the actor follows or blocks the actor
+-- the actor follows or blocks itself
 abbrev pub is_actor_target : Option (List ℕ) → Activity → Bool
 is_actor_target None a = false
 is_actor_target (Some actor) a = is_self_target actor a
 
--- an activity as a delivery leaves it
+-- an activity as it is read from a delivery
 abbrev pub is_delivered : Activity → Bool
 is_delivered a =
     (is_some a.id && is_some a.actor)

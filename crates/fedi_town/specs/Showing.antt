@@ -16,30 +16,30 @@ use Rattle.fedi_town.specs.Relations.{ref_id}
 use Rattle.fedi_town.specs.Seeing.{seen}
 use Rattle.fedi_town.specs.Towns.{Town, deed, id_of}
 
--- a mere id, where there is one
+-- just the id, if there is one
 abbrev pub ref_to : Option (List ℕ) → ObjectRef
 ref_to None = Nothing
 ref_to (Some id) = Id id
 
--- the object as it stands now, of the Create that made it and of each Update that changed it
+-- the object in its present state, of the Create that made it and of each Update that changed it
 unfoldable pub present_object : Town → Act → Option Object
 present_object t x =
     if is_create (deed x) && is_done x.state then whole_of x.activity.object else (
     if is_update (deed x) && is_done x.state
     then object_of (maker_of t (ref_id x.activity.object)) else None)
 
--- a Tombstone by its four members: `id`, `type`, `formerType` and `deleted` (ActivityStreams 2.0
--- Vocabulary, section 3.3)
+-- a Tombstone with its four members only: `id`, `type`, `formerType` and `deleted` (ActivityStreams
+-- 2.0 Vocabulary, section 3.3)
 abbrev pub bare_tombstone : Object → Object
 bare_tombstone o =
     record (object_of_kind o.kind) { id = o.id; former_kind = o.former_kind; deleted = o.deleted }
 
--- an object as it is shown: a Tombstone by these members alone, any other without `bto` and `bcc`
+-- an object as it is shown: a Tombstone with these members only, any other without `bto` and `bcc`
 -- (ActivityPub, section 6)
 abbrev pub shown_object : Object → Object
 shown_object o = if is_tombstone o then bare_tombstone o else stripped_object o
 
--- the object where there is one, else its id
+-- the object if there is one, else its id
 abbrev pub object_or_id : Option Object → Option (List ℕ) → ObjectRef
 object_or_id None id = ref_to id
 object_or_id (Some o) id = Whole (shown_object o)
@@ -48,7 +48,8 @@ object_or_id (Some o) id = Whole (shown_object o)
 unfoldable pub shown_ref : Town → Act → ObjectRef
 shown_ref t x = object_or_id (present_object t x) (ref_id x.activity.object)
 
--- the activity without `bto` and `bcc` (ActivityPub, section 6), with its object as it stands now
+-- the activity without `bto` and `bcc` (ActivityPub, section 6), with its object in its present
+-- state
 unfoldable pub shown_activity : Town → Act → Activity
 shown_activity t x =
     record x.activity { recipients = stripped x.activity.recipients; object = shown_ref t x }
@@ -59,13 +60,13 @@ id_of_caller t Nobody = None
 id_of_caller t (Actor name) = id_of t name
 id_of_caller t (Peer host) = None
 
--- of the recipients the caller alone
+-- only the caller, if it is among the recipients
 abbrev pub own_among : Option (List ℕ) → List (List ℕ) → List (List ℕ)
 own_among None recipients = []
 own_among (Some id) recipients = if is_among id recipients then id ∷ [] else []
 
--- What the caller is shown: the activity again, of which the parts that no caller may know are
--- empty. So each test on an activity is a test on what is shown of it too.
+-- What the caller is shown: the activity, with the parts that no caller may know left empty. So
+-- each test on an activity is a test on what is shown of it too.
 unfoldable pub sight_of : Town → Caller → Act → Act
 sight_of t c x = record {
   author = x.author;

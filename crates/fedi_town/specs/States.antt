@@ -21,7 +21,7 @@ use Rattle.fedi_town.specs.Relations.{ref_id, is_about, has_block_between, is_ac
 use Rattle.fedi_town.specs.Seeing.{sees_as}
 use Rattle.fedi_town.specs.Towns.{Town, deed, is_by, has_id, has_next, count_after}
 
--- the state where the condition holds, and else Plain
+-- the state if the condition holds, else Plain
 abbrev pub only_where : Bool → State → State
 only_where true s = s
 only_where false s = Plain
@@ -33,7 +33,7 @@ abbrev pub is_own_live : List ℕ → Option Act → Bool
 is_own_live author None = false
 is_own_live author (Some m) = is_by author m && not (is_deleted m)
 
--- the object was not deleted, and its Create is seen by the author
+-- the object was not deleted, and the author sees its Create
 abbrev pub is_live_to : Town → List ℕ → Option Act → Bool
 is_live_to t author None = false
 is_live_to t author (Some m) = sees_as t author m && not (is_deleted m)
@@ -43,18 +43,18 @@ abbrev pub is_public_act : Option Act → Bool
 is_public_act None = false
 is_public_act (Some m) = m.is_public
 
--- a Like of this by a that stands
+-- a Like of this by a that is in force
 unfoldable pub is_like_of : List ℕ → List ℕ → Act → Bool
 is_like_of a id x = (is_like (deed x) && is_standing x.state) && (is_by a x && is_about id x)
 
--- an Announce of this by a that stands
+-- an Announce of this by a that is in force
 unfoldable pub is_announce_of : List ℕ → List ℕ → Act → Bool
 is_announce_of a id x =
     (is_announce (deed x) && is_standing x.state) && (is_by a x && is_about id x)
 
 -- ---- Follows
 
--- b has room for one more activity after this one of the author
+-- b has room for one more activity after this one by the author
 unfoldable pub has_room : Town → List ℕ → List ℕ → Bool
 has_room t author b = has_next (count_after t author b)
 
@@ -62,8 +62,8 @@ has_room t author b = has_next (count_after t author b)
 unfoldable pub is_locked : Town → List ℕ → Bool
 is_locked t b = list_any (λ a. has_id b a && a.locked) t.actors
 
--- What becomes of a Follow of this member: a Block refuses it, and else it is accepted at once,
--- where the member is not locked and has room for the Accept (ActivityPub, section 7.5).
+-- What becomes of a Follow of this member. A Block rejects it. Otherwise it is accepted at once if
+-- the member is not locked and has room for the Accept (ActivityPub, section 7.5).
 unfoldable pub follow_state : Town → List ℕ → List ℕ → State
 follow_state t author b =
     if has_block_between t author b then Rejected else (
@@ -74,10 +74,10 @@ abbrev pub is_follow_for : (State → Bool) → List ℕ → Option Act → Bool
 is_follow_for p author None = false
 is_follow_for p author (Some f) = (is_follow (deed f) && p f.state) && is_about author f
 
--- ---- what may be taken back
+-- ---- what can be undone
 
--- a Follow that waits or was accepted, or a Like, an Announce or a Block that stands (ActivityPub,
--- section 6.10)
+-- a Follow that waits or was accepted, or a Like, an Announce or a Block that is in force
+-- (ActivityPub, section 6.10)
 unfoldable pub can_be_undone : Act → Bool
 can_be_undone x =
     (is_follow (deed x) && is_open x.state)

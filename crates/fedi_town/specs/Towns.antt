@@ -11,8 +11,8 @@ use Rattle.fedi_town.specs.declared.deed.Deed.{Deed}
 use Rattle.fedi_town.specs.Deeds.{deed_of}
 
 -- the host of the server, once it was set up; its members and its peers in the order in which they
--- were made; the activities in the order in which they were accepted first; and the attempts to
--- deliver in order
+-- were made; the activities in the order in which they were first accepted; and the attempts to
+-- deliver, in order
 pub record Town : Type 0 where
   pub host : Option (List ℕ)
   pub actors : List Actor
@@ -26,23 +26,23 @@ empty_town = record { host = None; actors = []; peers = []; acts = []; attempts 
 
 -- ---- members and peers
 
--- the member of this name
+-- the member has this name
 unfoldable pub has_name : List ℕ → Actor → Bool
 has_name name a = bytes_eq a.name name
 
--- the member of this id
+-- the member has this id
 unfoldable pub has_id : List ℕ → Actor → Bool
 has_id id a = bytes_eq a.id id
 
--- the member with this digest of a key
+-- the member's key has this digest
 unfoldable pub has_digest : List ℕ → Actor → Bool
 has_digest digest a = bytes_eq a.digest digest
 
--- the peer of this host
+-- the peer has this host
 unfoldable pub has_host : List ℕ → Peer → Bool
 has_host host p = bytes_eq p.host host
 
--- the id of the member of this name
+-- the id of the member with this name
 abbrev pub id_of : Town → List ℕ → Option (List ℕ)
 id_of t name = option_map (λ a. a.id) (find (has_name name) t.actors)
 
@@ -60,10 +60,10 @@ is_by author x = bytes_eq x.author author
 abbrev pub count_of : Town → List ℕ → ℕ
 count_of t author = length (filter (is_by author) t.acts)
 
--- after so many activities there is a number for one more, of which the highest is 4,294,967,295
+-- after so many activities there is a number for one more; the highest number is 4,294,967,295
 abbrev pub has_next : ℕ → Bool
 has_next count = nat_lt count 4294967295
 
--- how many activities this one has after one more of the author
+-- how many activities this actor has after one more by the author
 abbrev pub count_after : Town → List ℕ → List ℕ → ℕ
 count_after t author id = count_of t id + (if bytes_eq author id then 1 else 0)

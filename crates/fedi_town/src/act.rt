@@ -17,36 +17,36 @@ pub struct Actor {
     pub locked: bool,
 }
 
-/// Another server that delivers here and is delivered to (ActivityPub, section 7.1).
+/// Another server that exchanges deliveries with this one (ActivityPub, section 7.1).
 #[derive(Drop)]
 pub struct Peer {
     /// Its host.
     pub host: Host,
     /// The key that the two servers share.
     pub key: [u8; 32],
-    /// Where it is reached.
+    /// The address at which it is reached.
     pub address: Text,
-    /// Whether it may deliver activities of other hosts' actors, as one that forwards does
+    /// Whether it may deliver activities of other hosts' actors, as a forwarding server does
     /// (ActivityPub, section 7.1.2).
     pub relay: bool,
 }
 
-/// An accepted activity, of a member or of somebody elsewhere.
+/// An accepted activity, by a member or by somebody elsewhere.
 #[derive(Drop)]
 pub struct Act {
     /// The id of its author.
     pub author: Iri,
-    /// The activity with all that the server completed. The object of a Create that made one is
-    /// that object as it stands now.
+    /// The activity with everything that the server completed. If a Create made an object, its
+    /// object is that object in its present state.
     pub activity: Boxed<Activity>,
-    /// The key under which a repeat is known, and the digest of the posted body.
+    /// The key that identifies a repeat, and the digest of the posted body.
     pub repeat: Option<(RepeatKey, [u8; 32])>,
     /// When it was accepted.
     pub moment: Moment,
-    /// To whom it goes (ActivityPub, section 7.1); of an activity from elsewhere, to whose inboxes
-    /// it was delivered.
+    /// The recipients (ActivityPub, section 7.1). For an activity from elsewhere, the owners of the
+    /// inboxes that it was delivered to.
     pub recipients: Items<Iri>,
-    /// To whom an activity from elsewhere is forwarded (ActivityPub, section 7.1.2).
+    /// The recipients that an activity from elsewhere is forwarded to (ActivityPub, section 7.1.2).
     pub forwards: Items<Iri>,
     /// Whether everybody may see it (ActivityPub, section 5.6).
     pub is_public: bool,
@@ -61,9 +61,9 @@ pub struct Act {
 pub struct Attempt {
     /// The id of the activity.
     pub activity: Iri,
-    /// To whom it was to go.
+    /// The intended recipient.
     pub recipient: Iri,
-    /// What came of it.
+    /// Its outcome.
     pub came: Came,
     /// When it was made.
     pub moment: Moment,

@@ -1,16 +1,16 @@
-//! What one entry adds to a history's town.
+//! What one entry adds to the town of a history.
 
 use crate::act::{Act, Actor, Attempt, Peer};
 use crate::effect::Effect;
 use fedi_address::{Host, Iri};
 
-/// An activity that is accepted, with all that follows from it. Each part is a function of the town
-/// before it.
+/// An accepted activity, with all that follows from it. Each part is a function of the town before
+/// it.
 #[derive(Drop)]
 pub struct Acceptance {
     /// The activity.
     pub act: Act,
-    /// What it does to earlier ones.
+    /// What it does to earlier activities.
     pub effect: Effect,
     /// The Accept that follows the Follow of a member who is not locked.
     pub answer: Option<Act>,
@@ -29,7 +29,7 @@ pub enum Addition {
     Peer(Peer),
     /// An activity, with all that follows from it.
     Activity(Acceptance),
-    /// One more inbox of an activity that is known.
+    /// One more inbox of a known activity.
     Inbox {
         /// The id of the activity.
         activity: Iri,

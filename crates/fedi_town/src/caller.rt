@@ -1,11 +1,11 @@
-//! Who asks, and for which collection.
+//! Who makes a request, and for which collection.
 
 use fedi_address::{Host, LocalName};
 
 /// Who makes a request.
 #[derive(Drop)]
 pub enum Caller {
-    /// Somebody who shows nothing.
+    /// Somebody without credentials.
     Nobody,
     /// A member of this server.
     Actor(LocalName),
@@ -21,9 +21,9 @@ pub enum Which {
     Inbox(LocalName),
     /// What the member posted (ActivityPub, section 5.1).
     Outbox(LocalName),
-    /// Who follows the member (ActivityPub, section 5.3).
+    /// The followers of the member (ActivityPub, section 5.3).
     Followers(LocalName),
-    /// Whom the member follows (ActivityPub, section 5.4).
+    /// The actors that the member follows (ActivityPub, section 5.4).
     Following(LocalName),
     /// What the member likes (ActivityPub, section 5.5).
     Liked(LocalName),

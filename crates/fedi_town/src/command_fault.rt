@@ -5,17 +5,17 @@ use thiserror::Error;
 /// Why an operator's command is refused.
 #[derive(Clone, Copy, Debug, PartialEq, Eq, Error)]
 pub enum CommandFault {
-    /// A member has this name.
+    /// A member already has this name.
     #[error("name taken")]
     NameTaken,
-    /// A member has this key.
+    /// A member already has this key.
     #[error("key taken")]
     KeyTaken,
-    /// The host is this server's, or a peer's.
+    /// The host belongs to this server or to a peer.
     #[error("host taken")]
     HostTaken,
-    /// A peer is not reached at such an address: it is 1 to 255 bytes of ASCII that show, without a
-    /// space.
+    /// The address is not a valid address of a peer: 1 to 255 printing ASCII characters other than
+    /// a space.
     #[error("bad address")]
     BadAddress,
     /// The keeper has no room for the record.

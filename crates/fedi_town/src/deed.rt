@@ -13,7 +13,7 @@ pub enum Deed {
     Create,
     /// Changes an object.
     Update,
-    /// Leaves a Tombstone of an object.
+    /// Replaces an object with a Tombstone.
     Delete,
     /// Asks to follow an actor.
     Follow,
@@ -27,7 +27,7 @@ pub enum Deed {
     Accept,
     /// Refuses a Follow, or ends it.
     Reject,
-    /// Takes an activity back.
+    /// Undoes an activity.
     Undo,
     /// Has no side effect here.
     Other,

@@ -1,5 +1,5 @@
-//! What an accepted activity changes in earlier ones. The values own all that the change needs, so
-//! that it can be made ready before the activity is kept, and made without memory afterwards.
+//! What an accepted activity changes in earlier ones. The values own all that the change needs. So
+//! the change can be prepared before the activity is kept, and needs no memory afterwards.
 
 use fedi_address::Iri;
 use fedi_objects::{ObjectRef, State};
@@ -19,7 +19,7 @@ pub enum Effect {
         /// The Update's moment.
         stamp: Text,
     },
-    /// A Tombstone is left of the object.
+    /// The object is replaced with a Tombstone.
     Delete {
         /// The id of the object.
         object: Iri,
@@ -33,25 +33,26 @@ pub enum Effect {
         /// The id of the Follow.
         follow: Iri,
     },
-    /// Each Follow of the one by the other that waits or was accepted ends, by a Reject or an Undo.
+    /// Each Follow of one actor by the other that waits or was accepted ends, by a Reject or an
+    /// Undo.
     EndFollows {
-        /// Who follows.
+        /// The follower.
         follower: Iri,
-        /// Whom it follows.
+        /// The followed actor.
         followee: Iri,
         /// How the Follows end.
         state: State,
     },
     /// Each Follow between the two ends, in either direction, by a Block.
     EndBoth {
-        /// Who blocks.
+        /// The actor that blocks.
         author: Iri,
-        /// Who is blocked.
+        /// The blocked actor.
         other: Iri,
     },
-    /// A Like, an Announce or a Block is taken back.
+    /// A Like, an Announce or a Block is undone.
     Undo {
-        /// The id of what is taken back.
+        /// The id of the undone activity.
         activity: Iri,
     },
 }

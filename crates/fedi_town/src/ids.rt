@@ -21,7 +21,7 @@ pub fn actor_iri(alloc: Global, host: &Host, name: &LocalName) -> Result<Iri, Al
     Iri::at(alloc, host, &path)
 }
 
-// The path of what is the member's under this kind and number.
+// The path of the member's item of this kind and number.
 fn numbered_path(alloc: Global, name: &str, kind: &str, number: u64) -> Result<String, AllocError>
     ensures { IfOk result (λ path. string_bytes path
         ≡ codes "/users/" ++ (name.now ++ (kind.now ++ decimal number))) }
@@ -35,7 +35,7 @@ fn numbered_path(alloc: Global, name: &str, kind: &str, number: u64) -> Result<S
     Ok(path)
 }
 
-/// The id of a member's activity of a number.
+/// The id of a member's activity with this number.
 #[tactic(auto, using(crate::proofs::Paths::activity_path_is_plain), unfolding(crate::specs::Ids::activity_id))]
 pub fn activity_iri(
     alloc: Global,
@@ -49,7 +49,7 @@ pub fn activity_iri(
     Iri::at(alloc, host, &path)
 }
 
-/// The id of the object that a member's activity of a number made.
+/// The id of the object that a member's activity with this number made.
 #[tactic(auto, using(crate::proofs::Paths::object_path_is_plain), unfolding(crate::specs::Ids::object_id))]
 pub fn object_iri(
     alloc: Global,

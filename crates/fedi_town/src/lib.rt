@@ -1,5 +1,5 @@
-//! The town that a history makes: its members, peers, activities and attempts, the plain types that
-//! the definitions speak of, and the definitions.
+//! The town that a history makes: its members, peers, activities and attempts, the plain types used
+//! by the definitions, and the definitions.
 #![tactic(auto)]
 
 mod act;

@@ -10,16 +10,16 @@ pub enum Refusal {
     /// The head of the request cannot be read.
     #[error("the head of the request cannot be read")]
     BadHead = 1,
-    /// The body is no JSON text.
+    /// The body is not a JSON text.
     #[error("the body is no JSON text")]
     BadBody,
-    /// The query is not one that this path takes.
+    /// The path does not accept this query.
     #[error("the query is not one that this path takes")]
     BadQuery,
-    /// A key is needed, and none was given.
+    /// A key is required, and none was given.
     #[error("a key is needed, and none was given")]
     NoKey,
-    /// The key is no member's.
+    /// The key does not belong to any member.
     #[error("the key is no member's")]
     WrongKey,
     /// The authentication code is not that of a known server.
@@ -28,25 +28,25 @@ pub enum Refusal {
     /// The path belongs to another member.
     #[error("the path belongs to another member")]
     NotOwner,
-    /// The one who would receive this has blocked its sender.
+    /// The receiver has blocked the sender.
     #[error("the receiver has blocked the sender")]
     Blocked,
-    /// The server that sent this is not where it comes from.
+    /// The server that sent this is not its origin.
     #[error("the server that sent this is not where it comes from")]
     NotOrigin,
     /// Only what is public may be repeated to others.
     #[error("only what is public may be repeated to others")]
     NotPublic,
-    /// There is no such thing, or it may not be seen.
+    /// It does not exist, or it may not be seen.
     #[error("there is no such thing, or it may not be seen")]
     NotFound,
-    /// The path does not take this method.
+    /// The path does not accept this method.
     #[error("the path does not take this method")]
     WrongMethod,
     /// The repeat key was used for another request.
     #[error("the repeat key was used for another request")]
     KeyReused,
-    /// What this would undo or answer does not stand.
+    /// The activity that this would undo or answer is not in force.
     #[error("what this would undo or answer does not stand")]
     NotStanding,
     /// The object was deleted.
@@ -58,10 +58,10 @@ pub enum Refusal {
     /// The body is longer than the limit.
     #[error("the body is longer than the limit")]
     TooLong,
-    /// The body has a type that is not taken here.
+    /// The type of the body is not accepted here.
     #[error("the body has a type that is not taken here")]
     WrongType,
-    /// The body is JSON, but no activity that is taken here.
+    /// The body is JSON, but not an activity that is accepted here.
     #[error("the body is JSON, but no activity that is taken here")]
     BadShape,
     /// The head is longer than the limit.

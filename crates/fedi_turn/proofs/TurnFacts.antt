@@ -1,4 +1,4 @@
--- What a turn's steps tell together.
+-- What a turn's steps show together.
 use Rattle.std.proofs.Common.{◌≡◌, ℕ, ◌<◌, ◌≤◌, List, [], ◌∷◌, ◌++◌, Option, length, sym, ap, ◌∙◌, arith, append-nil, append_assoc, map, length-append}
 use Rattle.std.proofs.lemmas.List.{nil_from_length, map_push}
 use Rattle.std.proofs.lemmas.List.Elements.{All-head}

@@ -65,7 +65,7 @@ module _ {V I : Type 0} (list : V → List I) (base : V → List ℕ) where
       → (k : Content V I) × (get_elem? s.homes 0 ≡ some (some (Some k))) × IsHome v k)
       × ((j : ℕ) (u : GateView I) → get_elem? s.views j ≡ some u → (u ≡ NoFacts) ⊎ (u ≡ Facts v))
 
-  -- what a try to take the value out tells: where the word was 1, the seat has the slot
+  -- what a try to take the value out shows: if the word was 1, the seat has the slot
   abbrev pub TakesOut : Step (Option (Content V I)) → Me (Option (Content V I)) (GateView I) → ℕ
       → Me (Option (Content V I)) (GateView I) → Type 0
   TakesOut st me found after =

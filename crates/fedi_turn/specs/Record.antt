@@ -83,7 +83,7 @@ module _ {I : Type 0} where
   return_right (Reader r) = Nothing
   return_right (Writer w) = Reader (reader_view (first_number w.carried) w.list)
 
-  -- what an append of items tells
+  -- what an append of items shows
   abbrev pub Appends : List I → Step (Unit {0}) → Me (Unit {0}) (View I) → ℕ
       → Me (Unit {0}) (View I) → Type 0
   Appends items st me found after =
@@ -161,7 +161,7 @@ module _ {I : Type 0} (name : I → Option ℕ) where
     pub past : NamesCarried w.carried w.turn w.list
     pub below : NamesBelow w.count w.start w.list
 
-  -- what the rule says of the seat j: each number has one place
+  -- what the rule says of the seat j: each number has one position
   abbrev pub Fits : WriterView I → ℕ → (ℕ → ℕ) → ℕ → View I → Type 0
   Fits w at place j Nothing = Unit {0}
   Fits w at place j (Reader r) =
@@ -180,6 +180,6 @@ module _ {I : Type 0} (name : I → Option ℕ) where
   abbrev pub IsRecord : List (View I) → Type 0
   IsRecord views = (at : ℕ) × (w : WriterView I) × IsWrittenAt views at w
 
-  -- what a look of the writer tells
+  -- what a look of the writer shows
   abbrev pub Looks : Step (Unit {0}) → Me (Unit {0}) (View I) → ℕ → Me (Unit {0}) (View I) → Type 0
   Looks st me found after = (after ≡ me) × ((w : WriterView I) → me.0 ≡ Writer w → IsOrdered w)

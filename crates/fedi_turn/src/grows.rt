@@ -1,11 +1,11 @@
-//! Values that stand for a list which only grows.
+//! Values that represent a list which only grows.
 ghost use Rattle.std.specs.Prelude.{◌≡◌, ℕ, List, length, Option};
 
-/// A value that stands for a list.
+/// A value that represents a list.
 pub trait Grows: Drop {
     type Item: Drop;
 
-    /// The list for which the value stands.
+    /// The list that the value represents.
     ghost list: { Self → List Self.Item };
 
     /// Numbers that stay the same from turn to turn, for contracts alone.

@@ -1,5 +1,5 @@
-//! A lock for a value that stands for a growing list. Each pass of the lock knows a beginning of
-//! that list, and the value of its next turn goes on from there.
+//! A lock for a value that represents a growing list. Each pass of the lock knows a prefix of that
+//! list, and the value of its next turn continues from there.
 //!
 //! Callers take turns: [`TurnLock::take`] waits for the value, [`TurnLock::give`] ends the turn.
 //! Two tables of `atomic_table` carry the proof. The gate (`gate.rt`) keeps callers out: its slot

@@ -126,8 +126,8 @@ fn admit_all<V: Grows>(gate: &GateShared<V>, mut seat: GateSeat<V>, passes: &mut
 }
 
 impl<V: Grows> TurnLock<V> {
-    /// A lock around the value, and as many idle passes, numbered from 0, each of which has seen
-    /// the value's list. At least one pass. The value comes back only if it is out of memory.
+    /// A lock around the value, and this many idle passes, numbered from 0. Each has seen the
+    /// value's list. There is at least one pass. The error is out of memory: the value comes back.
     pub fn new(alloc: Global, value: V, seats: u64) -> Result<(TurnLock<V>, Vec<Pass<V::Item>>), V>
         requires { 0 < seats }
         ensures base { IfOk result (λ r. base_of V.Grows r.0 ≡ V.base value) }

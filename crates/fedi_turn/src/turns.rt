@@ -19,7 +19,7 @@ impl<I> Pass<I> {
         self.seen
     }
 
-    /// The number of the pass: its place among those that `TurnLock::new` gave, from 0.
+    /// The number of the pass: its index, from 0, among those that `TurnLock::new` returned.
     pub fn number(&self) -> u64
         ensures { result ≡ number_of self.now }
     {
@@ -28,13 +28,13 @@ impl<I> Pass<I> {
 }
 
 impl<V: Grows> TurnLock<V> {
-    /// Waits for the turn of an idle pass of this lock, and gives the value. Its list begins with
-    /// all that the pass has seen, and each item behind that is another's. Takes no memory.
+    /// Waits for the turn of an idle pass of this lock, and returns the value. Its list begins with
+    /// all that the pass has seen, and each item after that is another's. Takes no memory.
     ///
-    /// A caller that finds the value there takes it at once. One that does not looks for it a
-    /// hundred times, then sleeps until a `give` wakes it, and looks again: a woken caller has no
-    /// claim to the value, so one that runs may be first. If the caller before does not give the
-    /// value back, the call does not return.
+    /// A caller that finds the value takes it at once. One that does not looks for it a hundred
+    /// times, then sleeps until a `give` wakes it, and looks again: a woken caller has no claim to
+    /// the value, so a running one may be first. If the caller before does not give the value back,
+    /// the call does not return.
     pub fn take<R: Wait>(&self, rt: &R, pass: &mut Pass<V::Item>) -> Held<V, V::Item>
         requires { IsIdle V.Grows self.now pass.old }
         ensures turn { IsTurn V.Grows self.now pass.new result }

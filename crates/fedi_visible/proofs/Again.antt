@@ -6,7 +6,7 @@ use Rattle.std.proofs.lemmas.List.{get_or-take, length-take-le}
 use Rattle.std.proofs.lemmas.List.Folds.{list_any_at, list_any_more}
 use Rattle.std.proofs.lemmas.Option.{get_or_from_slice_get, slice_get_within}
 
--- one more was asked
+-- one more was checked
 pub none_more : {A : Type 0} (p : A → Bool) (xs : List A) (i : ℕ) (x : A) → Some x ≡ slice_get xs i → list_any p (take i xs) ≡ false → p x ≡ false
     → list_any p (take (i + 1) xs) ≡ false
 none_more p xs i x at none fails =

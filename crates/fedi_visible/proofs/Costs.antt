@@ -5,7 +5,7 @@ use Rattle.std.proofs.Math.Nat.{suc-mul}
 steps_with : (n k steps first before after more : ℕ) → after ≡ before + (n + 1) → k < n → steps ≤ first + before → more ≤ steps + (k + 1) → more ≤ first + after
 steps_with n k steps first before after more is within so_far one = omega (arith, is, within, so_far, one)
 
--- at the place after this one: of n activities at most this one and those before it were read
+-- one position further: of n activities, at most this one and those before it were read
 pub steps_more : (n k steps first more : ℕ) → k < n → steps ≤ first + k * (n + 1) → more ≤ steps + (k + 1) → more ≤ first + (k + 1) * (n + 1)
 steps_more n k steps first more within so_far one =
     let next : suc k ≡ k + 1 = omega arith in

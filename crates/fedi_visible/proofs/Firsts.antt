@@ -1,4 +1,4 @@
--- The firsts of a list that has one more at its end.
+-- The firsts of a list with one more item at its end.
 use Rattle.std.proofs.Common.{◌≡◌, Bool, true, false, List, [], ◌∷◌, ◌++◌, refl, sym, ap, ◌∙◌}
 use Rattle.std.specs.Prelude.{◌&&◌, ◌||◌, not, filter, if◌then◌else◌}
 use Rattle.std.specs.List.{list_any}
@@ -32,7 +32,7 @@ any-filtered {A} p q r both (x ∷ xs) =
       | false ↦ rest
     ])
 
--- the same of those that pass a test, where r tells which of them are the same
+-- the same for those that pass a test, if r determines which of them are the same
 pub filtered_more : {A : Type 0} (same : A → A → Bool) (p r : A → Bool) (xs : List A) (x : A) → ((y : A) → r y ≡ (p y && same y x))
     → firsts same (filter p (xs ++ x ∷ [])) ≡ firsts same (filter p xs) ++ (if p x && not (list_any r xs) then x ∷ [] else [])
 filtered_more {A} same p r xs x both =

@@ -1,4 +1,4 @@
--- What is told of the items of a collection by their places.
+-- What the positions of the items of a collection say about them.
 use Rattle.std.proofs.Common.{◌≡◌, ℕ, ◌+◌, ◌*◌, arith, true, false, List, [], ◌∷◌, ◌++◌, Option, Some, length, take, drop, refl, sym, ap, ◌∙◌}
 use Rattle.std.specs.Prelude.{filter, map, if◌then◌else◌}
 use Rattle.std.specs.List.{range_with_len, slice_get}
@@ -29,9 +29,9 @@ page_placed t c which id number found is =
     ∙ drop-map Some (20 * number) (items t c which id))
     ∙ take-map Some 20 (drop (20 * number) (items t c which id)))
 
--- ---- one more place
+-- ---- one more position
 
--- the places among one number more
+-- the positions below a number that is one more
 pub places_more : (t : Town) (c : Caller) (which : Which) (id : List ℕ) (n : ℕ)
     → filter (is_listed t c which id) (range_with_len 0 (n + 1))
     ≡ filter (is_listed t c which id) (range_with_len 0 n) ++ (if is_listed t c which id n then n ∷ [] else [])
@@ -40,7 +40,7 @@ places_more t c which id n =
     ∙ filter_of_map_range_with_len_more (is_listed t c which id) (λ x. x) 0 n n (omega arith)
     ∙ ap (λ (xs : List ℕ). filter (is_listed t c which id) xs ++ (if is_listed t c which id n then n ∷ [] else [])) (map-id (range_with_len 0 n))
 
--- the places of the items before this place
+-- the positions of the items before this position
 abbrev pub places_before : Town → Caller → Which → List ℕ → ℕ → List ℕ
 places_before t c which id n = filter (is_listed t c which id) (range_with_len 0 n)
 

@@ -1,4 +1,4 @@
--- The items of a collection stand at the places of those that are the first of their item.
+-- The items of a collection are at the positions that are the first of their item.
 use Rattle.std.proofs.Common.{◌≡◌, ℕ, ◌+◌, Bool, true, false, List, [], ◌∷◌, ◌++◌, Option, Some, length, take, refl, sym, ap, subst, ◌∙◌, append_assoc}
 use Rattle.std.specs.Prelude.{◌&&◌, filter, map, if◌then◌else◌}
 use Rattle.std.specs.List.{list_any, range_with_len, slice_get}
@@ -81,7 +81,7 @@ filter-filter {A} p q (x ∷ xs) =
       | false ↦ elim (p x) as (λ b. filter p (filter q xs) ≡ (if b && false then x ∷ filter (λ y. p y && q y) xs else filter (λ y. p y && q y) xs)) [ true ↦ filter-filter p q xs | false ↦ filter-filter p q xs ]
     ]
 
--- the items stand at these places
+-- the items are at these positions
 pub items_placed : (t : Town) (c : Caller) (which : Which) (id : List ℕ) → map (slice_get t.acts) (places t c which id) ≡ map Some (items t c which id)
 unfolding is_seen_item
 items_placed t c which id =
@@ -101,7 +101,7 @@ unfolding is_same_seen
 none-same t c which id x before none =
     sym (any_none (is_same_seen t c which id x) before (λ y. rw (none y) (and_none (is_item which id y) (sees t c y))))
 
--- where an item cannot come again, no two activities are the same
+-- if an item cannot be repeated, no two activities are the same
 pub none_again : (t : Town) (c : Caller) (which : Which) (id : List ℕ) (x : Act) (before : List Act) (again : Bool) → again ≡ can_come_again which → again ≡ false
     → again ≡ list_any (is_same_seen t c which id x) before
 unfolding is_same_item

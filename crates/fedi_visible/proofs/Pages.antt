@@ -1,11 +1,11 @@
--- A page that is gathered: the items are counted one after the other, and the places of those on
+-- A page that is gathered: the items are counted one after the other, and the positions of those on
 -- the page are kept.
 use Rattle.std.proofs.Common.{◌≡◌, ◌<◌, ◌≤◌, ℕ, ◌+◌, ◌*◌, ◌/◌, arith, List, [], ◌∷◌, ◌++◌, length, take, drop, refl, sym, ap, subst, ◌∙◌, nat_eq, eq-eqb, inl, inr}
 use Rattle.std.proofs.lemmas.Bool.{cases_eq, cases_lt, ne_eqb}
 use Rattle.std.specs.Prelude.{if◌then◌else◌}
 use Rattle.std.proofs.lemmas.List.{drop-append-le, drop_all, length-drop, length_push, take-append-le, take_all}
 
--- so many from there on, where a page has no more
+-- the items from the start of the page on, at most one page of them
 abbrev part_of : ℕ → List ℕ → List ℕ
 part_of number found = take 20 (drop (20 * number) found)
 
@@ -26,7 +26,7 @@ after_page number found place many =
     ap (take 20) (drop-append-le (20 * number) found (place ∷ []) (omega (arith, many)))
     ∙ take-append-le 20 (drop (20 * number) found) (place ∷ []) (omega (arith, many, length-drop (20 * number) found))
 
--- a place after these stands on the page of this number, or on another
+-- a position after these is on the page of this number, or on another
 pub page_more : (number : ℕ) (found : List ℕ) (place : ℕ)
     → take 20 (drop (20 * number) (found ++ place ∷ []))
     ≡ (if nat_eq (length found / 20) number then take 20 (drop (20 * number) found) ++ place ∷ [] else take 20 (drop (20 * number) found))
@@ -54,7 +54,7 @@ page_open number found is =
 
 -- ---- a page that is gathered
 
--- so many places were counted, and these of them stand on the page of this number
+-- this many positions were counted, and these of them are on the page of this number
 pub record IsPageOf (number : ℕ) (counted : List ℕ) (n : ℕ) (found : List ℕ) : Type 0 where
   pub total : n ≡ length counted
   pub places : found ≡ take 20 (drop (20 * number) counted)
@@ -66,12 +66,12 @@ none_counted number total found none nothing = record {
   places = nothing ∙ sym (ap (take 20) (drop_all (20 * number) [] (omega arith)));
 }
 
--- there is room for a place on the page
+-- there is room for a position on the page
 pub has_room : (number : ℕ) (counted : List ℕ) (total : ℕ) (found : List ℕ) → IsPageOf number counted total found → total / 20 ≡ number → length found < 20
 has_room number counted total found page here =
     subst (λ (xs : List ℕ). length xs < 20) (sym page.places) (page_open number counted (ap (λ (k : ℕ). k / 20) (sym page.total) ∙ here))
 
--- one place more was counted
+-- one more position was counted
 pub one_counted : (number : ℕ) (counted : List ℕ) (total : ℕ) (found : List ℕ) (place more : ℕ) (kept : List ℕ) → IsPageOf number counted total found
     → more ≡ total + 1 → kept ≡ (if nat_eq (total / 20) number then found ++ place ∷ [] else found) → IsPageOf number (counted ++ place ∷ []) more kept
 one_counted number counted total found place more kept page one put = record {

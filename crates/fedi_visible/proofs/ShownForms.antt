@@ -47,7 +47,7 @@ shown_form t x s h local context =
     ap (λ (a : Activity). activity_form local context s.author.now a) (shown_whole t x s h)
     ∙ ap (λ (by : List ℕ). activity_form local context by (record (shown_activity t x) { actor = Some x.author })) h.author
 
--- an object is shown as it is, and gone where it was deleted
+-- an object is shown as it is, and as gone if it was deleted
 pub object_shown : (o : Object) → showing (if is_tombstone o then 410 else 200) forms.Activity (object_form true true o) ≡ reply_of (object_document (Some o))
 object_shown o =
     elim (is_tombstone o) as (λ b. showing (if b then 410 else 200) forms.Activity (object_form true true o)
@@ -61,7 +61,7 @@ whole_or_id None None = refl
 whole_or_id None (Some id) = refl
 whole_or_id (Some o) id = refl
 
--- the document of the object that an activity made is that of the object as it stands now
+-- the document of the object that an activity made is that of the object as it is now
 pub present_document : (t : Town) (x : Act) (o : Option Object) → o ≡ option_map shown_object (present_object t x)
     → object_document o ≡ maker_document t x
 unfolding maker_document shown_activity shown_ref

@@ -1,4 +1,4 @@
--- What stands on a shelf.
+-- What a shelf holds.
 use Rattle.std.specs.Prelude.{[], None}
 use Rattle.fedi_town.specs.Towns.{empty_town}
 use Rattle.fedi_effects.specs.Holdings.{Holding}

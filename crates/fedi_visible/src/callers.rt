@@ -6,7 +6,7 @@ ghost use Rattle.fedi_model.specs.Reading.{is_nobody, is_self};
 use fedi_address::LocalName;
 use fedi_town::Caller;
 
-/// Whether the caller shows nothing.
+/// Whether the caller presents no identity.
 pub fn is_nobody(caller: &Caller) -> bool
     ensures { result ≡ is_nobody caller.now }
 {
@@ -16,7 +16,7 @@ pub fn is_nobody(caller: &Caller) -> bool
     }
 }
 
-/// Whether the caller is the member of this name.
+/// Whether the caller is the member with this name.
 pub fn is_self(caller: &Caller, name: &LocalName) -> bool
     ensures { result ≡ is_self caller.now name.now }
 {

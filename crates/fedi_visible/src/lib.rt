@@ -1,6 +1,6 @@
 //! Who sees what of the facts, what they are shown, the replies to those who read activities and
-//! objects, the trait `Shelf` of what holds a history, and a plain shelf, whose history is gone
-//! through for what its readers see of its collections.
+//! objects, the trait `Shelf` of what holds a history, and a plain shelf, which scans its history
+//! to find what its readers see of its collections.
 #![tactic(auto)]
 
 mod callers;

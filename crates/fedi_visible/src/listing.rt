@@ -1,4 +1,4 @@
-//! What stands in a collection (ActivityPub, section 5).
+//! What is in a collection (ActivityPub, section 5).
 
 ghost use Rattle.std.specs.Prelude.{◌≡◌};
 ghost use Rattle.fedi_town.specs.Collections.{is_item, is_same_item};
@@ -11,10 +11,10 @@ use fedi_effects::{
 use fedi_register::Kept;
 use fedi_town::Which;
 
-/// Whether the activity stands in the owner's collection (ActivityPub, section 5): what the owner
-/// got or posted, the Follows of and by the owner that were accepted, the Likes by the owner, and
-/// the Likes and Announces of the owner, that stand. The owner is the member or the object with
-/// this id.
+/// Whether the activity is in the owner's collection (ActivityPub, section 5): what the owner got
+/// or posted, the accepted Follows of and by the owner, the Likes by the owner that are in force,
+/// and the Likes and Announces of the owner that are in force. The owner is the member or the
+/// object with this id.
 #[tactic(auto, unfolding(fedi_town::specs::Collections::is_item, fedi_town::specs::Relations::is_following))]
 pub fn is_item(act: &Kept, which: &Which, owner: &Iri) -> bool
     ensures { result ≡ is_item which.now owner.now act.now }
@@ -32,9 +32,9 @@ pub fn is_item(act: &Kept, which: &Which, owner: &Iri) -> bool
     }
 }
 
-/// Whether two activities of the collection stand for the same item: in that of the followers those
-/// by the same author, in that of the followed those about the same (ActivityPub, sections 5.3 and
-/// 5.4).
+/// Whether two activities of the collection represent the same item. Among the followers these are
+/// activities by the same author, and among the followed those about the same object (ActivityPub,
+/// sections 5.3 and 5.4).
 #[tactic(auto, unfolding(fedi_town::specs::Collections::is_same_item))]
 pub fn is_same_item(which: &Which, a: &Kept, b: &Kept) -> bool
     ensures { result ≡ is_same_item which.now a.now b.now }

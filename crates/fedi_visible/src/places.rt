@@ -1,4 +1,4 @@
-//! Where the items of a collection stand among the activities of the facts. The owner of a
+//! The positions of the items of a collection among the activities of the facts. The owner of a
 //! collection is the member or the object with this id. Nothing here takes memory.
 
 ghost use Rattle.std.specs.Prelude.{◌≡◌, ◌+◌, ◌*◌, ◌<◌, ◌≤◌, drop, length, take};
@@ -15,7 +15,7 @@ use fedi_register::Kept;
 use fedi_town::{Caller, Which};
 use std::sync::ledger::Ledger;
 
-/// Whether the activity stands in the owner's collection, and the caller sees it.
+/// Whether the activity is in the owner's collection and the caller sees it.
 #[tactic(auto, unfolding(crate::specs::Places::is_seen_item))]
 pub fn is_seen_item(facts: &Facts, caller: &Caller, which: &Which, owner: &Iri, act: &Kept) -> bool
     ensures { result ≡ is_seen_item facts.now.town caller.now which.now owner.now act.now }
@@ -23,7 +23,7 @@ pub fn is_seen_item(facts: &Facts, caller: &Caller, which: &Which, owner: &Iri, 
     is_item(act, which, owner) && sees(facts, caller, act)
 }
 
-/// Whether the earlier activity is an item that the caller sees, and the same item as this one.
+/// Whether the earlier activity is an item that the caller sees and is the same item as this one.
 #[tactic(auto, unfolding(crate::specs::Places::is_same_seen))]
 pub fn is_same_seen(
     facts: &Facts,
@@ -40,7 +40,7 @@ pub fn is_same_seen(
         && (is_same_item(which, earlier, act) && sees(facts, caller, earlier))
 }
 
-// Whether one of the first so many activities is the same item, and the caller sees it.
+// Whether one of the first `count` activities is the same item and the caller sees it.
 fn is_any_same_seen<L: Ledger>(
     facts: &Facts,
     caller: &Caller,
@@ -65,16 +65,16 @@ fn is_any_same_seen<L: Ledger>(
     false
 }
 
-// Whether an item can come again: the same follower, and the same one who is followed. The items of
-// all other collections are different ones.
+// Whether an item can be repeated: the same follower, or the same followed actor. The items of all
+// other collections differ from each other.
 fn can_come_again(which: &Which) -> bool
     ensures { result ≡ can_come_again which.now }
 {
     matches!(which, Which::Followers(_) | Which::Following(_))
 }
 
-// Whether one of the first so many activities is the same item, and the caller sees it: only where
-// an item can come again, they are gone through.
+// Whether one of the first `count` activities is the same item and the caller sees it. They are
+// scanned only if an item can be repeated.
 #[tactic(auto, using(crate::proofs::Listed::none_again))]
 fn comes_again<L: Ledger>(
     facts: &Facts,
@@ -94,7 +94,7 @@ fn comes_again<L: Ledger>(
     can_come_again(which) && is_any_same_seen(facts, caller, which, owner, act, count, steps)
 }
 
-// Whether the activity is an item that the caller sees, and none of the first so many is the same.
+// Whether the activity is an item that the caller sees and none of the first `count` is the same.
 #[tactic(auto, unfolding(crate::specs::Places::is_first))]
 fn is_first<L: Ledger>(
     facts: &Facts,
@@ -114,7 +114,7 @@ fn is_first<L: Ledger>(
         && !comes_again(facts, caller, which, owner, act, count, steps)
 }
 
-// Whether the activity at this place is the first by which the caller sees its item.
+// Whether the activity at this position is the first by which the caller sees its item.
 fn is_listed<L: Ledger>(
     facts: &Facts,
     caller: &Caller,
@@ -131,8 +131,8 @@ fn is_listed<L: Ledger>(
     is_first(facts, caller, which, owner, act, place, steps)
 }
 
-/// The places of the items on the page of this number, and how many items there are on all pages.
-/// For each activity it reads those before it at most.
+/// The positions of the items on the page of this number, and the number of items on all pages. For
+/// each activity it reads at most those before it.
 pub fn page<L: Ledger>(
     facts: &Facts,
     caller: &Caller,

@@ -1,4 +1,4 @@
-//! A shelf that keeps nothing beside the facts.
+//! A shelf that keeps nothing but the facts.
 
 ghost use Rattle.std.specs.Prelude.{◌≡◌, ◌≤◌, ◌++◌, ◌∷◌, [], ◌+◌, ◌*◌, IfOk, IsTrue, None, OnErr};
 ghost use Rattle.std.specs.Prelude.{OnOk, Some, drop, length, map, slice_get, take};
@@ -18,9 +18,9 @@ use std::alloc::{AllocError, Global};
 use std::marker::Model;
 use std::sync::ledger::Ledger;
 
-/// The facts of a history, whose activities are gone through for each page of a collection. For
-/// each Follow in the collections of followers and of those who are followed, the activities before
-/// it are gone through too.
+/// The facts of a history, whose activities are scanned for each page of a collection. For each
+/// Follow in the collections of followers and of the followed, the activities before it are scanned
+/// too.
 #[derive(Drop)]
 pub struct PlainShelf {
     facts: Facts,

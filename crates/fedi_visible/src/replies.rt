@@ -1,4 +1,4 @@
-//! The replies to what is read. Out of memory is the only error.
+//! The replies to reads. Out of memory is the only error.
 
 ghost use Rattle.std.specs.Prelude.{◌≡◌, IfOk, option_copied, if◌then◌else◌};
 ghost use Rattle.serde_json.specs.Data.{Data};
@@ -40,15 +40,15 @@ fn activity_document(alloc: Global, facts: &Facts, act: &Kept) -> Result<Reply, 
     Ok(document_reply(StatusCode::OK, Form::Activity, out))
 }
 
-// The activity of this id, among those that the caller sees.
+// The activity with this id, among those that the caller sees.
 fn seen_act<'a>(facts: &'a Facts, caller: &Caller, id: &Iri) -> Option<&'a Kept>
     ensures { option_copied result ≡ seen_act facts.now.town caller.now id.now }
 {
     facts.first_by_id(id, |act| sees(facts, caller, act))
 }
 
-/// The reply to who asks for the member's activity of this number: its document, where the caller
-/// sees it, else that there is no such activity (ActivityPub, section 3.2).
+/// The reply to a caller who asks for the member's activity of this number: its document if the
+/// caller sees it, otherwise that there is no such activity (ActivityPub, section 3.2).
 pub fn activity_reply(
     alloc: Global,
     facts: &Facts,
@@ -90,14 +90,14 @@ fn object_document(alloc: Global, object: &StrippedObject) -> Result<Reply, Allo
     Ok(document_reply(status_of(object), Form::Activity, out))
 }
 
-/// The activity that made the object of this id, among those that the caller sees, or none.
+/// The activity that made the object with this id, among those that the caller sees, or none.
 pub fn seen_maker<'a>(facts: &'a Facts, caller: &Caller, id: &Iri) -> Option<&'a Kept>
     ensures { option_copied result ≡ seen_maker facts.now.town caller.now id.now }
 {
     facts.first_maker(id, |act| sees(facts, caller, act))
 }
 
-// The object of this id, if the caller sees the activity that made it.
+// The object with this id, if the caller sees the activity that made it.
 fn seen_object<'a>(facts: &'a Facts, caller: &Caller, id: &Iri) -> Option<StrippedObject<'a>>
     ensures { object_document result ≡ object_answer facts.now.town caller.now (Some id.now) }
 {
@@ -107,9 +107,9 @@ fn seen_object<'a>(facts: &'a Facts, caller: &Caller, id: &Iri) -> Option<Stripp
     }
 }
 
-/// The reply to who asks for the object that the member's activity of this number made: its
-/// document, or the Tombstone that is left of it, where the caller sees the activity, and else that
-/// there is none (ActivityPub, sections 3.2 and 6.4).
+/// The reply to a caller who asks for the object that the member's activity of this number made:
+/// its document, or the Tombstone that is left of it, if the caller sees the activity, and
+/// otherwise that there is no such object (ActivityPub, sections 3.2 and 6.4).
 pub fn object_reply(
     alloc: Global,
     facts: &Facts,

@@ -24,7 +24,7 @@ fn reaches(facts: &Facts, host: &Host, author: &Iri, recipient: &Iri) -> bool
     is_of_peer(host, recipient) && !facts.has_block_between(recipient, author)
 }
 
-// Whether the activity goes to somebody of the other server whom no Block keeps away.
+// Whether the activity goes to somebody of the other server who is not kept away by a Block.
 fn reaches_any(facts: &Facts, host: &Host, author: &Iri, recipients: &[Iri]) -> bool
     ensures { result ≡ list_any (reaches facts.now.town host.now author.now) recipients.now }
 {
@@ -33,8 +33,8 @@ fn reaches_any(facts: &Facts, host: &Host, author: &Iri, recipients: &[Iri]) -> 
         .any(|iri| reaches(facts, host, author, iri))
 }
 
-// Whether the activity is a Follow of the author that was accepted, by somebody of the other server
-// whom no Block keeps away.
+// Whether the activity is an accepted Follow of the author by somebody of the other server who is
+// not kept away by a Block.
 #[tactic(auto, unfolding(fedi_town::specs::Seeing::is_follower_from))]
 fn is_follower_from(facts: &Facts, host: &Host, author: &Iri, act: &Kept) -> bool
     ensures { result ≡ is_follower_from facts.now.town host.now author.now act.now }
@@ -49,11 +49,12 @@ fn is_followed_from(facts: &Facts, host: &Host, author: &Iri) -> bool
     facts.is_followed_by(author, |act| is_follower_from(facts, host, author, act))
 }
 
-/// Whether the caller sees the activity (ActivityPub, sections 5, 6 and 6.9): a member sees what
-/// the member wrote, and where no Block stands between member and author what is public, what goes
-/// to the member, and what is for the author's followers while the member is one; a peer what is
-/// public, of the peer or to somebody of the peer whom no Block keeps away, and what is for the
-/// author's followers while such a one follows; everybody else what is public.
+/// Whether the caller sees the activity (ActivityPub, sections 5, 6 and 6.9). A member sees what
+/// the member wrote. If there is no Block between member and author, the member also sees what is
+/// public, what goes to the member, and what is for the author's followers while the member is one.
+/// A peer sees what is public, what is by the peer, what goes to somebody of the peer who is not
+/// kept away by a Block, and what is for the author's followers while such an actor follows.
+/// Everybody else sees what is public.
 #[tactic(auto, unfolding(fedi_town::specs::Seeing::sees))]
 pub fn sees(facts: &Facts, caller: &Caller, act: &Kept) -> bool
     ensures { result ≡ sees facts.now.town caller.now act.now }

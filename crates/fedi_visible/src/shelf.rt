@@ -1,4 +1,4 @@
-//! Where a history stands, with what its readers see of its collections.
+//! What holds a history, with what its readers see of its collections.
 
 ghost use Rattle.std.specs.Prelude.{◌≡◌, ◌≤◌, ◌<◌, ◌+◌, ◌*◌, ◌/◌, ◌^◌, ◌++◌, ◌∷◌, [], ℕ, IsTrue};
 ghost use Rattle.std.specs.Prelude.{List, None, OnErr, OnOk, Some, drop, if◌then◌else◌, length};
@@ -18,16 +18,16 @@ use fedi_town::{Caller, Which};
 use std::alloc::{AllocError, Global};
 use std::sync::ledger::Ledger;
 
-/// How many items a page of a collection has at most (ActivityStreams 2.0 Core, section 5.2).
+/// The most items on a page of a collection (ActivityStreams 2.0 Core, section 5.2).
 pub const PAGE: usize = 20;
 
 /// A page of a collection, as its reader sees it.
 #[derive(Drop)]
 pub struct VisiblePage {
-    /// How many items the whole collection has.
+    /// The number of items in the whole collection.
     pub total: u64,
-    /// The places, among the activities, of the items of the page, the oldest first. A page above
-    /// the highest has none.
+    /// The positions of the page's items among the activities, the oldest first. A page above the
+    /// highest has none.
     pub places: ArrayVec<usize, 20>,
 }
 
@@ -43,8 +43,8 @@ impl VisiblePage {
         }
     }
 
-    /// Counts the item at this place, which comes after those that were counted, and keeps the
-    /// place if it stands on the page of this number.
+    /// Counts the item at this position, which comes after those that were counted, and keeps the
+    /// position if the item is on the page of this number.
     pub fn add(&mut self, number: u64, place: usize)
         requires total { self.old.total < 2 ^ 63 }
         requires room { self.old.total / 20 ≡ number → array_vec_len self.old.places < 20 }
@@ -59,12 +59,12 @@ impl VisiblePage {
     }
 }
 
-/// What stands for a history: its facts, and the collections of those whom it made (ActivityPub,
-/// section 5). The items of a collection are those that its reader sees, the first of each, in the
-/// order of acceptance; an item is told by its place among the activities of the facts. The owner
+/// What holds a history: its facts, and the collections of those it made (ActivityPub, section 5).
+/// The items of a collection are those that its reader sees, the first of each, in the order of
+/// acceptance. An item is identified by its position among the activities of the facts. The owner
 /// of a collection is the member or the object with this id.
 pub trait Shelf {
-    /// The history that is held, the town that it has made, and the entry that room was made for.
+    /// The history that is held, the town that it has made, and the entry for which room was made.
     ghost holding: { Self → Holding };
 
     /// The most steps that a page of the owner's collection takes: how often an activity is read.
@@ -74,8 +74,8 @@ pub trait Shelf {
     fn facts(&self) -> &Facts
         ensures { result.now ≡ holding self.now };
 
-    /// Makes room for an entry that may come next, with all that it adds. After an error, out of
-    /// memory, there is room for none, and all else is as before.
+    /// Makes room for an entry that may come next, with all that it adds. After an error, which is
+    /// out of memory, there is room for no entry, and everything else is as before.
     fn reserve(&mut self, alloc: Global, entry: &Entry) -> Result<(), AllocError>
         requires legal { IsLegal (holding self.old).history }
         requires admissible { IsTrue (is_admissible (holding self.old).town entry.now) }
@@ -92,8 +92,9 @@ pub trait Shelf {
           room = None;
         } };
 
-    /// How many items the reader sees in the owner's collection, and those on the page of this
-    /// number: page 0 has the oldest. It takes no memory, and counts the activities that it reads.
+    /// The number of items that the reader sees in the owner's collection, and those on the page of
+    /// this number: page 0 has the oldest. It takes no memory, and counts the activities that it
+    /// reads.
     fn visible_page<L: Ledger>(
         &self,
         caller: &Caller,

@@ -14,7 +14,7 @@ use fedi_objects::{Shown, ShownObject, State, StrippedObject};
 use fedi_register::Kept;
 use fedi_town::Deed;
 
-// The object that an Update of this id changed, as it stands now.
+// The object that the Update with this id changed, as it is now.
 fn changed_object<'a>(facts: &'a Facts, id: Option<&Iri>) -> Option<StrippedObject<'a>>
     ensures { result
         ≡ option_map shown_object (object_of (maker_of facts.now.town (option_copied id.entry))) }
@@ -25,8 +25,8 @@ fn changed_object<'a>(facts: &'a Facts, id: Option<&Iri>) -> Option<StrippedObje
     }
 }
 
-/// The object of an activity as it stands now: what a Create made, and what an Update changed,
-/// where they were done.
+/// The object of an activity as it is now: what a Create made, and what an Update changed, if they
+/// were done.
 #[tactic(auto, unfolding(fedi_town::specs::Showing::present_object))]
 pub fn present_object<'a>(facts: &'a Facts, act: &'a Kept) -> Option<StrippedObject<'a>>
     ensures { result ≡ option_map shown_object (present_object facts.now.town act.now) }
@@ -47,7 +47,7 @@ fn id_or_nothing(id: Option<&Iri>) -> ShownObject<'_>
     }
 }
 
-// What an activity is about: its object as it stands now, where there is one, else its address.
+// What an activity is about: its object as it is now if there is one, otherwise its address.
 #[tactic(auto, unfolding(fedi_town::specs::Showing::shown_ref))]
 fn shown_object<'a>(facts: &'a Facts, act: &'a Kept) -> ShownObject<'a>
     ensures { object_in result ≡ shown_ref facts.now.town act.now }
@@ -58,9 +58,9 @@ fn shown_object<'a>(facts: &'a Facts, act: &'a Kept) -> ShownObject<'a>
     }
 }
 
-/// What those see of an activity who may see it: without `bto` and `bcc`, with its author as its
-/// actor, and with its object as it is now, of which a Tombstone shows four members alone
-/// (ActivityPub, section 6). An activity is local if its author is of this host.
+/// What those who may see an activity see of it: it is without `bto` and `bcc`, its actor is its
+/// author, and its object is shown as it is now, a Tombstone with four members alone (ActivityPub,
+/// section 6). An activity is local if its author is of this host.
 pub fn shown_of<'a>(facts: &'a Facts, act: &'a Kept) -> Shown<'a>
     ensures shown { shown_in result
         ≡ record (shown_activity facts.now.town act.now) { actor = Some act.now.author } }

@@ -3,7 +3,7 @@ use Rattle.std.proofs.lemmas.List.{take_rest}
 use Rattle.fedi_http.proofs.SendLemmas.{Appends-next}
 use Rattle.fedi_http.proofs.sending.send.Goals as goal
 
--- the bytes of this write stand behind those of the writes before
+-- the bytes of this write follow those of the previous writes
 pub writes-preserved : goal.writes-preserved
 writes-preserved g c =
     let told = c.in_ok-done.ensures in

@@ -1,4 +1,4 @@
--- The history so far is that of the records before the place, and the keeper is as it was.
+-- The history so far is that of the records before the index, and the keeper has not changed.
 use Rattle.std.proofs.Common.{◌≡◌, ℕ}
 use Rattle.fedi_outside.specs.Keepers.{PassesTime}
 use Rattle.fedi_opening.specs.Opening.{IsRead}

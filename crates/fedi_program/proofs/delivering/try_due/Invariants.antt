@@ -13,7 +13,7 @@ use Rattle.fedi_town.specs.Legal.{IsLegal}
 use Rattle.fedi_program.proofs.DeliverLemmas.{IsTrying}
 use Rattle.fedi_program.proofs.delivering.try_due.Given as goal
 
--- the first of what was due is tried, nothing is claimed, and the machine stands for a log
+-- the first of what was due is tried, nothing is claimed, and the machine represents a log
 abbrev pub invariant-due : goal.invariant-due
 invariant-due g l =
     let was = l.fn.core in

@@ -4,8 +4,8 @@ use Rattle.fedi_program.specs.Commands.{is_position, read_by, row_by}
 use Rattle.fedi_program.proofs.WordLemmas.{answer}
 use Rattle.fedi_program.proofs.words.read_by.Given as goal
 
--- what is read of all words is what is read of those that are left; and the positions so far are
--- such, and not too many
+-- what is read of all words is what is read of those that are left; and the positional arguments so
+-- far are valid, and not too many
 abbrev pub invariant-loop-word : goal.invariant-loop-word
 invariant-loop-word l =
     record {

@@ -78,7 +78,7 @@ returns-in_err-self-inside-clause-errors g c =
     let p = err_from_is_err_and c.from_residual-in_err-self-inside.result c.from_residual-in_err-self-inside.ensures.1 in
     rw (p.1, p.2) c.in_err-self-inside.ensures.errors
 
--- bytes came behind it
+-- bytes were read after it
 pub returns-clause-reads : goal.returns-clause-reads
 returns-clause-reads g c =
     let part = c.self.inside in

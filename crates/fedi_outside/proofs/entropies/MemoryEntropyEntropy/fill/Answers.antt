@@ -2,7 +2,7 @@ use Rattle.std.proofs.Common.{◌≡◌, ℕ, ◌+◌, ◌-◌, List, ◌++◌, 
 use Rattle.std.proofs.lemmas.List.{take-append-drop, drop-drop, take_rest}
 use Rattle.fedi_outside.proofs.entropies.MemoryEntropyEntropy.fill.Goals as goal
 
--- the first 32 bytes behind a place, and those behind them
+-- the first 32 bytes after an offset, and those after them
 first_and_rest : (bytes first : List ℕ) (place : ℕ) → first ≡ take 32 (take (length bytes - place) (drop place bytes)) → drop place bytes ≡ first ++ drop (place + 32) bytes
 first_and_rest bytes first place is_first = rw (is_first, take_rest bytes place, ← drop-drop 32 place bytes) (sym (take-append-drop 32 (drop place bytes)))
 

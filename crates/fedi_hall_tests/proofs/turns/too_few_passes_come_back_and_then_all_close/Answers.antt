@@ -1,8 +1,8 @@
 use Rattle.std.proofs.Common.{Some}
 use Rattle.std.proofs.lemmas.List.Elements.{All-pop}
 use Rattle.fedi_turn.specs.Turn.{IsIdle}
-use Rattle.fedi_turn_tests.specs.contracts.tally.TallyGrows.TheImpl.{ghosts}
-use Rattle.fedi_turn_tests.proofs.tests.too_few_passes_come_back_and_then_all_close.Goals as goal
+use Rattle.fedi_hall_tests.specs.contracts.tally.TallyGrows.TheImpl.{ghosts}
+use Rattle.fedi_hall_tests.proofs.turns.too_few_passes_come_back_and_then_all_close.Goals as goal
 
 pub close-requires : goal.close-requires
 close-requires g c =

@@ -1,7 +1,7 @@
 //! A value to take turns with: a list of marks, each the number of the pass that added it.
 ghost use Rattle.std.specs.Prelude.{◌≡◌, [], ◌∷◌, Some};
 ghost use Rattle.fedi_turn.specs.Turn.{IsIdle, number_of};
-ghost use Rattle.fedi_turn_tests.specs.Marks.{marks_after};
+ghost use Rattle.fedi_hall_tests.specs.Marks.{marks_after};
 
 use fedi_turn::{Grows, Pass, TurnLock};
 use std::alloc::Global;
