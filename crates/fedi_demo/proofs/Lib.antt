@@ -1,1 +1,3 @@
 mod Appended
+pub mod OneDemo
+pub mod VisitLemmas

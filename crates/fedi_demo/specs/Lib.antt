@@ -1,3 +1,4 @@
+pub mod Demonstrating
 pub mod Draws
 pub mod Requests
 pub mod Summary

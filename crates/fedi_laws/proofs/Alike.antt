@@ -1,4 +1,4 @@
--- What is shown of an activity is like the activity in all that a test may look at.
+-- What is shown of an activity is the same as the activity in everything that a test may examine.
 use Rattle.std.proofs.Common.{◌≡◌, ℕ, Bool, true, false, List, [], ◌∷◌, Option, Some, None, refl, ap, subst, ◌∙◌}
 use Rattle.std.specs.Prelude.{◌&&◌, codes, if◌then◌else◌}
 use Rattle.std.specs.List.{find}
@@ -33,7 +33,7 @@ named_ref : (id : Option (List ℕ)) → ref_id (ref_to id) ≡ id
 named_ref None = refl
 named_ref (Some id) = refl
 
--- where there is a present form, it has the id
+-- if there is a present form, it has the id
 abbrev HasId : Option Object → Option (List ℕ) → Type 0
 HasId None id = Unit {0}
 HasId (Some o) id = o.id ≡ id

@@ -1,4 +1,4 @@
--- What lies behind a Tombstone is told to nobody.
+-- What a Tombstone hides is revealed to no caller.
 use Rattle.std.proofs.Common.{◌≡◌, ℕ, Bool, true, false, List, [], ◌∷◌, length, Option, Some, None, refl, sym, ap, ◌∙◌}
 use Rattle.std.specs.Prelude.{filter, if◌then◌else◌, map, option_map}
 use Rattle.std.specs.List.{filter_map, find}
@@ -22,7 +22,7 @@ use Rattle.fedi_town.specs.Towns.{Town, count_of, id_of, is_by}
 use Rattle.fedi_town.proofs.Lists.{filter-through, find-through, list_any-agree, list_any-through, map-through}
 use Rattle.fedi_laws.specs.Statements.{bare_object, without_deleted}
 
--- the activity as it is without what lies behind a Tombstone
+-- the activity without what a Tombstone hides
 abbrev bare : Act → Act
 bare y = rewrite_act bare_object y
 
@@ -165,7 +165,7 @@ view-bare t c =
     ap (map (sight_of (without_deleted t) c)) (filter-through bare (sees (without_deleted t) c) (sees t c) (sees-bare t c) t.acts)
     ∙ map-through bare (sight_of (without_deleted t) c) (sight_of t c) (shown-bare t c) (seen t c)
 
--- ---- one's own
+-- ---- the caller's own
 
 by-bare : (me : List ℕ) (y : Act) → is_by me (bare y) ≡ is_by me y
 unfolding is_by rewrite_act
@@ -177,7 +177,7 @@ mine-bare t me = filter-through bare (is_by me) (is_by me) (by-bare me) t.acts
 count-bare : (t : Town) (me : List ℕ) → count_of (without_deleted t) me ≡ count_of t me
 count-bare t me = ap (λ (ys : List Act). length ys) (mine-bare t me) ∙ length-map (filter (is_by me) t.acts) bare
 
--- the key under which an activity was posted, with the digest and the id
+-- the key that an activity was posted under, with the digest and the id
 abbrev kept_of : Act → Option ((List ℕ × List ℕ) × Option (List ℕ))
 kept_of y = option_map (λ r. (r, y.activity.id)) y.repeat
 
@@ -215,6 +215,6 @@ agree_bare g h c same = record {
   own = own-bare g h (id_of_caller h c) same;
 }
 
--- Histories that differ in nothing but what lies behind Tombstones agree for everybody.
+-- Histories that differ only in what Tombstones hide agree for everybody.
 pub told_to_nobody : (g h : List Entry) (c : Caller) → without_deleted (town g) ≡ without_deleted (town h) → Agree (town g) (town h) c
 told_to_nobody g h c same = agree_bare (town g) (town h) c same

@@ -111,7 +111,7 @@ one_more t p Nobody other = refl
 one_more t p (Actor name) other = refl
 one_more t p (Peer own) other = find-append (has_host own) t.peers (p ∷ []) ∙ other_found p own (find (has_host own) t.peers) other
 
--- A peer that is set.
+-- Adding a peer.
 pub peers_alone : (history : List Entry) (host key address : List ℕ) (relay : Bool) (moment : ℕ) (c : Caller) → is_peer_of host c ≡ false
     → Agree (town (history ++ PeerSet host key address relay moment ∷ [])) (town history) c
 peers_alone history host key address relay moment c other =
@@ -120,7 +120,7 @@ peers_alone history host key address relay moment c other =
     subst (λ (u : Town). Agree u t c) (sym (town-push history (PeerSet host key address relay moment)))
     (agree_beside t (t.peers ++ p ∷ []) t.attempts c (one_more t p c other))
 
--- An attempt.
+-- Adding an attempt.
 pub attempts_untold : (history : List Entry) (activity recipient : List ℕ) (came : Came) (moment : ℕ) (c : Caller)
     → Agree (town (history ++ Tried activity recipient came moment ∷ [])) (town history) c
 attempts_untold history activity recipient came moment c =

@@ -1,4 +1,4 @@
--- A Tombstone stays as it is.
+-- A Tombstone does not change.
 use Rattle.std.proofs.Common.{◌≡◌, ℕ, Bool, true, false, List, [], ◌∷◌, ◌++◌, Option, Some, None, refl, sym, ap, subst, ◌∙◌}
 use Rattle.std.specs.Prelude.{◌&&◌, ◌||◌, if◌then◌else◌}
 use Rattle.std.specs.List.{fold}
@@ -31,7 +31,7 @@ use Rattle.fedi_laws.proofs.Replaying.{answers_forms, step_replays}
 use Rattle.fedi_town.proofs.Steps.{answers}
 use Rattle.fedi_town.proofs.Texts.{bytes_eq-is, and_none}
 
--- the object of this id was deleted
+-- the object with this id was deleted
 pub record IsBuried (t : Town) (id : List ℕ) (o : Object) : Type 0 where
   pub stands : object_at t id ≡ Some o
   pub buried : is_tombstone o ≡ true
@@ -46,7 +46,7 @@ not_live : (author id : List ℕ) (found : Option Act) (o : Object) → ((m : Ac
 not_live author id None o h e buried = absurd cc
 not_live author id (Some m) o h e buried = rw (is_buried_by id m o (h m refl) e buried) (and_none (is_by author m))
 
--- nobody changes or deletes it any more
+-- nobody can change or delete it any more
 not_own : (t : Town) (author id : List ℕ) (o : Object) → IsBuried t id o → is_own_live author (maker t id) ≡ false
 not_own t author id o b = not_live author id (maker t id) o (found_passes (makes id) t.acts) b.stands b.buried
 
@@ -177,7 +177,7 @@ fold_still : (history : List Entry) (t : Town) (id : List ℕ) (o : Object) → 
 fold_still [] t id o b = b
 fold_still (e ∷ history) t id o b = fold_still history (step t e) id o (step_still t e id o b)
 
--- Whatever comes after it, a Tombstone stays as it is.
+-- A Tombstone does not change, whatever comes after it.
 pub tombstone_stays : (history later : List Entry) (id : List ℕ) (o : Object) → object_at (town history) id ≡ Some o → is_tombstone o ≡ true
     → object_at (town (history ++ later)) id ≡ Some o
 tombstone_stays history later id o stands buried =

@@ -30,14 +30,14 @@ use Rattle.fedi_town.proofs.Finding.{find-seen, seen_or}
 use Rattle.fedi_town.proofs.People.{id_of-is}
 use Rattle.fedi_town.proofs.Members.{is_member}
 
--- ---- what breaks no rule
+-- ---- posts that break no rule
 
 unbroken : (own dead : Bool) → is_none (refuse_if (not own) NotOwner (refuse_if dead Gone None)) ≡ true → (own ≡ true) × (dead ≡ false)
 unbroken true true e = absurd cc
 unbroken true false e = (refl, refl)
 unbroken false dead e = absurd cc
 
--- what the author sees and may change is the author's, and was not deleted
+-- what the author sees and may change is the author's own, and was not deleted
 live_by : (author : List ℕ) (m : Act) (seen : Bool) → is_none (change_rule author (if seen then Some m else None)) ≡ true → is_own_live author (Some m) ≡ true
 live_by author m true e = let facts = unbroken (is_by author m) (is_deleted m) e in rw (facts.0, facts.1) refl
 live_by author m false e = absurd cc
@@ -79,7 +79,7 @@ makes_none Reject changes = absurd cc
 makes_none Undo changes = absurd cc
 makes_none Other changes = absurd cc
 
--- what is completed is about what the post is about
+-- the completed activity is about what the post is about
 about_same : (host name : List ℕ) (number moment : ℕ) (d : Deed) (names : Recipients) (r : ObjectRef) → (is_update d || is_delete d) ≡ true
     → is_posted_ref d names r ≡ true → ref_id (complete_ref host name number moment r) ≡ ref_id r
 about_same host name number moment d names Nothing changes shape = refl
@@ -96,7 +96,7 @@ first_unbroken : (first second : Option Refusal) → is_none (first_broken first
 first_unbroken None second e = refl
 first_unbroken (Some r) second e = absurd cc
 
--- who posts is the member of this name
+-- whoever posts is the member with this name
 pub posts_as : (t : Town) (host name : List ℕ) (repeat : Option (List ℕ × List ℕ)) (a : Activity) (id : Option (List ℕ)) → list_all (is_member (Some host)) t.actors ≡ true
     → id_of t name ≡ id → may_post t name repeat a id ≡ true → may_post t name repeat a (Some (actor_id host name)) ≡ true
 posts_as t host name repeat a None all known ok = absurd cc

@@ -1,4 +1,4 @@
--- No answer names those who are hidden.
+-- No answer names a hidden recipient.
 use Rattle.std.proofs.Common.{◌≡◌, ℕ, zero, suc, ◌+◌, Bool, true, false, List, [], ◌∷◌, ◌++◌, length, Option, Some, None, refl}
 use Rattle.std.proofs.lemmas.Bool.{and_parts}
 use Rattle.std.specs.Prelude.{◌&&◌, ◌||◌, ◌==◌, map, codes, nat_le, if◌then◌else◌}
@@ -60,7 +60,7 @@ items_clean : (f : Act → Data) → ((x : Act) → is_clean (f x) ≡ true) →
 items_clean f all [] = refl
 items_clean f all (x ∷ xs) = rw (all x, items_clean f all xs) refl
 
--- as records, so that lemmas find what they speak of
+-- as records, so that lemmas can infer the values that they are about
 record One (d : Data) : Type 0 where
   clean : is_clean d ≡ true
 
@@ -226,7 +226,7 @@ member_clean t c which ask (Some id) = choice_answer (is_malformed ask) (Refuse 
 
 -- ---- posts
 
--- what stops a post is clean
+-- an answer that stops a post is clean
 abbrev IsCleanJudgement : Judgement → Type 0
 IsCleanJudgement (Stop a) = IsClean a
 IsCleanJudgement (Repeat id) = Unit {0}
@@ -287,7 +287,7 @@ inbox_clean t c post (Some owner) =
 
 -- ---- each ask
 
--- No answer names those who are hidden.
+-- No answer names a hidden recipient.
 pub answers_clean : (t : Town) (c : Caller) (ask : Ask) → is_clean_answer (answer_of t c ask) ≡ true
 answers_clean t c Nowhere = refl
 answers_clean t c (WrongMethod allow) = refl

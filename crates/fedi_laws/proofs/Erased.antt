@@ -1,4 +1,4 @@
--- What a deleted object said leaves no trace.
+-- The content of a deleted object leaves no trace.
 use Rattle.std.proofs.Common.{◌≡◌, ℕ, ◌+◌, Bool, true, false, List, [], ◌∷◌, ◌++◌, Option, Some, None, refl, sym, ap, ◌∙◌}
 use Rattle.std.specs.Prelude.{◌||◌, codes, filter, map, if◌then◌else◌}
 use Rattle.std.specs.List.{find, flat_map, fold, list_any}
@@ -41,7 +41,7 @@ use Rattle.fedi_laws.specs.Statements.{creates, deletes}
 abbrev carrying : Act → Object → Act
 carrying z o = record z { activity = record z.activity { object = Whole o } }
 
--- a Create of the author that is done
+-- a Create by the author that is done
 record IsMaker (z : Act) (author : List ℕ) : Type 0 where
   kind : z.activity.kind ≡ kinds.Create
   state : z.state ≡ Done
@@ -63,7 +63,7 @@ not_following : (z : Act) (o : Object) (author b : List ℕ) → IsMaker z autho
 unfolding is_following
 not_following z o author b m = rw m.kind refl
 
--- ---- to whom the author's next activity goes
+-- ---- the recipients of the author's next activity
 
 followers-after : (t : Town) (z : Act) (o : Object) (author b : List ℕ) → IsMaker z author → followers (after t z o) b ≡ followers t b
 unfolding followers
@@ -105,7 +105,7 @@ is_live : (z : Act) (o : Object) (author : List ℕ) → IsMaker z author → is
 unfolding is_by is_deleted
 is_live z o author m live = rw (m.by, bytes_eq-same author, m.kind, m.state, live) refl
 
--- the Delete as it is accepted, in which nothing is left of the object
+-- the Delete as it is accepted, which has nothing left of the object
 abbrev deletion : Town → Act → List ℕ → List ℕ → List ℕ → Option (List ℕ × List ℕ) → Activity → ℕ → Act
 deletion t z host name id repeat b n = record {
   author = actor_id host name;
@@ -144,7 +144,7 @@ map_last : {A B : Type 0} (f : A → B) (xs : List A) (y : A) → map f (xs ++ y
 map_last f [] y = refl
 map_last f (x ∷ xs) y = rw (map_last f xs y) refl
 
--- what the Delete leaves of it
+-- what the Delete leaves of the object
 buried : (z : Act) (o : Object) (author id kind stamp : List ℕ) → IsMaker z author → o.id ≡ Some id
     → affect (effects.Delete id kind stamp) (carrying z o) ≡ carrying z (tombstone_of kind stamp o)
 unfolding rewrite_act
@@ -182,7 +182,7 @@ is_maker : (t : Town) (host name : List ℕ) (repeat : Option (List ℕ × List 
     → IsMaker (creation t host name repeat a o m) (actor_id host name)
 is_maker t host name repeat a o m = record { kind = refl; state = refl; by = refl }
 
--- a Create does nothing to earlier ones
+-- a Create does nothing to earlier activities
 no_effect : (t : Town) (x : Act) (id : Option (List ℕ)) → x.activity.kind ≡ kinds.Create → effect_with t x id ≡ effects.Nothing
 no_effect t x None create = refl
 no_effect t x (Some id) create = rw create refl
@@ -225,7 +225,7 @@ both t host name id first second a b o p m n hosted own new live =
     ∙ ap (accept (after t z q)) (deletion_is t z q host name id second b n maker named live new)
     ∙ accepted_deletion t z q host name id second b n maker named
 
--- What a deleted object said leaves no trace.
+-- The content of a deleted object leaves no trace.
 pub no_trace : (history later : List Entry) (host name id : List ℕ) (first second : Option (List ℕ × List ℕ)) (a b : Activity) (o other : Object) (m n : ℕ)
     → (town history).host ≡ Some host → id ≡ object_id host name (count_of (town history) (actor_id host name) + 1)
     → list_any (makes id) (town history).acts ≡ false → is_tombstone o ≡ false → emptied o ≡ emptied other

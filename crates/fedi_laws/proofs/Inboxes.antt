@@ -1,4 +1,4 @@
--- A delivery that only adds an inbox changes nothing for others than that inbox's owner.
+-- A delivery that only adds an inbox changes nothing for anyone other than that inbox's owner.
 use Rattle.std.proofs.Common.{◌≡◌, ℕ, false, List, [], ◌∷◌, ◌++◌, length, Option, Some, None, refl, ap, ◌∙◌}
 use Rattle.std.specs.Prelude.{map, filter, option_map}
 use Rattle.std.specs.List.{list_any, find, filter_map}
@@ -87,9 +87,9 @@ sees_from-inbox t id owner host y other =
       list_any-through (with_recipient id owner) (is_follower_from (with_owner t id owner) host y.author) (is_follower_from t host y.author) (follower-inbox t id owner host y.author) t.acts,
     ) refl
 
--- ---- callers who are another
+-- ---- callers other than the owner
 
--- the caller is not this member, and no peer of which it is
+-- the caller is not this member, and not a peer that this member belongs to
 abbrev pub IsOther : Town → Caller → List ℕ → Type 0
 IsOther t Nobody owner = Unit {0}
 IsOther t (Actor name) owner = is_id owner (id_of t name) ≡ false
@@ -154,7 +154,7 @@ view-inbox t id owner c other =
     ap (map (sight_of (with_owner t id owner) c)) (filter-through (with_recipient id owner) (sees (with_owner t id owner) c) (sees t c) (sees-inbox t id owner c other) t.acts)
     ∙ map-through (with_recipient id owner) (sight_of (with_owner t id owner) c) (sight_of t c) (shown-inbox t id owner c other) (seen t c)
 
--- ---- one's own
+-- ---- the caller's own
 
 by-inbox : (id owner me : List ℕ) (y : Act) → is_by me (with_recipient id owner y) ≡ is_by me y
 unfolding is_by

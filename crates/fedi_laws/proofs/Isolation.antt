@@ -1,4 +1,4 @@
--- The laws over legal histories.
+-- The laws about legal histories.
 use Rattle.std.proofs.Common.{◌≡◌, ℕ, Bool, true, false, List, [], ◌∷◌, ◌++◌, Option, Some, None, refl, sym, ap, subst, ◌∙◌}
 use Rattle.std.specs.Prelude.{not, map, codes}
 use Rattle.std.specs.List.{list_any, list_all}
@@ -72,7 +72,7 @@ pub private_answers : (g h : List Entry) (c : Caller) (ask : Ask) → IsLegal g 
 private_answers g h c ask of_g of_h agree =
     answers_agree (town g) (town h) c ask (agree_knows (town g) (town h) c (town_sound g of_g) (town_sound h of_h) agree)
 
--- Who a member is, the host and the members' names tell everybody.
+-- Who a member is depends only on the host and on the members' names, for every caller.
 pub public_profiles : (g h : List Entry) (c d : Caller) (ask : Ask) → IsLegal g → IsLegal h → (town g).host ≡ (town h).host
     → member_names (town g) ≡ member_names (town h) → is_of_profiles ask ≡ true → answer_of (town g) c ask ≡ answer_of (town h) d ask
 public_profiles g h c d ask of_g of_h host names is =
@@ -92,7 +92,7 @@ posted_agrees t (Some host) at name repeat a moment c g s own is named told unse
     post_agrees t host name repeat a moment c g own (record { all = s.members }) named told
     (subst (λ (h : List ℕ). sees t c (local_act t h name repeat a moment) ≡ false) same unseen)
 
--- A member's post of a kind that changes nothing earlier, which the caller does not see.
+-- A member's post of a kind that changes nothing earlier and that the caller does not see.
 pub unseen_posts : (history : List Entry) (host name : List ℕ) (repeat : Option (List ℕ × List ℕ)) (a : Activity) (moment : ℕ) (c : Caller)
     → IsLegal history → (town history).host ≡ Some host → list_any (has_name name) (town history).actors ≡ true → changes_nothing (deed_of a.kind) ≡ true
     → sees (town history) c (local_act (town history) host name repeat a moment) ≡ false
@@ -117,8 +117,8 @@ as_known : (t : Town) (owner author id : List ℕ) (a : Activity) (moment : ℕ)
     → Agree (record t { acts = map (with_recipient id owner) t.acts }) t c → Agree (after_inbox t owner author id a moment) t c
 as_known t owner author id a moment c known agree = rw known agree
 
--- A delivery of a new id, of a kind that changes nothing earlier and is no Follow, which the caller
--- does not see.
+-- A delivery of a new id, of a kind that changes nothing earlier and is not a Follow, and that the
+-- caller does not see.
 pub unseen_deliveries : (history : List Entry) (peer inbox owner author id : List ℕ) (a : Activity) (moment : ℕ) (c : Caller)
     → id_of (town history) inbox ≡ Some owner → a.actor ≡ Some author → a.id ≡ Some id → is_known (town history) id ≡ false
     → changes_nothing (deed_of a.kind) ≡ true → is_follow (deed_of a.kind) ≡ false
@@ -132,7 +132,7 @@ unseen_deliveries history peer inbox owner author id a moment c of_inbox of_auth
 
 -- ---- a delivery that only adds an inbox
 
--- where some pass one test and all pass another, one passes both
+-- if some elements pass one test and all pass another, one element passes both
 some_of : {A : Type 0} {G : Type 0} (p q : A → Bool) (xs : List A) → ((x : A) → p x ≡ true → q x ≡ true → G) → list_any p xs ≡ true → list_all q xs ≡ true → G
 some_of p q [] h any all = absurd cc
 some_of {A} {G} p q (x ∷ xs) h any all =
@@ -152,12 +152,12 @@ other_peer host own p at apart =
     let false_is : not (bytes_eq host host) ≡ false = rw (bytes_eq-same host) refl in
     absurd cc)
 
--- a peer is another host than each member's
+-- a peer's host differs from each member's host
 peer_is_other : (host own : List ℕ) (inbox : List ℕ) → is_host_text own ≡ true → is_name inbox ≡ true → bytes_eq own host ≡ false → is_of_peer host (actor_id own inbox) ≡ false
 unfolding is_of_peer
 peer_is_other host own inbox shape named other = rw (host_of-actor_id own inbox shape named) other
 
--- members of other names have other ids
+-- members with different names have different ids
 other_id : (own name inbox : List ℕ) → bytes_eq name inbox ≡ false → bytes_eq (actor_id own name) (actor_id own inbox) ≡ false
 unfolding actor_id
 other_id own name inbox other =

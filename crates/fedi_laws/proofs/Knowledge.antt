@@ -1,4 +1,4 @@
--- A reply is a function of what the caller knows, and of the ask.
+-- A reply is a function of what the caller knows and of the ask.
 use Rattle.std.proofs.Common.{◌≡◌, ℕ, Bool, true, false, List, [], ◌∷◌, length, Option, Some, None, refl, sym, ap, subst, ◌∙◌}
 use Rattle.std.specs.Prelude.{◌&&◌, map, filter, option_map, if◌then◌else◌}
 use Rattle.std.specs.List.{list_any, find}
@@ -58,11 +58,11 @@ use Rattle.fedi_town.proofs.Texts.{not_both, bytes_eq-same, bytes_eq-is}
 abbrev pub members : Town → List (List ℕ × List ℕ)
 members t = map (λ a. (a.name, a.id)) t.actors
 
--- the id of this name
+-- the id that belongs to this name
 abbrev id_among : List (List ℕ × List ℕ) → List ℕ → Option (List ℕ)
 id_among ms name = option_map (λ m. m.1) (find (λ m. bytes_eq m.0 name) ms)
 
--- what a caller knows the same of two towns
+-- what a caller knows is the same in two towns
 pub record Knows (g h : Town) (c : Caller) : Type 0 where
   pub host : g.host ≡ h.host
   pub members : members g ≡ members h
@@ -70,7 +70,7 @@ pub record Knows (g h : Town) (c : Caller) : Type 0 where
   pub view : view g c ≡ view h c
   pub own : IsSameOwn g h (id_of_caller h c)
 
--- ---- tests make no difference between an activity and what is shown of it
+-- ---- tests give the same result for an activity and for what is shown of it
 
 made_alike : (id : List ℕ) (x y : Act) → IsAlike x y → makes id y ≡ makes id x
 unfolding makes is_about
@@ -96,7 +96,7 @@ undoable_alike : (x y : Act) → IsAlike x y → can_be_undone y ≡ can_be_undo
 unfolding can_be_undone
 undoable_alike x y k = rw (k.kind, k.state) refl
 
--- ---- rules by what is found
+-- ---- rules about what is found
 
 change_alike : (t : Town) (c : Caller) (author : List ℕ) (m : Option Act) → change_rule author (option_map (sight_of t c) m) ≡ change_rule author m
 change_alike t c author None = refl
@@ -122,13 +122,13 @@ marks_alike : (t : Town) (c : Caller) (m : Option Act) → marks_rule (option_ma
 marks_alike t c None = refl
 marks_alike t c (Some m) = rw (shown_alike t c m).buried refl
 
--- ---- what is found among what the caller sees
+-- ---- finding among what the caller sees
 
--- found in a view as in what is seen
+-- finding in a view is like finding in what is seen
 view_find : (p : Act → Bool) → ((x y : Act) → IsAlike x y → p y ≡ p x) → (t : Town) (c : Caller) → find p (view t c) ≡ option_map (sight_of t c) (find p (seen t c))
 view_find p alike t c = find-through (sight_of t c) p p (λ x. alike x (sight_of t c x) (shown_alike t c x)) (seen t c)
 
--- what is made of the one that is found is made of what is shown of it
+-- the result for the found activity is the result for what is shown of it
 found_agrees : {R : Type 0} (p : Act → Bool) → ((x y : Act) → IsAlike x y → p y ≡ p x) → (q f k : Option Act → R) (g h : Town) (c : Caller)
     → ((m : Option Act) → q (option_map (sight_of g c) m) ≡ f m) → ((m : Option Act) → q (option_map (sight_of h c) m) ≡ k m)
     → view g c ≡ view h c → f (find p (seen g c)) ≡ k (find p (seen h c))
@@ -225,7 +225,7 @@ view_items t c which b own =
     ap (firsts (is_same_item which)) (filter-through (sight_of t c) (is_item which b) (is_item which b) (item_alike t c which b own) (seen t c))
     ∙ firsts-map (sight_of t c) (is_same_item which) (is_same_item which) (same_item-alike t c which) (filter (is_item which b) (seen t c))
 
--- how an item is shown, by what is shown of it
+-- an item as it is shown, from what is shown of it
 abbrev shown_item : Option (List ℕ) → Which → Act → Data
 shown_item host (whiches.Inbox name) y = activity_form (is_of_town host y.author) false y.author y.activity
 shown_item host (whiches.Outbox name) y = activity_form (is_of_town host y.author) false y.author y.activity
@@ -245,7 +245,7 @@ item_shown t c (whiches.Liked name) x = ap (λ (i : List ℕ). string i) (object
 item_shown t c (whiches.Likes name n) x = ap (λ (i : Option (List ℕ)). string (text_of i)) (shown_alike t c x).own
 item_shown t c (whiches.Shares name n) x = ap (λ (i : Option (List ℕ)). string (text_of i)) (shown_alike t c x).own
 
--- the answer by the items of what is shown
+-- the answer, from the items of what is shown
 abbrev list_answer : PageAsk → Option (List ℕ) → Which → List ℕ → List Act → Answer
 list_answer ask host which b ys = part_answer ask (collection_id which b) (length ys) (λ k. map (shown_item host which) (page_of k ys))
 
@@ -265,7 +265,7 @@ items_agree g h c which b ask host same own_g own_h =
     ∙ ap (λ (ys : List Act). list_answer ask h.host which b (view_list which b ys)) same
     ∙ sym (items_shown h c which b ask own_h)
 
--- the rule on an object, where it is an object's collection
+-- the rule for an object, if the collection is an object's
 rule_on_object : (g h : Town) (c : Caller) (which : Which) (b : List ℕ) → view g c ≡ view h c → object_rule g c which b ≡ object_rule h c which b
 rule_on_object g h c (whiches.Inbox name) b same = refl
 rule_on_object g h c (whiches.Outbox name) b same = refl
@@ -325,7 +325,7 @@ webfinger_agrees : (g h : Town) (resource : Option Resource) → g.host ≡ h.ho
 webfinger_agrees g h None host same = refl
 webfinger_agrees g h (Some r) host same = resource_agrees g h r.name r.rels host same
 
--- who a member is depends on the host and the members alone
+-- who a member is depends only on the host and the members
 pub profiles_agree : (g h : Town) (c d : Caller) (ask : Ask) → g.host ≡ h.host → members g ≡ members h → is_of_profiles ask ≡ true → answer_of g c ask ≡ answer_of h d ask
 profiles_agree g h c d Nowhere host same is = absurd cc
 profiles_agree g h c d (WrongMethod allow) host same is = absurd cc
@@ -356,7 +356,7 @@ by_rule c (whiches.Liked name) x y h = h (λ other e. absurd cc)
 by_rule c (whiches.Likes name n) x y h = h (λ other e. absurd cc)
 by_rule c (whiches.Shares name n) x y h = h (λ other e. absurd cc)
 
--- who reads an inbox reads the own one
+-- whoever reads an inbox reads their own
 inbox_own : (t : Town) (c : Caller) (which : Which) (b : List ℕ) → owner_of t which ≡ Some b → ((name : List ℕ) → which ≡ whiches.Inbox name → is_self c name ≡ true)
     → (name : List ℕ) → which ≡ whiches.Inbox name → id_of_caller t c ≡ Some b
 inbox_own t c which b owner self name is =
@@ -396,7 +396,7 @@ nobody_agrees : (g h : Town) (c : Caller) (id : List ℕ) → Knows g h c → is
 unfolding is_nobody_here
 nobody_agrees g h c id agree = rw (actor_known g id, actor_known h id, agree.host, agree.members) refl
 
--- what passes is kept
+-- each element that passes is kept
 any_kept : {A : Type 0} (p s : A → Bool) → ((x : A) → p x ≡ true → s x ≡ true) → (xs : List A) → list_any p (filter s xs) ≡ list_any p xs
 any_kept p s all [] = refl
 any_kept p s all (x ∷ xs) =
@@ -420,7 +420,7 @@ own_seen : (t : Town) (name a : List ℕ) (x : Act) → id_of t name ≡ Some a 
 unfolding sees
 own_seen t name a x id own = rw id (own_seen_as t a x own)
 
--- the caller's own Blocks are in view
+-- the caller's own Blocks are in the view
 own_blocks : (t : Town) (name a b : List ℕ) → id_of t name ≡ Some a → blocks t a b ≡ list_any (is_block_of a b) (view t (callers.Actor name))
 own_blocks t name a b id =
     let c : Caller = callers.Actor name in
@@ -486,7 +486,7 @@ same_for g h c name a agree self of_g of_h =
     let mine : Knows g h (callers.Actor name) = subst (λ (d : Caller). Knows g h d) (self_is c name self) agree in
     record { agree = mine; of_g = of_g; of_h = of_h; own = subst (λ (i : Option (List ℕ)). IsSameOwn g h i) of_h mine.own }
 
--- the steps before what is read ask for the author alone
+-- only the author passes the steps before the body is read
 steps_agree : (g h : Town) (name a : List ℕ) (key nobody self typed : Bool) (v w : Judgement) → (self ≡ true → answer_post g name a v ≡ answer_post h name a w)
     → answer_post g name a (by_steps key nobody self typed v) ≡ answer_post h name a (by_steps key nobody self typed w)
 steps_agree g h name a true nobody self typed v w k = refl
@@ -534,7 +534,7 @@ inbox_agrees g h c post (Some owner) agree =
 
 -- ---- each ask
 
--- Towns of which a caller knows the same give the caller the same answer.
+-- Towns that are the same to a caller give the caller the same answer.
 pub answers_agree : (g h : Town) (c : Caller) (ask : Ask) → Knows g h c → answer_of g c ask ≡ answer_of h c ask
 answers_agree g h c Nowhere agree = refl
 answers_agree g h c (WrongMethod allow) agree = refl

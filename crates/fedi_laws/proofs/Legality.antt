@@ -1,4 +1,4 @@
--- A legal history stays legal by each ask, and what is due stays due in it.
+-- Each ask keeps a legal history legal, and what is due stays due in it.
 use Rattle.std.proofs.Common.{◌≡◌, ℕ, ◌≤◌, true, false, List, [], ◌∷◌, ◌++◌, Option, Some, None, refl, sym, subst, ◌∙◌, arith}
 use Rattle.std.specs.Prelude.{is_none}
 use Rattle.std.specs.List.{list_any, fold}
@@ -29,7 +29,7 @@ legal_push (d ∷ history) t e legal ok =
     let parts = and_parts (is_admissible t d) (is_legal_from (step t d) history) legal in
     rw (parts.0, legal_push history (step t d) e parts.1 ok) refl
 
--- of a legal history each entry may come after those before it
+-- in a legal history each entry may come after those before it
 pub legal_last : (history : List Entry) (t : Town) (e : Entry) → is_legal_from t (history ++ e ∷ []) ≡ true
     → (is_legal_from t history ≡ true) × (is_admissible (fold step t history) e ≡ true)
 legal_last [] t e legal = (refl, (and_parts (is_admissible t e) true legal).0)
@@ -68,7 +68,7 @@ fold_due (e ∷ later) t id r m n s ids legal none le due =
     fold_due later (step t e) id r n n (step_sound t e parts.0 s) (step_by t t.host e refl s parts.0 ids) parts.1
     (other_none (is_attempt_of id r e) _ none) (omega arith) (stays_due t e id r m n other le due)
 
--- what is known of the town after a legal history, and of what follows
+-- what is known of the town after a legal history, and of the later entries
 record IsKnown (t : Town) (later : List Entry) : Type 0 where
   sound : IsHosted t
   ids : HasIds t.host t.acts

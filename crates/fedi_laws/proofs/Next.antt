@@ -1,4 +1,4 @@
--- The entry that an ask makes is admissible, so that a legal history stays one.
+-- The entry that an ask makes is admissible, so a legal history stays legal.
 use Rattle.std.proofs.Common.{◌≡◌, ℕ, Bool, true, false, List, [], ◌∷◌, Option, Some, None, refl, ap, subst}
 use Rattle.std.specs.Prelude.{filter, if◌then◌else◌, option_map}
 use Rattle.std.specs.List.{list_any, find, filter_map, cons_option}
@@ -66,7 +66,7 @@ read_kept t c author post (Ready a) b is e =
     subst (λ (x : activities.Activity). (is_posted author x ≡ true) × IsJudged t c author post.key x) second.1
     (is, record { unbroken = second.0; new = first.0 })
 
--- a key under which nothing was posted
+-- a key that nothing was posted under
 abbrev Kept : Type 0
 Kept = (List ℕ × List ℕ) × Option (List ℕ)
 

@@ -1,4 +1,4 @@
--- Nobody is refused before the body of a post or of a delivery is looked at.
+-- The caller `Nobody` is refused before the body of a post or of a delivery is examined.
 use Rattle.std.proofs.Common.{◌≡◌, ℕ, Bool, true, false, List, Option, Some, None, refl}
 use Rattle.fedi_model.specs.AnswerKinds.{Answer}
 use Rattle.fedi_model.specs.Posting.{is_bad_key, post_answer, delivery_answer}

@@ -1,4 +1,4 @@
--- Pages and first ones of lists of which each element is shown.
+-- Pages and first elements of lists whose elements are each shown.
 use Rattle.std.proofs.Common.{◌≡◌, ℕ, ◌*◌, Bool, List, [], ◌∷◌, ◌++◌, take, drop, refl, sym, ap, ◌∙◌}
 use Rattle.std.specs.Prelude.{map, filter, reverse}
 use Rattle.std.proofs.lemmas.List.{map-append, take-map, drop-map, reverse-append}

@@ -12,7 +12,7 @@ use Rattle.fedi_town.specs.Relations.{is_id, has_activity_id}
 use Rattle.fedi_town.specs.Towns.{Town}
 use Rattle.fedi_town.proofs.Texts.{bytes_eq-is, and_none}
 
--- the one that is asked for, and the others
+-- the requested one, and the others
 this_one : (h q d a : Bool) → ((q && (h && (true && d))) || (h && (a && (q && d)))) ≡ (h && (true && (q && d)))
 this_one true true true a = refl
 this_one true true false a = and_none a
@@ -58,7 +58,7 @@ among_due t x id r m (s ∷ rs) =
       | false ↦ λ e. other_one (is_id id x.activity.id) (is_at_peer t s) (is_due_at m (progress_of t (text_of x.activity.id) s x.moment)) _
     ] refl
 
--- the id that is asked for is that of the activity
+-- the requested id is that of the activity
 own_id : (t : Town) (id r : List ℕ) (m moment : ℕ) (own : Option (List ℕ)) (a q : Bool)
     → (is_id id own && (a && (q && is_due_at m (progress_of t (text_of own) r moment)))) ≡ (is_id id own && (a && (q && is_due_at m (progress_of t id r moment))))
 own_id t id r m moment None a q = refl

@@ -1,4 +1,4 @@
--- Who sees the Create of an object sees its author's Updates and its Delete.
+-- Whoever sees the Create of an object sees its author's Updates and its Delete.
 use Rattle.std.proofs.Common.{◌≡◌, ℕ, Bool, true, false, List, [], ◌∷◌, ◌++◌, Option, Some, None, refl, sym, ap, subst, ◌∙◌}
 use Rattle.std.specs.Prelude.{◌&&◌, ◌||◌, not, filter, if◌then◌else◌, option_map}
 use Rattle.std.specs.List.{find, flat_map, list_all, list_any}
@@ -55,7 +55,7 @@ also_gets t author me r others passes there =
 other_way : (a b : List ℕ) → bytes_eq a b ≡ false → bytes_eq b a ≡ false
 other_way a b e = is_false (bytes_eq b a) (λ h. not_both (bytes_eq a b) (rw (bytes_eq-is b a h) (bytes_eq-same a)) e)
 
--- a member is nobody who is not here
+-- a member's id is a known id
 known_id : (name me : List ℕ) (xs : List Member) → option_map (λ a. a.id) (find (has_name name) xs) ≡ Some me → list_any (has_id me) xs ≡ true
 unfolding has_id
 known_id name me [] e = absurd cc
@@ -65,7 +65,7 @@ known_id name me (x ∷ xs) e =
       | false ↦ λ h. rw (known_id name me xs h) (or_true (bytes_eq x.id me))
     ] e
 
--- a member whom no Block parts from the author may get what the author sends to others
+-- a member may get what the author sends to others if there is no Block between the two
 may_get : (t : Town) (author name me : List ℕ) → bytes_eq me public_iri ≡ false → id_of t name ≡ Some me → bytes_eq author me ≡ false
     → has_block_between t me author ≡ false → is_recipient t author me ≡ true
 unfolding is_recipient is_nobody_here is_actor
@@ -112,7 +112,7 @@ original_is t Reject id e = absurd cc
 original_is t Undo id e = absurd cc
 original_is t Other id e = absurd cc
 
--- what is known of an Update or a Delete of what m made, by its author, that was done
+-- what is known of an Update or a Delete, by its author, of what m made, that was done
 record IsChange (t : Town) (author : List ℕ) (b : Activity) (m : Act) : Type 0 where
   of : original t (deed_of b.kind) (ref_id b.object) ≡ Some m
   by : m.author ≡ author
@@ -148,7 +148,7 @@ reader_is t author repeat moment b m Nobody is here not_all seen = is_open_too t
 reader_is t author repeat moment b m (Actor name) is here not_all seen = reader_of t author repeat moment b m name (id_of t name) is refl (not_all name) seen
 reader_is t author repeat moment b m (Peer host) is here not_all seen = absurd cc
 
--- each member is one of this host
+-- each member is a member of this host
 members_here : (history : List Entry) (host : List ℕ) → IsLegal history → (town history).host ≡ Some host → list_all (is_member (Some host)) (town history).actors ≡ true
 members_here history host legal hosted =
     let s : IsHosted (town history) = town_sound history legal in
@@ -165,7 +165,7 @@ not_everybody history host name me legal hosted known =
     (not_public host name (subst (λ (k : Option (List ℕ)). is_set k ≡ true) hosted s.host)
     (named_is name (Some host) t.actors all (found_any (has_name name) t.actors me known)))
 
--- Who sees the Create of an object sees its author's Updates and its Delete.
+-- Whoever sees the Create of an object sees its author's Updates and its Delete.
 pub changes_are_seen : (history : List Entry) (host name id : List ℕ) (repeat : Option (List ℕ × List ℕ)) (a : Activity) (moment : ℕ) (m : Act) (c : Caller)
     → IsLegal (history ++ Local name repeat a moment ∷ []) → (town history).host ≡ Some host → (is_update (deed_of a.kind) || is_delete (deed_of a.kind)) ≡ true
     → ref_id (local_act (town history) host name repeat a moment).activity.object ≡ Some id → maker (town history) id ≡ Some m → m.author ≡ actor_id host name

@@ -1,4 +1,4 @@
--- An object as it stands is the object replayed.
+-- The present state of an object is the object replayed.
 use Rattle.std.proofs.Common.{◌≡◌, ℕ, Bool, true, false, List, [], ◌∷◌, ◌++◌, Option, Some, None, refl, sym, ap, ◌∙◌}
 use Rattle.std.specs.Prelude.{◌&&◌, ◌||◌, map, codes, option_map, option_to_list, if◌then◌else◌}
 use Rattle.std.specs.List.{fold, find, list_any}
@@ -106,7 +106,7 @@ rewrite_whole f (Id iri) o e = absurd cc
 rewrite_whole f (Whole new) o e = ap (λ (z : Option Object). option_map f z) e
 rewrite_whole f (Changed c) o e = absurd cc
 
--- an activity makes one object alone
+-- an activity makes only one object
 one_object : (id own : List ℕ) (m : Act) → makes id m ≡ true → bytes_eq own id ≡ false → makes own m ≡ false
 one_object id own m here other =
     is_false (makes own m) (λ also.
@@ -132,13 +132,13 @@ effect_is : (t : Town) (x : Act) (i : Option (List ℕ)) → effect_with t x i �
 effect_is t x None = refl
 effect_is t x (Some id) = refl
 
--- the next form by what the activity does and what it is about
+-- the next form, by what the activity does and what it is about
 abbrev form_by : List ℕ → Act → Deed → Option (List ℕ) → Object → Object
 form_by id x d i o =
     if (is_update d && is_done x.state) && is_id id i then update_object x.activity.object (moment_text x.moment) o else (
     if (is_delete d && is_done x.state) && is_id id i then tombstone_of (codes "Tombstone") (moment_text x.moment) o else o)
 
--- what changes no object leaves this one
+-- an activity that changes no object leaves this one unchanged
 same_form : (t : Town) (x m : Act) (o : Object) (d : Deed) (b : Bool) (i : Option (List ℕ)) → is_update d ≡ false → is_delete d ≡ false
     → whole_of m.activity.object ≡ Some o → whole_of (affect (if b then effect_by t x d i else effects.Nothing) m).activity.object ≡ Some o
 same_form t x m o d b None p q e =
@@ -203,7 +203,7 @@ choice_forms : (b : Bool) (z : Option Act) (id : List ℕ) (p : Option Object) �
 choice_forms true z id p e = e
 choice_forms false z id p e = refl
 
--- the answer makes and changes no object
+-- the answer neither makes nor changes an object
 pub answers_forms : (t : Town) (x : Act) (id : List ℕ) (p : Option Object) → fold (replay_act id) p (answers t x) ≡ p
 answers_forms t x id p =
     choice_forms (is_follow (deed x) && is_accepted x.state) (accept_for t.host t x (followee t (ref_id x.activity.object))) id p
@@ -223,7 +223,7 @@ answers_make_none t x id =
     choice_makes_none (is_follow (deed x) && is_accepted x.state) (accept_for t.host t x (followee t (ref_id x.activity.object))) id
     (found_makes_none t.host t x (followee t (ref_id x.activity.object)) id)
 
--- where none made the object: it is the new Create's, if that makes it
+-- if no activity made the object yet: it is the object of the new Create, if that makes it
 new_object : (id : List ℕ) (x : Act) (rest : List Act) → list_any (makes id) rest ≡ false → object_of (find (makes id) (x ∷ rest)) ≡ first_form id x
 new_object id x rest none =
     elim (makes id x) as (λ b. object_of (if b then Some x else find (makes id) rest) ≡ (if b then whole_of x.activity.object else None)) [
@@ -253,7 +253,7 @@ rewrites_none p f m e =
       | false ↦ e
     ]
 
--- what carries no object gets none
+-- an activity that carries no object gets none
 stays_none : (e : Effect) (m : Act) → whole_of m.activity.object ≡ None → whole_of (affect e m).activity.object ≡ None
 stays_none effects.Nothing m e = e
 stays_none (effects.Update id by stamp) m e = rewrites_none (makes id) (update_object by stamp) m e
@@ -263,13 +263,13 @@ stays_none (effects.EndFollows a b s) m e = rw (left_alone (effects.EndFollows a
 stays_none (effects.EndBoth a b) m e = rw (left_alone (effects.EndBoth a b) m tt) e
 stays_none (effects.Undo id) m e = rw (left_alone (effects.Undo id) m tt) e
 
--- where one made it: what becomes of that one
+-- if an activity made it: what becomes of that object
 old_object : (t : Town) (x : Act) (id : List ℕ) (m : Act) (p : Option Object) → makes id m ≡ true → whole_of m.activity.object ≡ p → makes id x ≡ false
     → whole_of (affect (effect_of t x) m).activity.object ≡ replay_act id p x
 old_object t x id m None here e none = rw (stays_none (effect_of t x) m e, none) refl
 old_object t x id m (Some o) here e none = next_is t x m o id here e
 
--- where an object of this id was made, the activity makes none
+-- if an object with this id was made, the activity does not make it again
 record IsNew (t : Town) (x : Act) : Type 0 where
   new : (id : List ℕ) → makes id x ≡ true → list_any (makes id) t.acts ≡ false
 
@@ -351,6 +351,6 @@ fold_replays (e ∷ history) t id =
     ∙ ap (λ (p : Option Object). fold (replay_act id) p (acts_from (step t e) history)) (step_replays t e id)
     ∙ sym (fold-append (replay_act id) (object_at t id) (acts_in (addition_of t e)) (acts_from (step t e) history))
 
--- In each history an object as it stands is the object replayed.
+-- In each history the present state of an object is the object replayed.
 pub town_replays : (history : List Entry) (id : List ℕ) → object_at (town history) id ≡ replay id (acts_of history)
 town_replays history id = fold_replays history empty_town id

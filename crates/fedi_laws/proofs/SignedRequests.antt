@@ -16,7 +16,7 @@ use Rattle.fedi_model.specs.Callers.{is_signed, caller_by}
 use Rattle.fedi_model.specs.Credentials.{Mac, code_of, is_lower_hex, signed_by}
 use Rattle.fedi_laws.specs.SignedRequests.{SignedDelivery, body, changed_code, club, code, delivery, hill, upper_code}
 
--- the host is a text, so the code is what counts
+-- the host is a text, so the result depends on the code
 by_code : (host code body : List ℕ) → is_utf8 host ≡ true
     → caller_of club (delivery None (Some host) (Some code)) body
     ≡ caller_by club (Mac (option_map (signed_by (delivery None (Some host) (Some code)) body host) (code_of code)))

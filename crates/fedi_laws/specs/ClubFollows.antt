@@ -20,7 +20,7 @@ use Rattle.fedi_laws.specs.Fixture.{ana, ben, cleo, dan, member, activity_number
 use Rattle.fedi_laws.specs.Fixture.{start, to, activity, note, posts, is_legal, states, recipients}
 use Rattle.fedi_laws.specs.Fixture.{sight, total, rule}
 
--- ---- ana follows dan, who is locked and accepts; she takes it back, and follows ben, who is not
+-- ---- ana follows dan, who is locked and accepts; she undoes it, and follows ben, who is not
 -- locked
 
 -- ana asked to follow dan
@@ -33,7 +33,7 @@ after_accept =
     after_follow
     ++ posts dan (activity kinds.Accept (Id (activity_number ana (codes "1"))) no_recipients) ∷ []
 
--- ana took it back
+-- ana undid it
 abbrev pub after_undo : List Entry
 after_undo =
     after_accept
@@ -44,7 +44,7 @@ abbrev pub after_second_follow : List Entry
 after_second_follow =
     after_undo ++ posts ana (activity kinds.Follow (Id (member ben)) no_recipients) ∷ []
 
--- the Follow waits, is accepted once, and is taken back once; ben's Accept follows at once
+-- the Follow waits, is accepted once, and is undone once; ben's Accept follows at once
 pub record LockedFollow : Type 0 where
   pub legal : is_legal after_second_follow ≡ true
   pub waits : states after_follow ≡ Pending ∷ []
@@ -65,7 +65,7 @@ pub record LockedFollow : Type 0 where
       ≡ Some (activity_number ana (codes "3")) ∷ Some (activity_number ben (codes "1")) ∷ []
   pub in_outbox : total after_second_follow (Actor ben) (Outbox ben) ≡ Some 1
 
--- ---- ben follows ana; she posts a public Note, blocks ben, and takes the Block back
+-- ---- ben follows ana; she posts a public Note, blocks ben, and undoes the Block
 
 -- ben followed ana, and she posted a public Note
 abbrev pub before_block : List Entry
@@ -77,14 +77,14 @@ before_block = start ++ (posts ben (activity kinds.Follow (Id (member ana)) no_r
 abbrev pub after_block : List Entry
 after_block = before_block ++ posts ana (activity kinds.Block (Id (member ben)) no_recipients) ∷ []
 
--- she took the Block back
+-- she undid the Block
 abbrev pub after_unblock : List Entry
 after_unblock =
     after_block
     ++ posts ana (activity kinds.Undo (Id (activity_number ana (codes "3"))) no_recipients) ∷ []
 
--- the Block ends the Follow and hides the Note from ben, and from ben alone; its Undo shows the
--- Note again, and brings no Follow back; neither goes to anybody
+-- the Block ends the Follow and hides the Note from ben, and only from ben; its Undo shows the Note
+-- again, but does not restore the Follow; neither goes to anybody
 pub record BlockAndUndo : Type 0 where
   pub legal : is_legal after_unblock ≡ true
   pub before : states before_block ≡ Accepted ∷ Done ∷ Done ∷ []
@@ -99,7 +99,7 @@ pub record BlockAndUndo : Type 0 where
       ∷ Some (activity_number ana (codes "2")) ∷ []
   pub still_none : total after_unblock (Actor ana) (Followers ana) ≡ Some 0
 
--- ---- ben follows ana, who posts to her followers; cleo follows her afterwards
+-- ---- ben follows ana, who posts to her followers; cleo follows her later
 
 -- ana's followers collection
 abbrev pub fans : List (List ℕ)
@@ -110,7 +110,7 @@ abbrev pub after_note : List Entry
 after_note = start ++ (posts ben (activity kinds.Follow (Id (member ana)) no_recipients)
     ∷ posts ana (activity kinds.Create (Whole (note (to fans))) (to fans)) ∷ [])
 
--- cleo followed her afterwards
+-- cleo followed her later
 abbrev pub after_late_follow : List Entry
 after_late_follow =
     after_note ++ posts cleo (activity kinds.Follow (Id (member ana)) no_recipients) ∷ []
@@ -128,7 +128,7 @@ pub record PostToFollowers : Type 0 where
       ≡ Some (activity_number ana (codes "2")) ∷ Some (activity_number cleo (codes "1"))
       ∷ Some (activity_number ana (codes "3")) ∷ []
 
--- ---- ana posts to her followers before there is one; ben follows her afterwards
+-- ---- ana posts to her followers before there is one; ben follows her later
 
 -- she posted the Note
 abbrev pub before_first_follow : List Entry
@@ -140,7 +140,7 @@ abbrev pub after_first_follow : List Entry
 after_first_follow =
     before_first_follow ++ posts ben (activity kinds.Follow (Id (member ana)) no_recipients) ∷ []
 
--- he took it back
+-- he undid it
 abbrev pub after_unfollow : List Entry
 after_unfollow =
     after_first_follow
@@ -157,15 +157,15 @@ abbrev pub after_parting : List Entry
 after_parting =
     after_first_follow ++ posts ana (activity kinds.Block (Id (member ben)) no_recipients) ∷ []
 
--- ana deleted the object, of which ben is told as he follows her
+-- ana deleted the object, and ben learns of it as he follows her
 abbrev pub after_delete : List Entry
 after_delete =
     after_first_follow
     ++ posts ana (activity kinds.Delete (Id (object_number ana (codes "1"))) no_recipients) ∷ []
 
--- The Note went to nobody. Ben sees it from his Follow on, in ana's outbox and not in his inbox,
--- until the Follow ends by his Undo, by ana's Reject or by a Block; and so he sees its Delete.
--- Nobody else sees it.
+-- The Note went to nobody. Ben sees it from his Follow on, in ana's outbox but not in his inbox,
+-- until the Follow ends by his Undo, by ana's Reject or by a Block. He sees its Delete in the same
+-- way. Nobody else sees it.
 pub record LateFollower : Type 0 where
   pub legal : is_legal after_unfollow ≡ true
   pub sent : recipients after_first_follow ≡ [] ∷ (member ana ∷ []) ∷ (member ben ∷ []) ∷ []
@@ -194,8 +194,8 @@ pub record LateFollower : Type 0 where
 
 -- ---- the last number
 
--- whoever has the last number but one can answer the Follow of another, and whoever has the last
--- can not
+-- a member with the last number but one can answer the Follow of another, and a member with the
+-- last number cannot
 pub record LastNumber : Type 0 where
   pub last : (t : Town) (a b : List ℕ) → count_of t b ≡ 4294967294 → bytes_eq a b ≡ false
       → has_room t a b ≡ true

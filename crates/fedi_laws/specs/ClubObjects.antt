@@ -23,11 +23,11 @@ use Rattle.fedi_laws.specs.Fixture.{ana, ben, cleo, dan, member, activity_number
 use Rattle.fedi_laws.specs.Fixture.{start, to, activity, note, posts, is_legal, states, recipients}
 use Rattle.fedi_laws.specs.Fixture.{sight, total, rule}
 
--- to one in secret
+-- addressed to one member in secret
 abbrev pub whisper : List ℕ → Recipients
 whisper name = record no_recipients { bcc = name ∷ [] }
 
--- a member posts a Note that is addressed so
+-- a member posts a Note with these recipients
 abbrev pub notes : List ℕ → Recipients → Entry
 notes name r = posts name (activity kinds.Create (Whole (note r)) r)
 
@@ -37,7 +37,7 @@ notes name r = posts name (activity kinds.Create (Whole (note r)) r)
 abbrev pub after_secret : List Entry
 after_secret = start ++ notes ana (whisper (member ben)) ∷ []
 
--- ben sees it and no other; and nobody is shown to whom it goes
+-- only ben sees it; and nobody is shown its recipients
 pub record SecretNote : Type 0 where
   pub legal : is_legal after_secret ≡ true
   pub sent : recipients after_secret ≡ (member ben ∷ []) ∷ []
@@ -52,7 +52,7 @@ pub record SecretNote : Type 0 where
 
 -- ---- ana writes to everybody and ben, and to cleo in secret
 
--- to whom it goes
+-- its recipients
 abbrev pub open_names : Recipients
 open_names = record no_recipients { to = public_iri ∷ member ben ∷ []; bcc = member cleo ∷ [] }
 
@@ -79,8 +79,8 @@ after_delete =
     start ++ (notes ana (to (member ben ∷ []))
     ∷ posts ana (activity kinds.Delete (Id (object_number ana (codes "1"))) no_recipients) ∷ [])
 
--- a Tombstone is left, for ben alone; the Delete goes where the Note went; and nobody does anything
--- to it any more
+-- a Tombstone is left, for ben alone; the Delete goes to the recipients of the Note; and nobody can
+-- do anything more to it
 pub record DeletedNote : Type 0 where
   pub legal : is_legal after_delete ≡ true
   pub done : states after_delete ≡ Done ∷ Done ∷ []
@@ -123,7 +123,7 @@ after_update = start ++ (posts ana (activity kinds.Create (Whole headed) (to (pu
     ∷ posts ana (activity kinds.Update (Changed revision) no_recipients)
     ∷ notes ana (to (member ben ∷ [])) ∷ [])
 
--- the Update gives a content, removes the summary and says when; it is public as the Note is;
+-- the Update sets the content, removes the summary and gives the time; it is public as the Note is;
 -- others may not change what they see, do not find what they do not see, and may not share what is
 -- not public
 pub record ChangedNote : Type 0 where

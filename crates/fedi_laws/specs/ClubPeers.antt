@@ -24,17 +24,17 @@ use Rattle.fedi_laws.specs.Fixture.{ana, ben, dan, member, activity_number, obje
 use Rattle.fedi_laws.specs.Fixture.{lake, dora, eve, with_peers, to, activity, note, posts}
 use Rattle.fedi_laws.specs.Fixture.{delivers, is_legal, states, recipients, sight, total, rule}
 
--- an id of dora's
+-- an id that belongs to dora
 abbrev pub by_dora : List ℕ → List ℕ
 by_dora path = dora ++ path
 
--- dora's Create of a Note with this id, addressed so
+-- dora's Create of a Note with this id and these recipients
 abbrev pub note_of_dora : List ℕ → Object → Recipients → Activity
 note_of_dora id o r = activity kinds.Create (Whole (record o { id = Some id })) r
 
--- ---- dora's public Note comes to ana, and to ben
+-- ---- dora's public Note arrives for ana, and for ben
 
--- to whom it goes
+-- its recipients
 abbrev pub dora_says : Recipients
 dora_says = record no_recipients {
   to = public_iri ∷ [];
@@ -45,11 +45,11 @@ dora_says = record no_recipients {
 abbrev pub hi : Activity
 hi = note_of_dora (by_dora (codes "/o/7")) (note no_recipients) dora_says
 
--- it came to ana
+-- it arrived for ana
 abbrev pub after_delivery : List Entry
 after_delivery = with_peers ++ delivers hill ana dora (by_dora (codes "/a/7")) hi ∷ []
 
--- it came to ben too
+-- it arrived for ben too
 abbrev pub after_second_inbox : List Entry
 after_second_inbox = after_delivery ++ delivers hill ben dora (by_dora (codes "/a/7")) hi ∷ []
 
@@ -67,8 +67,8 @@ pub record DeliveredNote : Type 0 where
 
 -- ---- who may deliver
 
--- a peer delivers what its own actors do, a relay what others do too, and neither what a member
--- does
+-- a peer delivers what its own actors do, a relay also what others do, and neither delivers what a
+-- member does
 pub record PeersAndRelays : Type 0 where
   pub other_host : is_legal (with_peers ++ delivers hill ana eve (eve ++ codes "/a/1")
       (activity kinds.Listen (Id dora) no_recipients) ∷ []) ≡ false
@@ -85,13 +85,13 @@ pub record PeersAndRelays : Type 0 where
 abbrev pub late_note : Object
 late_note = record (note no_recipients) { kind = codes "Tombstone"; content = None }
 
--- it came to ana
+-- it arrived for ana
 abbrev pub after_tombstone : List Entry
 after_tombstone =
     with_peers ++ delivers hill ana dora (by_dora (codes "/a/9"))
     (note_of_dora (by_dora (codes "/o/9")) late_note no_recipients) ∷ []
 
--- a Tombstone that does not tell what it was and since when is completed
+-- a Tombstone without its former type and the time of its deletion is completed
 pub record DeliveredTombstone : Type 0 where
   pub legal : is_legal after_tombstone ≡ true
   pub former :
@@ -121,7 +121,7 @@ after_answer =
     before_answer
     ++ posts dan (activity kinds.Accept (Id (by_dora (codes "/a/1"))) no_recipients) ∷ []
 
--- the Follow is accepted at once, or when dan says so; and it is not delivered to ana again
+-- the Follow is accepted at once, or when dan accepts it; and it is not delivered to ana again
 pub record DeliveredFollow : Type 0 where
   pub legal : is_legal after_remote_follow ≡ true
   pub not_again : is_legal (after_remote_follow ++ delivers hill ana dora (by_dora (codes "/a/1"))
@@ -135,15 +135,15 @@ pub record DeliveredFollow : Type 0 where
   pub accepted_too : states after_answer ≡ Accepted ∷ Done ∷ []
   pub one_too : total after_answer (Actor dan) (Followers dan) ≡ Some 1
 
--- ---- a Follow of ana that comes to ben alone
+-- ---- a Follow of ana that arrives only for ben
 
--- it came to ben
+-- it arrived for ben
 abbrev pub after_stray_follow : List Entry
 after_stray_follow =
     with_peers ++ delivers hill ben dora (by_dora (codes "/a/1"))
     (activity kinds.Follow (Id (member ana)) no_recipients) ∷ []
 
--- it is accepted in ana's name, who sees her Accept and not the Follow, and cannot reject it
+-- it is accepted in ana's name, who sees her Accept but not the Follow, and cannot reject it
 pub record StrayFollow : Type 0 where
   pub legal : is_legal after_stray_follow ≡ true
   pub accepted : states after_stray_follow ≡ Accepted ∷ Done ∷ []
@@ -172,12 +172,12 @@ reply_to names =
     delivers hill ana dora (by_dora (codes "/a/8"))
     (note_of_dora (by_dora (codes "/o/8")) reply (record no_recipients { cc = names }))
 
--- dora's reply to ana's followers came to ana
+-- dora's reply to ana's followers arrived for ana
 abbrev pub after_reply : List Entry
 after_reply = before_reply ++ reply_to ((member ana ++ codes "/followers") ∷ []) ∷ []
 
--- the Accept goes to eve, and so does dora's reply, as ana's followers are named; else it does not,
--- nor to a follower of dora's own host
+-- the Accept goes to eve, and so does dora's reply, as it names ana's followers; otherwise it does
+-- not, nor does it go to a follower of dora's own host
 pub record ForwardedReply : Type 0 where
   pub legal : is_legal after_reply ≡ true
   pub due : queue (town after_reply)
@@ -194,7 +194,7 @@ pub record ForwardedReply : Type 0 where
       (town (after_remote_follow ++ reply_to ((member ana ++ codes "/followers") ∷ []) ∷ [])).acts
       ≡ [] ∷ [] ∷ [] ∷ []
 
--- ---- ana posts to her followers before there is one; eve of lake follows her afterwards
+-- ---- ana posts to her followers before there is one; eve of lake follows her later
 
 -- she posted the Note
 abbrev pub before_far_follow : List Entry
@@ -207,7 +207,7 @@ after_far_follow =
     before_far_follow ++ delivers lake ana eve (eve ++ codes "/a/1")
     (activity kinds.Follow (Id (member ana)) no_recipients) ∷ []
 
--- eve took it back
+-- eve undid it
 abbrev pub after_far_undo : List Entry
 after_far_undo =
     after_far_follow ++ delivers lake ana eve (eve ++ codes "/a/2")
@@ -217,7 +217,7 @@ after_far_undo =
 abbrev pub after_far_block : List Entry
 after_far_block = after_far_follow ++ posts ana (activity kinds.Block (Id eve) no_recipients) ∷ []
 
--- Lake sees the Note while somebody of lake follows ana, and hill, of which nobody does, never.
+-- Lake sees the Note while somebody of lake follows ana. Hill, where nobody does, never sees it.
 pub record FarFollower : Type 0 where
   pub legal : is_legal after_far_undo ≡ true
   pub before : sight before_far_follow (Peer lake) ≡ []

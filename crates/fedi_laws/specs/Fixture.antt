@@ -23,7 +23,7 @@ use Rattle.fedi_town.specs.Seeing.{seen}
 use Rattle.fedi_town.specs.Towns.{empty_town}
 use Rattle.fedi_town.specs.declared.caller.Caller.TheVariants as callers
 
--- ---- who there is
+-- ---- the members and servers
 
 -- the host
 abbrev pub club : List ℕ
@@ -53,7 +53,7 @@ member name = codes "https://club.example/users/" ++ name
 abbrev pub activity_number : List ℕ → List ℕ → List ℕ
 activity_number name number = member name ++ (codes "/a/" ++ number)
 
--- and of the object that it made
+-- and the id of the object that it made
 abbrev pub object_number : List ℕ → List ℕ → List ℕ
 object_number name number = member name ++ (codes "/o/" ++ number)
 
@@ -65,11 +65,11 @@ hill = codes "hill.example"
 abbrev pub lake : List ℕ
 lake = codes "lake.example"
 
--- somebody of it
+-- somebody on it
 abbrev pub dora : List ℕ
 dora = codes "https://hill.example/users/dora"
 
--- somebody of the other
+-- somebody on the other
 abbrev pub eve : List ℕ
 eve = codes "https://lake.example/users/eve"
 
@@ -88,11 +88,11 @@ with_peers =
 
 -- ---- what they do
 
--- to these
+-- addressed to these
 abbrev pub to : List (List ℕ) → Recipients
 to names = record no_recipients { to = names }
 
--- an activity of this type, about this and addressed so
+-- an activity of this type, about this and with these recipients
 abbrev pub activity : Kind → ObjectRef → Recipients → Activity
 activity kind object recipients = record {
   id = None;
@@ -109,7 +109,7 @@ activity kind object recipients = record {
   tags = [];
 }
 
--- a Note that says `Hi`, addressed so
+-- a Note that says `Hi`, with these recipients
 abbrev pub note : Recipients → Object
 note recipients = record {
   id = None;
@@ -136,7 +136,7 @@ posts name a = Local name None a 2
 abbrev pub delivers : List ℕ → List ℕ → List ℕ → List ℕ → Activity → Entry
 delivers peer inbox actor id a = Remote peer inbox (record a { id = Some id; actor = Some actor }) 2
 
--- ---- what comes of it
+-- ---- the results
 
 -- the history is legal
 abbrev pub is_legal : List Entry → Bool

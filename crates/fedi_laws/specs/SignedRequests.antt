@@ -1,4 +1,4 @@
--- A request that another server signs, and what it is changed to.
+-- A request that another server signs, and changed forms of it.
 use Rattle.std.specs.Prelude.{◌≡◌, ℕ, true, false, List, [], ◌∷◌, replicate, codes, Option, Some}
 use Rattle.std.specs.Prelude.{None, Ok, Err}
 use Rattle.fedi_town.specs.declared.act.Peer.{Peer}
@@ -13,12 +13,12 @@ use Rattle.fedi_model.specs.Answers.{caller_of}
 abbrev pub hill : List ℕ
 hill = codes "hill.example"
 
--- what is known of it: the key that both have is 32 times the byte 7
+-- what is known of it: the shared key is 32 times the byte 7
 abbrev pub hill_peer : Peer
 hill_peer =
     record { host = hill; key = replicate 32 7; address = codes "192.0.2.1:80"; relay = false }
 
--- a server that has this peer alone
+-- a server with this peer only
 abbrev pub club : Town
 club = record empty_town { host = Some (codes "club.example"); peers = hill_peer ∷ [] }
 
@@ -39,7 +39,7 @@ delivery key host code = record {
   head_only = false;
 }
 
--- the body that is signed
+-- the signed body
 abbrev pub body : List ℕ
 body = codes "{}"
 
@@ -55,7 +55,7 @@ changed_code = codes "3222b174c4abed0557dd53c5decfc0a93ffa9e43ad4cf0e14876d8db57
 abbrev pub upper_code : List ℕ
 upper_code = codes "3222B174C4ABED0557DD53C5DECFC0A93FFA9E43AD4CF0E14876D8DB5784BED6"
 
--- the peer is the caller of what it signed alone, and `Authorization` counts first
+-- the peer is the caller only of what it signed, and `Authorization` takes precedence
 pub record SignedDelivery : Type 0 where
   pub signed : caller_of club (delivery None (Some hill) (Some code)) body ≡ Ok (ByPeer hill)
   pub changed : caller_of club (delivery None (Some hill) (Some changed_code)) body ≡ Err WrongMac

@@ -1,4 +1,4 @@
--- The laws of what a history means.
+-- The laws about the meaning of a history.
 use Rattle.std.specs.Prelude.{◌≡◌, ℕ, ◌+◌, ◌≤◌, Bool, true, false, ◌||◌, if◌then◌else◌, List, []}
 use Rattle.std.specs.Prelude.{◌∷◌, ◌++◌, map, IsTrue, Option, Some}
 use Rattle.std.specs.List.{list_any}
@@ -40,20 +40,21 @@ use Rattle.fedi_model.specs.Reading.{is_self}
 
 -- ---- what a caller may learn
 
--- Legal histories that agree for a caller give the caller the same answer, whatever else stands in
--- them.
+-- Legal histories that agree for a caller give the caller the same answer, whatever else they
+-- contain.
 abbrev pub AnswersArePrivate : Type 0
 AnswersArePrivate =
     (g h : List Entry) (c : Caller) (ask : Ask) → IsLegal g → IsLegal h → Agree (town g) (town h) c
     → answer_of (town g) c ask ≡ answer_of (town h) c ask
 
--- whether it is asked who a member is
+-- the ask is who a member is
 abbrev pub is_of_profiles : Ask → Bool
 is_of_profiles (asks.Webfinger resource) = true
 is_of_profiles (asks.Actor name) = true
 is_of_profiles ask = false
 
--- Who a member is depends on the host and on the members' names alone, and is told to everybody.
+-- Who a member is depends only on the host and on the members' names, and is the same for
+-- everybody.
 abbrev pub ProfilesTellNamesAlone : Type 0
 ProfilesTellNamesAlone =
     (g h : List Entry) (c d : Caller) (ask : Ask) → IsLegal g → IsLegal h
@@ -61,22 +62,23 @@ ProfilesTellNamesAlone =
     → member_names (town g) ≡ member_names (town h) → is_of_profiles ask ≡ true
     → answer_of (town g) c ask ≡ answer_of (town h) d ask
 
--- What is answered to nobody for a post does not depend on its body, so the body need not be read.
+-- The answer to the caller `Nobody` for a post does not depend on its body, so the body need not be
+-- read.
 abbrev pub PostsOfNobodyAreUnread : Type 0
 PostsOfNobodyAreUnread =
     (t : Town) (name : List ℕ) (post other : Post) → is_bad_key post.key ≡ is_bad_key other.key
     → answer_of t callers.Nobody (asks.Outbox name post)
     ≡ answer_of t callers.Nobody (asks.Outbox name other)
 
--- What is answered to nobody for a delivery depends on nothing of it.
+-- The answer to the caller `Nobody` for a delivery does not depend on the delivery.
 abbrev pub DeliveriesOfNobodyAreUnread : Type 0
 DeliveriesOfNobodyAreUnread =
     (t : Town) (name : List ℕ) (post other : Post)
     → answer_of t callers.Nobody (asks.Inbox name post)
     ≡ answer_of t callers.Nobody (asks.Inbox name other)
 
--- A member's post that changes nothing earlier changes nothing that a caller knows who does not see
--- it. So the agreement is no empty one: a private post changes no answer to a stranger.
+-- A member's post that changes nothing earlier changes nothing that is known to a caller who does
+-- not see it. So the agreement is not empty: a private post changes no answer to a stranger.
 abbrev pub UnseenPostsTellNothing : Type 0
 UnseenPostsTellNothing =
     (history : List Entry) (host name : List ℕ) (repeat : Option (List ℕ × List ℕ)) (a : Activity)
@@ -87,7 +89,7 @@ UnseenPostsTellNothing =
     → sees (town history) c (local_act (town history) host name repeat a moment) ≡ false
     → Agree (town (history ++ Local name repeat a moment ∷ [])) (town history) c
 
--- The same holds of a delivery of a new id that changes nothing earlier and is no Follow.
+-- The same holds for a delivery of a new id that changes nothing earlier and is not a Follow.
 abbrev pub UnseenDeliveriesTellNothing : Type 0
 UnseenDeliveriesTellNothing =
     (history : List Entry) (peer inbox owner author id : List ℕ) (a : Activity) (moment : ℕ)
@@ -98,7 +100,7 @@ UnseenDeliveriesTellNothing =
     → sees (town history) c (remote_act (town history) owner author a moment) ≡ false
     → Agree (town (history ++ Remote peer inbox a moment ∷ [])) (town history) c
 
--- A delivery of a known id tells its inbox's owner alone.
+-- A delivery of a known id reveals something only to the owner of its inbox.
 abbrev pub AddedInboxesTellTheirOwners : Type 0
 AddedInboxesTellTheirOwners =
     (history : List Entry) (host peer inbox author id : List ℕ) (a : Activity) (moment : ℕ)
@@ -115,7 +117,7 @@ is_peer_of host callers.Nobody = false
 is_peer_of host (callers.Actor name) = false
 is_peer_of host (callers.Peer own) = bytes_eq host own
 
--- A peer that is added changes nothing that any caller knows but the peer itself.
+-- Adding a peer changes nothing that any caller knows except the peer itself.
 abbrev pub AddedPeersTellThemselves : Type 0
 AddedPeersTellThemselves =
     (history : List Entry) (host key address : List ℕ) (relay : Bool) (moment : ℕ) (c : Caller)
@@ -128,16 +130,15 @@ AttemptsTellNothing =
     (history : List Entry) (activity recipient : List ℕ) (came : Came) (moment : ℕ) (c : Caller)
     → Agree (town (history ++ Tried activity recipient came moment ∷ [])) (town history) c
 
--- an object without what lies behind a Tombstone, where it is one
+-- an object, without what a Tombstone hides if it is one
 abbrev pub bare_object : Object → Object
 bare_object o = if is_tombstone o then bare_tombstone o else o
 
--- the town without it
+-- the town without what Tombstones hide
 abbrev pub without_deleted : Town → Town
 without_deleted t = record t { acts = map (rewrite_act bare_object) t.acts }
 
--- Histories that differ in nothing but what lies behind Tombstones agree for everybody, so that
--- nobody is told of it.
+-- Histories that differ only in what Tombstones hide agree for everybody, so no caller learns it.
 abbrev pub DeletedContentIsToldToNobody : Type 0
 DeletedContentIsToldToNobody =
     (g h : List Entry) (c : Caller) → without_deleted (town g) ≡ without_deleted (town h)
@@ -149,8 +150,8 @@ is_no_peer callers.Nobody = true
 is_no_peer (callers.Actor name) = true
 is_no_peer (callers.Peer host) = false
 
--- Who sees the Create of an object sees each Update and Delete of it that its author may post. Who
--- is parted from the author by a Block sees neither.
+-- Whoever sees the Create of an object sees each Update and Delete of it that its author may post.
+-- Whoever is separated from the author by a Block sees neither.
 abbrev pub ChangesReachTheReaders : Type 0
 ChangesReachTheReaders =
     (history : List Entry) (host name id : List ℕ) (repeat : Option (List ℕ × List ℕ))
@@ -162,21 +163,21 @@ ChangesReachTheReaders =
     → m.author ≡ actor_id host name → is_no_peer c ≡ true → sees (town history) c m ≡ true
     → sees (town history) c (local_act (town history) host name repeat a moment) ≡ true
 
--- No answer, to whomever and for whatever, names those whom `bto` and `bcc` hide (ActivityPub,
--- section 6).
+-- No answer, to any caller and for any ask, names a recipient that `bto` or `bcc` hides
+-- (ActivityPub, section 6).
 abbrev pub AnswersAreClean : Type 0
 AnswersAreClean = (t : Town) (c : Caller) (ask : Ask) → is_clean_answer (answer_of t c ask) ≡ true
 
 -- ---- objects and activities
 
--- An object as it stands is the object that its Create made, changed by each Update that was done,
--- one after the other, and a Tombstone from the Delete on that was done (ActivityPub, sections 6.2
--- to 6.4 and 7.2 to 7.4).
+-- The present state of an object is the object that its Create made, changed by each Update that
+-- was done, one after another, and replaced with a Tombstone once a Delete was done (ActivityPub,
+-- sections 6.2 to 6.4 and 7.2 to 7.4).
 abbrev pub ObjectsAreReplayed : Type 0
 ObjectsAreReplayed =
     (history : List Entry) (id : List ℕ) → object_at (town history) id ≡ replay id (acts_of history)
 
--- Whatever comes after it, a Tombstone stays as it is.
+-- A Tombstone does not change, whatever comes after it.
 abbrev pub TombstonesStay : Type 0
 TombstonesStay =
     (history later : List Entry) (id : List ℕ) (o : Object) → object_at (town history) id ≡ Some o
@@ -187,12 +188,13 @@ TombstonesStay =
 abbrev pub creates : Object → Activity → Activity
 creates o a = record a { kind = kinds.Create; object = Whole o }
 
--- a Delete of the object of this id
+-- a Delete of the object with this id
 abbrev pub deletes : List ℕ → Activity → Activity
 deletes id a = record a { kind = kinds.Delete; object = Id id }
 
--- What a deleted object said leaves no trace: after its Delete the town is the same whatever was in
--- the properties that an Update may set, and so is all that anybody is told from then on.
+-- The content of a deleted object leaves no trace: after its Delete the town is the same whatever
+-- was in the properties that an Update may set, and so is everything that anybody may learn from
+-- then on.
 abbrev pub DeletedContentLeavesNoTrace : Type 0
 DeletedContentLeavesNoTrace =
     (history later : List Entry) (host name id : List ℕ) (first second : Option (List ℕ × List ℕ))
@@ -211,8 +213,8 @@ abbrev pub ObjectsAreMadeOnce : Type 0
 ObjectsAreMadeOnce =
     (history : List Entry) (id : List ℕ) → PassesOnce (makes id) (town history).acts
 
--- In a legal history no two activities have one id: an activity that comes again acts no second
--- time.
+-- In a legal history no two activities have the same id: an activity that is repeated does not act
+-- a second time.
 abbrev pub ActivitiesAreThereOnce : Type 0
 ActivitiesAreThereOnce =
     (history : List Entry) → IsLegal history → (id : List ℕ)
@@ -220,7 +222,7 @@ ActivitiesAreThereOnce =
 
 -- ---- the next entry
 
--- The entry that an ask makes may come next, so a legal history stays legal by each ask.
+-- The entry that an ask makes may come next, so each ask keeps a legal history legal.
 abbrev pub AsksKeepHistoriesLegal : Type 0
 AsksKeepHistoriesLegal =
     (history : List Entry) (c : Caller) (ask : Ask) (moment : ℕ) (e : Entry) → IsLegal history
@@ -254,8 +256,8 @@ DueDeliveriesAreQueued =
 
 -- ---- members
 
--- In a legal history the name of a member is one, and the member's id is that of the name at the
--- host.
+-- In a legal history the name of a member is valid, and the member's id is the one that the name
+-- gives at the host.
 abbrev pub MembersHaveTheirIds : Type 0
 MembersHaveTheirIds =
     (history : List Entry) (host name id : List ℕ) → IsLegal history

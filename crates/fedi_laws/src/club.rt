@@ -1,4 +1,4 @@
-//! What happens in a small club, computed from the definitions.
+//! Events in a small club, computed from the definitions.
 
 ghost use Rattle.fedi_laws.specs.ClubFollows.{BlockAndUndo, LastNumber, LateFollower, LockedFollow};
 ghost use Rattle.fedi_laws.specs.ClubFollows.{PostToFollowers};
@@ -19,50 +19,50 @@ pub fn a_follower_is_blocked()
     ensures { BlockAndUndo }
 {}
 
-/// A Note to followers goes to those who follow when it is accepted, and is seen by those who
-/// follow later.
+/// A Note to followers goes to those who follow when it is accepted. Those who follow later see it
+/// too.
 #[tactic(auto, using(crate::proofs::ClubFollows::post_to_followers))]
 pub fn followers_get_a_note()
     ensures { PostToFollowers }
 {}
 
-/// A Note to followers is seen by who follows later, as long as the Follow lasts.
+/// A later follower sees a Note to followers, as long as the Follow lasts.
 #[tactic(auto, using(crate::proofs::ClubFollows::late_follower))]
 pub fn a_late_follower_sees_a_note()
     ensures { LateFollower }
 {}
 
-/// There is no Accept without a number for it.
+/// There is no Accept if no number is left for it.
 #[tactic(auto, using(crate::proofs::ClubFollows::last_number))]
 pub fn numbers_end()
     ensures { LastNumber }
 {}
 
-/// A Note in secret is seen by the one it goes to.
+/// A secret Note is seen by its recipient.
 #[tactic(auto, using(crate::proofs::ClubObjects::secret_note))]
 pub fn a_note_is_secret()
     ensures { SecretNote }
 {}
 
-/// A public Note goes to those whom it names, and hides those whom it names in secret.
+/// A public Note goes to the recipients that it names, and hides those that it names in secret.
 #[tactic(auto, using(crate::proofs::ClubObjects::open_note))]
 pub fn a_note_is_public()
     ensures { OpenNote }
 {}
 
-/// A Note that is deleted leaves a Tombstone.
+/// A deleted Note leaves a Tombstone.
 #[tactic(auto, using(crate::proofs::ClubObjects::deleted_note))]
 pub fn a_note_is_deleted()
     ensures { DeletedNote }
 {}
 
-/// A Note is changed by its author alone.
+/// Only its author may change a Note.
 #[tactic(auto, using(crate::proofs::ClubObjects::changed_note))]
 pub fn a_note_is_changed()
     ensures { ChangedNote }
 {}
 
-/// A Note from elsewhere is kept once, however often it comes.
+/// A Note from elsewhere is kept once, no matter how often it arrives.
 #[tactic(auto, using(crate::proofs::ClubPeers::delivered_note))]
 pub fn a_note_is_delivered()
     ensures { DeliveredNote }
@@ -86,19 +86,20 @@ pub fn a_follow_is_delivered()
     ensures { DeliveredFollow }
 {}
 
-/// A Follow that comes to another member's inbox is answered, and not seen by the one it is of.
+/// A Follow that arrives in another member's inbox is answered, and the followed member does not
+/// see it.
 #[tactic(auto, using(crate::proofs::ClubPeers::stray_follow))]
 pub fn a_follow_goes_astray()
     ensures { StrayFollow }
 {}
 
-/// A reply from elsewhere is forwarded to the followers whom it names.
+/// A reply from elsewhere is forwarded to the followers that it names.
 #[tactic(auto, using(crate::proofs::ClubPeers::forwarded_reply))]
 pub fn a_reply_is_forwarded()
     ensures { ForwardedReply }
 {}
 
-/// A Note to followers is seen by another server, as long as somebody there follows.
+/// Another server sees a Note to followers, as long as somebody there follows.
 #[tactic(auto, using(crate::proofs::ClubPeers::far_follower))]
 pub fn a_follower_elsewhere_sees_a_note()
     ensures { FarFollower }

@@ -1,4 +1,4 @@
-//! What stays true of a history that grows.
+//! What stays true of a growing history.
 
 ghost use Rattle.fedi_laws.specs.Statements.{AsksKeepHistoriesLegal, DueDeliveriesAreQueued};
 ghost use Rattle.fedi_laws.specs.Statements.{DueDeliveriesStayDue, MembersHaveTheirIds};
@@ -21,7 +21,7 @@ pub fn due_deliveries_are_queued()
     ensures { DueDeliveriesAreQueued }
 {}
 
-/// The id of a member of a legal history is that of the member's name.
+/// The id of a member of a legal history is the one that the member's name gives.
 pub fn members_have_their_ids()
     ensures { MembersHaveTheirIds }
 {}

@@ -1,5 +1,5 @@
-//! Laws of what a history means, and of requests and replies, each the contract of a function that
-//! does nothing.
+//! Laws about the meaning of a history, and about requests and replies. Each is the contract of a
+//! function that does nothing.
 #![tactic(auto)]
 
 mod club;

@@ -15,51 +15,52 @@ ghost use Rattle.fedi_laws.specs.Statements.{
   UnseenPostsTellNothing,
 };
 
-/// Histories that agree for a caller give the caller the same answer, whatever else stands in them.
+/// Histories that agree for a caller give the caller the same answer, whatever else they contain.
 #[tactic(auto, using(crate::proofs::Isolation::private_answers))]
 pub fn answers_are_private()
     ensures { AnswersArePrivate }
 {}
 
-/// Who a member is (an actor document, or WebFinger) depends on the host and on the members' names
-/// alone, and everybody is told the same.
+/// Who a member is (an actor document, or WebFinger) depends only on the host and on the members'
+/// names, and the answer is the same for everybody.
 #[tactic(auto, using(crate::proofs::Isolation::public_profiles))]
 pub fn profiles_tell_names_alone()
     ensures { ProfilesTellNamesAlone }
 {}
 
-/// What is answered to nobody for a post does not depend on its body, so the body need not be read.
+/// The answer to the caller `Nobody` for a post does not depend on its body, so the body need not
+/// be read.
 #[tactic(auto, using(crate::proofs::Nobody::nobody_is_answered))]
 pub fn posts_of_nobody_are_unread()
     ensures { PostsOfNobodyAreUnread }
 {}
 
-/// What is answered to nobody for a delivery depends on nothing of it, so its body need not be
-/// read.
+/// The answer to the caller `Nobody` for a delivery does not depend on the delivery, so its body
+/// need not be read.
 #[tactic(auto, using(crate::proofs::Nobody::nobody_delivers))]
 pub fn deliveries_of_nobody_are_unread()
     ensures { DeliveriesOfNobodyAreUnread }
 {}
 
-/// A post that changes nothing earlier, as a Create, a Follow or a Like, changes nothing that a
-/// caller knows who does not see it.
+/// A post that changes nothing earlier, such as a Create, a Follow or a Like, changes nothing that
+/// is known to a caller who does not see it.
 #[tactic(auto, using(crate::proofs::Isolation::unseen_posts))]
 pub fn unseen_posts_tell_nothing()
     ensures { UnseenPostsTellNothing }
 {}
 
-/// The same holds of a delivery that is new and no Follow.
+/// The same holds for a delivery that is new and is not a Follow.
 pub fn unseen_deliveries_tell_nothing()
     ensures { UnseenDeliveriesTellNothing }
 {}
 
-/// A delivery of what is known tells the owner of its inbox alone.
+/// A delivery of a known activity reveals something only to the owner of its inbox.
 pub fn added_inboxes_tell_their_owners()
     ensures { AddedInboxesTellTheirOwners }
 {}
 
-/// A peer that is added changes nothing that any caller knows but the peer itself: neither a member
-/// nor nobody nor another peer is told of it.
+/// Adding a peer changes nothing that any caller knows except the peer itself: neither a member nor
+/// the caller `Nobody` nor another peer learns of it.
 pub fn added_peers_tell_themselves()
     ensures { AddedPeersTellThemselves }
 {}
@@ -69,21 +70,20 @@ pub fn attempts_tell_nothing()
     ensures { AttemptsTellNothing }
 {}
 
-/// What lies behind a Tombstone is told to nobody: histories that differ in it alone agree for
+/// What a Tombstone hides is revealed to no caller: histories that differ only in it agree for
 /// everybody (ActivityPub, section 6.4).
 pub fn deleted_content_is_told_to_nobody()
     ensures { DeletedContentIsToldToNobody }
 {}
 
-/// Who sees an object's Create sees each Update and Delete of it by its author (ActivityPub,
-/// sections 6.3 and 6.4), and so does everybody where the Create is public. A Block hides all of
-/// them.
+/// Whoever sees an object's Create sees each Update and Delete of it by its author (ActivityPub,
+/// sections 6.3 and 6.4), and so does everybody if the Create is public. A Block hides all of them.
 #[tactic(auto, using(crate::proofs::Readers::changes_are_seen))]
 pub fn changes_reach_the_readers()
     ensures { ChangesReachTheReaders }
 {}
 
-/// No answer names those whom `bto` and `bcc` hide (ActivityPub, section 6).
+/// No answer names a recipient that `bto` or `bcc` hides (ActivityPub, section 6).
 #[tactic(auto, using(crate::proofs::Clean::answers_clean))]
 pub fn answers_are_clean()
     ensures { AnswersAreClean }

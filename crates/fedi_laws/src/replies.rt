@@ -19,22 +19,23 @@ ghost use Rattle.fedi_model.specs.Refusing.{refused};
 ghost use Rattle.fedi_model.specs.Replies.{reply};
 ghost use Rattle.fedi_laws.specs.SignedRequests.{SignedDelivery};
 
-/// Legal histories that agree for a caller give the caller the same reply, whatever else stands in
-/// them.
+/// Legal histories that agree for a caller give the caller the same reply, whatever else they
+/// contain.
 #[tactic(auto, using(crate::proofs::PrivateReplies::replies_agree))]
 pub fn replies_are_private()
     ensures { (g h : List Entry) (c : Caller) (ask : Ask) → IsLegal g → IsLegal h
         → Agree (town g) (town h) c → reply (town g) c ask ≡ reply (town h) c ask }
 {}
 
-/// No reply, to whomever and for whatever, names those whom `bto` and `bcc` hide (ActivityPub,
-/// section 6).
+/// No reply, to any caller and for any ask, names a recipient that `bto` or `bcc` hides
+/// (ActivityPub, section 6).
 #[tactic(auto, using(crate::proofs::CleanReplies::reply_is_clean))]
 pub fn replies_are_clean()
     ensures { (t : Town) (c : Caller) (ask : Ask) → IsCleanBody (reply t c ask).body }
 {}
 
-/// No refusal names anybody, in the place of a reply or for what is no request.
+/// No refusal names anybody, whether it replaces a reply or answers something that is not a
+/// request.
 #[tactic(auto, using(crate::proofs::CleanReplies::refused_is_clean))]
 pub fn refusals_are_clean()
     ensures { (refusal : Refusal) → IsCleanBody (refused refusal).body }
@@ -54,7 +55,7 @@ pub fn what_is_read_may_be_delivered()
 {}
 
 /// A peer is the caller of a request that it signed. With another code, another body, another host
-/// or one field less the request is refused.
+/// or a field missing, the request is refused.
 #[tactic(auto, using(crate::proofs::SignedRequests::signed_delivery))]
 pub fn a_delivery_is_signed()
     ensures { SignedDelivery }

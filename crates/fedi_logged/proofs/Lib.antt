@@ -4,6 +4,7 @@ pub mod Claiming
 pub mod Conversing
 pub mod Crashing
 pub mod Determined
+pub mod Ended
 pub mod Hosted
 pub mod Hosts
 pub mod Marks

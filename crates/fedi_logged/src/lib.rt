@@ -10,6 +10,7 @@ mod alone;
 mod answers;
 mod channels;
 mod claims;
+mod connection;
 mod conversations;
 mod laws;
 mod logged;
@@ -22,6 +23,7 @@ mod turns;
 pub use alone::{Alone, serve_alone};
 pub use channels::{Channel, Joined};
 pub use claims::Sending;
+pub use connection::{Connection, serve_connection};
 pub use conversations::{
     conversations_are_determined, conversations_have_no_gaps, conversations_own_their_items,
     conversations_stand_in_the_log, conversations_stay, failures_are_marked,

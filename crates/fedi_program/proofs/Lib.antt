@@ -2,10 +2,8 @@ pub mod ClaimLemmas
 pub mod CompleteLemmas
 pub mod DeliverLemmas
 pub mod Examples
-pub mod DemoLemmas
 pub mod MemberLemmas
 pub mod NumberLemmas
-pub mod OneDemo
 pub mod PeerLemmas
 pub mod RunLemmas
 pub mod StoreLemmas

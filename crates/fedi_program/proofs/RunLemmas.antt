@@ -15,23 +15,16 @@ use Rattle.fedi_program.specs.Commands.{Inetd, Serve, Task}
 use Rattle.fedi_delivery.specs.Exchanges.{Told}
 use Rattle.fedi_program.specs.Serving.{ServesDoors, status_after}
 use Rattle.fedi_logged.specs.Conversations.{Setting}
-use Rattle.fedi_logged.specs.Endings.{Faults, IsCaused, Output, Scene, Serves, Talks}
+use Rattle.fedi_logged.specs.Endings.{Faults, IsCaused, Output, Scene, Serves}
 use Rattle.fedi_program.specs.Endings.{HasCauses, RunsTo, TalksIfTold, status_of}
 use Rattle.fedi_logged.specs.Turning.{setting_by}
+use Rattle.fedi_logged.proofs.Ended.{ended_talks, closed_talks}
 use Rattle.fedi_program.specs.Members.{Chance}
 use Rattle.fedi_program.specs.Runs.{is_status_of}
 use Rattle.fedi_program.specs.declared.commands.Table.{Table}
 use Rattle.fedi_program.specs.Stores.{AddsMember, AddsPeer, ChecksStore, ExportsStore, IsKeptSafe, Medium, ServesStore, TalksOverStore, ReportsStore, status_by}
 
 -- ---- the end of a session
-
-ended_talks : (w : Setting) (seen : Log) (first : Output) (now : Scene) (log : Log) (known : Option (List ℕ)) → IfSome known (Serves w seen first now log End) → IfSome known (Talks w seen first now log)
-ended_talks w seen first now log None s = tt
-ended_talks w seen first now log (Some input) s = record { exchanges = s.exchanges; each = s.each; over = inr (s.ends.0, s.ends.1); done = s.ends.2 }
-
-closed_talks : (w : Setting) (seen : Log) (first : Output) (now : Scene) (log : Log) (known : Option (List ℕ)) → IfSome known (Serves w seen first now log Closed) → IfSome known (Talks w seen first now log)
-closed_talks w seen first now log None s = tt
-closed_talks w seen first now log (Some input) s = record { exchanges = s.exchanges; each = s.each; over = inl s.ends.0; done = s.ends.1 }
 
 pub session_talks : (w : Setting) (opened : State) (log : Log) (first now : Scene) (status : ℕ) → status ≡ 0 → RunsTo w opened log first now status → TalksIfTold w opened log first now
 session_talks w opened log first now status done (End, is, ran) = ended_talks w (given opened.history) first.output now log first.input ran

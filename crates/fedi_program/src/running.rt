@@ -27,7 +27,6 @@ ghost use Rattle.fedi_program.specs.declared.commands.Table.{Table};
 ghost use Rattle.fedi_town.specs.Legal.{IsLegal};
 
 use crate::commands::{Command, NewPeer, command_of};
-use crate::connection::{Connection, serve_connection};
 use crate::delivering::deliver;
 use crate::demonstrating::demo;
 use crate::exporting::export;
@@ -41,7 +40,7 @@ use crate::usage::usage;
 use fedi_core::Core;
 use fedi_effects::Seed;
 use fedi_index::IndexedShelf;
-use fedi_logged::SessionEnd;
+use fedi_logged::{Connection, SessionEnd, serve_connection};
 use fedi_outside::{Bench, Clock, Disk, Door, Entropy, Keeper, Link, Sink, Source};
 use fedi_report::check_line;
 use fedi_routes::Routes;

@@ -6,7 +6,7 @@ use std::alloc::{AllocError, Global};
 use std::str;
 use std::test::Fail;
 
-// What is given, and the text, the host and the target that are read of it.
+// An address, and the text, the host and the target that are read from it.
 const IRIS: [(&str, &str, &str, &str); 4] = [
     (
         "HTTPS://Club.Example:443/a/../b?x#y",
@@ -34,7 +34,7 @@ const IRIS: [(&str, &str, &str, &str); 4] = [
     ),
 ];
 
-// What is given, and why it is refused.
+// Texts that are refused as addresses.
 const NO_IRIS: [&str; 5] = [
     "",
     "club",
@@ -84,7 +84,7 @@ fn iris_are_read_in_their_normal_form(rt: HostRuntime) -> Result<(), Fail> {
     expect(longer == Some(IriFault::TooLong), "one longer")
 }
 
-// Hosts, and what are none.
+// Hosts, and texts that are not hosts.
 const HOSTS: [&str; 3] = ["club.example:8443", "127.0.0.1", "xn--bcher-kva.example"];
 
 const NO_HOSTS: [&str; 6] = [
@@ -96,7 +96,7 @@ const NO_HOSTS: [&str; 6] = [
     "b\u{fc}cher.example",
 ];
 
-// A text, and whether it is the name of a member.
+// A text, and whether it is a valid name of a member.
 const NAMES: [(&str, bool); 7] = [
     ("a", true),
     ("ann_2", true),
@@ -107,7 +107,7 @@ const NAMES: [(&str, bool); 7] = [
     ("abcdefghijklmnopqrstuvwxyz01234", false),
 ];
 
-// Whether the host is that of an address with a path there.
+// Whether the host is that of an address with a path on it.
 fn is_host(alloc: Global, host: &Host, text: &str) -> Result<bool, AllocError> {
     let iri = Iri::at(alloc, host, "/users/ann/a/7")?;
     Ok(host.text() == text && iri.host() == text && iri.target() == "/users/ann/a/7")

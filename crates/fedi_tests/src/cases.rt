@@ -1,4 +1,4 @@
-//! What runs begin with.
+//! What runs start with.
 
 ghost use Rattle.std.specs.Prelude.{◌<◌, IfOk, vec_len};
 
@@ -9,7 +9,7 @@ use fedi_outside::{
 use fedi_program::Connection;
 use std::alloc::{AllocError, Global};
 
-/// When the example town was made, and its runs are: 1994-11-06T08:49:37Z.
+/// When the example town was made, and when its runs take place: 1994-11-06T08:49:37Z.
 pub const SECONDS: u64 = 784_111_777;
 
 /// The bytes that keys are drawn from.
@@ -20,13 +20,13 @@ pub const KEY: &[u8] = b"0123456789abcdefghijklmnopqrstuv";
 pub struct Case<'a> {
     /// The command line.
     pub line: &'a str,
-    /// The records of the store on the disk, or the bytes of the disk, if there are none.
+    /// The records of the store on the disk, or the bytes of the disk, if there are no records.
     pub records: &'a [&'a [u8]],
     pub bytes: &'a [u8],
     /// Which calls of the disk fail, and from which on all do.
     pub failing_calls: &'a [u64],
     pub stop: u64,
-    /// The pieces of the input, which ends after so many bytes.
+    /// The pieces of the input, which ends after this many bytes.
     pub input: &'a [&'a str],
     pub cut_at: usize,
     /// How many bytes the first read takes, whether the others take one each, and which reads fail.
@@ -39,14 +39,14 @@ pub struct Case<'a> {
     /// The bytes that keys are drawn from, and which draws fail.
     pub drawn: &'a [u8],
     pub failing_draws: &'a [u64],
-    /// What the clock tells.
+    /// The time of the clock.
     pub seconds: u64,
     /// What other servers reply to the requests of the run, in order, and which exchanges fail.
     pub replies: &'a [&'a str],
     pub failing_exchanges: &'a [u64],
 }
 
-/// A run of this command line over a store of these records, at which nothing fails.
+/// A run of this command line over a store of these records, in which nothing fails.
 pub fn calm<'a>(line: &'a str, records: &'a [&'a [u8]]) -> Case<'a> {
     Case {
         line,
@@ -69,7 +69,7 @@ pub fn calm<'a>(line: &'a str, records: &'a [&'a [u8]]) -> Case<'a> {
     }
 }
 
-/// A connection over a store of these records, with this input, at which nothing fails.
+/// A connection over a store of these records, with this input, in which nothing fails.
 pub fn inetd<'a>(records: &'a [&'a [u8]], input: &'a [&'a str]) -> Case<'a> {
     Case {
         input,
@@ -77,8 +77,8 @@ pub fn inetd<'a>(records: &'a [&'a [u8]], input: &'a [&'a str]) -> Case<'a> {
     }
 }
 
-/// The arguments of a command line, which is the program's name, and the arguments, each behind a
-/// space. The error is out of memory.
+/// The arguments of a command line: the program's name, and then the arguments, each after a space.
+/// The error is out of memory.
 pub fn arguments_of(alloc: Global, line: &str) -> Result<Vec<String>, AllocError> {
     let mut arguments = Vec::new(alloc);
     for word in line.split(' ').skip(1) {

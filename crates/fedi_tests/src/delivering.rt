@@ -1,4 +1,4 @@
-//! Runs that deliver to other servers what waits, byte for byte.
+//! Runs that deliver waiting activities to other servers, byte for byte.
 
 use crate::cases::{Case, SECONDS, calm};
 use crate::example::MEMBERS;
@@ -31,7 +31,7 @@ const FOLLOWED_BY_FINN: &[u8] = b"\
     \0\0\0\0\0\0\0\0\0\0\0\0\0\0\0\0\0\0\0\0\0\0\0\0\0\0\0\0\0\0\
     \0\0\0\0.\xbc\x98\xa1";
 
-/// It delivered a note below the member's second activity.
+/// It delivered a reply to the member's second activity.
 const REPLIED: &[u8] = b"\
     \x05\
     \0\0\0\x0chill.example\
@@ -52,7 +52,7 @@ const REPLIED: &[u8] = b"\
     \0\0\0\0\0\0\0\0\0\
     \0\0\0\0.\xbc\x98\xa1";
 
-/// It delivered another one, which is for the followers of the member too.
+/// It delivered another one, which is also for the followers of the member.
 const FORWARDED: &[u8] = b"\
     \x05\
     \0\0\0\x0chill.example\
@@ -79,13 +79,13 @@ const FORWARDED: &[u8] = b"\
 /// A town in which the acceptance of a Follow is due.
 const FOLLOWING: [&[u8]; 4] = [HOSTED, ANA, LAKE, FOLLOWED];
 
-/// A town in which that is due, and the forward of a note to the follower.
+/// A town in which that acceptance is due, and the forwarding of a note to the follower.
 pub const WAITING: [&[u8]; 7] = [HOSTED, ANA, LAKE, HILL, FOLLOWED, NOTE, FORWARDED];
 
-/// The same records, but that the note is not for the followers.
+/// The same records, except that the note is not for the followers.
 const NOT_FORWARDED: [&[u8]; 7] = [HOSTED, ANA, LAKE, HILL, FOLLOWED, NOTE, REPLIED];
 
-/// A town with one more follower, on the server from which the note came.
+/// A town with one more follower, on the server that the note came from.
 const FOLLOWED_TWICE: [&[u8]; 8] = [
     HOSTED,
     ANA,
@@ -103,7 +103,7 @@ const COUNTS: [(&[&[u8]], &str); 5] = [
     (&FOLLOWING, "entries 4 actors 1 activities 2 queue 1\n"),
     (&WAITING, "entries 7 actors 1 activities 4 queue 2\n"),
     (&NOT_FORWARDED, "entries 7 actors 1 activities 4 queue 1\n"),
-    // Nothing is forwarded to the server from which it came.
+    // Nothing is forwarded to the server that it came from.
     (&FOLLOWED_TWICE, "entries 8 actors 1 activities 6 queue 3\n"),
 ];
 
@@ -117,7 +117,7 @@ const EVE: &str = "\
 /// A delivery was taken.
 const TAKEN: &str = "HTTP/1.1 202 Accepted\r\nContent-Length: 0\r\n\r\n";
 
-/// What was asked for is gone.
+/// What was requested is gone.
 const GONE: &str = "HTTP/1.1 410 Gone\r\n\r\n";
 
 /// The requests by which the acceptance of the Follow is delivered.
@@ -164,8 +164,8 @@ const OWN: &str = "https://club.example/users/ana/a/1 lake.example ";
 
 const OTHER: &str = "https://hill.example/users/dora/a/8 lake.example ";
 
-/// What is shown, the replies, which exchanges fail, what is printed of both attempts, and what was
-/// asked.
+/// What is shown, the replies, which exchanges fail, what is printed for both attempts, and what
+/// was asked.
 const RUNS: [(&str, &[&str], &[u64], &[&str], &[&str]); 4] = [
     (
         "both are delivered",
@@ -202,7 +202,7 @@ const WORDS: [(&[&str], &[u64], &str); 19] = [
     (&["HTTP/1.1 404 Not Found\r\n\r\n"], &[], "gave-up\n"),
     (&["HTTP/1.1 403 Forbidden\r\n\r\n"], &[], "again\n"),
     (&["HTTP/1.1 204 No Content\r\n\r\n"], &[], "again\n"),
-    // No head, or the half of one, or a status that there is not.
+    // No head, half of one, or an invalid status.
     (&[""], &[], "again\n"),
     (&["220 lake.example ESMTP\r\n"], &[], "again\n"),
     (&["HTTP/1.1 200 OK\r\n"], &[], "again\n"),
@@ -239,11 +239,11 @@ const WORDS: [(&[&str], &[u64], &str); 19] = [
     (&[EVE, TAKEN], &[1], "again\n"),
 ];
 
-/// How long after the first attempt each of the eight is due, the last of which ends the delivery.
+/// How long after the first attempt each of the eight is due. The last one ends the delivery.
 const DUE: [u64; 8] = [0, 60, 180, 420, 900, 1_860, 3_780, 7_620];
 
-/// Which calls of the disk fail, counted from the first append's first, which are four for each
-/// append, and which writes, and the status, what is printed, and how many attempts are kept.
+/// Which calls of the disk fail, counted from the first of the first append, at four per append,
+/// and which writes; then the status, what is printed, and how many attempts are kept.
 const FAULTS: [(&[u64], &[u64], u8, &[&str], usize); 6] = [
     (&[0], &[], 5, &["disk fault\n"], 0),
     (&[2], &[], 5, &["disk fault\n"], 0),
@@ -266,8 +266,8 @@ fn has_count(alloc: Global, records: &[&[u8]], printed: &str) -> Result<bool, Al
     Ok(left.status == 0 && are_texts(&left.out, &[printed]))
 }
 
-// Whether the run over the records tries each delivery once, and the next one at the same moment
-// none of them.
+// Whether the run over the records tries each delivery once, and the next run at the same moment
+// tries none.
 fn has_run(
     alloc: Global,
     row: &(&str, &[&str], &[u64], &[&str], &[&str]),
@@ -308,7 +308,7 @@ fn has_word(alloc: Global, row: &(&[&str], &[u64], &str)) -> Result<bool, AllocE
     )
 }
 
-// What is printed so long after the first moment, over the disk, and the disk after it.
+// What is printed this long after the first moment, over the disk, and the disk after it.
 fn is_printed(
     alloc: Global,
     disk: &[u8],
@@ -324,7 +324,7 @@ fn is_printed(
     Ok((left.status == 0 && are_texts(&left.out, printed), left.disk))
 }
 
-// Which of the attempts is not made when it is due, or made a second before that.
+// The first of the attempts that is not made when it is due, or is made a second before that.
 fn first_off(alloc: Global) -> Result<Option<usize>, AllocError> {
     let none = left_by(alloc, &calm("fedi check s", &FOLLOWING))?;
     let mut disk = none.disk;

@@ -1,5 +1,4 @@
-//! Sources, sinks and keepers in memory. What is made to fail is made in a function of its own and
-//! lent.
+//! Sources, sinks and keepers in memory. What is made to fail is made in its own function and lent.
 
 use crate::rows::expect;
 use fedi_outside::{
@@ -8,8 +7,8 @@ use fedi_outside::{
 use std::alloc::Global;
 use std::test::Fail;
 
-// Reads three bytes at once until the end of the input, and returns how long each read was. A read
-// that failed counts as 9.
+// Reads up to three bytes at a time until the end of the input, and returns how long each read was.
+// A read that failed counts as 9.
 fn lengths<S: Source>(alloc: Global, source: &mut S) -> Result<Vec<usize>, Fail> {
     let mut into = [0; 3];
     let mut lengths = Vec::new(alloc);
@@ -23,7 +22,7 @@ fn lengths<S: Source>(alloc: Global, source: &mut S) -> Result<Vec<usize>, Fail>
     Ok(lengths)
 }
 
-// How long the reads of five bytes are that are given in such pieces, if these reads fail.
+// How long the reads are of five bytes that come in such pieces, if these reads fail.
 fn lengths_of(alloc: Global, pieces: &[usize], failing: &[u64]) -> Result<Vec<usize>, Fail> {
     let bytes = b"bytes".to_vec(alloc)?;
     let pieces = pieces.to_vec(alloc)?;
@@ -32,7 +31,7 @@ fn lengths_of(alloc: Global, pieces: &[usize], failing: &[u64]) -> Result<Vec<us
     lengths(alloc, &mut source)
 }
 
-// The same of a source that never fails.
+// The same for a source that never fails.
 fn calm_lengths(alloc: Global) -> Result<Vec<usize>, Fail> {
     let mut source = CalmSource::new(b"bytes".to_vec(alloc)?);
     lengths(alloc, &mut source)
@@ -72,7 +71,7 @@ fn expect_taken(alloc: Global) -> Result<(), Fail> {
 }
 
 // Adds each payload, however often the keeper fails, and says whether each is loaded again, and
-// none behind the last.
+// none after the last.
 fn keeps<K: Keeper>(alloc: Global, keeper: &mut K, payloads: &[&[u8]]) -> Result<bool, Fail> {
     for payload in payloads {
         for _ in 0..9 {
@@ -91,7 +90,7 @@ fn keeps<K: Keeper>(alloc: Global, keeper: &mut K, payloads: &[&[u8]]) -> Result
     Ok(keeper.load(alloc, keeper.count())?.is_none())
 }
 
-// Whether a keeper keeps these whose first append fails, and then the settling of its doubt.
+// Whether a keeper keeps these if its first append fails, and then the settling of its doubt.
 fn failing_keeps(alloc: Global, payloads: &[&[u8]]) -> Result<bool, Fail> {
     let failing = [1, 2].to_vec(alloc)?;
     let mut keeper = MemoryKeeper::new(alloc).failing(failing);

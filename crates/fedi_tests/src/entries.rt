@@ -1,4 +1,4 @@
-//! Entries as bytes, worked by hand from the format.
+//! Entries as bytes, worked out by hand from the format.
 
 ghost use Rattle.fedi_entry.specs.Limits.{KeepsLimits};
 
@@ -41,7 +41,7 @@ const FOLLOW: &[u8] = b"\
     \0\0\0\0\0\0\0\0\0\0\0\0\0\0\0\0\0\0\0\0\0\0\0\0\0\0\0\0\0\0\
     \0\0\0\0.\xbc\x98\xa1";
 
-// A post under a key for repeats, of a whole object that has each property that a client gives.
+// A post under a key for repeats, of a whole object with each property that a client may set.
 const CREATE: &[u8] = b"\
     \x04\
     \0\0\0\x03ana\
@@ -76,7 +76,7 @@ const CREATE: &[u8] = b"\
     \0\0\0\0\0\
     \0\0\0\0.\xbc\x98\xa1";
 
-// A post of a change that keeps, removes and gives.
+// A post of a change that keeps, removes and sets properties.
 const UPDATE: &[u8] = b"\
     \x04\
     \0\0\0\x03ana\
@@ -139,7 +139,7 @@ const DELIVERY: &[u8] = b"\
     \0\0\0\x04@ben\
     \0\0\0\0.\xbc\x98\xa1";
 
-// Lookups and posts, and what came of them.
+// Lookups and posts, and their results.
 const FAILED: &[u8] = b"\
     \x06\
     \0\0\0\x22https://club.example/users/ana/a/1\

@@ -1,4 +1,4 @@
-//! The example town, by its records, which were worked by hand from the format of entries:
+//! The example town, by its records, which were worked out by hand from the format of entries:
 //! `club.example` with its members ana, ben, cleo and dan, who is locked, and ana's two posts, one
 //! to everybody and one to ben alone. All of it happened at 1994-11-06T08:49:37Z. The keys of the
 //! members are 32 bytes 0, 1, 2 and 3, and their records have the SHA-256 digests of these.
@@ -36,7 +36,7 @@ const CLEO: &[u8] = b"\
     \0\
     \0\0\0\0.\xbc\x98\xa1";
 
-// dan was made a member, who is locked.
+// dan, who is locked, was made a member.
 const DAN: &[u8] = b"\
     \x02\
     \0\0\0\x03dan\
@@ -62,7 +62,7 @@ const HELLO: &[u8] = b"\
     \0\0\0\0\0\0\0\0\
     \0\0\0\0.\xbc\x98\xa1";
 
-// ana posted a note to ben alone, whom it hides.
+// ana posted a note to ben alone, as a hidden recipient.
 const PSST: &[u8] = b"\
     \x04\
     \0\0\0\x03ana\

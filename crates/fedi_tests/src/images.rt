@@ -6,7 +6,7 @@ use std::alloc::{AllocError, Global};
 /// A list of images.
 pub type Images = Vec<Vec<u8>>;
 
-// Sets the bytes from this place on to others, of which some may be behind the end.
+// Replaces the bytes from offset `at` on with others, some of which may be past the end.
 fn splice(bytes: &mut Vec<u8>, at: usize, from: &[u8]) -> Result<(), AllocError> {
     for (i, byte) in from.iter().enumerate() {
         match bytes.get_mut(at.saturating_add(i)) {
@@ -17,7 +17,7 @@ fn splice(bytes: &mut Vec<u8>, at: usize, from: &[u8]) -> Result<(), AllocError>
     Ok(())
 }
 
-// The bytes with others from this place on.
+// The bytes with others from offset `at` on.
 fn spliced(alloc: Global, bytes: &[u8], at: usize, from: &[u8]) -> Result<Vec<u8>, AllocError> {
     let mut after = bytes.to_vec(alloc)?;
     splice(&mut after, at, from)?;
@@ -39,8 +39,8 @@ fn push_torn(
     Ok(())
 }
 
-// What each image may be after such a write that was not synced: as before, or with all of it, its
-// first half alone, or its second half behind other bytes.
+// What each image may be after such a write that was not synced: as before, or with all of it, only
+// its first half, or its second half after other bytes.
 fn torn(alloc: Global, images: &[Vec<u8>], at: usize, bytes: &[u8]) -> Result<Images, AllocError> {
     let half = bytes.len() / 2;
     let mut behind_others = bytes.to_vec(alloc)?;
@@ -91,8 +91,8 @@ fn push_images(
     Ok(images.push(reads)?)
 }
 
-/// Some images that a crash after these calls may leave of a disk that had these bytes, and last
-/// the one that reads give.
+/// Some images that a crash after these calls may leave of a disk that had these bytes, and as the
+/// last one the image that reads give.
 pub fn images_of(alloc: Global, base: &[u8], calls: &[Call]) -> Result<Images, AllocError> {
     let mut images = Vec::new(alloc);
     push_images(alloc, &mut images, base, calls)?;

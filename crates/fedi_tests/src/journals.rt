@@ -1,4 +1,4 @@
-//! Files that were written by hand, and what they are found to be.
+//! Files that were written by hand, and how they are read.
 
 use crate::rows::expect_at;
 use crate::store_files::disk_of;
@@ -7,7 +7,7 @@ use fedi_outside::{Keeper, MemoryDisk};
 use std::alloc::{AllocError, Global};
 use std::test::Fail;
 
-/// What a disk is found to be: the records of a journal, each after a bar, or a fault.
+/// How a disk is read: as the records of a journal, each after a bar, or as a fault.
 pub fn found_in(alloc: Global, disk: MemoryDisk) -> Result<String, Fail> {
     let mut text = String::new(alloc);
     let mut opened = Journal::open(alloc, disk);
@@ -49,7 +49,7 @@ fn push_records(
     Ok(())
 }
 
-/// What these bytes are found to be.
+/// How these bytes are read.
 pub fn found(alloc: Global, bytes: &[u8]) -> Result<String, Fail> {
     found_in(alloc, disk_of(alloc, bytes)?)
 }
@@ -63,7 +63,7 @@ fn expect_found(alloc: Global, bytes: &[u8], wanted: &str, place: usize) -> Resu
     }
 }
 
-// Files, and what they are found to be.
+// Files, and how they are read.
 const FILES: [(&[u8], &str); 8] = [
     (b"", "not a store"),
     (b"FEDIJRN1", "not a store"),
@@ -87,7 +87,7 @@ pub fn made(alloc: Global, disk: MemoryDisk) -> (&'static str, MemoryDisk) {
     }
 }
 
-// Bytes, how their making ends, and the bytes after.
+// Bytes, how the making of a journal over them ends, and the bytes afterwards.
 const MAKINGS: [(&[u8], &str, &[u8]); 7] = [
     (b"", "made", b"FEDIJRN1\0"),
     (b"FEDI", "made", b"FEDIJRN1\0"),

@@ -1,8 +1,8 @@
-//! Tests of what no contract says: that calls succeed with ample memory, what outside vectors and
-//! worked texts want, and what happens if what lies outside fails or stops. Whole conversations at
-//! which nothing fails are scenes, as in `scenes/`.
+//! Tests of what no contract says: that calls succeed if there is ample memory, what external test
+//! vectors and worked examples require, and what happens if what lies outside fails or stops. Whole
+//! conversations in which nothing fails are scenes, as in `scenes/`.
 //!
-//! Values are made in helper functions, and lent, and a test fails with the text of the row that
+//! Values are made in helper functions and lent, and a test fails with the text of the row that
 //! does not hold. Tests call the program in `runs` and nowhere else.
 #![tactic(auto)]
 

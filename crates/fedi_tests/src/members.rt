@@ -8,8 +8,8 @@ use crate::store_files::{has_records, records_of};
 use std::alloc::{AllocError, Global};
 use std::test::Fail;
 
-/// A run of this command line over the example town without posts, whose writes take six bytes at
-/// most.
+/// A run of this command line over the example town without posts, whose writes take at most six
+/// bytes.
 pub(crate) fn making(line: &str) -> Case<'_> {
     Case {
         write_limit: 6,
@@ -17,7 +17,7 @@ pub(crate) fn making(line: &str) -> Case<'_> {
     }
 }
 
-/// The record of eva's making: her name, the digest of the key, whether she is locked, and the
+/// The record of the making of eva: her name, the digest of the key, whether she is locked, and the
 /// moment.
 const UNLOCKED: &[u8] = b"\
     \x02\0\0\0\x03eva\
@@ -31,7 +31,7 @@ const LOCKED: &[u8] = b"\
     \x43\xcc\x9c\x2a\x0f\xfa\x62\x18\x53\xd9\x38\x5c\x61\x9e\xfb\x77\
     \x01\0\0\0\0\x2e\xbc\x98\xa1";
 
-/// The line that tells her key.
+/// The line with her key.
 pub const EVA: &str = "eva 303132333435363738396162636465666768696a6b6c6d6e6f70717273747576\n";
 
 /// No record.
@@ -43,7 +43,7 @@ const ANAS_KEY: &[u8] = &[0; 32];
 const TOO_FEW: &[u8] = &[0; 31];
 
 /// The command line, how much of the example town there is, the bytes that keys are drawn from,
-/// which draws fail, and the status, what is printed, and the record that is kept.
+/// which draws fail; then the status, what is printed, and the record that is kept.
 const DRAWS: [(&str, usize, &[u8], &[u64], u8, &str, &[u8]); 9] = [
     (
         "fedi add-actor s eva",
@@ -63,10 +63,10 @@ const DRAWS: [(&str, usize, &[u8], &[u64], u8, &str, &[u8]); 9] = [
         "refused: name taken\n",
         NOTHING,
     ),
-    // No key can be drawn, which comes before the name.
+    // No key can be drawn, which is checked before the name.
     ("fedi add-actor s eva", 5, TOO_FEW, &[], 6, "", NOTHING),
     ("fedi add-actor s Ana", 5, TOO_FEW, &[], 6, "", NOTHING),
-    // There is no host, which comes before the draw.
+    // There is no host, which is checked before the draw.
     (
         "fedi add-actor s eva",
         0,
@@ -76,7 +76,7 @@ const DRAWS: [(&str, usize, &[u8], &[u64], u8, &str, &[u8]); 9] = [
         "not a store\n",
         NOTHING,
     ),
-    // The host alone is enough, and members may have gone before.
+    // The host alone is enough, and members may exist already.
     ("fedi add-actor s eva", 1, KEY, &[], 0, EVA, UNLOCKED),
     ("fedi add-actor s eva", 7, KEY, &[], 0, EVA, UNLOCKED),
     ("fedi add-actor s --locked eva", 5, KEY, &[], 0, EVA, LOCKED),
@@ -84,8 +84,8 @@ const DRAWS: [(&str, usize, &[u8], &[u64], u8, &str, &[u8]); 9] = [
     ("fedi add-actor s eva", 5, KEY, &[0], 6, "", NOTHING),
 ];
 
-/// Which calls of the disk fail, counted from the append's first, which are four, and which writes,
-/// and the status, what is printed, and the record that is kept.
+/// Which calls of the disk fail, counted from the first of the append, which makes four, and which
+/// writes; then the status, what is printed, and the record that is kept.
 const FAULTS: [(&[u64], &[u64], u8, &str, &[u8]); 10] = [
     (&[0], &[], 5, "disk fault\n", NOTHING),
     (&[1], &[], 5, "disk fault\n", NOTHING),
@@ -115,7 +115,7 @@ pub(crate) fn ends(
     Ok(is_left && has_kept(alloc, &left.disk, case.records, kept)?)
 }
 
-/// Whether a disk has a store of these records, and then this one, if it is not empty.
+/// Whether a disk has a store of these records, followed by this one, if it is not empty.
 fn has_kept(
     alloc: Global,
     disk: &[u8],

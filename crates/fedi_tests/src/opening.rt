@@ -1,6 +1,6 @@
-//! What an opening answers at records of a small history, and at others.
+//! What an opening answers for the records of a small history, and for others.
 //!
-//! A keeper is made in one function, and lent, and a test fails with the text of the row that does
+//! A keeper is made in one function and lent, and a test fails with the text of the row that does
 //! not hold.
 ghost use Rattle.std.specs.Prelude.{◌≡◌, ◌<◌, []};
 
@@ -20,7 +20,7 @@ use std::marker::Brand;
 use std::sync::ledger::{Blank, Ledger};
 use std::test::Fail;
 
-// A rule, records that break it, and the place of the first that is damaged.
+// A rule, records that break it, and the index of the first that is damaged.
 const DAMAGED: [(&str, &[&[u8]], u64); 24] = [
     ("the server is set up first", &[ANA, HOSTED], 0),
     ("the server is set up once", &[HOSTED, HOSTED], 1),
@@ -94,17 +94,17 @@ pub(crate) fn add_all<K: Keeper>(keeper: &mut K, records: &[&[u8]]) -> Result<()
     Ok(())
 }
 
-// What is wanted of an opening.
+// The expected result of an opening.
 #[derive(Clone, Copy)]
 enum Wanted {
-    // That it finds the whole history.
+    // It finds the whole history.
     History,
-    // That it is refused.
+    // It is refused.
     Fault(OpenFault),
 }
 
 // Whether the shelf has the Create, the Follow with its Accept, and the Like, and those of the
-// peer, where the Like that came to two inboxes is there once.
+// peer, with the Like that came to two inboxes only once.
 fn has_history(shelf: &PlainShelf) -> bool {
     let facts = shelf.facts();
     let is_hosted = facts
@@ -114,7 +114,7 @@ fn has_history(shelf: &PlainShelf) -> bool {
     is_hosted && has_peer && facts.actors().len() == 2 && facts.activities() == 7
 }
 
-// The place of the first item of ana's outbox that everybody sees.
+// The index of the first item of ana's outbox that everybody sees.
 fn first_place<L: Ledger>(shelf: &PlainShelf, blank: Blank) -> Option<usize>
     requires name { blank.name ≡ L.name }
     requires parts { blank.parts ≡ L.parts }
@@ -148,8 +148,8 @@ fn answers<K: Keeper>(
     }
 }
 
-// Fails with the text of the row unless an opening of the keeper answers so. A shelf is made here
-// alone, and lent.
+// Fails with the text of the row unless an opening of the keeper has this result. Only here is a
+// shelf made, and it is lent.
 fn expect_open<K: Keeper>(
     alloc: Global,
     row: &str,
@@ -164,7 +164,7 @@ fn expect_open<K: Keeper>(
     expect(holds, row)
 }
 
-// The same of a keeper of these records.
+// The same for a keeper of these records.
 fn expect_opened(alloc: Global, row: &str, records: &[&[u8]], wanted: Wanted) -> Result<(), Fail> {
     let mut keeper = MemoryKeeper::new(alloc);
     add_all(&mut keeper, records)?;

@@ -20,7 +20,7 @@ fn writes<O: Sink>(sink: &mut O) -> [Result<usize, Failed>; 3] {
     [sink.write(b"abc"), sink.write(b""), sink.write(b"c")]
 }
 
-/// What two draws answer, and the bytes that they give.
+/// What two draws return, and the bytes that they give.
 fn draws<E: Entropy>(
     entropy: &mut E,
 ) -> (Result<(), Failed>, Result<(), Failed>, [u8; 32], [u8; 32]) {
@@ -33,7 +33,7 @@ fn draws<E: Entropy>(
     )
 }
 
-/// Whether writes to a writer that has room for two bytes, and then takes nothing, have failed.
+/// Whether writes to a writer that has room for two bytes and then takes nothing fail in the end.
 fn is_short() -> bool {
     let mut room = [0; 2];
     let short = writes(&mut Writing::new(room.as_mut_slice()));

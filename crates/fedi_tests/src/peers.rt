@@ -8,8 +8,8 @@ use crate::runs::{calls_after, calls_of_an_opening};
 use std::alloc::{AllocError, Global};
 use std::test::Fail;
 
-/// The record of lake's making: its host, the key, where it is reached, whether it is a relay, and
-/// the moment.
+/// The record of the making of lake: its host, the key, where it is reached, whether it is a relay,
+/// and the moment.
 const LAKE: &[u8] = b"\
     \x03\0\0\0\x0clake.example0123456789abcdefghijklmnopqrstuv\
     \0\0\0\x0e127.0.0.1:8081\0\0\0\0\0\x2e\xbc\x98\xa1";
@@ -20,12 +20,12 @@ const RELAY: &[u8] = b"\
 
 const MADE: &str = "peer lake.example\n";
 
-/// The command line that makes it.
+/// The command line for it.
 const MAKING: &str = "\
     fedi add-peer s lake.example \
     303132333435363738396162636465666768696a6b6c6d6e6f70717273747576 127.0.0.1:8081";
 
-/// The command line, how much of the example town there is, and the status, what is printed, and
+/// The command line, how much of the example town there is; then the status, what is printed, and
 /// the record that is kept.
 const ENDS: [(&str, usize, u8, &str, &[u8]); 9] = [
     (MAKING, 1, 0, MADE, LAKE),
@@ -76,7 +76,7 @@ const ENDS: [(&str, usize, u8, &str, &[u8]); 9] = [
         "refused: bad key\n",
         NOTHING,
     ),
-    // There is no host, which comes before all.
+    // There is no host, which is checked first.
     (
         "fedi add-peer s Lake.example 00 \u{e9}",
         0,
@@ -86,8 +86,8 @@ const ENDS: [(&str, usize, u8, &str, &[u8]); 9] = [
     ),
 ];
 
-/// Which calls of the disk fail, counted from the append's first, and which writes, and the status,
-/// what is printed, and the record that is kept.
+/// Which calls of the disk fail, counted from the first of the append, and which writes; then the
+/// status, what is printed, and the record that is kept.
 const FAULTS: [(&[u64], &[u64], u8, &str, &[u8]); 5] = [
     (&[0], &[], 5, "disk fault\n", NOTHING),
     (&[3], &[], 5, "disk fault\n", NOTHING),

@@ -21,7 +21,7 @@ pub const USAGE: &str = "\
     fedi check STORE\n\
     fedi demo NUMBER\n";
 
-/// The command line, which writes fail, and the status and the output.
+/// The command line, which writes fail; then the status and the output.
 const ARGUMENTS: [(&str, &[u64], u8, &str); 4] = [
     ("fedi usage", &[], 0, USAGE),
     ("fedi fly s", &[], 2, USAGE),
@@ -39,7 +39,7 @@ fn has_arguments(alloc: Global, row: &(&str, &[u64], u8, &str)) -> Result<bool, 
     ends(alloc, &case, status, &[wanted], 0)
 }
 
-/// What the clock tells, and the date of the reply.
+/// The time of the clock, and the date of the reply.
 const DATES: [(u64, &str); 4] = [
     (0, "Thu, 01 Jan 1970 00:00:00 GMT"),
     (253_402_300_799, "Fri, 31 Dec 9999 23:59:59 GMT"),
@@ -82,8 +82,8 @@ const NOT_FOUND: &str = "\
     Content-Length: 20\r\n\r\n\
     {\"error\":\"NotFound\"}";
 
-/// Whether the run ends where this read fails, each of one byte of two requests: those before it
-/// are answered.
+/// Whether the run ends when this read fails, if each read takes one byte of two requests: those
+/// that were read before it are answered.
 fn ends_at_read(alloc: Global, call: usize) -> Result<bool, AllocError> {
     let case = Case {
         in_bytes: true,
@@ -97,7 +97,7 @@ fn ends_at_read(alloc: Global, call: usize) -> Result<bool, AllocError> {
     }
 }
 
-/// Whether these are so many bytes of two such replies.
+/// Whether these are this many bytes of two such replies.
 fn begins_both(bytes: &[u8], count: usize) -> bool {
     let reply = NOT_FOUND.as_bytes();
     bytes.len() == count
@@ -107,8 +107,8 @@ fn begins_both(bytes: &[u8], count: usize) -> bool {
         }
 }
 
-/// Whether the run ends where this write fails, each of one byte of two replies, and no byte is
-/// written twice.
+/// Whether the run ends when this write fails, if each write takes one byte of two replies, and no
+/// byte is written twice.
 fn ends_at_write(alloc: Global, call: usize) -> Result<bool, AllocError> {
     let case = Case {
         write_limit: 1,
@@ -170,7 +170,7 @@ fn ends_inside(alloc: Global, post: &str, cut_at: usize) -> Result<bool, AllocEr
     ends(alloc, &case, 8, &[], 0)
 }
 
-/// Whether the post is kept and acknowledged if the first read takes so many of its bytes.
+/// Whether the post is kept and acknowledged if the first read takes this many of its bytes.
 fn is_kept_in_two(alloc: Global, post: &str, first: usize) -> Result<bool, AllocError> {
     let input = [post];
     let case = Case {

@@ -1,4 +1,4 @@
-//! Real files: the calls of a file as a disk, whom it refuses, and journals over files.
+//! Real files: the calls of a file as a disk, the disks that it refuses, and journals over files.
 
 use crate::rows::expect;
 use fedi_adapters::FileDisk;
@@ -17,12 +17,12 @@ fn is_refused<D: Disk>(disk: &mut D) -> bool {
         && disk.write_at(0, b"") == Err(Failed)
 }
 
-// Whether each call of this disk that does nothing is done, and it has so many bytes.
+// Whether each call of this disk that does nothing succeeds, and it has this many bytes.
 fn has_len<D: Disk>(disk: &mut D, len: u64) -> bool {
     disk.sync().is_ok() && disk.len() == Ok(len) && disk.read_at(0, &mut []).is_ok()
 }
 
-// Whether two writes of this disk are done, of which the second begins inside the first.
+// Whether two writes to this disk succeed, the second of which begins inside the first.
 fn writes<D: Disk>(disk: &mut D) -> bool {
     disk.write_at(0, b"hello").is_ok()
         && disk.write_at(4, b"p me").is_ok()
@@ -80,7 +80,7 @@ fn expect_one_creates<D: Disk + Drop>(first: D, second: &mut D) -> Result<(), Fa
     expect(was_first && is_refused, "two disks of no file")
 }
 
-// Of two disks that found no file one creates it.
+// If two disks found no file, only one of them creates it.
 fn expect_one_creator(rt: &HostRuntime) -> Result<(), Fail> {
     let path = "raced.disk";
     let _ = fs::remove_file(rt, path);
@@ -146,7 +146,7 @@ fn has_made<D: Disk + Drop>(alloc: Global, disk: D) -> bool {
     }
 }
 
-// Opens a journal, which is to have these records, and adds another.
+// Opens a journal, which must have these records, and adds another.
 fn expect_opened<D: Disk + Drop>(
     alloc: Global,
     disk: D,
@@ -163,7 +163,7 @@ fn expect_opened<D: Disk + Drop>(
     }
 }
 
-// What each opening finds, and what is added then.
+// What each opening finds, and what is then added.
 const OPENINGS: [(&str, &[u8]); 3] = [
     ("|one||three", b"four"),
     ("|one||three|four", b"5"),
@@ -187,7 +187,7 @@ fn expect_kept(rt: &HostRuntime) -> Result<(), Fail> {
     Ok(())
 }
 
-// Whether this disk is found to be no store.
+// Whether this disk is found not to be a store.
 fn is_no_store<D: Disk + Drop>(alloc: Global, disk: D) -> bool {
     let opened = Journal::open(alloc, disk);
     matches!(&opened, Err((JournalFault::NotAStore, _)))
@@ -201,7 +201,7 @@ fn refusal<D: Disk + Drop>(alloc: Global, disk: D) -> Option<InitFault> {
     }
 }
 
-// A file of another kind is no store, and stays as it is.
+// A file of another kind is not a store, and stays as it is.
 fn expect_no_store(rt: &HostRuntime) -> Result<(), Fail> {
     let path = "other.journal";
     fs::write(rt, path, "whatever else")?;

@@ -1,4 +1,4 @@
-//! Records of a small history, worked by hand from the format of entries.
+//! Records of a small history, worked out by hand from the format of entries.
 
 /// The server was set up for club.example.
 pub const HOSTED: &[u8] = b"\
@@ -60,7 +60,7 @@ pub const NOTE: &[u8] = b"\
     \0\0\0\0\0\0\0\0\
     \0\0\0\0.\xbc\x98\xa1";
 
-/// A Follow of the first member by the other, which is accepted at once.
+/// A Follow of the first member by the other, accepted at once.
 pub const FOLLOW: &[u8] = b"\
     \x04\
     \0\0\0\x03ben\
@@ -136,7 +136,7 @@ pub const OWN_PEER: &[u8] = b"\
     \0\
     \0\0\0\0.\xbc\x98\xa1";
 
-/// A peer that is reached nowhere.
+/// A peer without an address.
 pub const NO_ADDRESS: &[u8] = b"\
     \x03\
     \0\0\0\x0clake.example\
@@ -184,7 +184,7 @@ pub const LIKED_TOO: &[u8] = b"\
     \0\0\0\0\0\0\0\0\0\0\0\0\0\0\0\0\0\0\0\0\0\0\0\0\0\0\0\0\0\0\
     \0\0\0\0.\xbc\x98\xa1";
 
-/// It delivered what somebody did whose server is another.
+/// It delivered an activity of somebody on another server.
 pub const OF_HILL: &[u8] = b"\
     \x05\
     \0\0\0\x0clake.example\

@@ -1,4 +1,4 @@
-//! Requests as clients write them, and a reply as they read it.
+//! Requests as clients write them, and a reply as clients read it.
 
 use crate::rows::expect;
 use fedi_http::{Arrived, Buffer, read_request, reply_bytes};
@@ -47,7 +47,7 @@ fn push_arrived(text: &mut Vec<u8>, arrived: &Arrived, body: &[u8]) -> Result<bo
     Ok(false)
 }
 
-// Appends the next request, or why there is none, and says whether to go on.
+// Appends the next request, or why there is no next one, and says whether to go on.
 fn push_next(
     alloc: Global,
     source: &mut MemorySource,
@@ -58,7 +58,7 @@ fn push_next(
     push_arrived(text, &arrived, buffer.body())
 }
 
-/// The names of the refusals of a request that is not read whole.
+/// The names of the refusals of a request that is not read completely.
 fn name_of(refusal: Refusal) -> &'static [u8] {
     match refusal {
         Refusal::BadHead => b"BadHead",
@@ -68,7 +68,7 @@ fn name_of(refusal: Refusal) -> &'static [u8] {
     }
 }
 
-// Appends the targets and the bodies of the requests that arrive, and why no further one does.
+// Appends the targets and the bodies of the requests that arrive, and why no more arrive.
 fn push_arrivals(
     alloc: Global,
     source: &mut MemorySource,
@@ -83,8 +83,8 @@ fn push_arrivals(
     Ok(())
 }
 
-/// How the bytes come: the first piece has so many, and the others have this size, or all of the
-/// rest. This read fails.
+/// How the bytes come: the first piece has this many, and the others have this size, or one has all
+/// the rest. This read fails.
 #[derive(Clone, Copy)]
 struct Cutting {
     first: usize,
@@ -109,7 +109,7 @@ fn push_pieces(pieces: &mut Vec<usize>, length: usize, cutting: Cutting) -> Resu
     }
 }
 
-// A source of these bytes, if they come so.
+// A source of these bytes, if they come this way.
 fn source_of(alloc: Global, bytes: &[u8], cutting: Cutting) -> Result<MemorySource, AllocError> {
     let mut pieces = Vec::new(alloc);
     push_pieces(&mut pieces, bytes.len(), cutting)?;
@@ -118,7 +118,7 @@ fn source_of(alloc: Global, bytes: &[u8], cutting: Cutting) -> Result<MemorySour
     Ok(source.cut(pieces).failing(failing))
 }
 
-// What arrives of these bytes, if they come so.
+// What arrives of these bytes, if they come this way.
 fn arrivals_of(alloc: Global, bytes: &[u8], cutting: Cutting) -> Result<Vec<u8>, AllocError> {
     let mut source = source_of(alloc, bytes, cutting)?;
     let mut buffer = Buffer::new(alloc);

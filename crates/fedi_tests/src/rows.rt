@@ -1,4 +1,4 @@
-//! What a row of a table wants.
+//! What a row of a table requires.
 
 use fedi_effects::Seed;
 use std::test::Fail;

@@ -11,8 +11,8 @@ use fedi_outside::{
 use fedi_program::{Connection, OUT_OF_MEMORY, address_of, run_alone};
 use std::alloc::{AllocError, Global};
 
-/// What a run left: its status, what it wrote, the bytes of the disk, how many calls that was
-/// asked, and the requests that were sent to other servers, one after another.
+/// What a run left: its status, what it wrote, the bytes of the disk, how many calls the disk
+/// received, and the requests that were sent to other servers, one after another.
 #[derive(Drop)]
 pub struct Left {
     pub status: u8,
@@ -105,7 +105,7 @@ pub fn are_texts(bytes: &[u8], texts: &[&str]) -> bool {
 }
 
 /// Whether the run ends with this status, writes these texts, and leaves a store of the records
-/// that it began with and so many more. The error is out of memory.
+/// that it began with and this many more. The error is out of memory.
 pub fn ends(
     alloc: Global,
     case: &Case,
@@ -128,7 +128,7 @@ pub fn calls_of_an_opening(alloc: Global, records: &[&[u8]]) -> Result<u64, Allo
     Ok(left.calls)
 }
 
-/// These calls, counted from the first after an opening of so many. The error is out of memory.
+/// These calls, counted from the first after an opening of this many. The error is out of memory.
 pub fn calls_after(alloc: Global, opening: u64, calls: &[u64]) -> Result<Vec<u64>, AllocError> {
     let mut after = Vec::new(alloc);
     for call in calls {

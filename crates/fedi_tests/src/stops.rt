@@ -9,8 +9,7 @@ use fedi_outside::{Call, Keeper, MemoryDisk};
 use std::alloc::{AllocError, Global};
 use std::test::Fail;
 
-// Adds a record, however often the disk fails, but for so many times, and says whether it was
-// added.
+// Adds a record, trying at most this often if the disk fails, and says whether it was added.
 fn add<K: Keeper>(keeper: &mut K, payload: &[u8], tries: usize) -> bool {
     for _ in 0..tries {
         if keeper.reserve(payload.len()).is_ok()
@@ -87,11 +86,12 @@ fn expect_appended(alloc: Global) -> Result<(), Fail> {
     expect_bytes(alloc, &disk, &[b"one", b"", b"three"])
 }
 
-// A file of one record, with something behind its closed gate.
+// A file of one record, with something after its closed gate.
 const ONE: &[u8] = b"FEDIJRN1\x01\0\0\0\0\0\0\0\x03one\0\x01 left of others";
 
-// What an image is found to hold after a crash at this call, if the opening takes so many and the
-// append the next four: what was acknowledged, and all or nothing of the record of the append.
+// What an image is found to hold after a crash at this call, if the opening takes this many calls
+// and the append the next four: what was acknowledged, and all or nothing of the record of the
+// append.
 fn expect_image(alloc: Global, image: &[u8], opening: u64, stop: u64) -> Result<(), Fail> {
     let found = found(alloc, image)?;
     let before = found.as_str() == "|one";

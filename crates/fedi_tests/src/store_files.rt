@@ -17,7 +17,7 @@ pub fn store_of(alloc: Global, records: &[&[u8]]) -> Result<Vec<u8>, AllocError>
     Ok(bytes)
 }
 
-/// A disk with these bytes, at which nothing fails. The error is out of memory.
+/// A disk with these bytes, on which nothing fails. The error is out of memory.
 pub fn disk_of(alloc: Global, bytes: &[u8]) -> Result<MemoryDisk, AllocError> {
     MemoryDisk::new(alloc, bytes.to_vec(alloc)?)
 }
@@ -33,8 +33,8 @@ fn load_all<K: Keeper>(alloc: Global, keeper: &mut K) -> Result<Option<Vec<Vec<u
     Ok(Some(records))
 }
 
-/// The records of the journal with these bytes, or none if they are no journal. The error is out of
-/// memory.
+/// The records of the journal with these bytes, or `None` if they are not a journal. The error is
+/// out of memory.
 pub fn records_of(alloc: Global, bytes: &[u8]) -> Result<Option<Vec<Vec<u8>>>, AllocError> {
     match Journal::open(alloc, disk_of(alloc, bytes)?) {
         Ok(mut journal) => load_all(alloc, &mut journal),
@@ -42,7 +42,7 @@ pub fn records_of(alloc: Global, bytes: &[u8]) -> Result<Option<Vec<Vec<u8>>>, A
     }
 }
 
-/// Whether the journal with these bytes has these records and so many more after them. The error
+/// Whether the journal with these bytes has these records and this many more after them. The error
 /// is out of memory.
 pub fn has_records(
     alloc: Global,

@@ -32,7 +32,7 @@ fn is_left(
 const COUNTS: [(&[&[u8]], u8, &str); 4] = [
     (&MEMBERS, 0, "entries 5 actors 4 activities 0 queue 0\n"),
     (&TOWN, 0, "entries 7 actors 4 activities 2 queue 0\n"),
-    // An entry that may not come there.
+    // An entry that may not occur there.
     (&[HOSTED, HOSTED], 4, "damaged at record 1\n"),
     (&[HOSTED, b""], 4, "damaged at record 1\n"),
 ];
@@ -89,15 +89,15 @@ fn making(bytes: &[u8]) -> Case<'_> {
     }
 }
 
-/// Whether a making that left this told of its disk, and whether the next one ends with this
-/// status.
+/// Whether a making that left this reported the failure of its disk, and whether the next one ends
+/// with this status.
 fn is_made_after(alloc: Global, left: &Left, status: u8) -> Result<bool, AllocError> {
     let printed = if status == 0 { MADE } else { "exists\n" };
     let is_told = left.status == 5 && are_texts(&left.out, &["disk fault\n"]);
     Ok(is_told && is_left(alloc, &making(&left.disk), status, printed, CLUB)?)
 }
 
-/// The same of a making whose disk fails at this call, and from `stop` on.
+/// The same for a making whose disk fails at this call, and from `stop` on.
 fn is_made_again(alloc: Global, call: u64, stop: u64, status: u8) -> Result<bool, AllocError> {
     let failing = Case {
         failing_calls: &[call],
@@ -186,7 +186,7 @@ const FAULT: &str = "\
     {\"error\":\"KeeperFault\"}";
 
 /// Which calls of the disk fail, counted from the first after the opening, the replies to two
-/// posts, and how many records the disk has more. An append writes a record, syncs, opens its gate
+/// posts, and how many more records the disk has. An append writes a record, syncs, opens its gate
 /// and syncs again, and a settling closes a gate and syncs.
 const DISKS: [(&[u64], &[&str], usize); 13] = [
     (&[], &[FIRST, SECOND], 2),
@@ -229,15 +229,15 @@ fn the_disk_fails_at_each_call_of_two_posts(rt: HostRuntime) -> Result<(), Fail>
     Ok(())
 }
 
-/// Where the gate behind the example town without posts is.
+/// The offset of the gate after the example town without posts.
 const GATE: usize = 275;
 
 const WITHOUT: &str = "entries 5 actors 4 activities 0 queue 0\n";
 
 const WITH: &str = "entries 6 actors 4 activities 1 queue 0\n";
 
-/// From which call on the disk of a post stops, counted from the first of its append, the byte that
-/// a crash leaves at the gate, if it is another than is read, and what is counted then.
+/// The call from which on the disk of a post stops, counted from the first of its append; the byte
+/// that a crash leaves at the gate, if it differs from what is read; and what is counted then.
 const STOPS: [(u64, Option<u8>, &str); 7] = [
     (0, None, WITHOUT),
     (1, None, WITHOUT),

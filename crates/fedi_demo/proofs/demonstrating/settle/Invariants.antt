@@ -1,8 +1,8 @@
 use Rattle.std.proofs.Common.{◌≡◌, ◌≤◌, ◌-◌, ◌∷◌}
 use Rattle.std.specs.Prelude.{IsTrue, is_some}
-use Rattle.fedi_program.specs.Demonstrating.{members, set_up}
+use Rattle.fedi_demo.specs.Demonstrating.{members, set_up}
 use Rattle.fedi_town.specs.Histories.{town}
-use Rattle.fedi_program.proofs.demonstrating.settle.Given as goal
+use Rattle.fedi_demo.proofs.demonstrating.settle.Given as goal
 
 abbrev pub invariant-members : goal.invariant-members
 invariant-members g l = record {

@@ -1,6 +1,6 @@
-use Rattle.fedi_program.proofs.DemoLemmas.{calm_store, closed_store, founding_some}
-use Rattle.fedi_program.specs.Demonstrating.{founding}
-use Rattle.fedi_program.proofs.demonstrating.found.Goals as goal
+use Rattle.fedi_demo.proofs.VisitLemmas.{calm_store, closed_store, founding_some}
+use Rattle.fedi_demo.specs.Demonstrating.{founding}
+use Rattle.fedi_demo.proofs.demonstrating.found.Goals as goal
 
 pub returns : goal.returns
 returns c = calm_store c.calm.result founding c.close_store.result c.calm.ensures

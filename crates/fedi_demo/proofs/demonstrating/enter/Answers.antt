@@ -1,7 +1,7 @@
 use Rattle.std.proofs.Common.{sym, ◌∙◌}
 use Rattle.fedi_logged.proofs.Hosted.{hosted}
-use Rattle.fedi_program.proofs.DemoLemmas.{one_more_some}
-use Rattle.fedi_program.proofs.demonstrating.enter.Goals as goal
+use Rattle.fedi_demo.proofs.VisitLemmas.{one_more_some}
+use Rattle.fedi_demo.proofs.demonstrating.enter.Goals as goal
 
 pub returns-in-Ok-clause-hosted : goal.returns-in-Ok-clause-hosted
 returns-in-Ok-clause-hosted g c =

@@ -1,7 +1,7 @@
-//! Laws of the program, each the contract of a function that does nothing.
+//! The law of demonstrations: the contract of a function that does nothing.
 
 ghost use Rattle.std.specs.Prelude.{◌≡◌, ℕ, List};
-ghost use Rattle.fedi_program.specs.Demonstrating.{IsDemo};
+ghost use Rattle.fedi_demo.specs.Demonstrating.{IsDemo};
 
 /// A number has at most one demonstration: what is printed for it is determined.
 pub fn demonstrations_are_determined()

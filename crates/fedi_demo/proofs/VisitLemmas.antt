@@ -1,6 +1,6 @@
 -- A connection of a demonstration: what was written, and the store that is left.
 use Rattle.std.proofs.Common.{◌≡◌, ◌+◌, ℕ, suc, List, [], ◌∷◌, ◌++◌, length, All, Option, None, Some, refl, sym, ap, subst, ◌∙◌, append_assoc, append-nil, arith}
-use Rattle.std.specs.Prelude.{◌≢◌, IfOk, IfSome, Result, Ok, Err, codes, drop}
+use Rattle.std.specs.Prelude.{◌≢◌, IfOk, IfSome, IsTrue, Result, Ok, Err, codes, drop}
 use Rattle.std.specs.Prelude.{option_to_list}
 use Rattle.std.specs.Io.KnownBytes.{Appends}
 use Rattle.std.proofs.Math.Seq.{drop-append_seam}
@@ -23,15 +23,15 @@ use Rattle.fedi_startup.proofs.Stored.{leaves_stores}
 use Rattle.fedi_startup.specs.Stores.{IsClosed, IsOpened, records_of}
 use Rattle.fedi_startup.specs.Stores as stores
 use Rattle.fedi_startup.specs.Surviving.{growth, opened_base, room}
+use Rattle.fedi_logged.proofs.Ended.{closed_talks, ended_talks}
 use Rattle.fedi_logged.proofs.Talks.{failures_marked, no_gaps, own_of_conversation}
-use Rattle.fedi_logged.specs.Conversations.{AreCalm, Exchange, IsCalm, Progress, beginning, failures, own_items, progress}
-use Rattle.fedi_logged.specs.Endings.{Scene, Serves, Talks}
+use Rattle.fedi_logged.specs.Conversations.{AreCalm, Exchange, IsCalm, Progress, Setting, beginning, failures, own_items, progress}
+use Rattle.fedi_logged.specs.Endings.{Output, Scene, Serves, Talks}
 use Rattle.fedi_logged.specs.Turning.{setting_by}
 use Rattle.fedi_logged.specs.declared.sessions.SessionEnd.{SessionEnd}
-use Rattle.fedi_program.specs.Demonstrating.{HasStore, IsVisit, far_peer, founding, member, members, moment}
-use Rattle.fedi_program.specs.Demonstrating.{set_up, setting}
-use Rattle.fedi_program.specs.Endings.{RunsTo, status_of}
-use Rattle.fedi_program.proofs.RunLemmas.{session_talks}
+use Rattle.fedi_logged.specs.declared.sessions.SessionEnd.TheVariants.{End, CutShort, Closed, ReadFault, WriteFault, Memory}
+use Rattle.fedi_demo.specs.Demonstrating.{HasStore, IsVisit, far_peer, founding, is_whole, member, members, moment}
+use Rattle.fedi_demo.specs.Demonstrating.{set_up, setting}
 
 -- ---- a log without marks
 
@@ -141,17 +141,29 @@ written_is before now text written first last adds =
     subst (λ (b : Option (List ℕ)). Appends b (Some text) written) first
     (subst (λ (n : Option (List ℕ)). Appends before n written) last adds)
 
+-- a session that ended this way has held the whole conversation over the input
+whole_talks : (w : Setting) (seen : Log) (first : Output) (now : Scene) (log : Log) (ending : SessionEnd)
+    (known : Option (List ℕ)) → IsTrue (is_whole ending) → IfSome known (Serves w seen first now log ending)
+    → IfSome known (Talks w seen first now log)
+whole_talks w seen first now log End known whole serves = ended_talks w seen first now log known serves
+whole_talks w seen first now log Closed known whole serves = closed_talks w seen first now log known serves
+whole_talks w seen first now log CutShort known whole serves = absurd (cc whole)
+whole_talks w seen first now log ReadFault known whole serves = absurd (cc whole)
+whole_talks w seen first now log WriteFault known whole serves = absurd (cc whole)
+whole_talks w seen first now log Memory known whole serves = absurd (cc whole)
+
 -- All requests were answered, by a machine that was opened on the store of a disk and then closed,
 -- and the disk did not fail.
 pub visited : (history : List Entry) (input text : List ℕ) (disk left : MemoryDiskState)
-    (crashes : DiskCrashes) (opened closed : State) (log : Log) (first now : Scene) (status : ℕ)
+    (crashes : DiskCrashes) (opened closed : State) (log : Log) (first now : Scene) (ending : SessionEnd)
     → HasStore history disk → IsOpened (disk_shown disk) opened
     → HoldsSince (opened_base opened) None (given opened.history) closed log
-    → status ≡ 0 → RunsTo (setting opened) opened log first now status
+    → IsTrue (is_whole ending)
+    → IfSome first.input (Serves (setting opened) (given opened.history) first.output now log ending)
     → IsClosed (disk_shown left) crashes closed → left.faults ≡ 0
     → first.input ≡ Some input → first.output.sent ≡ Some [] → now.output.sent ≡ Some text
     → IsVisit history input closed.history text × HasStore closed.history left
-visited history input text disk left crashes opened closed log first now status store opens holds done runs closes calm told empty sent = (
+visited history input text disk left crashes opened closed log first now ending store opens holds done serves closes calm told empty sent = (
   record {
     opened = opened;
     exchanges = talks.exchanges;
@@ -169,7 +181,7 @@ visited history input text disk left crashes opened closed log first now status 
   where
     talks : Talks (setting opened) (given opened.history) first.output now log input
     talks = subst (λ (i : Option (List ℕ)). IfSome i (Talks (setting opened) (given opened.history) first.output now log)) told
-        (session_talks (setting opened) opened log first now status done runs)
+        (whole_talks (setting opened) (given opened.history) first.output now log ending first.input done serves)
 
     start : Progress
     start = beginning input (given opened.history)
@@ -248,15 +260,15 @@ pub session_visited : (history : List Entry) (input text : List ℕ) (disk left 
     (crashes : DiskCrashes) (opened closed : State) (log : Log) (first now : Scene)
     (ending : SessionEnd) (at : ℕ) → HasStore history disk → IsOpened (disk_shown disk) opened
     → HoldsSince (opened_base opened) None (given opened.history) closed log
-    → status_of ending ≡ 0 → at ≡ moment
+    → IsTrue (is_whole ending) → at ≡ moment
     → IfSome first.input (Serves (setting_by growth room (Some at) None opened)
     (given opened.history) first.output now log ending)
     → IsClosed (disk_shown left) crashes closed → left.faults ≡ 0
     → first.input ≡ Some input → first.output.sent ≡ Some [] → now.output.sent ≡ Some text
     → IsVisit history input closed.history text × HasStore closed.history left
 session_visited history input text disk left crashes opened closed log first now ending at store opens holds done same serves closes calm told empty sent =
-    visited history input text disk left crashes opened closed log first now (status_of ending) store opens holds done
-    (subst (λ (m : ℕ). RunsTo (setting_by growth room (Some m) None opened) opened log first now (status_of ending)) same (ending, refl, serves))
+    visited history input text disk left crashes opened closed log first now ending store opens holds done
+    (subst (λ (m : ℕ). IfSome first.input (Serves (setting_by growth room (Some m) None opened) (given opened.history) first.output now log ending)) same serves)
     closes calm told empty sent
 
 -- ---- entries

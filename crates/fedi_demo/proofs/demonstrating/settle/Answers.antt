@@ -1,7 +1,7 @@
 use Rattle.std.proofs.Common.{arith, ◌∙◌}
 use Rattle.fedi_town.specs.Histories.{town}
-use Rattle.fedi_program.proofs.DemoLemmas.{all_founded, one_more_member}
-use Rattle.fedi_program.proofs.demonstrating.settle.Goals as goal
+use Rattle.fedi_demo.proofs.VisitLemmas.{all_founded, one_more_member}
+use Rattle.fedi_demo.proofs.demonstrating.settle.Goals as goal
 
 pub enter-requires : goal.enter-requires
 enter-requires g c =

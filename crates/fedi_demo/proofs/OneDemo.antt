@@ -45,7 +45,7 @@ use Rattle.fedi_logged.specs.Conversations.{
   progress,
 }
 use Rattle.fedi_town.specs.declared.refusal.Refusal.{Refusal}
-use Rattle.fedi_program.specs.Demonstrating.{IsDemo, IsVisit, founding, held_of, moment, setting}
+use Rattle.fedi_demo.specs.Demonstrating.{IsDemo, IsVisit, founding, held_of, moment, setting}
 
 -- ---- two machines that were opened on one store: a conversation with one is one with the other
 

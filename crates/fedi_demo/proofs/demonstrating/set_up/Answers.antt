@@ -5,8 +5,8 @@ use Rattle.fedi_objects.specs.declared.entry.Entry.TheVariants.{Hosted}
 use Rattle.fedi_outside.specs.MemoryDisks.{contents_of, disk_crashes, disk_shown}
 use Rattle.fedi_startup.proofs.OneAnswer.{one_history}
 use Rattle.fedi_startup.specs.Making.{IsMade}
-use Rattle.fedi_program.proofs.DemoLemmas.{set_up_is}
-use Rattle.fedi_program.proofs.demonstrating.set_up.Goals as goal
+use Rattle.fedi_demo.proofs.VisitLemmas.{set_up_is}
+use Rattle.fedi_demo.proofs.demonstrating.set_up.Goals as goal
 
 pub returns-in-Ok-open_store-clause-set_up : goal.returns-in-Ok-open_store-clause-set_up
 returns-in-Ok-open_store-clause-set_up c =

@@ -3,9 +3,9 @@ use Rattle.std.specs.Prelude.{Some}
 use Rattle.fedi_logged.proofs.Hosted.{hosted}
 use Rattle.fedi_outside.specs.MemoryDisks.{MemoryDiskState}
 use Rattle.fedi_logged.specs.Endings.{Scene}
-use Rattle.fedi_program.specs.Demonstrating.{HasStore}
-use Rattle.fedi_program.proofs.DemoLemmas.{session_visited}
-use Rattle.fedi_program.proofs.demonstrating.visit.Goals as goal
+use Rattle.fedi_demo.specs.Demonstrating.{HasStore}
+use Rattle.fedi_demo.proofs.VisitLemmas.{session_visited}
+use Rattle.fedi_demo.proofs.demonstrating.visit.Goals as goal
 
 pub serve_connection-end-requires-clause-hosted : goal.serve_connection-end-requires-clause-hosted
 serve_connection-end-requires-clause-hosted c =

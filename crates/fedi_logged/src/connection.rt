@@ -9,11 +9,13 @@ ghost use Rattle.fedi_logged.specs.Turning.{setting_by};
 ghost use Rattle.fedi_town.specs.Histories.{town};
 ghost use Rattle.fedi_town.specs.Legal.{IsLegal};
 
+use crate::alone::serve_alone;
+use crate::channels::Joined;
+use crate::sessions::SessionEnd;
 use fedi_core::Core;
-use fedi_index::IndexedShelf;
-use fedi_logged::{Joined, SessionEnd, serve_alone};
 use fedi_outside::{Clock, Keeper, Sink, Source};
 use fedi_routes::Routes;
+use fedi_visible::Shelf;
 use std::alloc::Global;
 
 /// A connection: where its requests come from, where its replies go, and the clock that dates them.
@@ -26,12 +28,12 @@ pub struct Connection<S, O, C> {
 
 /// Serves the connection with a machine that is not shared, and returns the machine with how the
 /// session ended.
-pub fn serve_connection<S: Source, O: Sink, P: Keeper, C: Clock>(
+pub fn serve_connection<S: Source, O: Sink, V: Shelf + Drop, P: Keeper, C: Clock>(
     alloc: Global,
-    core: Core<IndexedShelf, P>,
+    core: Core<V, P>,
     routes: Routes,
     connection: &mut Connection<S, O, C>,
-) -> (SessionEnd, Core<IndexedShelf, P>)
+) -> (SessionEnd, Core<V, P>)
     requires unclaimed { core.rows ≡ rows_of (town core.history) }
     requires hosted { IsTrue (is_some (town core.history).host) }
     requires legal { IsLegal core.history }
