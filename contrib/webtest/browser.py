@@ -40,7 +40,7 @@ class Browser:
         rules = ", ".join(f"MAP {host}:443 127.0.0.1:{port}" for host, port in hosts.items())
 
         def pipes():
-            # The protocol's are 3 and 4. The copies keep one from taking the place of the other.
+            # The protocol's are 3 and 4. The copies keep one from replacing the other.
             one, other = os.dup(told), os.dup(heard)
             os.dup2(one, 3)
             os.dup2(other, 4)

@@ -21,7 +21,7 @@ def signed_in(stage, check):
 
 
 UNSAFE = ("safe.js", "build(parse(text), place, 0, local);", "place.innerHTML = policy.createHTML(text);")
-# What is changed, as file, text and new text; whether the policy stays; and the steps of which one has to fail.
+# What is changed, as file, text and new text; whether the policy stays; and the steps, one of which has to fail.
 CHANGES = {
     "links of any scheme": ([("safe.js", "['https:', 'http:', 'mailto:'].includes(url.protocol);", "true;")], True, [hostile.contents]),
     "HTML of others as it is": ([UNSAFE], True, [without_refresh, hostile.contents]),

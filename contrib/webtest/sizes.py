@@ -9,7 +9,7 @@ from stores import ACCEPT, ANNOUNCE, FOLLOW, LIKE, PUBLIC, hosted, id_of, local,
 from town import Town
 
 MEMBERS, NOTES, ACTIVITIES, LIMIT = 12, 2300, 5000, 12
-# Boosts in a row, each of which shows a note that has to be read.
+# Boosts in a row, each showing a note that has to be read.
 BOOSTS = 30
 BEGUN = 1_700_000_000
 KEY = "5a" * 32

@@ -1,12 +1,22 @@
 //! The program `fedi`, an ActivityPub server for a club or a town.
 #![tactic(auto)]
 
-use fedi_adapters::{FileDisk, Listening, Reading, SystemClock, SystemEntropy, Writing, benches};
+ghost use Rattle.std.specs.Prelude.{◌≡◌, ◌+◌, All, IfOk, None, false, vec_len};
+
+use fedi_adapters::{
+    FileDisk, Health, Listening, LockedFile, Reading, SystemClock, SystemEntropy, TcpDoor, TcpLink,
+    Writing, benches,
+};
+use fedi_outside::{Bench, Door};
 use fedi_program::{Connection, OUT_OF_MEMORY, Seed, address_of, run, store_of};
-use std::alloc::AllocError;
+use std::alloc::{AllocError, Global};
+use std::fs::{File, Files};
 use std::io::ErrorKind;
+use std::net::{Net, TcpListener, TcpStream};
 use std::process::ExitCode;
 use std::random::RandomSource;
+use std::sync::Wait;
+use std::time::Clock;
 use std::{env, io};
 
 /// The arguments after the program's name, or `None` if one of them is not valid text. The error is
@@ -42,6 +52,34 @@ const SERVING: u16 = 64;
 /// are occupied. While nothing is due, each is a thread that looks once a second.
 const DELIVERING: u16 = 16;
 
+/// The file of the store as a disk, and the benches. The doors that deliver look at the health of
+/// the disk. The error is out of memory.
+// One function makes both, so that their references to the health have one lifetime.
+fn outside<
+    'a,
+    R: Files<File = File> + Net<Listener = TcpListener, Stream = TcpStream> + Clock + Wait + Sync,
+>(
+    rt: &'a R,
+    alloc: Global,
+    path: &'a str,
+    listening: &'a Listening<'a, R>,
+    health: &'a Health,
+) -> Result<
+    (
+        FileDisk<LockedFile<'a, R>>,
+        Vec<Bench<TcpDoor<'a, R>, TcpLink<'a, R>>>,
+    ),
+    AllocError,
+>
+    ensures count { IfOk result (λ made. vec_len made.1 ≡ SERVING + DELIVERING) }
+    ensures waiting { IfOk result (λ made.
+        All (λ bench. (⟦<TcpDoor<'a, R> as Door>⟧.out bench.door ≡ None)
+        × (⟦<TcpDoor<'a, R> as Door>⟧.idle bench.door ≡ false)) made.1.items) }
+{
+    let benches = benches(rt, alloc, listening, health, SERVING, DELIVERING)?;
+    Ok((FileDisk::watched(rt, path, health), benches))
+}
+
 fn main(rt: HostRuntime) -> ExitCode {
     let Ok(arguments) = arguments(&rt) else {
         return ExitCode::from(OUT_OF_MEMORY);
@@ -52,11 +90,13 @@ fn main(rt: HostRuntime) -> ExitCode {
         clock: SystemClock::new(&rt),
     };
     // Arguments that name no store never ask the disk, and so open nothing.
-    let disk = FileDisk::new(&rt, store_of(&arguments).unwrap_or_default());
+    let health = Health::new();
+    let path = store_of(&arguments).unwrap_or_default();
     // In the same way, only `serve` asks its doors, and the address is bound when one is first
     // asked.
     let listening = Listening::new(&rt, address_of(&arguments).unwrap_or_default());
-    let Ok(benches) = benches(&rt, rt.alloc(), &listening, SERVING, DELIVERING) else {
+    let alloc = rt.alloc();
+    let Ok((disk, benches)) = outside(&rt, alloc, path, &listening, &health) else {
         return ExitCode::from(OUT_OF_MEMORY);
     };
     let mut entropy = SystemEntropy::new(&rt);

@@ -1,6 +1,7 @@
 //! A file as a disk.
 ghost use Rattle.std.specs.Prelude.{◌≡◌, None};
 
+use crate::health::Health;
 use crate::locked_file::LockedFile;
 use crate::raw_file::RawFile;
 use fedi_outside::{Disk, Failed};
@@ -33,6 +34,14 @@ impl<'a, R: Files<File = File>> FileDisk<LockedFile<'a, R>> {
         ensures size { result.size ≡ 0 }
     {
         FileDisk::over(LockedFile::new(rt, path))
+    }
+
+    /// The same, and whether the last write or sync of the file failed is noted there.
+    pub fn watched(rt: &'a R, path: &'a str, health: &'a Health) -> Self
+        ensures faults { result.file.faults ≡ 0 }
+        ensures size { result.size ≡ 0 }
+    {
+        FileDisk::over(LockedFile::new(rt, path).watched(health))
     }
 }
 

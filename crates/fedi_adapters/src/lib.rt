@@ -7,6 +7,7 @@
 #![tactic(auto)]
 
 mod file_disk;
+mod health;
 mod listeners;
 mod locked_file;
 mod raw_file;
@@ -17,6 +18,7 @@ mod tcp_lines;
 mod tcp_links;
 
 pub use file_disk::FileDisk;
+pub use health::Health;
 pub use listeners::Listening;
 pub use locked_file::LockedFile;
 pub use raw_file::RawFile;

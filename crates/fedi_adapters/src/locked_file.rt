@@ -2,6 +2,7 @@
 ghost use Rattle.std.specs.Prelude.{◌≡◌, ◌+◌, ◌^◌, ◌<◌, length, is_ok, OnOk};
 ghost use Rattle.fedi_outside.specs.Causes.{HasCause};
 
+use crate::health::Health;
 use crate::raw_file::RawFile;
 use fedi_outside::Failed;
 use std::fs::{File, Files, OpenOptions};
@@ -40,6 +41,8 @@ pub struct LockedFile<'a, R: Files<File = File>> {
     path: &'a str,
     found: Found,
     entry: Entry,
+    // Where it is noted whether the last write or sync failed.
+    health: Option<&'a Health>,
     faults: u64,
 }
 
@@ -53,8 +56,17 @@ impl<'a, R: Files<File = File>> LockedFile<'a, R> {
             path,
             found: Found::Unknown,
             entry: Entry::Found,
+            health: None,
             faults: 0,
         }
+    }
+
+    /// This file, which notes there whether the last write or sync failed.
+    pub fn watched(mut self, health: &'a Health) -> Self
+        ensures { result.faults ≡ self.entry.faults }
+    {
+        self.health = Some(health);
+        self
     }
 
     /// This file, which was opened at this path, with no fault so far. It may be of any kind, and
@@ -67,6 +79,7 @@ impl<'a, R: Files<File = File>> LockedFile<'a, R> {
             path,
             found: Found::Open(file),
             entry: Entry::Found,
+            health: None,
             faults: 0,
         }
     }
@@ -156,6 +169,17 @@ impl<'a, R: Files<File = File>> LockedFile<'a, R> {
         Ok(())
     }
 
+    // Notes whether a call that makes the file hold something failed.
+    fn noted(&mut self, done: io::Result<()>) -> Result<(), Failed>
+        ensures answer { is_ok result ≡ is_ok done }
+        ensures cause { HasCause self.old.faults self.new.faults result }
+    {
+        if let Some(health) = self.health {
+            health.note(done.is_err());
+        }
+        self.counted(done)
+    }
+
     // Counts the fault of a failed call.
     fn counted<T: Drop>(&mut self, done: io::Result<T>) -> Result<T, Failed>
         ensures answer { is_ok result ≡ is_ok done }
@@ -186,14 +210,14 @@ impl<R: Files<File = File>> RawFile for LockedFile<'_, R> {
 
     fn write_at(&mut self, at: u64, from: &[u8]) -> Result<(), Failed> {
         let written = self.write(at, from);
-        self.counted(written)
+        self.noted(written)
     }
 
     /// Makes everything that was written durable. The first call that succeeds makes the entry in
     /// the folder durable too.
     fn sync(&mut self) -> Result<(), Failed> {
         let synced = self.sync_all();
-        self.counted(synced)
+        self.noted(synced)
     }
 }
 

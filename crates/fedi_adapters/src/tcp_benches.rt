@@ -1,6 +1,7 @@
 //! Benches with doors on a listener, each with a link.
 ghost use Rattle.std.specs.Prelude.{◌≡◌, ◌+◌, All, IfOk, None, false, vec_len};
 
+use crate::health::Health;
 use crate::listeners::Listening;
 use crate::tcp_doors::{Role, TcpDoor};
 use crate::tcp_links::TcpLink;
@@ -11,11 +12,13 @@ use std::sync::Wait;
 use std::time::Clock;
 
 /// This many benches that serve, and then this many that deliver. Each has a door on this listener,
-/// which was not asked for anything yet, and its own link. The error is out of memory.
+/// which was not asked for anything yet, and its own link. Those that deliver look at the health of
+/// the disk. The error is out of memory.
 pub fn benches<'a, R: Net<Listener = TcpListener, Stream = TcpStream> + Clock + Wait + Sync>(
     rt: &'a R,
     alloc: Global,
     listening: &'a Listening<'a, R>,
+    health: &'a Health,
     serving: u16,
     delivering: u16,
 ) -> Result<Vec<Bench<TcpDoor<'a, R>, TcpLink<'a, R>>>, AllocError>
@@ -33,7 +36,7 @@ pub fn benches<'a, R: Net<Listener = TcpListener, Stream = TcpStream> + Clock + 
             Role::Delivers
         };
         benches.push(Bench {
-            door: TcpDoor::new(rt, listening, role),
+            door: TcpDoor::new(rt, listening, health, role),
             link: TcpLink::new(rt),
         })?;
     }

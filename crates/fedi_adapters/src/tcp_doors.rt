@@ -2,6 +2,7 @@
 ghost use Rattle.std.specs.Prelude.{◌≡◌, IfSome, None, false};
 ghost use Rattle.fedi_adapters.specs.Untold.{untold_if};
 
+use crate::health::Health;
 use crate::listeners::Listening;
 use crate::tcp_lines::TcpLine;
 use fedi_outside::{Door, Rest, Turn};
@@ -13,6 +14,10 @@ use std::time::{Clock, Duration};
 /// How many milliseconds a door that delivers sleeps after nothing was due.
 const PAUSE: u64 = 1_000;
 
+/// How many milliseconds it sleeps while the disk fails. What came of a delivery is not kept then,
+/// so that the same one is due again at once, and its server would get it as fast as it answers.
+const FAILING_PAUSE: u64 = 10_000;
+
 /// What a door is for. A delivery may take seconds, in which its worker does nothing else. So no
 /// worker both serves and delivers.
 #[derive(Clone, Copy, Debug, PartialEq, Eq)]
@@ -20,7 +25,7 @@ pub enum Role {
     /// It gives connections, and is never idle: it waits until one comes.
     Serves,
     /// It gives no connection, and is always idle: at once after a delivery was tried, since there
-    /// may be more, and otherwise after a second.
+    /// may be more, and otherwise after a second. While the disk fails, after ten seconds.
     Delivers,
 }
 
@@ -30,6 +35,7 @@ pub enum Role {
 pub struct TcpDoor<'a, R: Net<Listener = TcpListener, Stream = TcpStream>> {
     rt: &'a R,
     listening: &'a Listening<'a, R>,
+    health: &'a Health,
     role: Role,
     // Whether a line is out, and whether a rest is to be reported.
     is_out: bool,
@@ -40,8 +46,9 @@ pub struct TcpDoor<'a, R: Net<Listener = TcpListener, Stream = TcpStream>> {
 }
 
 impl<'a, R: Net<Listener = TcpListener, Stream = TcpStream>> TcpDoor<'a, R> {
-    /// A door of this role on this listener, which has given no line yet.
-    pub fn new(rt: &'a R, listening: &'a Listening<'a, R>, role: Role) -> Self
+    /// A door of this role on this listener, which has given no line yet. The health is that of the
+    /// disk on which is kept what comes of deliveries.
+    pub fn new(rt: &'a R, listening: &'a Listening<'a, R>, health: &'a Health, role: Role) -> Self
         ensures out { result.is_out ≡ false }
         ensures idle { result.is_idle ≡ false }
         ensures faults { result.faults ≡ 0 }
@@ -49,6 +56,7 @@ impl<'a, R: Net<Listener = TcpListener, Stream = TcpStream>> TcpDoor<'a, R> {
         TcpDoor {
             rt,
             listening,
+            health,
             role,
             is_out: false,
             is_idle: false,
@@ -74,12 +82,15 @@ impl<'a, R: Net<Listener = TcpListener, Stream = TcpStream> + Clock + Wait> TcpD
         unreachable!()
     }
 
-    // Sleeps if nothing was due before. Returns whether the address is bound.
+    // Sleeps if nothing was due before, or while the disk fails. Returns whether the address is
+    // bound.
     fn rest(&self) -> bool {
         if !self.listening.is_bound() {
             return false;
         }
-        if self.pauses {
+        if self.health.is_failing() {
+            thread::sleep(self.rt, Duration::from_millis(FAILING_PAUSE));
+        } else if self.pauses {
             thread::sleep(self.rt, Duration::from_millis(PAUSE));
         }
         true
