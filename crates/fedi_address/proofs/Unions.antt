@@ -17,17 +17,17 @@ add_known : (kept : List (List ℕ)) (text : List ℕ) → is_among text kept �
 add_known kept text h = rw h refl
 
 -- a text is among itself alone
-among_alone : (text : List ℕ) → is_among text (text ∷ []) ≡ true
+pub among_alone : (text : List ℕ) → is_among text (text ∷ []) ≡ true
 unfolding is_among
 among_alone text = let same : bytes_eq text text ≡ true = (bytes_eq-Decides text text).1 refl in rw same refl
 
 -- a text is there after it was added, and the earlier texts stay
-among_added : (kept : List (List ℕ)) (text other : List ℕ) → is_among text kept ≡ true → is_among text (add_new kept other) ≡ true
+pub among_added : (kept : List (List ℕ)) (text other : List ℕ) → is_among text kept ≡ true → is_among text (add_new kept other) ≡ true
 among_added kept text other h =
     elim (is_among other kept) as (λ b. is_among text (cond b kept (kept ++ other ∷ [])) ≡ true)
     [ true ↦ h | false ↦ is_among-append text kept (other ∷ []) ∙ rw h refl ]
 
-now_among : (kept : List (List ℕ)) (text : List ℕ) → is_among text (add_new kept text) ≡ true
+pub now_among : (kept : List (List ℕ)) (text : List ℕ) → is_among text (add_new kept text) ≡ true
 now_among kept text =
     elim (is_among text kept) as (λ b. is_among text kept ≡ b → is_among text (cond b kept (kept ++ text ∷ [])) ≡ true) [
       | true ↦ λ h. h

@@ -1,10 +1,9 @@
 -- A claim is of one waiting delivery, and an attempt of it may come next.
-use Rattle.std.proofs.Common.{inl, inr, ◌⊎◌, ◌≡◌, ◌<◌, ◌≤◌, ℕ, zero, suc, ◌+◌, arith, Bool, true, false, List, [], ◌∷◌, ◌++◌, length, Option, Some, None, refl, sym, ap, subst, ◌∙◌, append_assoc, eq-eqb}
-use Rattle.std.specs.Prelude.{◌&&◌, ◌||◌, not, IfSome, IsTrue, filter, is_some, map, nat_eq, nat_le, option_and_then, option_map, slice_get, if◌then◌else◌}
+use Rattle.std.proofs.Common.{◌≡◌, ◌<◌, ◌≤◌, ℕ, zero, suc, ◌+◌, arith, Bool, true, false, List, [], ◌∷◌, length, Option, Some, None, refl, sym, ap, subst, ◌∙◌, eq-eqb}
+use Rattle.std.specs.Prelude.{◌&&◌, ◌||◌, not, IfSome, IsTrue, filter, is_some, map, nat_le, option_map, slice_get, if◌then◌else◌}
 use Rattle.std.specs.List.{find, list_all, list_any}
-use Rattle.std.specs.Str.{bytes_eq}
-use Rattle.std.proofs.lemmas.Bool.{and_parts, eqb-true, false_from_ne_true, leb-true, not-true, or_cases, or_parts, or_right}
-use Rattle.std.proofs.lemmas.List.Folds.{list_all-append, list_any-append}
+use Rattle.std.proofs.lemmas.Bool.{and_parts, false_from_ne_true, leb-true, not-true, or_parts}
+use Rattle.std.proofs.lemmas.List.Folds.{list_all-append}
 use Rattle.fedi_address.specs.Iris.{host_of}
 use Rattle.fedi_delivery.specs.Deliveries.{peer_for}
 use Rattle.fedi_entry.specs.Fields.{MayCome}
@@ -20,10 +19,9 @@ use Rattle.fedi_queue.proofs.Addressed.{town_known}
 use Rattle.fedi_queue.proofs.Held.{rows_stay}
 use Rattle.fedi_queue.proofs.Queued.{one_row, rows_are_due}
 use Rattle.fedi_queue.proofs.RowsOf.{rows_unclaimed}
-use Rattle.fedi_register.specs.Marks.{is_there}
-use Rattle.fedi_register.proofs.Chains.{got_at, longer}
+use Rattle.fedi_queue.proofs.Released.{once_released, got_released, of_released}
+use Rattle.fedi_queue.proofs.ClaimedRows.{places_of, AreRowsOf, named_of, claimed_at, at_place, has_id, ids_of}
 use Rattle.fedi_town.proofs.IdsTown.{HasIds}
-use Rattle.fedi_town.proofs.Texts.{bytes_eq-same}
 use Rattle.fedi_town.specs.declared.act.Act.{Act}
 use Rattle.fedi_town.specs.Collections.{text_of}
 use Rattle.fedi_town.specs.Histories.{town}
@@ -31,134 +29,13 @@ use Rattle.fedi_town.specs.Legal.{IsLegal}
 use Rattle.fedi_town.specs.Lists.{PassesOnce}
 use Rattle.fedi_town.specs.Queues.{Progress, is_at_peer, is_due, progress_of, sends}
 use Rattle.fedi_town.specs.Queues.{Due, Ended}
-use Rattle.fedi_town.specs.Relations.{has_activity_id}
 use Rattle.fedi_town.specs.Towns.{Town, has_host}
+use Rattle.fedi_town.proofs.Lists.{any_got, got_any, all_got}
 use Rattle.fedi_core.specs.Delivering.{IsClaimOf, attempt_of, claimed_id, claimed_recipient, claimed_row, claims_in}
 use Rattle.fedi_core.specs.Keeping.{MayAdd}
 use Rattle.fedi_core.specs.Machines.{KeepsClaims}
 
--- ---- each row has a position of its own
-
-any-row : (a p : ℕ) (b : Bool) (n k : ℕ) (r : List ℕ) (g : Progress) → list_any (is_at a p) (row_where b n k r g) ≡ true → (n ≡ a) × (k ≡ p)
-unfolding is_at
-any-row a p false n k r g any = absurd cc
-any-row a p true n k r (Ended j) any = absurd cc
-any-row a p true n k r (Due j from) any = by (or_cases (nat_eq n a && nat_eq k p) false any)
-  where
-    by : ((nat_eq n a && nat_eq k p) ≡ true) ⊎ (false ≡ true) → (n ≡ a) × (k ≡ p)
-    by (inl at) = let parts = and_parts (nat_eq n a) (nat_eq k p) at in (eqb-true n a parts.0, eqb-true k p parts.1)
-    by (inr wrong) = absurd cc
-
-any-either : {A : Type 0} (p : A → Bool) (xs ys : List A) → list_any p (xs ++ ys) ≡ true → (list_any p xs ≡ true) ⊎ (list_any p ys ≡ true)
-any-either p xs ys any = or_cases (list_any p xs) (list_any p ys) (sym (list_any-append p xs ys) ∙ any)
-
-any-to : (t : Town) (q : List ℕ → Bool) (a p n : ℕ) (id : List ℕ) (m k : ℕ) (rs : List (List ℕ)) → list_any (is_at a p) (rows_to t q n id m k rs) ≡ true → (n ≡ a) × (k ≤ p)
-any-to t q a p n id m k [] any = absurd cc
-any-to t q a p n id m k (r ∷ rs) any =
-    elim (any-either (is_at a p) (row_where (q r) n k r (progress_of t id r m)) (rows_to t q n id m (suc k) rs) any) as (λ _. (n ≡ a) × (k ≤ p)) [
-      | inl here ↦ let is = any-row a p (q r) n k r (progress_of t id r m) here in (is.0, omega (arith, is.1))
-      | inr later ↦ let is = any-to t q a p n id m (suc k) rs later in (is.0, omega (arith, is.1))
-    ]
-
-any-by : (t : Town) (q : List ℕ → Bool) (a p n m : ℕ) (rs : List (List ℕ)) (id : Option (List ℕ)) → list_any (is_at a p) (rows_by t q n m rs id) ≡ true → n ≡ a
-any-by t q a p n m rs None any = absurd cc
-any-by t q a p n m rs (Some id) any = (any-to t q a p n id m 0 rs any).0
-
-any-from : (t : Town) (q : List ℕ → Bool) (a p n : ℕ) (xs : List Act) → list_any (is_at a p) (rows_from t q n xs) ≡ true → n ≤ a
-any-from t q a p n [] any = absurd cc
-any-from t q a p n (x ∷ xs) any =
-    elim (any-either (is_at a p) (rows_by t q n x.moment (sends t x) x.activity.id) (rows_from t q (suc n) xs) any) as (λ _. n ≤ a) [
-      | inl here ↦ omega (arith, any-by t q a p n x.moment (sends t x) x.activity.id here)
-      | inr later ↦ omega (arith, any-from t q a p (suc n) xs later)
-    ]
-
-once-both : {A : Type 0} (p : A → Bool) (xs ys : List A) → PassesOnce p xs → PassesOnce p ys → (list_any p xs ≡ true → list_any p ys ≡ true → ⊥) → PassesOnce p (xs ++ ys)
-once-both p [] ys once all apart = all
-once-both p (x ∷ xs) ys once all apart = (
-  λ passes. list_any-append p xs ys ∙ rw (once.0 passes) (false_from_ne_true (list_any p ys) (λ any. apart (rw passes refl) any)),
-  once-both p xs ys once.1 all (λ any other. apart (or_right (p x) (list_any p xs) any) other),
-)
-
-row-once : (a p : ℕ) (b : Bool) (n k : ℕ) (r : List ℕ) (g : Progress) → PassesOnce (is_at a p) (row_where b n k r g)
-row-once a p false n k r g = tt
-row-once a p true n k r (Ended j) = tt
-row-once a p true n k r (Due j from) = (λ passes. refl, tt)
-
-to-once : (t : Town) (q : List ℕ → Bool) (a p n : ℕ) (id : List ℕ) (m k : ℕ) (rs : List (List ℕ)) → PassesOnce (is_at a p) (rows_to t q n id m k rs)
-to-once t q a p n id m k [] = tt
-to-once t q a p n id m k (r ∷ rs) =
-    once-both (is_at a p) (row_where (q r) n k r (progress_of t id r m)) (rows_to t q n id m (suc k) rs)
-    (row-once a p (q r) n k r (progress_of t id r m)) (to-once t q a p n id m (suc k) rs)
-    (λ here later. absurd (omega (arith, (any-row a p (q r) n k r (progress_of t id r m) here).1, (any-to t q a p n id m (suc k) rs later).1)))
-
-by-once : (t : Town) (q : List ℕ → Bool) (a p n m : ℕ) (rs : List (List ℕ)) (id : Option (List ℕ)) → PassesOnce (is_at a p) (rows_by t q n m rs id)
-by-once t q a p n m rs None = tt
-by-once t q a p n m rs (Some id) = to-once t q a p n id m 0 rs
-
-from-once : (t : Town) (q : List ℕ → Bool) (a p n : ℕ) (xs : List Act) → PassesOnce (is_at a p) (rows_from t q n xs)
-from-once t q a p n [] = tt
-from-once t q a p n (x ∷ xs) =
-    once-both (is_at a p) (rows_by t q n x.moment (sends t x) x.activity.id) (rows_from t q (suc n) xs)
-    (by-once t q a p n x.moment (sends t x) x.activity.id) (from-once t q a p (suc n) xs)
-    (λ here later. absurd (omega (arith, any-by t q a p n x.moment (sends t x) x.activity.id here, any-from t q a p (suc n) xs later)))
-
-places-once : (t : Town) (a p : ℕ) → PassesOnce (is_at a p) (rows_of t)
-unfolding rows_of
-places-once t a p = from-once t (is_at_peer t) a p 0 t.acts
-
--- ---- each row is of an activity with an id
-
-has-id : List Act → QueueRow → Bool
-has-id acts row = is_some (id_at acts row.activity)
-
-row-ids : (acts : List Act) (b : Bool) (n k : ℕ) (r : List ℕ) (g : Progress) → is_some (id_at acts n) ≡ true → list_all (has-id acts) (row_where b n k r g) ≡ true
-unfolding has-id
-row-ids acts false n k r g some = refl
-row-ids acts true n k r (Ended j) some = refl
-row-ids acts true n k r (Due j from) some = rw some refl
-
-to-ids : (t : Town) (q : List ℕ → Bool) (acts : List Act) (n : ℕ) (id : List ℕ) (m k : ℕ) (rs : List (List ℕ)) → is_some (id_at acts n) ≡ true → list_all (has-id acts) (rows_to t q n id m k rs) ≡ true
-to-ids t q acts n id m k [] some = refl
-to-ids t q acts n id m k (r ∷ rs) some =
-    list_all-append (has-id acts) (row_where (q r) n k r (progress_of t id r m)) (rows_to t q n id m (suc k) rs)
-    ∙ rw (row-ids acts (q r) n k r (progress_of t id r m) some, to-ids t q acts n id m (suc k) rs some) refl
-
-by-ids : (t : Town) (q : List ℕ → Bool) (acts : List Act) (n m : ℕ) (rs : List (List ℕ)) (id : Option (List ℕ)) → id_at acts n ≡ id → list_all (has-id acts) (rows_by t q n m rs id) ≡ true
-by-ids t q acts n m rs None is = refl
-by-ids t q acts n m rs (Some id) is = to-ids t q acts n id m 0 rs (rw is refl)
-
-from-ids : (t : Town) (q : List ℕ → Bool) (before xs : List Act) (n : ℕ) → t.acts ≡ before ++ xs → n ≡ length before → list_all (has-id t.acts) (rows_from t q n xs) ≡ true
-from-ids t q before [] n split count = refl
-from-ids t q before (x ∷ xs) n split count =
-    let next : t.acts ≡ (before ++ x ∷ []) ++ xs = split ∙ sym (append_assoc before (x ∷ []) xs) in
-    let more : suc n ≡ length (before ++ x ∷ []) = ap suc count ∙ sym (longer before x) in
-    let own : id_at t.acts n ≡ x.activity.id = rw (split, count, got_at before x xs) refl in
-    list_all-append (has-id t.acts) (rows_by t q n x.moment (sends t x) x.activity.id) (rows_from t q (suc n) xs)
-    ∙ rw (by-ids t q t.acts n x.moment (sends t x) x.activity.id own, from-ids t q (before ++ x ∷ []) xs (suc n) next more) refl
-
-all-ids : (t : Town) → list_all (has-id t.acts) (rows_of t) ≡ true
-unfolding rows_of
-all-ids t = from-ids t (is_at_peer t) [] t.acts 0 refl refl
-
 -- ---- the row of a claim
-
-any-got : {A : Type 0} (p : A → Bool) (xs : List A) → list_any p xs ≡ true → (k : ℕ) × (x : A) × (slice_get xs k ≡ Some x) × (p x ≡ true)
-any-got p [] any = absurd cc
-any-got {A} p (x ∷ xs) any =
-    elim (p x) as (λ b. p x ≡ b → (b || list_any p xs) ≡ true → (k : ℕ) × (y : A) × (slice_get (x ∷ xs) k ≡ Some y) × (p y ≡ true)) [
-      | true ↦ λ own e. (0, x, refl, own)
-      | false ↦ λ own e. let at = any-got p xs e in (suc at.0, at.1, at.2, at.3)
-    ] refl any
-
-got-any : {A : Type 0} (p : A → Bool) (xs : List A) (k : ℕ) (x : A) → slice_get xs k ≡ Some x → p x ≡ true → list_any p xs ≡ true
-got-any p [] k x got passes = absurd cc
-got-any p (y ∷ xs) zero x got passes = let same : y ≡ x = cc in rw (same, passes) refl
-got-any p (y ∷ xs) (suc k) x got passes = or_right (p y) (list_any p xs) (got-any p xs k x got passes)
-
-all-got : {A : Type 0} (p : A → Bool) (xs : List A) (k : ℕ) (x : A) → list_all p xs ≡ true → slice_get xs k ≡ Some x → p x ≡ true
-all-got p [] k x all got = absurd cc
-all-got p (y ∷ xs) zero x all got = let same : y ≡ x = cc in rw (← same) (and_parts (p y) (list_all p xs) all).0
-all-got p (y ∷ xs) (suc k) x all got = all-got p xs k x (and_parts (p y) (list_all p xs) all).1 got
 
 -- the one that passes is found
 found : {A : Type 0} (p q : A → Bool) (xs : List A) (k : ℕ) (x : A) → PassesOnce p xs → ((y : A) → q y ≡ true → p y ≡ true) → slice_get xs k ≡ Some x → q x ≡ true → find q xs ≡ Some x
@@ -167,51 +44,14 @@ found p q (y ∷ xs) zero x once implies got passes = let same : y ≡ x = cc in
 found {A} p q (y ∷ xs) (suc k) x once implies got passes =
     elim (q y) as (λ b. q y ≡ b → (if b then Some y else find q xs) ≡ Some x) [
       | true ↦ λ own.
-          let no : false ≡ true = sym (once.0 (implies y own)) ∙ got-any p xs k x got (implies x passes) in absurd cc
+          let no : false ≡ true = sym (once.0 (implies y own)) ∙ got_any p xs k x got (implies x passes) in absurd cc
       | false ↦ λ own. found p q xs k x once.1 implies got passes
     ] refl
-
-any-released : (p : QueueRow → Bool) (rows : List QueueRow) → ((row : QueueRow) → p (release row) ≡ p row) → list_any p (map release rows) ≡ list_any p rows
-any-released p [] same = refl
-any-released p (row ∷ rows) same = rw (same row, any-released p rows same) refl
-
-once-released : (p : QueueRow → Bool) (rows : List QueueRow) → ((row : QueueRow) → p (release row) ≡ p row) → PassesOnce p (map release rows) → PassesOnce p rows
-once-released p [] same once = tt
-once-released p (row ∷ rows) same once = (λ passes. sym (any-released p rows same) ∙ once.0 (same row ∙ passes), once-released p rows same once.1)
-
-got-released : (rows : List QueueRow) (k : ℕ) (y : QueueRow) → slice_get rows k ≡ Some y → slice_get (map release rows) k ≡ Some (release y)
-got-released [] k y got = absurd cc
-got-released (row ∷ rows) zero y got = let same : row ≡ y = cc in rw same refl
-got-released (row ∷ rows) (suc k) y got = got-released rows k y got
-
-at-released : (a p : ℕ) (row : QueueRow) → is_at a p (release row) ≡ is_at a p row
-unfolding is_at
-at-released a p row = refl
-
-of-released : (acts : List Act) (id r : List ℕ) (row : QueueRow) → is_row_of acts id r (release row) ≡ is_row_of acts id r row
-unfolding is_row_of
-of-released acts id r row = refl
-
-claimed-at : (a p : ℕ) (row : QueueRow) → is_claimed_at a p row ≡ true → (row.claimed ≡ true) × (is_at a p row ≡ true)
-unfolding is_claimed_at
-claimed-at a p row is = and_parts row.claimed (is_at a p row) is
 
 held-by : (c : Claim) (row : QueueRow) → is_held_by c row ≡ true → (is_claimed_at c.activity c.recipient row ≡ true) × (row.due ≤ c.moment)
 unfolding is_held_by
 held-by c row held =
     let parts = and_parts (is_claimed_at c.activity c.recipient row) (nat_le row.due c.moment) held in (parts.0, leb-true row.due c.moment parts.1)
-
-at-place : (a p : ℕ) (row : QueueRow) → is_at a p row ≡ true → (row.activity ≡ a) × (row.place ≡ p)
-unfolding is_at
-at-place a p row at = let parts = and_parts (nat_eq row.activity a) (nat_eq row.place p) at in (eqb-true row.activity a parts.0, eqb-true row.place p parts.1)
-
--- the rows of a town, some of which may be claimed
-abbrev pub AreRowsOf : Town → List QueueRow → Type 0
-AreRowsOf t rows = map release rows ≡ rows_of t
-
-places-of : (t : Town) (rows : List QueueRow) (a p : ℕ) → AreRowsOf t rows → PassesOnce (is_at a p) rows
-places-of t rows a p same =
-    once-released (is_at a p) rows (at-released a p) (subst (λ (ys : List QueueRow). PassesOnce (is_at a p) ys) (sym same) (places-once t a p))
 
 -- the position of the row of a claim
 record IsRowOf (rows : List QueueRow) (c : Claim) : Type 0 where
@@ -226,10 +66,10 @@ record IsRowOf (rows : List QueueRow) (c : Claim) : Type 0 where
 
 row-of : (t : Town) (rows : List QueueRow) (c : Claim) → AreRowsOf t rows → IsHeld c rows → IsRowOf rows c
 row-of t rows c same held =
-    let at = any-got (is_held_by c) rows held in
+    let at = any_got (is_held_by c) rows held in
     let by = held-by c at.1 at.3 in
-    let own = claimed-at c.activity c.recipient at.1 by.0 in
-    let place = at-place c.activity c.recipient at.1 own.1 in record {
+    let own = claimed_at c.activity c.recipient at.1 by.0 in
+    let place = at_place c.activity c.recipient at.1 own.1 in record {
       number = at.0;
       row = at.1;
       there = at.2;
@@ -238,8 +78,8 @@ row-of t rows c same held =
       place = place.1;
       due = by.1;
       found =
-          found (is_at c.activity c.recipient) (is_claimed_at c.activity c.recipient) rows at.0 at.1 (places-of t rows c.activity c.recipient same)
-          (λ row is. (claimed-at c.activity c.recipient row is).1) at.2 by.0;
+          found (is_at c.activity c.recipient) (is_claimed_at c.activity c.recipient) rows at.0 at.1 (places_of t rows c.activity c.recipient same)
+          (λ row is. (claimed_at c.activity c.recipient row is).1) at.2 by.0;
     }
 
 some-text : (o : Option (List ℕ)) → is_some o ≡ true → o ≡ Some (text_of o)
@@ -251,12 +91,12 @@ same-claim c row activity place = rw (activity, place) refl
 
 -- a claim that is held is of a waiting delivery
 pub held_is_of : (t : Town) (rows : List QueueRow) (c : Claim) → AreRowsOf t rows → IsHeld c rows → IsClaimOf t c (claimed_id t.acts c) (claimed_recipient rows c)
-unfolding has-id
+unfolding has_id
 held_is_of t rows c same held =
     let at = row-of t rows c same held in
     let there : slice_get (rows_of t) at.number ≡ Some (release at.row) =
-    ap (λ (ys : List QueueRow). slice_get ys at.number) (sym same) ∙ got-released rows at.number at.row at.there in
-    let some : is_some (id_at t.acts at.row.activity) ≡ true = all-got (has-id t.acts) (rows_of t) at.number (release at.row) (all-ids t) there in record {
+    ap (λ (ys : List QueueRow). slice_get ys at.number) (sym same) ∙ got_released rows at.number at.row at.there in
+    let some : is_some (id_at t.acts at.row.activity) ≡ true = all_got (has_id t.acts) rows at.number at.row (ids_of t rows same) at.there in record {
       number = at.number;
       row = release at.row;
       there = there;
@@ -354,7 +194,7 @@ claim_reaches h c id r legal is =
     let own : is.row.activity ≡ c.activity = ap (λ (d : Claim). d.activity) is.claim in
     let some : is_some (id_at t.acts c.activity) ≡ true = ap (λ (o : Option (List ℕ)). is_some o) (ap (λ (n : ℕ). id_at t.acts n) (sym own) ∙ is.named) in
     let within : c.activity < length t.acts = some-at t.acts c.activity some in
-    let to : is_at_peer t is.row.recipient ≡ true = all-got (to-peer t) (rows_of t) is.number is.row (all-peers t) is.there in record {
+    let to : is_at_peer t is.row.recipient ≡ true = all_got (to-peer t) (rows_of t) is.number is.row (all-peers t) is.there in record {
       within = within;
       host = is-hosted t.host t.acts c.activity (town_known h legal).ids within;
       peer = subst (λ (s : List ℕ). is_some (peer_for t s) ≡ true) is.sent_to (find-some (has_host (host_of is.row.recipient)) t.peers to);
@@ -380,8 +220,8 @@ claimed-first t m rows row same first =
     let new : List QueueRow = change_first (is_free_at m) claim rows in
     let at = changed-got (is_free_at m) claim rows row first in
     found (is_at row.activity row.place) (is_claimed_at row.activity row.place) new at.0 (claim row)
-    (places-of t new row.activity row.place (rows_stay (is_free_at m) claim rows (λ r. refl) ∙ same))
-    (λ r is. (claimed-at row.activity row.place r is).1) at.1 (own-place row)
+    (places_of t new row.activity row.place (rows_stay (is_free_at m) claim rows (λ r. refl) ∙ same))
+    (λ r is. (claimed_at row.activity row.place r is).1) at.1 (own-place row)
 
 -- the row of the claim is the first that was free
 pub first_claimed : (t : Town) (m : ℕ) (rows new : List QueueRow) (result : Option Claim) → AreRowsOf t rows → result ≡ option_map (claim_of m) (find (is_free_at m) rows)
@@ -448,16 +288,16 @@ released-fewer a p (x ∷ rows) any =
     elim (is_claimed_at a p x) as
     (λ b. is_claimed_at a p x ≡ b → (b || list_any (is_claimed_at a p) rows) ≡ true
     → claims_in (x ∷ rows) ≡ claims_in (if b then release x ∷ rows else x ∷ change_first (is_claimed_at a p) release rows) + 1) [
-      | true ↦ λ own e. omega (arith, counted x rows true (claimed-at a p x own).0, counted (release x) rows false refl)
+      | true ↦ λ own e. omega (arith, counted x rows true (claimed_at a p x own).0, counted (release x) rows false refl)
       | false ↦ λ own e. beside x rows (change_first (is_claimed_at a p) release rows) (released-fewer a p rows e)
     ] refl any
 
 -- a claim that is given up subtracts one
 pub fewer_released : (c : Claim) (rows new : List QueueRow) → IsHeld c rows → new ≡ change_first (is_claimed_at c.activity c.recipient) release rows → claims_in rows ≡ claims_in new + 1
 fewer_released c rows new held made =
-    let at = any-got (is_held_by c) rows held in
+    let at = any_got (is_held_by c) rows held in
     let own = (held-by c at.1 at.3).0 in
-    released-fewer c.activity c.recipient rows (got-any (is_claimed_at c.activity c.recipient) rows at.0 at.1 at.2 own) ∙ ap (λ (ys : List QueueRow). claims_in ys + 1) (sym made)
+    released-fewer c.activity c.recipient rows (got_any (is_claimed_at c.activity c.recipient) rows at.0 at.1 at.2 own) ∙ ap (λ (ys : List QueueRow). claims_in ys + 1) (sym made)
 
 -- no row of a town is claimed
 pub town_unclaimed : (t : Town) → claims_in (rows_of t) ≡ 0
@@ -490,18 +330,6 @@ none_claimed t rows same none = sym (all-free rows none) ∙ same
     all-free (row ∷ ys) none = let parts = one row ys row.claimed refl none in rw (parts.0, all-free ys parts.1) refl
 
 -- ---- a delivery is no longer claimed after an attempt
-
-there-id : (acts : List Act) (n : ℕ) (id : List ℕ) → id_at acts n ≡ Some id → is_there (has_activity_id id) (slice_get acts n) ≡ true
-unfolding has_activity_id
-there-id acts n id is =
-    elim (slice_get acts n) as (λ o. option_and_then (λ (x : Act). x.activity.id) o ≡ Some id → is_there (has_activity_id id) o ≡ true) [
-      | None ↦ λ e. absurd cc
-      | Some x ↦ λ e. rw e (bytes_eq-same id)
-    ] is
-
-row-tried : (acts : List Act) (id r : List ℕ) (row : QueueRow) → id_at acts row.activity ≡ Some id → row.recipient ≡ r → is_row_of acts id r row ≡ true
-unfolding is_row_of
-row-tried acts id r row at to = rw (there-id acts row.activity id at, to) (bytes_eq-same r)
 
 stays-untried : (acts : List Act) (id r : List ℕ) (came : Came) (m : ℕ) (row : QueueRow) → is_row_of acts id r row ≡ false → stays_claimed acts (Tried id r came m) row ≡ is_claimed row
 unfolding stays_claimed is_claimed is_tried
@@ -537,7 +365,7 @@ tried-fewer acts id r came m (x ∷ rows) zero row once got claimed own =
 tried-fewer acts id r came m (x ∷ rows) (suc k) row once got claimed own =
     let s : QueueRow → Bool = stays_claimed acts (Tried id r came m) in
     let other : is_row_of acts id r x ≡ false =
-    false_from_ne_true (is_row_of acts id r x) (λ e. let no : false ≡ true = sym (once.0 e) ∙ got-any (is_row_of acts id r) rows k row got own in absurd cc) in
+    false_from_ne_true (is_row_of acts id r x) (λ e. let no : false ≡ true = sym (once.0 e) ∙ got_any (is_row_of acts id r) rows k row got own in absurd cc) in
     let rest = tried-fewer acts id r came m rows k row once.1 got claimed own in
     rw (stays-untried acts id r came m x other)
     (elim (is_claimed x) as (λ b. length (if b then x ∷ filter is_claimed rows else filter is_claimed rows) ≡ length (if b then x ∷ filter s rows else filter s rows) + 1) [
@@ -556,6 +384,6 @@ fewer_recorded h rows new c came m legal same held keeps =
     let of : id_at t.acts at.row.activity ≡ Some id = rw at.activity (some-text (id_at t.acts c.activity) (claimed_some t rows c same held)) in
     let to : at.row.recipient ≡ r = sym (ap (λ (o : Option QueueRow). text_of (option_map (λ (row : QueueRow). row.recipient) o)) at.found) in
     tried-fewer t.acts id r came m rows at.number at.row
-    (once-released (is_row_of t.acts id r) rows (of-released t.acts id r) (subst (λ (ys : List QueueRow). PassesOnce (is_row_of t.acts id r) ys) (sym same) (one_row h id r legal)))
-    at.there at.claimed (row-tried t.acts id r at.row of to)
+    (once_released (is_row_of t.acts id r) rows (of_released t.acts id r) (subst (λ (ys : List QueueRow). PassesOnce (is_row_of t.acts id r) ys) (sym same) (one_row h id r legal)))
+    at.there at.claimed (named_of t.acts id r at.row of to)
     ∙ ap (λ (ys : List QueueRow). length ys + 1) (sym keeps)

@@ -3,10 +3,10 @@ use Rattle.std.proofs.Common.{◌≡◌, ◌≤◌, ◌⊎◌, ℕ, Bool, true, 
 use Rattle.fedi_outside.specs.Keepers.{Adds, Crashes, IfTold, KeeperState, LeavesRecords, MayLeave, OnlyRoomChanged, PassesTime}
 use Rattle.fedi_town.specs.declared.command_fault.CommandFault.{CommandFault}
 use Rattle.fedi_town.specs.declared.command_fault.CommandFault.TheVariants.{NameTaken, KeyTaken, HostTaken, BadAddress, Full, KeeperFault, Memory}
-use Rattle.fedi_core.specs.Crashing.{MayLeaveWith, PassesTimeRefused, PassesTimeUnkept, PassesTimeWith}
+use Rattle.fedi_core.specs.Crashing.{MayLeaveWith, PassesTimeRefused, PassesTimeWith}
 use Rattle.fedi_core.specs.Keeping.{HasFailedOnce, MayDoubt}
-use Rattle.fedi_core.specs.declared.keeping.KeepFault.{KeepFault}
 use Rattle.fedi_core.specs.declared.keeping.KeepFault.TheVariants as keeps
+use Rattle.fedi_opening.proofs.Times.{no_time}
 
 -- if what crashes leave is known, and the records are, one property follows from the other
 pub if_told : (told : Bool) (records : Option (List (List ℕ))) (P Q : List (List ℕ) → Type 0) → ((kept : List (List ℕ)) → records ≡ Some kept → P kept → Q kept)
@@ -31,18 +31,6 @@ adds_both {a} {b} {c} x y P Q R later f g first second = record {
         older : {before : Type 0} (left : List (List ℕ)) → before ⊎ P left → before ⊎ R left
         older left (inl before) = inl before
         older left (inr added) = inr (f left added)
-
--- nothing happened
-pub no_time : (records : Option (List (List ℕ))) (doubt : Option (List ℕ)) (code : List ℕ) (c : Crashes) → PassesTime records doubt c c
-    → PassesTimeWith records doubt code c c
-no_time records doubt code c h = record {
-  clock = h.clock;
-  told = refl;
-  crash = if_told c.told records _ _ (λ kept is adds. record {
-    nothing_else = λ moment left early since. inl since;
-    keeps = λ moment left early past. past;
-  }) h.crash;
-}
 
 -- a call that keeps nothing, and then one that may
 pub then_with : (records : Option (List (List ℕ))) (doubt : Option (List ℕ)) (code : List ℕ) (a b c : Crashes)
@@ -109,13 +97,6 @@ renamed : (records other : Option (List (List ℕ))) (doubt also : Option (List 
 renamed records other doubt also b c r d h =
     subst (λ (x : Option (List ℕ)). PassesTime records x b c) d (subst (λ (x : Option (List (List ℕ))). PassesTime x also b c) r h)
 
--- room was made, but nothing was kept
-pub unsettled : (k l : KeeperState) (code : List ℕ) (a b c : Crashes) → OnlyRoomChanged k l → PassesTime k.records k.doubt a b
-    → PassesTime l.records l.doubt b c → PassesTimeWith k.records k.doubt code a c
-unsettled k l code a b c room first second =
-    then_with k.records k.doubt code a b c first
-    (quiet_call k.records k.doubt code b c (renamed k.records l.records k.doubt l.doubt b c room.records room.doubt second))
-
 -- room was made, the doubt was settled, and then the record was kept
 pub stored : (k l m : KeeperState) (code : List ℕ) (a b c d : Crashes) → OnlyRoomChanged k l → m ≡ record l { doubt = None }
     → PassesTime k.records k.doubt a b → PassesTime l.records l.doubt b c → PassesTime m.records (Some code) c d
@@ -156,29 +137,13 @@ settled_after k l code a b c failed first second = record {
 
 -- ---- no call
 
--- nothing happens if no call is made
-pub stands_still : (k : KeeperState) (c : Crashes) → LeavesRecords k c → PassesTime k.records k.doubt c c
-stands_still k c now = record {
-  clock = let same : c.clock ≤ c.clock = omega arith in same;
-  told = refl;
-  crash = if_told c.told k.records _ _ (λ kept is leaves. record {
-    nothing_else = λ moment left early since. inl since;
-    keeps = λ moment left early past. past;
-  }) now;
-}
-
 -- nothing happened if a command was refused because of a rule
 pub refused_still : (fault : CommandFault) (k : KeeperState) (code : List ℕ) (c : Crashes) → LeavesRecords k c
     → PassesTimeRefused fault k.records k.doubt code c c
-refused_still NameTaken k code c now = stands_still k c now
-refused_still KeyTaken k code c now = stands_still k c now
-refused_still HostTaken k code c now = stands_still k c now
-refused_still BadAddress k code c now = stands_still k c now
-refused_still Full k code c now = stands_still k c now
-refused_still KeeperFault k code c now = quiet_call k.records k.doubt code c c (stands_still k c now)
-refused_still Memory k code c now = stands_still k c now
-
--- nothing happened if memory ran out
-pub unkept_still : (fault : KeepFault) (k : KeeperState) (code : List ℕ) (c : Crashes) → fault ≡ keeps.Memory → LeavesRecords k c
-    → PassesTimeUnkept fault k.records k.doubt code c c
-unkept_still fault k code c is now = rw is (stands_still k c now)
+refused_still NameTaken k code c now = no_time k c now
+refused_still KeyTaken k code c now = no_time k c now
+refused_still HostTaken k code c now = no_time k c now
+refused_still BadAddress k code c now = no_time k c now
+refused_still Full k code c now = no_time k c now
+refused_still KeeperFault k code c now = quiet_call k.records k.doubt code c c (no_time k c now)
+refused_still Memory k code c now = no_time k c now

@@ -1,13 +1,12 @@
 -- The invariants of a machine still hold after one more entry.
 use Rattle.std.proofs.Common.{inl, inr, ◌≡◌, ℕ, ◌+◌, true, false, List, [], ◌∷◌, ◌++◌, length, map, Option, None, Some, Result, Ok, Err, refl, sym, ap, subst, ◌∙◌}
-use Rattle.std.specs.Cmp.Derive.{both_true}
-use Rattle.std.specs.Prelude.{◌&&◌, IfErr, IfSome, IsErrOf, OnErr, OnOk, option_map}
-use Rattle.std.specs.List.{AllByRecursion, find, fold, list_any}
-use Rattle.std.proofs.lemmas.Bool.{and_parts}
+use Rattle.std.specs.Prelude.{IfErr, IfSome, IsErrOf, OnErr, OnOk, option_map}
+use Rattle.std.specs.List.{AllByRecursion, find, list_any}
 use Rattle.std.proofs.lemmas.List.{length-append, map-append}
 use Rattle.fedi_entry.specs.Codes.{code_of}
 use Rattle.fedi_entry.specs.Fields.{IsFormed}
 use Rattle.fedi_opening.specs.Opening.{IsNext}
+use Rattle.fedi_opening.proofs.Records.{formed_more}
 use Rattle.fedi_objects.specs.declared.activity.Activity.{Activity}
 use Rattle.fedi_objects.specs.declared.entry.Entry.{Entry}
 use Rattle.fedi_objects.specs.declared.entry.Entry.TheVariants.{Local}
@@ -15,9 +14,10 @@ use Rattle.fedi_laws.proofs.Beside.{peers_alone}
 use Rattle.fedi_laws.proofs.Isolation.{known_deliveries, unseen_deliveries, unseen_posts}
 use Rattle.fedi_town.proofs.Lists.{find-none}
 use Rattle.fedi_town.specs.Agreement.{Agree}
-use Rattle.fedi_town.specs.Histories.{step, town}
-use Rattle.fedi_town.specs.Legal.{IsLegal, is_admissible, is_legal_from, may_post}
+use Rattle.fedi_town.specs.Histories.{town}
+use Rattle.fedi_town.specs.Legal.{IsLegal, may_post}
 use Rattle.fedi_town.specs.Towns.{Town, empty_town, has_name, id_of}
+use Rattle.fedi_town.proofs.Growing.{legal_push, legal_last}
 use Rattle.fedi_outside.specs.Keepers.{HasAdded, KeeperState}
 use Rattle.fedi_core.specs.declared.keeping.KeepFault.{KeepFault}
 use Rattle.fedi_core.specs.declared.keeping.KeepFault.TheVariants.{Full, Failed, Memory}
@@ -25,12 +25,6 @@ use Rattle.fedi_core.specs.Keeping.{HidesDeliveries, HidesPosts, MayAdd, Refuses
 use Rattle.fedi_core.specs.Machines.{IsGrown, IsKeeping, IsMachine, IsNextCode, IsQueueGrown, IsQueueSame, IsSame, Stands}
 use Rattle.fedi_effects.specs.Holdings.{Holding}
 use Rattle.fedi_queue.specs.Queues.{Queued}
-
-legal_from_grown : (t : Town) (h : List Entry) (e : Entry) → is_legal_from t h ≡ true → is_admissible (fold step t h) e ≡ true → is_legal_from t (h ++ e ∷ []) ≡ true
-legal_from_grown t [] e legal next = both_true next refl
-legal_from_grown t (x ∷ h) e legal next =
-    both_true ((and_parts (is_admissible t x) (is_legal_from (step t x) h) legal).0)
-    (legal_from_grown (step t x) h e ((and_parts (is_admissible t x) (is_legal_from (step t x) h) legal).1) next)
 
 -- the keeper added the record of one more entry
 keeps_more : (growth : ℕ → ℕ) (k k' : KeeperState) (h : List Entry) (e : Entry) → IsKeeping k h → HasAdded growth (code_of e) k k' → IsKeeping k' (h ++ e ∷ [])
@@ -46,16 +40,12 @@ keeps_more growth k k' h e keeps added = record {
     more None is = tt
     more (Some records) is = map-append code_of h (e ∷ []) ∙ ap (λ (r : List (List ℕ)). r ++ code_of e ∷ []) is
 
-formed_more : (h : List Entry) (e : Entry) → AllByRecursion IsFormed h → IsFormed e → AllByRecursion IsFormed (h ++ e ∷ [])
-formed_more [] e all formed = (formed, tt)
-formed_more (x ∷ h) e all formed = (all.0, formed_more h e all.1 formed)
-
 -- the invariant holds after an entry that may be added
 grown : (growth : ℕ → ℕ) (f f' : Holding) (k k' : KeeperState) (e : Entry) → Stands f k → MayAdd (town f.history) e → IsFormed e → IsGrown f e f'
     → HasAdded growth (code_of e) k k' → Stands f' k'
 grown growth f f' k k' e stands may formed more added = record {
   made = more.made ∙ ap (λ (h : List Entry). town h) (sym more.held);
-  legal = subst IsLegal (sym more.held) (record { admissible = legal_from_grown empty_town f.history e stands.legal.admissible may.admissible });
+  legal = subst IsLegal (sym more.held) (record { admissible = legal_push f.history empty_town e stands.legal.admissible may.admissible });
   formed = subst (AllByRecursion IsFormed) (sym more.held) (formed_more f.history e stands.formed formed);
   kept = subst (λ (h : List Entry). IsKeeping k' h) (sym more.held) (keeps_more growth k k' f.history e stands.kept added);
 }
@@ -129,11 +119,6 @@ machine_stays growth room r f f' k k' q q' e machine may formed failed more same
 
 -- ---- posts that a caller does not see
 
--- the last entry was admissible
-legal_last : (t : Town) (h : List Entry) (e : Entry) → is_legal_from t (h ++ e ∷ []) ≡ true → is_admissible (fold step t h) e ≡ true
-legal_last t [] e legal = (and_parts (is_admissible t e) true legal).0
-legal_last t (x ∷ h) e legal = legal_last (step t x) h e (and_parts (is_admissible t x) (is_legal_from (step t x) (h ++ e ∷ [])) legal).1
-
 -- the poster is a member
 posting_member : (t : Town) (name : List ℕ) (repeat : Option (List ℕ × List ℕ)) (a : Activity) → may_post t name repeat a (id_of t name) ≡ true
     → list_any (has_name name) t.actors ≡ true
@@ -149,7 +134,7 @@ pub posts_hidden : (h h' : List Entry) → IsLegal h → IsLegal h' → HidesPos
 posts_hidden h h' legal also = λ host name repeat a moment c is longer quiet unseen.
     let e : Entry = Local name repeat a moment in
     let next : IsLegal (h ++ e ∷ []) = subst IsLegal longer also in
-    let member : list_any (has_name name) (town h).actors ≡ true = posting_member (town h) name repeat a (legal_last empty_town h e next.admissible) in
+    let member : list_any (has_name name) (town h).actors ≡ true = posting_member (town h) name repeat a (legal_last h empty_town e next.admissible).1 in
     subst (λ (k : List Entry). Agree (town k) (town h) c) (sym longer) (unseen_posts h host name repeat a moment c legal is member quiet unseen)
 
 -- ---- deliveries that a caller does not see

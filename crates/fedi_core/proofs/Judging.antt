@@ -1,8 +1,7 @@
 -- The decision on a post, by the judgement on it.
-use Rattle.std.proofs.Common.{◌≡◌, ℕ, ◌+◌, true, false, List, Option, Some, None, refl, sym, subst, ap, ◌∙◌}
+use Rattle.std.proofs.Common.{◌≡◌, ℕ, ◌+◌, true, List, Option, Some, None, refl, sym, subst, ap, ◌∙◌}
 use Rattle.std.specs.Prelude.{option_map}
 use Rattle.fedi_objects.specs.declared.activity.Activity.{Activity}
-use Rattle.fedi_objects.specs.declared.entry.Entry.TheVariants.{Local}
 use Rattle.fedi_town.specs.declared.caller.Caller.{Caller}
 use Rattle.fedi_town.specs.declared.caller.Caller.TheVariants.{Nobody, Actor, Peer}
 use Rattle.fedi_town.specs.declared.refusal.Refusal.{Refusal}
@@ -15,12 +14,11 @@ use Rattle.fedi_town.specs.Towns.{Town, count_of, id_of}
 use Rattle.fedi_model.specs.declared.post.Post.{Post}
 use Rattle.fedi_model.specs.declared.post.Read.{Read}
 use Rattle.fedi_model.specs.declared.post.Read.TheVariants.{NotJson, Bad, Ready}
-use Rattle.fedi_model.specs.Posting.{Stop, Repeat, Keep, entry_at, judge_activity, judge_post, judge_read, post_answer, repeat_by, repeat_under, unless_repeat}
+use Rattle.fedi_model.specs.Posting.{Stop, Keep, judge_activity, judge_post, judge_read, post_answer, repeat_under, unless_repeat}
 use Rattle.fedi_model.specs.AnswerKinds.{Answer, Refuse, Misshape}
 use Rattle.fedi_model.specs.Reading.{is_self}
 use Rattle.fedi_town.proofs.Texts.{bytes_eq-is}
 use Rattle.fedi_model.specs.declared.reply.Reply.{Reply}
-use Rattle.fedi_model.specs.Memory.{is_refused}
 use Rattle.fedi_model.specs.Replies.{reply_of, without_body}
 
 pub is_own : (c : Caller) (name : List ℕ) → is_self c name ≡ true → c ≡ Actor name
@@ -79,23 +77,6 @@ refused_reply t c name author post r found h =
     subst (λ (id : Option (List ℕ)). r ≡ reply_of (post_answer t c name post id)) found
     (h.2 ∙ rw h.1 refl)
 
-pub refused_entry : (t : Town) (c : Caller) (name author : List ℕ) (post : Post) (moment : ℕ) (r : Reply) → IsFound t name author
-    → (a : Answer) × (judge_post t c name author post ≡ Stop a) × (r ≡ reply_of a) → None ≡ entry_at t c name post moment (id_of t name)
-refused_entry t c name author post moment r found h =
-    subst (λ (id : Option (List ℕ)). None ≡ entry_at t c name post moment id) found (rw h.1 refl)
-
--- ---- a post that is repeated
-
-pub repeated_reply : (t : Town) (c : Caller) (name author : List ℕ) (post : Post) (id : Option (List ℕ)) (r : Reply) → IsFound t name author
-    → judge_post t c name author post ≡ Repeat id → r ≡ without_body 201 id → r ≡ reply_of (post_answer t c name post (id_of t name))
-repeated_reply t c name author post id r found h told =
-    subst (λ (own : Option (List ℕ)). r ≡ reply_of (post_answer t c name post own)) found (told ∙ rw h refl)
-
-pub repeated_entry : (t : Town) (c : Caller) (name author : List ℕ) (post : Post) (moment : ℕ) (id : Option (List ℕ)) → IsFound t name author
-    → judge_post t c name author post ≡ Repeat id → None ≡ entry_at t c name post moment (id_of t name)
-repeated_entry t c name author post moment id found h =
-    subst (λ (own : Option (List ℕ)). None ≡ entry_at t c name post moment own) found (rw h refl)
-
 -- ---- a post that is kept
 
 pub kept_reply : (t : Town) (c : Caller) (name author : List ℕ) (post : Post) (a : Activity) (r : Reply) → IsFound t name author
@@ -105,22 +86,4 @@ pub kept_reply : (t : Town) (c : Caller) (name author : List ℕ) (post : Post) 
 kept_reply t c name author post a r found h told =
     subst (λ (own : Option (List ℕ)). r ≡ reply_of (post_answer t c name post own)) found (told ∙ rw h refl)
 
-pub kept_entry : (t : Town) (c : Caller) (name author : List ℕ) (post : Post) (moment : ℕ) (a : Activity) (repeat : Option (List ℕ × List ℕ))
-    → IsFound t name author → judge_post t c name author post ≡ Keep a → repeat ≡ repeat_by post.digest post.key
-    → Some (Local name repeat a moment) ≡ entry_at t c name post moment (id_of t name)
-kept_entry t c name author post moment a repeat found h key =
-    subst (λ (own : Option (List ℕ)). Some (Local name repeat a moment) ≡ entry_at t c name post moment own) found (rw (h, key) refl)
-
 -- ---- memory
-
--- the answer to a repeated post is no refusal
-pub repeated_wanted : (t : Town) (c : Caller) (name author : List ℕ) (post : Post) (id : Option (List ℕ)) → IsFound t name author
-    → judge_post t c name author post ≡ Repeat id → is_refused (post_answer t c name post (id_of t name)) ≡ false
-repeated_wanted t c name author post id found h =
-    subst (λ (own : Option (List ℕ)). is_refused (post_answer t c name post own) ≡ false) found (rw h refl)
-
--- nor is the answer to one that is kept
-pub kept_wanted : (t : Town) (c : Caller) (name author : List ℕ) (post : Post) (a : Activity) → IsFound t name author
-    → judge_post t c name author post ≡ Keep a → is_refused (post_answer t c name post (id_of t name)) ≡ false
-kept_wanted t c name author post a found h =
-    subst (λ (own : Option (List ℕ)). is_refused (post_answer t c name post own) ≡ false) found (rw h refl)

@@ -1,11 +1,10 @@
 -- A connection of a demonstration: what was written, and the store that is left.
 use Rattle.std.proofs.Common.{◌≡◌, ◌+◌, ℕ, suc, List, [], ◌∷◌, ◌++◌, length, All, Option, None, Some, refl, sym, ap, subst, ◌∙◌, append_assoc, append-nil, arith}
-use Rattle.std.specs.Prelude.{◌≢◌, IfOk, IfSome, IsTrue, Result, Ok, Err, codes, drop}
+use Rattle.std.specs.Prelude.{◌≢◌, IfOk, IfSome, IsTrue, Result, Ok, Err, codes}
 use Rattle.std.specs.Prelude.{option_to_list}
 use Rattle.std.specs.Io.KnownBytes.{Appends}
-use Rattle.std.proofs.Math.Seq.{drop-append_seam}
 use Rattle.std.proofs.lemmas.List.{append_cancel_left}
-use Rattle.std.proofs.lemmas.List.Elements.{All-head, All-tail}
+use Rattle.std.proofs.lemmas.List.Elements.{All-head}
 use Rattle.fedi_outside.specs.Images.{IsImage, plain}
 use Rattle.fedi_journal.specs.Files.{HasRecords}
 use Rattle.fedi_log.specs.Keeping.{GoesAlone, HoldsFrom, HoldsSince, IsDoubted, Keeps, State, counted, since}
@@ -19,12 +18,12 @@ use Rattle.fedi_objects.specs.declared.entry.Entry.TheVariants.{Hosted}
 use Rattle.fedi_outside.specs.Disks.{DiskCrashes}
 use Rattle.fedi_outside.specs.MemoryDisks.{MemoryDiskState, contents_of, disk_shown}
 use Rattle.fedi_startup.proofs.OneAnswer.{one_history}
-use Rattle.fedi_startup.proofs.Stored.{leaves_stores}
+use Rattle.fedi_startup.proofs.Stored.{leaves_stores, since_given}
 use Rattle.fedi_startup.specs.Stores.{IsClosed, IsOpened, records_of}
 use Rattle.fedi_startup.specs.Stores as stores
 use Rattle.fedi_startup.specs.Surviving.{growth, opened_base, room}
 use Rattle.fedi_logged.proofs.Ended.{closed_talks, ended_talks}
-use Rattle.fedi_logged.proofs.Talks.{failures_marked, no_gaps, own_of_conversation}
+use Rattle.fedi_logged.proofs.Talks.{failures_marked, no_gaps, own_of_conversation, own_after}
 use Rattle.fedi_logged.specs.Conversations.{AreCalm, Exchange, IsCalm, Progress, Setting, beginning, failures, own_items, progress}
 use Rattle.fedi_logged.specs.Endings.{Output, Scene, Serves, Talks}
 use Rattle.fedi_logged.specs.Turning.{setting_by}
@@ -92,23 +91,6 @@ none_left : (by : Option ℕ) (rest : Log) → All (IsOthers by) rest
 none_left by [] others own = refl
 none_left by (x ∷ rest) others own =
     absurd (All-head (IsOthers by) x rest others (All-head (λ (i : Item). i.pass ≡ by) x rest own))
-
-own_after : (by : Option ℕ) (a b : Log) → All (λ (i : Item). i.pass ≡ by) (a ++ b)
-    → All (λ (i : Item). i.pass ≡ by) b
-own_after by [] b own = own
-own_after by (x ∷ a) b own =
-    own_after by a b (All-tail (λ (i : Item). i.pass ≡ by) x (a ++ b) own)
-
-given_length : (history : List Entry) → length (given history) ≡ length history
-given_length [] = refl
-given_length (e ∷ history) = ap suc (given_length history)
-
-since_given : (opened : State) (log past : Log) → log ≡ given opened.history ++ past
-    → since (opened_base opened) log ≡ past
-since_given opened log past is =
-    ap (λ (n : ℕ). drop n log) (sym (given_length opened.history))
-    ∙ (ap (λ (l : Log). drop (length (given opened.history)) l) is
-    ∙ drop-append_seam (given opened.history) past)
 
 -- ---- the store of a disk
 

@@ -3,30 +3,19 @@ use Rattle.std.proofs.Common.{◌≡◌, ℕ, Bool, true, false, List, [], ◌�
 use Rattle.std.specs.Prelude.{◌&&◌, not, map, filter, cond}
 use Rattle.std.specs.List.{fold, list_any}
 use Rattle.std.specs.Str.{bytes_eq}
-use Rattle.std.proofs.lemmas.Bool.{and_parts}
+use Rattle.std.proofs.lemmas.Bool.{and_parts, not-true}
 use Rattle.std.proofs.lemmas.List.{append-nil}
 use Rattle.std.proofs.lemmas.List.Folds.{list_any-append}
-use Rattle.std.proofs.lemmas.Slice.Eq.{bytes_eq-Decides}
 use Rattle.fedi_address.specs.Recipients.{add_new, is_among}
-use Rattle.fedi_town.proofs.Lists.{first_none, other_none, or_none}
+use Rattle.fedi_town.proofs.Lists.{first_none, other_none, or_none, none_kept}
 use Rattle.fedi_town.proofs.Once.{distinct_once}
 use Rattle.fedi_town.specs.Addressing.{is_recipient}
 use Rattle.fedi_town.specs.Relations.{followers, is_following}
 use Rattle.fedi_town.specs.Shapes.{is_each_once}
 use Rattle.fedi_town.specs.Towns.{Town}
+use Rattle.fedi_town.proofs.Texts.{bytes_eq-swapped}
 use Rattle.fedi_effects.specs.Forwards.{is_unfound}
 use Rattle.fedi_effects.specs.Gathering.{is_new_recipient, with_reached}
-
-swapped : (a b : List ℕ) → bytes_eq a b ≡ false → bytes_eq b a ≡ false
-swapped a b other =
-    elim (bytes_eq b a) as (λ s. bytes_eq b a ≡ s → s ≡ false) [
-      | true ↦ λ e. sym ((bytes_eq-Decides a b).1 (sym ((bytes_eq-Decides b a).0 e))) ∙ other
-      | false ↦ λ e. refl
-    ] refl
-
-not_false : (b : Bool) → not b ≡ true → b ≡ false
-not_false true e = absurd cc
-not_false false e = refl
 
 -- ---- found anew
 
@@ -49,7 +38,7 @@ unfolding is_among
 all-still-new q f found [] none = refl
 all-still-new q f found (x ∷ xs) none =
     rw (
-      still-new q f x found (swapped x f (first_none (bytes_eq x f) (is_among f xs) none)),
+      still-new q f x found (bytes_eq-swapped x f (first_none (bytes_eq x f) (is_among f xs) none)),
       all-still-new q f found xs (other_none (bytes_eq x f) (is_among f xs) none),
     ) refl
 
@@ -61,7 +50,7 @@ apart q found (x ∷ xs) once =
     ≡ found ++ cond b (x ∷ filter (is_new q found) xs) (filter (is_new q found) xs)) [
       | true ↦
           apart q (found ++ x ∷ []) xs parts.1
-          ∙ ap (λ (ys : List (List ℕ)). (found ++ x ∷ []) ++ ys) (all-still-new q x found xs (not_false (is_among x xs) parts.0))
+          ∙ ap (λ (ys : List (List ℕ)). (found ++ x ∷ []) ++ ys) (all-still-new q x found xs (not-true (is_among x xs) parts.0))
           ∙ append_assoc found (x ∷ []) (filter (is_new q found) xs)
       | false ↦ apart q found xs parts.1
     ]
@@ -90,15 +79,6 @@ pub followers_apart : (t : Town) (author b : List ℕ) (found : List (List ℕ))
 unfolding with_reached is_new_recipient
 followers_apart t author b found = sym (apart (is_recipient t author) found (followers t b) (followers_once t b))
 
-none-kept : {A : Type 0} (q p : A → Bool) (xs : List A) → list_any q xs ≡ false → list_any q (filter p xs) ≡ false
-none-kept q p [] none = refl
-none-kept q p (x ∷ xs) none =
-    let rest : list_any q (filter p xs) ≡ false = none-kept q p xs (other_none (q x) (list_any q xs) none) in
-    elim (p x) as (λ b. list_any q (cond b (x ∷ filter p xs) (filter p xs)) ≡ false) [
-      | true ↦ rw (first_none (q x) (list_any q xs) none) rest
-      | false ↦ rest
-    ]
-
 -- if each string occurs once, so does each of those that pass a test
 pub once_filtered : (p : List ℕ → Bool) (xs : List (List ℕ)) → is_each_once xs ≡ true → is_each_once (filter p xs) ≡ true
 unfolding is_among
@@ -107,6 +87,6 @@ once_filtered p (x ∷ xs) once =
     let parts = and_parts (not (is_among x xs)) (is_each_once xs) once in
     let rest : is_each_once (filter p xs) ≡ true = once_filtered p xs parts.1 in
     elim (p x) as (λ b. is_each_once (cond b (x ∷ filter p xs) (filter p xs)) ≡ true) [
-      | true ↦ rw (none-kept (λ u. bytes_eq u x) p xs (not_false (is_among x xs) parts.0)) rest
+      | true ↦ rw (none_kept (λ u. bytes_eq u x) p xs (not-true (is_among x xs) parts.0)) rest
       | false ↦ rest
     ]

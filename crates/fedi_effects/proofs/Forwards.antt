@@ -8,18 +8,15 @@ use Rattle.std.proofs.lemmas.List.Folds.{list_any-append}
 use Rattle.std.proofs.lemmas.List.Sums.{fold-append}
 use Rattle.std.proofs.lemmas.Slice.Eq.{bytes_eq-Decides}
 use Rattle.fedi_address.specs.Recipients.{add_new, distinct}
-use Rattle.fedi_objects.specs.declared.activity.ObjectRef.{ObjectRef}
 use Rattle.fedi_register.specs.Mentions.{reply_in, tags_in}
 use Rattle.fedi_objects.specs.declared.object.Object.{Object}
 use Rattle.fedi_objects.specs.declared.object.Tag.{Tag}
-use Rattle.fedi_town.proofs.Kept.{ref_id-received}
 use Rattle.fedi_town.proofs.Lists.{list_any-through}
 use Rattle.fedi_town.proofs.Texts.{is_false, not_both}
 use Rattle.fedi_town.specs.declared.act.Actor.{Actor}
-use Rattle.fedi_town.specs.Activities.{receive_ref}
 use Rattle.fedi_town.specs.Forwarding.{far_followers, forwards_at, has_followers_at, is_far, object_mentions}
 use Rattle.fedi_town.specs.Ids.{followers_id}
-use Rattle.fedi_town.specs.Relations.{blocks, followers, ref_id}
+use Rattle.fedi_town.specs.Relations.{blocks, followers}
 use Rattle.fedi_town.specs.Shapes.{is_each_once}
 use Rattle.fedi_town.specs.Towns.{Town, has_id}
 use Rattle.fedi_effects.proofs.Apart.{added_apart, followers_once, once_filtered}
@@ -49,10 +46,6 @@ any_through p tags = sym (list_any-through (λ (g : Tag). g.href) p (λ (g : Tag
 pub mentions_of : (o : Option Object) → option_to_list (reply_in o) ++ map (λ (g : Tag). g.href) (tags_in o) ≡ object_mentions o
 mentions_of None = refl
 mentions_of (Some o) = refl
-
--- what an activity is about stays the same when it is received
-pub ref_received : (author : List ℕ) (moment : ℕ) (r : ObjectRef) → ref_id (receive_ref author moment r) ≡ ref_id r
-ref_received author moment r = ref_id-received author moment r
 
 -- ---- recipients
 

@@ -4,7 +4,7 @@ use denote.Param.Send.{IsSend, view_send, sendable}
 use denote.Param.SendFields.{declared_send, variants_send}
 use Rattle.std.proofs.Crossing.{crosses}
 use Rattle.fedi_address.specs.contracts.host.Host as Host
-use Rattle.fedi_register.proofs.KeptSent.{iri_send, iris_send, kept_send}
+use Rattle.fedi_register.proofs.KeptSent.{iri_send, iris_send, kept_send, text_send}
 use Rattle.fedi_register.proofs.extras.Spare.TheSendSync.{the_send as spare_send}
 use Rattle.fedi_register.proofs.pool.Pool.TheSendSync.{the_send as pool_send}
 use Rattle.fedi_register.proofs.trace.Trace.TheLaws.TheKnot.{crosses as traces_cross}
@@ -32,9 +32,6 @@ host_send = search (crosses, sendable) depth 20
 actor_send : IsSend Actor.the_row
 actor_send = search (iri_send, crosses, sendable) depth 20
 
-text_send : IsSend Text.the_row
-text_send = search (crosses, sendable) depth 20
-
 peer_send : IsSend Peer.the_row
 peer_send = search (host_send, text_send, crosses, sendable) depth 20
 
@@ -44,7 +41,7 @@ attempt_send = search (iri_send, moment_send, crosses, sendable) depth 20
 tally_send : IsSend Tally.the_row
 tally_send = search (iri_send, crosses, sendable) depth 20
 
-trace_send : (T : RattleType) → IsSend T → IsSend (Trace.the_row T)
+pub trace_send : (T : RattleType) → IsSend T → IsSend (Trace.the_row T)
 trace_send T s = search (traces_cross, crosses, sendable) depth 20
 
 ready_send : IsSend Ready.the_row

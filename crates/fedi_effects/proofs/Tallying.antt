@@ -19,7 +19,7 @@ use Rattle.fedi_register.specs.Seeds.{mark_of_pair}
 use Rattle.fedi_register.specs.declared.seeds.Seed.{Seed}
 use Rattle.fedi_register.proofs.Edited.{none_there}
 use Rattle.fedi_register.proofs.Found.{IsMarkedSo}
-use Rattle.fedi_register.proofs.Once.{lt_step}
+use Rattle.fedi_register.proofs.Once.{lt_step, placed}
 use Rattle.fedi_town.proofs.Texts.{bytes_eq-is, bytes_eq-same}
 use Rattle.fedi_town.specs.declared.act.Attempt.{Attempt}
 use Rattle.fedi_town.specs.Queues.{Progress, after_attempt, is_of_pair, progress_of}
@@ -66,15 +66,6 @@ marks_counted seed list k z x d was a r =
 
 -- ---- what is found
 
--- the index that was found
-at-first : {A : Type 0} (p : A → Bool) (xs : List A) (k : ℕ) → Some k ≡ place_where p xs → (k ≡ position_or_len p xs) × (ltb (position_or_len p xs) (length xs) ≡ true)
-at-first p xs k is =
-    elim (ltb (position_or_len p xs) (length xs)) as (λ b. ltb (position_or_len p xs) (length xs) ≡ b → Some k ≡ (if b then Some (position_or_len p xs) else None)
-    → (k ≡ position_or_len p xs) × (ltb (position_or_len p xs) (length xs) ≡ true)) [
-      | true ↦ λ e f. (let same : k ≡ position_or_len p xs = cc in same, e)
-      | false ↦ λ e f. absurd cc
-    ] refl is
-
 -- the item at the first index that passes is found there, and so is one that replaces it
 record IsFirst {A : Type 0} (p : A → Bool) (xs : List A) (k : ℕ) (d : A) : Type 0 where
   found : find p xs ≡ Some (get_or xs k d)
@@ -105,7 +96,7 @@ first-of {A} p (x ∷ xs) d e =
     ] refl
 
 first-at : {A : Type 0} (p : A → Bool) (xs : List A) (k : ℕ) (d : A) → Some k ≡ place_where p xs → IsFirst p xs k d
-first-at p xs k d is = let at = at-first p xs k is in subst (λ (j : ℕ). IsFirst p xs j d) (sym at.0) (first-of p xs d at.1)
+first-at p xs k d is = let at = placed p xs k is in subst (λ (j : ℕ). IsFirst p xs j d) (sym at.0) (first-of p xs d at.1)
 
 -- if neither passes, replacing one by the other changes nothing
 find-other : {A : Type 0} (q : A → Bool) (xs : List A) (k : ℕ) (z d : A) → q (get_or xs k d) ≡ false → q z ≡ false → find q (set xs k z) ≡ find q xs

@@ -1,10 +1,9 @@
 -- What an entry adds, and what the history has made then.
 use Rattle.std.proofs.Common.{◌≡◌, ℕ, Bool, true, false, List, [], ◌∷◌, ◌++◌, Option, Some, None, refl, sym, ap, subst, ◌∙◌}
-use Rattle.std.specs.Prelude.{◌||◌, if◌then◌else◌}
-use Rattle.std.specs.Str.{bytes_eq}
+use Rattle.std.specs.Prelude.{if◌then◌else◌}
 use Rattle.std.proofs.lemmas.List.Sums.{fold_push}
-use Rattle.std.proofs.lemmas.Slice.Eq.{bytes_eq-Decides}
-use Rattle.fedi_address.specs.Recipients.{add_new, is_among}
+use Rattle.fedi_address.specs.Recipients.{add_new}
+use Rattle.fedi_address.proofs.Unions.{now_among, among_added}
 use Rattle.fedi_objects.specs.declared.entry.Entry.{Entry}
 use Rattle.fedi_objects.specs.declared.entry.Entry.TheVariants.{Hosted, Made, PeerSet, Local, Remote, Tried}
 use Rattle.fedi_objects.specs.declared.activity.Activity.{Activity}
@@ -79,38 +78,6 @@ can_add t history e a stands legal is =
 
 -- ---- authors who are known
 
-is_same : (a : List ℕ) → bytes_eq a a ≡ true
-is_same a = (bytes_eq-Decides a a).1 refl
-
-or_true : (a : Bool) → (a || true) ≡ true
-or_true true = refl
-or_true false = refl
-
-last_among : (known : List (List ℕ)) (a : List ℕ) → is_among a (known ++ a ∷ []) ≡ true
-unfolding is_among
-last_among [] a = rw is_same refl
-last_among (x ∷ known) a = ap (λ (b : Bool). bytes_eq x a || b) (last_among known a) ∙ or_true (bytes_eq x a)
-
-more_among : (known : List (List ℕ)) (a b : List ℕ) → is_among a known ≡ true → is_among a (known ++ b ∷ []) ≡ true
-unfolding is_among
-more_among [] a b there = absurd cc
-more_among (x ∷ known) a b there =
-    elim (bytes_eq x a) as (λ s. (s || is_among a known) ≡ true → (s || is_among a (known ++ b ∷ [])) ≡ true) [
-      | true ↦ λ _. refl
-      | false ↦ λ h. more_among known a b h
-    ] there
-
-known_now : (known : List (List ℕ)) (a : List ℕ) → is_among a (add_new known a) ≡ true
-known_now known a =
-    elim (is_among a known) as (λ b. is_among a known ≡ b → is_among a (if b then known else known ++ a ∷ []) ≡ true) [
-      | true ↦ λ e. e
-      | false ↦ λ e. last_among known a
-    ] refl
-
-known_still : (known : List (List ℕ)) (a b : List ℕ) → is_among a known ≡ true → is_among a (add_new known b) ≡ true
-known_still known a b there =
-    elim (is_among b known) as (λ c. is_among a (if c then known else known ++ b ∷ []) ≡ true) [ true ↦ there | false ↦ more_among known a b there ]
-
 authors_with : (known : List (List ℕ)) (r : Ready) → HasAuthors (with_authors known r) r
 authors_with known ready.Nothing = tt
 authors_with known (ready.Host host) = tt
@@ -118,9 +85,9 @@ authors_with known (ready.Member member) = tt
 authors_with known (ready.Peer peer) = tt
 authors_with known (ready.Inbox id owner recipients) = tt
 authors_with known (ready.Attempt attempt) = tt
-authors_with known (ready.Activity act effect spare None) = (known_now known act.author, tt)
+authors_with known (ready.Activity act effect spare None) = (now_among known act.author, tt)
 authors_with known (ready.Activity act effect spare (Some answer)) =
-    (known_still (add_new known act.author) act.author answer.author (known_now known act.author), known_now (add_new known act.author) answer.author)
+    (among_added (add_new known act.author) act.author answer.author (now_among known act.author), now_among (add_new known act.author) answer.author)
 
 pub authors_known : (before known : List (List ℕ)) (r : Ready) → known ≡ with_authors before r → HasAuthors known r
 authors_known before known r is = subst (λ (ids : List (List ℕ)). HasAuthors ids r) (sym is) (authors_with before r)

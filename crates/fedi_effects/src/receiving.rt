@@ -159,7 +159,7 @@ fn remote_act(
 }
 
 // A new delivery, accepted with all that follows from it.
-#[tactic(auto, using(crate::proofs::Forwards::ref_received))]
+#[tactic(auto, using(fedi_town::proofs::Kept::ref_received))]
 fn accept_delivery(
     alloc: Global,
     facts: &Facts,

@@ -3,8 +3,6 @@ use Rattle.std.proofs.Common.{◌≡◌, ℕ, Bool, true, false, List, Option, S
 use Rattle.std.specs.Prelude.{IfSome, IsTrue}
 use Rattle.std.specs.Str.{is_utf8, IsUtf8}
 use Rattle.std.proofs.lemmas.Str.{IsUtf8-from_is_utf8, is_utf8-from_IsUtf8}
-use Rattle.fedi_objects.specs.Keys.{is_repeat_key}
-use Rattle.fedi_objects.proofs.KeyLemmas.{key_is_utf8}
 use Rattle.fedi_entry.specs.Fields.{IsText}
 use Rattle.fedi_entry.specs.Limits.{IfPasses}
 
@@ -17,9 +15,6 @@ is_no_utf8 bytes fails = by (is_utf8 bytes) refl
     by : (t : Bool) → is_utf8 bytes ≡ t → is_utf8 bytes ≡ false
     by true is = absurd (fails (IsUtf8-from_is_utf8 bytes is))
     by false is = is
-
-pub is_utf8_key : (key : List ℕ) → is_repeat_key key ≡ true → is_utf8 key ≡ true
-is_utf8_key key is = is_utf8_text key (key_is_utf8 key is)
 
 -- an optional text that is UTF-8 and passes the test is well formed
 pub if_text : (test : List ℕ → Bool) (o : Option (List ℕ)) → IfSome o (λ bytes. IsTrue (is_utf8 bytes)) → IfPasses test o → IfSome o (IsText test)

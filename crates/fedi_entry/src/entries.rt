@@ -20,7 +20,7 @@ const ROOM: usize = 1024;
 const LONGEST: usize = 4_294_967_295;
 
 /// Appends the repeat key, if there is one, with its digest.
-#[tactic(auto, using(crate::proofs::Texts::is_utf8_key), unfolding(crate::specs::Codes::option_code, crate::specs::Codes::repeat_code))]
+#[tactic(auto, using(fedi_objects::proofs::KeyLemmas::is_utf8_key), unfolding(crate::specs::Codes::option_code, crate::specs::Codes::repeat_code))]
 fn put_repeat(bytes: &mut Vec<u8>, repeat: &Option<(RepeatKey, [u8; 32])>) -> Result<(), AllocError>
     ensures code { OnOk result (bytes.new.items
         ≡ bytes.old.items ++ option_code repeat_code repeat.now) }

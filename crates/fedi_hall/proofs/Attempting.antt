@@ -1,5 +1,5 @@
 -- The turns of an attempt, and the attempt that they make.
-use Rattle.std.proofs.Common.{◌≡◌, ◌⊎◌, ℕ, ◌≤◌, List, [], ◌∷◌, ◌++◌, All, length, Option, Some, None, Result, Ok, Err, IfOk, Vec, inl, inr, refl, sym, ap, subst, ◌∙◌, append_assoc, append-nil}
+use Rattle.std.proofs.Common.{◌≡◌, ◌⊎◌, ℕ, ◌≤◌, List, [], ◌∷◌, ◌++◌, length, Option, Some, None, Result, Ok, Err, IfOk, Vec, inl, inr, refl, sym, ap, subst, ◌∙◌, append_assoc, append-nil}
 use Rattle.std.proofs.lemmas.List.Elements.{All-append, All-nil}
 use Rattle.std.specs.Prelude.{IsTrue, is_some}
 use Rattle.std.specs.declared.alloc.AllocError.{AllocError}
@@ -17,7 +17,7 @@ use Rattle.fedi_log.specs.declared.items.What.{What}
 use Rattle.fedi_log.specs.declared.items.What.TheVariants.{Released}
 use Rattle.fedi_log.proofs.Claiming.{has_claimed_now, still_claimed}
 use Rattle.fedi_log.proofs.Growing.{goes_here, goes_on}
-use Rattle.fedi_logged.specs.Attempts.{EndsAttempt, Exchange, HasExchanged, ShowsCame}
+use Rattle.fedi_logged.specs.Attempts.{EndsAttempt}
 use Rattle.fedi_logged.specs.Claiming.{IsClaimed, IsPostSince, IsSending, Records, TakesUp, claim_item}
 use Rattle.fedi_logged.specs.declared.claims.Sending.{Sending}
 use Rattle.fedi_logged.proofs.Attempts.{exchanged_none, shown_begun}
@@ -30,7 +30,7 @@ use Rattle.fedi_town.specs.declared.act.Act.{Act}
 use Rattle.fedi_town.specs.Histories.{town}
 use Rattle.fedi_turn.specs.Record.{Continues, GrowsBy}
 use Rattle.fedi_hall.specs.Delivering.{Attempt, IsAttempt, IsStep, RecordsInTurn, ReleasesInTurn, Steps, TakesUpInTurn, Tries, step_after}
-use Rattle.fedi_hall.specs.declared.delivering.Step.TheVariants.{Sent, Nothing, Fault, Full, Memory}
+use Rattle.fedi_hall.specs.declared.delivering.Step.TheVariants.{Sent, Fault, Full, Memory}
 use Rattle.fedi_hall.proofs.Turning.{goes_by}
 
 -- ---- what a turn adds names its pass
@@ -136,21 +136,6 @@ posted_at n p act o log more seen now inbox body text begins on out since =
     (subst (λ (x : Option (List ℕ)). IsTrue (is_some x)) (sym out.lookup) refl)
 
 -- ---- one step
-
-pub nothing_step : (w : Setting) (m : ℕ) (seen now : Log) (front : ℕ) (link : Told) → IsNow w.told m → TakesUpInTurn w.by m seen now front (Ok None) → Steps w seen now link link (Nothing front m)
-nothing_step w m seen now front link is_now t =
-    let same : now ≡ t.0 = t.3.1 in
-    record {
-      exchanges = [];
-      exchanged = exchanged_none link;
-      is = (
-        refl,
-        subst (λ (l : Log). Goes w.by seen l) (sym same) t.1,
-        t.2 ∙ ap length (sym same),
-        is_now,
-        subst (λ (l : Log). free_in l m ≡ []) (sym same) t.3.0,
-      );
-    }
 
 pub memory_step : (w : Setting) (m : ℕ) (seen now : Log) (front : ℕ) (link : Told) (e : AllocError) → IsNow w.told m → TakesUpInTurn w.by m seen now front (Err e) → Steps w seen now link link Memory
 memory_step w m seen now front link e is_now t = record { exchanges = []; exchanged = exchanged_none link; is = of t.3 }

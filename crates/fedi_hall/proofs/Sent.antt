@@ -18,8 +18,6 @@ use Rattle.std.specs.contracts.alloc.Global as Global
 use Rattle.std.proofs.Crossing.{crosses}
 use Rattle.fedi_core.specs.contracts.machine.Core as Core
 use Rattle.fedi_core.specs.contracts.machine.Core.TheInside as CoreInside
-use Rattle.fedi_register.proofs.trace.Trace.TheLaws.TheKnot.{crosses as traces_cross}
-use Rattle.fedi_register.specs.contracts.trace.Trace as Trace
 use Rattle.fedi_logged.specs.contracts.logged.Logged as Logged
 use Rattle.fedi_logged.specs.contracts.logged.Logged.TheInside as LoggedInside
 use Rattle.fedi_logged.specs.contracts.noted.Noted as Noted
@@ -30,15 +28,13 @@ use Rattle.fedi_visible.specs.declared.shelf.Shelf as shelves
 use Rattle.matchit.proofs.tree.Node.TheLaws.TheKnot.{crosses as nodes_cross}
 use Rattle.matchit.specs.contracts.router.Router as Router
 use Rattle.matchit.specs.contracts.router.Router.TheInside as RouterInside
+use Rattle.fedi_effects.proofs.Sent.{trace_send}
 
 core_inside_send : (S P : RattleType) (s : shelves.Ghosts S.Denot) (p : keepers.Ghosts P.Denot) → IsSend S → IsSend P → IsSend (CoreInside.the_row S P s p)
 core_inside_send S P s p shelf keeper = declared_send (CoreInside.the_type S P s p) (search (shelf, keeper, queue_send, sendable) depth 20)
 
 core_send : (S P : RattleType) (s : shelves.Ghosts S.Denot) (p : keepers.Ghosts P.Denot) → IsSend S → IsSend P → IsSend (Core.the_row S P s p)
 core_send S P s p shelf keeper = view_send _ _ _ _ _ (core_inside_send S P s p shelf keeper)
-
-trace_send : (T : RattleType) → IsSend T → IsSend (Trace.the_row T)
-trace_send T s = search (traces_cross, crosses, sendable) depth 20
 
 noted_send : IsSend Noted.the_row
 noted_send = search (crosses, sendable) depth 20

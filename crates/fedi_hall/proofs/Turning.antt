@@ -3,7 +3,7 @@ use Rattle.std.proofs.Common.{◌≡◌, ℕ, List, ◌++◌, Bool, Some, Result
 use Rattle.fedi_log.specs.Keeping.{Base}
 use Rattle.fedi_log.specs.Log.{Goes, Log, NoEntry, Outcome, items_of}
 use Rattle.fedi_log.specs.declared.items.Item.{Item}
-use Rattle.fedi_logged.proofs.Own.{own_items}
+use Rattle.fedi_log.proofs.Keeping.{alone_outcome}
 use Rattle.fedi_model.specs.declared.request.Request.{Request}
 use Rattle.fedi_logged.specs.Turning.{Tells, TurnTells}
 use Rattle.fedi_turn.specs.Record.{Continues, GrowsBy}
@@ -11,7 +11,7 @@ use Rattle.fedi_turn.specs.Record.{Continues, GrowsBy}
 -- ---- what was added names the pass
 
 grows : (n : ℕ) (log now : Log) (o : Outcome) → now ≡ log ++ items_of (Some n) o → GrowsBy (λ (i : Item). i.pass) n log now
-grows n log now o is = (items_of (Some n) o, is, own_items (Some n) o)
+grows n log now o is = (items_of (Some n) o, is, alone_outcome (Some n) o)
 
 grown : {A E : Type 0} (b : Base) (n : ℕ) (log now : Log) (moment : ℕ) (q : Request) (body : List ℕ) (closing : Bool) (r : Result (Vec ℕ A) E)
     → IfOk r (λ t. Tells b (Some n) log now moment q body closing t.items) → OnErr r (now ≡ log) → GrowsBy (λ (i : Item). i.pass) n log now

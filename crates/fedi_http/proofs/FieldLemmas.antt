@@ -9,6 +9,7 @@ use Rattle.std.proofs.lemmas.List.Sums.{sum_by-cons, sum_by_push}
 use Rattle.std.proofs.lemmas.Bool.{cases_eq, eqb-true, le-leb, leb-true, false_from_ne_true, ne_eqb}
 use Rattle.fedi_town.specs.declared.refusal.Refusal.{Refusal}
 use Rattle.fedi_town.specs.declared.refusal.Refusal.TheVariants.{BadHead, NoCoding, NoLength, TooLong}
+use Rattle.fedi_town.proofs.Texts.{or_no, and_none}
 use Rattle.fedi_model.specs.declared.request.Coding.{Coding}
 use Rattle.fedi_model.specs.declared.request.Coding.TheVariants.{Length, Chunked}
 use Rattle.fedi_model.specs.declared.request.TheConstants.{BODY_LIMIT}
@@ -114,13 +115,9 @@ pub ruleset slots = (slot-other, slot-first, slot-again)
 
 -- ---- whether one of the fields closes
 
-or-false : (b : Bool) → (b || false) ≡ b
-or-false true = refl
-or-false false = refl
-
 closes-push : (fields : List Field) (f : Field) → closes (fields ++ f ∷ []) ≡ (closes fields || is_closing f)
 unfolding closes
-closes-push fields f = list_any-append is_closing fields (f ∷ []) ∙ ap (λ b. closes fields || b) (or-false (is_closing f))
+closes-push fields f = list_any-append is_closing fields (f ∷ []) ∙ ap (λ b. closes fields || b) (or_no (is_closing f))
 
 pub closing-step : (fields : List Field) (f : Field) (before after : Bool) → before ≡ closes fields → after ≡ (before || is_closing f) → after ≡ closes (fields ++ f ∷ [])
 closing-step fields f before after known now = now ∙ ap (λ b. b || is_closing f) known ∙ sym (closes-push fields f)
@@ -150,10 +147,6 @@ once-slot name fields slot is =
     ∙ ap (λ b. not b && is_single name fields) (missing-slot name fields slot is)
     ∙ ap (λ b. b && is_single name fields) (not-not (is_some slot.value))
     ∙ ap (λ b. is_some slot.value && b) (single-is name fields slot is)
-
-and-false : (b : Bool) → (b && false) ≡ false
-and-false true = refl
-and-false false = refl
 
 -- all of these at once
 spread : (b c d e f g i : Bool)
@@ -221,7 +214,7 @@ pub no-host : (minor : ℕ) (k : KnownFields) → has_host minor k ≡ false →
 no-host minor k none = ap (λ b. b && has_no_repeats k) none
 
 pub repeats : (minor : ℕ) (k : KnownFields) → has_no_repeats k ≡ false → (has_host minor k && has_no_repeats k) ≡ false
-repeats minor k bad = ap (λ b. has_host minor k && b) bad ∙ and-false (has_host minor k)
+repeats minor k bad = ap (λ b. has_host minor k && b) bad ∙ and_none (has_host minor k)
 
 -- the fields occur as they may, and these values determine where the body ends
 pub record IsMeasured (minor : ℕ) (fields : List Field) (k : KnownFields) (coding length : Option (Bor (List ℕ))) : Type 0 where
@@ -261,7 +254,7 @@ both-measures method minor fields k c l m = measured method minor fields k (Some
 pub in-chunks : (method : List ℕ) (minor : ℕ) (fields : List Field) (k : KnownFields) (c : Bor (List ℕ)) → IsMeasured minor fields k (Some c) None → is_chunked c.now ≡ true
     → (fields_refusal method minor fields ≡ None) × (Chunked ≡ coding_of fields)
 in-chunks method minor fields k c m is =
-    (measured method minor fields k (Some c) None m ∙ rw (m.good, is, and-false (is_post method)) refl, sym (coded minor fields k (Some c) None m))
+    (measured method minor fields k (Some c) None m ∙ rw (m.good, is, and_none (is_post method)) refl, sym (coded minor fields k (Some c) None m))
 
 pub no-coding : (method : List ℕ) (minor : ℕ) (fields : List Field) (k : KnownFields) (c : Bor (List ℕ)) → IsMeasured minor fields k (Some c) None → is_chunked c.now ≡ false
     → fields_refusal method minor fields ≡ Some NoCoding
@@ -270,7 +263,7 @@ no-coding method minor fields k c m other = measured method minor fields k (Some
 by-length : (method : List ℕ) (minor : ℕ) (fields : List Field) (k : KnownFields) (l : Bor (List ℕ)) (coding : Coding) → IsMeasured minor fields k None (Some l)
     → IsLength l.now coding → (fields_refusal method minor fields ≡ None) × (coding ≡ coding_of fields)
 by-length method minor fields k l coding m is = (
-  measured method minor fields k None (Some l) m ∙ rw (m.good, is.0, and-false (is_post method), le-leb (digits_value 10 l.now) BODY_LIMIT is.1) refl,
+  measured method minor fields k None (Some l) m ∙ rw (m.good, is.0, and_none (is_post method), le-leb (digits_value 10 l.now) BODY_LIMIT is.1) refl,
   is.2 ∙ sym (coded minor fields k None (Some l) m),
 )
 
@@ -279,7 +272,7 @@ bad-length : (method : List ℕ) (minor : ℕ) (fields : List Field) (k : KnownF
 bad-length method minor fields k l e m (inl bad) = measured method minor fields k None (Some l) m ∙ rw (m.good, bad.0, bad.1) refl
 bad-length method minor fields k l e m (inr long) =
     measured method minor fields k None (Some l) m
-    ∙ rw (m.good, long.0, and-false (is_post method), gt_leb (digits_value 10 l.now) BODY_LIMIT long.1, long.2) refl
+    ∙ rw (m.good, long.0, and_none (is_post method), gt_leb (digits_value 10 l.now) BODY_LIMIT long.1, long.2) refl
 
 -- whether the length is valid or not
 pub length_told : (method : List ℕ) (minor : ℕ) (fields : List Field) (k : KnownFields) (l : Bor (List ℕ)) (r : Result Coding Refusal) → IsMeasured minor fields k None (Some l)

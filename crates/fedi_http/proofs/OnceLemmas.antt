@@ -1,5 +1,5 @@
 -- Bytes begin with one body only, or there is one reason why they begin with no body.
-use Rattle.std.proofs.Common.{◌≡◌, ◌≢◌, ℕ, ◌+◌, ◌-◌, ◌≤◌, List, [], ◌∷◌, ◌++◌, length, take, drop, inl, inr, refl, sym, ap, subst, ◌∙◌, arith, append_assoc, append-nil, length-append, Bool, true, false}
+use Rattle.std.proofs.Common.{◌≡◌, ◌≢◌, ℕ, ◌+◌, ◌-◌, ◌≤◌, List, [], ◌∷◌, ◌++◌, length, take, drop, inl, inr, refl, sym, ap, subst, ◌∙◌, arith, append_assoc, append-nil, length-append}
 use Rattle.std.proofs.Math.Seq.{take-append-add}
 use Rattle.std.proofs.lemmas.List.{take-append-drop, take_all, take-append-le, drop-append-le, drop_all, take-take}
 use Rattle.std.proofs.lemmas.Bool.{cases_order, cases_lt}
@@ -11,6 +11,8 @@ use Rattle.fedi_model.specs.declared.request.Coding.TheVariants as codings
 use Rattle.fedi_http.specs.declared.chunks.TheConstants.{LINE_LIMIT}
 use Rattle.fedi_http.specs.Chunks.{Chunk, EndsBehindSize, EndsInData, EndsInLine, EndsInTrailer, Ending, HasBody, HasChunkedBody, HasMeasuredBody, HasLine, HasPartOfData, HasPartOfLine, HasPartOfTrailer, HasSize, HasTrailer, HasWrongData, HasWrongLine, HasWrongTrailer, IsChunk, IsEndAt, IsNoCrlf, IsPartOfCrlf, Long, Part, Whole, Wrong, content_of, crlf, is_trailer, print_chunk, print_chunks}
 use Rattle.fedi_http.proofs.ChunkLemmas.{chunks-append, size-append}
+use Rattle.fedi_town.proofs.Texts.{not_both}
+use Rattle.fedi_outside.proofs.ImageLemmas.{same_length}
 
 -- ---- one line
 
@@ -77,22 +79,19 @@ whole_not_part content rest size tail long is (inr part) = subst IsPartOfCrlf (b
 
 -- ---- the trailer
 
-true_not_false : (b : Bool) → b ≡ true → b ≡ false → ⊥
-true_not_false b holds fails = cc
-
 trailer_once : (bytes r q : List ℕ) → HasTrailer bytes r → HasTrailer bytes q → r ≡ q
 trailer_once bytes r q x y =
     elim (cases_order x.count y.count) [
       | inl same ↦ x.rest_is ∙ ap (λ n. drop n bytes) same ∙ sym y.rest_is
-      | inr (inl low) ↦ absurd (true_not_false _ x.ends (y.first x.count low))
-      | inr (inr high) ↦ absurd (true_not_false _ y.ends (x.first y.count high))
+      | inr (inl low) ↦ absurd (not_both _ x.ends (y.first x.count low))
+      | inr (inr high) ↦ absurd (not_both _ y.ends (x.first y.count high))
     ]
 
 trailer_not_wrong : (bytes r : List ℕ) → HasTrailer bytes r → HasWrongTrailer bytes → ⊥
-trailer_not_wrong bytes r x wrong = true_not_false _ x.ends (wrong.1 x.count x.short)
+trailer_not_wrong bytes r x wrong = not_both _ x.ends (wrong.1 x.count x.short)
 
 trailer_not_part : (bytes r : List ℕ) → HasTrailer bytes r → HasPartOfTrailer bytes → ⊥
-trailer_not_part bytes r x part = true_not_false _ x.ends (part.1 x.count x.within)
+trailer_not_part bytes r x part = not_both _ x.ends (part.1 x.count x.within)
 
 -- ---- where another chunk may begin
 
@@ -223,15 +222,9 @@ one_chunked limit bytes o p b c r q x y =
 
 -- ---- a body by its length
 
-prefix_once : (xs ys rest tail : List ℕ) → length xs ≡ length ys → xs ++ rest ≡ ys ++ tail → (xs ≡ ys) × (rest ≡ tail)
-prefix_once xs ys rest tail long same = (
-  sym (front xs rest) ∙ ap (take (length xs)) same ∙ ap (λ n. take n (ys ++ tail)) long ∙ front ys tail,
-  sym (behind xs rest (length xs) (xs ++ rest) refl refl) ∙ ap (drop (length xs)) same ∙ behind ys tail (length xs) (ys ++ tail) (sym long) refl,
-)
-
 one_measured : (size : ℕ) (bytes : List ℕ) (o p : Ending) (b c r q : List ℕ) → HasMeasuredBody size bytes o b r → HasMeasuredBody size bytes p c q
     → (o ≡ p) × (o ≡ Whole → (b ≡ c) × (r ≡ q))
-one_measured size bytes o p b c r q (inl x) (inl y) = (x.0 ∙ sym y.0, λ _. prefix_once b c r q (x.1 ∙ sym y.1) (sym x.2 ∙ y.2))
+one_measured size bytes o p b c r q (inl x) (inl y) = (x.0 ∙ sym y.0, λ _. same_length b c r q (x.1 ∙ sym y.1) (sym x.2 ∙ y.2))
 one_measured size bytes o p b c r q (inl x) (inr y) = absurd (omega (arith, x.1, ap length x.2, length-append b r, y.1))
 one_measured size bytes o p b c r q (inr x) (inl y) = absurd (omega (arith, y.1, ap length y.2, length-append c q, x.1))
 one_measured size bytes o p b c r q (inr x) (inr y) = (x.0 ∙ sym y.0, λ whole. absurd (part_not_whole (sym x.0 ∙ whole)))

@@ -1,29 +1,20 @@
 -- An item repeats an earlier Follow of the same actor by the same author.
-use Rattle.std.proofs.Common.{◌≡◌, ℕ, true, false, List, Option, Some, None, refl, sym, subst}
+use Rattle.std.proofs.Common.{◌≡◌, ℕ, false, List, refl, sym, subst}
 use Rattle.std.specs.Prelude.{◌&&◌}
 use Rattle.std.specs.Str.{bytes_eq}
 use Rattle.std.proofs.lemmas.Bool.{and_parts}
-use Rattle.fedi_register.specs.Registers.{IsNarrower, is_relation, relates, relates_by_key}
+use Rattle.fedi_register.specs.Registers.{IsNarrower, relates, relates_by_key}
+use Rattle.fedi_register.proofs.Places.{follow_relates, id_key}
 use Rattle.fedi_visible.specs.Places.{can_come_again, is_same_seen}
 use Rattle.fedi_town.specs.declared.act.Act.{Act}
 use Rattle.fedi_town.specs.declared.caller.Caller.{Caller}
 use Rattle.fedi_town.specs.declared.caller.Which.{Which}
 use Rattle.fedi_town.specs.declared.caller.Which.TheVariants.{Inbox, Outbox, Followers, Following, Liked, Likes, Shares}
-use Rattle.fedi_town.specs.declared.deed.Deed.{Deed}
-use Rattle.fedi_town.specs.declared.deed.Deed.TheVariants.{Follow}
-use Rattle.fedi_town.specs.Collections.{is_item, is_same_item, object_key, text_of}
+use Rattle.fedi_town.specs.Collections.{is_item, is_same_item, object_key}
 use Rattle.fedi_town.specs.Deeds.{is_accepted, is_follow}
 use Rattle.fedi_town.specs.Relations.{is_about, is_following, is_id, ref_id}
 use Rattle.fedi_town.specs.Seeing.{sees}
 use Rattle.fedi_town.specs.Towns.{Town, deed, is_by}
-
-follow_relates : (d : Deed) → is_follow d ≡ true → is_relation d ≡ true
-follow_relates Follow is = refl
-follow_relates d is = absurd cc
-
-keyed : (id : List ℕ) (about : Option (List ℕ)) → is_id id about ≡ true → bytes_eq (text_of about) id ≡ true
-keyed id None is = absurd cc
-keyed id (Some own) is = is
 
 follower-again : (t : Town) (c : Caller) (name id : List ℕ) (x : Act) → IsNarrower (is_same_seen t c (Followers name) id x) (relates_by_key x.author id)
 unfolding is_same_seen is_item is_following is_same_item relates_by_key relates is_by is_about
@@ -33,7 +24,7 @@ follower-again t c name id x y is =
     rw (
       follow_relates (deed y) (and_parts (is_follow (deed y)) (is_accepted y.state) item.0).0,
       (and_parts (bytes_eq y.author x.author) (sees t c y) parts.1).0,
-      keyed id (ref_id y.activity.object) item.1,
+      id_key id (ref_id y.activity.object) item.1,
     ) refl
 
 -- in the followers collection: a Follow of the owner by the same actor

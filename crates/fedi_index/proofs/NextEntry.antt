@@ -35,6 +35,7 @@ use Rattle.fedi_town.specs.Relations.{is_about, is_open_follow}
 use Rattle.fedi_town.specs.Shapes.{is_delivered}
 use Rattle.fedi_town.specs.Towns.{Town, empty_town, has_host, id_of, is_by}
 use Rattle.fedi_town.proofs.Kept.{IsKept, changed-kept}
+use Rattle.fedi_town.proofs.Growing.{legal_push}
 
 -- ---- an effect on an activity leaves it in its lists
 
@@ -142,15 +143,9 @@ candidates_after t (Tried activity recipient came moment) lists ok ids are = non
 
 -- ---- legal histories
 
-legal_from : (history : List Entry) (t : Town) (e : Entry) → is_legal_from t history ≡ true → is_admissible (fold step t history) e ≡ true → is_legal_from t (history ++ e ∷ []) ≡ true
-legal_from [] t e legal ok = rw ok refl
-legal_from (d ∷ history) t e legal ok =
-    let parts = and_parts (is_admissible t d) (is_legal_from (step t d) history) legal in
-    rw (parts.0, legal_from history (step t d) e parts.1 ok) refl
-
 -- the history is still legal after an entry that may come next
 pub legal_after : (history : List Entry) (t : Town) (e : Entry) → t ≡ town history → IsLegal history → is_admissible t e ≡ true → IsLegal (history ++ e ∷ [])
-legal_after history t e is legal ok = record { admissible = legal_from history empty_town e legal.admissible (rw is at ok) }
+legal_after history t e is legal ok = record { admissible = legal_push history empty_town e legal.admissible (rw is at ok) }
 
 -- in a legal history there are no activities before the server is set up
 ids_from : (history : List Entry) (t : Town) → IsHosted t → HasIds t.host t.acts → is_legal_from t history ≡ true → HasIds (fold step t history).host (fold step t history).acts

@@ -1,5 +1,5 @@
 -- What a Tombstone hides is revealed to no caller.
-use Rattle.std.proofs.Common.{◌≡◌, ℕ, Bool, true, false, List, [], ◌∷◌, length, Option, Some, None, refl, sym, ap, ◌∙◌}
+use Rattle.std.proofs.Common.{◌≡◌, ℕ, Bool, true, false, List, length, Option, Some, None, refl, sym, ap, ◌∙◌}
 use Rattle.std.specs.Prelude.{filter, if◌then◌else◌, map, option_map}
 use Rattle.std.specs.List.{filter_map, find}
 use Rattle.std.proofs.lemmas.List.{length-map}
@@ -19,7 +19,7 @@ use Rattle.fedi_town.specs.Relations.{blocks, follows, has_block_between, is_abo
 use Rattle.fedi_town.specs.Seeing.{is_followed_from, is_follower_from, is_for_follower, reaches, seen, sees, sees_as, sees_with}
 use Rattle.fedi_town.specs.Showing.{bare_tombstone, id_of_caller, object_or_id, present_object, shown_activity, shown_object, shown_ref, sight_of, view}
 use Rattle.fedi_town.specs.Towns.{Town, count_of, id_of, is_by}
-use Rattle.fedi_town.proofs.Lists.{filter-through, find-through, list_any-agree, list_any-through, map-through}
+use Rattle.fedi_town.proofs.Lists.{filter-through, find-through, list_any-agree, list_any-through, map-through, filter_map-through}
 use Rattle.fedi_laws.specs.Statements.{bare_object, without_deleted}
 
 -- the activity without what a Tombstone hides
@@ -184,10 +184,6 @@ kept_of y = option_map (λ r. (r, y.activity.id)) y.repeat
 kept-bare : (y : Act) → kept_of (bare y) ≡ kept_of y
 unfolding rewrite_act
 kept-bare y = refl
-
-filter_map-through : {A B C : Type 0} (f : A → B) (g : B → Option C) (h : A → Option C) → ((x : A) → g (f x) ≡ h x) → (xs : List A) → filter_map g (map f xs) ≡ filter_map h xs
-filter_map-through f g h same [] = refl
-filter_map-through f g h same (x ∷ xs) = rw (same x, filter_map-through f g h same xs) refl
 
 repeats-bare : (t : Town) (me : List ℕ) → repeats_of (without_deleted t) me ≡ repeats_of t me
 repeats-bare t me =

@@ -11,7 +11,7 @@ use Rattle.fedi_objects.specs.declared.entry.Entry.TheVariants.{Hosted, Made, Pe
 use Rattle.fedi_objects.specs.declared.kind.State.TheVariants.{Done}
 use Rattle.fedi_objects.specs.declared.object.Object.{Object}
 use Rattle.fedi_objects.specs.Forms.{is_tombstone}
-use Rattle.fedi_town.proofs.Kept.{ref_id-received}
+use Rattle.fedi_town.proofs.Kept.{ref_received}
 use Rattle.fedi_town.specs.declared.act.Act.{Act}
 use Rattle.fedi_town.specs.declared.addition.Addition.TheVariants as additions
 use Rattle.fedi_town.specs.declared.deed.Deed.{Deed}
@@ -121,8 +121,8 @@ remote_apart : (t : Town) (owner author : List ℕ) (a : Activity) (moment : ℕ
 unfolding updates deletes is_about state_of
 remote_apart t owner author a moment id o b =
     let dead : is_own_live author (maker t id) ≡ false = not_own t author id o b in record {
-      updates = rw (ref_id-received author moment a.object) (not_updated t false author (deed_of a.kind) (is_whole a.object) (ref_id a.object) id dead);
-      deletes = rw (ref_id-received author moment a.object) (not_deleted t false author (deed_of a.kind) (is_whole a.object) (ref_id a.object) id dead);
+      updates = rw (ref_received author moment a.object) (not_updated t false author (deed_of a.kind) (is_whole a.object) (ref_id a.object) id dead);
+      deletes = rw (ref_received author moment a.object) (not_deleted t false author (deed_of a.kind) (is_whole a.object) (ref_id a.object) id dead);
     }
 
 same_form : (x : Act) (id : List ℕ) (o : Object) → IsApart id x → next_form id x o ≡ o

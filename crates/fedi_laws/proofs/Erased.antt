@@ -1,6 +1,6 @@
 -- The content of a deleted object leaves no trace.
 use Rattle.std.proofs.Common.{◌≡◌, ℕ, ◌+◌, Bool, true, false, List, [], ◌∷◌, ◌++◌, Option, Some, None, refl, sym, ap, ◌∙◌}
-use Rattle.std.specs.Prelude.{◌||◌, codes, filter, map, if◌then◌else◌}
+use Rattle.std.specs.Prelude.{◌||◌, codes, filter, map}
 use Rattle.std.specs.List.{find, flat_map, fold, list_any}
 use Rattle.std.proofs.lemmas.List.{append-nil}
 use Rattle.std.proofs.lemmas.List.Elements.{filter-append, filter_agree}
@@ -33,6 +33,7 @@ use Rattle.fedi_town.proofs.Steps.{accept}
 use Rattle.fedi_town.proofs.Texts.{bytes_eq-same}
 use Rattle.fedi_town.proofs.IdsOnce.{count-push}
 use Rattle.fedi_town.proofs.Quiet.{AreQuiet, is_between-quiet}
+use Rattle.fedi_town.proofs.Told.{choice_still}
 use Rattle.fedi_laws.specs.Statements.{creates, deletes}
 
 -- ---- an activity that made an object
@@ -187,13 +188,9 @@ no_effect : (t : Town) (x : Act) (id : Option (List ℕ)) → x.activity.kind �
 no_effect t x None create = refl
 no_effect t x (Some id) create = rw create refl
 
-either_way : (b : Bool) (e : Effect) → e ≡ effects.Nothing → (if b then e else effects.Nothing) ≡ effects.Nothing
-either_way true e h = h
-either_way false e h = refl
-
 nothing_done : (t : Town) (x : Act) → x.activity.kind ≡ kinds.Create → effect_of t x ≡ effects.Nothing
 unfolding effect_of
-nothing_done t x create = either_way (takes_effect (deed x) x.state) (effect_with t x (ref_id x.activity.object)) (no_effect t x (ref_id x.activity.object) create)
+nothing_done t x create = choice_still (takes_effect (deed x) x.state) (effect_with t x (ref_id x.activity.object)) (no_effect t x (ref_id x.activity.object) create)
 
 accepted_creation : (t : Town) (host name : List ℕ) (repeat : Option (List ℕ × List ℕ)) (a : Activity) (o p : Object) (m : ℕ)
     → accept t (carrying (creation t host name repeat a o m) p) ≡ after t (creation t host name repeat a o m) p

@@ -7,7 +7,7 @@ use Rattle.std.proofs.lemmas.List.{length-map}
 use Rattle.std.proofs.lemmas.List.Folds.{list_any-append}
 use Rattle.fedi_address.specs.Recipients.{is_among}
 use Rattle.fedi_town.proofs.Kept.{also-same, made-inbox}
-use Rattle.fedi_town.proofs.Lists.{list_any-through, filter-through, find-through, map-through, list_any-agree}
+use Rattle.fedi_town.proofs.Lists.{list_any-through, filter-through, find-through, map-through, list_any-agree, filter_map-through}
 use Rattle.fedi_town.specs.Agreement.{Agree, SameOwn, IsSameOwn, peer_of}
 use Rattle.fedi_town.specs.Histories.{with_recipient}
 use Rattle.fedi_town.specs.Objects.{makes, maker_of, object_of}
@@ -18,7 +18,7 @@ use Rattle.fedi_town.specs.Towns.{Town, id_of, is_by}
 use Rattle.fedi_town.specs.declared.act.Act.{Act}
 use Rattle.fedi_town.specs.declared.caller.Caller.{Caller}
 use Rattle.fedi_town.specs.declared.caller.Caller.TheVariants.{Nobody, Actor, Peer}
-use Rattle.fedi_town.proofs.Texts.{is_false, not_both, or_no, bytes_eq-is, bytes_eq-same}
+use Rattle.fedi_town.proofs.Texts.{or_no, bytes_eq-swapped}
 
 abbrev pub with_owner : Town → List ℕ → List ℕ → Town
 with_owner t id owner = record t { acts = map (with_recipient id owner) t.acts }
@@ -95,12 +95,9 @@ IsOther t Nobody owner = Unit {0}
 IsOther t (Actor name) owner = is_id owner (id_of t name) ≡ false
 IsOther t (Peer host) owner = is_of_peer host owner ≡ false
 
-other_way : (a b : List ℕ) → bytes_eq a b ≡ false → bytes_eq b a ≡ false
-other_way a b e = is_false (bytes_eq b a) (λ h. not_both (bytes_eq a b) (rw (bytes_eq-is b a h) (bytes_eq-same a)) e)
-
 sees_with-inbox : (t : Town) (id owner : List ℕ) (me : Option (List ℕ)) (y : Act) → is_id owner me ≡ false → sees_with (with_owner t id owner) me (with_recipient id owner y) ≡ sees_with t me y
 sees_with-inbox t id owner None y other = also-same (λ z. z.is_public) id owner y refl
-sees_with-inbox t id owner (Some me) y other = sees_as-inbox t id owner me y (other_way me owner other)
+sees_with-inbox t id owner (Some me) y other = sees_as-inbox t id owner me y (bytes_eq-swapped me owner other)
 
 sees-inbox : (t : Town) (id owner : List ℕ) (c : Caller) → IsOther t c owner → (y : Act) → sees (with_owner t id owner) c (with_recipient id owner y) ≡ sees t c y
 unfolding sees
@@ -123,7 +120,7 @@ maker-inbox t id owner (Some i) =
 own-inbox : (id owner : List ℕ) (me : Option (List ℕ)) (y : Act) → is_id owner me ≡ false → own_among me (with_recipient id owner y).recipients ≡ own_among me y.recipients
 own-inbox id owner None y other = refl
 own-inbox id owner (Some me) y other =
-    also-same (λ z. own_among (Some me) z.recipients) id owner y (rw (among-inbox me owner y.recipients (other_way me owner other)) refl)
+    also-same (λ z. own_among (Some me) z.recipients) id owner y (rw (among-inbox me owner y.recipients (bytes_eq-swapped me owner other)) refl)
 
 ref-inbox : (t : Town) (id owner : List ℕ) (y : Act) → shown_ref (with_owner t id owner) (with_recipient id owner y) ≡ shown_ref t y
 unfolding shown_ref present_object
@@ -159,10 +156,6 @@ view-inbox t id owner c other =
 by-inbox : (id owner me : List ℕ) (y : Act) → is_by me (with_recipient id owner y) ≡ is_by me y
 unfolding is_by
 by-inbox id owner me y = also-same (is_by me) id owner y refl
-
-filter_map-through : {A B C : Type 0} (f : A → B) (g : B → Option C) (h : A → Option C) → ((x : A) → g (f x) ≡ h x) → (xs : List A) → filter_map g (map f xs) ≡ filter_map h xs
-filter_map-through f g h same [] = refl
-filter_map-through f g h same (x ∷ xs) = rw (same x, filter_map-through f g h same xs) refl
 
 own_of-inbox : (t : Town) (id owner me : List ℕ) → SameOwn (with_owner t id owner) t me
 own_of-inbox t id owner me =

@@ -1,5 +1,5 @@
 -- Each ask keeps a legal history legal, and what is due stays due in it.
-use Rattle.std.proofs.Common.{◌≡◌, ℕ, ◌≤◌, true, false, List, [], ◌∷◌, ◌++◌, Option, Some, None, refl, sym, subst, ◌∙◌, arith}
+use Rattle.std.proofs.Common.{◌≡◌, ℕ, ◌≤◌, true, false, List, [], ◌∷◌, ◌++◌, Option, Some, None, refl, sym, subst, arith}
 use Rattle.std.specs.Prelude.{is_none}
 use Rattle.std.specs.List.{list_any, fold}
 use Rattle.std.proofs.lemmas.Bool.{and_parts}
@@ -19,24 +19,10 @@ use Rattle.fedi_town.proofs.IdsTown.{HasIds, step_by}
 use Rattle.fedi_town.proofs.Lists.{first_none, other_none}
 use Rattle.fedi_laws.proofs.Next.{entry_admissible}
 use Rattle.fedi_town.proofs.Sound.{IsHosted, not_hosted, step_sound}
+use Rattle.fedi_town.proofs.Growing.{legal_push}
 use Rattle.fedi_laws.specs.Statements.{is_attempt_of}
 
 -- ---- one more entry
-
-legal_push : (history : List Entry) (t : Town) (e : Entry) → is_legal_from t history ≡ true → is_admissible (fold step t history) e ≡ true → is_legal_from t (history ++ e ∷ []) ≡ true
-legal_push [] t e legal ok = rw ok refl
-legal_push (d ∷ history) t e legal ok =
-    let parts = and_parts (is_admissible t d) (is_legal_from (step t d) history) legal in
-    rw (parts.0, legal_push history (step t d) e parts.1 ok) refl
-
--- in a legal history each entry may come after those before it
-pub legal_last : (history : List Entry) (t : Town) (e : Entry) → is_legal_from t (history ++ e ∷ []) ≡ true
-    → (is_legal_from t history ≡ true) × (is_admissible (fold step t history) e ≡ true)
-legal_last [] t e legal = (refl, (and_parts (is_admissible t e) true legal).0)
-legal_last (d ∷ history) t e legal =
-    let parts = and_parts (is_admissible t d) (is_legal_from (step t d) (history ++ e ∷ [])) legal in
-    let rest = legal_last history (step t d) e parts.1 in
-    (rw (parts.0, rest.0) refl, rest.1)
 
 -- The entry that an ask makes may come next.
 pub asks_keep_legal : (history : List Entry) (c : Caller) (ask : Ask) (moment : ℕ) (e : Entry) → IsLegal history

@@ -3,7 +3,6 @@ use Rattle.std.proofs.Common.{◌≡◌, ℕ, Bool, true, false, List, [], ◌�
 use Rattle.std.specs.Prelude.{◌&&◌, ◌||◌, not, filter, if◌then◌else◌, option_map}
 use Rattle.std.specs.List.{find, flat_map, list_all, list_any}
 use Rattle.std.specs.Str.{bytes_eq}
-use Rattle.std.proofs.lemmas.List.Folds.{list_any-append}
 use Rattle.fedi_address.specs.declared.recipients.Recipients.{Recipients}
 use Rattle.fedi_address.specs.Iris.{public_iri}
 use Rattle.fedi_address.specs.Recipients.{all_of, is_among, is_public, names}
@@ -29,20 +28,17 @@ use Rattle.fedi_town.specs.States.{state_of}
 use Rattle.fedi_town.specs.Towns.{Town, empty_town, has_id, has_name, id_of, is_by}
 use Rattle.fedi_town.proofs.MadeOnce.{made_once}
 use Rattle.fedi_town.proofs.Once.{filter-among, once-among}
-use Rattle.fedi_town.proofs.Texts.{and_none, bytes_eq-is, bytes_eq-same, is_false, not_both, or_true}
+use Rattle.fedi_town.proofs.Texts.{and_none, bytes_eq-same, or_true, bytes_eq-swapped}
 use Rattle.fedi_laws.proofs.Changes.{change_is_done, posts_as}
 use Rattle.fedi_town.proofs.IdsTown.{found_any}
-use Rattle.fedi_laws.proofs.Legality.{legal_last}
+use Rattle.fedi_town.proofs.Growing.{legal_last}
 use Rattle.fedi_town.proofs.Members.{is_member, not_public}
 use Rattle.fedi_town.proofs.People.{id_of-is, named_is}
 use Rattle.fedi_town.proofs.Sound.{IsHosted, is_set, town_sound}
+use Rattle.fedi_town.proofs.Reached.{second_among}
 use Rattle.fedi_laws.specs.Statements.{is_no_peer}
 
 -- ---- who gets what the Create's readers get
-
-also_among : (me : List ℕ) (xs others : List (List ℕ)) → is_among me others ≡ true → is_among me (xs ++ others) ≡ true
-unfolding is_among
-also_among me xs others there = list_any-append (λ u. bytes_eq u me) xs others ∙ rw there (or_true (list_any (λ u. bytes_eq u me) xs))
 
 also_gets : (t : Town) (author me : List ℕ) (r : Recipients) (others : List (List ℕ)) → is_recipient t author me ≡ true → is_among me others ≡ true
     → is_among me (recipients_with t author r others) ≡ true
@@ -50,10 +46,7 @@ also_gets t author me r others passes there =
     let all : List (List ℕ) = flat_map (addressees t author) (all_of r) ++ others in
     once-among me (filter (is_recipient t author) all)
     ∙ filter-among (is_recipient t author) me all passes
-    ∙ also_among me (flat_map (addressees t author) (all_of r)) others there
-
-other_way : (a b : List ℕ) → bytes_eq a b ≡ false → bytes_eq b a ≡ false
-other_way a b e = is_false (bytes_eq b a) (λ h. not_both (bytes_eq a b) (rw (bytes_eq-is b a h) (bytes_eq-same a)) e)
+    ∙ second_among me (flat_map (addressees t author) (all_of r)) others there
 
 -- a member's id is a known id
 known_id : (name me : List ℕ) (xs : List Member) → option_map (λ a. a.id) (find (has_name name) xs) ≡ Some me → list_any (has_id me) xs ≡ true
@@ -70,7 +63,7 @@ may_get : (t : Town) (author name me : List ℕ) → bytes_eq me public_iri ≡ 
     → has_block_between t me author ≡ false → is_recipient t author me ≡ true
 unfolding is_recipient is_nobody_here is_actor
 may_get t author name me not_all known other free =
-    rw (not_all, other_way author me other, known_id name me t.actors known, free, and_none (is_of_town t.host me)) refl
+    rw (not_all, bytes_eq-swapped author me other, known_id name me t.actors known, free, and_none (is_of_town t.host me)) refl
 
 -- ---- who sees it
 

@@ -1,6 +1,6 @@
 -- The present state of an object is the object replayed.
 use Rattle.std.proofs.Common.{◌≡◌, ℕ, Bool, true, false, List, [], ◌∷◌, ◌++◌, Option, Some, None, refl, sym, ap, ◌∙◌}
-use Rattle.std.specs.Prelude.{◌&&◌, ◌||◌, map, codes, option_map, option_to_list, if◌then◌else◌}
+use Rattle.std.specs.Prelude.{◌&&◌, map, codes, option_map, option_to_list, if◌then◌else◌}
 use Rattle.std.specs.List.{fold, find, list_any}
 use Rattle.std.specs.Str.{bytes_eq}
 use Rattle.std.proofs.lemmas.List.Sums.{fold-append}
@@ -32,7 +32,7 @@ use Rattle.fedi_town.specs.Towns.{Town, deed, empty_town, id_of}
 use Rattle.fedi_laws.proofs.Alike.{about_it}
 use Rattle.fedi_laws.proofs.Inboxes.{maker-inbox}
 use Rattle.fedi_town.proofs.Kept.{changed-kept, made-kept}
-use Rattle.fedi_town.proofs.Lists.{list_any-through, find-through, find-stays, find-none}
+use Rattle.fedi_town.proofs.Lists.{list_any-through, find-through, find-stays, find-none, find-past}
 use Rattle.fedi_town.proofs.MadeOnce.{local_new, remote_new, accept_makes_none}
 use Rattle.fedi_town.proofs.Steps.{accept, answers}
 use Rattle.fedi_town.proofs.Texts.{bytes_eq-is, bytes_eq-same, is_false, not_both}
@@ -230,14 +230,6 @@ new_object id x rest none =
       | true ↦ refl
       | false ↦ rw (find-none (makes id) rest none) refl
     ]
-
-find-past : {A : Type 0} (p : A → Bool) (xs ys : List A) → list_any p xs ≡ false → find p (xs ++ ys) ≡ find p ys
-find-past p [] ys none = refl
-find-past p (x ∷ xs) ys none =
-    elim (p x) as (λ b. (b || list_any p xs) ≡ false → (if b then Some x else find p (xs ++ ys)) ≡ find p ys) [
-      | true ↦ λ e. absurd cc
-      | false ↦ λ e. find-past p xs ys e
-    ] none
 
 none_left : (r : ObjectRef) (f : Object → Object) → whole_of r ≡ None → whole_of (rewrite_ref f r) ≡ None
 none_left Nothing f e = refl

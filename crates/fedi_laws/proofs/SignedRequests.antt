@@ -2,14 +2,12 @@
 use Rattle.std.proofs.Common.{◌≡◌, refl, ap, ℕ, Bool, true, List, Some, None, option_map}
 use Rattle.std.specs.Prelude.{codes, if◌then◌else◌}
 use Rattle.std.specs.Str.{is_utf8}
-use Rattle.std.proofs.lemmas.Str.{is_utf8-from_IsUtf8}
 use Rattle.hex.specs.Hex.{decode_pairs}
 use Rattle.sha2.specs.Sha256.{sha256, first_words, schedule, rounds, compress, hash_after, digest_bytes}
 use Rattle.fedi_mac.specs.Hmac.{block_key, padded, inner_block, outer_block, hmac}
 use Rattle.fedi_mac.specs.Keys.{key_of}
 use Rattle.fedi_mac.specs.Signing.{signed_text}
-use Rattle.fedi_objects.specs.Keys.{is_repeat_key}
-use Rattle.fedi_objects.proofs.KeyLemmas.{key_is_utf8}
+use Rattle.fedi_objects.proofs.KeyLemmas.{is_utf8_key}
 use Rattle.fedi_town.specs.Towns.{has_host}
 use Rattle.fedi_model.specs.Answers.{caller_of}
 use Rattle.fedi_model.specs.Callers.{is_signed, caller_by}
@@ -23,17 +21,14 @@ by_code : (host code body : List ℕ) → is_utf8 host ≡ true
 by_code host code body text =
     ap (λ (t : Bool). caller_by club (Mac (if t then option_map (signed_by (delivery None (Some host) (Some code)) body host) (code_of code) else None))) text
 
-is_text : (host : List ℕ) → is_repeat_key host ≡ true → is_utf8 host ≡ true
-is_text host visible = is_utf8-from_IsUtf8 host (key_is_utf8 host visible)
-
 pub signed_delivery : SignedDelivery
 unfolding decode_pairs sha256 first_words schedule rounds compress hash_after digest_bytes block_key padded inner_block outer_block hmac key_of signed_text has_host is_signed caller_by is_lower_hex
 signed_delivery = record {
-  signed = by_code hill code body (is_text hill refl);
-  changed = by_code hill changed_code body (is_text hill refl);
-  in_upper_case = by_code hill upper_code body (is_text hill refl);
-  of_another_body = by_code hill code (codes "[]") (is_text hill refl);
-  of_a_stranger = by_code (codes "lake.example") code body (is_text (codes "lake.example") refl);
+  signed = by_code hill code body (is_utf8_key hill refl);
+  changed = by_code hill changed_code body (is_utf8_key hill refl);
+  in_upper_case = by_code hill upper_code body (is_utf8_key hill refl);
+  of_another_body = by_code hill code (codes "[]") (is_utf8_key hill refl);
+  of_a_stranger = by_code (codes "lake.example") code body (is_utf8_key (codes "lake.example") refl);
   without_host = refl;
   without_code = refl;
   without_fields = refl;

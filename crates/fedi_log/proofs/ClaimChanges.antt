@@ -18,8 +18,8 @@ use Rattle.fedi_town.specs.Histories.{town}
 use Rattle.fedi_town.specs.Legal.{IsLegal}
 use Rattle.fedi_town.specs.Lists.{PassesOnce}
 use Rattle.fedi_log.proofs.Claiming.{IsOlder, and_yes, claimed_more, new_or_older, older, own_pair, same_claim, same_pair}
-use Rattle.fedi_log.proofs.ClaimedRows.{AreRowsOf, named_of, one_of, places_of}
-use Rattle.fedi_log.proofs.ClaimsHeld.{IsRowFor, at_place, claim_for, claimed_at, for_parts, only_pair, row_claimed, row_for, row_of_pair}
+use Rattle.fedi_queue.proofs.ClaimedRows.{AreRowsOf, named_of, one_of, places_of, claimed_at, at_place}
+use Rattle.fedi_log.proofs.ClaimsHeld.{IsRowFor, claim_for, for_parts, only_pair, row_claimed, row_for, row_of_pair}
 use Rattle.fedi_log.proofs.Firsts.{any_there, changed_in, find_beside, first_in, found_any, once_found, once_only}
 use Rattle.fedi_log.specs.Claims.{ClaimsStand, HasClaimed, IsClaimFor, claimed_after, claimed_by, is_claimed_for, is_claimed_in, is_same_pair}
 use Rattle.fedi_log.specs.declared.items.Pair.{Pair}

@@ -1,8 +1,8 @@
 -- The row of a claim, and which claims stay when an entry is kept.
 use Rattle.std.proofs.Common.{◌≡◌, ◌≢◌, ℕ, Bool, true, false, List, [], ◌∷◌, ◌++◌, Option, Some, None, refl, sym, ap, subst, ◌∙◌}
-use Rattle.std.specs.Prelude.{◌&&◌, not, filter, nat_eq, nat_le, option_map}
+use Rattle.std.specs.Prelude.{◌&&◌, not, filter, nat_le, option_map}
 use Rattle.std.specs.List.{find, list_any}
-use Rattle.std.proofs.lemmas.Bool.{and_from, and_parts, eqb-true, false_from_ne_true, not_from_false}
+use Rattle.std.proofs.lemmas.Bool.{and_from, and_parts, false_from_ne_true, not_from_false}
 use Rattle.std.proofs.lemmas.List.Sums.{fold_push}
 use Rattle.fedi_objects.specs.declared.entry.Came.{Came}
 use Rattle.fedi_objects.specs.declared.entry.Entry.{Entry}
@@ -18,23 +18,16 @@ use Rattle.fedi_town.specs.declared.act.Act.{Act}
 use Rattle.fedi_town.specs.Histories.{step, town}
 use Rattle.fedi_town.specs.Lists.{PassesOnce}
 use Rattle.fedi_town.specs.Towns.{Town, empty_town}
+use Rattle.fedi_town.proofs.Lists.{filter-agree}
 use Rattle.fedi_log.proofs.Claiming.{and_yes, claimed_more, given_free, given_unclaimed, older, own_pair, pair_of, same_pair}
-use Rattle.fedi_log.proofs.ClaimedRows.{AreRowsOf, has_id, id_stays, ids_of, named_of, of_named, of_stays, places_of}
-use Rattle.fedi_log.proofs.Firsts.{any_gone, any_kept, any_same, any_there, filter_same, find_kept, find_left, first_in, once_only}
+use Rattle.fedi_queue.proofs.ClaimedRows.{AreRowsOf, has_id, id_stays, ids_of, named_of, of_named, of_stays, places_of, claimed_at, at_place}
+use Rattle.fedi_log.proofs.Firsts.{any_gone, any_kept, any_same, any_there, find_kept, find_left, first_in, once_only}
 use Rattle.fedi_log.specs.Claims.{ClaimsStand, HasClaimed, IsClaimFor, claimed_by, is_claimed_for, is_claimed_in, is_same_pair, tries}
 use Rattle.fedi_log.specs.declared.items.Pair.{Pair}
 use Rattle.fedi_log.specs.declared.items.What.TheVariants.{Entered}
 use Rattle.fedi_log.specs.Log.{Log, given, made_by}
 
 -- ---- the row of a claim
-
-pub claimed_at : (a p : ℕ) (row : QueueRow) → is_claimed_at a p row ≡ true → (row.claimed ≡ true) × (is_at a p row ≡ true)
-unfolding is_claimed_at
-claimed_at a p row is = and_parts row.claimed (is_at a p row) is
-
-pub at_place : (a p : ℕ) (row : QueueRow) → is_at a p row ≡ true → (row.activity ≡ a) × (row.place ≡ p)
-unfolding is_at
-at_place a p row at = let parts = and_parts (nat_eq row.activity a) (nat_eq row.place p) at in (eqb-true row.activity a parts.0, eqb-true row.place p parts.1)
 
 held-parts : (c : Claim) (row : QueueRow) → is_held_by c row ≡ true → (is_claimed_at c.activity c.recipient row ≡ true) × (nat_le row.due c.moment ≡ true)
 unfolding is_held_by
@@ -129,7 +122,7 @@ stays-same acts e row none = rw none (and_yes row.claimed)
 
 pub stays_all : (acts : List Act) (e : Entry) (rows : List QueueRow) → ((p : Pair) → tries p e ≡ false)
     → filter (stays_claimed acts e) rows ≡ filter is_claimed rows
-stays_all acts e rows none = filter_same (stays_claimed acts e) is_claimed rows (λ row. stays-same acts e row (untried acts e row none))
+stays_all acts e rows none = filter-agree (stays_claimed acts e) is_claimed (λ row. stays-same acts e row (untried acts e row none)) rows
 
 -- a claim whose delivery the entry does not attempt
 pub row_stays : (acts now : List Act) (e : Entry) (rows new : List QueueRow) (p : Pair) (c : Claim) (is : IsRowFor acts rows p c)

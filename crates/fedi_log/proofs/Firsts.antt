@@ -8,6 +8,7 @@ use Rattle.std.proofs.lemmas.List.Folds.{list_any-append}
 use Rattle.fedi_queue.specs.Claims.{change_first}
 use Rattle.fedi_town.proofs.Texts.{not_both}
 use Rattle.fedi_town.specs.Lists.{PassesOnce}
+use Rattle.fedi_town.proofs.Lists.{find-past}
 
 -- ---- what is before and after it
 
@@ -31,14 +32,10 @@ first_in {A} p (y ∷ xs) x found =
           record { before = y ∷ at.before; after = at.after; is = ap (λ (zs : List A). y ∷ zs) at.is; none = rw own at.none; passes = at.passes }
     ] refl found
 
-pub find_past : {A : Type 0} (q : A → Bool) (before rest : List A) → list_any q before ≡ false → find q (before ++ rest) ≡ find q rest
-find_past q [] rest none = refl
-find_past q (y ∷ before) rest none = let parts = or_parts (q y) (list_any q before) none in rw parts.0 (find_past q before rest parts.1)
-
 -- an element that passes, after others that do not, is found
 pub find_at : {A : Type 0} (q : A → Bool) (before : List A) (x : A) (after : List A) → list_any q before ≡ false → q x ≡ true
     → find q (before ++ x ∷ after) ≡ Some x
-find_at q before x after none passes = find_past q before (x ∷ after) none ∙ rw passes refl
+find_at q before x after none passes = find-past q before (x ∷ after) none ∙ rw passes refl
 
 pub any_there : {A : Type 0} (q : A → Bool) (before : List A) (x : A) (after : List A) → q x ≡ true → list_any q (before ++ x ∷ after) ≡ true
 any_there q before x after passes = list_any-append q before (x ∷ after) ∙ or_right (list_any q before) (list_any q (x ∷ after)) (rw passes refl)
@@ -150,10 +147,6 @@ find_left {A} q s (y ∷ xs) x found stays =
     ] refl found
 
 -- ---- tests that agree
-
-pub filter_same : {A : Type 0} (p q : A → Bool) (xs : List A) → ((x : A) → p x ≡ q x) → filter p xs ≡ filter q xs
-filter_same p q [] same = refl
-filter_same p q (x ∷ xs) same = rw (same x, filter_same p q xs same) refl
 
 -- on the elements that pass a third
 pub any_same : {A : Type 0} (w q r : A → Bool) (xs : List A) → list_all w xs ≡ true → ((x : A) → w x ≡ true → q x ≡ r x) → list_any q xs ≡ list_any r xs

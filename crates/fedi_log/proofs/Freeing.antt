@@ -8,36 +8,20 @@ use Rattle.fedi_objects.specs.declared.entry.Entry.{Entry}
 use Rattle.fedi_queue.specs.declared.rows.QueueRow.{QueueRow}
 use Rattle.fedi_queue.specs.Claims.{is_free_at, release}
 use Rattle.fedi_queue.specs.Due.{due_in, is_due_by}
-use Rattle.fedi_queue.specs.Rows.{delivery_in, id_at, is_row_of, is_waiting}
+use Rattle.fedi_queue.specs.Rows.{delivery_in, id_at, is_row_of}
 use Rattle.fedi_queue.proofs.Queued.{rows_are_queued}
 use Rattle.fedi_town.specs.declared.act.Act.{Act}
 use Rattle.fedi_town.specs.Histories.{town}
 use Rattle.fedi_town.specs.Legal.{IsLegal}
 use Rattle.fedi_town.specs.Lists.{PassesOnce}
-use Rattle.fedi_town.specs.Queues.{Delivery, Progress, is_due_at, queue}
-use Rattle.fedi_town.specs.Queues.{Due, Ended}
+use Rattle.fedi_town.specs.Queues.{Delivery, queue}
 use Rattle.fedi_log.proofs.Claiming.{pair_of}
-use Rattle.fedi_log.proofs.ClaimedRows.{AreRowsOf, has_id, ids_of, named_of, one_of}
+use Rattle.fedi_queue.proofs.ClaimedRows.{AreRowsOf, has_id, ids_of, named_of, one_of}
+use Rattle.fedi_queue.proofs.Due.{due_waiting}
 use Rattle.fedi_log.proofs.ClaimsHeld.{for_parts}
 use Rattle.fedi_log.proofs.Firsts.{filter_first, filter_none, once_only}
 use Rattle.fedi_log.specs.Claims.{ClaimsStand, IsFirst, free_in, is_claimed_for, is_taken_in}
 use Rattle.fedi_log.specs.Log.{Log, history_of}
-
--- ---- what is due is waiting
-
-not-waiting : (m : ℕ) (p : Progress) → is_waiting p ≡ false → is_due_at m p ≡ false
-not-waiting m (Due k from) e = absurd cc
-not-waiting m (Ended k) e = refl
-
-due-waiting : (m : ℕ) (ds : List Delivery) → filter (is_due_by m) (filter (λ d. is_waiting d.progress) ds) ≡ filter (is_due_by m) ds
-unfolding is_due_by
-due-waiting m [] = refl
-due-waiting m (d ∷ ds) =
-    elim (is_waiting d.progress) as (λ b. is_waiting d.progress ≡ b
-    → filter (is_due_by m) (if b then d ∷ filter (λ e. is_waiting e.progress) ds else filter (λ e. is_waiting e.progress) ds) ≡ filter (is_due_by m) (d ∷ ds)) [
-      | true ↦ λ e. rw (due-waiting m ds) refl
-      | false ↦ λ e. rw (not-waiting m d.progress e) (due-waiting m ds)
-    ] refl
 
 -- ---- a row is claimed exactly if its delivery is
 
@@ -132,7 +116,7 @@ free-rows h rows log m legal are stand of =
     let t = town h in
     ap (λ (es : List Entry). filter (is_untaken log) (due_in (town es) m)) (sym of)
     ∙ ap (filter (is_untaken log)) (
-    sym (due-waiting m (queue t))
+    sym (due_waiting m (queue t))
     ∙ ap (filter (is_due_by m)) (sym (rows_are_queued h legal))
     ∙ ap (λ (ys : List QueueRow). filter (is_due_by m) (map (delivery_in t.acts) ys)) (sym are))
     ∙ freed h rows log m [] rows legal are stand refl

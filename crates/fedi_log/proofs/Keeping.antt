@@ -51,8 +51,8 @@ doubt_more : (doubts : List (List ℕ)) (x : List ℕ) (doubt : Option (List ℕ
 doubt_more doubts x None h = tt
 doubt_more doubts x (Some d) h = Contains-append_left doubts (x ∷ []) d h
 
-itself : (x : List ℕ) → Contains (x ∷ []) x
-itself x = (0, omega arith, refl)
+pub contains_itself : (x : List ℕ) → Contains (x ∷ []) x
+contains_itself x = (0, omega arith, refl)
 
 doubt_after : (by : Option ℕ) (first : List (List ℕ)) (log : Log) (before after : Option (List ℕ)) (o : Outcome) → IsDoubted (doubts_of first log) before
     → DoubtAfter before after o → IsDoubted (doubts_of first (log ++ items_of by o)) after
@@ -66,7 +66,7 @@ doubt_after by first log before after (Failed e) h (inr (inl now)) =
     subst (IsDoubted (doubts_of first (log ++ items_of by (Failed e)))) (sym now) tt
 doubt_after by first log before after (Failed e) h (inr (inr now)) =
     subst (λ (ds : List (List ℕ)). IsDoubted ds after) (sym (doubts_failed by e first log))
-    (subst (IsDoubted (doubts_of first log ++ code_of e ∷ [])) (sym now) (Contains-append_right (doubts_of first log) (code_of e ∷ []) (code_of e) (itself (code_of e))))
+    (subst (IsDoubted (doubts_of first log ++ code_of e ∷ [])) (sym now) (Contains-append_right (doubts_of first log) (code_of e ∷ []) (code_of e) (contains_itself (code_of e))))
 
 -- one fault more
 counted_more : (f k most : ℕ) → max (max f (min (f + k) most)) (min (max f (min (f + k) most) + 1) most) ≡ max f (min (f + (k + 1)) most)
@@ -114,7 +114,7 @@ holds_more b by before after log o h f = record {
 alone_here : (by : Option ℕ) (log : Log) → GoesAlone by log log
 alone_here by log = record { past = []; is = sym (append-nil log); own = All-nil (λ (i : Item). i.pass ≡ by) }
 
-alone_outcome : (by : Option ℕ) (o : Outcome) → All (λ (i : Item). i.pass ≡ by) (items_of by o)
+pub alone_outcome : (by : Option ℕ) (o : Outcome) → All (λ (i : Item). i.pass ≡ by) (items_of by o)
 alone_outcome by NoEntry = All-nil (λ (i : Item). i.pass ≡ by)
 alone_outcome by (Kept e) = All-cons (λ (i : Item). i.pass ≡ by) (made_by by (Entered e)) [] refl (All-nil (λ (i : Item). i.pass ≡ by))
 alone_outcome by (Full e) = All-nil (λ (i : Item). i.pass ≡ by)
@@ -145,7 +145,7 @@ since_on b by x y z before after f g = record { grown = alone_on by x y z f.grow
 
 -- ---- a machine that was opened
 
-given_length : (history : List Entry) → length (given history) ≡ length history
+pub given_length : (history : List Entry) → length (given history) ≡ length history
 given_length [] = refl
 given_length (e ∷ history) = ap (λ (n : ℕ). suc n) (given_length history)
 
@@ -155,7 +155,7 @@ given_since (e ∷ history) = given_since history
 
 first_doubt : (doubt : Option (List ℕ)) → IsDoubted (option_to_list doubt) doubt
 first_doubt None = tt
-first_doubt (Some d) = itself d
+first_doubt (Some d) = contains_itself d
 
 none_counted : (n : ℕ) → n ≡ counted n 0
 none_counted n = omega arith

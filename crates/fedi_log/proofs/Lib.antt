@@ -1,5 +1,4 @@
 pub mod ClaimChanges
-pub mod ClaimedRows
 pub mod Claiming
 pub mod ClaimsHeld
 pub mod Files

@@ -1,12 +1,13 @@
 -- The state of a session after some exchanges, and how it ends.
-use Rattle.std.proofs.Common.{◌≡◌, ℕ, ◌+◌, ◌<◌, ◌≤◌, Bool, true, false, List, [], ◌∷◌, ◌++◌, Option, Some, None, Result, IfSome, refl, sym, ap, subst, ◌∙◌, arith, lit<}
-use Rattle.std.specs.Prelude.{nat_le, ◌||◌}
+use Rattle.std.proofs.Common.{◌≡◌, ℕ, ◌+◌, ◌<◌, ◌≤◌, false, List, [], ◌∷◌, ◌++◌, Option, Some, None, Result, IfSome, refl, sym, ap, subst, ◌∙◌, arith, lit<}
+use Rattle.std.specs.Prelude.{nat_le}
 use Rattle.std.proofs.KnownBytes.{Appends-nil, prepend_known-nil}
 use Rattle.std.proofs.lemmas.Bool.{leb-false}
 use Rattle.fedi_log.specs.Keeping.{Base}
 use Rattle.fedi_log.specs.Log.{Log}
 use Rattle.fedi_model.specs.declared.request.Request.{Request}
 use Rattle.fedi_town.specs.declared.refusal.Refusal.{Refusal}
+use Rattle.fedi_town.proofs.Lists.{other_none}
 use Rattle.fedi_logged.specs.declared.sessions.SessionEnd.{SessionEnd}
 use Rattle.fedi_logged.specs.declared.sessions.SessionEnd.TheVariants.{End, CutShort, Closed, ReadFault, WriteFault, Memory}
 use Rattle.fedi_logged.specs.Conversations.{Setting, Exchange, Progress, Converses, after, beginning, closes, ends_by, progress}
@@ -44,13 +45,8 @@ stands_first w seen first = begins w seen first first.input refl
 
 -- ---- one more exchange
 
--- if the connection is open, there is a request left
-or_second : (a b : Bool) → (a || b) ≡ false → b ≡ false
-or_second true b e = absurd cc
-or_second false b e = e
-
 open_below : (count : ℕ) (arrived : Result Request Refusal) → closes count arrived ≡ false → count + 1 < 1000
-open_below count arrived opened = let fewer : nat_le 999 count ≡ false = or_second (ends_by arrived) (nat_le 999 count) opened in omega (arith, leb-false 999 count fewer)
+open_below count arrived opened = let fewer : nat_le 999 count ≡ false = other_none (ends_by arrived) (nat_le 999 count) opened in omega (arith, leb-false 999 count fewer)
 
 stands_on : (w : Setting) (seen : Log) (first : Output) (before now : Scene) (log next : Log) (old pending : List ℕ) (count : ℕ) (input : List ℕ)
     → Stands w seen first before log old count input → StepsOn w log count before old now pending next None → Stands w seen first now next pending (count + 1) input
@@ -126,10 +122,6 @@ none_open : (w : Setting) (seen : Log) (first : Output) (now : Scene) (log : Log
     → IfSome known (Stands w seen first now log pending count) → IfSome known (Serves w seen first now log Closed)
 none_open w seen first now log pending count None many held = tt
 none_open w seen first now log pending count (Some input) many held = let below = held.below in absurd (omega (arith, many, below))
-
-pub stands_not : (w : Setting) (seen : Log) (first now : Scene) (log : Log) (pending : List ℕ) (count : ℕ) → 1000 ≤ count
-    → IfSome first.input (Stands w seen first.output now log pending count) → IfSome first.input (Serves w seen first.output now log Closed)
-stands_not w seen first now log pending count many held = none_open w seen first.output now log pending count first.input many held
 
 -- what no turn changes stays the same, and the pass is part of it
 pub steps_by : (by same : Option ℕ) (told : Option ℕ) (base : Base) (seen : Log) (count : ℕ) (before : Scene) (old : List ℕ) (now : Scene) (pending : List ℕ) (next : Log) (e : Option SessionEnd)

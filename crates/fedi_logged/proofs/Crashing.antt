@@ -10,7 +10,7 @@ use Rattle.fedi_core.proofs.Crashing.{adds_both, if_told}
 use Rattle.fedi_log.specs.Keeping.{Base, Holds, IsDoubted, Keeps, State, since, with_records}
 use Rattle.fedi_log.specs.Log.{Failed, Full, Kept, Log, NoEntry, Outcome, doubts_of, given, history_of, items_of}
 use Rattle.fedi_log.proofs.Growing.{doubts_failed, history_append}
-use Rattle.fedi_log.proofs.Keeping.{history_more, holds_given, since_more, since_on}
+use Rattle.fedi_log.proofs.Keeping.{history_more, holds_given, since_more, since_on, contains_itself}
 use Rattle.fedi_outside.specs.Keepers.{Adds, Crashes, IfTold, KeeperState, LeavesRecords, MayLeave}
 use Rattle.fedi_log.specs.Leaving.{CrashesAfter, CrashesAlong, IsLeft, IsLeftAfter, LeavesAfter}
 use Rattle.fedi_logged.specs.Marks.{MarksMayCome, Survives, SurvivesMarked}
@@ -84,9 +84,6 @@ left_after b log items kept left opened h = record {
   leaves = h;
 }
 
-itself : (x : List ℕ) → Contains (x ∷ []) x
-itself x = (0, omega arith, refl)
-
 leaves_kept : (b : Base) (by : Option ℕ) (e : Entry) (log : Log) (kept left : List (List ℕ))
     → left ≡ with_codes kept (since b log) ++ code_of e ∷ [] → LeavesAfter b kept (since b log ++ items_of by (Kept e)) left
 leaves_kept b by e log kept left is = inl (is ∙ codes_more kept by e (since b log))
@@ -98,7 +95,7 @@ leaves_failed b by e log kept left is =
     inr (
       code_of e,
       subst (λ (ds : List (List ℕ)). Contains ds (code_of e)) (sym (doubts_failed by e (option_to_list b.shown.doubt) (since b log)))
-          (Contains-append_right doubts (code_of e ∷ []) (code_of e) (itself (code_of e))),
+          (Contains-append_right doubts (code_of e ∷ []) (code_of e) (contains_itself (code_of e))),
       is ∙ ap (λ (xs : List (List ℕ)). xs ++ code_of e ∷ []) (codes_same kept by e (since b log)),
     )
 

@@ -10,6 +10,7 @@ use Rattle.fedi_town.specs.Histories.{step, town, with_addition, addition_of}
 use Rattle.fedi_town.specs.Legal.{IsLegal, is_admissible}
 use Rattle.fedi_town.specs.Shapes.{is_delivered}
 use Rattle.fedi_town.specs.Towns.{Town, empty_town}
+use Rattle.fedi_town.proofs.Quiet.{first_true}
 
 -- an addition leaves the host unchanged, or sets one
 stays : (t : Town) (a : Addition) → is_some t.host ≡ true → is_some (with_addition t a).host ≡ true
@@ -38,10 +39,6 @@ first (Local name repeat a moment) may = let clash : false ≡ true = may in abs
 first (Remote peer inbox a moment) may = let clash : false ≡ true = not_delivered (is_delivered a) may in absurd cc
 first (Tried activity recipient came moment) may = let clash : false ≡ true = may in absurd cc
 
-front_true : (a b : Bool) → (a && b) ≡ true → a ≡ true
-front_true true b both = refl
-front_true false b both = both
-
 pub hosted : (history : List Entry) → history ≢ [] → IsLegal history → IsTrue (is_some (town history).host)
 hosted [] some legal = absurd (some refl)
-hosted (e ∷ entries) some legal = all_stay (step empty_town e) entries (first e (front_true _ _ legal.admissible))
+hosted (e ∷ entries) some legal = all_stay (step empty_town e) entries (first e (first_true _ _ legal.admissible))

@@ -1,20 +1,18 @@
 -- The host of a history does not change.
-use Rattle.std.proofs.Common.{◌≡◌, Bool, true, false, List, [], ◌∷◌, ◌++◌, Option, Some, None, is_some, refl, ap, ◌∙◌}
+use Rattle.std.proofs.Common.{◌≡◌, Bool, true, List, [], ◌∷◌, ◌++◌, Option, Some, None, is_some, refl, ap, ◌∙◌}
 use Rattle.std.specs.Prelude.{◌&&◌, is_none}
 use Rattle.std.specs.List.{fold}
 use Rattle.std.proofs.lemmas.Bool.{and_parts}
 use Rattle.fedi_objects.specs.declared.entry.Entry.{Entry}
 use Rattle.fedi_objects.specs.declared.entry.Entry.TheVariants.{Hosted, Made, PeerSet, Local, Remote, Tried}
-use Rattle.fedi_town.specs.declared.addition.Addition.{Addition}
-use Rattle.fedi_town.specs.Histories.{step, town, with_addition}
+use Rattle.fedi_town.specs.Histories.{step, town}
 use Rattle.fedi_town.specs.Legal.{IsLegal, is_admissible, is_legal_from}
 use Rattle.fedi_town.specs.Towns.{Town, empty_town}
 use Rattle.fedi_town.specs.declared.command_fault.CommandFault.TheVariants.{HostTaken}
-use Rattle.fedi_objects.specs.declared.activity.Activity.{Activity}
 use Rattle.std.specs.Prelude.{ℕ, if◌then◌else◌}
 use Rattle.std.proofs.lemmas.List.Sums.{fold-append}
-use Rattle.fedi_town.specs.Histories.{member_addition, post_addition, delivery_addition, is_known}
 use Rattle.fedi_town.specs.Towns.{id_of}
+use Rattle.fedi_queue.proofs.Addressed.{made_host, posted_host, delivered_host}
 
 -- ---- an entry that may come after the host was set does not change it
 
@@ -22,31 +20,12 @@ clash : (host : Option (List ℕ)) (ok : Bool) → is_some host ≡ true → (is
 clash None ok there may = absurd cc
 clash (Some x) ok there may = absurd cc
 
-made : (t : Town) (host : Option (List ℕ)) (name digest : List ℕ) (locked : Bool) → (with_addition t (member_addition host name digest locked)).host ≡ t.host
-made t None name digest locked = refl
-made t (Some host) name digest locked = refl
-
-posted : (t : Town) (host : Option (List ℕ)) (name : List ℕ) (repeat : Option (List ℕ × List ℕ)) (a : Activity) (moment : ℕ)
-    → (with_addition t (post_addition host t name repeat a moment)).host ≡ t.host
-posted t None name repeat a moment = refl
-posted t (Some host) name repeat a moment = refl
-
-either : (t : Town) (b : Bool) (x y : Addition) → (with_addition t x).host ≡ t.host → (with_addition t y).host ≡ t.host → (with_addition t (if b then x else y)).host ≡ t.host
-either t true x y f g = f
-either t false x y f g = g
-
-delivered : (t : Town) (owner author id : Option (List ℕ)) (a : Activity) (moment : ℕ) → (with_addition t (delivery_addition t owner author id a moment)).host ≡ t.host
-delivered t None author id a moment = refl
-delivered t (Some owner) None id a moment = refl
-delivered t (Some owner) (Some author) None a moment = refl
-delivered t (Some owner) (Some author) (Some id) a moment = either t (is_known t id) _ _ refl refl
-
 pub step_keeps : (t : Town) (e : Entry) → is_admissible t e ≡ true → is_some t.host ≡ true → (step t e).host ≡ t.host
 step_keeps t (Hosted host moment) may there = absurd (clash t.host _ there may)
-step_keeps t (Made name digest locked moment) may there = made t t.host name digest locked
+step_keeps t (Made name digest locked moment) may there = made_host t t.host name digest locked
 step_keeps t (PeerSet host key address relay moment) may there = refl
-step_keeps t (Local name repeat a moment) may there = posted t t.host name repeat a moment
-step_keeps t (Remote peer inbox a moment) may there = delivered t (id_of t inbox) a.actor a.id a moment
+step_keeps t (Local name repeat a moment) may there = posted_host t t.host name repeat a moment
+step_keeps t (Remote peer inbox a moment) may there = delivered_host t (id_of t inbox) a.actor a.id a moment
 step_keeps t (Tried activity recipient came moment) may there = refl
 
 fold_keeps : (t : Town) (h : List Entry) → is_legal_from t h ≡ true → is_some t.host ≡ true → (fold step t h).host ≡ t.host

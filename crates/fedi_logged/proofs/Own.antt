@@ -2,11 +2,11 @@
 use Rattle.std.proofs.Common.{◌≡◌, ℕ, ◌∷◌, [], ◌++◌, All, Option, Result, Ok, Err, OnErr, refl, sym, ap, subst, ◌∙◌, append_assoc}
 use Rattle.std.proofs.lemmas.List.Elements.{All-append, All-cons, All-nil}
 use Rattle.fedi_log.specs.Keeping.{GoesAlone}
-use Rattle.fedi_log.specs.Log.{Failed, Full, Goes, Kept, Log, NoEntry, Outcome, items_of, made_by}
+use Rattle.fedi_log.specs.Log.{Goes, Log, items_of, made_by}
 use Rattle.fedi_log.specs.declared.items.Item.{Item}
 use Rattle.fedi_log.specs.declared.items.What.{What}
-use Rattle.fedi_log.specs.declared.items.What.TheVariants.{Entered, Marked}
 use Rattle.fedi_log.proofs.Growing.{goes_here}
+use Rattle.fedi_log.proofs.Keeping.{alone_outcome}
 use Rattle.fedi_logged.specs.Logs.{TurnsOn}
 use Rattle.fedi_logged.specs.Turns.{Standing}
 
@@ -15,18 +15,12 @@ use Rattle.fedi_logged.specs.Turns.{Standing}
 pub own_one : (by : Option ℕ) (what : What) → All (λ (i : Item). i.pass ≡ by) (made_by by what ∷ [])
 own_one by what = All-cons (λ (i : Item). i.pass ≡ by) (made_by by what) [] refl (All-nil (λ (i : Item). i.pass ≡ by))
 
-pub own_items : (by : Option ℕ) (o : Outcome) → All (λ (i : Item). i.pass ≡ by) (items_of by o)
-own_items by NoEntry = All-nil (λ (i : Item). i.pass ≡ by)
-own_items by (Kept e) = own_one by (Entered e)
-own_items by (Full e) = All-nil (λ (i : Item). i.pass ≡ by)
-own_items by (Failed e) = own_one by (Marked e)
-
 pub alone_more : (growth : ℕ → ℕ) (by : Option ℕ) (before after : Standing) (seen log now : Log) → GoesAlone by seen log → TurnsOn growth by before after log now
     → GoesAlone by seen now
 alone_more growth by before after seen log now g turn = record {
   past = g.past ++ items_of by turn.0;
   is = turn.2 ∙ ap (λ (l : Log). l ++ items_of by turn.0) g.is ∙ append_assoc seen g.past (items_of by turn.0);
-  own = All-append (λ (i : Item). i.pass ≡ by) g.past (items_of by turn.0) g.own (own_items by turn.0);
+  own = All-append (λ (i : Item). i.pass ≡ by) g.past (items_of by turn.0) g.own (alone_outcome by turn.0);
 }
 
 -- ---- what a turn leaves

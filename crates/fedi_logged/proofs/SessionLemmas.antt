@@ -1,7 +1,7 @@
 -- From the answer to one request to a step of a session, over a log that others may add to.
 use Rattle.std.proofs.Common.{◌≡◌, ℕ, min, Bool, true, false, List, [], ◌++◌, take, Option, Some, None, IfSome, IfOk, OnErr, MatchResult, Result, Ok, Err, Vec, inl, inr, refl, sym, ap, subst, ◌∙◌, append_assoc, append-nil, arith}
 use Rattle.std.specs.Io.KnownBytes.{Consumes, prepend_known}
-use Rattle.std.proofs.KnownBytes.{Appends-trans}
+use Rattle.std.proofs.KnownBytes.{Appends-trans, Appends-nil}
 use Rattle.fedi_outside.specs.Causes.{next_count}
 use Rattle.fedi_town.specs.declared.refusal.Refusal.{Refusal}
 use Rattle.fedi_http.specs.Arrivals.{LacksRequest}
@@ -36,7 +36,10 @@ taken_since old more (Some x) (Some y) left taken stands =
 
 -- ---- the output
 
-writes_on : (first before now : Output) (written text : List ℕ) → Writes first before written → Writes before now text → Writes first now (written ++ text)
+pub writes_none : (out : Output) → Writes out out []
+writes_none out = record { sent = Appends-nil out.sent; calm = refl }
+
+pub writes_on : (first before now : Output) (written text : List ℕ) → Writes first before written → Writes before now text → Writes first now (written ++ text)
 writes_on first before now written text was more = record {
   sent = Appends-trans first.sent before.sent now.sent written text was.sent more.sent;
   calm = more.calm ∙ was.calm;
@@ -45,7 +48,7 @@ writes_on first before now written text was more = record {
 writes_still : (first before now : Output) (written : List ℕ) → Writes first before written → now ≡ before → Writes first now written
 writes_still first before now written was same = subst (λ (o : Output). Writes first o written) (sym same) was
 
-breaks_on : (first before now : Output) (written text : List ℕ) → Writes first before written → BreaksOff before now [] text → BreaksOff first now written text
+pub breaks_on : (first before now : Output) (written text : List ℕ) → Writes first before written → BreaksOff before now [] text → BreaksOff first now written text
 breaks_on first before now written text was b = record {
   prefix = b.prefix;
   short = b.short;
@@ -53,7 +56,7 @@ breaks_on first before now written text was b = record {
   cause = b.cause ∙ ap next_count was.calm;
 }
 
-unless_failed_on : (first before now : Output) (written text : List ℕ) → Writes first before written
+pub unless_failed_on : (first before now : Output) (written text : List ℕ) → Writes first before written
     → WritesUnlessFailed before now [] text → WritesUnlessFailed first now written text
 unless_failed_on first before now written text was (inl sent) = inl (writes_on first before now written text was sent)
 unless_failed_on first before now written text was (inr broken) = inr (breaks_on first before now written text was broken)

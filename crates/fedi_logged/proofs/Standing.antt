@@ -1,11 +1,11 @@
 -- A machine still holds its log after each turn.
-use Rattle.std.proofs.Common.{◌≡◌, ℕ, Bool, true, List, [], ◌∷◌, ◌++◌, length, Option, None, is_some, refl, sym, ap, subst, ◌∙◌, append_assoc, append-nil, inl, arith, suc}
+use Rattle.std.proofs.Common.{◌≡◌, ℕ, Bool, true, List, [], ◌++◌, length, Option, None, is_some, refl, sym, ap, subst, ◌∙◌, append_assoc, append-nil, inl, arith}
 use Rattle.fedi_core.proofs.Crashing.{if_told}
 use Rattle.fedi_log.specs.Keeping.{Base, State, base_of}
 use Rattle.fedi_log.specs.Leaving.{CrashesAlong}
 use Rattle.fedi_log.specs.Log.{Log, Outcome, given, history_of, items_of}
 use Rattle.fedi_log.proofs.Growing.{given_history, history_append}
-use Rattle.fedi_log.proofs.Keeping.{holds_given, holds_more}
+use Rattle.fedi_log.proofs.Keeping.{holds_given, holds_more, given_length}
 use Rattle.fedi_objects.specs.declared.entry.Entry.{Entry}
 use Rattle.fedi_outside.specs.Keepers.{Crashes, IfTold, LeavesRecords, MayLeave}
 use Rattle.fedi_town.specs.Histories.{town}
@@ -64,10 +64,6 @@ stands_first growth room opened now first c is same legal leaves =
       crashed = same_crashes (base_of growth room opened) (given opened.history) first c same (subst (λ (s : State). LeavesRecords s.keeper c) (sym is) leaves);
       marked = given_marks [] opened.history;
     })
-
-given_length : (history : List Entry) → length (given history) ≡ length history
-given_length [] = refl
-given_length (e ∷ history) = ap (λ (n : ℕ). suc n) (given_length history)
 
 -- nothing has been noted yet
 pub stands_opened : (growth room : ℕ → ℕ) (opened now : State) (first c : Crashes) (noted : List Noted) (front : ℕ) → noted ≡ [] → opened ≡ now → AreSame first c

@@ -95,7 +95,7 @@ no_others by [] more others own = refl
 no_others by (x ∷ rest) more others own =
     absurd (All-head (IsOthers by) x rest others (All-head (λ (i : Item). i.pass ≡ by) x (rest ++ more) own))
 
-own_after : (by : Option ℕ) (a b : Log) → All (λ (i : Item). i.pass ≡ by) (a ++ b) → All (λ (i : Item). i.pass ≡ by) b
+pub own_after : (by : Option ℕ) (a b : Log) → All (λ (i : Item). i.pass ≡ by) (a ++ b) → All (λ (i : Item). i.pass ≡ by) b
 own_after by [] b own = own
 own_after by (x ∷ a) b own = own_after by a b (All-tail (λ (i : Item). i.pass ≡ by) x (a ++ b) own)
 

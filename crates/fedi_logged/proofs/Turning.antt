@@ -1,6 +1,5 @@
 -- Turns of the machine, given what became of the entry.
 use Rattle.std.proofs.Common.{◌≡◌, ℕ, refl, subst, ◌∙◌, arith}
-use Rattle.fedi_core.proofs.Crashing.{stands_still}
 use Rattle.fedi_core.specs.Crashing.{PassesTimeUnkept, PassesTimeWith}
 use Rattle.fedi_core.specs.Keeping.{IsKept, Refuses}
 use Rattle.fedi_core.specs.declared.keeping.KeepFault.{KeepFault}
@@ -11,7 +10,7 @@ use Rattle.fedi_log.specs.Keeping.{Follows, State}
 use Rattle.fedi_log.specs.Log.{Failed, Full, Kept, NoEntry}
 use Rattle.fedi_objects.specs.declared.entry.Entry.{Entry}
 use Rattle.fedi_opening.specs.Opening.{IsNext}
-use Rattle.fedi_outside.specs.Keepers.{LeavesRecords, OnlyRoomChanged}
+use Rattle.fedi_outside.specs.Keepers.{OnlyRoomChanged}
 use Rattle.fedi_town.specs.Histories.{town}
 use Rattle.fedi_logged.specs.Turns.{Standing, Turns}
 
@@ -19,14 +18,6 @@ use Rattle.fedi_logged.specs.Turns.{Standing, Turns}
 
 pub still : (growth : ℕ → ℕ) (before after : State) → after.history ≡ before.history → OnlyRoomChanged before.keeper after.keeper → Follows growth before after NoEntry
 still growth before after same k = unchanged growth before after same k.records k.end k.doubt k.faults
-
--- the keeper was not asked
-pub idle_turn : (growth : ℕ → ℕ) (s : Standing) → LeavesRecords s.state.keeper s.crashes → Turns growth s s NoEntry
-idle_turn growth s now = record {
-  follows = unchanged growth s.state s.state refl refl refl refl refl;
-  passes = stands_still s.state.keeper s.crashes now;
-  may_fail = tt;
-}
 
 -- the keeper did not keep the entry, for this reason
 abbrev pub IsUnkept : (ℕ → ℕ) → Standing → Standing → Entry → KeepFault → Type 0

@@ -2,8 +2,8 @@
 use Rattle.std.proofs.Common.{◌≡◌, ℕ, List, [], ◌∷◌, true, length, arith, zero, suc}
 use Rattle.std.specs.Prelude.{◌&&◌, nat_le}
 use Rattle.std.specs.List.{list_all}
-use Rattle.std.specs.Str.{IsUtf8, IsAscii}
-use Rattle.std.proofs.lemmas.Str.{IsUtf8-from_ascii}
+use Rattle.std.specs.Str.{IsUtf8, IsAscii, is_utf8}
+use Rattle.std.proofs.lemmas.Str.{IsUtf8-from_ascii, is_utf8-from_IsUtf8}
 use Rattle.std.proofs.lemmas.Bool.{and_parts}
 use Rattle.std.proofs.lemmas.Bool.Decides.{nat_tests}
 use Rattle.fedi_objects.specs.Keys.{is_visible, is_repeat_key}
@@ -19,3 +19,6 @@ pub key_is_utf8 : (text : List ℕ) → is_repeat_key text ≡ true → IsUtf8 t
 key_is_utf8 text h =
     IsUtf8-from_ascii text
     (key_bytes_ascii text (and_parts (nat_le 1 (length text) && nat_le (length text) 64) (list_all is_visible text) h).1)
+
+pub is_utf8_key : (text : List ℕ) → is_repeat_key text ≡ true → is_utf8 text ≡ true
+is_utf8_key text h = is_utf8-from_IsUtf8 text (key_is_utf8 text h)

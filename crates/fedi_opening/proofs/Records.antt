@@ -1,18 +1,16 @@
 -- One more record is read.
-use Rattle.std.proofs.Common.{◌≡◌, ◌≢◌, arith, ℕ, ◌+◌, ◌<◌, Bool, true, false, List, [], ◌∷◌, ◌++◌, length, map, Option, Some, None, refl, sym, ap, subst, ◌∙◌}
-use Rattle.std.specs.Cmp.Derive.{both_true}
-use Rattle.std.specs.Prelude.{◌&&◌, IfSome, slice_get, take}
-use Rattle.std.specs.List.{AllByRecursion, fold, list_all}
-use Rattle.std.proofs.lemmas.Bool.{and_parts}
+use Rattle.std.proofs.Common.{◌≡◌, ◌≢◌, arith, ℕ, ◌+◌, ◌<◌, true, false, List, [], ◌∷◌, ◌++◌, length, map, Option, Some, None, refl, sym, ap, subst, ◌∙◌}
+use Rattle.std.specs.Prelude.{IfSome, slice_get, take}
+use Rattle.std.specs.List.{AllByRecursion}
 use Rattle.std.proofs.lemmas.List.{length-append, map-append, take_all, take_more}
-use Rattle.std.proofs.lemmas.List.Folds.{list_all-append}
 use Rattle.std.proofs.lemmas.Option.{get_or_from_slice_get, slice_get_within}
 use Rattle.fedi_entry.specs.Codes.{code_of}
 use Rattle.fedi_entry.specs.Fields.{IsFormed}
 use Rattle.fedi_objects.specs.declared.entry.Entry.{Entry}
-use Rattle.fedi_town.specs.Histories.{step, town}
-use Rattle.fedi_town.specs.Legal.{is_admissible, is_legal_from}
+use Rattle.fedi_town.specs.Histories.{town}
+use Rattle.fedi_town.specs.Legal.{is_admissible}
 use Rattle.fedi_town.specs.Towns.{Town, empty_town}
+use Rattle.fedi_town.proofs.Growing.{legal_push}
 use Rattle.fedi_opening.specs.declared.fault.OpenFault.{OpenFault}
 use Rattle.fedi_opening.specs.declared.fault.OpenFault.TheVariants.{Failed, Damaged, Empty, Memory}
 use Rattle.fedi_opening.specs.Opening.{IsDamaged, IsNext, IsOfNone, IsRead, IsStopped, IsUnloaded, IsUnread}
@@ -33,13 +31,7 @@ none_by t e bytes only may other next is =
 
 -- ---- one entry more
 
-legal_more : (t : Town) (h : List Entry) (e : Entry) → is_legal_from t h ≡ true → is_admissible (fold step t h) e ≡ true → is_legal_from t (h ++ e ∷ []) ≡ true
-legal_more t [] e legal next = both_true next refl
-legal_more t (x ∷ h) e legal next =
-    let parts = and_parts (is_admissible t x) (is_legal_from (step t x) h) legal in
-    both_true parts.0 (legal_more (step t x) h e parts.1 next)
-
-formed_more : (h : List Entry) (e : Entry) → AllByRecursion IsFormed h → IsFormed e → AllByRecursion IsFormed (h ++ e ∷ [])
+pub formed_more : (h : List Entry) (e : Entry) → AllByRecursion IsFormed h → IsFormed e → AllByRecursion IsFormed (h ++ e ∷ [])
 formed_more [] e all formed = (formed, tt)
 formed_more (x ∷ h) e all formed = (all.0, formed_more h e all.1 formed)
 
@@ -60,7 +52,7 @@ if_spelled (Some told) n h e spelled is = spelled_more told n h e spelled is
 pub read_more : (records : Option (List (List ℕ))) (n : ℕ) (h : List Entry) (e : Entry) → IsRead records n h → IsNext (town h) e
     → IfSome records (λ told. slice_get told n ≡ Some (code_of e)) → IsRead records (n + 1) (h ++ e ∷ [])
 read_more records n h e read next is = record {
-  legal = record { admissible = legal_more empty_town h e read.legal.admissible next.admissible };
+  legal = record { admissible = legal_push h empty_town e read.legal.admissible next.admissible };
   formed = formed_more h e read.formed next.formed;
   counted = length-append h (e ∷ []) ∙ ap (λ (k : ℕ). k + 1) read.counted;
   spelled = if_spelled records n h e read.spelled is;

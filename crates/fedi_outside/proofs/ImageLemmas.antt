@@ -24,7 +24,7 @@ size_back m n s t fits_m fits_n e =
     let first : to_be_bytes w64 m ≡ to_be_bytes w64 n = ap (take 8) e in
     (sym (from_be_bytes-to_be_bytes_8 m fits_m) ∙ (ap (from_be_bytes w64) first ∙ from_be_bytes-to_be_bytes_8 n fits_n), ap (drop 8) e)
 
-same_length : (a b s t : List ℕ) → length a ≡ length b → a ++ s ≡ b ++ t → (a ≡ b) × (s ≡ t)
+pub same_length : (a b s t : List ℕ) → length a ≡ length b → a ++ s ≡ b ++ t → (a ≡ b) × (s ≡ t)
 same_length a b s t same e =
     let first : a ≡ b =
     sym (take-append_seam a s) ∙ (ap (take (length a)) e ∙ (ap (λ n. take n (b ++ t)) same ∙ take-append_seam b t)) in

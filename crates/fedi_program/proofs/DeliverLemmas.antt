@@ -1,13 +1,10 @@
 -- How trials follow one another, and how their trying ends.
-use Rattle.std.proofs.Common.{◌≡◌, ◌⊎◌, ℕ, ◌+◌, ◌-◌, ◌≤◌, true, List, [], ◌∷◌, ◌++◌, length, Option, None, Some, Ok, Err, arith, inl, inr, refl, sym, ap, subst, ◌∙◌, append_assoc, append-nil, codes}
-use Rattle.std.specs.Prelude.{map, take}
+use Rattle.std.proofs.Common.{◌≡◌, ◌⊎◌, ℕ, ◌+◌, ◌-◌, ◌≤◌, true, List, [], ◌∷◌, ◌++◌, length, Option, None, Some, Ok, Err, arith, inl, inr, refl, sym, ap, subst, ◌∙◌, append-nil, codes}
 use Rattle.std.proofs.lemmas.Grind.{flat_map-append}
-use Rattle.std.proofs.lemmas.List.{length-append, map-append}
-use Rattle.std.proofs.lemmas.List.Sums.{fold-append}
-use Rattle.std.proofs.KnownBytes.{Appends-nil, Appends-trans}
+use Rattle.std.proofs.lemmas.List.{length-append}
 use Rattle.fedi_core.specs.Keeping.{IsKept, Refuses}
 use Rattle.fedi_core.specs.declared.keeping.KeepFault.TheVariants as keeps
-use Rattle.fedi_delivery.specs.Exchanges.{Exchanges, Told, count_after}
+use Rattle.fedi_delivery.specs.Exchanges.{Told}
 use Rattle.fedi_queue.proofs.Due.{attempts_leave}
 use Rattle.fedi_queue.specs.Due.{IsTo, due_in}
 use Rattle.fedi_entry.specs.Codes.{code_of}
@@ -17,54 +14,26 @@ use Rattle.fedi_log.specs.Log.{Failed, Log, NoEntry, items_of}
 use Rattle.fedi_logged.proofs.Crashing.{survives_more}
 use Rattle.fedi_logged.specs.Marks.{Survives, SurvivesMarked}
 use Rattle.fedi_logged.specs.Turns.{Standing, SurvivesTurn, Turns}
-use Rattle.fedi_objects.specs.declared.entry.Came.{Came}
 use Rattle.fedi_objects.specs.declared.entry.Entry.{Entry}
 use Rattle.fedi_opening.specs.Opening.{IsNext}
 use Rattle.fedi_outside.specs.Keepers.{Crashes, OnlyRoomChanged, PassesTime, after_fault}
-use Rattle.fedi_outside.specs.Causes.{next_count}
-use Rattle.fedi_outside.specs.Links.{AddsRow}
 use Rattle.fedi_startup.specs.Surviving.{growth, room}
 use Rattle.fedi_logged.specs.Conversations.{IsNow}
 use Rattle.fedi_logged.specs.Endings.{BreaksOff, Output, Writes, WritesUnlessFailed}
 use Rattle.fedi_town.specs.Histories.{town}
 use Rattle.fedi_town.specs.Legal.{IsLegal}
 use Rattle.fedi_town.specs.Queues.{Delivery}
-use Rattle.fedi_town.specs.Towns.{Town}
 use Rattle.fedi_program.specs.Commands.{Deliver}
-use Rattle.fedi_logged.specs.Attempts.{Exchange, HasExchanged, IsBegun, ShowsCame}
-use Rattle.fedi_logged.proofs.Attempts.{exchanged_more, exchanged_none, exchanged_one, shown_begun}
-use Rattle.fedi_program.specs.Delivering.{AreFirst, DeliversStore, EndsTrial, EndsTrying, IsAttempt, IsStopped, TellsDone, Trial, TrialSurvives, TriesDue, TriesEach, done_line, entry_of, exchanges_of, line_of, lines_of}
+use Rattle.fedi_logged.specs.Attempts.{Exchange, HasExchanged}
+use Rattle.fedi_logged.proofs.Attempts.{exchanged_more, exchanged_none}
+use Rattle.fedi_logged.proofs.SessionLemmas.{writes_on, breaks_on, unless_failed_on}
+use Rattle.fedi_program.specs.Delivering.{AreFirst, EndsTrial, EndsTrying, IsAttempt, IsStopped, TellsDone, Trial, TrialSurvives, TriesDue, TriesEach, done_line, entry_of, exchanges_of, line_of, lines_of}
 use Rattle.fedi_program.specs.declared.delivering.Stop.{Stop}
 use Rattle.fedi_program.specs.declared.delivering.Stop.TheVariants.{WriteFault, KeeperFault, Full, Memory}
 use Rattle.fedi_program.specs.Endings.{Prints}
 use Rattle.fedi_program.specs.Runs.{is_status_of}
-use Rattle.fedi_program.specs.Stores.{IsKeptSafe, Medium}
 use Rattle.fedi_program.proofs.MemberLemmas.{failed_again, settled_turn}
-use Rattle.fedi_program.proofs.RunLemmas.{known_status, told_status}
-
--- ---- what is written
-
-pub writes_none : (out : Output) → Writes out out []
-writes_none out = record { sent = Appends-nil out.sent; calm = refl }
-
-writes-on : (first before now : Output) (written text : List ℕ) → Writes first before written → Writes before now text → Writes first now (written ++ text)
-writes-on first before now written text was more = record {
-  sent = Appends-trans first.sent before.sent now.sent written text was.sent more.sent;
-  calm = more.calm ∙ was.calm;
-}
-
-breaks-on : (first before now : Output) (written text : List ℕ) → Writes first before written → BreaksOff before now [] text → BreaksOff first now written text
-breaks-on first before now written text was b = record {
-  prefix = b.prefix;
-  short = b.short;
-  sent = Appends-trans first.sent before.sent now.sent written (take b.prefix text) was.sent b.sent;
-  cause = b.cause ∙ ap next_count was.calm;
-}
-
-unless-failed-on : (first before now : Output) (written text : List ℕ) → Writes first before written
-    → WritesUnlessFailed before now [] text → WritesUnlessFailed first now written text
-unless-failed-on first before now written text was (inl sent) = inl (writes-on first before now written text was sent)
-unless-failed-on first before now written text was (inr broken) = inr (breaks-on first before now written text was broken)
+use Rattle.fedi_program.proofs.RunLemmas.{known_status}
 
 -- ---- one trial more
 
@@ -134,7 +103,7 @@ trying_more growth room moment opened now next asked heard later first out after
       each = on.each;
       due = subst (AreFirst (due_in (town opened.history) moment) (t.tried ++ x ∷ [])) (sym left) on.due;
       exchanged = on.exchanged;
-      written = subst (Writes first after) (sym (lines-more t.tried x)) (writes-on first out after (lines_of t.tried) (line_of x) t.written line);
+      written = subst (Writes first after) (sym (lines-more t.tried x)) (writes_on first out after (lines_of t.tried) (line_of x) t.written line);
     }
 
 -- each entry that was kept is one more
@@ -190,8 +159,8 @@ trying_done growth room told moment count opened now asked heard first out last 
     all = let grown = each-grown growth room moment opened now t.tried t.each in omega (arith, grown, counted)
 
     of : Prints out last (done_line (length t.tried)) status → TellsDone t.tried first last status
-    of (inl p) = inl (p.0, writes-on first out last (lines_of t.tried) (done_line (length t.tried)) t.written p.1)
-    of (inr p) = inr (p.0, breaks-on first out last (lines_of t.tried) (done_line (length t.tried)) t.written p.1)
+    of (inl p) = inl (p.0, writes_on first out last (lines_of t.tried) (done_line (length t.tried)) t.written p.1)
+    of (inr p) = inr (p.0, breaks_on first out last (lines_of t.tried) (done_line (length t.tried)) t.written p.1)
 
 -- there was no memory to begin
 pub trying_none : (growth room : ℕ → ℕ) (told : Option ℕ) (moment : ℕ) (opened : State) (link : Told) (out : Output) (status : ℕ) → IsNow told moment → status ≡ 12 → Writes out out []
@@ -237,7 +206,7 @@ trying_stopped growth room told moment opened now refused after asked heard late
           t.tried,
           x,
           refl,
-          breaks-on first out last (lines_of t.tried) (line_of x) t.written
+          breaks_on first out last (lines_of t.tried) (line_of x) t.written
               (subst (λ (o : Output). BreaksOff out o [] (line_of x)) (sym silent) broken),
         ),
       ));
@@ -266,7 +235,7 @@ trying_stopped growth room told moment opened now refused after asked heard late
           still,
           refuses,
           settled,
-          unless-failed-on first out last (lines_of t.tried) (codes "disk fault\n") t.written
+          unless_failed_on first out last (lines_of t.tried) (codes "disk fault\n") t.written
               (subst (λ (o : Output). WritesUnlessFailed o last [] (codes "disk fault\n")) silent tells),
         ),
       )));
@@ -293,7 +262,7 @@ trying_stopped growth room told moment opened now refused after asked heard late
           is_full,
           ap (λ (s : State). s.history) same ∙ still,
           subst (λ (s : State). Refuses room (code_of (entry_of moment x)) keeps.Full now.keeper s.keeper) (sym same) refuses,
-          unless-failed-on first out last (lines_of t.tried) (codes "full\n") t.written
+          unless_failed_on first out last (lines_of t.tried) (codes "full\n") t.written
               (subst (λ (o : Output). WritesUnlessFailed o last [] (codes "full\n")) silent tells),
         ),
       )));
@@ -328,19 +297,6 @@ ends-status room moment last after tried left beyond first now status (inr (inl 
 ends-status room moment last after tried left beyond first now status (inr (inr (inl (x, _, _, _, inl full)))) = known_status (Some Deliver) status 13 refl full.0
 ends-status room moment last after tried left beyond first now status (inr (inr (inl (x, _, _, _, inr failed)))) = known_status (Some Deliver) status 5 refl failed.0
 ends-status room moment last after tried left beyond first now status (inr (inr (inr (is, _, _, _, _)))) = known_status (Some Deliver) status 12 refl is
-
--- how the run ends
-pub delivers_status : (told : Option ℕ) (before after : Medium) (asked heard : Told) (first now : Output) (status : ℕ)
-    → DeliversStore told before after asked heard first now status → is_status_of (Some Deliver) status ≡ true
-delivers_status told before after asked heard first now status (inl (fault, _, _, tells)) =
-    told_status (Some Deliver) fault first now status refl refl refl refl tells
-delivers_status told before after asked heard first now status (inr (opened, closed, _, tries)) =
-    ends-status room tries.moment tries.last closed tries.tried tries.left tries.beyond first now status tries.ends
-
-pub delivers_safe : (told : Option ℕ) (before after : Medium) (asked heard : Told) (first now : Output) (status : ℕ)
-    → DeliversStore told before after asked heard first now status → IsKeptSafe before after
-delivers_safe told before after asked heard first now status (inl (fault, refused, _, _)) = inl (fault, refused)
-delivers_safe told before after asked heard first now status (inr (opened, closed, run, _)) = inr (opened, closed, run.0, run.1.0)
 
 -- ---- what a crash may leave
 

@@ -28,9 +28,8 @@ use Rattle.fedi_logged.specs.Endings.{Output}
 use Rattle.fedi_program.specs.Endings.{Prints}
 use Rattle.fedi_program.specs.Members.{Chance, EndsWith, IsSettled, IsUnmade, MakesMember, ReportsFault, key_line, member_entry}
 use Rattle.fedi_program.specs.Runs.{is_status_of}
-use Rattle.fedi_program.specs.Stores.{AddsMember, Medium}
 use Rattle.fedi_logged.proofs.Crashing.{survives_first, survives_more, survives_turn}
-use Rattle.fedi_program.proofs.RunLemmas.{known_status, told_status}
+use Rattle.fedi_program.proofs.RunLemmas.{known_status}
 use Rattle.fedi_logged.proofs.Turning.{IsUnkept, failed_turn}
 
 -- ---- the status
@@ -68,14 +67,6 @@ member_status growth room told chance left before after first now name locked st
 member_status growth room told chance left before after first now name locked status (inr (key, moment, _, _, inr (_, ends))) =
     end_status (Some (AddActor name locked)) growth room before after first now (member_entry name key locked moment) (key_line name key) status
     refl refl refl refl refl refl ends
-
--- how the run ends
-pub adds_status : (told : Option ℕ) (before after : Medium) (chance left : Chance) (first now : Output) (name : List ℕ) (locked : Bool) (status : ℕ)
-    → AddsMember told before after chance left first now name locked status → is_status_of (Some (AddActor name locked)) status ≡ true
-adds_status told before after chance left first now name locked status (inl (fault, _, _, tells)) =
-    told_status (Some (AddActor name locked)) fault first now status refl refl refl refl tells
-adds_status told before after chance left first now name locked status (inr (opened, closed, _, made)) =
-    member_status growth room told chance left opened closed first now name locked status made
 
 -- ---- a keeper that failed was asked to settle
 

@@ -13,30 +13,11 @@ use Rattle.std.proofs.Common.{
   arith,
   lit<,
 }
-use Rattle.std.specs.Char.{digit_value, is_ascii_digit}
-use Rattle.std.specs.List.{list_all}
-use Rattle.std.specs.Str.Parse.{AllDigits, digits_value}
+use Rattle.std.specs.Str.Parse.{digits_value}
 use Rattle.std.proofs.Math.Nat.{pow-le-pow_right}
-use Rattle.std.proofs.lemmas.Bool.{and_parts}
-use Rattle.std.proofs.lemmas.Bool.Decides.{nat_tests}
 use Rattle.std.proofs.lemmas.Int.Digits.{digits_value-lt}
-use Rattle.std.proofs.lemmas.Str.{digit_value_digit}
 use Rattle.fedi_text.specs.Decimals.{is_decimal}
-
-digit_small : (c : ℕ) → is_ascii_digit c ≡ true → digit_value c < 10
-digit_small c digit =
-    let low : 48 ≤ c = grind (arith, nat_tests) in
-    let high : c ≤ 57 = grind (arith, nat_tests) in
-    omega (arith, digit_value_digit c (low, high), high)
-
-all_digits : (word : List ℕ) → list_all is_ascii_digit word ≡ true → AllDigits 10 word
-all_digits [] all = tt
-all_digits (c ∷ word) all =
-    let both = and_parts (is_ascii_digit c) (list_all is_ascii_digit word) all in
-    (digit_small c both.0, all_digits word both.1)
-
-decimal_digits : (word : List ℕ) → is_decimal word ≡ true → list_all is_ascii_digit word ≡ true
-decimal_digits word decimal = grind (arith, nat_tests)
+use Rattle.fedi_text.proofs.DecimalLemmas.{all_digits, decimal_digits}
 
 -- it fits in 16 bits
 pub short_number : (word : List ℕ) → is_decimal word ≡ true → length word ≤ 4

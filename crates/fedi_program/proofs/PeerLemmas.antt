@@ -1,5 +1,5 @@
 -- How the making of a peer ends, and with which status.
-use Rattle.std.proofs.Common.{◌≡◌, ℕ, Bool, true, false, List, Option, Some, inl, inr, refl, sym, subst, ◌∙◌}
+use Rattle.std.proofs.Common.{◌≡◌, ℕ, Bool, true, false, List, Option, Some, inl, inr, refl, subst, ◌∙◌}
 use Rattle.fedi_address.specs.Hosts.{IsHost}
 use Rattle.fedi_log.specs.Keeping.{State}
 use Rattle.fedi_mac.specs.Keys.{key_of}
@@ -13,9 +13,8 @@ use Rattle.fedi_program.specs.Commands.{AddPeer, Task}
 use Rattle.fedi_program.specs.Members.{EndsWith}
 use Rattle.fedi_program.specs.Peers.{MakesPeer, peer_entry, peer_line}
 use Rattle.fedi_program.specs.Runs.{is_status_of}
-use Rattle.fedi_program.specs.Stores.{AddsPeer, Medium}
 use Rattle.fedi_program.proofs.MemberLemmas.{end_status}
-use Rattle.fedi_program.proofs.RunLemmas.{known_status, told_status}
+use Rattle.fedi_program.proofs.RunLemmas.{known_status}
 
 -- what is known of the host that was read is known of the text that was given
 pub at_host : (t : Town) (host read : List ℕ) (taken : Bool) → read ≡ host → IsHost read → is_taken_host t read ≡ taken → IsHost host × (is_taken_host t host ≡ taken)
@@ -53,14 +52,6 @@ peer_status growth room told before after first now host key address relay statu
 peer_status growth room told before after first now host key address relay status (inr (inr (inr (inr (_, _, secret, moment, _, _, ends))))) =
     end_status (Some (AddPeer host key address relay)) growth room before after first now (peer_entry host secret address relay moment) (peer_line host) status
     refl refl refl refl refl refl ends
-
--- how the run ends
-pub peers_status : (told : Option ℕ) (before after : Medium) (first now : Output) (host key address : List ℕ) (relay : Bool) (status : ℕ)
-    → AddsPeer told before after first now host key address relay status → is_status_of (Some (AddPeer host key address relay)) status ≡ true
-peers_status told before after first now host key address relay status (inl (fault, _, tells)) =
-    told_status (Some (AddPeer host key address relay)) fault first now status refl refl refl refl tells
-peers_status told before after first now host key address relay status (inr (opened, closed, _, made)) =
-    peer_status growth room told opened closed first now host key address relay status made
 
 -- ---- the task
 

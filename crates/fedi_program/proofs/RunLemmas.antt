@@ -1,5 +1,5 @@
 -- From what becomes of a store, and from the end of a session, to the end of a run.
-use Rattle.std.proofs.Common.{◌≡◌, ◌⊎◌, ℕ, Bool, true, List, Option, Some, None, IfSome, arith, inl, inr, refl, sym, ◌∙◌}
+use Rattle.std.proofs.Common.{◌≡◌, ◌⊎◌, ℕ, Bool, true, List, Option, Some, None, arith, inl, inr, refl, sym, ◌∙◌}
 use Rattle.fedi_log.specs.Log.{Log, given}
 use Rattle.fedi_startup.specs.Surviving.{growth, room}
 use Rattle.fedi_startup.specs.declared.faults.StoreFault.{StoreFault}
@@ -11,11 +11,11 @@ use Rattle.fedi_hall.specs.declared.serving.ServeEnd.{ServeEnd}
 use Rattle.fedi_hall.specs.declared.serving.ServeEnd.TheVariants as serves
 use Rattle.fedi_outside.specs.Doors.{Row}
 use Rattle.fedi_outside.specs.declared.doors.Bench.{Bench}
-use Rattle.fedi_program.specs.Commands.{Inetd, Serve, Task}
+use Rattle.fedi_program.specs.Commands.{Serve, Task}
 use Rattle.fedi_delivery.specs.Exchanges.{Told}
 use Rattle.fedi_program.specs.Serving.{ServesDoors, status_after}
 use Rattle.fedi_logged.specs.Conversations.{Setting}
-use Rattle.fedi_logged.specs.Endings.{Faults, IsCaused, Output, Scene, Serves}
+use Rattle.fedi_logged.specs.Endings.{Faults, IsCaused, Output, Scene}
 use Rattle.fedi_program.specs.Endings.{HasCauses, RunsTo, TalksIfTold, status_of}
 use Rattle.fedi_logged.specs.Turning.{setting_by}
 use Rattle.fedi_logged.proofs.Ended.{ended_talks, closed_talks}
@@ -83,14 +83,6 @@ doors_safe told before after served tells closed faults first now status (inr (o
 pub known_status : (task : Option Task) (status known : ℕ) → is_status_of task known ≡ true → status ≡ known → is_status_of task status ≡ true
 known_status task status known may is = rw is may
 
--- a connection was not served
-pub refused_status : (fault : StoreFault) → is_status_of (Some Inetd) (status_by fault) ≡ true
-refused_status faults.NotAStore = refl
-refused_status (faults.DamagedByte place) = refl
-refused_status (faults.DamagedRecord place) = refl
-refused_status faults.Failed = refl
-refused_status faults.Memory = refl
-
 -- it is reported that a store is not opened
 pub told_status : (task : Option Task) (fault : StoreFault) (first now : Output) (status : ℕ) → is_status_of task 3 ≡ true → is_status_of task 4 ≡ true
     → is_status_of task 5 ≡ true → is_status_of task 12 ≡ true → ReportsStore fault first now status → is_status_of task status ≡ true
@@ -118,16 +110,6 @@ pub doors_status : {W K : Type 0} (told : Option ℕ) (before after : Medium) (s
     → (address : List ℕ) → is_status_of (Some (Serve address)) status ≡ true
 doors_status told before after served tells closed faults first now status (inl (fault, _, _, is)) address = rw is (of_fault address fault)
 doors_status told before after served tells closed faults first now status (inr (opened, last, log, _, _, (ending, is, _))) address = rw is (of_ending address ending)
-
--- ---- causes
-
--- nothing was read or written
-pub refused_causes : (counts : Faults) (fault : StoreFault) → HasCauses counts counts (status_by fault)
-refused_causes counts faults.NotAStore = record { reads = refl; writes = inl refl; failed = λ is. absurd cc; calm = λ is. refl }
-refused_causes counts (faults.DamagedByte place) = record { reads = refl; writes = inl refl; failed = λ is. absurd cc; calm = λ is. refl }
-refused_causes counts (faults.DamagedRecord place) = record { reads = refl; writes = inl refl; failed = λ is. absurd cc; calm = λ is. refl }
-refused_causes counts faults.Failed = record { reads = refl; writes = inl refl; failed = λ is. absurd cc; calm = λ is. refl }
-refused_causes counts faults.Memory = record { reads = refl; writes = inl refl; failed = λ is. absurd cc; calm = λ is. refl }
 
 -- ---- why a session ended
 

@@ -1,10 +1,10 @@
 -- In a legal history each activity has an id, a member's activity has an id of this host, and no
 -- activity is sent to anybody twice.
 use Rattle.std.proofs.Common.{◌≡◌, ℕ, suc, ◌+◌, Bool, true, false, List, [], ◌∷◌, ◌++◌, Option, Some, None, refl, sym, ap, subst, ◌∙◌, arith}
-use Rattle.std.specs.Prelude.{◌&&◌, ◌||◌, not, codes, decimal, is_none, nat_eq, map, option_to_list, if◌then◌else◌}
+use Rattle.std.specs.Prelude.{◌&&◌, not, codes, decimal, is_none, nat_eq, map, option_to_list, if◌then◌else◌}
 use Rattle.std.specs.List.{before_first, find, fold, list_all, flat_map, list_any, position_or_len, starts_with}
 use Rattle.std.specs.Str.{bytes_eq}
-use Rattle.std.proofs.lemmas.Bool.{and_parts}
+use Rattle.std.proofs.lemmas.Bool.{and_parts, or_parts, not-true, not-false}
 use Rattle.std.proofs.lemmas.List.Folds.{list_all-append}
 use Rattle.fedi_address.proofs.Parts.{host_of-address}
 use Rattle.fedi_address.specs.Hosts.{is_host_text, address}
@@ -239,18 +239,6 @@ inbox_well host id owner (y ∷ acts) other all =
 
 -- ---- what a peer may deliver
 
-not_or : (a b : Bool) → (a || b) ≡ false → (a ≡ false) × (b ≡ false)
-not_or true b e = absurd cc
-not_or false b e = (refl, e)
-
-was_not : (a : Bool) → not a ≡ true → a ≡ false
-was_not true e = absurd cc
-was_not false e = refl
-
-was : (a : Bool) → not a ≡ false → a ≡ true
-was true e = refl
-was false e = absurd cc
-
 -- neither its author nor its id belongs to this host
 pub record IsAway (host author id : List ℕ) : Type 0 where
   pub of_author : bytes_eq (host_of author) host ≡ false
@@ -258,16 +246,16 @@ pub record IsAway (host author id : List ℕ) : Type 0 where
 
 away_by : (host : List ℕ) (p : Peer) (author id : List ℕ) (r : ObjectRef) → is_foreign (Some host) p (Some author) (Some id) r ≡ false → IsAway host author id
 away_by host p author id r e =
-    let a = not_or (bytes_eq (host_of author) host) _ e in
-    let b = not_or (not (bytes_eq (host_of author) p.host) && not p.relay) _ a.1 in
-    let c = not_or (not (bytes_eq (host_of id) (host_of author))) (is_of_another author r) b.1 in
-    let same : host_of id ≡ host_of author = bytes_eq-is (host_of id) (host_of author) (was (bytes_eq (host_of id) (host_of author)) c.0) in
+    let a = or_parts (bytes_eq (host_of author) host) _ e in
+    let b = or_parts (not (bytes_eq (host_of author) p.host) && not p.relay) _ a.1 in
+    let c = or_parts (not (bytes_eq (host_of id) (host_of author))) (is_of_another author r) b.1 in
+    let same : host_of id ≡ host_of author = bytes_eq-is (host_of id) (host_of author) (not-false (bytes_eq (host_of id) (host_of author)) c.0) in
     record { of_author = a.0; of_id = rw same a.0 }
 
 pub away : (host : List ℕ) (p : Option Peer) (t : Town) (a : Activity) (author id : List ℕ) → t.host ≡ Some host → a.actor ≡ Some author → a.id ≡ Some id → may_deliver t p a ≡ true → IsAway host author id
 away host None t a author id hosted by own ok = absurd cc
 away host (Some p) t a author id hosted by own ok =
-    away_by host p author id a.object (rw (hosted, by, own) at (was_not (is_foreign t.host p a.actor a.id a.object) ok))
+    away_by host p author id a.object (rw (hosted, by, own) at (not-true (is_foreign t.host p a.actor a.id a.object) ok))
 
 -- ---- entries
 
@@ -296,23 +284,23 @@ delivered_well t host p (Some owner) (Some author) (Some id) a moment hosted sha
     came_well t host owner author id a moment hosted shape own (away host p t a author id hosted by own ok) all
 
 -- the host stays the same
-made-host : (t : Town) (host : Option (List ℕ)) (name digest : List ℕ) (locked : Bool) → (with_addition t (member_addition host name digest locked)).host ≡ t.host
-made-host t None name digest locked = refl
-made-host t (Some host) name digest locked = refl
+pub made_host : (t : Town) (host : Option (List ℕ)) (name digest : List ℕ) (locked : Bool) → (with_addition t (member_addition host name digest locked)).host ≡ t.host
+made_host t None name digest locked = refl
+made_host t (Some host) name digest locked = refl
 
 made-acts : (t : Town) (host : Option (List ℕ)) (name digest : List ℕ) (locked : Bool) → (with_addition t (member_addition host name digest locked)).acts ≡ t.acts
 made-acts t None name digest locked = refl
 made-acts t (Some host) name digest locked = refl
 
-posted-host : (t : Town) (host : Option (List ℕ)) (name : List ℕ) (repeat : Option (List ℕ × List ℕ)) (a : Activity) (moment : ℕ) → (with_addition t (post_addition host t name repeat a moment)).host ≡ t.host
-posted-host t None name repeat a moment = refl
-posted-host t (Some host) name repeat a moment = refl
+pub posted_host : (t : Town) (host : Option (List ℕ)) (name : List ℕ) (repeat : Option (List ℕ × List ℕ)) (a : Activity) (moment : ℕ) → (with_addition t (post_addition host t name repeat a moment)).host ≡ t.host
+posted_host t None name repeat a moment = refl
+posted_host t (Some host) name repeat a moment = refl
 
-delivered-host : (t : Town) (owner author id : Option (List ℕ)) (a : Activity) (moment : ℕ) → (with_addition t (delivery_addition t owner author id a moment)).host ≡ t.host
-delivered-host t None author id a moment = refl
-delivered-host t (Some owner) None id a moment = refl
-delivered-host t (Some owner) (Some author) None a moment = refl
-delivered-host t (Some owner) (Some author) (Some id) a moment =
+pub delivered_host : (t : Town) (owner author id : Option (List ℕ)) (a : Activity) (moment : ℕ) → (with_addition t (delivery_addition t owner author id a moment)).host ≡ t.host
+delivered_host t None author id a moment = refl
+delivered_host t (Some owner) None id a moment = refl
+delivered_host t (Some owner) (Some author) None a moment = refl
+delivered_host t (Some owner) (Some author) (Some id) a moment =
     elim (is_known t id) as (λ b. (with_addition t (if b then additions.Inbox id owner else additions.Activity (acceptance t (remote_act t owner author a moment)))).host ≡ t.host) [ true ↦ refl | false ↦ refl ]
 
 set-host : (h : Option (List ℕ)) (host : List ℕ) → h ≡ Some host → is_set h ≡ true → is_host_text host ≡ true
@@ -329,16 +317,16 @@ well_stepped t (Hosted own moment) sound ids ok w =
     let empty = none_before t.host t.acts (not_hosted t own moment (and_parts (is_none (broken_command t (Hosted own moment))) (is_host_text own) ok).0) ids in
     record { well = λ host is. rw empty refl }
 well_stepped t (Made name digest locked moment) sound ids ok w =
-    record { well = λ host is. rw (made-acts t t.host name digest locked) (w.well host (sym (made-host t t.host name digest locked) ∙ is)) }
+    record { well = λ host is. rw (made-acts t t.host name digest locked) (w.well host (sym (made_host t t.host name digest locked) ∙ is)) }
 well_stepped t (PeerSet peer key address relay moment) sound ids ok w = record { well = w.well }
 well_stepped t (Local name repeat a moment) sound ids ok w = record {
   well = λ host is.
-      let hosted : t.host ≡ Some host = sym (posted-host t t.host name repeat a moment) ∙ is in
+      let hosted : t.host ≡ Some host = sym (posted_host t t.host name repeat a moment) ∙ is in
       posted_well t host t.host name repeat a moment hosted hosted (set-host t.host host hosted sound.host) (w.well host hosted);
 }
 well_stepped t (Remote peer inbox a moment) sound ids ok w = record {
   well = λ host is.
-      let hosted : t.host ≡ Some host = sym (delivered-host t (id_of t inbox) a.actor a.id a moment) ∙ is in
+      let hosted : t.host ≡ Some host = sym (delivered_host t (id_of t inbox) a.actor a.id a moment) ∙ is in
       let may = (and_parts (may_deliver t (find (has_host peer) t.peers) a) _ (and_parts (is_delivered a) _ ok).1).0 in
       delivered_well t host (find (has_host peer) t.peers) (id_of t inbox) a.actor a.id a moment hosted (set-host t.host host hosted sound.host) refl refl may (w.well host hosted);
 }

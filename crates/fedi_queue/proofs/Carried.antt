@@ -9,6 +9,7 @@ use Rattle.fedi_queue.specs.declared.rows.QueueRow.{QueueRow}
 use Rattle.fedi_queue.specs.Claims.{carried, is_at, release}
 use Rattle.fedi_queue.specs.Queues.{is_claimed}
 use Rattle.fedi_queue.specs.Rows.{is_reached, row_where, rows_by, rows_from, rows_to}
+use Rattle.fedi_queue.proofs.Released.{none_claimed}
 use Rattle.fedi_town.specs.declared.act.Act.{Act}
 use Rattle.fedi_town.specs.Queues.{Progress, is_at_peer, progress_of, sends}
 use Rattle.fedi_town.specs.Queues.{Due, Ended}
@@ -36,15 +37,6 @@ own-place : (x y : QueueRow) → release x ≡ y → is_at x.activity x.place y 
 unfolding is_at
 own-place x y same = rw (← same, eq-eqb x.activity x.activity refl, eq-eqb x.place x.place refl) refl
 
-none-claimed : (ys : List QueueRow) → map release ys ≡ ys → filter is_claimed ys ≡ []
-unfolding is_claimed
-none-claimed [] same = refl
-none-claimed (y ∷ ys) same =
-    let head : release y ≡ y = cc in
-    let rest : map release ys ≡ ys = cc in
-    let free : y.claimed ≡ false = sym (ap (λ (r : QueueRow). r.claimed) head) in
-    rw free (none-claimed ys rest)
-
 as-claimed : (x y : QueueRow) → release x ≡ y → record y { claimed = x.claimed } ≡ x
 as-claimed x y same = rw (← same) refl
 
@@ -54,7 +46,7 @@ unclaimed y head = sym (ap (λ (r : QueueRow). r.claimed) head)
 
 pub carried_claims : (xs ys : List QueueRow) → map release ys ≡ ys → Embeds xs ys → filter is_claimed (carried xs ys) ≡ filter is_claimed xs
 carried_claims [] [] same embeds = refl
-carried_claims [] (y ∷ ys) same embeds = none-claimed (y ∷ ys) same
+carried_claims [] (y ∷ ys) same embeds = none_claimed (y ∷ ys) same
 carried_claims (x ∷ xs) [] same embeds = absurd embeds
 carried_claims (x ∷ xs) (y ∷ ys) same embeds =
     let head : release y ≡ y = cc in

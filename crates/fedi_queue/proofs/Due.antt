@@ -1,6 +1,6 @@
 -- The rows that are due, before and after an attempt of the first of them.
-use Rattle.std.proofs.Common.{◌≡◌, ℕ, ◌+◌, ◌*◌, ◌^◌, ◌==◌, arith, Bool, true, false, List, [], ◌∷◌, ◌++◌, Option, Some, None, refl, sym, ap, subst, ◌∙◌}
-use Rattle.std.specs.Prelude.{◌&&◌, ◌||◌, not, map, filter, nat_le, option_and_then, slice_get, if◌then◌else◌}
+use Rattle.std.proofs.Common.{◌≡◌, ℕ, ◌+◌, ◌*◌, ◌^◌, ◌==◌, arith, Bool, true, false, List, [], ◌∷◌, ◌++◌, Some, None, refl, sym, ap, subst, ◌∙◌}
+use Rattle.std.specs.Prelude.{◌||◌, not, map, filter, nat_le, if◌then◌else◌}
 use Rattle.std.specs.List.{find, flat_map, list_any}
 use Rattle.std.proofs.lemmas.Bool.{and_parts, leb-true}
 use Rattle.std.proofs.lemmas.List.Elements.{filter-append}
@@ -12,12 +12,12 @@ use Rattle.fedi_objects.specs.declared.entry.Entry.TheVariants.{Tried}
 use Rattle.fedi_queue.specs.declared.rows.QueueRow.{QueueRow}
 use Rattle.fedi_queue.specs.Claims.{is_free_at, release}
 use Rattle.fedi_queue.specs.Queues.{is_claimed}
-use Rattle.fedi_queue.specs.Rows.{delivery_in, id_at, is_row_of, is_waiting, retried, row_of, rows_of}
+use Rattle.fedi_queue.specs.Rows.{delivery_in, is_row_of, is_waiting, retried, row_of, rows_of}
 use Rattle.fedi_queue.proofs.Queued.{one_row, rows_are_queued}
 use Rattle.fedi_queue.proofs.RowsOf.{rows_unclaimed}
 use Rattle.fedi_queue.proofs.Trying.{attempts_change}
-use Rattle.fedi_register.specs.Marks.{is_there}
-use Rattle.fedi_town.proofs.Texts.{bytes_eq-same, is_false}
+use Rattle.fedi_queue.proofs.ClaimedRows.{named_of}
+use Rattle.fedi_town.proofs.Texts.{is_false}
 use Rattle.fedi_town.specs.declared.act.Act.{Act}
 use Rattle.fedi_town.specs.declared.act.Attempt.{Attempt}
 use Rattle.fedi_town.specs.declared.outcome.Outcome.{Outcome}
@@ -27,8 +27,8 @@ use Rattle.fedi_town.specs.Legal.{IsLegal, is_admissible, is_legal_from}
 use Rattle.fedi_town.specs.Lists.{PassesOnce}
 use Rattle.fedi_town.specs.Queues.{Delivery, Progress, after_outcome, is_at_peer, is_due_at, outcome, queue}
 use Rattle.fedi_town.specs.Queues.{Due, Ended}
-use Rattle.fedi_town.specs.Relations.{has_activity_id}
 use Rattle.fedi_town.specs.Towns.{Town, empty_town}
+use Rattle.fedi_town.proofs.Lists.{none_kept}
 
 -- ---- the rows of the deliveries that are due
 
@@ -36,18 +36,18 @@ use Rattle.fedi_town.specs.Towns.{Town, empty_town}
 unfoldable is_due_row : ℕ → QueueRow → Bool
 is_due_row m row = nat_le row.due m
 
-not-waiting : (m : ℕ) (p : Progress) → is_waiting p ≡ false → is_due_at m p ≡ false
-not-waiting m (Due k from) e = absurd cc
-not-waiting m (Ended k) e = refl
+pub not_waiting : (m : ℕ) (p : Progress) → is_waiting p ≡ false → is_due_at m p ≡ false
+not_waiting m (Due k from) e = absurd cc
+not_waiting m (Ended k) e = refl
 
-due-waiting : (m : ℕ) (ds : List Delivery) → filter (is_due_by m) (filter (λ d. is_waiting d.progress) ds) ≡ filter (is_due_by m) ds
+pub due_waiting : (m : ℕ) (ds : List Delivery) → filter (is_due_by m) (filter (λ d. is_waiting d.progress) ds) ≡ filter (is_due_by m) ds
 unfolding is_due_by
-due-waiting m [] = refl
-due-waiting m (d ∷ ds) =
+due_waiting m [] = refl
+due_waiting m (d ∷ ds) =
     elim (is_waiting d.progress) as (λ b. is_waiting d.progress ≡ b
     → filter (is_due_by m) (if b then d ∷ filter (λ e. is_waiting e.progress) ds else filter (λ e. is_waiting e.progress) ds) ≡ filter (is_due_by m) (d ∷ ds)) [
-      | true ↦ λ e. rw (due-waiting m ds) refl
-      | false ↦ λ e. rw (not-waiting m d.progress e) (due-waiting m ds)
+      | true ↦ λ e. rw (due_waiting m ds) refl
+      | false ↦ λ e. rw (not_waiting m d.progress e) (due_waiting m ds)
     ] refl
 
 due-told : (acts : List Act) (m : ℕ) (rows : List QueueRow) → filter (is_due_by m) (map (delivery_in acts) rows) ≡ map (delivery_in acts) (filter (is_due_row m) rows)
@@ -66,7 +66,7 @@ due_rows : (history : List Entry) (m : ℕ) → IsLegal history
     → due_in (town history) m ≡ map (delivery_in (town history).acts) (filter (is_due_row m) (rows_of (town history)))
 due_rows history m legal =
     let t : Town = town history in
-    sym (due-waiting m (queue t))
+    sym (due_waiting m (queue t))
     ∙ ap (λ (ds : List Delivery). filter (is_due_by m) ds) (sym (rows_are_queued history legal))
     ∙ due-told t.acts m (rows_of t)
 
@@ -120,24 +120,11 @@ rows-tried acts a (row ∷ rows) =
 
 -- ---- one row at most
 
-none-left : {A : Type 0} (p q : A → Bool) (xs : List A) → list_any p xs ≡ false → list_any p (filter q xs) ≡ false
-none-left p q [] none = none
-none-left p q (x ∷ xs) none =
-    let parts = apart (p x) (list_any p xs) none in
-    elim (q x) as (λ b. list_any p (if b then x ∷ filter q xs else filter q xs) ≡ false) [
-      | true ↦ rw (parts.0, none-left p q xs parts.1) refl
-      | false ↦ none-left p q xs parts.1
-    ]
-  where
-    apart : (a b : Bool) → (a || b) ≡ false → (a ≡ false) × (b ≡ false)
-    apart true b e = absurd cc
-    apart false b e = (refl, e)
-
 once-left : {A : Type 0} (p q : A → Bool) (xs : List A) → PassesOnce p xs → PassesOnce p (filter q xs)
 once-left p q [] once = tt
 once-left p q (x ∷ xs) once =
     elim (q x) as (λ b. PassesOnce p (if b then x ∷ filter q xs else filter q xs)) [
-      | true ↦ (λ passes. none-left p q xs (once.0 passes), once-left p q xs once.1)
+      | true ↦ (λ passes. none_kept p q xs (once.0 passes), once-left p q xs once.1)
       | false ↦ once-left p q xs once.1
     ]
 
@@ -152,17 +139,6 @@ without-none p (x ∷ xs) none =
 
 -- ---- the first of them
 
-is-of : (acts : List Act) (id r : List ℕ) (row : QueueRow) → id_at acts row.activity ≡ Some id → row.recipient ≡ r → is_row_of acts id r row ≡ true
-unfolding is_row_of has_activity_id
-is-of acts id r row at to = rw (to, bytes_eq-same r) (there (slice_get acts row.activity) at)
-  where
-    own : (o : Option (List ℕ)) (x : Act) → x.activity.id ≡ o → o ≡ Some id → has_activity_id id x ≡ true
-    own o x is same = rw (is, same) (bytes_eq-same id)
-
-    there : (o : Option Act) → option_and_then (λ x. x.activity.id) o ≡ Some id → (is_there (has_activity_id id) o && true) ≡ true
-    there None is = absurd cc
-    there (Some x) is = rw (own (x.activity.id) x refl is) refl
-
 pub legal_before : (t : Town) (history : List Entry) (e : Entry) → is_legal_from t (history ++ e ∷ []) ≡ true → is_legal_from t history ≡ true
 legal_before t [] e legal = refl
 legal_before t (d ∷ history) e legal =
@@ -175,7 +151,7 @@ rest-of acts a [] d rest once same to = absurd cc
 rest-of acts a (row ∷ rows) d rest once same to =
     let first : delivery_in acts row ≡ d = cc in
     let others : map (delivery_in acts) rows ≡ rest = cc in
-    let own = is-of acts a.activity a.recipient row (ap (λ (x : Delivery). x.activity) first ∙ to.0) (ap (λ (x : Delivery). x.recipient) first ∙ to.1) in
+    let own = named_of acts a.activity a.recipient row (ap (λ (x : Delivery). x.activity) first ∙ to.0) (ap (λ (x : Delivery). x.recipient) first ∙ to.1) in
     rw (own, without-none (is_row_of acts a.activity a.recipient) rows (once.0 own)) others
 
 pub attempts_leave : AttemptsLeaveTheRest

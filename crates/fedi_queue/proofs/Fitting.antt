@@ -2,7 +2,7 @@
 use Rattle.std.proofs.Common.{◌≡◌, ℕ, zero, suc, ◌+◌, arith, Bool, true, false, List, [], ◌∷◌, ◌++◌, length, Option, Some, None, refl, sym, ap, subst, ◌∙◌, append-nil, Vec, Global}
 use Rattle.std.specs.Prelude.{◌&&◌, ◌||◌, ◌*◌, ◌^◌, not, map, filter, nat_eq, slice_get, if◌then◌else◌}
 use Rattle.std.specs.List.{find, flat_map, list_any}
-use Rattle.std.proofs.lemmas.Bool.{eqb-true, eqb-false, eq-eqb, ne_eqb}
+use Rattle.std.proofs.lemmas.Bool.{eqb-true, eqb-false, eq-eqb, ne_eqb, or_parts}
 use Rattle.std.proofs.lemmas.List.{map-append}
 use Rattle.std.proofs.lemmas.List.Elements.{filter-append}
 use Rattle.fedi_effects.specs.Additions.{acts_in}
@@ -20,11 +20,12 @@ use Rattle.fedi_queue.proofs.Carried.{Embeds, carried_claims, carried_rows, embe
 use Rattle.fedi_queue.proofs.Growing.{is_plain, peer_rows, plain_rows}
 use Rattle.fedi_queue.proofs.RowsOf.{rows_unclaimed}
 use Rattle.fedi_queue.proofs.Trying.{attempts_change, rows_once}
-use Rattle.fedi_town.proofs.IdsTown.{HasIds}
+use Rattle.fedi_queue.proofs.Released.{of_released, any_released, once_released, got_released, none_claimed}
+use Rattle.fedi_town.proofs.IdsTown.{once_by}
 use Rattle.fedi_register.specs.Changes.{place_where}
 use Rattle.fedi_register.specs.Marks.{is_there}
 use Rattle.fedi_register.proofs.Edited.{there, none_there}
-use Rattle.fedi_town.proofs.Lists.{list_any-agree}
+use Rattle.fedi_town.proofs.Lists.{list_any-agree, filter-agree}
 use Rattle.fedi_town.specs.declared.act.Act.{Act}
 use Rattle.fedi_town.specs.declared.act.Attempt.{Attempt}
 use Rattle.fedi_town.specs.declared.outcome.Outcome.{Outcome}
@@ -36,6 +37,7 @@ use Rattle.fedi_town.specs.Queues.{after_outcome, is_at_peer, outcome}
 use Rattle.fedi_town.specs.Queues.{Due, Ended}
 use Rattle.fedi_town.specs.Relations.{has_activity_id}
 use Rattle.fedi_town.specs.Towns.{Town}
+use Rattle.fedi_town.proofs.Reached.{and_not_true}
 
 -- ---- the one that passes
 
@@ -46,14 +48,10 @@ eqb_suc a b =
       | false ↦ λ e. ne_eqb (suc a) (suc b) (λ same. eqb-false a b e (omega (arith, same)))
     ] refl
 
-or_none : (a b : Bool) → (a || b) ≡ false → (a ≡ false) × (b ≡ false)
-or_none true b e = absurd cc
-or_none false b e = (refl, e)
-
 none_at : {A : Type 0} (p : A → Bool) (xs : List A) → list_any p xs ≡ false → (k : ℕ) → is_there p (slice_get xs k) ≡ false
 none_at p [] none k = refl
-none_at p (x ∷ xs) none zero = (or_none (p x) (list_any p xs) none).0
-none_at p (x ∷ xs) none (suc k) = none_at p xs (or_none (p x) (list_any p xs) none).1 k
+none_at p (x ∷ xs) none zero = (or_parts (p x) (list_any p xs) none).0
+none_at p (x ∷ xs) none (suc k) = none_at p xs (or_parts (p x) (list_any p xs) none).1 k
 
 -- if a later one passes, the first does not
 first_fails : {A : Type 0} (p : A → Bool) (x : A) (xs : List A) (k : ℕ) (y : A) → PassesOnce p (x ∷ xs) → slice_get xs k ≡ Some y → p y ≡ true → p x ≡ false
@@ -101,7 +99,7 @@ none_of acts id r is row = rw (none_at (has_activity_id id) acts (none_any (has_
 flat_none : {A : Type 0} (p : A → Bool) (f : A → List A) (h : A → List A) (xs : List A) → ((x : A) → h x ≡ (if p x then f x else x ∷ [])) → list_any p xs ≡ false → flat_map h xs ≡ xs
 flat_none p f h [] is none = refl
 flat_none p f h (x ∷ xs) is none =
-    let parts = or_none (p x) (list_any p xs) none in
+    let parts = or_parts (p x) (list_any p xs) none in
     rw (is x, parts.0, flat_none p f h xs is parts.1) refl
 
 once_flat : {A : Type 0} (p : A → Bool) (f g h : A → List A) (xs : List A) (k : ℕ) (y : A) → ((x : A) → h x ≡ (if p x then f x else x ∷ [])) → PassesOnce p xs → slice_get xs k ≡ Some y → p y ≡ true
@@ -115,10 +113,6 @@ once_flat p f g h (x ∷ xs) zero y is once got passes same =
 once_flat p f g h (x ∷ xs) (suc k) y is once got passes same =
     rw (is x, first_fails p x xs k y once got passes, once_flat p f g h xs k y is once.1 got passes same) refl
 
-filter-agree : {A : Type 0} (p q : A → Bool) (xs : List A) → ((x : A) → p x ≡ q x) → filter p xs ≡ filter q xs
-filter-agree p q [] same = refl
-filter-agree p q (x ∷ xs) same = rw (same x, filter-agree p q xs same) refl
-
 and_not : (a b : Bool) → b ≡ false → (a && not b) ≡ a
 and_not true b e = rw e refl
 and_not false b e = refl
@@ -126,12 +120,8 @@ and_not false b e = refl
 filter_without : {A : Type 0} (c p s : A → Bool) (xs : List A) → ((x : A) → s x ≡ (c x && not (p x))) → list_any p xs ≡ false → filter s xs ≡ filter c xs
 filter_without c p s [] is none = refl
 filter_without c p s (x ∷ xs) is none =
-    let parts = or_none (p x) (list_any p xs) none in
+    let parts = or_parts (p x) (list_any p xs) none in
     rw (is x, and_not (c x) (p x) parts.0, filter_without c p s xs is parts.1) refl
-
-and_not_true : (a b : Bool) → b ≡ true → (a && not b) ≡ false
-and_not_true true b e = rw e refl
-and_not_true false b e = refl
 
 once_kept : {A : Type 0} (c p s : A → Bool) (g : A → List A) (xs : List A) (k : ℕ) (y : A) → ((x : A) → s x ≡ (c x && not (p x))) → PassesOnce p xs → slice_get xs k ≡ Some y → p y ≡ true
     → filter c (g y) ≡ [] → filter c (replace_at k g xs) ≡ filter s xs
@@ -160,36 +150,11 @@ replace-released zero due (row ∷ rows) = map-append release (settled due row) 
     one (Some from) = refl
 replace-released (suc k) due (row ∷ rows) = ap (λ (ys : List QueueRow). release row ∷ ys) (replace-released k due rows)
 
-of-released : (acts : List Act) (id r : List ℕ) (row : QueueRow) → is_row_of acts id r (release row) ≡ is_row_of acts id r row
-unfolding is_row_of
-of-released acts id r row = refl
-
-any-released : (p : QueueRow → Bool) (rows : List QueueRow) → ((row : QueueRow) → p (release row) ≡ p row) → list_any p (map release rows) ≡ list_any p rows
-any-released p [] same = refl
-any-released p (row ∷ rows) same = rw (same row, any-released p rows same) refl
-
-once-released : (p : QueueRow → Bool) (rows : List QueueRow) → ((row : QueueRow) → p (release row) ≡ p row) → PassesOnce p (map release rows) → PassesOnce p rows
-once-released p [] same once = tt
-once-released p (row ∷ rows) same once = (λ passes. sym (any-released p rows same) ∙ once.0 (same row ∙ passes), once-released p rows same once.1)
-
-got-released : (rows : List QueueRow) (k : ℕ) (y : QueueRow) → slice_get rows k ≡ Some y → slice_get (map release rows) k ≡ Some (release y)
-got-released [] k y got = absurd cc
-got-released (row ∷ rows) zero y got = let same : row ≡ y = cc in rw same refl
-got-released (row ∷ rows) (suc k) y got = got-released rows k y got
-
 -- a released row is the row itself except for the claim
 was-released : (rows : List QueueRow) (k : ℕ) (y : QueueRow) → slice_get (map release rows) k ≡ Some y → (z : QueueRow) × (slice_get rows k ≡ Some z) × (release z ≡ y)
 was-released [] k y got = absurd cc
 was-released (row ∷ rows) zero y got = (row, refl, (let same : release row ≡ y = cc in same))
 was-released (row ∷ rows) (suc k) y got = was-released rows k y got
-
-none-claimed : (rows : List QueueRow) → filter is_claimed (map release rows) ≡ []
-unfolding is_claimed
-none-claimed [] = refl
-none-claimed (row ∷ rows) = none-claimed rows
-
-unclaimed : (rows : List QueueRow) → map release rows ≡ rows → filter is_claimed rows ≡ []
-unclaimed rows same = ap (λ (ys : List QueueRow). filter is_claimed ys) (sym same) ∙ none-claimed rows
 
 settled-unclaimed : (due : Option ℕ) (row : QueueRow) → filter is_claimed (settled due row) ≡ []
 unfolding is_claimed
@@ -226,7 +191,7 @@ nothing_fits t id r came m none =
           ∙ flat_none p (λ row. row_of row.activity row.place row.recipient (after_outcome row.attempts m (outcome came))) (retried t.acts a) (rows_of t) (retried-is t.acts a) none);
       claims = λ rows same.
           sym (filter_without is_claimed p (stays_claimed t.acts (Tried id r came m)) rows (stays-tried t.acts id r came m)
-          (sym (any-released p rows (of-released t.acts id r)) ∙ ap (λ (ys : List QueueRow). list_any p ys) same ∙ none));
+          (sym (any_released p rows (of_released t.acts id r)) ∙ ap (λ (ys : List QueueRow). list_any p ys) same ∙ none));
     }
 
 settled_fits : (t : Town) (id r : List ℕ) (came : Came) (m : ℕ) (k : ℕ) (due : Option ℕ) (y : QueueRow) → IsKnown t → slice_get (rows_of t) k ≡ Some y → is_row_of t.acts id r y ≡ true
@@ -242,14 +207,10 @@ settled_fits t id r came m k due y known got passes next =
           ∙ sym (attempts_change t a ∙ once_flat p f (settled due) (retried t.acts a) (rows_of t) k y (retried-is t.acts a) once got passes made);
       claims = λ rows same.
           let held = was-released rows k y (ap (λ (ys : List QueueRow). slice_get ys k) same ∙ got) in
-          let own : p held.0 ≡ true = sym (of-released t.acts id r held.0) ∙ ap p held.2 ∙ passes in
+          let own : p held.0 ≡ true = sym (of_released t.acts id r held.0) ∙ ap p held.2 ∙ passes in
           once_kept is_claimed p (stays_claimed t.acts (Tried id r came m)) (settled due) rows k held.0 (stays-tried t.acts id r came m)
-          (once-released p rows (of-released t.acts id r) (subst (λ (ys : List QueueRow). PassesOnce p ys) (sym same) once)) held.1 own (settled-unclaimed due held.0);
+          (once_released p rows (of_released t.acts id r) (subst (λ (ys : List QueueRow). PassesOnce p ys) (sym same) once)) held.1 own (settled-unclaimed due held.0);
     }
-
-ids-once : (h : Option (List ℕ)) (acts : List Act) → HasIds h acts → (id : List ℕ) → PassesOnce (has_activity_id id) acts
-ids-once None acts ids id = subst (λ (xs : List Act). PassesOnce (has_activity_id id) xs) (sym ids) tt
-ids-once (Some host) acts ids id = ids.once id
 
 next-at : (due : Option ℕ) (came : Came) (m : ℕ) (o : Option QueueRow) (y : QueueRow) → o ≡ Some y → IsNext due came m o → due ≡ due_of (after_outcome y.attempts m (outcome came))
 next-at due came m None y is next = absurd next
@@ -260,17 +221,17 @@ pub settling_fits : (t : Town) (id r : List ℕ) (came : Came) (m n : ℕ) (rows
 settling_fits t id r came m n rows changes.Nothing known same found settling =
     let p : QueueRow → Bool = is_row_of t.acts id r in
     let q : QueueRow → Bool = is_row_for n r in
-    let is : (row : QueueRow) → q row ≡ p row = for_is_of t.acts id r n (ids-once t.host t.acts known.ids id) found in
+    let is : (row : QueueRow) → q row ≡ p row = for_is_of t.acts id r n (once_by t.host t.acts known.ids id) found in
     let none : list_any q rows ≡ false = none_any q rows (none_there q rows settling) in
     nothing_fits t id r came m
-    (ap (λ (ys : List QueueRow). list_any p ys) (sym same) ∙ any-released p rows (of-released t.acts id r) ∙ sym (list_any-agree q p is rows) ∙ none)
+    (ap (λ (ys : List QueueRow). list_any p ys) (sym same) ∙ any_released p rows (of_released t.acts id r) ∙ sym (list_any-agree q p is rows) ∙ none)
 settling_fits t id r came m n rows (changes.Added more) known same found settling = absurd settling
 settling_fits t id r came m n rows (changes.Settled k due) known same found settling =
     let at = there (is_row_for n r) rows k settling.0 in
-    let is = for_is_of t.acts id r n (ids-once t.host t.acts known.ids id) found in
+    let is = for_is_of t.acts id r n (once_by t.host t.acts known.ids id) found in
     settled_fits t id r came m k due (release at.0) known
-    (ap (λ (ys : List QueueRow). slice_get ys k) (sym same) ∙ got-released rows k at.0 at.1)
-    (of-released t.acts id r at.0 ∙ sym (is at.0) ∙ at.2)
+    (ap (λ (ys : List QueueRow). slice_get ys k) (sym same) ∙ got_released rows k at.0 at.1)
+    (of_released t.acts id r at.0 ∙ sym (is at.0) ∙ at.2)
     (next-at due came m (slice_get rows k) at.0 at.1 settling.1)
 settling_fits t id r came m n rows (changes.Rebuilt list) known same found settling = absurd settling
 
@@ -301,8 +262,8 @@ added_fits t e more known ok plain is =
           map-append release rows more.items ∙ rw (same, own, is) (sym (plain_rows t e known ok plain));
       claims = λ rows same.
           filter-append is_claimed rows more.items
-          ∙ rw (unclaimed more.items own) (append-nil (filter is_claimed rows))
-          ∙ sym (filter-agree (stays_claimed t.acts e) is_claimed rows (λ row. untried t.acts e row plain));
+          ∙ rw (none_claimed more.items own) (append-nil (filter is_claimed rows))
+          ∙ sym (filter-agree (stays_claimed t.acts e) is_claimed (λ row. untried t.acts e row plain) rows);
     }
 
 stays-peer : (acts : List Act) (host key address : List ℕ) (relay : Bool) (m : ℕ) (row : QueueRow) → stays_claimed acts (PeerSet host key address relay m) row ≡ is_claimed row
@@ -323,5 +284,5 @@ rebuilt_fits t host key address relay m list is =
       rows = λ rows same. carried_rows rows list.items ∙ own ∙ is ∙ sym (peer_rows t (record { host = host; key = key; address = address; relay = relay }));
       claims = λ rows same.
           carried_claims rows list.items own (embeds_claimed rows list.items (embedded t host rows list.items same is))
-          ∙ sym (filter-agree (stays_claimed t.acts e) is_claimed rows (λ row. stays-peer t.acts host key address relay m row));
+          ∙ sym (filter-agree (stays_claimed t.acts e) is_claimed (λ row. stays-peer t.acts host key address relay m row) rows);
     }

@@ -2,7 +2,7 @@
 use Rattle.std.proofs.Common.{◌≡◌, ℕ, Bool, true, false, List, [], ◌∷◌, ◌++◌, length, Option, Some, None, refl, sym, ap, subst, ◌∙◌, append-nil, append_assoc, eq-eqb}
 use Rattle.std.specs.Prelude.{◌&&◌, ◌||◌, not, map, filter, nat_le, option_map, IfSome, IsTrue, if◌then◌else◌}
 use Rattle.std.specs.List.{find, list_all, list_any}
-use Rattle.std.proofs.lemmas.Bool.{and_parts}
+use Rattle.std.proofs.lemmas.Bool.{and_parts, or_right}
 use Rattle.std.proofs.lemmas.List.{length-map}
 use Rattle.std.proofs.lemmas.List.Sums.{fold_push}
 use Rattle.fedi_objects.specs.declared.entry.Entry.{Entry}
@@ -59,10 +59,6 @@ sound_released history old new coming a p h is =
     subst (λ (l : Listed). IsSound history l coming) (sym is)
     (sound_stays history old (record old { rows = change_first (is_claimed_at a p) release old.rows }) coming h (rows_stay (is_claimed_at a p) release old.rows (λ row. refl)) refl)
 
-or_true : (a b : Bool) → b ≡ true → (a || b) ≡ true
-or_true true b e = refl
-or_true false b e = e
-
 held-row : (m : ℕ) (row : QueueRow) → is_free_at m row ≡ true → is_held_by (claim_of m row) (claim row) ≡ true
 unfolding is_free_at is_held_by is_claimed_at is_at
 held-row m row free = rw (eq-eqb row.activity row.activity refl, eq-eqb row.place row.place refl) (and_parts (not row.claimed) (nat_le row.due m) free).1
@@ -75,7 +71,7 @@ held-first m (row ∷ rows) c is =
       | true ↦ λ free e.
           let own : claim_of m row ≡ c = cc in
           subst (λ (k : Claim). IsHeld k (claim row ∷ rows)) own (rw (held-row m row free) refl)
-      | false ↦ λ free e. or_true (is_held_by c row) (list_any (is_held_by c) (change_first (is_free_at m) claim rows)) (held-first m rows c e)
+      | false ↦ λ free e. or_right (is_held_by c row) (list_any (is_held_by c) (change_first (is_free_at m) claim rows)) (held-first m rows c e)
     ] refl is
 
 pub held_claimed : (m : ℕ) (rows new : List QueueRow) (result : Option Claim) → result ≡ option_map (claim_of m) (find (is_free_at m) rows) → new ≡ change_first (is_free_at m) claim rows
@@ -172,7 +168,7 @@ any-filter p s [] any = any
 any-filter {A} p s (x ∷ xs) any =
     elim (s x) as (λ b. list_any p (if b then x ∷ filter s xs else filter s xs) ≡ true → (p x || list_any p xs) ≡ true) [
       | true ↦ λ e. keep (p x) (list_any p (filter s xs)) (list_any p xs) (any-filter p s xs) e
-      | false ↦ λ e. or_true (p x) (list_any p xs) (any-filter p s xs e)
+      | false ↦ λ e. or_right (p x) (list_any p xs) (any-filter p s xs e)
     ] any
   where
     keep : (a b d : Bool) → (b ≡ true → d ≡ true) → (a || b) ≡ true → (a || d) ≡ true

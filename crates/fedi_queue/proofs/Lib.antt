@@ -1,11 +1,13 @@
 pub mod Addressed
 pub mod Carried
+pub mod ClaimedRows
 pub mod Due
 pub mod Fitting
 pub mod Growing
 pub mod Held
 pub mod Listed
 pub mod Queued
+pub mod Released
 pub mod RowsOf
 pub mod Sent
 pub mod Trying

@@ -11,7 +11,7 @@ use Rattle.fedi_queue.specs.Claims.{change_first, claim, is_few, is_free_at, is_
 use Rattle.fedi_queue.specs.Queues.{IsNext, due_of}
 use Rattle.fedi_register.specs.Changes.{place_where}
 use Rattle.fedi_register.proofs.Edited.{none_there}
-use Rattle.fedi_register.proofs.Once.{lt_step}
+use Rattle.fedi_register.proofs.Once.{lt_step, placed}
 use Rattle.fedi_town.proofs.Lists.{find-none}
 use Rattle.fedi_town.specs.declared.outcome.Outcome.{Outcome}
 use Rattle.fedi_town.specs.Queues.{after_outcome, outcome}
@@ -29,15 +29,6 @@ none_changed {A} p f (x ∷ xs) none =
 
 pub late_same : {A : Type 0} (p : A → Bool) (f : A → A) (xs : List A) → None ≡ place_where p xs → change_first p f xs ≡ xs
 late_same p f xs none = none_changed p f xs (none_there p xs none)
-
--- the index that was found
-placed : {A : Type 0} (p : A → Bool) (xs : List A) (k : ℕ) → Some k ≡ place_where p xs → (k ≡ position_or_len p xs) × (ltb (position_or_len p xs) (length xs) ≡ true)
-placed p xs k is =
-    elim (ltb (position_or_len p xs) (length xs)) as (λ b. ltb (position_or_len p xs) (length xs) ≡ b → Some k ≡ (if b then Some (position_or_len p xs) else None)
-    → (k ≡ position_or_len p xs) × (ltb (position_or_len p xs) (length xs) ≡ true)) [
-      | true ↦ λ e f. (let same : k ≡ position_or_len p xs = cc in same, e)
-      | false ↦ λ e f. absurd cc
-    ] refl is
 
 set-first : {A : Type 0} (p : A → Bool) (f : A → A) (xs : List A) (y d : A) → ltb (position_or_len p xs) (length xs) ≡ true → y ≡ f (get_or xs (position_or_len p xs) d)
     → set xs (position_or_len p xs) y ≡ change_first p f xs

@@ -25,6 +25,7 @@ use Rattle.fedi_town.specs.Legal.{is_admissible, is_legal_from}
 use Rattle.fedi_town.specs.Queues.{Delivery, Progress, deliveries_of, delivery_to, is_at_peer, is_due_delivery, progress_of, queue, sends}
 use Rattle.fedi_town.specs.Queues.{Due, Ended}
 use Rattle.fedi_town.specs.Towns.{Town, count_of, empty_town}
+use Rattle.fedi_town.proofs.Lists.{got_any}
 
 abbrev waiting : List Delivery → List Delivery
 waiting ds = filter (λ d. is_waiting d.progress) ds
@@ -95,15 +96,6 @@ got-mapped f [] k x got = absurd cc
 got-mapped f (y ∷ xs) zero x got = let same : y ≡ x = cc in rw same refl
 got-mapped f (y ∷ xs) (suc k) x got = got-mapped f xs k x got
 
-got-any : {A : Type 0} (p : A → Bool) (xs : List A) (k : ℕ) (x : A) → slice_get xs k ≡ Some x → p x ≡ true → list_any p xs ≡ true
-got-any p [] k x got passes = absurd cc
-got-any p (y ∷ xs) zero x got passes = let same : y ≡ x = cc in rw (same, passes) refl
-got-any p (y ∷ xs) (suc k) x got passes = or-true (p y) (list_any p xs) (got-any p xs k x got passes)
-  where
-    or-true : (a b : Bool) → b ≡ true → (a || b) ≡ true
-    or-true true b e = refl
-    or-true false b e = e
-
 any-waiting : (p : Delivery → Bool) (ds : List Delivery) → list_any p (waiting ds) ≡ true → list_any p ds ≡ true
 any-waiting p [] any = any
 any-waiting p (d ∷ ds) any =
@@ -128,7 +120,7 @@ pub rows_are_due : RowsAreDue
 rows_are_due history k row id m legal got at due =
     let t : Town = town history in
     let p : Delivery → Bool = is_due_delivery id row.recipient m in
-    let there = got-any p (map (delivery_in t.acts) (rows_of t)) k (delivery_in t.acts row) (got-mapped (delivery_in t.acts) (rows_of t) k row got) (row-due t.acts row id m at due) in
+    let there = got_any p (map (delivery_in t.acts) (rows_of t)) k (delivery_in t.acts row) (got-mapped (delivery_in t.acts) (rows_of t) k row got) (row-due t.acts row id m at due) in
     due_is_queued t id row.recipient m ∙ any-waiting p (queue t) (ap (λ (ds : List Delivery). list_any p ds) (sym (rows_are_queued history legal)) ∙ there)
 
 -- ---- one row at most, and repeats

@@ -1,11 +1,8 @@
 -- A queue may cross threads.
-use denote.RattleType.{RattleType}
 use denote.Param.Send.{IsSend, view_send, sendable}
 use denote.Param.SendFields.{declared_send, variants_send}
 use Rattle.std.proofs.Crossing.{crosses}
 use Rattle.fedi_register.proofs.KeptSent.{iri_send}
-use Rattle.fedi_register.proofs.trace.Trace.TheLaws.TheKnot.{crosses as traces_cross}
-use Rattle.fedi_register.specs.contracts.trace.Trace as Trace
 use Rattle.fedi_objects.proofs.entry.Entry.TheSendSync.{the_send as entry_send}
 use Rattle.fedi_queue.specs.contracts.changes.Change as Change
 use Rattle.fedi_queue.specs.contracts.queue.Queue as Queue
@@ -15,6 +12,7 @@ use Rattle.fedi_queue.specs.contracts.queue.Start as Start
 use Rattle.fedi_queue.specs.contracts.rows.QueueRow as QueueRow
 use Rattle.fedi_queue.specs.contracts.rows.Rows as Rows
 use Rattle.fedi_queue.specs.contracts.rows.Rows.TheInside as RowsInside
+use Rattle.fedi_effects.proofs.Sent.{trace_send}
 
 row_send : IsSend QueueRow.the_row
 row_send = search (iri_send, crosses, sendable) depth 20
@@ -33,9 +31,6 @@ room_send = declared_send Room.the_type (search (change_send, crosses, sendable)
 
 start_send : IsSend Start.the_row
 start_send = declared_send Start.the_type (search (crosses, sendable) depth 20)
-
-trace_send : (T : RattleType) → IsSend T → IsSend (Trace.the_row T)
-trace_send T s = search (traces_cross, crosses, sendable) depth 20
 
 inside_send : IsSend Inside.the_row
 inside_send = declared_send Inside.the_type (search (start_send, rows_send, room_send, trace_send, entry_send, crosses, sendable) depth 30)

@@ -3,7 +3,7 @@ use Rattle.std.proofs.Common.{◌≡◌, ℕ, suc, Bool, true, false, List, [], 
 use Rattle.std.specs.Prelude.{◌&&◌, ◌||◌, not, filter, slice_get, if◌then◌else◌}
 use Rattle.std.specs.List.{flat_map, fold, list_all, list_any}
 use Rattle.std.specs.Str.{bytes_eq}
-use Rattle.std.proofs.lemmas.Bool.{and_parts}
+use Rattle.std.proofs.lemmas.Bool.{and_parts, or_parts, not-true}
 use Rattle.std.proofs.lemmas.List.{append-nil}
 use Rattle.std.proofs.lemmas.List.Elements.{filter-append}
 use Rattle.std.proofs.lemmas.List.Folds.{list_any-append}
@@ -151,15 +151,11 @@ by-none t n m rs (Some own) id s none = to-none t n own m 0 rs id s none
 got-there : (acts before xs : List Act) (x : Act) (n : ℕ) (id : List ℕ) → acts ≡ before ++ x ∷ xs → n ≡ length before → is_there (has_activity_id id) (slice_get acts n) ≡ has_activity_id id x
 got-there acts before xs x n id split count = rw (split, count, got_at before x xs) refl
 
-or_split : (a b : Bool) → (a || b) ≡ false → (a ≡ false) × (b ≡ false)
-or_split true b e = absurd cc
-or_split false b e = (refl, e)
-
 from-none : (t : Town) (before xs : List Act) (n : ℕ) (id s : List ℕ) → t.acts ≡ before ++ xs → n ≡ length before → list_any (has_activity_id id) xs ≡ false
     → list_any (is_row_of t.acts id s) (rows_from t (is_at_peer t) n xs) ≡ false
 from-none t before [] n id s split count none = refl
 from-none t before (x ∷ xs) n id s split count none =
-    let parts = or_split (has_activity_id id x) (list_any (has_activity_id id) xs) none in
+    let parts = or_parts (has_activity_id id x) (list_any (has_activity_id id) xs) none in
     let next : t.acts ≡ (before ++ x ∷ []) ++ xs = split ∙ sym (append_assoc before (x ∷ []) xs) in
     let more : suc n ≡ length (before ++ x ∷ []) = ap suc count ∙ sym (longer before x) in
     list_any-append (is_row_of t.acts id s) (rows_by t (is_at_peer t) n x.moment (sends t x) x.activity.id) (rows_from t (is_at_peer t) (suc n) xs)
@@ -181,7 +177,7 @@ to-other : (t : Town) (n : ℕ) (own : List ℕ) (m place : ℕ) (rs : List (Lis
 unfolding is_among
 to-other t n own m place [] id s none = refl
 to-other t n own m place (r ∷ rs) id s none =
-    let parts = or_split (bytes_eq r s) (list_any (λ u. bytes_eq u s) rs) none in
+    let parts = or_parts (bytes_eq r s) (list_any (λ u. bytes_eq u s) rs) none in
     list_any-append (is_row_of t.acts id s) (row_where (is_at_peer t r) n place r (progress_of t own r m)) (rows_to t (is_at_peer t) n own m (suc place) rs)
     ∙ rw (row-other t.acts (is_at_peer t r) n place r id s (progress_of t own r m) parts.0, to-other t n own m (suc place) rs id s parts.1) refl
 
@@ -197,10 +193,6 @@ row-named acts b n place r id s p any =
       | false ↦ λ e. let no : true ≡ false = sym any ∙ row-other acts b n place r id s p e in absurd cc
     ] refl
 
-not-named : (a : Bool) → not a ≡ true → a ≡ false
-not-named true e = absurd cc
-not-named false e = refl
-
 to-once : (t : Town) (n : ℕ) (own : List ℕ) (m place : ℕ) (rs : List (List ℕ)) (id s : List ℕ) → is_each_once rs ≡ true
     → PassesOnce (is_row_of t.acts id s) (rows_to t (is_at_peer t) n own m place rs)
 to-once t n own m place [] id s once = tt
@@ -211,7 +203,7 @@ to-once t n own m place (r ∷ rs) id s once =
     (row-once t.acts (is_at_peer t r) n place r id s here)
     (to-once t n own m (suc place) rs id s parts.1)
     (λ any. to-other t n own m (suc place) rs id s
-    (subst (λ (u : List ℕ). is_among u rs ≡ false) (row-named t.acts (is_at_peer t r) n place r id s here any) (not-named (is_among r rs) parts.0)))
+    (subst (λ (u : List ℕ). is_among u rs ≡ false) (row-named t.acts (is_at_peer t r) n place r id s here any) (not-true (is_among r rs) parts.0)))
 
 by-once : (t : Town) (n m : ℕ) (rs : List (List ℕ)) (own : Option (List ℕ)) (id s : List ℕ) → is_each_once rs ≡ true → PassesOnce (is_row_of t.acts id s) (rows_by t (is_at_peer t) n m rs own)
 by-once t n m rs None id s once = tt

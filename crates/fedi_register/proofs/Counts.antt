@@ -1,12 +1,12 @@
 -- The number of activities of each author.
 use Rattle.std.proofs.Common.{◌≡◌, ℕ, zero, suc, ◌+◌, ◌<◌, ◌≤◌, ◌^◌, arith, Bool, true, false, List, [], ◌∷◌, ◌++◌, Some, None, get_or, set, length, ltb, refl, sym, ap, subst, ◌∙◌}
-use Rattle.std.proofs.lemmas.Slice.Eq.{bytes_eq-Decides}
 use Rattle.std.specs.Prelude.{◌||◌, filter, nat_lt, if◌then◌else◌}
 use Rattle.std.specs.List.{find, list_any, position_or_len}
 use Rattle.std.specs.Str.{bytes_eq}
 use Rattle.fedi_address.specs.Recipients.{is_among}
 use Rattle.fedi_town.specs.declared.act.Act.{Act}
 use Rattle.fedi_town.specs.Towns.{is_by}
+use Rattle.fedi_town.proofs.Texts.{bytes_eq-is, bytes_eq-same}
 use Rattle.fedi_register.specs.declared.authors.Author.{Author}
 use Rattle.fedi_register.specs.declared.seeds.Seed.{Seed}
 use Rattle.fedi_register.specs.Authors.{CountsOne, SameCounts, author_mark, count_found, count_in, ids_of, is_author}
@@ -61,12 +61,6 @@ pub counts_same : (old new : List Author) → new ≡ old → SameCounts old new
 counts_same old new same = record { count = λ id. ap (λ (authors : List Author). count_in authors id) same }
 
 -- ---- one more activity of an author
-
-is_equal : (a b : List ℕ) → bytes_eq a b ≡ true → a ≡ b
-is_equal a b e = (bytes_eq-Decides a b).0 e
-
-is_same : (a : List ℕ) → bytes_eq a a ≡ true
-is_same a = (bytes_eq-Decides a a).1 refl
 
 -- the first author with this id exists and has this position
 pub record IsFirst (author : List ℕ) (authors : List Author) (i : ℕ) : Type 0 where
@@ -124,7 +118,7 @@ more-at author (a ∷ authors) d id any =
     (one_more (get_or (a ∷ authors) (position_or_len (is_author author) (a ∷ authors)) d)))) ≡ count_found (find (is_author id) (a ∷ authors)) + (if bytes_eq author id then 1 else 0) in
     elim (bytes_eq a.id author) as (λ b. bytes_eq a.id author ≡ b → Goal) [
       | true ↦ λ e.
-          let same : a.id ≡ author = is_equal a.id author e in
+          let same : a.id ≡ author = bytes_eq-is a.id author e in
           rw e (elim (bytes_eq a.id id) as (λ b. bytes_eq a.id id ≡ b → count_found (if b then Some (one_more a) else find (is_author id) authors)
           ≡ count_found (if b then Some a else find (is_author id) authors) + (if bytes_eq author id then 1 else 0)) [
             | true ↦ λ own. let it : bytes_eq author id ≡ true = ap (λ (x : List ℕ). bytes_eq x id) (sym same) ∙ own in rw it refl
@@ -146,7 +140,7 @@ more-at author (a ∷ authors) d id any =
     other_author own author id differs is =
         elim (bytes_eq author id) as (λ b. bytes_eq author id ≡ b → b ≡ false) [
           | false ↦ λ e. refl
-          | true ↦ λ e. absurd (let yes : bytes_eq own author ≡ true = subst (λ (x : List ℕ). bytes_eq own x ≡ true) (is_equal own id is ∙ sym (is_equal author id e)) (is_same own) in cc)
+          | true ↦ λ e. absurd (let yes : bytes_eq own author ≡ true = subst (λ (x : List ℕ). bytes_eq own x ≡ true) (bytes_eq-is own id is ∙ sym (bytes_eq-is author id e)) (bytes_eq-same own) in cc)
         ] refl
 
 ids-at : (authors : List Author) (i : ℕ) (d : Author) → ids_of (set authors i (one_more (get_or authors i d))) ≡ ids_of authors

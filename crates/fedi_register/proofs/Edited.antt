@@ -10,11 +10,11 @@ use Rattle.fedi_town.specs.Deeds.{is_follow, is_pending, is_standing}
 use Rattle.fedi_town.specs.Effects.{end_follow, in_state, is_pending_follow, is_standing_activity, where_passes}
 use Rattle.fedi_town.specs.Relations.{has_activity_id, is_open_follow}
 use Rattle.fedi_town.specs.Towns.{deed}
+use Rattle.fedi_town.proofs.Texts.{and_none}
 use Rattle.fedi_register.specs.Changes.{end_both, is_state, is_unended, place_where}
 use Rattle.fedi_register.specs.Marks.{Mark, marks_from}
 use Rattle.fedi_register.specs.declared.seeds.Seed.{Seed}
 use Rattle.fedi_register.specs.Registers.{has_own_id, own_mark, relates, relates_by_key, relation_mark}
-use Rattle.fedi_register.proofs.Found.{and_none}
 use Rattle.fedi_register.proofs.Once.{lt_step}
 use Rattle.fedi_register.proofs.Places.{open_narrower}
 

@@ -1,6 +1,6 @@
 -- A look-up by marks finds what a search among all items finds.
 use Rattle.std.proofs.Common.{◌≡◌, ℕ, suc, ◌+◌, ◌≤◌, arith, Bool, true, false, List, [], ◌∷◌, ◌++◌, Option, Some, None, refl, sym, ap, subst, ◌∙◌, append_assoc, eq-eqb, length, ltb, take, Bor}
-use Rattle.std.specs.Prelude.{◌&&◌, ◌||◌, min, nat_eq, is_some, option_copied, if◌then◌else◌}
+use Rattle.std.specs.Prelude.{◌||◌, min, nat_eq, is_some, option_copied, if◌then◌else◌}
 use Rattle.std.specs.List.{find, list_any, position_or_len}
 use Rattle.std.proofs.Math.Seq.{take-length}
 use Rattle.std.proofs.lemmas.Bool.{lt-ltb, ltb-false, ltb-true}
@@ -10,14 +10,11 @@ use Rattle.fedi_register.specs.Changes.{place_where}
 use Rattle.fedi_register.specs.Marks.{Mark, first_place, is_there, item_at, marks_from, passes_at}
 use Rattle.fedi_register.proofs.Chains.{got_at, longer}
 use Rattle.fedi_register.proofs.Once.{lt_step}
+use Rattle.fedi_town.proofs.Texts.{and_none}
 
 -- each item that passes has a mark, and it is this one
 abbrev pub IsMarkedSo : {A : Type 0} → (A → Bool) → (A → ℕ) → ℕ → (A → Bool) → Type 0
 IsMarkedSo {A} p mark n q = (x : A) → q x ≡ true → (p x ≡ true) × (mark x ≡ n)
-
-pub and_none : (a : Bool) → (a && false) ≡ false
-and_none true = refl
-and_none false = refl
 
 -- the position of the first item that passes, if the first item has this position
 abbrev place_from : {A : Type 0} → (A → Bool) → ℕ → List A → Option ℕ

@@ -25,7 +25,7 @@ iri_send = search (crosses, sendable) depth 20
 pub iri_sync : IsSync Iri.the_row
 iri_sync = search (crosses, sendable) depth 20
 
-text_send : IsSend Text.the_row
+pub text_send : IsSend Text.the_row
 text_send = search (crosses, sendable) depth 20
 
 pub iris_send : IsSend Iris.the_row

@@ -1,35 +1,23 @@
 -- A change of what passes a test is a change at one position if at most one item passes.
 use Rattle.std.proofs.Common.{◌≡◌, ℕ, suc, ◌+◌, arith, Bool, true, false, List, [], ◌∷◌, Some, None, refl, sym, ap, ◌∙◌, get_or, set, length, ltb}
 use Rattle.std.proofs.lemmas.Bool.{lt-ltb, le-ltb, ltb-true, ltb-false}
-use Rattle.std.specs.Prelude.{nat_lt, map, if◌then◌else◌, ◌||◌}
+use Rattle.std.specs.Prelude.{nat_lt, map, if◌then◌else◌}
 use Rattle.std.specs.List.{list_any, position_or_len}
 use Rattle.fedi_town.specs.declared.act.Act.{Act}
 use Rattle.fedi_town.specs.declared.effect.Effect.TheVariants as effects
 use Rattle.fedi_town.specs.Effects.{affect}
 use Rattle.fedi_town.specs.Lists.{PassesOnce}
+use Rattle.fedi_town.proofs.Finding.{none_changed, map-once}
+use Rattle.fedi_register.specs.Changes.{place_where}
 
--- neither the first nor any other passes
-none_first : (a b : Bool) → (a || b) ≡ false → a ≡ false
-none_first true b e = absurd cc
-none_first false b e = refl
-
-none_other : (a b : Bool) → (a || b) ≡ false → b ≡ false
-none_other true b e = absurd cc
-none_other false b e = e
-
-none-changed : {A : Type 0} (p : A → Bool) (f : A → A) (xs : List A) → list_any p xs ≡ false → map (λ x. if p x then f x else x) xs ≡ xs
-none-changed p f [] none = refl
-none-changed p f (x ∷ xs) none = rw (none_first (p x) (list_any p xs) none, none-changed p f xs (none_other (p x) (list_any p xs) none)) refl
-
--- if at most one item passes, a change of what passes is a change at one position
-map-once : {A : Type 0} (p : A → Bool) (f : A → A) (xs : List A) → PassesOnce p xs → list_any p xs ≡ true
-    → (d : A) → map (λ x. if p x then f x else x) xs ≡ set xs (position_or_len p xs) (f (get_or xs (position_or_len p xs) d))
-map-once p f [] once any d = absurd cc
-map-once {A} p f (x ∷ xs) once any d =
-    elim (p x) as (λ b. p x ≡ b → map (λ y. if p y then f y else y) (x ∷ xs) ≡ set (x ∷ xs) (position_or_len p (x ∷ xs)) (f (get_or (x ∷ xs) (position_or_len p (x ∷ xs)) d))) [
-      | true ↦ λ e. rw e (ap (λ (ys : List A). f x ∷ ys) (none-changed p f xs (once.0 e)))
-      | false ↦ λ e. let k : 1 + position_or_len p xs ≡ suc (position_or_len p xs) = omega arith in rw (e, k) (ap (λ (ys : List A). x ∷ ys) (map-once p f xs once.1 (rw e at any) d))
-    ] refl
+-- the position of the first that passes, if any passes
+pub placed : {A : Type 0} (p : A → Bool) (xs : List A) (k : ℕ) → Some k ≡ place_where p xs → (k ≡ position_or_len p xs) × (ltb (position_or_len p xs) (length xs) ≡ true)
+placed p xs k is =
+    elim (ltb (position_or_len p xs) (length xs)) as (λ b. ltb (position_or_len p xs) (length xs) ≡ b → Some k ≡ (if b then Some (position_or_len p xs) else None)
+    → (k ≡ position_or_len p xs) × (ltb (position_or_len p xs) (length xs) ≡ true)) [
+      | true ↦ λ e f. (let same : k ≡ position_or_len p xs = cc in same, e)
+      | false ↦ λ e f. absurd cc
+    ] refl is
 
 pub lt_step : (k n : ℕ) → ltb (1 + k) (suc n) ≡ ltb k n
 lt_step k n =
@@ -65,7 +53,7 @@ pub map_at_none : {A : Type 0} (p : A → Bool) (f : A → A) (xs : List A)
 map_at_none p f xs at =
     elim (ltb (position_or_len p xs) (length xs)) as (λ b. ltb (position_or_len p xs) (length xs) ≡ b → (if b then Some (position_or_len p xs) else None) ≡ None → xs ≡ map (λ x. if p x then f x else x) xs) [
       | true ↦ λ e h. absurd cc
-      | false ↦ λ e h. sym (none-changed p f xs (sym (place_any p xs) ∙ e))
+      | false ↦ λ e h. sym (none_changed p f xs (sym (place_any p xs) ∙ e))
     ] refl at
 
 -- the effect `Nothing` leaves the activities as they are

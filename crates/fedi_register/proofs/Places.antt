@@ -8,7 +8,6 @@ use Rattle.std.proofs.Math.Seq.{take-append_seam}
 use Rattle.std.proofs.lemmas.Bool.{and_parts}
 use Rattle.std.proofs.lemmas.List.{append-nil, map-append}
 use Rattle.std.proofs.lemmas.List.Elements.{filter-append}
-use Rattle.std.proofs.lemmas.Slice.Eq.{bytes_eq-Decides}
 use Rattle.fedi_address.specs.Recipients.{add_new, distinct, is_among}
 use Rattle.fedi_town.proofs.Lists.{list_any-agree, list_any-through}
 use Rattle.fedi_town.proofs.Once.{once-among, once-push}
@@ -22,6 +21,7 @@ use Rattle.fedi_town.specs.Objects.{makes}
 use Rattle.fedi_town.specs.Relations.{has_activity_id, is_about, is_block_of, is_follow_of, is_following, is_id, is_open_follow, ref_id}
 use Rattle.fedi_town.specs.States.{is_announce_of, is_like_of}
 use Rattle.fedi_town.specs.Towns.{deed, is_by}
+use Rattle.fedi_town.proofs.Texts.{bytes_eq-is}
 use Rattle.fedi_register.specs.Authors.{author_mark, is_author}
 use Rattle.fedi_register.specs.Following.{followers_in, is_first_follow, with_first_follow, with_follower_at}
 use Rattle.fedi_register.specs.Keys.{is_repeat}
@@ -34,9 +34,6 @@ use Rattle.fedi_register.proofs.Found.{IsMarkedSo}
 
 -- ---- marks
 
-is_equal : (a b : List ℕ) → bytes_eq a b ≡ true → a ≡ b
-is_equal a b e = (bytes_eq-Decides a b).0 e
-
 -- an item that also passes a narrower test has the same mark
 pub marked_narrower : {A : Type 0} (p q r : A → Bool) (mark : A → ℕ) (n : ℕ) → IsMarkedSo p mark n q → ((x : A) → r x ≡ true → q x ≡ true) → IsMarkedSo p mark n r
 marked_narrower p q r mark n so narrow = λ x is. so x (narrow x is)
@@ -44,7 +41,7 @@ marked_narrower p q r mark n so narrow = λ x is. so x (narrow x is)
 -- there is an id, and it has this mark
 id_marked : (seed : Seed) (id : List ℕ) (own : Option (List ℕ)) → is_id id own ≡ true → (is_some own ≡ true) × (ref_mark seed own ≡ mark_of seed id)
 id_marked seed id None is = absurd cc
-id_marked seed id (Some own) is = (refl, ap (mark_of seed) (is_equal own id is))
+id_marked seed id (Some own) is = (refl, ap (mark_of seed) (bytes_eq-is own id is))
 
 pub own_marked : (seed : Seed) (id : List ℕ) → IsMarkedSo has_own_id (own_mark seed) (mark_of seed id) (has_activity_id id)
 unfolding has_activity_id has_own_id own_mark
@@ -58,7 +55,7 @@ made_marked seed id x is =
 
 key_marked : (seed : Seed) (key : List ℕ) (pair : Option (List ℕ × List ℕ)) → has_key key pair ≡ true → (is_some pair ≡ true) × (ref_mark seed (option_map (λ r. r.0) pair) ≡ mark_of seed key)
 key_marked seed key None is = absurd cc
-key_marked seed key (Some pair) is = (refl, ap (mark_of seed) (is_equal pair.0 key is))
+key_marked seed key (Some pair) is = (refl, ap (mark_of seed) (bytes_eq-is pair.0 key is))
 
 pub repeat_marked : (seed : Seed) (author key : List ℕ) → IsMarkedSo is_keyed (key_mark seed) (mark_of seed key) (is_repeat author key)
 unfolding is_keyed is_repeat key_mark
@@ -66,7 +63,7 @@ repeat_marked seed author key x is = key_marked seed key x.repeat (and_parts (is
 
 pub author_marked : (seed : Seed) (id : List ℕ) → IsMarkedSo every (author_mark seed) (mark_of seed id) (is_author id)
 unfolding is_author author_mark
-author_marked seed id a is = (refl, ap (mark_of seed) (is_equal a.id id is))
+author_marked seed id a is = (refl, ap (mark_of seed) (bytes_eq-is a.id id is))
 
 pub followed_marked : (seed : Seed) (b : List ℕ) → IsMarkedSo asks_to_follow (object_mark seed) (mark_of seed b) (is_following b)
 unfolding asks_to_follow is_following is_about object_mark
@@ -79,11 +76,11 @@ unfolding relates_by_key relation_mark is_by
 relation_marked seed author key x is =
     let parts = and_parts (relates x) (bytes_eq x.author author && bytes_eq (object_key x) key) is in
     let both = and_parts (bytes_eq x.author author) (bytes_eq (object_key x) key) parts.1 in
-    (parts.0, ap (λ (own : List ℕ). mark_of_pair seed own (object_key x)) (is_equal x.author author both.0) ∙ ap (λ (own : List ℕ). mark_of_pair seed author own) (is_equal (object_key x) key both.1))
+    (parts.0, ap (λ (own : List ℕ). mark_of_pair seed own (object_key x)) (bytes_eq-is x.author author both.0) ∙ ap (λ (own : List ℕ). mark_of_pair seed author own) (bytes_eq-is (object_key x) key both.1))
 
 -- ---- relations
 
-id_key : (id : List ℕ) (own : Option (List ℕ)) → is_id id own ≡ true → bytes_eq (text_of own) id ≡ true
+pub id_key : (id : List ℕ) (own : Option (List ℕ)) → is_id id own ≡ true → bytes_eq (text_of own) id ≡ true
 id_key id None is = absurd cc
 id_key id (Some own) is = is
 
@@ -96,7 +93,7 @@ relating a b x does stands relation is =
     let both = and_parts (is_by a x) (is_id b (ref_id x.activity.object)) parts.1 in
     rw (relation (and_parts does stands parts.0).0, both.0) (id_key b (ref_id x.activity.object) both.1)
 
-follow_relates : (d : Deed) → is_follow d ≡ true → is_relation d ≡ true
+pub follow_relates : (d : Deed) → is_follow d ≡ true → is_relation d ≡ true
 follow_relates Follow is = refl
 follow_relates d is = absurd cc
 

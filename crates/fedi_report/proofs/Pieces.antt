@@ -1,25 +1,14 @@
 -- Lemmas on a text that is written piece by piece.
-use Rattle.std.proofs.Common.{◌≡◌, ◌∙◌, ◌+◌, arith, ap, subst, sym, refl, ◌≤◌, ℕ, List, [], ◌++◌, length, take, Option}
+use Rattle.std.proofs.Common.{◌≡◌, ◌∙◌, ◌+◌, arith, ap, subst, sym, ◌≤◌, ℕ, List, ◌++◌, length, take, Option}
 use Rattle.std.proofs.Math.Seq.{take-append-add}
 use Rattle.std.proofs.lemmas.List.{append_assoc, length-append, take-append-le}
 use Rattle.std.specs.Io.KnownBytes.{Appends}
-use Rattle.std.proofs.KnownBytes.{Appends-nil, Appends-trans}
+use Rattle.std.proofs.KnownBytes.{Appends-trans}
 use Rattle.fedi_logged.specs.Endings.{Output, Writes}
 use Rattle.fedi_outside.specs.Causes.{next_count}
 use Rattle.fedi_report.specs.Tables.{Stops}
 use Rattle.fedi_report.specs.declared.tables.ReportFault.{ReportFault}
 use Rattle.fedi_report.specs.declared.tables.ReportFault.TheVariants.{WriteFault, Memory}
-
--- two pieces, one after the other
-pub written_both : (a b c : Output) (x y : List ℕ) → Writes a b x → Writes b c y → Writes a c (x ++ y)
-written_both a b c x y first next = record {
-  sent = Appends-trans a.sent b.sent c.sent x y first.sent next.sent;
-  calm = next.calm ∙ first.calm;
-}
-
--- nothing was written yet
-pub written_none : (a : Output) → Writes a a []
-written_none a = record { sent = Appends-nil a.sent; calm = refl }
 
 -- a prefix of the second piece, after the first, is a prefix of both and what follows
 front_of_all : (x y z : List ℕ) (n : ℕ) → n ≤ length y → take (length x + n) ((x ++ y) ++ z) ≡ x ++ take n y

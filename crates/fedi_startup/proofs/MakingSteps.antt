@@ -1,11 +1,12 @@
 -- What becomes of a disk that is made a store.
-use Rattle.std.proofs.Common.{◌≡◌, ◌≢◌, ◌⊎◌, inl, inr, ⊎_elim, ℕ, ◌+◌, ◌<◌, ◌≤◌, Bool, true, false, nat_lt, List, [], ◌∷◌, ◌++◌, length, take, drop, Option, Some, None, refl, sym, ap, subst, ◌∙◌, arith}
+use Rattle.std.proofs.Common.{◌≡◌, ◌≢◌, ◌⊎◌, inl, inr, ⊎_elim, ℕ, ◌+◌, ◌<◌, ◌≤◌, true, false, nat_lt, List, [], ◌∷◌, ◌++◌, length, take, drop, Option, Some, None, refl, sym, ap, subst, ◌∙◌, arith}
 use Rattle.std.specs.Cmp.Derive.{both_true}
-use Rattle.std.specs.Prelude.{IfSome, IsUtf8, codes, is_some, option_map}
+use Rattle.std.specs.Prelude.{IfSome, IsUtf8, codes, option_map}
 use Rattle.std.specs.Str.{bytes_eq}
 use Rattle.std.proofs.lemmas.Bool.Decides.{Decides-ltb}
 use Rattle.std.proofs.lemmas.Slice.Eq.{bytes_eq-Decides}
 use Rattle.std.proofs.lemmas.Str.{is_utf8-from_IsUtf8}
+use Rattle.std.proofs.lemmas.Bool.{cases_Bool}
 use Rattle.fedi_address.specs.Hosts.{IsHost, address}
 use Rattle.fedi_address.specs.Iris.{normal}
 use Rattle.fedi_entry.specs.Fields.{IsFormed, is_host, is_own}
@@ -45,18 +46,14 @@ first_sound host moment utf8 is_one bound = record {
 
 -- ---- no journal
 
-which : (b : Bool) → (b ≡ true) ⊎ (b ≡ false)
-which true = inl refl
-which false = inr refl
-
 -- these bytes differ from a journal without records, or not
 other_or_free : (bytes : List ℕ) → IsOther bytes ⊎ (IsOther bytes → ⊥)
 other_or_free bytes =
     let long = Decides-ltb 9 (length bytes) in
     let same = bytes_eq-Decides (take 9 bytes) blank in
     ⊎_elim
-    (λ is_long. ⊎_elim (λ is_same. inr (λ other. other.1 (same.0 is_same))) (λ differs. inl (long.0 is_long, λ is. apart (sym (same.1 is) ∙ differs))) (which (bytes_eq (take 9 bytes) blank)))
-    (λ is_short. inr (λ other. apart (sym (long.1 other.0) ∙ is_short))) (which (nat_lt 9 (length bytes)))
+    (λ is_long. ⊎_elim (λ is_same. inr (λ other. other.1 (same.0 is_same))) (λ differs. inl (long.0 is_long, λ is. apart (sym (same.1 is) ∙ differs))) (cases_Bool (bytes_eq (take 9 bytes) blank)))
+    (λ is_short. inr (λ other. apart (sym (long.1 other.0) ∙ is_short))) (cases_Bool (nat_lt 9 (length bytes)))
   where
     apart : true ≡ false → ⊥
     apart e = cc

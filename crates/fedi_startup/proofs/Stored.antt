@@ -1,15 +1,13 @@
 -- From files of records to stores.
-use Rattle.std.proofs.Common.{◌≡◌, ◌≢◌, ◌⊎◌, ℕ, suc, true, List, [], ◌∷◌, ◌++◌, length, map, All, Option, None, Some, inl, inr, refl, sym, ap, subst, ◌∙◌, append_assoc, append-nil}
+use Rattle.std.proofs.Common.{◌≡◌, ◌≢◌, ◌⊎◌, ℕ, true, List, [], ◌∷◌, ◌++◌, length, map, All, Option, None, Some, inl, inr, refl, sym, ap, subst, ◌∙◌, append_assoc, append-nil}
 use Rattle.std.specs.Cmp.Derive.{both_true}
 use Rattle.std.specs.Prelude.{Contains, IfSome, option_to_list, drop}
-use Rattle.std.specs.List.{AllByRecursion, list_all}
 use Rattle.std.proofs.lemmas.Bool.{and_parts}
 use Rattle.std.proofs.lemmas.List.{map-append}
 use Rattle.std.proofs.Math.Seq.{drop-append_seam}
 use Rattle.std.proofs.lemmas.List.Elements.{All-contains, All-nil}
 use Rattle.fedi_core.specs.Machines.{IsNextCode}
 use Rattle.fedi_entry.specs.Codes.{code_of}
-use Rattle.fedi_entry.specs.Fields.{IsFormed}
 use Rattle.fedi_outside.specs.Images.{IsImage, plain}
 use Rattle.fedi_outside.specs.Known.{record_crashes, records_told}
 use Rattle.fedi_log.proofs.Growing.{given_history, history_append}
@@ -17,6 +15,8 @@ use Rattle.fedi_log.specs.Keeping.{HoldsFrom, State, since}
 use Rattle.fedi_log.specs.Leaving.{CrashesAlong}
 use Rattle.fedi_log.specs.Leaving.{IsLeft}
 use Rattle.fedi_log.specs.Log.{Log, doubts_of, entry_in, given, history_of}
+use Rattle.fedi_log.proofs.Keeping.{given_length}
+use Rattle.fedi_log.proofs.LifeLemmas.{formed_front}
 use Rattle.fedi_objects.specs.declared.entry.Entry.{Entry}
 use Rattle.fedi_opening.proofs.Records.{read_more}
 use Rattle.fedi_opening.specs.Opening.{IsNext, IsRead}
@@ -47,10 +47,6 @@ legal_front t [] b legal = refl
 legal_front t (e ∷ a) b legal =
     let parts = and_parts (is_admissible t e) (is_legal_from (step t e) (a ++ b)) legal in
     both_true parts.0 (legal_front (step t e) a b parts.1)
-
-formed_front : (a b : List Entry) → AllByRecursion IsFormed (a ++ b) → AllByRecursion IsFormed a
-formed_front [] b formed = tt
-formed_front (e ∷ a) b formed = (formed.0, formed_front a b formed.1)
 
 -- the first entries of a sound history
 sound_front : (a b : List Entry) → IsSound (a ++ b) → IsSound a
@@ -89,12 +85,6 @@ around crashes history (Some d) image rs leaves file (inr is) =
       stored_more history image d rs leaves.some leaves.sound file is next,
       inr (next.0, ap (λ (c : List ℕ). Some c) next.2, refl),
     )
-
--- each image that a crash now may leave is a store
-pub leaves_one : (crashes : DiskCrashes) (history : List Entry) (doubt : Option (List ℕ)) (image : List ℕ) → LeavesStores crashes history doubt → crashes.may_leave image
-    → (left : List Entry) × IsStoreOf left image × IsAround history doubt left
-leaves_one crashes history doubt image leaves may =
-    let file = leaves.files image may in around crashes history doubt image file.0 leaves file.1 file.2
 
 -- what a crash during the run may leave of what the run opened
 first_part : (opened now : State) (log : Log) (image : List ℕ) (rs : List (List ℕ)) → opened.history ≢ [] → opened.keeper.doubt ≡ None → IsSound now.history
@@ -137,12 +127,8 @@ marks_back history [] b marks = subst (λ (h : List Entry). MarksMayCome h b) (s
 marks_back history (i ∷ a) b marks =
     subst (λ (h : List Entry). MarksMayCome h b) (append_assoc history (entry_in i.what) (history_of a)) (marks_back (history ++ entry_in i.what) a b marks.1)
 
-given_length : (history : List Entry) → length (given history) ≡ length history
-given_length [] = refl
-given_length (e ∷ history) = ap suc (given_length history)
-
 -- the items after the given ones
-since_given : (opened : State) (log past : Log) → log ≡ given opened.history ++ past → since (opened_base opened) log ≡ past
+pub since_given : (opened : State) (log past : Log) → log ≡ given opened.history ++ past → since (opened_base opened) log ≡ past
 since_given opened log past is =
     ap (λ (n : ℕ). drop n log) (sym (given_length opened.history))
     ∙ (ap (λ (l : Log). drop (length (given opened.history)) l) is ∙ drop-append_seam (given opened.history) past)

@@ -22,10 +22,10 @@ digit_high c h = grind (arith, nat_tests)
 digit_is : (c : ℕ) → is_ascii_digit c ≡ true → digit_value c + 48 ≡ c
 digit_is c h = digit_value_digit c (digit_low c h, digit_high c h)
 
-digit_small : (c : ℕ) → is_ascii_digit c ≡ true → digit_value c < 10
+pub digit_small : (c : ℕ) → is_ascii_digit c ≡ true → digit_value c < 10
 digit_small c h = omega (arith, digit_is c h, digit_high c h)
 
-all_digits : (ds : List ℕ) → list_all is_ascii_digit ds ≡ true → AllDigits 10 ds
+pub all_digits : (ds : List ℕ) → list_all is_ascii_digit ds ≡ true → AllDigits 10 ds
 all_digits [] h = tt
 all_digits (c ∷ cs) h =
     let both = and_parts (is_ascii_digit c) (list_all is_ascii_digit cs) h in (digit_small c both.0, all_digits cs both.1)
@@ -41,7 +41,7 @@ value_small ds digits few =
 decimal_few : (ds : List ℕ) → is_decimal ds ≡ true → length ds ≤ 19
 decimal_few ds h = grind (arith, nat_tests)
 
-decimal_digits : (ds : List ℕ) → is_decimal ds ≡ true → list_all is_ascii_digit ds ≡ true
+pub decimal_digits : (ds : List ℕ) → is_decimal ds ≡ true → list_all is_ascii_digit ds ≡ true
 decimal_digits ds h = grind (arith, nat_tests)
 
 -- one more digit of a number

@@ -1,8 +1,8 @@
 -- A pair that is due stays due until it is tried.
 use Rattle.std.proofs.Common.{◌≡◌, ℕ, ◌≤◌, Bool, true, false, List, [], ◌∷◌, ◌++◌, Option, Some, None, refl, sym, ap, subst, ◌∙◌, arith}
-use Rattle.std.specs.Prelude.{◌||◌, map, filter, if◌then◌else◌}
+use Rattle.std.specs.Prelude.{map, filter, if◌then◌else◌}
 use Rattle.std.specs.List.{list_any, fold}
-use Rattle.std.proofs.lemmas.Bool.{and_parts, le-leb, leb-true}
+use Rattle.std.proofs.lemmas.Bool.{and_parts, le-leb, leb-true, or_right}
 use Rattle.std.proofs.lemmas.List.{append-nil}
 use Rattle.std.proofs.lemmas.List.Elements.{filter-append}
 use Rattle.std.proofs.lemmas.List.Folds.{list_any-append}
@@ -106,16 +106,12 @@ due_on t u id r m n y z l le g e =
     let still : is_due_at n (progress_of u id r z.moment) ≡ true = rw (l.progress z.moment, g.moment) (later_moment (progress_of t id r y.moment) m n le c.1) in
     rw (own_on id y z g a.0, sends_on t u y z r l.host g b.0, l.peer c.0, still) refl
 
-or_later : (a b : Bool) → b ≡ true → (a || b) ≡ true
-or_later true b e = refl
-or_later false b e = e
-
 any_on : {A B : Type 0} (p : A → Bool) (q : B → Bool) (f : A → B) → ((x : A) → p x ≡ true → q (f x) ≡ true) → (xs : List A) → list_any p xs ≡ true → list_any q (map f xs) ≡ true
 any_on p q f h [] e = absurd cc
 any_on p q f h (x ∷ xs) e =
     elim (p x) as (λ b. p x ≡ b → list_any q (map f (x ∷ xs)) ≡ true) [
       | true ↦ λ k. rw (h x k) refl
-      | false ↦ λ k. or_later (q (f x)) (list_any q (map f xs)) (any_on p q f h xs (rw k at e))
+      | false ↦ λ k. or_right (q (f x)) (list_any q (map f xs)) (any_on p q f h xs (rw k at e))
     ] refl
 
 any_more : {A : Type 0} (p : A → Bool) (xs ys : List A) → list_any p xs ≡ true → list_any p (xs ++ ys) ≡ true

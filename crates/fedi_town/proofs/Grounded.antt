@@ -10,7 +10,7 @@ use Rattle.fedi_objects.specs.declared.entry.Entry.{Entry}
 use Rattle.fedi_objects.specs.declared.entry.Entry.TheVariants.{Hosted, Made, PeerSet, Local, Remote, Tried}
 use Rattle.fedi_objects.specs.declared.kind.State.TheVariants.{Done}
 use Rattle.fedi_town.specs.declared.addition.Addition.TheVariants as additions
-use Rattle.fedi_town.proofs.Kept.{IsKept, changed-kept, made-kept, ref_id-received}
+use Rattle.fedi_town.proofs.Kept.{IsKept, changed-kept, made-kept, ref_received}
 use Rattle.fedi_town.proofs.Lists.{list_any-through, find-none}
 use Rattle.fedi_town.proofs.Steps.{accept, accept_in_steps, with_act, accepts_for, after_delivery, after_inbox, after_post}
 use Rattle.fedi_town.specs.Activities.{local_act, remote_act}
@@ -143,7 +143,7 @@ local-grounded t host name repeat a moment = new_grounded t true _ (deed_of a.ki
 
 remote-grounded : (t : Town) (owner author : List ℕ) (a : Activity) (moment : ℕ) → is_grounded t.acts (remote_act t owner author a moment) ≡ true
 unfolding is_grounded
-remote-grounded t owner author a moment = rw (ref_id-received author moment a.object) (new_grounded t false author (deed_of a.kind) a.object)
+remote-grounded t owner author a moment = rw (ref_received author moment a.object) (new_grounded t false author (deed_of a.kind) a.object)
 
 -- ---- steps
 

@@ -3,7 +3,7 @@ use Rattle.std.proofs.Common.{◌≡◌, ℕ, ◌+◌, ◌^◌, ◌<◌, Bool, t
 use Rattle.std.specs.Prelude.{◌&&◌, ◌||◌, not, map, filter, nat_lt, is_none, if◌then◌else◌, option_map, option_to_list}
 use Rattle.std.specs.List.{list_any, list_all, find, fold}
 use Rattle.std.specs.Str.{bytes_eq}
-use Rattle.std.proofs.lemmas.Bool.{and_parts, ltb-true}
+use Rattle.std.proofs.lemmas.Bool.{and_parts, ltb-true, or_parts, not-true, not-false}
 use Rattle.std.proofs.lemmas.List.{append-nil}
 use Rattle.fedi_address.specs.Hosts.{is_host_text}
 use Rattle.fedi_address.specs.Iris.{host_of}
@@ -14,7 +14,7 @@ use Rattle.fedi_objects.specs.declared.entry.Entry.{Entry}
 use Rattle.fedi_objects.specs.declared.entry.Entry.TheVariants.{Hosted, Made, PeerSet, Local, Remote, Tried}
 use Rattle.fedi_objects.specs.declared.kind.State.TheVariants.{Accepted, Pending, Rejected}
 use Rattle.fedi_town.proofs.Due.{affected_on, also_on}
-use Rattle.fedi_town.proofs.Kept.{ref_id-received}
+use Rattle.fedi_town.proofs.Kept.{ref_received}
 use Rattle.fedi_town.specs.Lists.{PassesOnce}
 use Rattle.fedi_town.proofs.IdsOnce.{AreOnce, next_once, foreign_once, mapped_once, count-push, count-map}
 use Rattle.fedi_town.proofs.Lists.{list_any-through}
@@ -47,7 +47,7 @@ use Rattle.fedi_town.specs.declared.deed.Deed.TheVariants.{Follow}
 use Rattle.fedi_town.proofs.Texts.{bytes_eq-is}
 use Rattle.fedi_town.proofs.Posted.{follows_is}
 
--- nothing before the server was set up, and after that each id once
+-- nothing before the server not-false set up, and after that each id once
 abbrev pub HasIds : Option (List ℕ) → List Act → Type 0
 HasIds None acts = acts ≡ []
 HasIds (Some host) acts = AreOnce host acts
@@ -156,7 +156,7 @@ local_roomy t host name repeat a moment = record {
 remote_roomy : (t : Town) (owner author : List ℕ) (a : Activity) (moment : ℕ) → IsRoomy t (remote_act t owner author a moment)
 remote_roomy t owner author a moment = record {
   room = λ b does about state.
-      room_of t false author b (deed_of a.kind) a.object (follows_is (deed_of a.kind) does) (sym (ref_id-received author moment a.object) ∙ about) state;
+      room_of t false author b (deed_of a.kind) a.object (follows_is (deed_of a.kind) does) (sym (ref_received author moment a.object) ∙ about) state;
 }
 
 changed_once : (t : Town) (host : List ℕ) (x : Act) → AreOnce host t.acts → AreOnce host (map (affect (effect_of t x)) t.acts)
@@ -192,32 +192,20 @@ taken_once t host owner author id a moment s o own h =
           (foreign_once host (map f t.acts) x id (changed_once t host x h) s.shape own (still_new t f id (λ y. (affected_on (effect_of t x) y).own) e) o.other)
     ] refl
 
-not_or : (a b : Bool) → (a || b) ≡ false → (a ≡ false) × (b ≡ false)
-not_or true b e = absurd cc
-not_or false b e = (refl, e)
-
-was_not : (a : Bool) → not a ≡ true → a ≡ false
-was_not true e = absurd cc
-was_not false e = refl
-
-was : (a : Bool) → not a ≡ false → a ≡ true
-was true e = refl
-was false e = absurd cc
-
 -- the id of an allowed activity is of its actor's host, which is another
 foreign_by : (host : List ℕ) (p : Peer) (actor id : List ℕ) (r : ObjectRef) → is_foreign (Some host) p (Some actor) (Some id) r ≡ false → IsForeign host id
 foreign_by host p actor id r e =
-    let a = not_or (bytes_eq (host_of actor) host) _ e in
-    let b = not_or (not (bytes_eq (host_of actor) p.host) && not p.relay) _ a.1 in
-    let c = not_or (not (bytes_eq (host_of id) (host_of actor))) (is_of_another actor r) b.1 in
-    let same : host_of id ≡ host_of actor = bytes_eq-is (host_of id) (host_of actor) (was (bytes_eq (host_of id) (host_of actor)) c.0) in
+    let a = or_parts (bytes_eq (host_of actor) host) _ e in
+    let b = or_parts (not (bytes_eq (host_of actor) p.host) && not p.relay) _ a.1 in
+    let c = or_parts (not (bytes_eq (host_of id) (host_of actor))) (is_of_another actor r) b.1 in
+    let same : host_of id ≡ host_of actor = bytes_eq-is (host_of id) (host_of actor) (not-false (bytes_eq (host_of id) (host_of actor)) c.0) in
     record { other = rw same a.0 }
 
 allowed_is : (host : List ℕ) (p : Option Peer) (t : Town) (a : Activity) (actor id : List ℕ) → t.host ≡ Some host → a.actor ≡ Some actor → a.id ≡ Some id
     → may_deliver t p a ≡ true → IsForeign host id
 allowed_is host None t a actor id hosted by own ok = absurd cc
 allowed_is host (Some p) t a actor id hosted by own ok =
-    foreign_by host p actor id a.object (rw (hosted, by, own) at (was_not (is_foreign t.host p a.actor a.id a.object) ok))
+    foreign_by host p actor id a.object (rw (hosted, by, own) at (not-true (is_foreign t.host p a.actor a.id a.object) ok))
 
 delivered_once : (t : Town) (host : List ℕ) (p : Option Peer) (owner author id : Option (List ℕ)) (a : Activity) (moment : ℕ) → IsAt t host → a.actor ≡ author → a.id ≡ id
     → may_deliver t p a ≡ true → AreOnce host t.acts → AreOnce host (after_delivery t owner author id a moment).acts
@@ -297,7 +285,7 @@ step_at t host (Remote peer inbox a moment) s ok h =
     (delivered_once t host (find (has_host peer) t.peers) (id_of t inbox) a.actor a.id a moment s refl refl may h)
 step_at t host (Tried activity recipient came moment) s ok h = rw s.hosted h
 
--- ---- before the server was set up
+-- ---- before the server not-false set up
 
 no_members : (xs : List Actor) → list_all (is_member None) xs ≡ true → (name : List ℕ) → option_map (λ a. a.id) (find (has_name name) xs) ≡ None
 no_members [] all name = refl
@@ -334,7 +322,7 @@ fold_ids (e ∷ history) t ok s h =
     let parts = and_parts (is_admissible t e) (is_legal_from (step t e) history) ok in
     fold_ids history (step t e) parts.1 (step_sound t e parts.0 s) (step_by t t.host e refl s parts.0 h)
 
-once_by : (host : Option (List ℕ)) (acts : List Act) → HasIds host acts → (id : List ℕ) → PassesOnce (has_activity_id id) acts
+pub once_by : (host : Option (List ℕ)) (acts : List Act) → HasIds host acts → (id : List ℕ) → PassesOnce (has_activity_id id) acts
 once_by None acts h id = rw h tt
 once_by (Some host) acts h id = h.once id
 

@@ -186,11 +186,11 @@ received-id : (moment : ℕ) (o : Object) → (receive_object moment o).id ≡ o
 unfolding receive_object
 received-id moment o = choice-id (is_tombstone o) (complete_tombstone moment o) o refl
 
-pub ref_id-received : (author : List ℕ) (moment : ℕ) (r : ObjectRef) → ref_id (receive_ref author moment r) ≡ ref_id r
-ref_id-received author moment Nothing = refl
-ref_id-received author moment (Id iri) = refl
-ref_id-received author moment (Whole o) = received-id moment o
-ref_id-received author moment (Changed c) = refl
+pub ref_received : (author : List ℕ) (moment : ℕ) (r : ObjectRef) → ref_id (receive_ref author moment r) ≡ ref_id r
+ref_received author moment Nothing = refl
+ref_received author moment (Id iri) = refl
+ref_received author moment (Whole o) = received-id moment o
+ref_received author moment (Changed c) = refl
 
 -- ---- one more recipient
 

@@ -11,7 +11,7 @@ use Rattle.fedi_objects.specs.declared.entry.Entry.TheVariants.{Hosted, Made, Pe
 use Rattle.fedi_objects.specs.declared.kind.State.TheVariants.{Done}
 use Rattle.fedi_town.proofs.Finding.{PassesOnce-push, PassesOnce-map}
 use Rattle.fedi_town.specs.Lists.{PassesOnce}
-use Rattle.fedi_town.proofs.Kept.{changed-kept, made-inbox, made-kept, ref_id-received}
+use Rattle.fedi_town.proofs.Kept.{changed-kept, made-inbox, made-kept, ref_received}
 use Rattle.fedi_town.proofs.Lists.{list_any-through}
 use Rattle.fedi_town.proofs.Steps.{accept, accept_in_steps, with_act, accepts_for, after_delivery, after_inbox, after_post}
 use Rattle.fedi_town.specs.Activities.{local_act, remote_act}
@@ -69,7 +69,7 @@ local_new t host name repeat a moment id made = new_made t true _ (deed_of a.kin
 pub remote_new : (t : Town) (owner author : List ℕ) (a : Activity) (moment : ℕ) (id : List ℕ)
     → makes id (remote_act t owner author a moment) ≡ true → list_any (makes id) t.acts ≡ false
 unfolding makes is_about
-remote_new t owner author a moment id made = new_made t false author (deed_of a.kind) a.object id (rw (ref_id-received author moment a.object) at made)
+remote_new t owner author a moment id made = new_made t false author (deed_of a.kind) a.object id (rw (ref_received author moment a.object) at made)
 
 -- ---- steps
 

@@ -1,9 +1,9 @@
 -- The paths of ids are plain, so that each id is an IRI.
-use Rattle.std.proofs.Common.{◌≡◌, ℕ, ◌+◌, ◌%◌, ◌^◌, ◌<◌, ◌≤◌, Bool, true, false, leb, List, [], ◌∷◌, ◌++◌, length, refl, ◌∙◌, arith, lit<, lit≤}
+use Rattle.std.proofs.Common.{◌≡◌, ℕ, ◌+◌, ◌%◌, ◌^◌, ◌<◌, ◌≤◌, true, leb, List, [], ◌∷◌, ◌++◌, length, refl, ◌∙◌, arith, lit<, lit≤}
 use Rattle.std.specs.Cmp.Derive.{both_true}
 use Rattle.std.specs.Prelude.{◌&&◌, ◌||◌, IsTrue, codes, decimal}
 use Rattle.std.specs.List.{list_all}
-use Rattle.std.proofs.lemmas.Bool.{and_parts, le-leb, leb-true}
+use Rattle.std.proofs.lemmas.Bool.{and_parts, le-leb, leb-true, or_right}
 use Rattle.std.proofs.lemmas.Fmt.{decimal_by_steps, length-decimal-le}
 use Rattle.std.proofs.lemmas.List.{length-append}
 use Rattle.std.proofs.lemmas.List.Folds.{list_all-append}
@@ -11,16 +11,12 @@ use Rattle.fedi_address.specs.Hosts.{is_path_byte, is_plain_path}
 use Rattle.fedi_address.specs.Names.{is_lower, is_digit, is_name_byte, is_name}
 use Rattle.fedi_town.specs.Ids.{actor_path, activity_path, object_path}
 
-or_true : (a b : Bool) → b ≡ true → (a || b) ≡ true
-or_true true b e = refl
-or_true false b e = e
-
 digit_in_path : (d : ℕ) → d < 10 → is_path_byte (48 + d) ≡ true
 digit_in_path d lt =
     let low : leb 48 (48 + d) ≡ true = le-leb 48 (48 + d) (omega arith) in
     let high : leb (48 + d) 57 ≡ true = le-leb (48 + d) 57 (omega arith) in
     let digit : is_digit (48 + d) ≡ true = both_true low high in
-    let second : (is_lower (48 + d) || is_digit (48 + d)) ≡ true = or_true (is_lower (48 + d)) (is_digit (48 + d)) digit in
+    let second : (is_lower (48 + d) || is_digit (48 + d)) ≡ true = or_right (is_lower (48 + d)) (is_digit (48 + d)) digit in
     rw second refl
 
 digits_in_path : (n : ℕ) → n < 2 ^ 64 → list_all is_path_byte (decimal n) ≡ true

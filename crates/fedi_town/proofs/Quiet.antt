@@ -66,7 +66,7 @@ second_true : (a b : Bool) → (a && b) ≡ true → b ≡ true
 second_true true b e = e
 second_true false b e = absurd cc
 
-first_true : (a b : Bool) → (a && b) ≡ true → a ≡ true
+pub first_true : (a b : Bool) → (a && b) ≡ true → a ≡ true
 first_true true b e = refl
 first_true false b e = absurd cc
 

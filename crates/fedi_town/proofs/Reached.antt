@@ -7,6 +7,7 @@ use Rattle.std.proofs.lemmas.List.Folds.{list_any-append}
 use Rattle.fedi_address.specs.declared.recipients.Recipients.{Recipients}
 use Rattle.fedi_address.specs.Iris.{public_iri}
 use Rattle.fedi_address.specs.Recipients.{all_of, is_among, names, is_public}
+use Rattle.fedi_address.proofs.Unions.{among_alone}
 use Rattle.fedi_objects.specs.declared.activity.Activity.{Activity}
 use Rattle.fedi_objects.specs.declared.kind.State.TheVariants.{Accepted, Pending, Rejected}
 use Rattle.fedi_town.specs.Activities.{local_act}
@@ -51,18 +52,13 @@ first-among : (b : List ℕ) (xs ys : List (List ℕ)) → is_among b xs ≡ tru
 unfolding is_among
 first-among b xs ys there = list_any-append (λ u. bytes_eq u b) xs ys ∙ rw there refl
 
-second-among : (b : List ℕ) (xs ys : List (List ℕ)) → is_among b ys ≡ true → is_among b (xs ++ ys) ≡ true
+pub second_among : (b : List ℕ) (xs ys : List (List ℕ)) → is_among b ys ≡ true → is_among b (xs ++ ys) ≡ true
 unfolding is_among
-second-among b xs ys there = list_any-append (λ u. bytes_eq u b) xs ys ∙ rw there (or_true (list_any (λ u. bytes_eq u b) xs))
-
--- a name that denotes itself
-one-among : (b : List ℕ) → is_among b (b ∷ []) ≡ true
-unfolding is_among
-one-among b = rw (bytes_eq-same b) refl
+second_among b xs ys there = list_any-append (λ u. bytes_eq u b) xs ys ∙ rw there (or_true (list_any (λ u. bytes_eq u b) xs))
 
 itself : (t : Town) (author b : List ℕ) → bytes_eq b (followers_id author) ≡ false → is_among b (addressees t author b) ≡ true
 unfolding addressees
-itself t author b one = rw one (one-among b)
+itself t author b one = rw one (among_alone b)
 
 flat-among : (t : Town) (author b : List ℕ) (iris : List (List ℕ)) → bytes_eq b (followers_id author) ≡ false → is_among b iris ≡ true
     → is_among b (flat_map (addressees t author) iris) ≡ true
@@ -74,7 +70,7 @@ flat-among t author b (iri ∷ iris) one there =
           first-among b (addressees t author iri) (flat_map (addressees t author) iris)
           (subst (λ (i : List ℕ). is_among b (addressees t author i) ≡ true) (sym (bytes_eq-is iri b e)) (itself t author b one))
       | false ↦ λ e. let rest : is_among b iris ≡ true = rw e at there in
-          second-among b (addressees t author iri) (flat_map (addressees t author) iris) (flat-among t author b iris one rest)
+          second_among b (addressees t author iri) (flat_map (addressees t author) iris) (flat-among t author b iris one rest)
     ] refl
 
 -- a named actor who may get the activity gets it
@@ -119,7 +115,7 @@ between_swap : (t : Town) (a b : List ℕ) → has_block_between t a b ≡ has_b
 unfolding has_block_between
 between_swap t a b = or_swap (blocks t a b) (blocks t b a)
 
-and_not_true : (a b : Bool) → b ≡ true → (a && not b) ≡ false
+pub and_not_true : (a b : Bool) → b ≡ true → (a && not b) ≡ false
 and_not_true true b e = rw e refl
 and_not_true false b e = refl
 

@@ -38,13 +38,13 @@ with-still : (t : Town) (x : Act) (id : Option (List ℕ)) → changes_nothing (
 with-still t x None told = refl
 with-still t x (Some id) told = about-still t x (deed x) id told
 
-choice-still : (b : Bool) (e : Effect) → e ≡ effects.Nothing → (if b then e else effects.Nothing) ≡ effects.Nothing
-choice-still true e h = h
-choice-still false e h = refl
+pub choice_still : (b : Bool) (e : Effect) → e ≡ effects.Nothing → (if b then e else effects.Nothing) ≡ effects.Nothing
+choice_still true e h = h
+choice_still false e h = refl
 
 told-still : (t : Town) (x : Act) → changes_nothing (deed x) ≡ true → effect_of t x ≡ effects.Nothing
 unfolding effect_of
-told-still t x told = choice-still (takes_effect (deed x) x.state) _ (with-still t x (ref_id x.activity.object) told)
+told-still t x told = choice_still (takes_effect (deed x) x.state) _ (with-still t x (ref_id x.activity.object) told)
 
 -- the activities that are appended with it
 abbrev pub with_answers : Town → Act → List Act

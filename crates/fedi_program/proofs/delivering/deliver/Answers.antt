@@ -1,7 +1,7 @@
 use Rattle.std.proofs.Common.{refl}
 use Rattle.fedi_log.specs.Keeping.{state_of}
-use Rattle.fedi_logged.proofs.SessionLemmas.{now_of}
-use Rattle.fedi_program.proofs.DeliverLemmas.{trying_none, writes_none}
+use Rattle.fedi_logged.proofs.SessionLemmas.{now_of, writes_none}
+use Rattle.fedi_program.proofs.DeliverLemmas.{trying_none}
 use Rattle.fedi_program.proofs.MemberLemmas.{unmoved}
 use Rattle.fedi_program.proofs.delivering.deliver.Goals as goal
 

@@ -12,10 +12,11 @@ use Rattle.fedi_logged.specs.Endings.{output_by}
 use Rattle.fedi_town.specs.Histories.{town}
 use Rattle.fedi_town.specs.Queues.{Delivery}
 use Rattle.fedi_logged.specs.Attempts.{told_by}
+use Rattle.fedi_logged.proofs.SessionLemmas.{writes_none}
 use Rattle.fedi_program.specs.Delivering.{TrialSurvives}
 use Rattle.fedi_program.specs.Endings.{Prints}
 use Rattle.fedi_program.proofs.ClaimLemmas.{claimed_first, claimed_none, trial_first}
-use Rattle.fedi_program.proofs.DeliverLemmas.{stopped_survives, trial_more, trial_survives, trying_done, trying_first, trying_grown, trying_stopped, writes_none}
+use Rattle.fedi_program.proofs.DeliverLemmas.{stopped_survives, trial_more, trial_survives, trying_done, trying_first, trying_grown, trying_stopped}
 use Rattle.fedi_program.proofs.MemberLemmas.{unmoved}
 use Rattle.fedi_program.proofs.delivering.try_due.Goals as goal
 

@@ -1,6 +1,6 @@
 use Rattle.std.proofs.Common.{◌∙◌, List, ap, subst, sym}
 use Rattle.std.specs.Prelude.{IsTrue, is_some}
-use Rattle.fedi_core.proofs.Claims.{AreRowsOf, claimed_some}
+use Rattle.fedi_core.proofs.Claims.{claimed_some}
 use Rattle.fedi_core.proofs.machine.Core.activity_of.Goals as goal
 use Rattle.fedi_effects.specs.Holdings.{Holding}
 use Rattle.fedi_objects.specs.declared.entry.Entry.{Entry}
@@ -8,6 +8,7 @@ use Rattle.fedi_queue.specs.Queues.{IsHeld, Queued}
 use Rattle.fedi_queue.specs.Rows.{id_at}
 use Rattle.fedi_queue.specs.declared.rows.Claim.{Claim}
 use Rattle.fedi_queue.specs.declared.rows.QueueRow.{QueueRow}
+use Rattle.fedi_queue.proofs.ClaimedRows.{AreRowsOf}
 use Rattle.fedi_town.specs.Histories.{town}
 use Rattle.fedi_town.specs.Towns.{Town}
 

@@ -5,9 +5,10 @@ use Rattle.fedi_objects.specs.declared.entry.Entry.{Entry}
 use Rattle.fedi_queue.specs.declared.rows.QueueRow.{QueueRow}
 use Rattle.fedi_queue.specs.Claims.{claim, is_free_at}
 use Rattle.fedi_queue.specs.Queues.{Queued}
+use Rattle.fedi_queue.proofs.ClaimedRows.{AreRowsOf}
 use Rattle.fedi_town.specs.Histories.{town}
 use Rattle.fedi_core.specs.Delivering.{IsClaimOf, claimed_id, claimed_recipient, claimed_row, claims_in}
-use Rattle.fedi_core.proofs.Claims.{AreRowsOf, claims_are_of, first_claimed, more_claimed}
+use Rattle.fedi_core.proofs.Claims.{claims_are_of, first_claimed, more_claimed}
 use Rattle.fedi_core.proofs.machine.Core.claim.Goals as goal
 
 pub returns-clause-row : goal.returns-clause-row

@@ -4,12 +4,13 @@ use Rattle.fedi_queue.specs.declared.rows.Claim.{Claim}
 use Rattle.fedi_queue.specs.declared.rows.QueueRow.{QueueRow}
 use Rattle.fedi_queue.specs.Queues.{IsHeld, Queued}
 use Rattle.fedi_queue.specs.Rows.{rows_of}
+use Rattle.fedi_queue.proofs.ClaimedRows.{AreRowsOf}
 use Rattle.fedi_town.specs.Histories.{town}
 use Rattle.fedi_town.specs.Towns.{Town}
 use Rattle.fedi_core.specs.Delivering.{attempt_of, claims_in}
 use Rattle.fedi_core.specs.Keeping.{MayAdd}
 use Rattle.fedi_core.specs.Machines.{KeepsClaims}
-use Rattle.fedi_core.proofs.Claims.{AreRowsOf, attempt_may, fewer_recorded}
+use Rattle.fedi_core.proofs.Claims.{attempt_may, fewer_recorded}
 use Rattle.fedi_core.proofs.machine.Core.keep_attempt.Goals as goal
 
 pub attempt_of-requires-clause-rows : goal.attempt_of-requires-clause-rows

@@ -3,9 +3,10 @@ use Rattle.fedi_objects.specs.declared.entry.Entry.{Entry}
 use Rattle.fedi_queue.specs.declared.rows.Claim.{Claim}
 use Rattle.fedi_queue.specs.declared.rows.QueueRow.{QueueRow}
 use Rattle.fedi_queue.specs.Queues.{IsHeld, Queued}
+use Rattle.fedi_queue.proofs.ClaimedRows.{AreRowsOf}
 use Rattle.fedi_town.specs.Histories.{town}
 use Rattle.fedi_core.specs.Delivering.{IsClaimOf, claimed_id}
-use Rattle.fedi_core.proofs.Claims.{AreRowsOf, held_is_to, recipient_is}
+use Rattle.fedi_core.proofs.Claims.{held_is_to, recipient_is}
 use Rattle.fedi_core.proofs.machine.Core.recipient_of.Goals as goal
 
 pub returns-clause-delivery : goal.returns-clause-delivery

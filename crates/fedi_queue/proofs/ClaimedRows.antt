@@ -4,15 +4,16 @@ use Rattle.std.proofs.Common.{inl, inr, ◌⊎◌, ◌≡◌, ◌≤◌, ℕ, ze
 use Rattle.std.specs.Prelude.{◌&&◌, is_some, map, nat_eq, option_and_then, option_to_list, slice_get, if◌then◌else◌}
 use Rattle.std.specs.List.{list_all, list_any}
 use Rattle.std.specs.Str.{bytes_eq}
-use Rattle.std.proofs.lemmas.Bool.{and_parts, eqb-true, false_from_ne_true, or_cases, or_right}
-use Rattle.std.proofs.lemmas.List.Folds.{list_all-append, list_any-append}
+use Rattle.std.proofs.lemmas.Bool.{and_parts, eqb-true, or_cases}
+use Rattle.std.proofs.lemmas.List.Folds.{list_all-append}
 use Rattle.std.proofs.lemmas.List.Sums.{fold_push}
 use Rattle.fedi_objects.specs.declared.entry.Entry.{Entry}
 use Rattle.fedi_queue.specs.declared.rows.QueueRow.{QueueRow}
-use Rattle.fedi_queue.specs.Claims.{is_at, release}
+use Rattle.fedi_queue.specs.Claims.{is_at, is_claimed_at, release}
 use Rattle.fedi_queue.specs.Rows.{id_at, is_row_of, row_where, rows_by, rows_from, rows_of, rows_to}
 use Rattle.fedi_queue.proofs.Addressed.{affected_unmoved}
 use Rattle.fedi_queue.proofs.Queued.{one_row}
+use Rattle.fedi_queue.proofs.Released.{once_released, at_released, of_released}
 use Rattle.fedi_town.proofs.Texts.{bytes_eq-is, bytes_eq-same}
 use Rattle.fedi_town.specs.declared.act.Act.{Act}
 use Rattle.fedi_town.specs.declared.addition.Addition.{Addition}
@@ -25,12 +26,22 @@ use Rattle.fedi_town.specs.Queues.{Progress, is_at_peer, progress_of, sends}
 use Rattle.fedi_town.specs.Queues.{Due, Ended}
 use Rattle.fedi_town.specs.Relations.{has_activity_id, is_id}
 use Rattle.fedi_town.specs.Towns.{Town, empty_town}
+use Rattle.fedi_town.proofs.Lists.{any_either, once_both}
+use Rattle.fedi_register.proofs.Chains.{longer, got_at}
 
 -- the rows of a town, some of which may be claimed
 abbrev pub AreRowsOf : Town → List QueueRow → Type 0
 AreRowsOf t rows = map release rows ≡ rows_of t
 
 -- ---- each row has a position of its own
+
+pub claimed_at : (a p : ℕ) (row : QueueRow) → is_claimed_at a p row ≡ true → (row.claimed ≡ true) × (is_at a p row ≡ true)
+unfolding is_claimed_at
+claimed_at a p row is = and_parts row.claimed (is_at a p row) is
+
+pub at_place : (a p : ℕ) (row : QueueRow) → is_at a p row ≡ true → (row.activity ≡ a) × (row.place ≡ p)
+unfolding is_at
+at_place a p row at = let parts = and_parts (nat_eq row.activity a) (nat_eq row.place p) at in (eqb-true row.activity a parts.0, eqb-true row.place p parts.1)
 
 any-row : (a p : ℕ) (b : Bool) (n k : ℕ) (r : List ℕ) (g : Progress) → list_any (is_at a p) (row_where b n k r g) ≡ true → (n ≡ a) × (k ≡ p)
 unfolding is_at
@@ -42,14 +53,11 @@ any-row a p true n k r (Due j from) any = by (or_cases (nat_eq n a && nat_eq k p
     by (inl at) = let parts = and_parts (nat_eq n a) (nat_eq k p) at in (eqb-true n a parts.0, eqb-true k p parts.1)
     by (inr wrong) = absurd cc
 
-any-either : {A : Type 0} (p : A → Bool) (xs ys : List A) → list_any p (xs ++ ys) ≡ true → (list_any p xs ≡ true) ⊎ (list_any p ys ≡ true)
-any-either p xs ys any = or_cases (list_any p xs) (list_any p ys) (sym (list_any-append p xs ys) ∙ any)
-
 any-to : (t : Town) (q : List ℕ → Bool) (a p n : ℕ) (id : List ℕ) (m k : ℕ) (rs : List (List ℕ)) → list_any (is_at a p) (rows_to t q n id m k rs) ≡ true
     → (n ≡ a) × (k ≤ p)
 any-to t q a p n id m k [] any = absurd cc
 any-to t q a p n id m k (r ∷ rs) any =
-    elim (any-either (is_at a p) (row_where (q r) n k r (progress_of t id r m)) (rows_to t q n id m (suc k) rs) any) as (λ _. (n ≡ a) × (k ≤ p)) [
+    elim (any_either (is_at a p) (row_where (q r) n k r (progress_of t id r m)) (rows_to t q n id m (suc k) rs) any) as (λ _. (n ≡ a) × (k ≤ p)) [
       | inl here ↦ let is = any-row a p (q r) n k r (progress_of t id r m) here in (is.0, omega (arith, is.1))
       | inr later ↦ let is = any-to t q a p n id m (suc k) rs later in (is.0, omega (arith, is.1))
     ]
@@ -61,18 +69,10 @@ any-by t q a p n m rs (Some id) any = (any-to t q a p n id m 0 rs any).0
 any-from : (t : Town) (q : List ℕ → Bool) (a p n : ℕ) (xs : List Act) → list_any (is_at a p) (rows_from t q n xs) ≡ true → n ≤ a
 any-from t q a p n [] any = absurd cc
 any-from t q a p n (x ∷ xs) any =
-    elim (any-either (is_at a p) (rows_by t q n x.moment (sends t x) x.activity.id) (rows_from t q (suc n) xs) any) as (λ _. n ≤ a) [
+    elim (any_either (is_at a p) (rows_by t q n x.moment (sends t x) x.activity.id) (rows_from t q (suc n) xs) any) as (λ _. n ≤ a) [
       | inl here ↦ omega (arith, any-by t q a p n x.moment (sends t x) x.activity.id here)
       | inr later ↦ omega (arith, any-from t q a p (suc n) xs later)
     ]
-
-once-both : {A : Type 0} (p : A → Bool) (xs ys : List A) → PassesOnce p xs → PassesOnce p ys → (list_any p xs ≡ true → list_any p ys ≡ true → ⊥)
-    → PassesOnce p (xs ++ ys)
-once-both p [] ys once all apart = all
-once-both p (x ∷ xs) ys once all apart = (
-  λ passes. list_any-append p xs ys ∙ rw (once.0 passes) (false_from_ne_true (list_any p ys) (λ any. apart (rw passes refl) any)),
-  once-both p xs ys once.1 all (λ any other. apart (or_right (p x) (list_any p xs) any) other),
-)
 
 row-once : (a p : ℕ) (b : Bool) (n k : ℕ) (r : List ℕ) (g : Progress) → PassesOnce (is_at a p) (row_where b n k r g)
 row-once a p false n k r g = tt
@@ -82,7 +82,7 @@ row-once a p true n k r (Due j from) = (λ passes. refl, tt)
 to-once : (t : Town) (q : List ℕ → Bool) (a p n : ℕ) (id : List ℕ) (m k : ℕ) (rs : List (List ℕ)) → PassesOnce (is_at a p) (rows_to t q n id m k rs)
 to-once t q a p n id m k [] = tt
 to-once t q a p n id m k (r ∷ rs) =
-    once-both (is_at a p) (row_where (q r) n k r (progress_of t id r m)) (rows_to t q n id m (suc k) rs)
+    once_both (is_at a p) (row_where (q r) n k r (progress_of t id r m)) (rows_to t q n id m (suc k) rs)
     (row-once a p (q r) n k r (progress_of t id r m)) (to-once t q a p n id m (suc k) rs)
     (λ here later. absurd (omega (arith, (any-row a p (q r) n k r (progress_of t id r m) here).1, (any-to t q a p n id m (suc k) rs later).1)))
 
@@ -93,7 +93,7 @@ by-once t q a p n m rs (Some id) = to-once t q a p n id m 0 rs
 from-once : (t : Town) (q : List ℕ → Bool) (a p n : ℕ) (xs : List Act) → PassesOnce (is_at a p) (rows_from t q n xs)
 from-once t q a p n [] = tt
 from-once t q a p n (x ∷ xs) =
-    once-both (is_at a p) (rows_by t q n x.moment (sends t x) x.activity.id) (rows_from t q (suc n) xs)
+    once_both (is_at a p) (rows_by t q n x.moment (sends t x) x.activity.id) (rows_from t q (suc n) xs)
     (by-once t q a p n x.moment (sends t x) x.activity.id) (from-once t q a p (suc n) xs)
     (λ here later. absurd (omega (arith, any-by t q a p n x.moment (sends t x) x.activity.id here, any-from t q a p (suc n) xs later)))
 
@@ -101,34 +101,16 @@ places-once : (t : Town) (a p : ℕ) → PassesOnce (is_at a p) (rows_of t)
 unfolding rows_of
 places-once t a p = from-once t (is_at_peer t) a p 0 t.acts
 
--- it does not matter which rows are claimed
-any-released : (p : QueueRow → Bool) (rows : List QueueRow) → ((row : QueueRow) → p (release row) ≡ p row) → list_any p (map release rows) ≡ list_any p rows
-any-released p [] same = refl
-any-released p (row ∷ rows) same = rw (same row, any-released p rows same) refl
-
-once-released : (p : QueueRow → Bool) (rows : List QueueRow) → ((row : QueueRow) → p (release row) ≡ p row) → PassesOnce p (map release rows)
-    → PassesOnce p rows
-once-released p [] same once = tt
-once-released p (row ∷ rows) same once = (λ passes. sym (any-released p rows same) ∙ once.0 (same row ∙ passes), once-released p rows same once.1)
-
-at-released : (a p : ℕ) (row : QueueRow) → is_at a p (release row) ≡ is_at a p row
-unfolding is_at
-at-released a p row = refl
-
 pub places_of : (t : Town) (rows : List QueueRow) (a p : ℕ) → AreRowsOf t rows → PassesOnce (is_at a p) rows
 places_of t rows a p same =
-    once-released (is_at a p) rows (at-released a p) (subst (λ (ys : List QueueRow). PassesOnce (is_at a p) ys) (sym same) (places-once t a p))
+    once_released (is_at a p) rows (at_released a p) (subst (λ (ys : List QueueRow). PassesOnce (is_at a p) ys) (sym same) (places-once t a p))
 
 -- ---- each row is of a delivery of its own
-
-of-released : (acts : List Act) (id r : List ℕ) (row : QueueRow) → is_row_of acts id r (release row) ≡ is_row_of acts id r row
-unfolding is_row_of
-of-released acts id r row = refl
 
 pub one_of : (h : List Entry) (rows : List QueueRow) (id r : List ℕ) → IsLegal h → AreRowsOf (town h) rows → PassesOnce (is_row_of (town h).acts id r) rows
 one_of h rows id r legal same =
     let p = is_row_of (town h).acts id r in
-    once-released p rows (of-released (town h).acts id r) (subst (λ (ys : List QueueRow). PassesOnce p ys) (sym same) (one_row h id r legal))
+    once_released p rows (of_released (town h).acts id r) (subst (λ (ys : List QueueRow). PassesOnce p ys) (sym same) (one_row h id r legal))
 
 -- which delivery that is: the one of the activity with this id
 pub of_id : (acts : List Act) (id r : List ℕ) (row : QueueRow) → is_row_of acts id r row ≡ (is_id id (id_at acts row.activity) && bytes_eq row.recipient r)
@@ -176,21 +158,13 @@ by-ids : (t : Town) (q : List ℕ → Bool) (acts : List Act) (n m : ℕ) (rs : 
 by-ids t q acts n m rs None is = refl
 by-ids t q acts n m rs (Some id) is = to-ids t q acts n id m 0 rs (rw is refl)
 
-got-at : (before xs : List Act) (x : Act) → slice_get (before ++ x ∷ xs) (length before) ≡ Some x
-got-at [] xs x = refl
-got-at (y ∷ before) xs x = got-at before xs x
-
-longer : (before : List Act) (x : Act) → length (before ++ x ∷ []) ≡ suc (length before)
-longer [] x = refl
-longer (y ∷ before) x = ap suc (longer before x)
-
 from-ids : (t : Town) (q : List ℕ → Bool) (before xs : List Act) (n : ℕ) → t.acts ≡ before ++ xs → n ≡ length before
     → list_all (has_id t.acts) (rows_from t q n xs) ≡ true
 from-ids t q before [] n split count = refl
 from-ids t q before (x ∷ xs) n split count =
     let next : t.acts ≡ (before ++ x ∷ []) ++ xs = split ∙ sym (append_assoc before (x ∷ []) xs) in
     let more : suc n ≡ length (before ++ x ∷ []) = ap suc count ∙ sym (longer before x) in
-    let own : id_at t.acts n ≡ x.activity.id = rw (split, count, got-at before xs x) refl in
+    let own : id_at t.acts n ≡ x.activity.id = rw (split, count, got_at before x xs) refl in
     list_all-append (has_id t.acts) (rows_by t q n x.moment (sends t x) x.activity.id) (rows_from t q (suc n) xs)
     ∙ rw (by-ids t q t.acts n x.moment (sends t x) x.activity.id own, from-ids t q (before ++ x ∷ []) xs (suc n) next more) refl
 
