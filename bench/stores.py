@@ -54,31 +54,89 @@ def remote(host, inbox, activity, at=MOMENT):
 
 def tried(activity, recipient, status, at=MOMENT):
     """An attempt to deliver, whose post was answered with this status."""
-    return b"\x06" + text(activity) + text(recipient) + b"\x01\x03" + status.to_bytes(2, "big") + moment(at)
+    return (
+        b"\x06"
+        + text(activity)
+        + text(recipient)
+        + b"\x01\x03"
+        + status.to_bytes(2, "big")
+        + moment(at)
+    )
 
 
 def delivered(kind, id, actor, object):
     """An activity of another server about the object of this id, which names nobody."""
-    return optional(id) + bytes([kind]) + optional(actor) + b"\1" + text(object) + b"\0" + 5 * number(0) + 5 * b"\0" + number(0)
+    return (
+        optional(id)
+        + bytes([kind])
+        + optional(actor)
+        + b"\1"
+        + text(object)
+        + b"\0"
+        + 5 * number(0)
+        + 5 * b"\0"
+        + number(0)
+    )
 
 
 def delivered_note(id, actor, object, to, content):
     """A Create by another server's actor of a note of this id."""
     fields = texts(to) + 4 * number(0)
-    whole = optional(object) + text("Note") + b"\0" + fields + b"\0" + optional(content) + 3 * b"\0" + 4 * b"\0" + number(0)
-    return optional(id) + bytes([CREATE]) + optional(actor) + b"\2" + whole + b"\0" + fields + 5 * b"\0" + number(0)
+    whole = (
+        optional(object)
+        + text("Note")
+        + b"\0"
+        + fields
+        + b"\0"
+        + optional(content)
+        + 3 * b"\0"
+        + 4 * b"\0"
+        + number(0)
+    )
+    return (
+        optional(id)
+        + bytes([CREATE])
+        + optional(actor)
+        + b"\2"
+        + whole
+        + b"\0"
+        + fields
+        + 5 * b"\0"
+        + number(0)
+    )
 
 
 def note(to, cc, content, answered=None):
     """A Create of a note, which may answer another."""
     fields = texts(to) + texts(cc) + 3 * number(0)
-    whole = b"\0" + text("Note") + b"\0" + fields + optional(answered) + optional(content) + 3 * b"\0" + 4 * b"\0" + number(0)
+    whole = (
+        b"\0"
+        + text("Note")
+        + b"\0"
+        + fields
+        + optional(answered)
+        + optional(content)
+        + 3 * b"\0"
+        + 4 * b"\0"
+        + number(0)
+    )
     return b"\0" + bytes([CREATE]) + b"\0\2" + whole + b"\0" + fields + 5 * b"\0" + number(0)
 
 
 def about(kind, object, to=(), cc=()):
     """An activity about this, to nobody if nobody is named."""
-    return b"\0" + bytes([kind]) + b"\0" + object + b"\0" + texts(to) + texts(cc) + 3 * number(0) + 5 * b"\0" + number(0)
+    return (
+        b"\0"
+        + bytes([kind])
+        + b"\0"
+        + object
+        + b"\0"
+        + texts(to)
+        + texts(cc)
+        + 3 * number(0)
+        + 5 * b"\0"
+        + number(0)
+    )
 
 
 def of(kind, id, to=(), cc=()):
@@ -104,7 +162,9 @@ def id_of(member):
 
 def post(member, place, length, repeat=None):
     """The entry of a post, which is of this length, with another content at each place."""
-    of = lambda content: local(name_of(member), note([PUBLIC], [id_of(member) + "/followers"], content), repeat)
+    of = lambda content: local(
+        name_of(member), note([PUBLIC], [id_of(member) + "/followers"], content), repeat
+    )
     return of(f"{place:010d}" + "x" * (length - len(of("")) - 10))
 
 

@@ -34,31 +34,73 @@ def tool(name):
 
 
 class Site:
-    """nginx with the site as it stands, but for its ports, its certificate, its folders and, without `limit`, how often one address may ask. What
-    it needs is in a folder of its own. `changes` are more texts of the site with what is put in their place."""
+    """nginx with the site as it stands, but for its ports, its certificate, its folders and,
+    without `limit`, how often one address may ask. What it needs is in a folder of its own.
+    `changes` are more texts of the site with what is put in their place.
+    """
 
-    def __init__(self, folder, upstream, host=HOST, page=os.path.join(HOME, "contrib/web"), changes=(), cors=False, limit=False):
+    def __init__(
+        self,
+        folder,
+        upstream,
+        host=HOST,
+        page=os.path.join(HOME, "contrib/web"),
+        changes=(),
+        cors=False,
+        limit=False,
+    ):
         self.folder, self.host, self.plain, self.tls = folder, host, free_port(), free_port()
         for name in ("fedi.d", "members"):
             os.makedirs(f"{folder}/{name}", exist_ok=True)
         if cors:
             shutil.copy(os.path.join(HOME, "contrib/nginx/fedi-cors.conf"), f"{folder}/fedi.d")
         self.certificate = f"{folder}/certificate"
-        subprocess.run(["openssl", "req", "-x509", "-newkey", "rsa:2048", "-nodes", "-days", "1", "-subj", f"/CN={host}",
-                        "-addext", f"subjectAltName=DNS:{host}", "-keyout", f"{folder}/key", "-out", self.certificate],
-                       check=True, capture_output=True)
+        subprocess.run(
+            [
+                "openssl",
+                "req",
+                "-x509",
+                "-newkey",
+                "rsa:2048",
+                "-nodes",
+                "-days",
+                "1",
+                "-subj",
+                f"/CN={host}",
+                "-addext",
+                f"subjectAltName=DNS:{host}",
+                "-keyout",
+                f"{folder}/key",
+                "-out",
+                self.certificate,
+            ],
+            check=True,
+            capture_output=True,
+        )
         with open(os.path.join(HOME, "contrib/nginx/fedi.conf")) as file:
             text = file.read()
-        for old, new in [(r"server 127.0.0.1:8765;", f"server 127.0.0.1:{upstream};"), (r"listen (\[::\]:)\S+.*;", ""),
-                         (r"listen 80;", f"listen 127.0.0.1:{self.plain};"), (r"listen 443 ", f"listen 127.0.0.1:{self.tls} "),
-                         (r"/etc/letsencrypt/\S+/fullchain.pem", self.certificate), (r"/etc/letsencrypt/\S+/privkey.pem", f"{folder}/key"),
-                         (r"/var/www/html", f"{folder}/www"), (r"/usr/local/share/fedi/web", page), (r"/var/lib/fedi-members", f"{folder}/members"),
-                         (r"/etc/nginx/fedi.d", f"{folder}/fedi.d"),
-                         (r"rate=50r/s", "rate=50r/s" if limit else "rate=100000r/s"), (re.escape(HOST), host), *changes]:
+        for old, new in [
+            (r"server 127.0.0.1:8765;", f"server 127.0.0.1:{upstream};"),
+            (r"listen (\[::\]:)\S+.*;", ""),
+            (r"listen 80;", f"listen 127.0.0.1:{self.plain};"),
+            (r"listen 443 ", f"listen 127.0.0.1:{self.tls} "),
+            (r"/etc/letsencrypt/\S+/fullchain.pem", self.certificate),
+            (r"/etc/letsencrypt/\S+/privkey.pem", f"{folder}/key"),
+            (r"/var/www/html", f"{folder}/www"),
+            (r"/usr/local/share/fedi/web", page),
+            (r"/var/lib/fedi-members", f"{folder}/members"),
+            (r"/etc/nginx/fedi.d", f"{folder}/fedi.d"),
+            (r"rate=50r/s", "rate=50r/s" if limit else "rate=100000r/s"),
+            (re.escape(HOST), host),
+            *changes,
+        ]:
             text, count = re.subn(old, new, text)
             if count == 0:
                 sys.exit(f"the site of contrib/nginx has no {old}")
-        for name, text in (("site", text), ("conf", MAIN.format(folder=folder, user="user root;" if os.geteuid() == 0 else ""))):
+        for name, text in (
+            ("site", text),
+            ("conf", MAIN.format(folder=folder, user="user root;" if os.geteuid() == 0 else "")),
+        ):
             with open(f"{folder}/{name}", "w") as file:
                 file.write(text)
         words = [tool("nginx"), "-p", folder, "-c", f"{folder}/conf", "-e", f"{folder}/error.log"]

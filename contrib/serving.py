@@ -57,7 +57,9 @@ class Server:
     def __init__(self, path, store, port=None, **how):
         self.port = port or free_port()
         words = [path, "serve", store, f"127.0.0.1:{self.port}"]
-        self.child = subprocess.Popen(words, stdin=subprocess.DEVNULL, stdout=subprocess.DEVNULL, **how)
+        self.child = subprocess.Popen(
+            words, stdin=subprocess.DEVNULL, stdout=subprocess.DEVNULL, **how
+        )
 
     def connect(self):
         """A connection, once the server listens."""
@@ -151,8 +153,10 @@ def get(path, key=None):
 
 def post(name, key, activity):
     body = json.dumps(activity)
-    return (f"POST /users/{name}/outbox HTTP/1.1\r\nHost: {HOST}\r\nAuthorization: Bearer {key}\r\n"
-            f"Content-Type: application/json\r\nContent-Length: {len(body)}\r\n\r\n{body}").encode()
+    return (
+        f"POST /users/{name}/outbox HTTP/1.1\r\nHost: {HOST}\r\nAuthorization: Bearer {key}\r\n"
+        f"Content-Type: application/json\r\nContent-Length: {len(body)}\r\n\r\n{body}"
+    ).encode()
 
 
 def note(content, to="Public"):
@@ -164,7 +168,9 @@ def path_of(location):
 
 
 def side_by_side(work, items):
-    """Calls `work` with each item, each in a thread of its own, and returns what they return. An exception of one is raised here."""
+    """Calls `work` with each item, each in a thread of its own, and returns what they return. An
+    exception of one is raised here.
+    """
     items = list(items)
     results, failures = [None] * len(items), []
 

@@ -1,4 +1,6 @@
-"""Chromium without a window, driven over a pipe by the DevTools protocol, with clicks and keys as a person's."""
+"""Chromium without a window, driven over a pipe by the DevTools protocol, with clicks and keys as a
+person's.
+"""
 import base64
 import json
 import os
@@ -11,9 +13,21 @@ PATIENCE, ANSWER = 40, 90
 # And for a screen, which may read a whole log.
 LONG = 300
 
-OPTIONS = ["--headless=new", "--no-sandbox", "--disable-gpu", "--disable-dev-shm-usage", "--no-first-run", "--disable-background-networking",
-           "--disable-component-update", "--disable-sync", "--disable-extensions", "--ignore-certificate-errors", "--hide-scrollbars",
-           "--lang=en", "--remote-debugging-pipe"]
+OPTIONS = [
+    "--headless=new",
+    "--no-sandbox",
+    "--disable-gpu",
+    "--disable-dev-shm-usage",
+    "--no-first-run",
+    "--disable-background-networking",
+    "--disable-component-update",
+    "--disable-sync",
+    "--disable-extensions",
+    "--ignore-certificate-errors",
+    "--hide-scrollbars",
+    "--lang=en",
+    "--remote-debugging-pipe",
+]
 
 # The middle of an element by its kind and the text or label with which its name begins.
 LOCATE = """(kind, text, nth) => {
@@ -32,7 +46,9 @@ class Problem(Exception):
 
 
 class Browser:
-    """A browser with a profile of its own in a folder. `hosts` gives the port of this machine for each host."""
+    """A browser with a profile of its own in a folder. `hosts` gives the port of this machine for
+    each host.
+    """
 
     def __init__(self, folder, hosts):
         told, self.tells = os.pipe()
@@ -45,9 +61,21 @@ class Browser:
             os.dup2(one, 3)
             os.dup2(other, 4)
 
-        words = ["chromium", *OPTIONS, f"--user-data-dir={folder}/profile", f"--host-resolver-rules={rules}"]
+        words = [
+            "chromium",
+            *OPTIONS,
+            f"--user-data-dir={folder}/profile",
+            f"--host-resolver-rules={rules}",
+        ]
         with open(f"{folder}/chromium.log", "wb") as log:
-            self.child = subprocess.Popen(words, preexec_fn=pipes, close_fds=False, stdin=subprocess.DEVNULL, stdout=log, stderr=log)
+            self.child = subprocess.Popen(
+                words,
+                preexec_fn=pipes,
+                close_fds=False,
+                stdin=subprocess.DEVNULL,
+                stdout=log,
+                stderr=log,
+            )
         os.close(told)
         os.close(heard)
         self.bytes, self.number, self.events = b"", 0, []
@@ -67,7 +95,9 @@ class Browser:
     def send(self, method, session=None, **params):
         self.number += 1
         number = self.number
-        message = {"id": number, "method": method, "params": params} | ({"sessionId": session} if session else {})
+        message = {"id": number, "method": method, "params": params} | (
+            {"sessionId": session} if session else {}
+        )
         os.write(self.tells, json.dumps(message).encode() + b"\0")
         until = time.monotonic() + ANSWER
         while message := self.read(until - time.monotonic()):
@@ -106,11 +136,21 @@ class Page:
     def __init__(self, browser, width=1000, height=900, mobile=False, scale=1):
         self.browser = browser
         self.context = browser.send("Target.createBrowserContext")["browserContextId"]
-        target = browser.send("Target.createTarget", url="about:blank", browserContextId=self.context)["targetId"]
-        self.session = browser.send("Target.attachToTarget", targetId=target, flatten=True)["sessionId"]
+        target = browser.send(
+            "Target.createTarget", url="about:blank", browserContextId=self.context
+        )["targetId"]
+        self.session = browser.send("Target.attachToTarget", targetId=target, flatten=True)[
+            "sessionId"
+        ]
         for domain in ("Page", "Runtime", "Network", "Log", "Accessibility"):
             self.send(f"{domain}.enable")
-        self.send("Emulation.setDeviceMetricsOverride", width=width, height=height, deviceScaleFactor=scale, mobile=mobile)
+        self.send(
+            "Emulation.setDeviceMetricsOverride",
+            width=width,
+            height=height,
+            deviceScaleFactor=scale,
+            mobile=mobile,
+        )
 
     def send(self, method, **params):
         return self.browser.send(method, self.session, **params)
@@ -120,8 +160,14 @@ class Page:
 
     def eval(self, code):
         """The value of an expression, under the page's own policy."""
-        told = self.send("Runtime.evaluate", expression=code, awaitPromise=True, returnByValue=True, userGesture=True,
-                         allowUnsafeEvalBlockedByCSP=False)
+        told = self.send(
+            "Runtime.evaluate",
+            expression=code,
+            awaitPromise=True,
+            returnByValue=True,
+            userGesture=True,
+            allowUnsafeEvalBlockedByCSP=False,
+        )
         if "exceptionDetails" in told:
             raise Problem(json.dumps(told["exceptionDetails"])[:500])
         return told["result"].get("value")
@@ -142,13 +188,22 @@ class Page:
         self.send("Page.navigate", url=url)
 
     def at(self, kind, text=None, nth=0):
-        return self.wait(f"({LOCATE})({json.dumps(kind)}, {json.dumps(text)}, {nth})", f"{kind} {text or ''}")
+        return self.wait(
+            f"({LOCATE})({json.dumps(kind)}, {json.dumps(text)}, {nth})", f"{kind} {text or ''}"
+        )
 
     def click(self, kind, text=None, nth=0, times=1):
         x, y = self.at(kind, text, nth)
         for count in range(1, times + 1):
             for event in ("mousePressed", "mouseReleased"):
-                self.send("Input.dispatchMouseEvent", type=event, x=x, y=y, button="left", clickCount=count)
+                self.send(
+                    "Input.dispatchMouseEvent",
+                    type=event,
+                    x=x,
+                    y=y,
+                    button="left",
+                    clickCount=count,
+                )
 
     def fill(self, kind, text, label=None, nth=0):
         self.click(kind, label, nth)
@@ -161,7 +216,14 @@ class Page:
     def key(self, key, number, text=None):
         for event in ("keyDown", "keyUp"):
             more = {"text": text} if text and event == "keyDown" else {}
-            self.send("Input.dispatchKeyEvent", type=event, key=key, code=key, windowsVirtualKeyCode=number, **more)
+            self.send(
+                "Input.dispatchKeyEvent",
+                type=event,
+                key=key,
+                code=key,
+                windowsVirtualKeyCode=number,
+                **more,
+            )
 
     def tab(self):
         self.key("Tab", 9)
@@ -173,7 +235,9 @@ class Page:
         return self.eval("document.body.innerText")
 
     def has(self, text, seconds=PATIENCE):
-        return self.wait(f"document.body.innerText.includes({json.dumps(text)})", f"text '{text}'", seconds)
+        return self.wait(
+            f"document.body.innerText.includes({json.dumps(text)})", f"text '{text}'", seconds
+        )
 
     def picture(self, path):
         self.eval("new Promise(done => setTimeout(done, 150))")
@@ -184,8 +248,11 @@ class Page:
 
     def settle(self, turn=-1):
         """Waits until a screen is shown, later than this turn."""
-        self.wait(f"(m => m?.dataset.view && m.dataset.turn > {turn} && !m.hasAttribute('aria-busy'))(document.getElementById('main'))",
-                  "screen", LONG)
+        self.wait(
+            f"(m => m?.dataset.view && m.dataset.turn > {turn} && !m.hasAttribute('aria-busy'))(document.getElementById('main'))",
+            "screen",
+            LONG,
+        )
 
     def go(self, place):
         """Goes to a screen: by the link of this text, or by its address, which begins with #."""
@@ -206,7 +273,7 @@ class Page:
         return self.eval("document.getElementById('main').dataset.view")
 
     def in_note(self, text, action):
-        """What a function of an article does with the one in which this text is, once there is one."""
+        """What a function of an article does with the one that has this text, once there is one."""
         found = f"[...document.querySelectorAll('article')].find(a => a.textContent.includes({json.dumps(text)}))"
         return self.wait(f"({found}) && ({action})({found})", f"note '{text}'")
 
@@ -216,6 +283,9 @@ class Page:
 
     def press(self, text, button):
         """Clicks a button of the note of this text."""
-        self.in_note(text, "a => { document.querySelectorAll('[data-picked]').forEach(e => delete e.dataset.picked);"
-                           " a.dataset.picked = ''; return true; }")
+        self.in_note(
+            text,
+            "a => { document.querySelectorAll('[data-picked]').forEach(e => delete e.dataset.picked);"
+            " a.dataset.picked = ''; return true; }",
+        )
         self.click("article[data-picked] button", button)

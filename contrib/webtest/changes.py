@@ -10,31 +10,80 @@ from town import PUBLIC
 
 
 def without_refresh(stage, check):
-    """A refresh takes the browser to another page, whatever else there is: so without it is seen what else would happen."""
+    """A refresh takes the browser to another page, whatever else there is: so without it is seen
+    what else would happen.
+    """
     stage.without = ("refresh",)
 
 
 def signed_in(stage, check):
     """Three members, and a note to show."""
-    stage.town.post("ana", {"type": "Note", "content": "<p>A note</p>", "to": [PUBLIC, stage.town.id("ben")]})
+    stage.town.post(
+        "ana", {"type": "Note", "content": "<p>A note</p>", "to": [PUBLIC, stage.town.id("ben")]}
+    )
     stage.pages = {name: stage.member(name) for name in ("ana", "ben", "cleo")}
 
 
-UNSAFE = ("safe.js", "build(parse(text), place, 0, local);", "place.innerHTML = policy.createHTML(text);")
-# What is changed, as file, text and new text; whether the policy stays; and the steps, one of which has to fail.
+UNSAFE = (
+    "safe.js",
+    "build(parse(text), place, 0, local);",
+    "place.innerHTML = policy.createHTML(text);",
+)
+# What is changed, as file, text and new text; whether the policy stays; and the steps, one of which
+# has to fail.
 CHANGES = {
-    "links of any scheme": ([("safe.js", "['https:', 'http:', 'mailto:'].includes(url.protocol);", "true;")], True, [hostile.contents]),
+    "links of any scheme": (
+        [("safe.js", "['https:', 'http:', 'mailto:'].includes(url.protocol);", "true;")],
+        True,
+        [hostile.contents],
+    ),
     "HTML of others as it is": ([UNSAFE], True, [without_refresh, hostile.contents]),
     "no policy": ([], False, [hostile.policy]),
-    "HTML of others as it is, and no policy": ([UNSAFE], False, [without_refresh, hostile.contents]),
-    "a new Idempotency-Key for each try": ([("server.js", "pending.get(body) ?? ", "")], True, [hostile.lost_lines]),
-    "no Idempotency-Key": ([("server.js", ", 'Idempotency-Key': repeat", "")], True, [hostile.lost_lines]),
-    "a key that always stays": ([("server.js", "storages[stays ? 1 : 0]", "storages[1]")], True, [signed_in, clicks.signing_out]),
-    "ids of other hosts taken for this one's": ([("server.js", "url.origin === site && ", "")], True, [signed_in, clicks.signing_out]),
-    "notes without content": ([("app.js", "shown(note.content ?? note.name ?? '', local)", "shown('', local)")], True, [signed_in, clicks.writing]),
-    "buttons that are wider than a phone": ([("style.css", ".does { display", ".does { min-width: 30rem; display")], True, [signed_in, clicks.phone]),
-    "a list of members with whatever is in it": ([("server.js", "typeof name === 'string' && /^[a-z0-9_]+$/.test(name)", "true")], True, [hostile.listed]),
-    "fields without labels": ([("page.js", "el('label', {}, label, input)", "el('div', {}, label, input)")], True, [clicks.keyboard]),
+    "HTML of others as it is, and no policy": (
+        [UNSAFE],
+        False,
+        [without_refresh, hostile.contents],
+    ),
+    "a new Idempotency-Key for each try": (
+        [("server.js", "pending.get(body) ?? ", "")],
+        True,
+        [hostile.lost_lines],
+    ),
+    "no Idempotency-Key": (
+        [("server.js", ", 'Idempotency-Key': repeat", "")],
+        True,
+        [hostile.lost_lines],
+    ),
+    "a key that always stays": (
+        [("server.js", "storages[stays ? 1 : 0]", "storages[1]")],
+        True,
+        [signed_in, clicks.signing_out],
+    ),
+    "ids of other hosts taken for this one's": (
+        [("server.js", "url.origin === site && ", "")],
+        True,
+        [signed_in, clicks.signing_out],
+    ),
+    "notes without content": (
+        [("app.js", "shown(note.content ?? note.name ?? '', local)", "shown('', local)")],
+        True,
+        [signed_in, clicks.writing],
+    ),
+    "buttons that are wider than a phone": (
+        [("style.css", ".does { display", ".does { min-width: 30rem; display")],
+        True,
+        [signed_in, clicks.phone],
+    ),
+    "a list of members with whatever is in it": (
+        [("server.js", "typeof name === 'string' && /^[a-z0-9_]+$/.test(name)", "true")],
+        True,
+        [hostile.listed],
+    ),
+    "fields without labels": (
+        [("page.js", "el('label', {}, label, input)", "el('div', {}, label, input)")],
+        True,
+        [clicks.keyboard],
+    ),
 }
 
 

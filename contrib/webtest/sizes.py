@@ -5,7 +5,21 @@ from collections import Counter
 
 from browser import Browser, Page
 from serving import HOST
-from stores import ACCEPT, ANNOUNCE, FOLLOW, LIKE, PUBLIC, hosted, id_of, local, made, name_of, note, of, write
+from stores import (
+    ACCEPT,
+    ANNOUNCE,
+    FOLLOW,
+    LIKE,
+    PUBLIC,
+    hosted,
+    id_of,
+    local,
+    made,
+    name_of,
+    note,
+    of,
+    write,
+)
 from town import Town
 
 MEMBERS, NOTES, ACTIVITIES, LIMIT = 12, 2300, 5000, 12
@@ -20,9 +34,19 @@ class Log:
     """The entries of a store, and how many activities each member has."""
 
     def __init__(self, members):
-        digest = lambda member: hashlib.sha256(bytes.fromhex(KEY)).digest() if member == 0 else member.to_bytes(32, "big")
+        digest = (
+            lambda member: hashlib.sha256(bytes.fromhex(KEY)).digest()
+            if member == 0
+            else member.to_bytes(32, "big")
+        )
         self.at = BEGUN
-        self.entries = [hosted(BEGUN), *(made(name_of(member), digest(member), BEGUN, locked=member == 0) for member in range(members))]
+        self.entries = [
+            hosted(BEGUN),
+            *(
+                made(name_of(member), digest(member), BEGUN, locked=member == 0)
+                for member in range(members)
+            ),
+        ]
         self.counts, self.notes = [0] * members, []
 
     def post(self, member, activity, seconds=60):
@@ -33,8 +57,9 @@ class Log:
 
 
 def lively(members, notes):
-    """A town whose members follow each other, and write, answer, like and boost. The first is locked, and two wait for an answer. The newest
-    activities are boosts."""
+    """A town whose members follow each other, and write, answer, like and boost. The first is
+    locked, and two wait for an answer. The newest activities are boosts.
+    """
     draw, log = random.Random(1), Log(members)
     for one in range(members):
         for other in range(members):
@@ -47,9 +72,19 @@ def lively(members, notes):
                 log.post(0, of(ACCEPT, f"{id_of(one)}/a/{follow}"))
     for number in range(notes):
         one = draw.randrange(members)
-        answered = "%s/o/%d" % draw.choice(log.notes[-40:]) if log.notes and number % 4 == 0 else None
+        answered = (
+            "%s/o/%d" % draw.choice(log.notes[-40:]) if log.notes and number % 4 == 0 else None
+        )
         content = f"<p>{' '.join(draw.choices(WORDS, k=40))}</p>"
-        place = log.post(one, note([PUBLIC], [f"{id_of(one)}/followers"] + ([answered.split("/o/")[0]] if answered else []), content, answered))
+        place = log.post(
+            one,
+            note(
+                [PUBLIC],
+                [f"{id_of(one)}/followers"] + ([answered.split("/o/")[0]] if answered else []),
+                content,
+                answered,
+            ),
+        )
         log.notes.append((id_of(one), place))
         log.post(draw.randrange(members), of(LIKE, "%s/o/%d" % draw.choice(log.notes[-40:])))
         if number % 8 == 0:
@@ -61,11 +96,15 @@ def lively(members, notes):
 
 
 def boost(log, draw, member):
-    return of(ANNOUNCE, "%s/o/%d" % draw.choice(log.notes[-40:]), [PUBLIC], [f"{id_of(member)}/followers"])
+    return of(
+        ANNOUNCE, "%s/o/%d" % draw.choice(log.notes[-40:]), [PUBLIC], [f"{id_of(member)}/followers"]
+    )
 
 
 class Screens:
-    """What each screen asks for: at the first visit, and at a second one after the page was loaded again."""
+    """What each screen asks for: at the first visit, and at a second one after the page was loaded
+    again.
+    """
 
     def __init__(self, page, check):
         self.page, self.check = page, check
@@ -84,17 +123,30 @@ class Screens:
         return paths
 
     def paths(self):
-        urls = [event["request"]["url"] for event in self.page.browser.happened("Network.requestWillBeSent")]
-        return [url.split(HOST, 1)[1] for url in urls if f"{HOST}/users/" in url or f"{HOST}/.well-known/" in url]
+        urls = [
+            event["request"]["url"]
+            for event in self.page.browser.happened("Network.requestWillBeSent")
+        ]
+        return [
+            url.split(HOST, 1)[1]
+            for url in urls
+            if f"{HOST}/users/" in url or f"{HOST}/.well-known/" in url
+        ]
 
     def visit(self, name, act, shows="document.querySelectorAll('article, .line').length > 0"):
         first = self.asked(act)
         self.check(f"{name} shows something at the first visit", self.page.eval(shows))
-        twice = [path for path, count in Counter(first).items() if count > 1 and "box?page=" in path]
+        twice = [
+            path for path, count in Counter(first).items() if count > 1 and "box?page=" in path
+        ]
         second = self.asked(self.load_again)
         self.check(f"{name} shows something at a second visit", self.page.eval(shows))
         print(f"       {name}: {len(first)} requests, then {len(second)}", flush=True)
-        self.check(f"{name} takes {LIMIT} requests or fewer at a second visit", len(second) <= LIMIT, f"{second}")
+        self.check(
+            f"{name} takes {LIMIT} requests or fewer at a second visit",
+            len(second) <= LIMIT,
+            f"{second}",
+        )
         self.check(f"{name} asks for no page of a log twice", not twice, f"{twice}")
 
     def load_again(self):
@@ -138,13 +190,24 @@ def member_screens(page, log, check):
     screens.visit("home", sign_in, "document.querySelectorAll('article').length >= 4")
     own = [object for object in log.notes if object[0] == id_of(0)][-5]
     other = [object for object in log.notes if object[0] == id_of(3)][-5]
-    for name, place in (("notices", "Notices"), ("people", "People"), ("requests", "Requests"), ("one's own profile", f"#/@{me}"),
-                        ("another's profile", f"#/@{name_of(3)}"), ("one's own note", place_of("%s/o/%d" % own)),
-                        ("another's note", place_of("%s/o/%d" % other))):
+    for name, place in (
+        ("notices", "Notices"),
+        ("people", "People"),
+        ("requests", "Requests"),
+        ("one's own profile", f"#/@{me}"),
+        ("another's profile", f"#/@{name_of(3)}"),
+        ("one's own note", place_of("%s/o/%d" % own)),
+        ("another's note", place_of("%s/o/%d" % other)),
+    ):
         screens.visit(name, go(place))
     page.go("Requests")
     check("two wait for an answer", page.eval("document.querySelectorAll('.line').length") == 2)
-    acts = (("older notes", older), ("a Like", lambda: press("Liked.")), ("taking it back", lambda: press("Taken back.")), ("a note", write_note))
+    acts = (
+        ("older notes", older),
+        ("a Like", lambda: press("Liked.")),
+        ("taking it back", lambda: press("Taken back.")),
+        ("a note", write_note),
+    )
     for name, act in acts:
         page.go("Home")
         count = len(screens.asked(act))
@@ -154,7 +217,10 @@ def member_screens(page, log, check):
 
 def stranger_screens(page, log, check):
     screens = Screens(page, check)
-    for name, place in (("a profile for strangers", f"#/@{name_of(3)}"), ("a note for strangers", place_of("%s/o/%d" % log.notes[-5]))):
+    for name, place in (
+        ("a profile for strangers", f"#/@{name_of(3)}"),
+        ("a note for strangers", place_of("%s/o/%d" % log.notes[-5])),
+    ):
         screens.visit(name, lambda: page.go(place))
 
 
@@ -162,7 +228,9 @@ def sizes(path, folder, check):
     """A store that is written for this, a member who was never here, and a stranger."""
     log = lively(MEMBERS, NOTES)
     write(f"{folder}/lively", log.entries)
-    town = Town(path, f"{folder}/large", HOST, [], store=f"{folder}/lively", keys={name_of(0): KEY}).serve()
+    town = Town(
+        path, f"{folder}/large", HOST, [], store=f"{folder}/lively", keys={name_of(0): KEY}
+    ).serve()
     browser = Browser(folder, {HOST: town.site.tls})
     try:
         for part in (member_screens, stranger_screens):

@@ -44,11 +44,15 @@ class Checks:
 
 
 class Stage:
-    """The town club.example, whose page is tried, its peer hill.example, and a page of another origin."""
+    """The town club.example, whose page is tried, its peer hill.example, and a page of another
+    origin.
+    """
 
     def __init__(self, path, folder, page=None, policy=True, pictures=None):
         self.folder, self.pictures = folder, pictures
-        self.town = Town(path, f"{folder}/club", HOST, ["ana", "ben", "cleo", "dan"], page, policy, [HILL])
+        self.town = Town(
+            path, f"{folder}/club", HOST, ["ana", "ben", "cleo", "dan"], page, policy, [HILL]
+        )
         self.hill = Town(path, f"{folder}/hill", HILL, ["dora"])
         self.shared = f"{folder}/shared.key"
         with open(os.open(self.shared, os.O_WRONLY | os.O_CREAT, 0o600), "w") as file:
@@ -61,8 +65,16 @@ class Stage:
         self.hill.serve()
         self.open = Site(f"{folder}/open", self.town.server.port, OPEN, cors=True)
         self.elsewhere = Elsewhere(f"{folder}/open/certificate", f"{folder}/open/key")
-        self.browser = Browser(folder, {HOST: self.town.site.tls, HILL: self.hill.site.tls, OPEN: self.open.tls,
-                                        OTHER: self.elsewhere.port, EVIL: self.elsewhere.port})
+        self.browser = Browser(
+            folder,
+            {
+                HOST: self.town.site.tls,
+                HILL: self.hill.site.tls,
+                OPEN: self.open.tls,
+                OTHER: self.elsewhere.port,
+                EVIL: self.elsewhere.port,
+            },
+        )
         self.pages, self.places = {}, {}
         # Hostile contents that are left out, by their names.
         self.without = ()
@@ -117,7 +129,19 @@ class Stage:
 
     def deliver(self, sender, receiver, name, activity):
         """Delivers an activity to a member's inbox, as the server of `sender` would."""
-        words = [os.path.join(os.path.dirname(HERE), "deliver-to"), "--host", sender.host, "--key", self.shared, "--timeout", "60",
-                 f"http://127.0.0.1:{receiver.server.port}", f"/users/{name}/inbox", "-"]
-        done = subprocess.run([sys.executable, *words], input=activity, capture_output=True, text=True)
+        words = [
+            os.path.join(os.path.dirname(HERE), "deliver-to"),
+            "--host",
+            sender.host,
+            "--key",
+            self.shared,
+            "--timeout",
+            "60",
+            f"http://127.0.0.1:{receiver.server.port}",
+            f"/users/{name}/inbox",
+            "-",
+        ]
+        done = subprocess.run(
+            [sys.executable, *words], input=activity, capture_output=True, text=True
+        )
         return done.stdout.startswith("202")

@@ -8,7 +8,10 @@ import sys
 import threading
 
 HERE = os.path.dirname(os.path.abspath(__file__))
-sys.path[:0] = [os.path.dirname(HERE), os.path.join(os.path.dirname(os.path.dirname(HERE)), "bench")]
+sys.path[:0] = [
+    os.path.dirname(HERE),
+    os.path.join(os.path.dirname(os.path.dirname(HERE)), "bench"),
+]
 
 from proxy import Site, tool  # noqa: E402, F401
 from serving import HOME, HOST, Server, Talk, activities, program, told  # noqa: E402, F401
@@ -20,14 +23,21 @@ PUBLIC = "Public"
 class Town:
     """A store that is served, with its members' keys, and the site in front of it."""
 
-    def __init__(self, path, folder, host, names, page=None, policy=True, asks=(), store=None, keys=None):
+    def __init__(
+        self, path, folder, host, names, page=None, policy=True, asks=(), store=None, keys=None
+    ):
         self.path, self.folder, self.host = path, folder, host
         os.makedirs(folder)
         self.store, self.keys = store, keys
         if store is None:
             self.store = f"{folder}/store"
             told(path, "init", self.store, host)
-            self.keys = {name: told(path, "add-actor", self.store, name, *(["--locked"] if name == "dan" else []))[1] for name in names}
+            self.keys = {
+                name: told(
+                    path, "add-actor", self.store, name, *(["--locked"] if name == "dan" else [])
+                )[1]
+                for name in names
+            }
         self.page = page or os.path.join(HOME, "contrib/web")
         self.policy, self.asks, self.server, self.site = policy, asks, None, None
 
@@ -37,9 +47,23 @@ class Town:
     def serve(self):
         self.server = Server(self.path, self.store)
         Talk(self.server).close()
-        changes = [] if self.policy else [(r'add_header Content-Security-Policy "default-src \'none\'; script-src', 'add_header X-Off "')]
+        changes = (
+            []
+            if self.policy
+            else [
+                (
+                    r'add_header Content-Security-Policy "default-src \'none\'; script-src',
+                    'add_header X-Off "',
+                )
+            ]
+        )
         if self.asks:
-            changes.append(("connect-src 'self'", " ".join(["connect-src 'self'", *(f"https://{host}" for host in self.asks)])))
+            changes.append(
+                (
+                    "connect-src 'self'",
+                    " ".join(["connect-src 'self'", *(f"https://{host}" for host in self.asks)]),
+                )
+            )
         self.site = Site(f"{self.folder}/nginx", self.server.port, self.host, self.page, changes)
         self.site.connect().close()
         return self
@@ -48,12 +72,21 @@ class Town:
         return f"https://{self.host}/users/{name}"
 
     def ask(self, method, path, name=None, body=None):
-        """The status, the fields and the document of a request to the server itself, as a member or as nobody."""
+        """The status, the fields and the document of a request to the server itself, as a member or
+        as nobody.
+        """
         shown = f"Authorization: Bearer {self.keys[name]}\r\n" if name else ""
         text = b"" if body is None else json.dumps(body).encode()
-        more = "" if body is None else f"Content-Type: application/activity+json\r\nContent-Length: {len(text)}\r\n"
+        more = (
+            ""
+            if body is None
+            else f"Content-Type: application/activity+json\r\nContent-Length: {len(text)}\r\n"
+        )
         with Talk(self.server) as talk:
-            status, fields, told = talk.ask(f"{method} {path} HTTP/1.1\r\nHost: {self.host}\r\n{shown}{more}\r\n".encode() + text)
+            status, fields, told = talk.ask(
+                f"{method} {path} HTTP/1.1\r\nHost: {self.host}\r\n{shown}{more}\r\n".encode()
+                + text
+            )
         return status, fields, json.loads(told or "null")
 
     def post(self, name, body):
@@ -66,14 +99,26 @@ class Town:
         return self.ask("GET", first.removeprefix(f"https://{self.host}"), name)[2]["orderedItems"]
 
     def list_members(self):
-        """Makes the list of members of a copy of the store, as the units of contrib/systemd do, and returns whether that went well."""
-        contrib, programs, copies = os.path.dirname(HERE), f"{self.folder}/programs", f"{self.folder}/copies"
+        """Makes the list of members of a copy of the store, as the units of contrib/systemd do, and
+        returns whether that went well.
+        """
+        contrib, programs, copies = (
+            os.path.dirname(HERE),
+            f"{self.folder}/programs",
+            f"{self.folder}/copies",
+        )
         for folder in (programs, copies):
             os.makedirs(folder)
         os.symlink(self.path, f"{programs}/fedi")
         found = os.environ | {"PATH": f"{programs}:{os.environ['PATH']}"}
-        steps = ([f"{contrib}/fedi-copy", self.store, copies, "1"], [f"{contrib}/fedi-members", copies, self.list()])
-        return all(subprocess.run(words, env=found, stdout=subprocess.DEVNULL).returncode == 0 for words in steps)
+        steps = (
+            [f"{contrib}/fedi-copy", self.store, copies, "1"],
+            [f"{contrib}/fedi-members", copies, self.list()],
+        )
+        return all(
+            subprocess.run(words, env=found, stdout=subprocess.DEVNULL).returncode == 0
+            for words in steps
+        )
 
     def list(self):
         """Where the site has the list of members."""
@@ -83,7 +128,9 @@ class Town:
         return self.ask("GET", f"/users/{collection}", name)[2].get("totalItems")
 
     def end(self):
-        """Ends what was started, and returns how many activities are in the store, which has to be whole."""
+        """Ends what was started, and returns how many activities are in the store, which has to be
+        whole.
+        """
         if self.site:
             self.site.end()
         if self.server:
@@ -104,6 +151,7 @@ class Elsewhere:
                 self.send_header("Content-Type", "text/html")
                 self.end_headers()
                 self.wfile.write(b"<title>other</title>")
+
             do_POST = do_GET
 
             def log_message(self, *_):
