@@ -9,6 +9,7 @@ ghost use Rattle.fedi_town.specs.Activities.{receive_ref, remote_act};
 ghost use Rattle.fedi_town.specs.Deeds.{deed_of};
 ghost use Rattle.fedi_town.specs.Effects.{acceptance};
 ghost use Rattle.fedi_town.specs.Histories.{delivery_addition, inbox_addition, is_known};
+ghost use Rattle.fedi_town.specs.Objects.{emptied};
 ghost use Rattle.fedi_town.specs.Relations.{ref_id};
 ghost use Rattle.fedi_town.specs.Towns.{id_of};
 ghost use Rattle.fedi_effects.specs.Subjects.{subject_of};
@@ -61,15 +62,36 @@ fn is_tombstone(object: &Object) -> bool
     object.kind.text() == TOMBSTONE
 }
 
-// An object that another server gives: a Tombstone is completed.
-#[tactic(auto, unfolding(fedi_town::specs::Activities::receive_object))]
-fn receive_object(alloc: Global, object: &mut Object, moment: Moment) -> Result<(), AllocError>
-    ensures { OnOk result (object.new ≡ receive_object moment object.old) }
+// Clears everything that an Update may set.
+fn empty(alloc: Global, object: &mut Object)
+    ensures { object.new ≡ emptied object.old }
 {
-    if is_tombstone(object) {
-        return complete_tombstone(alloc, object, moment);
+    set(&mut object.content, None);
+    set(&mut object.summary, None);
+    set(&mut object.name, None);
+    set(&mut object.url, None);
+    set(&mut object.in_reply_to, None);
+    set(&mut object.tags, Items::empty(alloc));
+}
+
+// An object that another server gives: a Tombstone is completed, and one that is created is empty
+// beside that, as is what a Delete leaves.
+#[tactic(auto, unfolding(fedi_town::specs::Activities::receive_object))]
+fn receive_object(
+    alloc: Global,
+    deed: Deed,
+    object: &mut Object,
+    moment: Moment,
+) -> Result<(), AllocError>
+    ensures { OnOk result (object.new ≡ receive_object deed moment object.old) }
+{
+    if !is_tombstone(object) {
+        return Ok(());
     }
-    Ok(())
+    if matches!(deed, Deed::Create) {
+        empty(alloc, object);
+    }
+    complete_tombstone(alloc, object, moment)
 }
 
 fn attribute(object: &mut Object, author: Iri)
@@ -81,16 +103,17 @@ fn attribute(object: &mut Object, author: Iri)
 // What an activity of another server is about.
 fn receive_ref(
     alloc: Global,
+    deed: Deed,
     object: &mut ObjectRef,
     author: &Iri,
     moment: Moment,
 ) -> Result<(), AllocError>
-    ensures { OnOk result (object.new ≡ receive_ref author.now moment object.old) }
+    ensures { OnOk result (object.new ≡ receive_ref deed author.now moment object.old) }
 {
     match object {
         ObjectRef::Whole(object) => {
             let author = author.clone()?;
-            receive_object(alloc, object.get_mut(), moment)?;
+            receive_object(alloc, deed, object.get_mut(), moment)?;
             attribute(object.get_mut(), author);
             Ok(())
         }
@@ -107,11 +130,12 @@ fn received(
     moment: Moment,
 ) -> Result<Boxed<Activity>, AllocError>
     ensures { IfOk result (λ a. a ≡ record delivered.now {
-      object = receive_ref author.now moment delivered.now.object;
+      object = receive_ref (deed_of delivered.now.kind) author.now moment delivered.now.object;
     }) }
 {
+    let deed = Deed::of(delivered.get().kind);
     let mut activity = delivered.clone()?;
-    receive_ref(alloc, &mut activity.get_mut().object, author, moment)?;
+    receive_ref(alloc, deed, &mut activity.get_mut().object, author, moment)?;
     Ok(activity)
 }
 

@@ -9,10 +9,10 @@ use Rattle.fedi_objects.specs.declared.object.Object.{Object}
 use Rattle.fedi_objects.specs.Forms.{is_tombstone}
 use Rattle.fedi_town.specs.Activities.{complete_tombstone, receive_object, receive_ref}
 use Rattle.fedi_town.specs.Addressing.{act_of}
-use Rattle.fedi_town.specs.Deeds.{is_follow, is_done, is_open, is_pending, is_standing}
+use Rattle.fedi_town.specs.Deeds.{is_create, is_follow, is_done, is_open, is_pending, is_standing}
 use Rattle.fedi_town.specs.Effects.{where_passes, in_state, end_follow, is_pending_follow, is_standing_activity, affect, pair_ends, follow_ends, undo_effect, effect_about, effect_with, effect_of, takes_effect}
 use Rattle.fedi_town.specs.Histories.{with_recipient}
-use Rattle.fedi_town.specs.Objects.{makes, rewrite_act, rewrite_ref, update_object, change_object, replace_object, tombstone_of}
+use Rattle.fedi_town.specs.Objects.{emptied, makes, rewrite_act, rewrite_ref, update_object, change_object, replace_object, tombstone_of}
 use Rattle.fedi_town.specs.Relations.{ref_id, has_activity_id, is_about, is_open_follow}
 use Rattle.fedi_town.specs.Towns.{Town, deed}
 use Rattle.fedi_town.specs.declared.act.Act.{Act}
@@ -182,15 +182,17 @@ choice-id : (b : Bool) (x y : Object) → x.id ≡ y.id → (if b then x else y)
 choice-id true x y e = e
 choice-id false x y e = refl
 
-received-id : (moment : ℕ) (o : Object) → (receive_object moment o).id ≡ o.id
+received-id : (d : Deed) (moment : ℕ) (o : Object) → (receive_object d moment o).id ≡ o.id
 unfolding receive_object
-received-id moment o = choice-id (is_tombstone o) (complete_tombstone moment o) o refl
+received-id d moment o =
+    choice-id (is_tombstone o) (complete_tombstone moment (if is_create d then emptied o else o)) o
+    (choice-id (is_create d) (emptied o) o refl)
 
-pub ref_received : (author : List ℕ) (moment : ℕ) (r : ObjectRef) → ref_id (receive_ref author moment r) ≡ ref_id r
-ref_received author moment Nothing = refl
-ref_received author moment (Id iri) = refl
-ref_received author moment (Whole o) = received-id moment o
-ref_received author moment (Changed c) = refl
+pub ref_received : (d : Deed) (author : List ℕ) (moment : ℕ) (r : ObjectRef) → ref_id (receive_ref d author moment r) ≡ ref_id r
+ref_received d author moment Nothing = refl
+ref_received d author moment (Id iri) = refl
+ref_received d author moment (Whole o) = received-id d moment o
+ref_received d author moment (Changed c) = refl
 
 -- ---- one more recipient
 

@@ -13,9 +13,11 @@ use Rattle.fedi_town.specs.declared.act.Act.{Act}
 use Rattle.fedi_town.specs.Addressing.{complete_recipients, recipients_with, original}
 use Rattle.fedi_town.specs.Addressing.{original_recipients, is_original_public}
 use Rattle.fedi_town.specs.Addressing.{is_original_for_followers}
-use Rattle.fedi_town.specs.Deeds.{deed_of, is_done}
+use Rattle.fedi_town.specs.declared.deed.Deed.{Deed}
+use Rattle.fedi_town.specs.Deeds.{deed_of, is_create, is_done}
 use Rattle.fedi_town.specs.Forwarding.{forwards_of}
 use Rattle.fedi_town.specs.Ids.{actor_id, activity_id, object_id, followers_id}
+use Rattle.fedi_town.specs.Objects.{emptied}
 use Rattle.fedi_town.specs.Relations.{ref_id}
 use Rattle.fedi_town.specs.States.{state_of}
 use Rattle.fedi_town.specs.Towns.{Town, count_of}
@@ -87,9 +89,12 @@ complete_tombstone moment o = record o {
   deleted = Some (unwrap_or o.deleted (moment_text moment));
 }
 
--- an object from another server: a Tombstone is completed
-unfoldable pub receive_object : ℕ → Object → Object
-receive_object moment o = if is_tombstone o then complete_tombstone moment o else o
+-- an object that an activity of this kind brings from another server: a Tombstone is completed, and
+-- one that is created keeps nothing that a deleted object loses
+unfoldable pub receive_object : Deed → ℕ → Object → Object
+receive_object deed moment o =
+    if is_tombstone o
+    then complete_tombstone moment (if is_create deed then emptied o else o) else o
 
 -- an object is attributed to the activity's author (ActivityStreams 2.0 Vocabulary, section 4,
 -- `attributedTo`)
@@ -97,18 +102,18 @@ abbrev pub attribute : List ℕ → Object → Object
 attribute author o = record o { attributed_to = Some author }
 
 -- what an activity of another server is about
-abbrev pub receive_ref : List ℕ → ℕ → ObjectRef → ObjectRef
-receive_ref author moment Nothing = Nothing
-receive_ref author moment (Id iri) = Id iri
-receive_ref author moment (Whole o) = Whole (attribute author (receive_object moment o))
-receive_ref author moment (Changed change) = Changed change
+abbrev pub receive_ref : Deed → List ℕ → ℕ → ObjectRef → ObjectRef
+receive_ref deed author moment Nothing = Nothing
+receive_ref deed author moment (Id iri) = Id iri
+receive_ref deed author moment (Whole o) = Whole (attribute author (receive_object deed moment o))
+receive_ref deed author moment (Changed change) = Changed change
 
 -- a new activity of somebody elsewhere that was delivered to this member's inbox (ActivityPub,
 -- section 7)
 abbrev pub remote_act : Town → List ℕ → List ℕ → Activity → ℕ → Act
 remote_act t owner author a moment = record {
   author = author;
-  activity = record a { object = receive_ref author moment a.object };
+  activity = record a { object = receive_ref (deed_of a.kind) author moment a.object };
   repeat = None;
   moment = moment;
   recipients = owner ∷ [];
