@@ -18,7 +18,7 @@ use Rattle.fedi_log.specs.declared.items.What.TheVariants.{Released}
 use Rattle.fedi_log.proofs.Claiming.{has_claimed_now, still_claimed}
 use Rattle.fedi_log.proofs.Growing.{goes_here, goes_on}
 use Rattle.fedi_logged.specs.Attempts.{EndsAttempt}
-use Rattle.fedi_logged.specs.Claiming.{IsClaimed, IsPostSince, IsSending, Records, TakesUp, claim_item}
+use Rattle.fedi_logged.specs.Claiming.{IsClaimed, IsCrowded, IsPostSince, IsSending, Records, TakesUp, claim_item}
 use Rattle.fedi_logged.specs.declared.claims.Sending.{Sending}
 use Rattle.fedi_logged.proofs.Attempts.{exchanged_none, shown_begun}
 use Rattle.fedi_logged.proofs.Own.{own_one}
@@ -49,7 +49,7 @@ grows_as k n taken log now same at g =
 take_grows : (n m : ℕ) (log now : Log) (r : Result (Option Sending) AllocError) → TakesUp (Some n) m log now r → GrowsBy (λ (i : Item). i.pass) n log now
 take_grows n m log now (Ok None) t = grows_none n log now t.1
 take_grows n m log now (Ok (Some s)) t = grows_one n log now _ t.4
-take_grows n m log now (Err e) (inl same) = grows_none n log now same
+take_grows n m log now (Err e) (inl same) = grows_none n log now same.0
 take_grows n m log now (Err e) (inr t) = (
   claim_item (Some n) t.0 t.1 ∷ (made_by (Some n) (Released t.0) ∷ []),
   t.4 ∙ append_assoc log (claim_item (Some n) t.0 t.1 ∷ []) (made_by (Some n) (Released t.0) ∷ []),
@@ -140,10 +140,10 @@ posted_at n p act o log more seen now inbox body text begins on out since =
 pub memory_step : (w : Setting) (m : ℕ) (seen now : Log) (front : ℕ) (link : Told) (e : AllocError) → IsNow w.told m → TakesUpInTurn w.by m seen now front (Err e) → Steps w seen now link link Memory
 memory_step w m seen now front link e is_now t = record { exchanges = []; exchanged = exchanged_none link; is = of t.3 }
   where
-    of : (now ≡ t.0)
+    of : ((now ≡ t.0) × IsCrowded t.0)
         ⊎ ((p : Pair) × (c : Claim) × (c.moment ≡ m) × IsFirst p.activity p.recipient (free_in t.0 m) × (now ≡ (t.0 ++ claim_item w.by p c ∷ []) ++ made_by w.by (Released p) ∷ []))
         → IsStep w seen now [] Memory
-    of (inl same) = inl (refl, subst (λ (l : Log). Goes w.by seen l) (sym same) t.1)
+    of (inl (same, crowded)) = inl (refl, subst (λ (l : Log). Goes w.by seen l) (sym same) t.1, subst IsCrowded (sym same) crowded)
     of (inr (p, c, at, first, is)) = inr (record {
       attempt = record { log = t.0; pair = p; claim = c; back = t.0 ++ claim_item w.by p c ∷ [] };
       is = record {

@@ -10,7 +10,7 @@ use Rattle.fedi_log.specs.declared.items.Pair.{Pair}
 use Rattle.fedi_log.specs.declared.items.What.TheVariants.{Released}
 use Rattle.fedi_logged.specs.Attempts.{Exchange, HasExchanged, IsBegun, ShowsCame}
 use Rattle.fedi_log.specs.Keeping.{Base}
-use Rattle.fedi_logged.specs.Claiming.{Records, TakesUp, claim_item}
+use Rattle.fedi_logged.specs.Claiming.{IsCrowded, Records, TakesUp, claim_item}
 use Rattle.fedi_logged.specs.declared.claims.Sending.{Sending}
 use Rattle.fedi_delivery.specs.Exchanges.{Told}
 use Rattle.fedi_objects.specs.declared.entry.Came.{Came}
@@ -69,7 +69,8 @@ pub record GivesUp (w : Setting) (seen now : Log) (exchanges : List Exchange) : 
 
 -- From what was seen of the log before to what was seen after, with these exchanges: the outcome of
 -- an attempt was kept, at `front`; or the keeper failed to keep it; or the keeper had no room for
--- it; or there was nothing left to claim that was due; or memory ran out.
+-- it; or there was nothing left to claim that was due; or memory ran out, and the delivery that was
+-- claimed was released, or the log is crowded and nothing was claimed.
 abbrev pub IsStep : Setting → Log → Log → List Exchange → Step → Type 0
 IsStep w seen now exchanges (Sent claimed came front) =
     Tries w seen now exchanges claimed front came (Ok tt)
@@ -81,7 +82,7 @@ IsStep w seen now exchanges (Nothing front moment) =
     (exchanges ≡ []) × Goes w.by seen now × (front ≡ length now) × IsNow w.told moment
     × (free_in now moment ≡ [])
 IsStep w seen now exchanges Memory =
-    ((exchanges ≡ []) × Goes w.by seen now) ⊎ GivesUp w seen now exchanges
+    ((exchanges ≡ []) × Goes w.by seen now × IsCrowded now) ⊎ GivesUp w seen now exchanges
 
 -- the same, given what the link reported before and after
 pub record Steps (w : Setting) (seen now : Log) (before after : Told) (step : Step) : Type 0 where

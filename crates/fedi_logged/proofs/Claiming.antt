@@ -50,6 +50,7 @@ claiming_first h opened rows noted front none is unclaimed within =
       stand = subst (λ (l : Log). ClaimsStand (town h).acts rows l) (sym log)
           (subst (λ (ys : List QueueRow). ClaimsStand (town h).acts ys (given h)) (sym unclaimed) (claims_opened h));
       counted = sym (ap claims_in unclaimed ∙ town_unclaimed (town h));
+      few = omega arith;
       room = omega (arith, within);
     }
 
@@ -71,6 +72,7 @@ claiming_kept h h' e by rows new log now front claimed grown queue untried keeps
       (subst (λ (l : Log). ClaimsStand (town (h ++ e ∷ [])).acts new l) (sym is)
       (claims_kept h e by rows new log c.queue untried keeps c.stand));
   counted = c.counted ∙ sym (ap length keeps ∙ ap length (stays_all (town h).acts e rows untried));
+  few = let few = c.few in omega (arith, few);
   room = room;
 }
 
@@ -82,6 +84,7 @@ claiming_marked h h' e by rows new log now front claimed same still untried is r
       queue = c.queue;
       stand = claims_marked e by (town h).acts rows log untried c.stand;
       counted = c.counted;
+      few = let few = c.few in omega (arith, few);
       room = room;
     } in
     subst (λ (l : Log). IsClaiming (town h') new l (front + 1) claimed) (sym is)
@@ -133,6 +136,7 @@ claiming_claimed h h' by m rows new c log now front claimed legal same made more
       stand = subst (λ (l : Log). ClaimsStand (town h).acts new l) (sym is)
           (claims_claimed h by rows new log m r.row (pair_for (town h).acts new c) c legal k.queue r.found r.is made r.named r.sent_to k.stand);
       counted = let counted = k.counted in omega (arith, counted, more);
+      few = let few = k.few in omega (arith, few);
       room = room;
     })
 
@@ -161,6 +165,7 @@ claiming_released h h' by p c rows new log now front claimed legal same has made
       queue = ap (λ (ys : List QueueRow). map release ys) made ∙ rows_stay (is_claimed_at c.activity c.recipient) release rows (λ row. refl) ∙ k.queue;
       stand = subst (λ (l : Log). ClaimsStand (town h).acts new l) (sym is) (claims_released h by rows new log p c legal k.queue has made k.stand);
       counted = let counted = k.counted in omega (arith, counted, fewer);
+      few = let few = k.few in omega (arith, few);
       room = let room = k.room in let counted = k.counted in omega (arith, room, counted, fewer);
     })
 
@@ -172,6 +177,7 @@ claiming_failed h h' by p c came m rows new log now front claimed legal same has
       queue = ap (λ (ys : List QueueRow). map release ys) made ∙ rows_stay (is_claimed_at c.activity c.recipient) release rows (λ row. refl) ∙ k.queue;
       stand = subst (λ (l : Log). ClaimsStand (town h).acts new l) (sym is) (claims_failed h by rows new log p c came m legal k.queue has made k.stand);
       counted = let counted = k.counted in omega (arith, counted, fewer);
+      few = let few = k.few in omega (arith, few);
       room = let room = k.room in let counted = k.counted in omega (arith, room, counted, fewer);
     })
 
@@ -185,6 +191,7 @@ claiming_recorded h h' by p c came m rows new log now front claimed grown queue 
       (subst (λ (l : Log). ClaimsStand (town (h ++ tried p came m ∷ [])).acts new l) (sym is)
       (claims_recorded h by rows new log p c came m k.queue has keeps k.stand));
   counted = let counted = k.counted in omega (arith, counted, fewer);
+  few = let few = k.few in omega (arith, few);
   room = let room = k.room in let counted = k.counted in omega (arith, room, counted, fewer);
 }
 

@@ -278,6 +278,26 @@ after_more b by seen more log moment o before after holds goes early was turn =
                   ∙ ap (λ (x : Log). since b x) (ap (λ (x : Log). x ++ items_of by o) goes ∙ append_assoc seen more (items_of by o))) h;
             }
 
+-- items for which the keeper was not asked
+pub after_claims : (b : Base) (seen log claims : Log) (moment : ℕ) (before after : Crashes) → after ≡ before
+    → CrashesAfter b seen log moment before → CrashesAfter b seen (log ++ claims) moment after
+after_claims b seen log claims moment before after same was =
+    subst (λ (c : Crashes). CrashesAfter b seen (log ++ claims) moment c) (sym same) (at before.told b.shown.records was)
+  where
+    at : (told : Bool) (first : Option (List (List ℕ))) → IfTold told first (λ kept. (left : List (List ℕ)) → before.left_since moment left → IsLeftAfter b seen log kept left)
+        → IfTold told first (λ kept. (left : List (List ℕ)) → before.left_since moment left → IsLeftAfter b seen (log ++ claims) kept left)
+    at false first old = tt
+    at true None old = absurd old
+    at true (Some kept) old = λ left since_then.
+        let l = old left since_then in
+        record {
+          past = l.past;
+          rest = l.rest ++ claims;
+          is = ap (λ (x : Log). x ++ claims) l.is ∙ append_assoc seen (l.past ++ l.rest) claims
+              ∙ ap (λ (x : Log). seen ++ x) (append_assoc l.past l.rest claims);
+          leaves = l.leaves;
+        }
+
 -- what is left begins with the records of everything that the log had at that moment
 pub after_begins : (b : Base) (seen log : Log) (kept left : List (List ℕ)) → b.kept ≤ length seen → IsLeftAfter b seen log kept left
     → (more : List (List ℕ)) × (left ≡ with_codes kept (since b seen) ++ more)

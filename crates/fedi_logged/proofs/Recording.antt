@@ -24,7 +24,7 @@ use Rattle.fedi_queue.specs.Claims.{change_first, is_claimed_at, release}
 use Rattle.fedi_queue.specs.Rows.{rows_of}
 use Rattle.fedi_town.specs.Histories.{town}
 use Rattle.fedi_town.specs.Legal.{IsLegal}
-use Rattle.fedi_logged.specs.Claiming.{FitsIf, IsClaiming, Records, tried, what_after}
+use Rattle.fedi_logged.specs.Claiming.{FitsIf, IsClaiming, Records, outcome_of, tried, what_after}
 use Rattle.fedi_logged.specs.Logs.{StandsFor}
 use Rattle.fedi_logged.specs.Turns.{Standing, Turns}
 use Rattle.fedi_logged.proofs.Claiming.{claiming_failed, claiming_recorded, claiming_released}
@@ -45,23 +45,30 @@ pub record IsRecorded (growth room : ℕ → ℕ) (before after : Standing) (e :
   pub time : OnOk r (PassesTimeWith before.state.keeper.records before.state.keeper.doubt (code_of e) before.crashes after.crashes)
   pub time_refused : IfErr r (λ f. PassesTimeUnkept (keep_fault f) before.state.keeper.records before.state.keeper.doubt (code_of e) before.crashes after.crashes)
 
+-- the turn that it was
+pub record_turn : (growth room : ℕ → ℕ) (before after : Standing) (p : Pair) (came : Came) (m : ℕ) (r : Result (Unit {0}) RecordFault)
+    → IsRecorded growth room before after (tried p came m) r → Turns growth before after (outcome_of (tried p came m) r)
+record_turn growth room before after p came m (Ok done) k = kept_turn growth room before after (tried p came m) k.kept k.time
+record_turn growth room before after p came m (Err KeeperFault) k = failed_turn growth room before after (tried p came m) k.same (k.next refl) (k.refused, k.time_refused)
+record_turn growth room before after p came m (Err Full) k = full_turn growth room before after (tried p came m) k.same (k.refused, k.time_refused)
+record_turn growth room before after p came m (Err Memory) k = memory_turn growth room before after (tried p came m) k.same (k.refused, k.time_refused)
+
 -- the machine still holds its log
 pub record_stands : (growth room : ℕ → ℕ) (opened : State) (first : Crashes) (by : Option ℕ) (before after : Standing) (log now : Log) (p : Pair) (came : Came) (m : ℕ)
     (r : Result (Unit {0}) RecordFault) → StandsFor growth room opened first before.state before.crashes log → IsRecorded growth room before after (tried p came m) r
     → now ≡ log ++ made_by by (what_after p came m r) ∷ [] → StandsFor growth room opened first after.state after.crashes now
 record_stands growth room opened first by before after log now p came m (Ok done) s k is =
-    stands_more growth room opened first by before after log now (logs.Kept (tried p came m)) s k.legal (kept_turn growth room before after (tried p came m) k.kept k.time) is
+    stands_more growth room opened first by before after log now (logs.Kept (tried p came m)) s k.legal (record_turn growth room before after p came m (Ok done) k) is
 record_stands growth room opened first by before after log now p came m (Err KeeperFault) s k is =
-    stands_more growth room opened first by before after log now (logs.Failed (tried p came m)) s k.legal
-    (failed_turn growth room before after (tried p came m) k.same (k.next refl) (k.refused, k.time_refused)) is
+    stands_more growth room opened first by before after log now (logs.Failed (tried p came m)) s k.legal (record_turn growth room before after p came m (Err KeeperFault) k) is
 record_stands growth room opened first by before after log now p came m (Err Full) s k is =
     stands_silent growth room opened first by (Released p) after.state after.crashes log now (released_silent p) is
     (stands_more growth room opened first by before after log log (logs.Full (tried p came m)) s k.legal
-    (full_turn growth room before after (tried p came m) k.same (k.refused, k.time_refused)) (sym (append-nil log)))
+    (record_turn growth room before after p came m (Err Full) k) (sym (append-nil log)))
 record_stands growth room opened first by before after log now p came m (Err Memory) s k is =
     stands_silent growth room opened first by (Released p) after.state after.crashes log now (released_silent p) is
     (stands_more growth room opened first by before after log log logs.NoEntry s k.legal
-    (memory_turn growth room before after (tried p came m) k.same (k.refused, k.time_refused)) (sym (append-nil log)))
+    (record_turn growth room before after p came m (Err Memory) k) (sym (append-nil log)))
 
 -- what became of the rows
 pub record AreRecorded (h h' : List Entry) (rows new : List QueueRow) (c : Claim) (e : Entry) (r : Result (Unit {0}) RecordFault) : Type 0 where

@@ -10,7 +10,9 @@ use Rattle.fedi_delivery.specs.Deliveries.{IsOutgoing, lookup_to, post_to}
 use Rattle.fedi_entry.specs.Codes.{code_of}
 use Rattle.fedi_log.specs.Claims.{ClaimsStand, HasClaimed, IsFirst, claimed_by, free_in}
 use Rattle.fedi_log.specs.Keeping.{Base, end_of}
-use Rattle.fedi_log.specs.Log.{Log, history_of, made_by}
+use Rattle.fedi_core.specs.Machines.{Machine}
+use Rattle.fedi_log.specs.Log as outcomes
+use Rattle.fedi_log.specs.Log.{Log, Outcome, history_of, made_by}
 use Rattle.fedi_log.specs.declared.items.Item.{Item}
 use Rattle.fedi_log.specs.declared.items.Pair.{Pair}
 use Rattle.fedi_log.specs.declared.items.What.{What}
@@ -28,13 +30,14 @@ use Rattle.fedi_town.specs.Histories.{town}
 use Rattle.fedi_town.specs.Towns.{Town}
 use Rattle.fedi_logged.specs.declared.claims.Sending.{Sending}
 
--- The rows are those of the town, claimed as the log says, and this many are claimed. The log has
--- room for the item that ends each claim: its length fits in a u64.
+-- The rows are those of the town, claimed as the log says, and this many are claimed, each by an
+-- item of the log. The log has room for the item that ends each claim: its length fits in a u64.
 pub record IsClaiming (t : Town) (rows : List QueueRow) (log : Log)
     (front claimed : ℕ) : Type 0 where
   pub queue : map release rows ≡ rows_of t
   pub stand : ClaimsStand t.acts rows log
   pub counted : claimed ≡ claims_in rows
+  pub few : claimed ≤ front
   pub room : front + claimed ≤ 2 ^ 64 - 1
 
 -- some delivery is claimed with this claim, and the pass has done nothing since
@@ -62,9 +65,13 @@ pub record IsSending (t : Town) (p : Pair) (c : Claim) (recipient : List ℕ)
   pub recipient_is : recipient ≡ p.recipient
   pub sent : IsOutgoing t act p.recipient o
 
+-- the log has 2^63 - 1 items or more: only then can it lack room for a claim and its end
+abbrev pub IsCrowded : Log → Type 0
+IsCrowded log = 2 ^ 63 ≤ length log + 1
+
 -- The first delivery that is due at this moment and was not claimed is claimed, with what is sent
--- to deliver it; or there is none; or there is no memory, and the delivery is released again or
--- nothing was claimed.
+-- to deliver it; or there is none; or the log is crowded and nothing was claimed; or there is no
+-- memory, and the delivery is released again.
 abbrev pub TakesUp : Option ℕ → ℕ → Log → Log → Result (Option Sending) AllocError → Type 0
 TakesUp by moment log now (Ok None) = (free_in log moment ≡ []) × (now ≡ log)
 TakesUp by moment log now (Ok (Some s)) =
@@ -72,7 +79,7 @@ TakesUp by moment log now (Ok (Some s)) =
     × IsSending (town (history_of log)) p s.claim s.recipient s.outgoing
     × (now ≡ log ++ claim_item by p s.claim ∷ [])
 TakesUp by moment log now (Err e) =
-    (now ≡ log)
+    ((now ≡ log) × IsCrowded log)
     ⊎ ((p : Pair) × (c : Claim) × (c.moment ≡ moment)
     × IsFirst p.activity p.recipient (free_in log moment)
     × (now ≡ (log ++ claim_item by p c ∷ []) ++ made_by by (Released p) ∷ []))
@@ -103,6 +110,18 @@ what_after p came moment (Ok done) = Entered (tried p came moment)
 what_after p came moment (Err KeeperFault) = Marked (tried p came moment)
 what_after p came moment (Err Full) = Released p
 what_after p came moment (Err Memory) = Released p
+
+-- what the turn that ends an attempt does to the machine, given what became of its entry
+abbrev pub outcome_of : Entry → Result (Unit {0}) RecordFault → Outcome
+outcome_of e (Ok done) = outcomes.Kept e
+outcome_of e (Err KeeperFault) = outcomes.Failed e
+outcome_of e (Err Full) = outcomes.Full e
+outcome_of e (Err Memory) = outcomes.NoEntry
+
+-- a turn that changes nothing of the machine but what is claimed: not even its keeper was asked
+pub record ChangesClaims {P : Type 0} (before after : Machine P) : Type 0 where
+  pub history : after.history ≡ before.history
+  pub keeper : after.keeper ≡ before.keeper
 
 -- What becomes of an attempt of the delivery: its entry is kept; or the keeper failed to keep it;
 -- or the keeper has no room for it, or there is no memory, and the delivery is released.

@@ -7,9 +7,11 @@ ghost use Rattle.fedi_log.specs.Keeping.{base_of};
 ghost use Rattle.fedi_log.specs.Log.{history_of, made_by};
 ghost use Rattle.fedi_log.specs.declared.items.Pair.{Pair};
 ghost use Rattle.fedi_log.specs.declared.items.What.TheVariants.{Released};
-ghost use Rattle.fedi_logged.specs.Claiming.{Claims, IsClaimed, IsPostSince, IsSending, Records};
-ghost use Rattle.fedi_logged.specs.Claiming.{TakesUp, what_after};
+ghost use Rattle.fedi_logged.specs.Claiming.{ChangesClaims, Claims, IsClaimed, IsCrowded};
+ghost use Rattle.fedi_logged.specs.Claiming.{IsPostSince, IsSending, Records, TakesUp, outcome_of};
+ghost use Rattle.fedi_logged.specs.Claiming.{tried, what_after};
 ghost use Rattle.fedi_logged.specs.Logs.{pair_of, what_of};
+ghost use Rattle.fedi_logged.specs.Turns.{Turns, standing_by};
 ghost use Rattle.fedi_queue.specs.Queues.{IsHeld};
 ghost use Rattle.fedi_town.specs.Histories.{town};
 
@@ -83,6 +85,8 @@ impl<S: Shelf + Drop, P: Keeper, O: Opened> Logged<S, P, O> {
     fn claim(&mut self, by: Option<u64>, moment: Moment) -> Result<Option<Claim>, AllocError>
         ensures claimed { IfOk result (Claims by moment self.old.log self.new.log) }
         ensures lacking { OnErr result (self.new.log ≡ self.old.log) }
+        ensures crowded { OnErr result (IsCrowded self.old.log) }
+        ensures turn { ChangesClaims self.old.core self.new.core }
     {
         if u64::MAX - self.front - self.claimed < 2 {
             return Err(AllocError);
@@ -134,7 +138,8 @@ impl<S: Shelf + Drop, P: Keeper, O: Opened> Logged<S, P, O> {
         by: Option<u64>,
         moment: Moment,
     ) -> Result<Option<Sending>, AllocError>
-        ensures { TakesUp by moment self.old.log self.new.log result }
+        ensures taken { TakesUp by moment self.old.log self.new.log result }
+        ensures turn { ChangesClaims self.old.core self.new.core }
     {
         let Some(claim) = self.claim(by, moment)? else {
             return Ok(None);
@@ -174,6 +179,7 @@ impl<S: Shelf + Drop, P: Keeper, O: Opened> Logged<S, P, O> {
         requires claimed { IsClaimed by self.old.log claim }
         ensures released { (p : Pair) → HasClaimed by self.old.log p claim
             → self.new.log ≡ self.old.log ++ made_by by (Released p) ∷ [] }
+        ensures turn { ChangesClaims self.old.core self.new.core }
     {
         let delivery = delivery_of(&self.core, &claim);
         self.core.release(claim);
@@ -203,6 +209,12 @@ impl<S: Shelf + Drop, P: Keeper, O: Opened> Logged<S, P, O> {
         ensures recorded { (p : Pair) → HasClaimed by self.old.log p claim
             → Records (base_of P.growth P.room O.state) by self.old.log self.new.log
             p came moment result }
+        // A crash during the turn leaves the records, followed by at most one more: the one in
+        // doubt, or that of the entry.
+        ensures turn { (p : Pair) → HasClaimed by self.old.log p claim
+            → Turns P.growth (standing_by P.shown P.crashes self.old.core)
+            (standing_by P.shown P.crashes self.new.core)
+            (outcome_of (tried p came moment) result) }
     {
         let delivery = delivery_of(&self.core, &claim);
         let recorded = self.core.record(alloc, claim, came, moment);

@@ -690,6 +690,15 @@ pub fn run<
         W.served (told_by K.asked K.heard K.link_faults) W.closed W.faults
         benches.items result.benches.items result.status }
 
+    // However it ended, each connection that a door gave has come back to it, and each step that
+    // was made while no connection waited was reported. `serve` prints nothing.
+    ensures waiting { (address : List ℕ)
+        → task_in (map string_bytes arguments.now) ≡ Some (Serve address)
+        → All (λ b. IsWaiting W.out W.idle b.door) result.benches.items }
+    ensures silent { (address : List ℕ)
+        → task_in (map string_bytes arguments.now) ≡ Some (Serve address)
+        → connection.new.out ≡ connection.old.out }
+
     // Only `serve` asks doors and links, and `deliver` the first link.
     ensures benches { address_of (task_in (map string_bytes arguments.now)) ≡ None
         → task_in (map string_bytes arguments.now) ≢ Some Deliver

@@ -56,6 +56,7 @@ pub(crate) fn serve<
         (medium_by D.shown D.crashes result.disk) }
     ensures statuses { (address : List ℕ)
         → is_status_of (Some (Serve address)) result.status ≡ true }
+    ensures waiting { All (λ b. IsWaiting W.out W.idle b.door) result.benches.items }
 {
     match open_store(alloc, seed, disk) {
         Ok(core) => {

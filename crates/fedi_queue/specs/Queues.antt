@@ -1,5 +1,5 @@
 -- The queue, as its callers see it, and what an entry makes of it.
-use Rattle.std.specs.Prelude.{◌≡◌, ℕ, ◌≤◌, ◌<◌, Bool, false, not, ◌&&◌, nat_eq, nat_le, ⊤, IsTrue}
+use Rattle.std.specs.Prelude.{◌≡◌, ℕ, ◌≤◌, ◌<◌, Bool, false, true, not, ◌&&◌, nat_eq, nat_le, ⊤, IsTrue}
 use Rattle.std.specs.Prelude.{List, [], ◌++◌, map, filter, Option, Some, None, slice_get, vec_len}
 use Rattle.std.specs.List.{list_any}
 use Rattle.std.specs.Str.{bytes_eq}
@@ -102,6 +102,23 @@ pub record Fits (t : Town) (e : Entry) (change : Change) : Type 0 where
   pub claims :
       (rows : List QueueRow) → map release rows ≡ rows_of t
       → filter is_claimed (rows_with change rows) ≡ filter (stays_claimed t.acts e) rows
+
+-- it adds rows
+abbrev pub adds_rows : Change → Bool
+adds_rows changes.Nothing = false
+adds_rows (changes.Added more) = true
+adds_rows (changes.Settled place due) = false
+adds_rows (changes.Rebuilt list) = false
+
+-- room for the entry may take memory: every entry may make rows except an attempt, which ends one
+-- or keeps it
+abbrev pub takes_memory : Entry → Bool
+takes_memory (Hosted host moment) = true
+takes_memory (Made name digest locked moment) = true
+takes_memory (PeerSet host key address relay moment) = true
+takes_memory (Local name repeat a moment) = true
+takes_memory (Remote peer inbox a moment) = true
+takes_memory (Tried id recipient came moment) = false
 
 -- there is room for it among this many rows
 abbrev pub HasRoom : Change → ℕ → ℕ → Type 0

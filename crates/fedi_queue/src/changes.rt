@@ -1,14 +1,14 @@
 //! What an entry makes of the waiting deliveries, made ready so that it takes no memory.
 
-ghost use Rattle.std.specs.Prelude.{◌≡◌, ◌∷◌, ◌<◌, ◌≤◌, IfOk, IsTrue, List, OnOk, Some, drop};
-ghost use Rattle.std.specs.Prelude.{length, map, option_copied, slice_get};
+ghost use Rattle.std.specs.Prelude.{◌≡◌, ◌∷◌, ◌<◌, ◌≤◌, IfOk, IsTrue, List, OnErr, OnOk, Some};
+ghost use Rattle.std.specs.Prelude.{drop, false, length, map, option_copied, slice_get, true};
 ghost use Rattle.std.specs.List.{list_all};
 ghost use Rattle.std.specs.Str.{bytes_eq};
 ghost use Rattle.fedi_objects.specs.declared.entry.Entry.TheVariants.{Tried};
 ghost use Rattle.fedi_queue.specs.declared.rows.QueueRow.{QueueRow};
 ghost use Rattle.fedi_queue.specs.Claims.{carried, is_at, is_few, release};
-ghost use Rattle.fedi_queue.specs.Queues.{Fits, HasRoom, IsSettling, IsWithin, due_of, is_row_for};
-ghost use Rattle.fedi_queue.specs.Queues.{rows_with};
+ghost use Rattle.fedi_queue.specs.Queues.{Fits, HasRoom, IsSettling, IsWithin, adds_rows, due_of};
+ghost use Rattle.fedi_queue.specs.Queues.{is_row_for, rows_with, takes_memory};
 ghost use Rattle.fedi_queue.specs.Rows.{rows_of};
 ghost use Rattle.fedi_register.specs.Changes.{place_where};
 ghost use Rattle.fedi_town.specs.Histories.{town};
@@ -77,7 +77,8 @@ fn settle_at(
     moment: Moment,
 ) -> Change
     requires { IsTrue (list_all is_few rows.now) }
-    ensures { IsSettling activity recipient.now came moment rows.now result }
+    ensures settled { IsSettling activity recipient.now came moment rows.now result }
+    ensures unadded { adds_rows result ≡ false }
 {
     match row_position(rows, activity, recipient) {
         Some(place) => Change::Settled {
@@ -103,6 +104,7 @@ fn settle(
     requires few { IsTrue (list_all is_few rows.now) }
     ensures fits { Fits facts.now.town (Tried activity.now recipient.now came moment) result }
     ensures within { IsWithin result (length rows.now) }
+    ensures unadded { adds_rows result ≡ false }
 {
     match facts.position_of(activity) {
         Some(place) => settle_at(rows, place, recipient, came, moment),
@@ -111,7 +113,7 @@ fn settle(
 }
 
 /// What the entry for which the facts have room makes of the waiting deliveries, which are those of
-/// the facts. The error is out of memory.
+/// the facts. The error is out of memory, which the entry of an attempt does not take.
 pub(crate) fn change_for(
     alloc: Global,
     facts: &Facts,
@@ -126,6 +128,9 @@ pub(crate) fn change_for(
     requires few { IsTrue (list_all is_few rows.now) }
     ensures fits { IfOk result (λ change. Fits facts.now.town entry.now change) }
     ensures within { IfOk result (λ change. IsWithin change (length rows.now)) }
+    ensures adds { IfOk result
+        (λ change. adds_rows change ≡ true → takes_memory entry.now ≡ true) }
+    ensures memory { OnErr result (takes_memory entry.now ≡ true) }
 {
     match entry {
         Entry::PeerSet { host, .. } => {
@@ -148,6 +153,7 @@ pub(crate) fn reserve_for(rows: &mut Rows, change: &Change) -> Result<(), AllocE
     requires { IsWithin change.now (length rows.old.rows) }
     ensures rows { rows.new.rows ≡ rows.old.rows }
     ensures room { OnOk result (HasRoom change.now (length rows.old.rows) rows.new.room) }
+    ensures memory { OnErr result (adds_rows change.now ≡ true) }
 {
     match change {
         Change::Added(more) => rows.reserve(more.len()),

@@ -1,12 +1,12 @@
 //! The deliveries that this server owes to others.
 
 ghost use Rattle.std.specs.Prelude.{◌≡◌, ◌∷◌, ◌++◌, [], IfOk, IfSome, IsTrue, None, OnErr, OnOk};
-ghost use Rattle.std.specs.Prelude.{Some, filter, length, map, option_copied, option_map};
+ghost use Rattle.std.specs.Prelude.{Some, filter, length, map, option_copied, option_map, true};
 ghost use Rattle.std.specs.List.{find};
 ghost use Rattle.fedi_queue.specs.Claims.{change_first, claim, claim_of, is_claimed_at, is_free_at};
 ghost use Rattle.fedi_queue.specs.Claims.{release};
-ghost use Rattle.fedi_queue.specs.Queues.{Fits, HasRoom, IsHeld, IsWithin, is_claimed};
-ghost use Rattle.fedi_queue.specs.Queues.{stays_claimed};
+ghost use Rattle.fedi_queue.specs.Queues.{Fits, HasRoom, IsHeld, IsWithin, adds_rows, is_claimed};
+ghost use Rattle.fedi_queue.specs.Queues.{stays_claimed, takes_memory};
 ghost use Rattle.fedi_queue.specs.Rows.{rows_of};
 ghost use Rattle.fedi_town.specs.Histories.{town};
 ghost use Rattle.fedi_town.specs.Legal.{IsLegal, is_admissible};
@@ -65,6 +65,7 @@ fn keep_room(room: &mut Option<Room>, rows: &mut Rows, new: Room) -> Result<(), 
     ensures room { OnOk result (HasRoom new.change (length rows.old.rows) rows.new.room) }
     ensures ok { OnOk result (room.new ≡ Some new) }
     ensures err { OnErr result (room.new ≡ room.old) }
+    ensures memory { OnErr result (adds_rows new.change ≡ true) }
 {
     match reserve_for(rows, &new.change) {
         Ok(()) => {
@@ -165,7 +166,7 @@ impl Queue {
 
     /// Makes room for an entry that may come next, with all that it makes of the deliveries. The
     /// facts are those of the queue's history and have room for the entry. The error is out of
-    /// memory, and then there is room for no entry.
+    /// memory, and then there is room for no entry. The entry of an attempt takes none.
     pub fn reserve(&mut self, alloc: Global, facts: &Facts, entry: &Entry) -> Result<(), AllocError>
         requires history { facts.now.history ≡ self.old.history }
         requires legal { IsLegal self.old.history }
@@ -173,6 +174,7 @@ impl Queue {
         requires room { facts.now.room ≡ Some entry.now }
         ensures ok { OnOk result (self.new ≡ record self.old { room = Some entry.now }) }
         ensures err { OnErr result (self.new ≡ record self.old { room = None }) }
+        ensures memory { OnErr result (takes_memory entry.now ≡ true) }
     {
         drop(self.room.take());
         facts.show_town();

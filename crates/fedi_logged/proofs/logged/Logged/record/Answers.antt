@@ -1,12 +1,12 @@
 use Rattle.std.proofs.Common.{◌∙◌, ap, refl, subst, sym}
 use Rattle.fedi_log.specs.Claims.{HasClaimed}
 use Rattle.fedi_log.specs.Keeping.{base_of}
-use Rattle.fedi_logged.specs.Claiming.{Records, tried, what_after}
+use Rattle.fedi_logged.specs.Claiming.{Records, outcome_of, tried, what_after}
 use Rattle.fedi_logged.specs.Logs.{log_of}
-use Rattle.fedi_logged.specs.Turns.{Standing, standing_by}
+use Rattle.fedi_logged.specs.Turns.{Standing, Turns, standing_by}
 use Rattle.fedi_logged.proofs.Claiming.{pair_for, pair_is, pair_noted}
 use Rattle.fedi_logged.proofs.Noting.{length_more, noted_more}
-use Rattle.fedi_logged.proofs.Recording.{AreRecorded, IsRecorded, record_claims, record_stands, records}
+use Rattle.fedi_logged.proofs.Recording.{AreRecorded, IsRecorded, record_claims, record_stands, record_turn, records}
 use Rattle.fedi_town.specs.Histories.{town}
 use Rattle.fedi_logged.proofs.logged.Logged.record.Goals as goal
 
@@ -52,4 +52,16 @@ returns g c = record {
       (record { kept = e.kept; refused = e.refused; next = e.next; same = e.same; legal = e.legal; time = e.time; time_refused = e.time_refused }) in
       subst (λ l. Records (base_of g.P.Keeper.growth g.P.Keeper.room g.O.Opened.state) c.args.by l (log_of g.O.Opened.state.history c.push.new.self) p c.args.came c.args.moment r) view
       (records g.P.Keeper.growth g.P.Keeper.room g.O.Opened.state c.args.by was now _ _ p c.args.came c.args.moment r c.self.invariant.1.holds is log);
+  turn = λ p claimed.
+      let before = c.self.inside.core in
+      let was : Standing = standing_by g.P.Keeper.shown g.P.Keeper.crashes before in
+      let now : Standing = standing_by g.P.Keeper.shown g.P.Keeper.crashes c.record-recorded.new.self in
+      let e = c.record-recorded.ensures in
+      let r = c.record-recorded.result in
+      let has = subst (λ l. HasClaimed c.args.by l p c.args.claim) (sym (ap (λ m. m.log) c.self.view_is)) claimed in
+      let same = pair_is (town before.history) before.rows _ c.self.inside.front c.self.inside.claimed c.args.by p c.args.claim c.self.invariant.2 has in
+      let is = subst (λ q. IsRecorded g.P.Keeper.growth g.P.Keeper.room was now (tried q c.args.came c.args.moment) r) same
+      (record { kept = e.kept; refused = e.refused; next = e.next; same = e.same; legal = e.legal; time = e.time; time_refused = e.time_refused }) in
+      subst (λ m. Turns g.P.Keeper.growth (standing_by g.P.Keeper.shown g.P.Keeper.crashes m) now (outcome_of (tried p c.args.came c.args.moment) r)) (ap (λ m. m.core) c.self.view_is)
+      (record_turn g.P.Keeper.growth g.P.Keeper.room was now p c.args.came c.args.moment r is);
 }
