@@ -121,8 +121,8 @@ remote_apart : (t : Town) (owner author : List ℕ) (a : Activity) (moment : ℕ
 unfolding updates deletes is_about state_of
 remote_apart t owner author a moment id o b =
     let dead : is_own_live author (maker t id) ≡ false = not_own t author id o b in record {
-      updates = rw (ref_received author moment a.object) (not_updated t false author (deed_of a.kind) (is_whole a.object) (ref_id a.object) id dead);
-      deletes = rw (ref_received author moment a.object) (not_deleted t false author (deed_of a.kind) (is_whole a.object) (ref_id a.object) id dead);
+      updates = rw (ref_received (deed_of a.kind) author moment a.object) (not_updated t false author (deed_of a.kind) (is_whole a.object) (ref_id a.object) id dead);
+      deletes = rw (ref_received (deed_of a.kind) author moment a.object) (not_deleted t false author (deed_of a.kind) (is_whole a.object) (ref_id a.object) id dead);
     }
 
 same_form : (x : Act) (id : List ℕ) (o : Object) → IsApart id x → next_form id x o ≡ o

@@ -2,11 +2,12 @@
 
 ghost use Rattle.std.specs.Prelude.{◌<◌, IfOk, vec_len};
 
-use crate::store_files::{disk_of, store_of};
+use fedi_effects::Seed;
 use fedi_outside::{
     Bench, FixedClock, MemoryDisk, MemoryDoor, MemoryEntropy, MemoryLink, MemorySink, MemorySource,
 };
 use fedi_program::Connection;
+use fedi_rows::{disk_of, store_of};
 use std::alloc::{AllocError, Global};
 
 /// When the example town was made, and when its runs take place: 1994-11-06T08:49:37Z.
@@ -14,6 +15,11 @@ pub const SECONDS: u64 = 784_111_777;
 
 /// The bytes that keys are drawn from.
 pub const KEY: &[u8] = b"0123456789abcdefghijklmnopqrstuv";
+
+/// A seed, the same in each test.
+pub fn seed() -> Seed {
+    Seed::new(b"0123456789abcdef")
+}
 
 /// A run: its command line, its disk, what else lies outside, and what fails there.
 #[derive(Clone, Copy)]

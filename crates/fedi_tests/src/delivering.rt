@@ -3,9 +3,8 @@
 use crate::cases::{Case, SECONDS, calm};
 use crate::example::MEMBERS;
 use crate::records::{ANA, FOLLOWED, HOSTED, LAKE, NOTE};
-use crate::rows::expect_at;
 use crate::runs::{are_texts, calls_after, calls_of_an_opening, left_by};
-use crate::store_files::has_records;
+use fedi_rows::{expect_at, has_records};
 use std::alloc::{AllocError, Global};
 use std::test::Fail;
 

@@ -2,9 +2,8 @@
 
 use crate::cases::{Case, KEY, calm};
 use crate::example::{MEMBERS, TOWN};
-use crate::rows::expect_at;
 use crate::runs::{are_texts, calls_after, calls_of_an_opening, left_by};
-use crate::store_files::{has_records, records_of};
+use fedi_rows::{expect_at, has_records, records_of};
 use std::alloc::{AllocError, Global};
 use std::test::Fail;
 

@@ -4,15 +4,16 @@
 //! not hold.
 ghost use Rattle.std.specs.Prelude.{◌≡◌, ◌<◌, []};
 
+use crate::cases::seed;
 use crate::records::{
     ANA, BEN, CREATE, FOLLOW, FOLLOWED, HISTORY, HOSTED, LAKE, LIKE, LIKED, LIKED_TOO, NO_ADDRESS,
     OF_HILL, OWN_FOLLOW, OWN_PEER, SAME_KEY, TRIED, TWICE_TO, WITH_ID,
 };
-use crate::rows::{expect, seed};
 use fedi_address::LocalName;
 use fedi_effects::Steps;
 use fedi_opening::{OpenFault, open_history};
 use fedi_outside::{Keeper, MemoryKeeper};
+use fedi_rows::expect;
 use fedi_town::{Caller, Which};
 use fedi_visible::{PlainShelf, Shelf};
 use std::alloc::Global;

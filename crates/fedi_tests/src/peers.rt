@@ -3,8 +3,8 @@
 use crate::cases::Case;
 use crate::example::{MEMBERS, TOWN};
 use crate::members::{NOTHING, ends, making};
-use crate::rows::expect_at;
 use crate::runs::{calls_after, calls_of_an_opening};
+use fedi_rows::expect_at;
 use std::alloc::{AllocError, Global};
 use std::test::Fail;
 

@@ -3,9 +3,8 @@
 
 use crate::cases::{Case, calm, inetd};
 use crate::example::{MEMBERS, TOWN};
-use crate::rows::{expect, expect_at};
 use crate::runs::{ends, left_by};
-use crate::store_files::has_records;
+use fedi_rows::{expect, expect_at, has_records};
 use std::alloc::{AllocError, Global};
 use std::test::Fail;
 

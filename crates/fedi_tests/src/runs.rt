@@ -2,13 +2,14 @@
 
 ghost use Rattle.std.specs.Prelude.{◌<◌, vec_len};
 
-use crate::cases::{Case, arguments_of, benches_of, calm, connection_of, disk_in, entropy_of};
-use crate::rows::seed;
-use crate::store_files::has_records;
+use crate::cases::{
+    Case, arguments_of, benches_of, calm, connection_of, disk_in, entropy_of, seed,
+};
 use fedi_outside::{
     Bench, FixedClock, MemoryDisk, MemoryDoor, MemoryEntropy, MemoryLink, MemorySink, MemorySource,
 };
 use fedi_program::{Connection, OUT_OF_MEMORY, address_of, run_alone};
+use fedi_rows::has_records;
 use std::alloc::{AllocError, Global};
 
 /// What a run left: its status, what it wrote, the bytes of the disk, how many calls the disk

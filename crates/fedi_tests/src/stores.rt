@@ -4,8 +4,8 @@ use crate::cases::{Case, calm, inetd};
 use crate::delivering::WAITING;
 use crate::example::{HOSTED, MEMBERS, TOWN};
 use crate::program::{FIRST, NOTE, SECOND};
-use crate::rows::{expect, expect_at};
 use crate::runs::{Left, are_texts, calls_after, calls_of_an_opening, ends, left_by};
+use fedi_rows::{expect, expect_at};
 use std::alloc::{AllocError, Global};
 use std::test::Fail;
 

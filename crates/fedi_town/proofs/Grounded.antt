@@ -143,7 +143,7 @@ local-grounded t host name repeat a moment = new_grounded t true _ (deed_of a.ki
 
 remote-grounded : (t : Town) (owner author : List ℕ) (a : Activity) (moment : ℕ) → is_grounded t.acts (remote_act t owner author a moment) ≡ true
 unfolding is_grounded
-remote-grounded t owner author a moment = rw (ref_received author moment a.object) (new_grounded t false author (deed_of a.kind) a.object)
+remote-grounded t owner author a moment = rw (ref_received (deed_of a.kind) author moment a.object) (new_grounded t false author (deed_of a.kind) a.object)
 
 -- ---- steps
 

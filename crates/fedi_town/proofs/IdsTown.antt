@@ -156,7 +156,7 @@ local_roomy t host name repeat a moment = record {
 remote_roomy : (t : Town) (owner author : List ℕ) (a : Activity) (moment : ℕ) → IsRoomy t (remote_act t owner author a moment)
 remote_roomy t owner author a moment = record {
   room = λ b does about state.
-      room_of t false author b (deed_of a.kind) a.object (follows_is (deed_of a.kind) does) (sym (ref_received author moment a.object) ∙ about) state;
+      room_of t false author b (deed_of a.kind) a.object (follows_is (deed_of a.kind) does) (sym (ref_received (deed_of a.kind) author moment a.object) ∙ about) state;
 }
 
 changed_once : (t : Town) (host : List ℕ) (x : Act) → AreOnce host t.acts → AreOnce host (map (affect (effect_of t x)) t.acts)

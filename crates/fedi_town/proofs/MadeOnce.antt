@@ -69,7 +69,7 @@ local_new t host name repeat a moment id made = new_made t true _ (deed_of a.kin
 pub remote_new : (t : Town) (owner author : List ℕ) (a : Activity) (moment : ℕ) (id : List ℕ)
     → makes id (remote_act t owner author a moment) ≡ true → list_any (makes id) t.acts ≡ false
 unfolding makes is_about
-remote_new t owner author a moment id made = new_made t false author (deed_of a.kind) a.object id (rw (ref_received author moment a.object) at made)
+remote_new t owner author a moment id made = new_made t false author (deed_of a.kind) a.object id (rw (ref_received (deed_of a.kind) author moment a.object) at made)
 
 -- ---- steps
 

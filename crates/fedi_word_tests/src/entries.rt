@@ -2,9 +2,9 @@
 
 ghost use Rattle.fedi_entry.specs.Limits.{KeepsLimits};
 
-use crate::rows::{expect, expect_at};
 use fedi_entry::{KnownHosts, decode, encode};
 use fedi_objects::Entry;
+use fedi_rows::{expect, expect_at};
 use fedi_town::next_number;
 use std::alloc::{AllocError, Global};
 use std::test::Fail;

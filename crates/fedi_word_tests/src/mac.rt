@@ -1,7 +1,7 @@
 //! Digests, keys and their texts, and codes.
 
-use crate::rows::expect;
 use fedi_mac::{Mac, digest, hex_text, matches, read_key};
+use fedi_rows::expect;
 use std::test::Fail;
 
 // The digits of digests: examples of FIPS 180-4, and one by `sha256sum`.

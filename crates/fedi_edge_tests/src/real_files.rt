@@ -1,9 +1,9 @@
 //! Real files: the calls of a file as a disk, the disks that it refuses, and journals over files.
 
-use crate::rows::expect;
 use fedi_adapters::FileDisk;
 use fedi_journal::{InitFault, Journal, JournalFault};
 use fedi_outside::{Disk, Failed, Keeper};
+use fedi_rows::expect;
 use std::alloc::Global;
 use std::fs;
 use std::os::unix::fs::PermissionsExt;

@@ -1,8 +1,8 @@
 //! The real outside: readers, writers, the clock and what keys are drawn from.
 
-use crate::rows::expect;
 use fedi_adapters::{Reading, SystemClock, SystemEntropy, Writing};
 use fedi_outside::{Clock, Entropy, Failed, Sink, Source};
+use fedi_rows::expect;
 use std::test::Fail;
 
 /// What reads of two bytes each take of `abc`.

@@ -1,9 +1,9 @@
 //! Requests as clients write them, and a reply as clients read it.
 
-use crate::rows::expect;
 use fedi_http::{Arrived, Buffer, read_request, reply_bytes};
 use fedi_model::{Refusal, Request, refusal_reply};
 use fedi_outside::MemorySource;
+use fedi_rows::expect;
 use fedi_text::Moment;
 use std::alloc::{AllocError, Global};
 use std::test::Fail;

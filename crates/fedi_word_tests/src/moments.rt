@@ -1,6 +1,6 @@
 //! The texts of moments, as other software writes them.
 
-use crate::rows::expect;
+use fedi_rows::expect;
 use fedi_text::Moment;
 use std::alloc::{AllocError, Global};
 use std::test::Fail;

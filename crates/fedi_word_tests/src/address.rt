@@ -1,7 +1,7 @@
 //! Addresses as the rules of the URL Standard give them, worked by hand.
 
-use crate::rows::expect;
 use fedi_address::{Host, HostFault, Iri, IriFault, LocalName};
+use fedi_rows::expect;
 use std::alloc::{AllocError, Global};
 use std::str;
 use std::test::Fail;

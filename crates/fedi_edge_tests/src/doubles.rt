@@ -1,9 +1,9 @@
 //! Sources, sinks and keepers in memory. What is made to fail is made in its own function and lent.
 
-use crate::rows::expect;
 use fedi_outside::{
     CalmKeeper, CalmSource, Failed, Keeper, MemoryKeeper, MemorySink, MemorySource, Sink, Source,
 };
+use fedi_rows::expect;
 use std::alloc::Global;
 use std::test::Fail;
 

@@ -1,7 +1,7 @@
 //! Paths that are not a file for a store, and a file that takes nothing.
-use crate::rows::expect;
 use fedi_adapters::{FileDisk, LockedFile};
 use fedi_outside::{Disk, Failed};
+use fedi_rows::expect;
 use std::fs::File;
 use std::test::Fail;
 

@@ -1,6 +1,5 @@
 //! What a row of a table requires.
 
-use fedi_effects::Seed;
 use std::test::Fail;
 
 /// Fails with the text of the row unless it holds.
@@ -15,9 +14,4 @@ pub fn expect_at(holds: bool, row: &str, number: usize) -> Result<(), Fail> {
     } else {
         Err(Fail::new(format_args!("{row} {number}")))
     }
-}
-
-/// A seed, the same in each test.
-pub fn seed() -> Seed {
-    Seed::new(b"0123456789abcdef")
 }

@@ -2,10 +2,9 @@
 
 use crate::images::{Images, images_of};
 use crate::journals::{found, found_in, made};
-use crate::rows::{expect, expect_at};
-use crate::store_files::{disk_of, store_of};
 use fedi_journal::Journal;
 use fedi_outside::{Call, Keeper, MemoryDisk};
+use fedi_rows::{disk_of, expect, expect_at, store_of};
 use std::alloc::{AllocError, Global};
 use std::test::Fail;
 

@@ -1,9 +1,8 @@
 //! Files that were written by hand, and how they are read.
 
-use crate::rows::expect_at;
-use crate::store_files::disk_of;
 use fedi_journal::{InitFault, Journal, JournalFault};
 use fedi_outside::{Keeper, MemoryDisk};
+use fedi_rows::{disk_of, expect_at};
 use std::alloc::{AllocError, Global};
 use std::test::Fail;
 
