@@ -36,4 +36,8 @@ returns g c = record {
       let pair = pair_noted (town before.history).acts before.rows c.args.claim c.delivery_of-delivery.result c.delivery_of-delivery.ensures.activity c.delivery_of-delivery.ensures.recipient
       ∙ pair_is (town before.history) before.rows _ c.self.inside.front c.self.inside.claimed c.args.by p c.args.claim c.self.invariant.2 has in
       rw (sym same) (noted_more g.O.Opened.state.history c.self.inside.noted c.push.new.self _ _ c.args.by (Released p) c.push.ensures refl refl (ap Released pair));
+  turn = record {
+    history = ap (λ x. x.history) c.release.ensures.released ∙ ap (λ m. m.core.history) c.self.view_is;
+    keeper = ap (λ x. x.keeper) c.release.ensures.released ∙ ap (λ m. m.core.keeper) c.self.view_is;
+  };
 }

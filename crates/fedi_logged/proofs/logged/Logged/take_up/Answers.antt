@@ -17,4 +17,4 @@ returns-in-Ok g c =
     let has = subst (λ l. HasClaimed c.args.by l claims.0 c.in-Some.claim) (sym claims.3) (has_claimed_now c.args.by c.args.self.now.log claims.0 c.in-Some.claim) in
     let sent = subst (λ h. IsSending (town h) claims.0 c.in-Some.claim c.in-Ok.recipient c.in-Ok.outgoing) (claim_history c.args.by claims.0 c.in-Some.claim c.args.self.now.log c.claim.new.self.log claims.3)
     (c.in-Ok.ensures c.args.by claims.0 has) in
-    (claims.0, claims.1, claims.2, sent, claims.3)
+    record { taken = (claims.0, claims.1, claims.2, sent, claims.3); turn = c.claim.ensures.turn }
