@@ -61,6 +61,8 @@ def command(path, folder, check):
         check("another's key is refused", "403 NotOwner" in wrong, wrong)
         writes(town, ana, ben, check)
         follows(town, ana, ben, dan, check)
+        recipients(town, ana, check)
+        answers(town, ana, ben, dan, check)
         refusals(town, ana, check)
     finally:
         town.end()
@@ -143,6 +145,77 @@ def follows(town, ana, ben, dan, check):
     check("who is blocked cannot follow", "403 Blocked" in ben.says("follow", "@ana"))
     ana.says("unblock", "@ben")
     check("a Block is taken back", ben.says("follow", "@ana").startswith("https://"))
+
+
+def recipients(town, ana, check):
+    """Words from which it is not sure whom a note is for."""
+    posted = town.total("ana/outbox", "ana")
+    for words in (
+        ("post", "--to", "", "x"),
+        ("post", "--to", " , ,", "x"),
+        ("post", "--to", "@ben", "--followers", "x"),
+        ("post", "--to", "@ben", "--to", "@dan", "x"),
+        ("post", "--to", "@ben@club.example@hill.example", "x"),
+        ("boost", "--to", "@ben", "ana/1"),
+    ):
+        done = ana.runs(*words)
+        check(
+            f"'{' '.join(words)}' is not accepted, and a line says why",
+            done.returncode == 2 and len(done.stderr.splitlines()) == 1,
+            f"{done.returncode} {done.stdout} {done.stderr}",
+        )
+    check("and nothing was posted", town.total("ana/outbox", "ana") == posted)
+
+
+def answers(town, ana, ben, dan, check):
+    """Whom notes and answers are for, as the server shows it."""
+    ids = {name: town.id(name) for name in town.keys}
+    followers, everybody = f"{ids['ana']}/followers", "https://www.w3.org/ns/activitystreams#Public"
+
+    def goes(what, person, words, to, cc=()):
+        told = person.says("post", *words)
+        place = told.removeprefix(f"https://{HOST}")
+        name = os.path.basename(person.kept).removeprefix("kept-")
+        note = town.ask("GET", place, name)[2] if place.startswith("/users/") else {}
+        shown = [note.get("to", []), note.get("cc", [])]
+        tags = [tag["href"] for tag in note.get("tag", [])]
+        named = [id for id in (*to, *cc) if id in ids.values()]
+        check(what, shown == [to, list(cc)] and tags == named, f"{told} {shown} {tags}")
+        status = town.ask("GET", place)[0] if note else None
+        check(f"{what}: strangers", status == (200 if everybody in to else 404), f"{status}")
+        return told
+
+    both = ["--to", "@ben, @dan@club.example", "to two"]
+    goes("names are split at blanks and commas", ana, both, [ids["ben"], ids["dan"]])
+    secret = goes("a note to one", ben, ["--to", "@ana", "secret"], [ids["ana"]])
+    words = ["--answer", secret, "my private answer"]
+    mine = goes("an answer to a note to one is for its author", ana, words, [ids["ben"]])
+    check("who gets it", "my private answer" in ben.says("timeline", "5"))
+    again = ["--answer", mine, "once more"]
+    goes("and an answer to one's own for who is named", ana, again, [ids["ben"]])
+    group = goes("a note to two", ben, ["--to", "@ana @dan", "us"], [ids["ana"], ids["dan"]])
+    words = ["--answer", group, "yes"]
+    goes("an answer is for who is named too", ana, words, [ids["ben"], ids["dan"]])
+    words = ["--to", "@dan", "--answer", group, "hush"]
+    goes("an answer with --to is for these alone", ana, words, [ids["dan"]])
+    words = ["--followers", "--answer", secret, "all of mine"]
+    goes("an answer with --followers is for these", ana, words, [followers], [ids["ben"]])
+    ana.says("follow", "@ben")
+    theirs = ben.says("post", "--followers", "to mine")
+    words = ["--answer", theirs, "to you"]
+    goes("an answer to another's followers is for the author", ana, words, [ids["ben"]])
+    own = ana.says("post", "--followers", "to mine")
+    words = ["--answer", own, "more"]
+    goes("an answer to one's own followers is for these", ana, words, [followers])
+    public = ben.says("post", "to all")
+    words = ["--answer", public, "hear, hear"]
+    goes("a public answer", ana, words, [everybody], [followers, ids["ben"]])
+    alone = ana.says("post", "--to", "@ana", "for me")
+    told = ana.says("post", "--answer", alone, "x")
+    check("an answer for nobody is not posted", told.startswith("1 ") and "--to" in told, told)
+    ben.says("delete", public)
+    told = ana.says("post", "--answer", public, "x")
+    check("nor one to what was deleted", told.startswith("1 ") and "deleted" in told, told)
 
 
 def refusals(town, ana, check):
