@@ -1,12 +1,18 @@
-"""contrib/fedi-post, against a served store and through nginx."""
+"""contrib/fedi-post and contrib/deliver-to, against a served store, and against one that lies."""
+import json
 import os
+import socketserver
 import subprocess
 import sys
+import threading
 
 from serving import HOST
-from town import HERE, Town
+from town import HERE, HILL, Town
 
 COMMAND = os.path.join(os.path.dirname(HERE), "fedi-post")
+DELIVER = os.path.join(os.path.dirname(HERE), "deliver-to")
+# The key that the town shares with hill.example.
+SHARED = "0123456789abcdef" * 4
 
 
 class Person:
@@ -43,6 +49,7 @@ class Person:
 
 def command(path, folder, check):
     town = Town(path, f"{folder}/club", HOST, ["ana", "ben", "dan"])
+    town.peer(HILL, SHARED)
     town.serve()
     try:
         ana, ben, dan = (Person(town, folder, name) for name in ("ana", "ben", "dan"))
@@ -63,6 +70,8 @@ def command(path, folder, check):
         follows(town, ana, ben, dan, check)
         recipients(town, ana, check)
         answers(town, ana, ben, dan, check)
+        deliveries(town, ben, dan, check)
+        lies(f"{folder}/kept-liar", check)
         refusals(town, ana, check)
     finally:
         town.end()
@@ -216,6 +225,138 @@ def answers(town, ana, ben, dan, check):
     ben.says("delete", public)
     told = ana.says("post", "--answer", public, "x")
     check("nor one to what was deleted", told.startswith("1 ") and "deleted" in told, told)
+
+
+def delivered(url, activity, name="dan"):
+    """What contrib/deliver-to comes to, as hill.example."""
+    return subprocess.run(
+        [sys.executable, DELIVER, "--host", HILL, url, f"/users/{name}/inbox", "-"],
+        input=json.dumps(activity).encode(),
+        capture_output=True,
+        env=os.environ | {"FEDI_PEER_KEY": SHARED},
+    )
+
+
+def deliveries(town, ben, dan, check):
+    """What a peer may deliver, and a member may post, must not end what shows it."""
+    dora, url = f"https://{HILL}/users/dora", f"http://127.0.0.1:{town.server.port}"
+    note = {"id": f"{dora}/o/1", "type": "Note", "content": "from the hill", "attributedTo": dora}
+    broken = {"id": f"{dora}/o/2", "type": "Note", "content": "<![wide[ open ]]>"}
+    acts = [
+        {"type": "View"},
+        {"type": "Create", "object": note},
+        {"type": "Create", "object": note | {"content": "once more"}},
+        {"type": "Create", "object": broken},
+        {"type": "Follow", "object": town.id("dan")},
+    ]
+    for number, act in enumerate(acts):
+        act |= {"id": f"{dora}/a/{number}", "actor": dora, "to": [town.id("dan")]}
+        check(f"delivered: {act['type']}", delivered(url, act).stdout.startswith(b"202"))
+    check("posted: Travel", town.post("ben", {"type": "Travel", "to": [town.id("dan")]}))
+    asked = dan.says("requests").split("\n")
+    check("requests are shown after these", asked[0].startswith(f"{dora}  "), f"{asked}")
+    check("and these alone", len(asked) == 1 and asked[0].endswith("/a/4"), f"{asked}")
+    shown = dan.says("timeline", "9")
+    for text in ("from the hill", "<![wide[ open ]]>", f"Create  {dora}/o/1", "View", "Travel"):
+        check(f"the timeline has '{text}'", text in shown, shown)
+
+
+class Liar(socketserver.ThreadingTCPServer):
+    """A server that gives everybody the same bytes."""
+
+    daemon_threads = True
+
+    def __init__(self):
+        super().__init__(("127.0.0.1", 0), LiarsReply)
+        self.reply, self.url = b"", f"http://127.0.0.1:{self.server_address[1]}"
+        threading.Thread(target=self.serve_forever, daemon=True).start()
+
+    def says(self, body, head="200 OK"):
+        text = body if isinstance(body, bytes) else json.dumps(body).encode()
+        length = f"Content-Type: application/json\r\nContent-Length: {len(text)}"
+        self.reply = f"HTTP/1.1 {head}\r\n{length}\r\n\r\n".encode("latin-1") + text
+
+
+class LiarsReply(socketserver.StreamRequestHandler):
+    def handle(self):
+        while self.rfile.readline().strip():
+            pass
+        self.wfile.write(self.server.reply)
+
+
+ESCAPE = "\x1b]0;owned\x07\x1b[31m\x9b2J\u202e"
+# Items of an inbox, each of which is to be passed over or shown.
+ITEMS = [
+    *(None, 5, "x", [], {}, {"type": {}, "object": []}, {"type": "Create"}),
+    {"type": "Create", "object": 5},
+    {"type": "Create", "object": {"type": "Note", "content": [], "summary": 5, "inReplyTo": {}}},
+    {"type": "Undo", "object": {"id": []}},
+    {"type": "Follow", "object": {}, "actor": [], "id": {}, "published": 5},
+]
+BOX = {"first": f"https://{HOST}/users/ana/inbox?page=0", "orderedItems": ITEMS}
+LIES = [
+    *(b"", b"{", b"\xff\xfe\xff", b"[" * 99_999, b"1" * 9_999),
+    *(["x"], 5, {}, {"first": 5}, {"first": {}}),
+    BOX | {"orderedItems": None, "links": 5},
+    BOX | {"orderedItems": [[], {}], "type": [], "links": [5, {"rel": "self", "href": 5}]},
+    {"error": {}, "fault": [ESCAPE], "type": {}, "attributedTo": 5, "tag": 5, "to": 5},
+]
+
+
+def lies(kept, check):
+    """Whatever a server replies, a line says what was wrong, and the terminal gets no command."""
+    with Liar() as liar:
+        person = Person.__new__(Person)
+        person.kept = kept
+        with open(kept, "w") as file:
+            json.dump({"name": "ana", "host": HOST, "key": "00" * 32, "url": liar.url}, file)
+        answer = ["post", "--answer", "ana/1", "x"]
+        for reply in LIES:
+            liar.says(reply)
+            for words in (["timeline"], ["requests"], ["follow", "@ben"], answer):
+                told(person, f"{liar.reply[-40:]}", words, check)
+            liar.says(reply, "404 Not Found")
+            told(person, f"404 {liar.reply[-40:]}", ["read", "a/1"], check)
+        liar.says(BOX)
+        for word in ("timeline", "requests"):
+            done = person.runs(word)
+            check(f"{word} passes over what is no activity", done.returncode == 0, done.stderr)
+        terminal(liar, person, check)
+        liar.shutdown()
+
+
+def told(person, what, words, check):
+    done = person.runs(*words)
+    lines = done.stderr.splitlines()
+    fine = (
+        (done.returncode == 0 and not lines)
+        or (done.returncode in (1, 2) and len(lines) == 1 and lines[0].startswith("fedi-post: "))
+        and lines[0].isprintable()
+    )
+    check(f"{words[0]} of {what}", fine, f"{done.returncode} {done.stdout} {done.stderr}")
+
+
+def terminal(liar, person, check):
+    """Refusals, reasons, bodies and lines that are no HTTP, with commands for a terminal."""
+    liar.says({"error": ESCAPE, "fault": ESCAPE}, "404 Not Found")
+    done = person.runs("follow", "@x")
+    text = "]0;owned[31m2J"
+    check("a refusal has no command", done.stderr == f"fedi-post: 404 {text} {text}\n", f"{done}")
+    reason = ESCAPE[:-1]
+    liar.says({"é": ESCAPE}, f"502 {reason}")
+    for what, reply in (("a reason", liar.reply), ("no HTTP", f"{reason}\r\n".encode("latin-1"))):
+        liar.reply = reply
+        done = person.runs("timeline")
+        line = done.stderr.rstrip("\n")
+        check(f"{what} has no command", line.isprintable() and "owned" in line, f"{done}")
+        done = delivered(liar.url, {})
+        lines = (done.stdout + done.stderr).decode().rstrip("\n").split("\n")
+        fine = all(line.isprintable() for line in lines) and "owned" in lines[0]
+        check(f"{what} has none by deliver-to", fine and done.returncode, f"{done}")
+    liar.says(json.dumps({"é": ESCAPE}, ensure_ascii=False).encode(), "200 OK")
+    body = delivered(liar.url, {}).stdout.decode().partition("\n")[2]
+    fine = body.rstrip("\n").isprintable() and json.loads(body) == {"é": ESCAPE}
+    check("a body has no command, and is the same JSON", fine, f"{body!r}")
 
 
 def refusals(town, ana, check):
