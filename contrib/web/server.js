@@ -69,7 +69,6 @@ const words = {
   ActorFull: 'You have posted as often as a member can.',
   JournalFull: 'The server is full: nothing was posted.',
   KeeperFault: "The server's disk failed: try again. What you post is not posted twice.",
-  Memory: 'The server is short of memory: nothing was posted. Try again.',
   BadText: 'This text is too long.',
   TooLong: 'This is too long.',
   TooManyRecipients: 'These are too many names.',
@@ -89,13 +88,16 @@ const words = {
   NoCoding: 'The server could not read this request: its coding is another.',
 };
 const unheard = 'There was no answer: try again. What you post is not posted twice.';
+// A 507 has no body.
+const short = 'The server is short of memory: nothing was posted. Try again.';
 const busy = 'You ask too often: wait a moment, and try again.';
 
 /** What the server refused: its status, the name of the refusal, and a sentence for the member. */
 export class Refused extends Error {
   constructor(status, told) {
     const name = told?.fault ?? told?.error;
-    super(words[name] ?? (status === 429 ? busy : status === 413 ? words.TooLong : status >= 502 ? unheard
+    super(words[name] ?? (status === 429 ? busy : status === 413 ? words.TooLong : status === 507 ? short
+      : status >= 502 ? unheard
       : `The server refused this (${[status, name].filter(Boolean).join(' ')}).`));
     this.status = status;
     this.name = name;
@@ -160,15 +162,19 @@ export async function members() {
   return names.map(name => `${site}/users/${name}`).reverse();
 }
 
-/** `@name@host` of an id in the form of this server. An id of another form is shown as it is. */
+/**
+ * `@name@host` of an actor's id in the form of this server. An id of another form is shown as it is, after its host if it has a user
+ * name, which may look like another host.
+ */
 export function handle(id) {
-  const found = /^https:\/\/([^/]+)\/users\/([a-z0-9_]+)(?:$|\/)/.exec(id ?? '');
-  if (!found) return String(id);
-  return found[1] === host ? `@${found[2]}` : `@${found[2]}@${found[1]}`;
+  const found = /^https:\/\/([a-z0-9.:-]+)\/users\/([a-z0-9_]+)$/.exec(id ?? '');
+  if (found) return found[1] === host ? `@${found[2]}` : `@${found[2]}@${found[1]}`;
+  const url = URL.canParse(id) ? new URL(id) : {};
+  return url.username || url.password ? `${url.host}: ${id}` : String(id);
 }
 
 /** The member whose activity or object this is, as far as the id shows it. */
-export const ownerOf = id => /^https:\/\/[^/]+\/users\/[a-z0-9_]+/.exec(id ?? '')?.[0] ?? id;
+export const ownerOf = id => /^https:\/\/[a-z0-9.:-]+\/users\/[a-z0-9_]+(?=$|\/)/.exec(id ?? '')?.[0] ?? id;
 
 /** The id of `@name` or `@name@host`, by WebFinger (RFC 7033), for which no key is needed. */
 export async function find(text) {
