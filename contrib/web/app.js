@@ -75,9 +75,12 @@ function writer({answered, changed, then}) {
     const content = htmlOf(text.value, ids);
     const tag = [...new Map([...ids].map(([name, href]) => [href, {type: 'Mention', href, name}])).values()];
     if (changed) {
-      await server.post({type: 'Update', object: {id: changed.id, content, summary: warning.value.trim() || null, tag}});
+      const summary = warning.value.trim();
+      // Its Create may still have to go to other servers, as it is then.
+      server.fitting({...changed, content, summary: summary || undefined, tag, updated: true});
+      await server.post({type: 'Update', object: {id: changed.id, content, summary: summary || null, tag}});
     } else {
-      await server.post(noteFrom(content, tag, {audience: sees.value, warning: warning.value.trim(), answered}));
+      await server.post(server.fitting(noteFrom(content, tag, {audience: sees.value, warning: warning.value.trim(), answered})));
       made.reset();
     }
     say(changed ? 'Changed.' : 'Posted.');

@@ -152,6 +152,37 @@ export async function post(activity) {
   return reply.headers.get('Location');
 }
 
+// ---- how long a post is
+
+/** The longest body that a server of this kind takes, in bytes. */
+export const LONGEST = 262144;
+const CONTEXT = 'https://www.w3.org/ns/activitystreams', LAST = 4294967295, MOMENT = '2000-01-01T00:00:00Z';
+/** An id as the server writes it (URL Standard, 4.5). */
+const normal = id => URL.canParse(id) ? new URL(id).href : id;
+
+/** The bytes of the Create in which other servers get a note of mine: exactly, but for its number, which is counted with ten digits. */
+export function sizeOf({id = `${me.id}/o/${LAST}`, to, cc, audience, tag, inReplyTo, url, updated, ...texts}) {
+  const {type, content, summary, name} = texts;
+  const ids = value => value?.length ? [value].flat().map(normal) : undefined;
+  const people = {to: ids(to), cc: ids(cc), audience: ids(audience)};
+  const tags = tag?.length ? tag.map(({href, name}) => ({type: 'Mention', href: normal(href), name})) : undefined;
+  const object = {
+    type, id, attributedTo: me.id, ...people, content, summary, name, tag: tags, inReplyTo: inReplyTo && normal(inReplyTo),
+    url: url && normal(url), published: MOMENT, updated: updated && MOMENT, likes: `${id}/likes`, shares: `${id}/shares`,
+  };
+  const create = {'@context': CONTEXT, type: 'Create', id, actor: me.id, ...people, object, published: MOMENT};
+  return new TextEncoder().encode(JSON.stringify(create)).length;
+}
+
+/** The note, if other servers take it. They would refuse a longer one, and nobody would know. */
+export function fitting(note) {
+  const size = sizeOf(note), told = number => number.toLocaleString('en');
+  if (size <= LONGEST) return note;
+  const names = size - sizeOf({...note, to: [], cc: [], audience: [], tag: []});
+  throw new Error(`Not posted: other servers take ${told(LONGEST)} bytes, and this note would have ${told(size)}, ${told(names)} of them `
+    + 'for its names. Leave out names, or write less.');
+}
+
 // ---- names
 
 /** The ids of the members whom the operator lists, the newest first, or none if there is no list. */

@@ -1,6 +1,7 @@
 """contrib/fedi-post and contrib/deliver-to, against a served store, and against one that lies."""
 import json
 import os
+import runpy
 import socketserver
 import subprocess
 import sys
@@ -71,6 +72,7 @@ def command(path, folder, check):
         recipients(town, ana, check)
         answers(town, ana, ben, dan, check)
         deliveries(town, ben, dan, check)
+        lengths(town, ana, check)
         lies(f"{folder}/kept-liar", check)
         refusals(town, ana, check)
     finally:
@@ -259,6 +261,52 @@ def deliveries(town, ben, dan, check):
     shown = dan.says("timeline", "9")
     for text in ("from the hill", "<![wide[ open ]]>", f"Create  {dora}/o/1", "View", "Travel"):
         check(f"the timeline has '{text}'", text in shown, shown)
+
+
+# Ids in normal form, and others, which the server writes longer.
+NORMAL = [f"https://{HILL}/users/{number}" for number in range(300)]
+NORMAL += [f"http://{HILL}:81/@d?a=%20&b=!$()*+,;~#x", f"https://x-1.example/{'y' * 2000}"]
+OTHERS = ["https://1/", f"https://{HILL}", f"https://bücher.example/{'é' * 300}"]
+OTHERS += [f"https://{HILL}/#" + "\\" * 1500, f"https://{HILL}/ '^|`{{}}<>[]\"\\"]
+SIGNS = "".join(map(chr, range(128))) + "é\u2028😀"
+
+
+def lengths(town, ana, check):
+    """How long the documents of notes are, as fedi-post reckons and as the server writes them."""
+    module = runpy.run_path(COMMAND)
+    me = module["Member"]("ana", HOST, town.keys["ana"])
+    tags = [{"type": "Mention", "href": id, "name": SIGNS} for id in NORMAL[:9]]
+    notes = {
+        "a short note": {"content": "x", "to": [module["PUBLIC"]]},
+        "a note with all fields": {
+            **{"content": SIGNS, "summary": SIGNS, "name": SIGNS, "inReplyTo": NORMAL[-1]},
+            **{"url": NORMAL[0], "to": NORMAL[:9], "cc": NORMAL[9:], "audience": NORMAL[:50]},
+            "tag": tags,
+        },
+        "a note with no normal id": {"content": "x", "to": OTHERS, "inReplyTo": OTHERS[0]},
+    }
+    for what, note in notes.items():
+        note["type"] = "Note"
+        id = town.post("ana", note)
+        _, fields, create = town.ask("GET", (id or "").removeprefix(f"https://{HOST}"), "ana")
+        length, reckoned = int(fields["Content-Length"]), module["size_of"](me, note)
+        more = 4 * (10 - len((id or "").split("/")[-1]))
+        fine = reckoned > length if note["to"] is OTHERS else reckoned == length + more
+        check(f"the length of {what}", id and fine, f"{reckoned} {length} {more}")
+        reckoned = module["size_of"](me, create["object"])
+        fine = reckoned > length if note["to"] is OTHERS else reckoned == length
+        check(f"and of {what} that has its id", fine, f"{reckoned} {length}")
+    with Liar() as liar:
+        person = Person.__new__(Person)
+        person.kept = f"{ana.kept}-liar"
+        with open(person.kept, "w") as file:
+            json.dump({"name": "ana", "host": HOST, "key": "00" * 32, "url": liar.url}, file)
+        href = f"https://{HOST}/users/{'b' * 2000}"
+        liar.says({"links": [{"rel": "self", "href": href}]})
+        done = person.runs("post", "--to", ",".join(f"@b{number}" for number in range(150)), "x")
+        fine = done.returncode == 1 and "other servers take 262,144 bytes" in done.stderr
+        check("a note that is too long for other servers is not posted", fine, f"{done}")
+        liar.shutdown()
 
 
 class Liar(socketserver.ThreadingTCPServer):
