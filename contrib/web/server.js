@@ -157,13 +157,14 @@ export async function post(activity) {
 /** The longest body that a server of this kind takes, in bytes. */
 export const LONGEST = 262144;
 const CONTEXT = 'https://www.w3.org/ns/activitystreams', LAST = 4294967295, MOMENT = '2000-01-01T00:00:00Z';
-/** An id as the server writes it (URL Standard, 4.5). */
+const list = value => Array.isArray(value) ? value : [value];
+/** An id as the server writes it (URL Standard, 4.5), or longer: some browsers escape a `|` in a path. */
 const normal = id => URL.canParse(id) ? new URL(id).href : id;
 
 /** The bytes of the Create in which other servers get a note of mine: exactly, but for its number, which is counted with ten digits. */
 export function sizeOf({id = `${me.id}/o/${LAST}`, to, cc, audience, tag, inReplyTo, url, updated, ...texts}) {
   const {type, content, summary, name} = texts;
-  const ids = value => value?.length ? [value].flat().map(normal) : undefined;
+  const ids = value => value?.length ? [...new Set(list(value).map(normal))] : undefined;
   const people = {to: ids(to), cc: ids(cc), audience: ids(audience)};
   const tags = tag?.length ? tag.map(({href, name}) => ({type: 'Mention', href: normal(href), name})) : undefined;
   const object = {

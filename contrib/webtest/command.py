@@ -229,10 +229,10 @@ def answers(town, ana, ben, dan, check):
     check("nor one to what was deleted", told.startswith("1 ") and "deleted" in told, told)
 
 
-def delivered(url, activity, name="dan"):
-    """What contrib/deliver-to comes to, as hill.example."""
+def delivered(url, activity):
+    """What contrib/deliver-to to the inbox of dan comes to, as hill.example."""
     return subprocess.run(
-        [sys.executable, DELIVER, "--host", HILL, url, f"/users/{name}/inbox", "-"],
+        [sys.executable, DELIVER, "--host", HILL, "--timeout", "60", url, "/users/dan/inbox", "-"],
         input=json.dumps(activity).encode(),
         capture_output=True,
         env=os.environ | {"FEDI_PEER_KEY": SHARED},

@@ -4,6 +4,7 @@ import os
 import time
 
 from browser import Page, Problem
+from command import NORMAL, OTHERS, SIGNS
 from town import HILL, HOST, OTHER, PUBLIC
 from stage import EVIL
 
@@ -376,4 +377,36 @@ def names(stage, check):
     check("a reply of 507 has its words", "short of memory" in said, said)
 
 
-STEPS = [lost_lines, repeated, policy, listed, names, contents]
+def lengths(stage, check):
+    """How long the documents of notes are, as the page reckons and as the server writes them."""
+    page, signs = stage.member("cleo"), [chr(code) for code in range(32, 127) if code != ord("|")]
+    ids = [f"https://{HILL}/{before}{sign}x" for before in ("", "?", "#") for sign in signs]
+    tags = [{"type": "Mention", "href": id, "name": SIGNS} for id in OTHERS[:-1]]
+    words = {"content": SIGNS, "summary": SIGNS, "name": SIGNS, "inReplyTo": OTHERS[0]}
+    for what, fields in {
+        "a short note": {"content": "x", "to": [PUBLIC], "tag": []},
+        "a note with all fields": words | {"to": NORMAL, "cc": OTHERS[:-1], "tag": tags},
+        "a note with each sign in an id": {"content": "x", "to": ids, "cc": ids[:9]},
+    }.items():
+        note = fields | {"type": "Note", "to": [everybody(id) for id in fields["to"]]}
+        id = stage.town.post("cleo", note) or ""
+        length = stage.town.ask("GET", id.removeprefix(f"https://{HOST}"), "cleo")[1]
+        length = int(length["Content-Length"]) + 4 * (10 - len(id.split("/")[-1]))
+        got = page.eval(f"import('/server.js').then(s => s.sizeOf({json.dumps(note)}))")
+        check(f"the length of {what}", id and got == length, f"{id} {got} {length}")
+    bars = {"type": "Note", "content": "x", "to": [OTHERS[-1]]}
+    id = stage.town.post("cleo", bars)
+    length = stage.town.ask("GET", id.removeprefix(f"https://{HOST}"), "cleo")[1]["Content-Length"]
+    got = page.eval(f"import('/server.js').then(s => s.sizeOf({json.dumps(bars)}))")
+    check("that of other ids is not too small", got >= int(length), f"{got} {length}")
+    note = {"type": "Note", "content": "x", "to": [f"{id}/{'y' * 400}" for id in NORMAL]}
+    tried = f"try {{ s.fitting({json.dumps(note)}); }} catch (error) {{ return error.message; }}"
+    got = page.eval(f"import('/server.js').then(s => {{ {tried} }})")
+    check("a note that is too long for other servers", "262,144 bytes" in (got or ""), got)
+
+
+def everybody(id):
+    return "https://www.w3.org/ns/activitystreams#Public" if id == PUBLIC else id
+
+
+STEPS = [lost_lines, repeated, policy, listed, names, lengths, contents]
