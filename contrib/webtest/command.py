@@ -258,7 +258,7 @@ def deliveries(town, ben, dan, check):
     asked = dan.says("requests").split("\n")
     check("requests are shown after these", asked[0].startswith(f"{dora}  "), f"{asked}")
     check("and these alone", len(asked) == 1 and asked[0].endswith("/a/4"), f"{asked}")
-    shown = dan.says("timeline", "9")
+    shown = dan.says("timeline", "50")
     for text in ("from the hill", "<![wide[ open ]]>", f"Create  {dora}/o/1", "View", "Travel"):
         check(f"the timeline has '{text}'", text in shown, shown)
 
