@@ -2,11 +2,13 @@
 ghost use Rattle.std.specs.Prelude.{IfOk};
 ghost use Rattle.fedi_hall.specs.Works.{IsWaiting};
 
+use crate::clocks::{Slow, Ticking};
 use crate::held::{Gate, HeldLink, IdleDoor, Part};
-use crate::towns::{SECONDS, disk_after, has_counts, post, serve, silent, town};
+use crate::towns::{SECONDS, disk_after, has_counts, post, serve, serve_by, silent, town};
 use fedi_outside::{Bench, Door, MemoryDisk, MemoryDoor, MemoryLink, MemoryRow, Rest, Turn};
 use std::alloc::{AllocError, Global};
 use std::sync::Wait;
+use std::sync::atomic::AtomicU64;
 use std::test::Fail;
 use std::thread::Threads;
 use std::time::Clock;
@@ -143,6 +145,53 @@ fn an_attempt_that_is_not_kept_is_made_again(rt: HostRuntime) -> Result<(), Fail
     let kept = MemoryDisk::new(rt.alloc(), disk.bytes().to_vec(rt.alloc())?)?;
     let counts = "entries 5 actors 1 activities 1 queue 0\n";
     expect(has_counts(rt.alloc(), kept, counts)?, "the counts")
+}
+
+// What the door of a bench was told, which was idle twice by a clock that advances, and the disk.
+fn slow_rests<R: Threads + Wait + Sync>(
+    rt: &R,
+    alloc: Global,
+    clock: Ticking,
+    disk: MemoryDisk,
+) -> Result<(Option<(Rest, Rest)>, MemoryDisk), Fail> {
+    let mut benches = Vec::with_capacity(alloc, 1)?;
+    benches.push(Bench {
+        door: idle_twice(alloc)?,
+        link: Slow {
+            inner: taking(alloc, 1)?,
+            clock,
+        },
+    })?;
+    let ended = serve_by(rt, alloc, clock, disk, benches)?;
+    match ended.benches.as_slice() {
+        [bench] if ended.status == 0 => Ok((told(bench.door.rows()), ended.disk)),
+        _ => Err(Fail::new("the status")),
+    }
+}
+
+// Whether the last record of the disk's store is of this moment. Its bytes end in the moment, and a
+// closed gate is behind them.
+fn ends_at(disk: &MemoryDisk, moment: u64) -> bool {
+    match disk.bytes().strip_suffix(b"\0") {
+        Some(records) => records.ends_with(&moment.to_be_bytes()),
+        None => false,
+    }
+}
+
+// The first reading of the clock is for the claim. Then the look-up and the post each take a
+// second, so that what came of them is known at the fourth one.
+#[test]
+fn an_attempt_is_dated_after_its_exchanges(rt: HostRuntime) -> Result<(), Fail> {
+    let seconds = AtomicU64::new(SECONDS);
+    let disk = waiting(rt.alloc(), 1)?;
+    let (told, disk) = slow_rests(&rt, rt.alloc(), Ticking::new(&seconds), disk)?;
+    let tried = Rest::Tried { claimed: ENTRIES };
+    let nothing = Rest::Nothing {
+        front: ENTRIES + 2,
+        moment: SECONDS + 4,
+    };
+    expect(told == Some((tried, nothing)), "what the door was told")?;
+    expect(ends_at(&disk, SECONDS + 3), "the moment")
 }
 
 // ---- two workers

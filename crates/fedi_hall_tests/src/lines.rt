@@ -2,11 +2,13 @@
 ghost use Rattle.std.specs.Prelude.{IfOk};
 ghost use Rattle.fedi_hall.specs.Works.{IsWaiting};
 
+use crate::clocks::{Slow, Ticking};
 use crate::held::{Gate, HeldDoor, Part};
-use crate::towns::{post, serve, silent, town};
+use crate::towns::{SECONDS, done_by, post, serve, silent, source, town};
 use fedi_outside::{Bench, Door, MemoryDoor, MemoryLink, MemorySink, MemorySource, Turn};
 use std::alloc::{AllocError, Global};
 use std::sync::Wait;
+use std::sync::atomic::AtomicU64;
 use std::test::Fail;
 use std::thread::Threads;
 use std::time::Clock;
@@ -131,6 +133,31 @@ fn a_line_that_posts_finds_its_own_post(rt: HostRuntime) -> Result<(), Fail> {
     };
     let gate = Gate::new();
     expect(&rt, rt.alloc(), &gate, &own, &none)
+}
+
+// The reply to a post, and the object that it made, by a clock that shows 08:49:37 when the post
+// begins to come, and a second more when it has come.
+#[test]
+fn a_post_is_dated_after_it_has_come(rt: HostRuntime) -> Result<(), Fail> {
+    let seconds = AtomicU64::new(SECONDS);
+    let clock = Ticking::new(&seconds);
+    let mut input = post(rt.alloc(), NOTE)?;
+    input.push_str(OBJECT)?;
+    let slow = Slow {
+        inner: source(rt.alloc(), &input)?,
+        clock,
+    };
+    let (_, sent) = done_by(rt.alloc(), "inetd s", slow, clock, town(rt.alloc())?)?;
+    let text = str::from_utf8(&sent).unwrap_or_default();
+    for part in [
+        "HTTP/1.1 201 Created\r\nDate: Sun, 06 Nov 1994 08:49:38 GMT\r\n",
+        "\"published\":\"1994-11-06T08:49:38Z\"",
+    ] {
+        if !text.contains(part) {
+            return Err(Fail::new(part));
+        }
+    }
+    Ok(())
 }
 
 // The status for the turns of one door.

@@ -4,8 +4,8 @@ ghost use Rattle.fedi_hall.specs.Works.{IsWaiting};
 
 use fedi_effects::Seed;
 use fedi_outside::{
-    Bench, Door, FixedClock, Link, MemoryDisk, MemoryDoor, MemoryEntropy, MemoryLink, MemorySink,
-    MemorySource,
+    Bench, Clock, Door, FixedClock, Link, MemoryDisk, MemoryDoor, MemoryEntropy, MemoryLink,
+    MemorySink, MemorySource, Source,
 };
 use fedi_program::{Connection, Ended, address_of, run, run_alone};
 use std::alloc::{AllocError, Global};
@@ -45,30 +45,34 @@ fn idle_bench(alloc: Global) -> Result<Vec<Bench<MemoryDoor, MemoryLink>>, Alloc
     Ok(benches)
 }
 
-// A connection that receives these bytes.
-fn connection(
-    alloc: Global,
-    input: &str,
-) -> Result<Connection<MemorySource, MemorySink, FixedClock>, AllocError> {
-    Ok(Connection {
-        input: MemorySource::new(alloc, Vec::from_slice(alloc, input.as_bytes())?),
-        out: MemorySink::new(alloc),
-        clock: FixedClock::new(SECONDS),
-    })
+/// A source of these bytes.
+pub fn source(alloc: Global, input: &str) -> Result<MemorySource, AllocError> {
+    Ok(MemorySource::new(alloc, Vec::from_slice(alloc, input.as_bytes())?))
 }
 
-// The disk after a command, which has to succeed, and what it printed.
-fn done(
+// A connection over this source, dated by this clock.
+fn connection<S, C>(alloc: Global, input: S, clock: C) -> Connection<S, MemorySink, C> {
+    Connection {
+        input,
+        out: MemorySink::new(alloc),
+        clock,
+    }
+}
+
+/// The disk after a command, which has to succeed, over this source and by this clock; and what it
+/// wrote.
+pub fn done_by<S: Source + Drop, C: Clock + Drop>(
     alloc: Global,
     line: &str,
-    input: &str,
+    input: S,
+    clock: C,
     disk: MemoryDisk,
 ) -> Result<(MemoryDisk, Vec<u8>), Fail> {
     let words = words(alloc, line)?;
     let None = address_of(&words) else {
         return Err(Fail::new(line));
     };
-    let mut connection = connection(alloc, input)?;
+    let mut connection = connection(alloc, input, clock);
     let mut entropy = MemoryEntropy::new(alloc, DRAWN.to_vec(alloc)?);
     let benches = idle_bench(alloc)?;
     let ended = run_alone(
@@ -81,11 +85,22 @@ fn done(
         &mut entropy,
     );
     if ended.status == 0 {
-        let printed = connection.out.bytes().to_vec(alloc)?;
-        Ok((ended.disk, printed))
+        let written = connection.out.bytes().to_vec(alloc)?;
+        Ok((ended.disk, written))
     } else {
         Err(Fail::new(line))
     }
+}
+
+// The same with this input, at the moment of all events.
+fn done(
+    alloc: Global,
+    line: &str,
+    input: &str,
+    disk: MemoryDisk,
+) -> Result<(MemoryDisk, Vec<u8>), Fail> {
+    let clock = FixedClock::new(SECONDS);
+    done_by(alloc, line, source(alloc, input)?, clock, disk)
 }
 
 /// The disk after a command, which has to succeed, with this input.
@@ -117,10 +132,16 @@ pub fn town(alloc: Global) -> Result<MemoryDisk, Fail> {
     disk_after(alloc, "add-actor s ana", "", made)
 }
 
-/// Serves the connections of the doors, and delivers over the links.
-pub fn serve<R: Threads + Wait + Sync, W: Door + Send + Drop, K: Link + Send + Drop>(
+/// Serves the connections of the doors, and delivers over the links, by this clock.
+pub fn serve_by<
+    R: Threads + Wait + Sync,
+    W: Door + Send + Drop,
+    K: Link + Send + Drop,
+    C: Clock + Sync + Drop,
+>(
     rt: &R,
     alloc: Global,
+    clock: C,
     disk: MemoryDisk,
     benches: Vec<Bench<W, K>>,
 ) -> Result<Ended<MemoryDisk, W, K>, AllocError>
@@ -128,7 +149,7 @@ pub fn serve<R: Threads + Wait + Sync, W: Door + Send + Drop, K: Link + Send + D
     requires waiting { All (λ b. IsWaiting W.out W.idle b.door) benches.items }
 {
     let words = words(alloc, "serve s 127.0.0.1:80")?;
-    let mut connection = connection(alloc, "")?;
+    let mut connection = connection(alloc, source(alloc, "")?, clock);
     let mut entropy = MemoryEntropy::new(alloc, Vec::new(alloc));
     Ok(run(
         rt,
@@ -140,6 +161,19 @@ pub fn serve<R: Threads + Wait + Sync, W: Door + Send + Drop, K: Link + Send + D
         benches,
         &mut entropy,
     ))
+}
+
+/// The same at the moment of all events.
+pub fn serve<R: Threads + Wait + Sync, W: Door + Send + Drop, K: Link + Send + Drop>(
+    rt: &R,
+    alloc: Global,
+    disk: MemoryDisk,
+    benches: Vec<Bench<W, K>>,
+) -> Result<Ended<MemoryDisk, W, K>, AllocError>
+    requires some { 0 < vec_len benches }
+    requires waiting { All (λ b. IsWaiting W.out W.idle b.door) benches.items }
+{
+    serve_by(rt, alloc, FixedClock::new(SECONDS), disk, benches)
 }
 
 /// A post of this body by ana.
