@@ -4,7 +4,7 @@ use fedi_adapters::TcpLink;
 use fedi_outside::{Failed, Link, REPLY_LENGTH};
 use std::alloc::{AllocError, Global};
 use std::io::{self, ErrorKind, Read, Write};
-use std::net::{Ipv4Addr, Net, SocketAddr, TcpListener, TcpStream};
+use std::net::{IpAddr, Ipv4Addr, Net, SocketAddr, TcpListener, TcpStream, ToSocketAddrs};
 use std::sync::atomic::{AtomicU64, Ordering};
 use std::test::Fail;
 use std::thread::{self, Threads};
@@ -146,17 +146,18 @@ fn is_heard(
     }
 }
 
-// Whether the exchange of a request of this many bytes with this other side hears `count` bytes, or
-// fails if there is no count.
+// Whether the exchange of a request of this many bytes with this other side, at an address of this
+// host, hears `count` bytes, or fails if there is no count.
 fn hears<R: Net<Listener = TcpListener, Stream = TcpStream> + Clock + Threads + Sync>(
     rt: &R,
     alloc: Global,
+    host: &str,
     request: usize,
     peer: Peer,
     count: Option<usize>,
 ) -> Result<bool, Fail> {
     let (listener, address) = listen(rt)?;
-    let address = format!(in alloc; "{address}")?;
+    let address = format!(in alloc; "{host}:{}", address.port())?;
     let request = bytes(alloc, request)?;
     let patience = if count.is_some() { LONG } else { SHORT };
     if let Peer::Absent = peer {
@@ -196,11 +197,42 @@ fn an_exchange_ends_in_its_time(rt: HostRuntime) -> Result<(), Fail> {
         ("does not read", 16_000_000, Peer::Holds, None),
         ("slow", 100, Peer::Drips(50), None),
     ] {
-        if !hears(&rt, rt.alloc(), request, peer, heard)? {
+        if !hears(&rt, rt.alloc(), "127.0.0.1", request, peer, heard)? {
             return Err(Fail::new(row));
         }
     }
     Ok(())
+}
+
+// Whether 127.0.0.1, where the other side listens, is an address of this name, but not the first.
+fn comes_later<R: Net<Listener = TcpListener, Stream = TcpStream>>(rt: &R, name: &str) -> bool {
+    match (name, 80u16).to_socket_addrs(rt) {
+        Ok(addresses) => addresses
+            .skip(1)
+            .any(|address| address.ip() == IpAddr::V4(Ipv4Addr::LOCALHOST)),
+        Err(_) => false,
+    }
+}
+
+#[test]
+fn each_address_of_a_name_is_tried(rt: HostRuntime) -> Result<(), Fail> {
+    // Most systems give this name the addresses ::1 and 127.0.0.1. On others there is no name with
+    // two addresses that all have, so that there is nothing to try.
+    if listen(&rt).is_err() || !comes_later(&rt, "localhost") {
+        return Ok(());
+    }
+    if hears(
+        &rt,
+        rt.alloc(),
+        "localhost",
+        100,
+        Peer::Replies(300),
+        Some(300),
+    )? {
+        Ok(())
+    } else {
+        Err(Fail::new("the second address"))
+    }
 }
 
 #[test]
