@@ -3,6 +3,9 @@
 //! to everybody and one to ben alone. All of it happened at 1994-11-06T08:49:37Z. The keys of the
 //! members are 32 bytes 0, 1, 2 and 3, and their records have the SHA-256 digests of these.
 
+use crate::delivering::HILL;
+use crate::records::LAKE;
+
 /// The server was set up for club.example.
 pub const HOSTED: &[u8] = b"\
     \x01\
@@ -83,6 +86,9 @@ const PSST: &[u8] = b"\
 
 /// The records of the host and of its members.
 pub const MEMBERS: [&[u8]; 5] = [HOSTED, ANA, BEN, CLEO, DAN];
+
+/// These, and those of two peers.
+pub const PEERED: [&[u8]; 7] = [HOSTED, ANA, BEN, CLEO, DAN, HILL, LAKE];
 
 /// The records of the example town.
 pub const TOWN: [&[u8]; 7] = [HOSTED, ANA, BEN, CLEO, DAN, HELLO, PSST];
