@@ -10,9 +10,15 @@
 #[cfg(test)]
 mod example;
 #[cfg(test)]
+mod forwards;
+#[cfg(test)]
 mod opening;
 #[cfg(test)]
 mod records;
+#[cfg(test)]
+mod shelves;
+#[cfg(test)]
+mod talk;
 
 // Whole runs over what lies in memory.
 #[cfg(test)]

@@ -95,6 +95,15 @@ pub(crate) fn add_all<K: Keeper>(keeper: &mut K, records: &[&[u8]]) -> Result<()
     Ok(())
 }
 
+/// Whether the shelf, which is empty, opens the history of these records.
+pub(crate) fn opens<S: Shelf>(alloc: Global, records: &[&[u8]], shelf: &mut S) -> Result<bool, Fail>
+    requires empty { (S.holding shelf.old).history ≡ [] }
+{
+    let mut keeper = MemoryKeeper::new(alloc);
+    add_all(&mut keeper, records)?;
+    Ok(open_history(alloc, &mut keeper, shelf).is_ok())
+}
+
 // The expected result of an opening.
 #[derive(Clone, Copy)]
 enum Wanted {

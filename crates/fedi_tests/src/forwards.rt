@@ -1,0 +1,71 @@
+//! Who the activities of other servers are forwarded to.
+
+ghost use Rattle.std.specs.Prelude.{◌≡◌, []};
+
+use crate::cases::seed;
+use crate::delivering::{FORWARDED, HILL, REPLIED, REPLY_LIKED};
+use crate::opening::opens;
+use crate::records::{ANA, FOLLOWED, HOSTED, LAKE, NOTE};
+use fedi_address::Iri;
+use fedi_effects::Facts;
+use fedi_entry::{KnownHosts, decode};
+use fedi_objects::Entry;
+use fedi_queue::forwards;
+use fedi_rows::expect_at;
+use fedi_visible::{PlainShelf, Shelf};
+use std::alloc::Global;
+use std::test::Fail;
+
+/// A town in which somebody elsewhere follows a member, who has posted a note.
+const BEFORE: [&[u8]; 6] = [HOSTED, ANA, LAKE, HILL, FOLLOWED, NOTE];
+
+/// A delivery, and who it is forwarded to: the followers elsewhere, if it is for them and about the
+/// member's note. What the last one likes is not known.
+const ROWS: [(&[u8], &[&str]); 3] = [
+    (FORWARDED, &["https://lake.example/users/eve"]),
+    (REPLIED, &[]),
+    (REPLY_LIKED, &[]),
+];
+
+fn are_iris(iris: &[Iri], texts: &[&str]) -> bool {
+    iris.len() == texts.len()
+        && iris
+            .iter()
+            .zip(texts.iter())
+            .all(|(iri, text)| iri.text() == *text)
+}
+
+fn has_forwards(alloc: Global, facts: &Facts, row: &(&[u8], &[&str])) -> Result<bool, Fail> {
+    let mut hosts = KnownHosts::new();
+    let entry = decode(alloc, &mut hosts, row.0)?;
+    match &entry {
+        Entry::Remote { activity, .. } => {
+            let found = forwards(alloc, facts, activity.get())?;
+            Ok(are_iris(found.as_slice(), row.1))
+        }
+        _ => Ok(false),
+    }
+}
+
+fn expect_forwards(alloc: Global, shelf: &mut PlainShelf) -> Result<(), Fail>
+    requires empty { shelf.old.history ≡ [] }
+{
+    expect_at(opens(alloc, &BEFORE, shelf)?, "records", BEFORE.len())?;
+    for (number, row) in ROWS.iter().enumerate() {
+        expect_at(
+            has_forwards(alloc, shelf.facts(), row)?,
+            "a delivery",
+            number,
+        )?;
+    }
+    Ok(())
+}
+
+#[test]
+fn what_is_for_the_followers_is_forwarded_to_them(rt: HostRuntime) -> Result<(), Fail> {
+    let mut made = PlainShelf::empty(rt.alloc(), seed());
+    match &mut made {
+        Ok(shelf) => expect_forwards(rt.alloc(), shelf),
+        Err(_) => Err(Fail::new("memory")),
+    }
+}
