@@ -1,8 +1,9 @@
 //! Connections as lines.
-ghost use Rattle.std.specs.Prelude.{◌≡◌, None, IfOk, refl};
+ghost use Rattle.std.specs.Prelude.{◌≡◌, ◌≢◌, None, IfOk, refl};
+ghost use Rattle.std.specs.Io.{ReadsAtMost, WritesAtMost};
 
 use fedi_outside::{Failed, Line, Sink, Source};
-use std::io::{self, Read, Write};
+use std::io::{self, ErrorKind, Read, Write};
 use std::net::{Shutdown, TcpStream};
 use std::time::{Clock, Duration, Instant};
 
@@ -18,8 +19,9 @@ const FAREWELL: u64 = 1;
 
 /// A TCP connection. A read or a write fails if it waits longer than 5 seconds. It also fails if it
 /// is made more than 30 seconds after the first call of its kind since the last call of the other
-/// kind: a request has to be there, or a reply to be taken, in that time. It reports neither what
-/// is to be read nor what was sent.
+/// kind: a request has to be there, or a reply to be taken, in that time. One that the system
+/// interrupts begins anew while that time lasts. It reports neither what is to be read nor what was
+/// sent.
 #[derive(Drop)]
 pub struct TcpLine<'a, R> {
     rt: &'a R,
@@ -56,13 +58,51 @@ impl<'a, R: Clock> TcpLine<'a, R> {
     fn is_late(&mut self, writes: bool) -> bool
         ensures reads { self.new.read_faults ≡ self.old.read_faults }
         ensures writes { self.new.write_faults ≡ self.old.write_faults }
+        ensures kind { self.new.writes ≡ writes }
+        ensures since { writes ≡ self.old.writes → self.new.since ≡ self.old.since }
     {
         let now = Instant::now(self.rt).ok();
-        if self.writes != writes {
-            self.writes = writes;
-            self.since = now;
-        }
+        self.since = since_of(self.writes, writes, self.since, now);
+        self.writes = writes;
         is_past(self.since, now, BUDGET)
+    }
+
+    // Reads once. With a time-out set, the system interrupts a read when the process is stopped and
+    // goes on, is frozen and thawed, or is traced. Such a read has taken nothing.
+    fn receive(&mut self, into: &mut [u8]) -> io::Result<usize>
+        ensures bound { ReadsAtMost result into.new }
+        ensures reads { self.new.read_faults ≡ self.old.read_faults }
+        ensures writes { self.new.write_faults ≡ self.old.write_faults }
+    {
+        for _ in 0..u64::MAX {
+            if self.is_late(false) {
+                break;
+            }
+            match self.stream.read(into) {
+                Err(error) if error.kind() == ErrorKind::Interrupted => {}
+                ended => return ended,
+            }
+        }
+        Err(ErrorKind::TimedOut.into())
+    }
+
+    // Writes once. A write that the system interrupts has sent nothing: if it has sent some bytes,
+    // it returns their number.
+    fn send(&mut self, from: &[u8]) -> io::Result<usize>
+        ensures bound { WritesAtMost result from.now }
+        ensures reads { self.new.read_faults ≡ self.old.read_faults }
+        ensures writes { self.new.write_faults ≡ self.old.write_faults }
+    {
+        for _ in 0..u64::MAX {
+            if self.is_late(true) {
+                break;
+            }
+            match self.stream.write(from) {
+                Err(error) if error.kind() == ErrorKind::Interrupted => {}
+                ended => return ended,
+            }
+        }
+        Err(ErrorKind::TimedOut.into())
     }
 
     /// Closes the connection so that the other side gets what was written. If the other side still
@@ -84,14 +124,30 @@ impl<'a, R: Clock> TcpLine<'a, R> {
         let since = Instant::now(self.rt)?;
         let mut dropped = [0; 4_096];
         for _ in 0..u64::MAX {
-            if self.stream.read(&mut dropped)? == 0
-                || is_past(Some(since), Instant::now(self.rt).ok(), FAREWELL)
-            {
+            let is_over = match self.stream.read(&mut dropped) {
+                Ok(count) => count == 0,
+                Err(error) => error.kind() != ErrorKind::Interrupted,
+            };
+            if is_over || is_past(Some(since), Instant::now(self.rt).ok(), FAREWELL) {
                 return Ok(());
             }
         }
         Ok(())
     }
+}
+
+// When the first call of the kind of this one was made, if it is a write or not, since the last
+// call of the other kind. Before this call that time was `since`, for writes or not.
+fn since_of(
+    were_writes: bool,
+    writes: bool,
+    since: Option<Instant>,
+    now: Option<Instant>,
+) -> Option<Instant>
+    ensures same { writes ≡ were_writes → result ≡ since }
+    ensures other { writes ≢ were_writes → result ≡ now }
+{
+    if writes == were_writes { since } else { now }
 }
 
 // Whether both times are known and more than this many seconds apart.
@@ -111,13 +167,13 @@ impl<R: Clock> Source for TcpLine<'_, R> {
     ghost beside_source = { λ line. record { 0 = None; 1 = line.write_faults } };
 
     fn read(&mut self, into: &mut [u8]) -> Result<usize, Failed> {
-        if !self.is_late(false) {
-            if let Ok(count) = self.stream.read(into) {
-                return Ok(count);
+        match self.receive(into) {
+            Ok(count) => Ok(count),
+            Err(_) => {
+                self.read_faults = self.read_faults.saturating_add(1);
+                Err(Failed)
             }
         }
-        self.read_faults = self.read_faults.saturating_add(1);
-        Err(Failed)
     }
 }
 
@@ -129,14 +185,13 @@ impl<R: Clock> Sink for TcpLine<'_, R> {
     ghost beside_sink = { λ line. record { 0 = None; 1 = line.read_faults } };
 
     fn write(&mut self, from: &[u8]) -> Result<usize, Failed> {
-        if !self.is_late(true) {
-            match self.stream.write(from) {
-                Ok(count) if count > 0 || from.is_empty() => return Ok(count),
-                _ => {}
+        match self.send(from) {
+            Ok(count) if count > 0 || from.is_empty() => Ok(count),
+            _ => {
+                self.write_faults = self.write_faults.saturating_add(1);
+                Err(Failed)
             }
         }
-        self.write_faults = self.write_faults.saturating_add(1);
-        Err(Failed)
     }
 }
 

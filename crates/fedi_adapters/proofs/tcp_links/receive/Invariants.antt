@@ -1,11 +1,11 @@
-use Rattle.std.proofs.Common.{◌≡◌, ◌≤◌, ◌-◌, length}
+use Rattle.std.proofs.Common.{◌≡◌, ◌≤◌, length, take}
+use Rattle.std.specs.Io.KnownBytes.{Consumes}
 use Rattle.fedi_adapters.proofs.tcp_links.receive.Given as goal
 
-abbrev pub invariant-loop-filled : goal.invariant-loop-filled
-invariant-loop-filled g l = record {
+abbrev pub invariant-loop : goal.invariant-loop
+invariant-loop g l = record {
+  room : length l.into ≡ length l.initial.into;
   within : l.filled ≤ length l.into;
-  room : length l.into ≡ length l.fn.into;
+  read : Consumes (g.S.Read.remaining l.initial.stream) (g.S.Read.remaining l.stream)
+      (take l.filled l.into);
 }
-
-abbrev pub decreases-loop-filled : goal.decreases-loop-filled
-decreases-loop-filled g l = length l.into - l.filled
