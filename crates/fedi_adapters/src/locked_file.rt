@@ -160,7 +160,7 @@ impl<'a, R: Files<File = File>> LockedFile<'a, R> {
             return Ok(());
         }
         match File::open(self.rt, folder_of(self.path)) {
-            Ok(folder) => folder.sync_all()?,
+            Ok(folder) => sync_folder(&folder)?,
             Err(error)
                 if self.entry == Entry::Found && error.kind() == ErrorKind::PermissionDenied => {}
             Err(error) => return Err(error),
@@ -240,6 +240,20 @@ fn open_locked<R: Files<File = File>>(rt: &R, path: &str, create: bool) -> io::R
     }
     file.try_lock()?;
     Ok(file)
+}
+
+// Makes durable which files the folder contains. Some file systems, over a network or in a process
+// of their own, have no such call for folders, and say so: `EINVAL`, `ENOSYS` or `EOPNOTSUPP`. Then
+// nothing more can be done for the entry, and nothing has failed. A folder that could not be
+// written, as on a full or a broken disk, is an error.
+fn sync_folder(folder: &File) -> io::Result<()> {
+    let Err(error) = folder.sync_all() else {
+        return Ok(());
+    };
+    match error.kind() {
+        ErrorKind::InvalidInput | ErrorKind::Unsupported => Ok(()),
+        _ => Err(error),
+    }
 }
 
 // The folder that contains the file at this path.
