@@ -1,5 +1,5 @@
 //! A file as a disk.
-ghost use Rattle.std.specs.Prelude.{◌≡◌, None};
+ghost use Rattle.std.specs.Prelude.{◌≡◌, IsSome, None};
 
 use crate::health::Health;
 use crate::locked_file::LockedFile;
@@ -38,6 +38,7 @@ impl<'a, R: Files<File = File>> FileDisk<LockedFile<'a, R>> {
 
     /// The same, and whether the last write or sync of the file failed is noted there.
     pub fn watched(rt: &'a R, path: &'a str, health: &'a Health) -> Self
+        ensures watched { IsSome result.file.health }
         ensures faults { result.file.faults ≡ 0 }
         ensures size { result.size ≡ 0 }
     {

@@ -1,5 +1,5 @@
 //! A file that only one process has open.
-ghost use Rattle.std.specs.Prelude.{◌≡◌, ◌+◌, ◌^◌, ◌<◌, length, is_ok, OnOk};
+ghost use Rattle.std.specs.Prelude.{◌≡◌, ◌+◌, ◌^◌, ◌<◌, IsSome, length, is_ok, OnOk};
 ghost use Rattle.fedi_outside.specs.Causes.{HasCause};
 
 use crate::health::Health;
@@ -63,7 +63,8 @@ impl<'a, R: Files<File = File>> LockedFile<'a, R> {
 
     /// This file, which notes there whether the last write or sync failed.
     pub fn watched(mut self, health: &'a Health) -> Self
-        ensures { result.faults ≡ self.entry.faults }
+        ensures watched { IsSome result.health }
+        ensures faults { result.faults ≡ self.entry.faults }
     {
         self.health = Some(health);
         self

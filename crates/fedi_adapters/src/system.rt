@@ -1,12 +1,11 @@
 //! The real input, output, clock and source of random bytes. They report what they hold as far as
 //! std reports it.
-ghost use Rattle.std.specs.Prelude.{◌≡◌, ◌<◌, ◌/◌, ℕ, None, IfOk, OnOk, is_some, length};
+ghost use Rattle.std.specs.Prelude.{◌≡◌, ◌<◌, ℕ, None, IfOk, OnOk, codes, is_some, length};
 ghost use Rattle.std.specs.Io.{ReadsAtMost, WritesAtMost};
 ghost use Rattle.std.specs.Io.KnownBytes.{ReadConsumes, WriteAppends};
-ghost use Rattle.std.specs.Time.{system_time_nanos};
 ghost use Rattle.fedi_outside.specs.Causes.{HasCause};
 ghost use Rattle.fedi_outside.specs.Entropies.{FillConsumes};
-ghost use Rattle.fedi_adapters.specs.System.{IsReadOf};
+ghost use Rattle.fedi_adapters.specs.System.{IsReadOf, seconds_shown};
 
 use fedi_outside::{Clock, Entropy, Failed, Sink, Source};
 use std::fs::File;
@@ -116,19 +115,19 @@ impl<R: std::rt::Clock> Clock for SystemClock<'_, R> {
     ghost told = { λ _. None };
 
     fn now(&self) -> u64 {
-        match SystemTime::now(self.rt) {
-            Ok(now) => seconds_of(now),
-            Err(_) => 0,
-        }
+        seconds_of(SystemTime::now(self.rt))
     }
 }
 
-// The whole seconds from the beginning of 1970 to this time.
-fn seconds_of(time: SystemTime) -> u64
-    ensures { result ≡ system_time_nanos time / 1_000_000_000 }
+// The whole seconds from the beginning of 1970 to the time that the machine shows, or 0.
+fn seconds_of(shown: io::Result<SystemTime>) -> u64
+    ensures { result ≡ seconds_shown shown }
 {
-    match time.duration_since(UNIX_EPOCH) {
-        Ok(since) => since.as_secs(),
+    match shown {
+        Ok(time) => match time.duration_since(UNIX_EPOCH) {
+            Ok(since) => since.as_secs(),
+            Err(_) => 0,
+        },
         Err(_) => 0,
     }
 }
@@ -145,6 +144,7 @@ pub struct SystemEntropy<'a, R> {
 impl<'a, R: Files> SystemEntropy<'a, R> {
     /// The system's own source. Nothing is opened yet.
     pub fn new(rt: &'a R) -> Self
+        ensures path { result.path.now ≡ codes "/dev/urandom" }
         ensures faults { result.faults ≡ 0 }
     {
         SystemEntropy {

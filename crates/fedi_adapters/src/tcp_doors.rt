@@ -1,11 +1,13 @@
 //! Doors on a listener.
-ghost use Rattle.std.specs.Prelude.{◌≡◌, IfSome, None, false};
+ghost use Rattle.std.specs.Prelude.{◌≡◌, IfSome, None, false, if◌then◌else◌, not, true};
+ghost use Rattle.fedi_adapters.specs.Doors.{Fits, is_tried};
 ghost use Rattle.fedi_adapters.specs.Untold.{untold_if};
+ghost use Rattle.fedi_outside.specs.Doors.{Gives, IsTurnCounted};
 
 use crate::health::Health;
 use crate::listeners::Listening;
 use crate::tcp_lines::TcpLine;
-use fedi_outside::{Door, Rest, Turn};
+use fedi_outside::{Door, Rest, Sink, Source, Turn};
 use std::net::{Net, TcpListener, TcpStream};
 use std::sync::Wait;
 use std::thread;
@@ -49,8 +51,10 @@ impl<'a, R: Net<Listener = TcpListener, Stream = TcpStream>> TcpDoor<'a, R> {
     /// A door of this role on this listener, which has given no line yet. The health is that of the
     /// disk on which is kept what comes of deliveries.
     pub fn new(rt: &'a R, listening: &'a Listening<'a, R>, health: &'a Health, role: Role) -> Self
+        ensures role { result.role ≡ role }
         ensures out { result.is_out ≡ false }
         ensures idle { result.is_idle ≡ false }
+        ensures pauses { result.pauses ≡ false }
         ensures faults { result.faults ≡ 0 }
     {
         TcpDoor {
@@ -88,12 +92,25 @@ impl<'a, R: Net<Listener = TcpListener, Stream = TcpStream> + Clock + Wait> TcpD
         if !self.listening.is_bound() {
             return false;
         }
-        if self.health.is_failing() {
-            thread::sleep(self.rt, Duration::from_millis(FAILING_PAUSE));
-        } else if self.pauses {
-            thread::sleep(self.rt, Duration::from_millis(PAUSE));
+        let pause = pause_after(self.health.is_failing(), self.pauses);
+        if pause > 0 {
+            thread::sleep(self.rt, Duration::from_millis(pause));
         }
         true
+    }
+}
+
+// How many milliseconds a door that delivers sleeps before it is idle, while the disk fails or not,
+// after nothing was due or a delivery was tried.
+fn pause_after(is_failing: bool, pauses: bool) -> u64
+    ensures { result ≡ (if is_failing then FAILING_PAUSE else (if pauses then PAUSE else 0)) }
+{
+    if is_failing {
+        FAILING_PAUSE
+    } else if pauses {
+        PAUSE
+    } else {
+        0
     }
 }
 
@@ -111,7 +128,15 @@ impl<'a, R: Net<Listener = TcpListener, Stream = TcpStream> + Clock + Wait + Syn
 
     ghost faults = { λ door. door.faults };
 
-    fn next(&mut self) -> Turn<TcpLine<'a, R>> {
+    fn next(&mut self) -> Turn<TcpLine<'a, R>>
+        requires out { untold_if self.old.is_out ≡ None }
+        requires idle { self.old.is_idle ≡ false }
+        ensures fits { Fits self.old.role result }
+        ensures gives { Gives ⟦<TcpLine<'a, R> as Source>⟧.left ⟦<TcpLine<'a, R> as Sink>⟧.sent
+            ⟦<TcpLine<'a, R> as Source>⟧.read_faults ⟦<TcpLine<'a, R> as Sink>⟧.write_faults
+            (untold_if self.new.is_out) self.new.is_idle false result }
+        ensures cause { IsTurnCounted self.old.faults self.new.faults result }
+    {
         match self.role {
             Role::Serves => {
                 if let Some(line) = self.line() {
@@ -135,7 +160,14 @@ impl<'a, R: Net<Listener = TcpListener, Stream = TcpStream> + Clock + Wait + Syn
         self.is_out = false;
     }
 
-    fn rested(&mut self, rest: Rest) {
+    fn rested(&mut self, rest: Rest)
+        requires out { untold_if self.old.is_out ≡ None }
+        requires idle { self.old.is_idle ≡ true }
+        ensures pauses { self.new.pauses ≡ not (is_tried rest) }
+        ensures out { untold_if self.new.is_out ≡ None }
+        ensures idle { self.new.is_idle ≡ false }
+        ensures faults { self.new.faults ≡ self.old.faults }
+    {
         self.is_idle = false;
         self.pauses = !matches!(rest, Rest::Tried { .. });
     }
