@@ -1,7 +1,8 @@
 //! The program `fedi`, an ActivityPub server for a club or a town.
 #![tactic(auto)]
 
-ghost use Rattle.std.specs.Prelude.{◌≡◌, ◌+◌, All, IfOk, None, false, vec_len};
+ghost use Rattle.std.specs.Prelude.{◌≡◌, ◌+◌, All, IfOk, IsSome, None, false, map, vec_len};
+ghost use Rattle.fedi_adapters.specs.Benches.{first_roles};
 
 use fedi_adapters::{
     FileDisk, Health, Listening, LockedFile, Reading, SystemClock, SystemEntropy, TcpDoor, TcpLink,
@@ -52,6 +53,10 @@ const SERVING: u16 = 64;
 /// are occupied. While nothing is due, each is a thread that looks once a second.
 const DELIVERING: u16 = 16;
 
+/// How many benches are a group, in which one delivers. The first of all benches and the one in the
+/// middle are the first two that get a thread: at these numbers one serves, and one delivers.
+const GROUP: u16 = 5;
+
 /// The file of the store as a disk, and the benches. The doors that deliver look at the health of
 /// the disk. The error is out of memory.
 // One function makes both, so that their references to the health have one lifetime.
@@ -71,12 +76,15 @@ fn outside<
     ),
     AllocError,
 >
+    ensures watched { IfOk result (λ made. IsSome made.0.file.health) }
     ensures count { IfOk result (λ made. vec_len made.1 ≡ SERVING + DELIVERING) }
+    ensures roles { IfOk result (λ made. map (λ bench. bench.door.role) made.1.items
+        ≡ first_roles GROUP (SERVING + DELIVERING)) }
     ensures waiting { IfOk result (λ made.
         All (λ bench. (⟦<TcpDoor<'a, R> as Door>⟧.out bench.door ≡ None)
         × (⟦<TcpDoor<'a, R> as Door>⟧.idle bench.door ≡ false)) made.1.items) }
 {
-    let benches = benches(rt, alloc, listening, health, SERVING, DELIVERING)?;
+    let benches = benches(rt, alloc, listening, health, DELIVERING, GROUP)?;
     Ok((FileDisk::watched(rt, path, health), benches))
 }
 

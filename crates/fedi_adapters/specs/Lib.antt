@@ -1,3 +1,4 @@
+pub mod Benches
 pub mod Doors
 pub mod System
 pub mod Untold
