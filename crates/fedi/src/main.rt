@@ -1,8 +1,9 @@
 //! The program `fedi`, an ActivityPub server for a club or a town.
 #![tactic(auto)]
 
-ghost use Rattle.std.specs.Prelude.{◌≡◌, ◌+◌, All, IfOk, IsSome, None, false, map, vec_len};
-ghost use Rattle.fedi_adapters.specs.Benches.{first_roles};
+ghost use Rattle.std.specs.Prelude.{◌≡◌, ◌+◌, ◌/◌, All, IfOk, IsSome, None, false, map, vec_len};
+ghost use Rattle.fedi_adapters.specs.Benches.{first_roles, role_at};
+ghost use Rattle.fedi_adapters.specs.declared.tcp_doors.Role.TheVariants.{Delivers, Serves};
 
 use fedi_adapters::{
     FileDisk, Health, Listening, LockedFile, Reading, SystemClock, SystemEntropy, TcpDoor, TcpLink,
@@ -80,6 +81,8 @@ fn outside<
     ensures count { IfOk result (λ made. vec_len made.1 ≡ SERVING + DELIVERING) }
     ensures roles { IfOk result (λ made. map (λ bench. bench.door.role) made.1.items
         ≡ first_roles GROUP (SERVING + DELIVERING)) }
+    ensures first { role_at GROUP 0 ≡ Serves }
+    ensures middle { role_at GROUP ((SERVING + DELIVERING) / 2) ≡ Delivers }
     ensures waiting { IfOk result (λ made.
         All (λ bench. (⟦<TcpDoor<'a, R> as Door>⟧.out bench.door ≡ None)
         × (⟦<TcpDoor<'a, R> as Door>⟧.idle bench.door ≡ false)) made.1.items) }
