@@ -1,4 +1,5 @@
 """The program as a server, and clients of it, for the scripts that try and measure `fedi serve`."""
+import http.server
 import json
 import os
 import socket
@@ -10,7 +11,7 @@ import time
 
 HOME = os.path.dirname(os.path.dirname(os.path.abspath(__file__)))
 BUILT = os.path.join(HOME, "crates/fedi/out/fedi")
-HOST = "club.example"
+HOST, FAR = "club.example", "far.example"
 # The most connections that are served at a time, and the most requests on one.
 BENCHES, REQUESTS = 64, 1000
 # The most seconds that anything is waited for.
@@ -129,6 +130,44 @@ class Talk:
 
     def __exit__(self, *_):
         self.close()
+
+
+class Peer:
+    """Another server, FAR, at a port of its own: whoever is asked for is there, and each post is
+    taken. It answers nothing before it is let go.
+    """
+
+    def __init__(self):
+        # The ids of what it was sent, and whether it was asked for anything.
+        self.got, self.asked, self.goes = [], threading.Event(), threading.Event()
+        peer = self
+
+        class Handler(http.server.BaseHTTPRequestHandler):
+            def do_GET(self):
+                peer.asked.set()
+                peer.goes.wait()
+                iri = f"https://{FAR}{self.path}"
+                actor = {"id": iri, "type": "Person", "inbox": f"{iri}/inbox"}
+                self.answer(200, json.dumps(actor).encode())
+
+            def do_POST(self):
+                body = self.rfile.read(int(self.headers["Content-Length"]))
+                peer.got.append(json.loads(body)["id"])
+                self.answer(202, b"")
+
+            def answer(self, status, body):
+                self.send_response(status)
+                self.send_header("Content-Length", str(len(body)))
+                self.end_headers()
+                self.wfile.write(body)
+
+            def log_message(self, *_):
+                pass
+
+        self.server = http.server.ThreadingHTTPServer(("127.0.0.1", 0), Handler)
+        self.server.handle_error = lambda *_: None  # who asked may have been killed
+        self.address = f"127.0.0.1:{self.server.server_port}"
+        threading.Thread(target=self.server.serve_forever, daemon=True).start()
 
 
 def next_reply(stream):
