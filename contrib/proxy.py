@@ -12,6 +12,7 @@ from serving import HOME, HOST, free_port, next_reply
 
 MAIN = """
 daemon off;
+worker_processes {workers};
 {user}
 pid {folder}/pid;
 error_log {folder}/error.log;
@@ -25,6 +26,7 @@ http {{
     uwsgi_temp_path {folder}/uwsgi;
     scgi_temp_path {folder}/scgi;
     include {folder}/site;
+    include {folder}/peers*;
 }}
 """
 
@@ -33,10 +35,34 @@ def tool(name):
     return shutil.which(name) or shutil.which(name, path="/usr/sbin")
 
 
+def replaced(name, text, old, new):
+    """The text with this put in place of that, which it has to have."""
+    text, count = re.subn(old, new, text)
+    if count == 0:
+        sys.exit(f"contrib/nginx/{name} has no {old}")
+    return text
+
+
+def way_out(port, peer, changes=()):
+    """The site for the way out: at this port, to the site of the peer."""
+    with open(os.path.join(HOME, "contrib/nginx/fedi-peers.conf")) as file:
+        text = file.read()
+    for old, new in [
+        (r"127\.0\.0\.1:8801", f"127.0.0.1:{port}"),
+        (r"https://192\.0\.2\.7", f"https://127.0.0.1:{peer.tls}"),
+        (r"hill\.example", peer.host),
+        (r"/etc/ssl/certs/ca-certificates\.crt", peer.certificate),
+        *changes,
+    ]:
+        text = replaced("fedi-peers.conf", text, old, new)
+    return text
+
+
 class Site:
     """nginx with the site as it stands, but for its ports, its certificate, its folders and,
     without `limit`, how often one address may ask. What it needs is in a folder of its own.
-    `changes` are more texts of the site with what is put in their place.
+    `changes` are more texts of the site with what is put in their place. `workers` is the number
+    of worker processes.
     """
 
     def __init__(
@@ -48,6 +74,7 @@ class Site:
         changes=(),
         cors=False,
         limit=False,
+        workers=1,
     ):
         self.folder, self.host, self.plain, self.tls = folder, host, free_port(), free_port()
         for name in ("fedi.d", "members"):
@@ -94,12 +121,11 @@ class Site:
             (re.escape(HOST), host),
             *changes,
         ]:
-            text, count = re.subn(old, new, text)
-            if count == 0:
-                sys.exit(f"the site of contrib/nginx has no {old}")
+            text = replaced("fedi.conf", text, old, new)
+        user = "user root;" if os.geteuid() == 0 else ""
         for name, text in (
             ("site", text),
-            ("conf", MAIN.format(folder=folder, user="user root;" if os.geteuid() == 0 else "")),
+            ("conf", MAIN.format(folder=folder, user=user, workers=workers)),
         ):
             with open(f"{folder}/{name}", "w") as file:
                 file.write(text)
@@ -107,6 +133,7 @@ class Site:
         judged = subprocess.run([*words, "-t"], capture_output=True, text=True)
         if judged.returncode != 0:
             sys.exit(judged.stderr)
+        self.words = words
         self.child = subprocess.Popen(words, stdin=subprocess.DEVNULL)
         self.trust = ssl.create_default_context(cafile=self.certificate)
 
@@ -126,6 +153,20 @@ class Site:
         with self.connect(port) as line, line.makefile("rb") as stream:
             line.sendall(request)
             return next_reply(stream)
+
+    def lead(self, port, peer, changes=()):
+        """Has this port lead to the site of a peer over TLS, by the site for the way out. Of the
+        peer it takes the host, the port and the certificate that is trusted. `changes` are as for
+        the site.
+        """
+        with open(f"{self.folder}/peers-{port}", "w") as file:
+            file.write(way_out(port, peer, changes))
+        self.reload()
+        self.connect(port).close()
+
+    def reload(self):
+        """Has nginx read its files again, as `systemctl reload nginx` does."""
+        subprocess.run([*self.words, "-s", "reload"], check=True, capture_output=True)
 
     def end(self):
         self.child.terminate()
