@@ -29,4 +29,5 @@ returns-in-Ok g c =
       served = rw c.close_store.ensures.disk served;
       safe = rw c.close_store.ensures.disk (doors_safe _ _ _ g.W.Door.served (told_by g.K.Link.asked g.K.Link.heard g.K.Link.link_faults) g.W.Door.closed g.W.Door.faults _ _ _ served);
       statuses = doors_status _ _ _ g.W.Door.served (told_by g.K.Link.asked g.K.Link.heard g.K.Link.link_faults) g.W.Door.closed g.W.Door.faults _ _ _ served;
+      waiting = c.serve_core-end.ensures.waiting;
     }
