@@ -13,7 +13,7 @@ use fedi_objects::Entry;
 use fedi_queue::forwards;
 use fedi_rows::expect_at;
 use fedi_visible::{PlainShelf, Shelf};
-use std::alloc::Global;
+use std::alloc::{AllocError, Global};
 use std::test::Fail;
 
 /// A town in which somebody elsewhere follows a member, who has posted a note.
@@ -35,25 +35,38 @@ fn are_iris(iris: &[Iri], texts: &[&str]) -> bool {
             .all(|(iri, text)| iri.text() == *text)
 }
 
-fn has_forwards(alloc: Global, facts: &Facts, row: &(&[u8], &[&str])) -> Result<bool, Fail> {
-    let mut hosts = KnownHosts::new();
-    let entry = decode(alloc, &mut hosts, row.0)?;
-    match &entry {
+fn is_forwarded(
+    alloc: Global,
+    facts: &Facts,
+    entry: &Entry,
+    texts: &[&str],
+) -> Result<bool, AllocError> {
+    match entry {
         Entry::Remote { activity, .. } => {
             let found = forwards(alloc, facts, activity.get())?;
-            Ok(are_iris(found.as_slice(), row.1))
+            Ok(are_iris(found.as_slice(), texts))
         }
         _ => Ok(false),
     }
 }
 
-fn expect_forwards(alloc: Global, shelf: &mut PlainShelf) -> Result<(), Fail>
-    requires empty { shelf.old.history ≡ [] }
-{
-    expect_at(opens(alloc, &BEFORE, shelf)?, "records", BEFORE.len())?;
+fn has_forwards(
+    alloc: Global,
+    facts: &Facts,
+    hosts: &mut KnownHosts,
+    row: &(&[u8], &[&str]),
+) -> Result<bool, AllocError> {
+    let read = decode(alloc, hosts, row.0);
+    match &read {
+        Ok(entry) => is_forwarded(alloc, facts, entry, row.1),
+        Err(_) => Ok(false),
+    }
+}
+
+fn expect_rows(alloc: Global, facts: &Facts, hosts: &mut KnownHosts) -> Result<(), Fail> {
     for (number, row) in ROWS.iter().enumerate() {
         expect_at(
-            has_forwards(alloc, shelf.facts(), row)?,
+            has_forwards(alloc, facts, hosts, row)?,
             "a delivery",
             number,
         )?;
@@ -61,11 +74,23 @@ fn expect_forwards(alloc: Global, shelf: &mut PlainShelf) -> Result<(), Fail>
     Ok(())
 }
 
+fn expect_forwards(
+    alloc: Global,
+    hosts: &mut KnownHosts,
+    shelf: &mut PlainShelf,
+) -> Result<(), Fail>
+    requires empty { shelf.old.history ≡ [] }
+{
+    expect_at(opens(alloc, &BEFORE, shelf)?, "records", BEFORE.len())?;
+    expect_rows(alloc, shelf.facts(), hosts)
+}
+
 #[test]
 fn what_is_for_the_followers_is_forwarded_to_them(rt: HostRuntime) -> Result<(), Fail> {
+    let mut hosts = KnownHosts::new();
     let mut made = PlainShelf::empty(rt.alloc(), seed());
     match &mut made {
-        Ok(shelf) => expect_forwards(rt.alloc(), shelf),
+        Ok(shelf) => expect_forwards(rt.alloc(), &mut hosts, shelf),
         Err(_) => Err(Fail::new("memory")),
     }
 }
