@@ -15,10 +15,6 @@ mod forwards;
 mod opening;
 #[cfg(test)]
 mod records;
-#[cfg(test)]
-mod shelves;
-#[cfg(test)]
-mod talk;
 
 // Whole runs over what lies in memory.
 #[cfg(test)]
