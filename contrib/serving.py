@@ -11,6 +11,7 @@ import time
 
 HOME = os.path.dirname(os.path.dirname(os.path.abspath(__file__)))
 BUILT = os.path.join(HOME, "crates/fedi/out/fedi")
+RELEASED = os.path.join(HOME, "release/out/fedi")
 HOST, FAR = "club.example", "far.example"
 # The most connections that are served at a time, and the most requests on one.
 BENCHES, REQUESTS = 64, 1000
@@ -23,10 +24,15 @@ class Lost(Exception):
 
 
 def program(named=None):
-    """The program of this path, or the built one, which is built first if it is not there."""
+    """The program of this path, or the one that `./fedi` runs: the built one, which is built first
+    if it is not there, or, where the kit is missing, the released one.
+    """
     if named is None:
         subprocess.run([os.path.join(HOME, "fedi"), "usage"], check=True, stdout=subprocess.DEVNULL)
-    path = os.path.abspath(named or BUILT)
+        # Both may be there. The released one is touched whenever it is taken.
+        there = [path for path in (BUILT, RELEASED) if os.access(path, os.X_OK)]
+        named = max(there, key=os.path.getmtime)
+    path = os.path.abspath(named)
     if not os.access(path, os.X_OK):
         sys.exit(f"there is no program {path}")
     return path
