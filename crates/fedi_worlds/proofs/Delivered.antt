@@ -92,6 +92,7 @@ use Rattle.fedi_worlds.proofs.TownLemmas.{any_on}
 
 -- ---- who posts
 
+-- as in fedi_laws (proofs/Alike)
 found_passes : {A : Type 0} (p : A → Bool) (xs : List A) (x : A) → find p xs ≡ Some x → p x ≡ true
 found_passes p [] x e = absurd cc
 found_passes {A} p (y ∷ xs) x e =

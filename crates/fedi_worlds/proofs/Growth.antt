@@ -41,7 +41,8 @@ use Rattle.fedi_worlds.proofs.TownLemmas.{any_on, any_more}
 
 -- ---- an activity keeps its name
 
--- its id, author, actor and kind, and who has it
+-- Its id, author, actor and kind, and who has it. The lemmas are those of `GoesOn` in fedi_town
+-- (proofs/Due), which keeps other fields.
 pub record Keeps (y z : Act) : Type 0 where
   pub id : z.activity.id ≡ y.activity.id
   pub author : z.author ≡ y.author

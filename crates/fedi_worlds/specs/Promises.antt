@@ -132,7 +132,8 @@ HaveOrigins w =
 
 -- Deliveries come from where they say (ActivityPub, section 3, on spoofed content), in every world
 -- that events lead to from the beginning, whatever is lost, repeated or overtaken and whoever
--- crashes. What is supposed about keys is `no_peer` in `Asks` and `sent` in `Arrives`.
+-- crashes. What is supposed about keys is `no_peer` in `Asks` and `sent` in `Arrives`, and
+-- about the way between servers `host` in `Arrives` and `sent` in `Reaches`.
 abbrev pub DeliveriesHaveOrigins : Type 0
 DeliveriesHaveOrigins =
     (w v : World) (events : List Event) → IsStart w → Runs w events v → HaveOrigins v
@@ -156,7 +157,7 @@ HaveArrived w =
 
 -- What was delivered has arrived and acts once (ActivityPub, sections 5.2 and 7.1), in every world
 -- that events lead to from the beginning, whatever is lost, repeated or overtaken and whoever
--- crashes. What is supposed about keys is as for `DeliveriesHaveOrigins`.
+-- crashes. What is supposed is as for `DeliveriesHaveOrigins`.
 abbrev pub DeliveriesArrive : Type 0
 DeliveriesArrive =
     (w v : World) (events : List Event) → IsStart w → Runs w events v → HaveArrived v

@@ -4,9 +4,14 @@
 -- What is supposed about keys is said by the form of the events, and nowhere else. A key that two
 -- servers share is known to them alone: so whoever asks a server of his own accord is no peer of it
 -- (`no_peer` in `Asks`), and a request that shows a peer's code exists only as bytes that a server
--- made and sent (`sent` in `Arrives`), to which `Claims` and `Posts` alone add. Nothing is supposed
--- about HMAC (RFC 2104) as a function, and nobody has to recognise a copy: bytes that were sent
--- once may arrive again.
+-- made and sent (`sent` in `Arrives`), to which `Claims` and `Posts` alone add. Whoever has seen
+-- these bytes may send them again, as they are. Nothing is supposed about HMAC (RFC 2104) as a
+-- function.
+--
+-- What is supposed about the way between servers is said in the same form. An address leads to its
+-- host (RFC 9110, section 4.3.3), so a request arrives at the server that it is for or nowhere
+-- (`host` in `Arrives`), and a reply that is heard is one that this server has sent (`sent` in
+-- `Reaches`), though nothing signs it.
 use Rattle.std.specs.Prelude.{◌≡◌, ◌⊎◌, ℕ, ◌+◌, ◌^◌, ◌<◌, min, Bool, true, false, not, List, []}
 use Rattle.std.specs.Prelude.{◌∷◌}
 use Rattle.std.specs.Prelude.{◌++◌, length, map, filter, slice_get, option_to_list, Option, Some}
@@ -76,7 +81,7 @@ IsAnswered h moment (Ok q) body given more =
     × Settles r made given more
 IsAnswered h moment (Err e) body given more = (given ≡ refused e) × (more ≡ [])
 
--- the reply has no body: its request asks for none (RFC 9110, section 9.3.2)
+-- the reply has no body: its request asks for none (RFC 9110, section 9.3.2), as in fedi_logged
 abbrev pub is_head_only : Result requests.Request Refusal → Bool
 is_head_only (Ok q) = q.head_only
 is_head_only (Err e) = false

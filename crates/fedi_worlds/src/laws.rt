@@ -15,10 +15,12 @@ ghost use Rattle.fedi_worlds.specs.Promises.{DeliveriesArrive, DeliveriesHaveOri
 ///   has the key that two servers share.
 /// - What is signed with such a key exists only as bytes that a server made and sent (`sent` in
 ///   `Arrives`): they are requests of the world, which `Claims` and `Posts` alone make. Whoever
-///   has seen them may send them again.
+///   has seen them may send them again, as they are.
 ///
 /// Nothing is supposed about HMAC (RFC 2104) as a function, nor that two servers have the same key:
-/// with another key the delivery is refused.
+/// with another key the delivery is refused. About the way between servers it is supposed that an
+/// address leads to its host (`host` in `Arrives`; RFC 9110, section 4.3.3), and that a reply that
+/// is heard is one that was sent (`sent` in `Reaches`): nothing signs replies.
 #[tactic(auto, using(crate::proofs::Locals::origins))]
 pub fn deliveries_have_origins()
     ensures { DeliveriesHaveOrigins }
@@ -28,8 +30,8 @@ pub fn deliveries_have_origins()
 /// it in the recipient's inbox, and has it once, so that it acts once (ActivityPub, sections 5.2
 /// and 7.1).
 ///
-/// It holds in the same worlds, and supposes the same about keys. That an activity is delivered at
-/// all is not said: each request may be lost.
+/// It holds in the same worlds, and supposes the same. That an activity is delivered at all is not
+/// said: each request may be lost.
 #[tactic(auto, using(crate::proofs::Locals::arrivals))]
 pub fn deliveries_arrive()
     ensures { DeliveriesArrive }
