@@ -1,0 +1,4 @@
+pub mod Events
+pub mod Promises
+pub mod Steps
+pub mod Worlds
