@@ -1,12 +1,8 @@
 -- What crashes may leave during several calls.
 use Rattle.std.proofs.Common.{◌≡◌, ◌≤◌, ◌⊎◌, ℕ, Bool, true, false, arith, List, [], ◌∷◌, ◌++◌, Option, Some, None, inl, inr, refl, ap, subst, ◌∙◌}
-use Rattle.fedi_outside.specs.Keepers.{Adds, Crashes, IfTold, KeeperState, LeavesRecords, MayLeave, OnlyRoomChanged, PassesTime}
-use Rattle.fedi_town.specs.declared.command_fault.CommandFault.{CommandFault}
-use Rattle.fedi_town.specs.declared.command_fault.CommandFault.TheVariants.{NameTaken, KeyTaken, HostTaken, BadAddress, Full, KeeperFault, Memory}
-use Rattle.fedi_core.specs.Crashing.{MayLeaveWith, PassesTimeRefused, PassesTimeWith}
+use Rattle.fedi_outside.specs.Keepers.{Adds, Crashes, IfTold, KeeperState, MayLeave, OnlyRoomChanged, PassesTime}
+use Rattle.fedi_core.specs.Crashing.{MayLeaveWith, PassesTimeWith}
 use Rattle.fedi_core.specs.Keeping.{HasFailedOnce, MayDoubt}
-use Rattle.fedi_core.specs.declared.keeping.KeepFault.TheVariants as keeps
-use Rattle.fedi_opening.proofs.Times.{no_time}
 
 -- if what crashes leave is known, and the records are, one property follows from the other
 pub if_told : (told : Bool) (records : Option (List (List ℕ))) (P Q : List (List ℕ) → Type 0) → ((kept : List (List ℕ)) → records ≡ Some kept → P kept → Q kept)
@@ -134,16 +130,3 @@ settled_after k l code a b c failed first second = record {
     both true (Some kept) x y =
         adds_both a.clock b.clock (MayLeaveWith kept k.doubt code) (MayLeave kept l.doubt) (MayLeaveWith kept k.doubt code) first.clock
         (λ left h. h) (λ left h. among kept left l.doubt failed.doubt h) x y
-
--- ---- no call
-
--- nothing happened if a command was refused because of a rule
-pub refused_still : (fault : CommandFault) (k : KeeperState) (code : List ℕ) (c : Crashes) → LeavesRecords k c
-    → PassesTimeRefused fault k.records k.doubt code c c
-refused_still NameTaken k code c now = no_time k c now
-refused_still KeyTaken k code c now = no_time k c now
-refused_still HostTaken k code c now = no_time k c now
-refused_still BadAddress k code c now = no_time k c now
-refused_still Full k code c now = no_time k c now
-refused_still KeeperFault k code c now = quiet_call k.records k.doubt code c c (no_time k c now)
-refused_still Memory k code c now = no_time k c now

@@ -3,6 +3,8 @@ pub mod Commanding
 pub mod Rules
 pub mod Accepting
 pub mod Growing
+pub mod Kept
 pub mod Limits
 pub mod Judging
 pub mod Crashing
+pub mod SameCallers

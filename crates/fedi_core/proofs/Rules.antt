@@ -11,7 +11,8 @@ use Rattle.fedi_town.specs.declared.command_fault.CommandFault.{CommandFault}
 use Rattle.fedi_town.specs.declared.command_fault.CommandFault.TheVariants.{NameTaken, KeyTaken, HostTaken, BadAddress, Full, KeeperFault, Memory}
 use Rattle.fedi_town.specs.Legal.{broken_command, is_taken_host}
 use Rattle.fedi_town.specs.Towns.{Town, has_digest, has_name}
-use Rattle.fedi_core.specs.Commands.{RefusesCommand}
+use Rattle.fedi_core.specs.Commands.{RefusesCommand, unkept}
+use Rattle.fedi_core.specs.declared.keeping.KeepFault.TheVariants as faults
 
 -- one of the rules
 abbrev IsRule : Option CommandFault → Type 0
@@ -52,6 +53,13 @@ rule_refuses room t e Full k broken = absurd (broken_rule t e Full broken)
 rule_refuses room t e KeeperFault k broken = absurd (broken_rule t e KeeperFault broken)
 rule_refuses room t e Memory k broken = absurd (broken_rule t e Memory broken)
 
--- a failure of the keeper is not a rule
-pub never_failed : {A : Type 0} (t : Town) (e : Entry) (fault : CommandFault) → broken_command t e ≡ Some fault → fault ≡ KeeperFault → A
-never_failed t e fault broken is = absurd (subst (λ (f : CommandFault). IsRule (Some f)) is (broken_rule t e fault broken))
+-- a rule that was broken says nothing of the keeper
+pub rule_unkept : (t : Town) (e : Entry) (fault : CommandFault) → broken_command t e ≡ Some fault
+    → unkept fault ≡ faults.Memory
+rule_unkept t e NameTaken broken = refl
+rule_unkept t e KeyTaken broken = refl
+rule_unkept t e HostTaken broken = refl
+rule_unkept t e BadAddress broken = refl
+rule_unkept t e Full broken = absurd (broken_rule t e Full broken)
+rule_unkept t e KeeperFault broken = absurd (broken_rule t e KeeperFault broken)
+rule_unkept t e Memory broken = refl

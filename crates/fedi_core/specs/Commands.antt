@@ -48,3 +48,10 @@ RefusesCommand room t e BadAddress before after = IsBroken t e BadAddress before
 RefusesCommand room t e Full before after = IsUnkept room t e faults.Full before after
 RefusesCommand room t e KeeperFault before after = IsUnkept room t e faults.Failed before after
 RefusesCommand room t e Memory before after = IsUnkept room t e faults.Memory before after
+
+-- what a refused command says of the keeper: after a rule was broken, no more than that it did not
+-- fail
+abbrev pub unkept : CommandFault → KeepFault
+unkept Full = faults.Full
+unkept KeeperFault = faults.Failed
+unkept fault = faults.Memory

@@ -3,8 +3,6 @@ use Rattle.std.specs.Prelude.{ℕ, ◌≡◌, ◌⊎◌, ◌≤◌, List, [], �
 use Rattle.fedi_outside.specs.Keepers.{Adds, Crashes, IfTold, MayLeave, PassesTime}
 use Rattle.fedi_core.specs.declared.keeping.KeepFault.{KeepFault}
 use Rattle.fedi_core.specs.declared.keeping.KeepFault.TheVariants.{Full, Failed, Memory}
-use Rattle.fedi_town.specs.declared.command_fault.CommandFault.{CommandFault}
-use Rattle.fedi_town.specs.declared.command_fault.CommandFault.TheVariants as commands
 
 -- what a crash may leave of these records while one with this code is being kept: these, followed
 -- by the one in doubt or by the new one, if by any
@@ -27,10 +25,3 @@ PassesTimeUnkept Full records doubt code before after = PassesTime records doubt
 PassesTimeUnkept Failed records doubt code before after =
     PassesTimeWith records doubt code before after
 PassesTimeUnkept Memory records doubt code before after = PassesTime records doubt before after
-
--- the same for a refused command
-abbrev pub PassesTimeRefused : CommandFault → Option (List (List ℕ)) → Option (List ℕ) → List ℕ
-    → Crashes → Crashes → Type 0
-PassesTimeRefused commands.KeeperFault records doubt code before after =
-    PassesTimeWith records doubt code before after
-PassesTimeRefused fault records doubt code before after = PassesTime records doubt before after

@@ -1,23 +1,18 @@
 //! Waiting deliveries, and attempts of them.
 
-ghost use Rattle.std.specs.Prelude.{◌≡◌, ◌+◌, ◌≤◌, IfErr, IfOk, IfSome, OnErr, OnOk, map};
+ghost use Rattle.std.specs.Prelude.{◌≡◌, ◌+◌, ◌≤◌, IfOk, IfSome, OnErr, OnOk, map};
 ghost use Rattle.std.specs.Prelude.{option_map};
 ghost use Rattle.std.specs.List.{find};
-ghost use Rattle.fedi_core.specs.Crashing.{PassesTimeUnkept, PassesTimeWith};
 ghost use Rattle.fedi_core.specs.Delivering.{IsClaimOf, IsPostFor, IsSentFor, attempt_of};
 ghost use Rattle.fedi_core.specs.Delivering.{claimed_id, claimed_recipient, claimed_row, claims_in};
 ghost use Rattle.fedi_core.specs.Delivering.{keep_fault};
-ghost use Rattle.fedi_core.specs.Keeping.{IsKept, Refuses};
-ghost use Rattle.fedi_core.specs.Machines.{KeepsClaims};
-ghost use Rattle.fedi_entry.specs.Codes.{code_of};
+ghost use Rattle.fedi_core.specs.Keeping.{Keeps, fault_by};
 ghost use Rattle.fedi_entry.specs.Fields.{MayCome};
-ghost use Rattle.fedi_opening.specs.Opening.{IsNext};
 ghost use Rattle.fedi_queue.specs.Claims.{change_first, claim, claim_of, is_claimed_at, is_free_at};
 ghost use Rattle.fedi_queue.specs.Claims.{release};
 ghost use Rattle.fedi_queue.specs.Queues.{IsHeld};
 ghost use Rattle.fedi_queue.specs.Rows.{rows_of};
 ghost use Rattle.fedi_town.specs.Histories.{town};
-ghost use Rattle.fedi_town.specs.Legal.{IsLegal};
 
 use crate::attempts::{act_at, attempt_of, id_at};
 use crate::keeping::{KeepError, KeepFault};
@@ -164,32 +159,12 @@ impl<S: Shelf + Drop, P: Keeper> Core<S, P> {
         requires held { IsHeld claim.now self.old.rows }
         requires came { MayCome came.step came.what }
         requires later { claim.now.moment ≤ moment }
-        ensures kept { let t = town self.old.history in
-            let e = attempt_of t self.old.rows claim.now came moment in
-            OnOk result (IsKept P.growth P.room self.old.history e
-            (P.shown self.old.keeper) (P.shown self.new.keeper) self.new.history) }
-        ensures claims { let t = town self.old.history in OnOk result (KeepsClaims t.acts
-            (attempt_of t self.old.rows claim.now came moment) self.old.rows self.new.rows) }
-        ensures counted { OnOk result (claims_in self.old.rows ≡ claims_in self.new.rows + 1) }
-        ensures queue { map release self.new.rows ≡ rows_of (town self.new.history) }
-        ensures refused { let t = town self.old.history in
-            let e = attempt_of t self.old.rows claim.now came moment in
-            IfErr result (λ fault. Refuses P.room (code_of e) fault
-            (P.shown self.old.keeper) (P.shown self.new.keeper)) }
-        ensures next { let t = town self.old.history in
-            let e = attempt_of t self.old.rows claim.now came moment in
-            IfErr result (λ fault. fault ≡ KeepFault.Failed → IsNext t e) }
-        ensures same { OnErr result (self.new.history ≡ self.old.history) }
+        ensures keeps { let t = town self.old.history in
+            Keeps P.Keeper self.old self.new
+            (attempt_of t self.old.rows claim.now came moment) result }
         ensures rows { OnErr result (self.new.rows ≡ self.old.rows) }
-        ensures legal { IsLegal self.new.history }
-        ensures time { let k = P.shown self.old.keeper in
-            let e = attempt_of (town self.old.history) self.old.rows claim.now came moment in
-            OnOk result (PassesTimeWith k.records k.doubt (code_of e)
-            (P.crashes self.old.keeper) (P.crashes self.new.keeper)) }
-        ensures time_refused { let k = P.shown self.old.keeper in
-            let e = attempt_of (town self.old.history) self.old.rows claim.now came moment in
-            IfErr result (λ fault. PassesTimeUnkept fault k.records k.doubt (code_of e)
-            (P.crashes self.old.keeper) (P.crashes self.new.keeper)) }
+        ensures queue { map release self.new.rows ≡ rows_of (town self.new.history) }
+        ensures counted { OnOk result (claims_in self.old.rows ≡ claims_in self.new.rows + 1) }
     {
         self.queue.entries();
         let entry = attempt_of(self.shelf.facts(), &self.queue, claim, came, moment)?;
@@ -219,36 +194,14 @@ impl<S: Shelf + Drop, P: Keeper> Core<S, P> {
         requires held { IsHeld claim self.old.rows }
         requires came { MayCome came.step came.what }
         requires later { claim.moment ≤ moment }
-        ensures kept { let e = attempt_of (town self.old.history) self.old.rows claim came moment in
-            OnOk result (IsKept P.growth P.room self.old.history e
-            (P.shown self.old.keeper) (P.shown self.new.keeper) self.new.history) }
         // All other claims stay.
-        ensures claims { let t = town self.old.history in OnOk result (KeepsClaims t.acts
-            (attempt_of t self.old.rows claim came moment) self.old.rows self.new.rows) }
+        ensures keeps { let t = town self.old.history in
+            Keeps P.Keeper self.old self.new
+            (attempt_of t self.old.rows claim came moment) (fault_by keep_fault result) }
         ensures released { OnErr result (self.new.rows ≡ change_first
             (is_claimed_at claim.activity claim.recipient) release self.old.rows) }
         ensures counted { claims_in self.old.rows ≡ claims_in self.new.rows + 1 }
         ensures queue { map release self.new.rows ≡ rows_of (town self.new.history) }
-        ensures refused { let t = town self.old.history in
-            let e = attempt_of t self.old.rows claim came moment in
-            IfErr result (λ fault. Refuses P.room (code_of e) (keep_fault fault)
-            (P.shown self.old.keeper) (P.shown self.new.keeper)) }
-        // The record that may then be in doubt can be read at its position.
-        ensures next { let t = town self.old.history in
-            let e = attempt_of t self.old.rows claim came moment in
-            IfErr result (λ fault. fault ≡ RecordFault.KeeperFault → IsNext t e) }
-        ensures same { OnErr result (self.new.history ≡ self.old.history) }
-        ensures legal { IsLegal self.new.history }
-        // A crash during the call leaves the keeper's records, followed by the one in doubt or by
-        // that of the entry, if by any.
-        ensures time { let k = P.shown self.old.keeper in
-            let e = attempt_of (town self.old.history) self.old.rows claim came moment in
-            OnOk result (PassesTimeWith k.records k.doubt (code_of e)
-            (P.crashes self.old.keeper) (P.crashes self.new.keeper)) }
-        ensures time_refused { let k = P.shown self.old.keeper in
-            let e = attempt_of (town self.old.history) self.old.rows claim came moment in
-            IfErr result (λ fault. PassesTimeUnkept (keep_fault fault) k.records k.doubt (code_of e)
-            (P.crashes self.old.keeper) (P.crashes self.new.keeper)) }
     {
         match self.keep_attempt(alloc, &claim, came, moment) {
             Ok(()) => {

@@ -1,13 +1,12 @@
 //! Keeping an entry.
 
-ghost use Rattle.std.specs.Prelude.{◌≡◌, IfErr, IsTrue, IsErrOf, OnOk, OnErr, length};
+ghost use Rattle.std.specs.Prelude.{◌≡◌, IsTrue, IsErrOf, OnOk, OnErr, length};
 ghost use Rattle.fedi_entry.specs.Codes.{code_of};
 ghost use Rattle.fedi_entry.specs.Fields.{IsFormed};
 ghost use Rattle.fedi_entry.specs.Limits.{KeepsLimits};
 ghost use Rattle.fedi_town.specs.Legal.{IsLegal, is_admissible};
-ghost use Rattle.fedi_outside.specs.Keepers.{HasAdded, HasRoom};
-ghost use Rattle.fedi_core.specs.Crashing.{PassesTimeUnkept, PassesTimeWith};
-ghost use Rattle.fedi_core.specs.Keeping.{Refuses};
+ghost use Rattle.fedi_outside.specs.Keepers.{HasRoom};
+ghost use Rattle.fedi_core.specs.Keeping.{Stores};
 ghost use Rattle.fedi_core.specs.Machines.{IsGrown, IsQueueGrown, IsQueueSame, IsSame};
 ghost use Rattle.fedi_core.specs.declared.keeping.KeepFault.TheVariants.{Memory};
 
@@ -57,21 +56,10 @@ pub struct KeepError {
 // which it counts once, and then the record may be in doubt; and `Memory`, out of memory. After an
 // error the records are unchanged.
 fn store<P: Keeper>(keeper: &mut P, code: &[u8]) -> Result<(), KeepFault>
-    ensures fits { OnOk result (HasRoom P.room (P.shown keeper.old).end (length code.now)) }
-    ensures added { OnOk result
-        (HasAdded P.growth code.now (P.shown keeper.old) (P.shown keeper.new)) }
-    ensures refused { IfErr result (λ fault.
-        Refuses P.room code.now fault (P.shown keeper.old) (P.shown keeper.new)) }
+    ensures stores { Stores P.Keeper keeper.old keeper.new code.now result }
     // The keeper was asked for room, and there was room.
     ensures memory { IsErrOf result KeepFault.Memory
         → HasRoom P.room (P.shown keeper.old).end (length code.now) }
-    // A crash during the call leaves the records, followed by the one in doubt or by this one, if
-    // by any.
-    ensures time { let k = P.shown keeper.old in OnOk result
-        (PassesTimeWith k.records k.doubt code.now (P.crashes keeper.old) (P.crashes keeper.new)) }
-    ensures time_refused { let k = P.shown keeper.old in IfErr result (λ fault.
-        PassesTimeUnkept fault k.records k.doubt code.now
-        (P.crashes keeper.old) (P.crashes keeper.new)) }
 {
     match keeper.reserve(code.len()) {
         Ok(()) => {}
@@ -107,17 +95,7 @@ pub fn store_entry<S: Shelf, P: Keeper>(
     ensures same { OnErr result (IsSame (S.holding shelf.old) (S.holding shelf.new)) }
     ensures queue_grown { OnOk result (IsQueueGrown queue.old entry.now queue.new) }
     ensures queue_same { OnErr result (IsQueueSame queue.old queue.new) }
-    ensures fits { OnOk result
-        (HasRoom P.room (P.shown keeper.old).end (length (code_of entry.now))) }
-    ensures added { OnOk result
-        (HasAdded P.growth (code_of entry.now) (P.shown keeper.old) (P.shown keeper.new)) }
-    ensures refused { IfErr result (λ fault.
-        Refuses P.room (code_of entry.now) fault (P.shown keeper.old) (P.shown keeper.new)) }
-    ensures time { let k = P.shown keeper.old in OnOk result (PassesTimeWith k.records k.doubt
-        (code_of entry.now) (P.crashes keeper.old) (P.crashes keeper.new)) }
-    ensures time_refused { let k = P.shown keeper.old in IfErr result (λ fault.
-        PassesTimeUnkept fault k.records k.doubt (code_of entry.now)
-        (P.crashes keeper.old) (P.crashes keeper.new)) }
+    ensures stores { Stores P.Keeper keeper.old keeper.new (code_of entry.now) result }
 {
     let code = encode(alloc, entry)?;
     shelf.reserve(alloc, entry)?;

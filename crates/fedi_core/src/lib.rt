@@ -3,6 +3,7 @@
 #![tactic(auto)]
 
 mod attempts;
+mod callers;
 mod deciding;
 mod delivering;
 mod keeping;
@@ -11,6 +12,7 @@ mod posts;
 mod profiles;
 mod sending;
 
+pub use callers::caller_of;
 pub use deciding::Decision;
 pub use delivering::RecordFault;
 pub use keeping::{KeepError, KeepFault};

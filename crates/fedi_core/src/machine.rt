@@ -2,45 +2,41 @@
 
 ghost use Rattle.std.specs.Prelude.{◌≡◌, ◌↔◌, List, IfOk, IfErr, IfSome, IsErrOf, IsTrue, None};
 ghost use Rattle.std.specs.Prelude.{OnOk, OnErr, length, map, option_copied};
-ghost use Rattle.std.specs.List.{AllByRecursion, find};
-ghost use Rattle.sha2.specs.Sha256.{sha256};
+ghost use Rattle.std.specs.List.{AllByRecursion};
 ghost use Rattle.fedi_entry.specs.Codes.{code_of};
 ghost use Rattle.fedi_entry.specs.Fields.{IsFormed};
 ghost use Rattle.fedi_town.specs.Histories.{town};
 ghost use Rattle.fedi_town.specs.Legal.{IsLegal, broken_command};
-ghost use Rattle.fedi_town.specs.Towns.{has_digest};
 ghost use Rattle.fedi_model.specs.Asks.{entry_of};
-ghost use Rattle.fedi_model.specs.Callers.{caller_by, member_or_refused, peer_or_refused};
-ghost use Rattle.fedi_model.specs.Credentials.{shown_by as credentials_shown_by, signature_in};
+ghost use Rattle.fedi_model.specs.Callers.{caller_by};
+ghost use Rattle.fedi_model.specs.Credentials.{shown_by as credentials_shown_by};
 ghost use Rattle.fedi_model.specs.Memory.{copies_host, takes_memory};
 ghost use Rattle.fedi_model.specs.Replies.{IsPrivate, reply};
 ghost use Rattle.fedi_model.specs.Routes.{IsPostableAt};
-ghost use Rattle.fedi_core.specs.Commands.{IsCommand, RefusesCommand};
-ghost use Rattle.fedi_core.specs.Crashing.{PassesTimeRefused, PassesTimeUnkept, PassesTimeWith};
-ghost use Rattle.fedi_core.specs.Keeping.{HidesDeliveries, HidesPosts, IsKept, MayAdd, Refuses};
-ghost use Rattle.fedi_core.specs.Keeping.{TellsOwners, TellsPeers};
+ghost use Rattle.fedi_core.specs.Commands.{IsCommand, RefusesCommand, unkept};
+ghost use Rattle.fedi_core.specs.Keeping.{HidesDeliveries, HidesPosts, Keeps, MayAdd, TellsOwners};
+ghost use Rattle.fedi_core.specs.Keeping.{TellsPeers, fault_by};
 ghost use Rattle.fedi_core.specs.Opening.{keeper_after, outcome_of};
 ghost use Rattle.fedi_objects.specs.declared.entry.Entry.{Entry};
-ghost use Rattle.fedi_core.specs.Machines.{IsNextCode, KeepsClaims};
-ghost use Rattle.fedi_opening.specs.Opening.{IsNext, IsRead, IsStopped, after_open};
+ghost use Rattle.fedi_core.specs.Machines.{IsNextCode};
+ghost use Rattle.fedi_opening.specs.Opening.{IsRead, IsStopped, after_open};
 ghost use Rattle.fedi_outside.specs.Keepers.{PassesTime, after_fault};
 ghost use Rattle.fedi_queue.specs.Claims.{release};
 ghost use Rattle.fedi_queue.specs.Rows.{rows_of};
 ghost use Rattle.fedi_visible.specs.Shelves.{empty_holding};
 
+use crate::callers::caller_of;
 use crate::deciding::{Decision, decide};
 use crate::keeping::{KeepError, KeepFault, store_entry};
 use fedi_address::Host;
 use fedi_effects::Facts;
-use fedi_mac::digest;
-use fedi_model::{Ask, Credentials, Signed};
+use fedi_model::{Ask, Credentials};
 use fedi_objects::Entry;
 use fedi_opening::{OpenFault, open_history};
 use fedi_outside::{Failed, Keeper};
 use fedi_queue::Queue;
-use fedi_routes::is_signed;
 use fedi_text::Moment;
-use fedi_town::{Caller, CommandFault, Peer, Refusal};
+use fedi_town::{Caller, CommandFault, Refusal};
 use fedi_visible::Shelf;
 use std::alloc::{AllocError, Global};
 use std::marker::Model;
@@ -67,48 +63,6 @@ impl<S: Shelf, P: Keeper> Model for Core<S, P> {
     } };
 
     ghost invariant = { λ c. IsMachine (S.holding c.shelf) (P.shown c.keeper) c.queue };
-}
-
-fn member_with(facts: &Facts, key: &[u8; 32]) -> Result<Caller, Refusal>
-    ensures { result ≡ member_or_refused
-        (find (has_digest (sha256 key.now)) facts.now.town.actors) }
-{
-    match facts.actor_with(&digest(key.as_slice())) {
-        Some(actor) => Ok(Caller::Actor(actor.name.copy())),
-        None => Err(Refusal::WrongKey),
-    }
-}
-
-// The peer, if it signed the request.
-fn peer_by(peer: Option<&Peer>, signed: &Signed) -> Result<Result<Caller, Refusal>, AllocError>
-    ensures caller { IfOk result (λ caller.
-        caller ≡ peer_or_refused (signature_in signed.now) (option_copied peer.entry)) }
-    ensures memory { OnErr result (IsTrue (copies_host
-        (peer_or_refused (signature_in signed.now) (option_copied peer.entry)))) }
-{
-    match peer {
-        Some(peer) if is_signed(&peer.key, signed) => Ok(Ok(Caller::Peer(peer.host.clone()?))),
-        _ => Ok(Err(Refusal::WrongMac)),
-    }
-}
-
-#[tactic(auto, unfolding(fedi_model::specs::Callers::caller_by))]
-fn caller_of(
-    facts: &Facts,
-    credentials: &Credentials,
-) -> Result<Result<Caller, Refusal>, AllocError>
-    ensures caller { IfOk result (λ caller.
-        caller ≡ caller_by facts.now.town (credentials_shown_by credentials.now)) }
-    ensures memory { OnErr result (IsTrue (copies_host
-        (caller_by facts.now.town (credentials_shown_by credentials.now)))) }
-{
-    match credentials {
-        Credentials::Nothing => Ok(Ok(Caller::Nobody)),
-        Credentials::Bearer(Some(key)) => Ok(member_with(facts, key)),
-        Credentials::Bearer(None) => Ok(Err(Refusal::WrongKey)),
-        Credentials::Mac(Some(signed)) => peer_by(facts.peer(signed.host), signed),
-        Credentials::Mac(None) => Ok(Err(Refusal::WrongMac)),
-    }
 }
 
 impl<S: Shelf + Drop, P: Keeper> Core<S, P> {
@@ -180,6 +134,7 @@ impl<S: Shelf + Drop, P: Keeper> Core<S, P> {
     /// it shares with this server (RFC 2104). It is `WrongKey` if a key is shown that belongs to no
     /// member, and `WrongMac` if one of a peer's fields is present but no peer of that host signed
     /// the request. The error is out of memory, which occurs only if the caller is a peer.
+    #[tactic(auto, unfolding(fedi_model::specs::Callers::caller_by))]
     pub fn caller_of(
         &self,
         credentials: &Credentials,
@@ -227,28 +182,11 @@ impl<S: Shelf + Drop, P: Keeper> Core<S, P> {
     #[tactic(auto, using(crate::proofs::Limits::added_keeps))]
     pub fn keep(&mut self, alloc: Global, entry: Entry) -> Result<(), KeepError>
         requires { MayAdd (town self.old.history) entry }
-        ensures kept { OnOk result (IsKept P.growth P.room self.old.history entry
-            (P.shown self.old.keeper) (P.shown self.new.keeper) self.new.history) }
-        ensures refused { IfErr result (λ e. Refuses P.room (code_of entry) e.fault
-            (P.shown self.old.keeper) (P.shown self.new.keeper)) }
-        ensures back { IfErr result (λ e. e.entry ≡ entry) }
-        // The record that may then be in doubt can be read at its position.
-        ensures next { IfErr result (λ e.
-            e.fault ≡ KeepFault.Failed → IsNext (town self.old.history) entry) }
-        ensures same { OnErr result (self.new.history ≡ self.old.history) }
-        ensures claims { OnOk result (KeepsClaims (town self.old.history).acts entry
-            self.old.rows self.new.rows) }
+        ensures keeps { Keeps P.Keeper self.old self.new entry
+            (fault_by (λ e. e.fault) result) }
         ensures rows { OnErr result (self.new.rows ≡ self.old.rows) }
         ensures queue { map release self.new.rows ≡ rows_of (town self.new.history) }
-        ensures legal { IsLegal self.new.history }
-        // A crash during the call leaves the keeper's records, followed by the one in doubt or by
-        // that of the entry, if by any.
-        ensures time { let k = P.shown self.old.keeper in OnOk result
-            (PassesTimeWith k.records k.doubt (code_of entry)
-            (P.crashes self.old.keeper) (P.crashes self.new.keeper)) }
-        ensures time_refused { let k = P.shown self.old.keeper in IfErr result (λ e.
-            PassesTimeUnkept e.fault k.records k.doubt (code_of entry)
-            (P.crashes self.old.keeper) (P.crashes self.new.keeper)) }
+        ensures back { IfErr result (λ e. e.entry ≡ entry) }
         // A post that changes nothing earlier shows nothing to a caller that does not see it.
         ensures unseen { HidesPosts self.old.history self.new.history }
         // Neither does a delivery of a new id that is not a Follow.
@@ -277,24 +215,11 @@ impl<S: Shelf + Drop, P: Keeper> Core<S, P> {
     pub fn command(&mut self, alloc: Global, entry: Entry) -> Result<(), CommandFault>
         requires { IsCommand (town self.old.history) entry }
         ensures unbroken { OnOk result (broken_command (town self.old.history) entry ≡ None) }
-        ensures kept { OnOk result (IsKept P.growth P.room self.old.history entry
-            (P.shown self.old.keeper) (P.shown self.new.keeper) self.new.history) }
         ensures refused { IfErr result (λ fault. RefusesCommand P.room
             (town self.old.history) entry fault
             (P.shown self.old.keeper) (P.shown self.new.keeper)) }
-        ensures next { IfErr result (λ fault.
-            fault ≡ CommandFault.KeeperFault → IsNext (town self.old.history) entry) }
-        ensures same { OnErr result (self.new.history ≡ self.old.history) }
-        ensures claims { OnOk result (KeepsClaims (town self.old.history).acts entry
-            self.old.rows self.new.rows) }
+        ensures keeps { Keeps P.Keeper self.old self.new entry (fault_by unkept result) }
         ensures rows { OnErr result (self.new.rows ≡ self.old.rows) }
-        ensures legal { IsLegal self.new.history }
-        ensures time { let k = P.shown self.old.keeper in OnOk result
-            (PassesTimeWith k.records k.doubt (code_of entry)
-            (P.crashes self.old.keeper) (P.crashes self.new.keeper)) }
-        ensures time_refused { let k = P.shown self.old.keeper in IfErr result (λ fault.
-            PassesTimeRefused fault k.records k.doubt (code_of entry)
-            (P.crashes self.old.keeper) (P.crashes self.new.keeper)) }
         // Adding a peer changes nothing for any caller except that peer.
         ensures added_peers { TellsPeers self.old.history self.new.history }
     {

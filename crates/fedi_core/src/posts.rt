@@ -10,10 +10,9 @@ ghost use Rattle.fedi_town.specs.declared.caller.Caller.TheVariants.{Actor};
 
 use fedi_address::{Iri, LocalName};
 use fedi_effects::{Facts, Repeat, judge_local};
-use fedi_model::{KeyAsk, Post, Read, Reply, misshapen_reply, refusal_reply};
+use fedi_model::{KeyAsk, Post, Read, Reply, is_nobody, is_self, misshapen_reply, refusal_reply};
 use fedi_objects::{Activity, Boxed, RepeatKey};
 use fedi_town::{Caller, Refusal};
-use fedi_visible::{is_nobody, is_self};
 
 /// What becomes of a post.
 #[derive(Drop)]

@@ -8,7 +8,9 @@ pub mod Longer
 pub mod MemberMarks
 pub mod Originals
 pub mod Prefixes
+pub mod SameCallers
 pub mod Sent
+pub mod Shared
 pub mod Standings
 pub mod Tallying
 pub mod Towns

@@ -4,6 +4,7 @@ pub mod Gathering
 pub mod Holdings
 pub mod Members
 pub mod Repeats
+pub mod Rosters
 pub mod Stamps
 pub mod Standings
 pub mod Subjects

@@ -4,6 +4,7 @@
 mod addressing;
 mod commands;
 mod deliveries;
+mod directory;
 mod effects;
 mod facts;
 mod forwarding;
@@ -16,6 +17,7 @@ mod ready;
 mod receiving;
 mod relations;
 mod repeats;
+mod roster;
 mod rules;
 mod seeing;
 mod states;
@@ -25,6 +27,7 @@ mod tallies;
 
 pub use addressing::is_of_town;
 pub use deliveries::{is_at_peer, judge_tried, progress_of, sends};
+pub use directory::Directory;
 pub use facts::Facts;
 pub use fedi_register::{
     Seed, has_activity_id, is_about, is_accepted, is_announce, is_by, is_follow, is_following,
@@ -34,6 +37,7 @@ pub use forwarding::forwards_of;
 pub use making::prepare;
 pub use progress::{Standing, after_outcome, outcome_of};
 pub use repeats::Repeat;
+pub use roster::Roster;
 pub use rules::judge_local;
 pub use seeing::sees_as;
 pub use steps::Steps;

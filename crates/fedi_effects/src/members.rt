@@ -1,6 +1,7 @@
 //! The members of the server.
 
-ghost use Rattle.std.specs.Prelude.{◌≡◌, ◌∷◌, ◌++◌, [], ◌-◌, ◌≤◌, ◌&&◌, OnOk, option_copied};
+ghost use Rattle.std.specs.Prelude.{◌≡◌, ◌∷◌, ◌++◌, [], ◌-◌, ◌≤◌, ◌&&◌, IfOk, OnOk};
+ghost use Rattle.std.specs.Prelude.{option_copied};
 ghost use Rattle.std.specs.List.{find, list_any};
 ghost use Rattle.fedi_town.specs.Towns.{has_digest, has_id, has_name};
 ghost use Rattle.fedi_register.specs.Seeds.{mark_of};
@@ -71,6 +72,29 @@ fn mark_of_digest(seed: &Seed, digest: &[u8; 32]) -> u32
     ensures { result ≡ mark_of seed.now digest.now }
 {
     seed.mark_of(digest.as_slice())
+}
+
+fn copy_of(member: &Actor) -> Result<Actor, AllocError>
+    ensures { IfOk result (λ copy. copy ≡ member.now) }
+{
+    Ok(Actor {
+        name: member.name.copy(),
+        id: member.id.copy()?,
+        digest: member.digest,
+        locked: member.locked,
+    })
+}
+
+// The same members in the same order, looked up by numbers of this seed. The error is out of
+// memory.
+fn copies_of(alloc: Global, seed: Seed, members: &[Actor]) -> Result<Members, AllocError>
+    ensures { IfOk result (λ copies. copies.actors ≡ members.now) }
+{
+    let mut copies = Members::empty(alloc, seed);
+    for member in members {
+        copies.add_copy(member)?;
+    }
+    Ok(copies)
 }
 
 impl Members {
@@ -178,5 +202,21 @@ impl Members {
             .push(mark_of_digest(&self.seed, &member.digest), at);
         self.list.push_reserved(member);
         self.room -= 1;
+    }
+
+    // Adds a copy of a member. The error is out of memory.
+    fn add_copy(&mut self, member: &Actor) -> Result<(), AllocError>
+        ensures { OnOk result (self.new.actors ≡ self.old.actors ++ member.now ∷ []) }
+    {
+        self.reserve()?;
+        self.push(copy_of(member)?);
+        Ok(())
+    }
+
+    /// A copy of the members, with lists of its own. The error is out of memory.
+    pub(crate) fn copy(&self, alloc: Global) -> Result<Members, AllocError>
+        ensures { IfOk result (λ copy. copy.actors ≡ self.now.actors) }
+    {
+        copies_of(alloc, self.seed, &self.list)
     }
 }

@@ -8,6 +8,9 @@ use denote.Struct.Tuple.{TupleAt, type_at}
 use denote.Param.Send.{IsSend, IsSync, shr_sync, view_send, view_sync, sendable}
 use denote.Param.SendFields.{as_row_sync, declared_send, declared_sync}
 use Rattle.fedi_address.specs.contracts.host.Host as Host
+use Rattle.fedi_effects.proofs.Shared.{roster_sync}
+use Rattle.fedi_hall.specs.contracts.hall.Lobby as Lobby
+use Rattle.fedi_hall.specs.contracts.hall.Queues as Queues
 use Rattle.fedi_log.specs.contracts.items.Item as Item
 use Rattle.fedi_logged.specs.contracts.answers.LoggedGrows.TheImpl as grows
 use Rattle.fedi_routes.specs.contracts.kinds.Kind as Kind
@@ -71,29 +74,34 @@ routes_sync = declared_sync Routes.the_type (search (router_sync, sendable) dept
 host_sync : IsSync Host.the_row
 host_sync = search (crosses, sendable) depth 40
 
+queues_sync : IsSync Queues.the_row
+queues_sync = search (crosses, sendable) depth 20
+
+lobby_sync : IsSync Lobby.the_row
+lobby_sync = declared_sync Lobby.the_type
+    (search (host_sync, roster_sync, routes_sync, queues_sync, sendable) depth 20)
+
 global_sync : IsSync Global.the_row
 global_sync = search (crosses, sendable) depth 20
 
 -- what the workers of a hall share, each by a reference, may be shared if each part of it may
 pub shared_sync :
-    (names : List ℕ) (R L C : RattleType) (a b c d e f : NamedLft)
+    (names : List ℕ) (R L C : RattleType) (a b c d e : NamedLft)
     → IsSync R → IsSync L → IsSync C
     → IsSync (TupleAt names (
     ShrRef a.mir a.lft R
     ∷ ShrRef b.mir b.lft Global.the_row
     ∷ ShrRef c.mir c.lft L
-    ∷ ShrRef d.mir d.lft Host.the_row
-    ∷ ShrRef e.mir e.lft Routes.the_row
-    ∷ ShrRef f.mir f.lft C
+    ∷ ShrRef d.mir d.lft Lobby.the_row
+    ∷ ShrRef e.mir e.lft C
     ∷ []))
-shared_sync names R L C a b c d e f threads lock clock =
+shared_sync names R L C a b c d e threads lock clock =
     declared_sync (type_at names (
     ShrRef a.mir a.lft R
     ∷ ShrRef b.mir b.lft Global.the_row
     ∷ ShrRef c.mir c.lft L
-    ∷ ShrRef d.mir d.lft Host.the_row
-    ∷ ShrRef e.mir e.lft Routes.the_row
-    ∷ ShrRef f.mir f.lft C
+    ∷ ShrRef d.mir d.lft Lobby.the_row
+    ∷ ShrRef e.mir e.lft C
     ∷ [])) (
       as_row_sync (row_field _) (shr_sync a.mir a.lft _ threads),
       (
@@ -101,11 +109,8 @@ shared_sync names R L C a b c d e f threads lock clock =
         (
           as_row_sync (row_field _) (shr_sync c.mir c.lft _ lock),
           (
-            as_row_sync (row_field _) (shr_sync d.mir d.lft _ host_sync),
-            (
-              as_row_sync (row_field _) (shr_sync e.mir e.lft _ routes_sync),
-              (as_row_sync (row_field _) (shr_sync f.mir f.lft _ clock), tt),
-            ),
+            as_row_sync (row_field _) (shr_sync d.mir d.lft _ lobby_sync),
+            (as_row_sync (row_field _) (shr_sync e.mir e.lft _ clock), tt),
           ),
         ),
       ),

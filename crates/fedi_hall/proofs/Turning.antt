@@ -45,3 +45,10 @@ pub turn_lacks : {T E : Type 0} (n : ℕ) (seen taken log now after : Log) (r : 
 turn_lacks n seen taken log now after (Ok t) at is goes same = tt
 turn_lacks n seen taken log now after (Err e) at is goes same =
     subst (λ (l : Log). Goes (Some n) seen l) (sym (is ∙ same ∙ at)) (goes_by n seen taken goes)
+
+-- a turn that added nothing
+pub turn_same : {T E : Type 0} (n : ℕ) (seen taken log after : Log) (r : Result T E) → log ≡ taken
+    → after ≡ log → Continues (λ (i : Item). i.pass) n seen taken → OnErr r (Goes (Some n) seen after)
+turn_same n seen taken log after (Ok t) at is goes = tt
+turn_same n seen taken log after (Err e) at is goes =
+    subst (λ (l : Log). Goes (Some n) seen l) (sym (is ∙ at)) (goes_by n seen taken goes)

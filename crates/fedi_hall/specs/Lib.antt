@@ -1,4 +1,5 @@
 pub mod Delivering
+pub mod Lobbies
 pub mod Locks
 pub mod Serving
 pub mod Stations

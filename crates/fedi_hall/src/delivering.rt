@@ -13,6 +13,7 @@ ghost use Rattle.fedi_logged.specs.Turning.{setting_at, setting_by};
 ghost use Rattle.fedi_town.specs.Histories.{town};
 ghost use Rattle.fedi_turn.specs.Turn.{IsIdle, number_of, seen_of};
 
+use crate::hall::Queues;
 use fedi_address::Iri;
 use fedi_core::RecordFault;
 use fedi_delivery::{Found, Outgoing, look_up, post};
@@ -22,7 +23,7 @@ use fedi_objects::Came;
 use fedi_outside::{Clock, Keeper, Link, REPLY_LENGTH, Rest};
 use fedi_queue::Claim;
 use fedi_text::Moment;
-use fedi_turn::{Grows, Pass, TurnLock};
+use fedi_turn::{Grows, Pass, Span, TurnLock};
 use fedi_visible::Shelf;
 use std::alloc::{AllocError, Global};
 use std::sync::Wait;
@@ -129,7 +130,7 @@ fn take_up_in_turn<R: Wait, S: Shelf + Drop, P: Keeper + Drop, O: Opened>(
         (seen_of pass.old) (seen_of pass.new) result.0 result.1 }
 {
     let by = pass.number();
-    let mut held = lock.take(rt, pass);
+    let mut held = lock.take(rt, pass, Span::Short);
     let front = held.value.front();
     let taken = held.value.take_up(alloc, Some(by), moment);
     lock.give(pass, held);
@@ -156,7 +157,7 @@ fn inbox_post_in_turn<R: Wait, S: Shelf + Drop, P: Keeper + Drop, O: Opened>(
         → HasClaimed (Some (number_of pass.old)) (seen_of pass.old) p claim.now
         → IfOk result (λ text. IsPostSince (seen_of pass.new) p inbox.now body.now text.items) }
 {
-    let held = lock.take(rt, pass);
+    let held = lock.take(rt, pass, Span::Short);
     let text = held.value.inbox_post(alloc, claim, inbox, body);
     lock.give(pass, held);
     text
@@ -178,7 +179,7 @@ fn release_in_turn<R: Wait, S: Shelf + Drop, P: Keeper + Drop, O: Opened>(
         → ReleasesInTurn (Some (number_of pass.old)) (seen_of pass.old) (seen_of pass.new) p }
 {
     let by = pass.number();
-    let mut held = lock.take(rt, pass);
+    let mut held = lock.take(rt, pass, Span::Short);
     held.value.release(Some(by), claim);
     lock.give(pass, held);
 }
@@ -189,6 +190,7 @@ fn record_in_turn<R: Wait, S: Shelf + Drop, P: Keeper + Drop, O: Opened>(
     rt: &R,
     alloc: Global,
     lock: &TurnLock<Logged<S, P, O>>,
+    queues: &Queues,
     pass: &mut Pass<Item>,
     claim: Claim,
     came: Came,
@@ -206,7 +208,9 @@ fn record_in_turn<R: Wait, S: Shelf + Drop, P: Keeper + Drop, O: Opened>(
         (seen_of pass.old) (seen_of pass.new) p came moment result.0 result.1 }
 {
     let by = pass.number();
-    let mut held = lock.take(rt, pass);
+    let _attempt = queues.attempts.lock(rt);
+    let _first = queues.entries.lock(rt);
+    let mut held = lock.take(rt, pass, Span::Long);
     let front = held.value.front();
     let recorded = held.value.record(alloc, Some(by), claim, came, moment);
     lock.give(pass, held);
@@ -269,6 +273,7 @@ pub fn deliver_one<R: Wait, S: Shelf + Drop, P: Keeper + Drop, O: Opened, K: Lin
     rt: &R,
     alloc: Global,
     lock: &TurnLock<Logged<S, P, O>>,
+    queues: &Queues,
     pass: &mut Pass<Item>,
     link: &mut K,
     clock: &C,
@@ -303,7 +308,7 @@ pub fn deliver_one<R: Wait, S: Shelf + Drop, P: Keeper + Drop, O: Opened, K: Lin
         return Step::Memory;
     };
     let moment = later_of(moment, Moment::clamped(clock.now()));
-    let (front, recorded) = record_in_turn(rt, alloc, lock, pass, claim, came, moment);
+    let (front, recorded) = record_in_turn(rt, alloc, lock, queues, pass, claim, came, moment);
     Step::after(claimed, came, front, recorded)
 }
 

@@ -9,9 +9,11 @@ ghost use Rattle.fedi_town.specs.Histories.{town};
 ghost use Rattle.fedi_town.specs.Legal.{IsLegal};
 ghost use Rattle.fedi_turn.specs.Turn.{AreNew, ContinuesEach, IsIdle, NamesOneOf, seats_of};
 ghost use Rattle.fedi_turn.specs.Turn.{start_of};
+ghost use Rattle.fedi_hall.specs.Lobbies.{IsLobbyOf};
 
 use fedi_address::Host;
 use fedi_core::Core;
+use fedi_effects::Roster;
 use fedi_log::Item;
 use fedi_logged::{Logged, Opened};
 use fedi_outside::Keeper;
@@ -19,16 +21,66 @@ use fedi_routes::Routes;
 use fedi_turn::{Grows, Pass, TurnLock};
 use fedi_visible::Shelf;
 use std::alloc::{AllocError, Global};
-use std::sync::Wait;
+use std::sync::{Mutex, Wait};
+
+/// Where workers wait for each other outside of turns. Who records an attempt has both locks of
+/// those who keep an entry, the one of attempts first.
+#[derive(Drop)]
+pub struct Queues {
+    /// Those who keep an entry: a turn that keeps nothing waits for one of them at most.
+    pub entries: Mutex<()>,
+    /// Those who record an attempt: so posts and deliveries to members get every second turn of
+    /// those who keep an entry.
+    pub attempts: Mutex<()>,
+    /// Those who read a long body, which takes much memory.
+    pub bodies: Mutex<()>,
+}
+
+impl Queues {
+    /// Nobody waits.
+    pub fn new() -> Self {
+        Queues {
+            entries: Mutex::new(()),
+            attempts: Mutex::new(()),
+            bodies: Mutex::new(()),
+        }
+    }
+}
+
+/// What workers need outside of turns, and no turn changes.
+#[derive(Drop)]
+pub struct Lobby {
+    /// The host of the machine.
+    pub host: Host,
+    /// The members and the peers of the machine.
+    pub roster: Roster,
+    /// Where paths lead.
+    pub routes: Routes,
+    /// Who waits to keep something.
+    pub queues: Queues,
+}
+
+impl Lobby {
+    // The lobby of this machine. The error is out of memory.
+    fn of<S: Shelf + Drop, P: Keeper>(alloc: Global, core: &Core<S, P>) -> Result<Lobby, AllocError>
+        requires hosted { IsTrue (is_some (town core.now.history).host) }
+        ensures { IfOk result (IsLobbyOf (town core.now.history)) }
+    {
+        Ok(Lobby {
+            host: host_of(core)?,
+            roster: Roster::of(alloc, core.facts())?,
+            routes: Routes::new(alloc)?,
+            queues: Queues::new(),
+        })
+    }
+}
 
 /// A machine with its log under the turn lock, and what is needed outside of turns. Each worker
 /// has a pass of the lock.
 #[derive(Drop)]
 pub struct Hall<S: Shelf + Drop, P: Keeper + Drop, O: Opened> {
     pub lock: TurnLock<Logged<S, P, O>>,
-    /// The host of the machine, which no turn changes.
-    pub host: Host,
-    pub routes: Routes,
+    pub lobby: Lobby,
 }
 
 // A copy of the host of the machine. The error is out of memory.
@@ -62,17 +114,14 @@ impl<S: Shelf + Drop, P: Keeper + Drop, O: Opened> Hall<S, P, O> {
             All (IsIdle ⟦<Logged<S, P, O> as Grows>⟧ r.0.lock) r.1.items) }
         ensures new { IfOk result (λ r. AreNew ⟦<Logged<S, P, O> as Grows>⟧ r.0.lock r.1.items) }
         ensures seats { IfOk result (λ r. (seats_of r.0.lock ≡ seats) × (vec_len r.1 ≡ seats)) }
-        ensures host { IfOk result (λ r. (town core.history).host ≡ Some r.0.host) }
+        ensures lobby { IfOk result (λ r. IsLobbyOf (town core.history) r.0.lobby) }
         ensures back { IfErr result (λ back. back ≡ core) }
     {
-        let Ok(routes) = Routes::new(alloc) else {
-            return Err(core);
-        };
-        let Ok(host) = host_of(&core) else {
+        let Ok(lobby) = Lobby::of(alloc, &core) else {
             return Err(core);
         };
         match TurnLock::new(alloc, Logged::of(core), seats) {
-            Ok((lock, passes)) => Ok((Hall { lock, host, routes }, passes)),
+            Ok((lock, passes)) => Ok((Hall { lock, lobby }, passes)),
             Err(logged) => Err(logged.into_core()),
         }
     }
@@ -95,10 +144,10 @@ impl<S: Shelf + Drop, P: Keeper + Drop, O: Opened> Hall<S, P, O> {
             × ContinuesEach ⟦<Logged<S, P, O> as Grows>⟧ passes.items log
             × NamesOneOf ⟦<Logged<S, P, O> as Grows>⟧ self.lock passes.items log) }
     {
-        let Hall { lock, host, routes } = self;
+        let Hall { lock, lobby } = self;
         match lock.close(rt, passes) {
             Ok(logged) => Ok(logged.into_core()),
-            Err((lock, passes)) => Err((Hall { lock, host, routes }, passes)),
+            Err((lock, passes)) => Err((Hall { lock, lobby }, passes)),
         }
     }
 }

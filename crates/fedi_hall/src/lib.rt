@@ -12,10 +12,10 @@ mod turns;
 mod workers;
 
 pub use delivering::{Delivers, Step, deliver_one};
-pub use hall::Hall;
+pub use hall::{Hall, Lobby, Queues};
 pub use laws::work_stays;
 pub use serving::{ServeEnd, Served, serve_core};
 pub use shared::Shared;
 pub use stations::{Station, serve_stations};
-pub use turns::answer_in_turn;
+pub use turns::{answer_in_turn, refuse_in_turn};
 pub use workers::{WorkerEnd, worker};

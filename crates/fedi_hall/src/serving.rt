@@ -144,8 +144,8 @@ fn serve_opened<
         benches: mut benches_back,
     } = room;
     let stations = seat(stations, passes, benches);
-    let (lock, host, routes) = (&hall.lock, &hall.host, &hall.routes);
-    let stations = serve_stations(rt, alloc, lock, host, routes, stations, clock);
+    let Hall { lock, lobby } = &hall;
+    let stations = serve_stations(rt, alloc, lock, lobby, stations, clock);
     let end = leave(stations, &mut passes_back, &mut benches_back);
     match hall.close(rt, passes_back) {
         Ok(core) => Served {

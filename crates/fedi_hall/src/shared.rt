@@ -1,19 +1,22 @@
 //! A worker's share of a hall.
-ghost use Rattle.std.specs.Prelude.{◌≡◌, Some};
+ghost use Rattle.std.specs.Prelude.{◌≡◌, IfOk, Some};
 ghost use Rattle.std.proofs.Common.{ap, refl, ◌∙◌};
 ghost use Rattle.fedi_log.specs.Keeping.{base_of};
+ghost use Rattle.fedi_model.specs.Routes.{Asks, IsPostableAt};
 ghost use Rattle.fedi_town.specs.Histories.{town};
 ghost use Rattle.fedi_turn.specs.Turn.{number_of, seen_of};
+ghost use Rattle.fedi_hall.specs.Lobbies.{IsLobbyOf};
 ghost use Rattle.fedi_hall.specs.Locks.{IsIdleBy};
 
 use crate::delivering::{Delivers, Step, deliver_one};
-use crate::turns::answer_in_turn;
-use fedi_address::Host;
+use crate::hall::Lobby;
+use crate::turns::{answer_in_turn, refuse_in_turn};
+use fedi_core::caller_of;
 use fedi_log::Item;
 use fedi_logged::{Logged, Opened, Turns};
-use fedi_model::Request;
+use fedi_model::{Ask, Caller, Request};
 use fedi_outside::{Clock, Keeper, Link};
-use fedi_routes::{Routes, route};
+use fedi_routes::{credentials, route};
 use fedi_text::Moment;
 use fedi_turn::{Pass, TurnLock};
 use fedi_visible::Shelf;
@@ -21,14 +24,45 @@ use std::alloc::{AllocError, Global};
 use std::sync::Wait;
 
 /// A worker's share of a hall: its pass, which is its own, and the rest, which all workers share.
-/// What a request asks is determined outside of the turn.
+/// Who makes a request and what it asks are determined outside of the turn.
 #[derive(Drop)]
 pub struct Shared<'a, 'b, R, S: Shelf + Drop, P: Keeper + Drop, O: Opened> {
     pub rt: &'a R,
     pub lock: &'a TurnLock<Logged<S, P, O>>,
-    pub host: &'a Host,
-    pub routes: &'a Routes,
+    pub lobby: &'a Lobby,
     pub pass: &'b mut Pass<Item>,
+}
+
+/// The most bytes of a body that is read while others are. JSON in memory may take 80 times as many
+/// bytes as its text.
+const SHORT_BODY: usize = 8_192;
+
+// What this caller's request asks. Of long bodies one is read at a time. The error is out of memory.
+fn read_ask<R: Wait>(
+    rt: &R,
+    alloc: Global,
+    request: &Request,
+    body: &[u8],
+    lobby: &Lobby,
+    caller: &Caller,
+) -> Result<Ask, AllocError>
+    ensures asks { IfOk result (λ ask.
+        Asks (Some lobby.now.host) caller.now request.now body.now ask) }
+    ensures postable { IfOk result (IsPostableAt (Some lobby.now.host)) }
+{
+    let _one = if body.len() > SHORT_BODY {
+        Some(lobby.queues.bodies.lock(rt))
+    } else {
+        None
+    };
+    route(
+        alloc,
+        request,
+        body,
+        Some(&lobby.host),
+        &lobby.routes,
+        caller,
+    )
 }
 
 impl<'a, 'b, R: Wait, S: Shelf + Drop, P: Keeper + Drop, O: Opened> Turns
@@ -39,7 +73,7 @@ impl<'a, 'b, R: Wait, S: Shelf + Drop, P: Keeper + Drop, O: Opened> Turns
 
     ghost seen = { λ s. seen_of s.pass.now };
 
-    ghost ready = { λ s. ((town O.state.history).host ≡ Some s.host.now)
+    ghost ready = { λ s. IsLobbyOf (town O.state.history) s.lobby.now
         × IsIdleBy (λ l. l.log) s.lock.now s.pass.now };
 
     ghost same = { λ before after. (after.pass.ghost_name ≡ before.pass.ghost_name)
@@ -60,16 +94,44 @@ impl<'a, 'b, R: Wait, S: Shelf + Drop, P: Keeper + Drop, O: Opened> Turns
         moment: Moment,
         closing: bool,
     ) -> Result<Vec<u8>, AllocError> {
-        let ask = route(alloc, request, body, Some(self.host), self.routes)?;
-        answer_in_turn(
-            self.rt, alloc, self.lock, self.pass, request, body, ask, moment, closing,
-        )
+        let (rt, lock, lobby) = (self.rt, self.lock, self.lobby);
+        match caller_of(&lobby.roster, &credentials(request, body))? {
+            Ok(caller) => {
+                let ask = read_ask(rt, alloc, request, body, lobby, &caller)?;
+                answer_in_turn(
+                    rt,
+                    alloc,
+                    lock,
+                    &lobby.queues,
+                    self.pass,
+                    request,
+                    body,
+                    &caller,
+                    ask,
+                    moment,
+                    closing,
+                )
+            }
+            Err(refusal) => {
+                refuse_in_turn(
+                    rt, alloc, lock, self.pass, request, body, refusal, moment, closing,
+                )
+            }
+        }
     }
 }
 
 impl<'a, 'b, R: Wait, S: Shelf + Drop, P: Keeper + Drop, O: Opened> Delivers
     for Shared<'a, 'b, R, S, P, O> {
     fn deliver_one<K: Link, C: Clock>(&mut self, alloc: Global, link: &mut K, clock: &C) -> Step {
-        deliver_one(self.rt, alloc, self.lock, self.pass, link, clock)
+        deliver_one(
+            self.rt,
+            alloc,
+            self.lock,
+            &self.lobby.queues,
+            self.pass,
+            link,
+            clock,
+        )
     }
 }

@@ -4,17 +4,17 @@ ghost use Rattle.std.specs.Prelude.{slice_index_or, vec_capacity, vec_len};
 ghost use denote.Param.Send.{IsSend, IsSync};
 ghost use Rattle.fedi_logged.specs.Attempts.{told_by};
 ghost use Rattle.fedi_town.specs.Histories.{town};
+ghost use Rattle.fedi_hall.specs.Lobbies.{IsLobbyOf};
 ghost use Rattle.fedi_hall.specs.Locks.{IsIdleBy};
 ghost use Rattle.fedi_hall.specs.Stations.{IsLabor, IsReady, bench_of, end_of, ends_of, pass_of};
 ghost use Rattle.fedi_hall.specs.declared.stations.Station.{Station};
 
+use crate::hall::Lobby;
 use crate::shared::Shared;
 use crate::workers::{WorkerEnd, worker};
-use fedi_address::Host;
 use fedi_log::Item;
 use fedi_logged::{Logged, Opened};
 use fedi_outside::{Bench, Clock, Door, Keeper, Link};
-use fedi_routes::Routes;
 use fedi_turn::{Pass, TurnLock};
 use fedi_visible::Shelf;
 use std::alloc::Global;
@@ -96,13 +96,12 @@ pub fn serve_stations<
     rt: &R,
     alloc: Global,
     lock: &TurnLock<Logged<S, P, O>>,
-    host: &Host,
-    routes: &Routes,
+    lobby: &Lobby,
     stations: Vec<Station<W, K>>,
     clock: &C,
 ) -> Vec<Station<W, K>>
     requires some { 0 < vec_len stations }
-    requires host { (town O.state.history).host ≡ Some host.now }
+    requires lobby { IsLobbyOf (town O.state.history) lobby.now }
     requires ready { All (IsReady (λ l. l.log) W.out W.idle lock.now) stations.items }
     ensures ready { All (IsReady (λ l. l.log) W.out W.idle lock.now) result.items }
     ensures len { vec_len result ≡ vec_len stations }
@@ -120,13 +119,13 @@ pub fn serve_stations<
         count,
         &|_, station|
             requires { IsSend W.row × IsSend W.L.row × IsSend K.row
-                × ((town O.state.history).host ≡ Some host.now)
+                × IsLobbyOf (town O.state.history) lobby.now
                 × IsReady (λ l. l.log) W.out W.idle lock.now station.old }
             ensures { IsReady (λ l. l.log) W.out W.idle lock.entry.now station.new
                 × IsLabor P.growth P.room (C.told clock.entry.now) O.state
                 W.served (told_by K.asked K.heard K.link_faults) W.closed W.faults
                 station.old station.new }
-        { labor(rt, alloc, lock, host, routes, station, clock) },
+        { labor(rt, alloc, lock, lobby, station, clock) },
     );
     stations
 }
@@ -136,12 +135,11 @@ fn labor<R: Wait, S: Shelf + Drop, P: Keeper + Drop, O: Opened, W: Door, K: Link
     rt: &R,
     alloc: Global,
     lock: &TurnLock<Logged<S, P, O>>,
-    host: &Host,
-    routes: &Routes,
+    lobby: &Lobby,
     station: &mut Station<W, K>,
     clock: &C,
 )
-    requires host { (town O.state.history).host ≡ Some host.now }
+    requires lobby { IsLobbyOf (town O.state.history) lobby.now }
     requires ready { IsReady (λ l. l.log) W.out W.idle lock.now station.old }
     ensures ready { IsReady (λ l. l.log) W.out W.idle lock.now station.new }
     ensures labor { IsLabor P.growth P.room (C.told clock.now) O.state W.served
@@ -152,8 +150,7 @@ fn labor<R: Wait, S: Shelf + Drop, P: Keeper + Drop, O: Opened, W: Door, K: Link
     let mut shared = Shared {
         rt,
         lock,
-        host,
-        routes,
+        lobby,
         pass,
     };
     *end = worker(rt, alloc, &mut shared, bench, clock);

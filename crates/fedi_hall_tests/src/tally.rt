@@ -3,7 +3,7 @@ ghost use Rattle.std.specs.Prelude.{◌≡◌, [], ◌∷◌, Some};
 ghost use Rattle.fedi_turn.specs.Turn.{IsIdle, number_of};
 ghost use Rattle.fedi_hall_tests.specs.Marks.{marks_after};
 
-use fedi_turn::{Grows, Pass, TurnLock};
+use fedi_turn::{Grows, Pass, Span, TurnLock};
 use std::alloc::Global;
 use std::sync::{Arc, Wait};
 
@@ -51,7 +51,7 @@ pub fn turn<R: Wait>(rt: &R, lock: &TurnLock<Tally>, pass: &mut Pass<u64>)
     ensures idle { IsIdle ⟦<Tally as Grows>⟧ lock.now pass.new }
     ensures same { number_of pass.new ≡ number_of pass.old }
 {
-    let mut held = lock.take(rt, pass);
+    let mut held = lock.take(rt, pass, Span::Short);
     held.value.add(pass.number());
     lock.give(pass, held);
 }

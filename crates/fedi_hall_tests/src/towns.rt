@@ -81,6 +81,7 @@ pub fn done_by<S: Source + Drop, C: Clock + Drop>(
         &words,
         &mut connection,
         disk,
+        MemoryDisk::new(alloc, Vec::new(alloc))?,
         benches,
         &mut entropy,
     );
@@ -114,10 +115,13 @@ pub fn disk_after(
     Ok(disk)
 }
 
-/// Whether `check` prints this of the store of the disk.
+/// Whether `check` prints this of the store of the disk, and then its tip.
 pub fn has_counts(alloc: Global, disk: MemoryDisk, printed: &str) -> Result<bool, Fail> {
     let (_, out) = done(alloc, "check s", "", disk)?;
-    Ok(out.as_slice() == printed.as_bytes())
+    match out.as_slice().strip_prefix(printed.as_bytes()) {
+        Some(tip) => Ok(tip.starts_with(b"tip ")),
+        None => Ok(false),
+    }
 }
 
 /// A link that nobody is to use.
@@ -158,6 +162,7 @@ pub fn serve_by<
         &words,
         &mut connection,
         disk,
+        MemoryDisk::new(alloc, Vec::new(alloc))?,
         benches,
         &mut entropy,
     ))

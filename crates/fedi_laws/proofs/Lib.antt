@@ -14,7 +14,7 @@ pub mod Isolation
 pub mod Knowledge
 pub mod Legality
 pub mod Next
-pub mod Nobody
+pub mod Unread
 pub mod Pages
 pub mod PrivateReplies
 pub mod Queued

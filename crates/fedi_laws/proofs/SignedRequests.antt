@@ -10,7 +10,7 @@ use Rattle.fedi_mac.specs.Signing.{signed_text}
 use Rattle.fedi_objects.proofs.KeyLemmas.{is_utf8_key}
 use Rattle.fedi_town.specs.Towns.{has_host}
 use Rattle.fedi_model.specs.Answers.{caller_of}
-use Rattle.fedi_model.specs.Callers.{is_signed, caller_by}
+use Rattle.fedi_model.specs.Callers.{is_signed, caller_among, caller_by}
 use Rattle.fedi_model.specs.Credentials.{Mac, code_of, is_lower_hex, signed_by}
 use Rattle.fedi_laws.specs.SignedRequests.{SignedDelivery, body, changed_code, club, code, delivery, hill, upper_code}
 
@@ -22,7 +22,7 @@ by_code host code body text =
     ap (λ (t : Bool). caller_by club (Mac (if t then option_map (signed_by (delivery None (Some host) (Some code)) body host) (code_of code) else None))) text
 
 pub signed_delivery : SignedDelivery
-unfolding decode_pairs sha256 first_words schedule rounds compress hash_after digest_bytes block_key padded inner_block outer_block hmac key_of signed_text has_host is_signed caller_by is_lower_hex
+unfolding decode_pairs sha256 first_words schedule rounds compress hash_after digest_bytes block_key padded inner_block outer_block hmac key_of signed_text has_host is_signed caller_among caller_by is_lower_hex
 signed_delivery = record {
   signed = by_code hill code body (is_utf8_key hill refl);
   changed = by_code hill changed_code body (is_utf8_key hill refl);

@@ -1,6 +1,6 @@
 -- The laws about the meaning of a history.
 use Rattle.std.specs.Prelude.{◌≡◌, ℕ, ◌+◌, ◌≤◌, Bool, true, false, ◌||◌, if◌then◌else◌, List, []}
-use Rattle.std.specs.Prelude.{◌∷◌, ◌++◌, map, IsTrue, Option, Some}
+use Rattle.std.specs.Prelude.{◌∷◌, ◌++◌, ◌&&◌, not, map, IsTrue, Option, Some}
 use Rattle.std.specs.List.{list_any}
 use Rattle.std.specs.Str.{bytes_eq}
 use Rattle.fedi_address.specs.Names.{is_name}
@@ -36,7 +36,7 @@ use Rattle.fedi_model.specs.Asks.{answer_of, entry_of, IsPostable}
 use Rattle.fedi_model.specs.Cleanness.{is_clean_answer}
 use Rattle.fedi_model.specs.declared.post.Post.{Post}
 use Rattle.fedi_model.specs.Posting.{is_bad_key}
-use Rattle.fedi_model.specs.Reading.{is_self}
+use Rattle.fedi_model.specs.Reading.{is_peer, is_self}
 
 -- ---- what a caller may learn
 
@@ -62,20 +62,22 @@ ProfilesTellNamesAlone =
     → member_names (town g) ≡ member_names (town h) → is_of_profiles ask ≡ true
     → answer_of (town g) c ask ≡ answer_of (town h) d ask
 
--- The answer to the caller `Nobody` for a post does not depend on its body, so the body need not be
--- read.
-abbrev pub PostsOfNobodyAreUnread : Type 0
-PostsOfNobodyAreUnread =
-    (t : Town) (name : List ℕ) (post other : Post) → is_bad_key post.key ≡ is_bad_key other.key
-    → answer_of t callers.Nobody (asks.Outbox name post)
-    ≡ answer_of t callers.Nobody (asks.Outbox name other)
+-- The answer for a post whose body is not read does not depend on the body: the caller is not the
+-- member, the body has another media type, or the key is malformed.
+abbrev pub UnreadPostsAreAnsweredAlike : Type 0
+UnreadPostsAreAnsweredAlike =
+    (t : Town) (c : Caller) (name : List ℕ) (post other : Post)
+    → is_bad_key post.key ≡ is_bad_key other.key → post.is_typed ≡ other.is_typed
+    → (is_self c name && (post.is_typed && not (is_bad_key post.key))) ≡ false
+    → answer_of t c (asks.Outbox name post) ≡ answer_of t c (asks.Outbox name other)
 
--- The answer to the caller `Nobody` for a delivery does not depend on the delivery.
-abbrev pub DeliveriesOfNobodyAreUnread : Type 0
-DeliveriesOfNobodyAreUnread =
-    (t : Town) (name : List ℕ) (post other : Post)
-    → answer_of t callers.Nobody (asks.Inbox name post)
-    ≡ answer_of t callers.Nobody (asks.Inbox name other)
+-- The answer for a delivery whose body is not read does not depend on the body: the caller is no
+-- peer, or the body has another media type.
+abbrev pub UnreadDeliveriesAreAnsweredAlike : Type 0
+UnreadDeliveriesAreAnsweredAlike =
+    (t : Town) (c : Caller) (name : List ℕ) (post other : Post)
+    → post.is_typed ≡ other.is_typed → (is_peer c && post.is_typed) ≡ false
+    → answer_of t c (asks.Inbox name post) ≡ answer_of t c (asks.Inbox name other)
 
 -- A member's post that changes nothing earlier changes nothing that is known to a caller who does
 -- not see it. So the agreement is not empty: a private post changes no answer to a stranger.

@@ -26,8 +26,9 @@ pub use objects::{
 pub use privacy::{
     added_inboxes_tell_their_owners, added_peers_tell_themselves, answers_are_clean,
     answers_are_private, attempts_tell_nothing, changes_reach_the_readers,
-    deleted_content_is_told_to_nobody, deliveries_of_nobody_are_unread, posts_of_nobody_are_unread,
-    profiles_tell_names_alone, unseen_deliveries_tell_nothing, unseen_posts_tell_nothing,
+    deleted_content_is_told_to_nobody, profiles_tell_names_alone,
+    unread_deliveries_are_answered_alike, unread_posts_are_answered_alike,
+    unseen_deliveries_tell_nothing, unseen_posts_tell_nothing,
 };
 pub use replies::{
     a_delivery_is_signed, refusals_are_clean, replies_are_clean, replies_are_private,

@@ -8,10 +8,10 @@ ghost use Rattle.fedi_laws.specs.Statements.{
   AttemptsTellNothing,
   ChangesReachTheReaders,
   DeletedContentIsToldToNobody,
-  DeliveriesOfNobodyAreUnread,
-  PostsOfNobodyAreUnread,
   ProfilesTellNamesAlone,
   UnseenDeliveriesTellNothing,
+  UnreadDeliveriesAreAnsweredAlike,
+  UnreadPostsAreAnsweredAlike,
   UnseenPostsTellNothing,
 };
 
@@ -28,18 +28,18 @@ pub fn profiles_tell_names_alone()
     ensures { ProfilesTellNamesAlone }
 {}
 
-/// The answer to the caller `Nobody` for a post does not depend on its body, so the body need not
-/// be read.
-#[tactic(auto, using(crate::proofs::Nobody::nobody_is_answered))]
-pub fn posts_of_nobody_are_unread()
-    ensures { PostsOfNobodyAreUnread }
+/// The answer for a post does not depend on its body if the caller is not the member, the body is
+/// not declared as JSON or ActivityStreams, or the key is malformed. So the body need not be read.
+#[tactic(auto, using(crate::proofs::Unread::unread_posts))]
+pub fn unread_posts_are_answered_alike()
+    ensures { UnreadPostsAreAnsweredAlike }
 {}
 
-/// The answer to the caller `Nobody` for a delivery does not depend on the delivery, so its body
-/// need not be read.
-#[tactic(auto, using(crate::proofs::Nobody::nobody_delivers))]
-pub fn deliveries_of_nobody_are_unread()
-    ensures { DeliveriesOfNobodyAreUnread }
+/// The answer for a delivery does not depend on its body if the caller is no peer, or the body is
+/// not declared as JSON or ActivityStreams. So the body need not be read.
+#[tactic(auto, using(crate::proofs::Unread::unread_deliveries))]
+pub fn unread_deliveries_are_answered_alike()
+    ensures { UnreadDeliveriesAreAnsweredAlike }
 {}
 
 /// A post that changes nothing earlier, such as a Create, a Follow or a Like, changes nothing that

@@ -29,7 +29,7 @@ same_to : (t : Town) (moment : ℕ) (caller : Result Caller Refusal) (q : Reques
     → AnswersTo t moment caller q body r made → AnswersTo t moment caller q body s other → (r ≡ s) × (made ≡ other)
 same_to t moment (Err e) q body r s made other x y = (x.0 ∙ sym y.0, x.1 ∙ sym y.1)
 same_to t moment (Ok c) q body r s made other x y =
-    let same : x.0 ≡ y.0 = asked_once t.host q body x.0 y.0 x.1 y.1 in (
+    let same : x.0 ≡ y.0 = asked_once t.host c q body x.0 y.0 x.1 y.1 in (
       x.2 ∙ ap (λ (ask : Ask). reply t c ask) same ∙ sym y.2,
       x.3 ∙ ap (λ (ask : Ask). entry_of t c ask moment) same ∙ sym y.3,
     )

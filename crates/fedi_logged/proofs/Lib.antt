@@ -1,4 +1,5 @@
 pub mod Attempts
+pub mod Callers
 pub mod Claimed
 pub mod Claiming
 pub mod Conversing

@@ -3,9 +3,10 @@ use Rattle.std.proofs.Common.{◌≡◌, ℕ, ◌+◌, ◌-◌, List, [], ◌∷
 use Rattle.std.specs.Prelude.{map}
 use Rattle.fedi_core.specs.Crashing.{PassesTimeUnkept, PassesTimeWith}
 use Rattle.fedi_core.specs.Delivering.{claims_in, keep_fault}
-use Rattle.fedi_core.specs.Keeping.{IsKept, Refuses}
-use Rattle.fedi_core.specs.Machines.{KeepsClaims}
+use Rattle.fedi_core.specs.Keeping.{IsKept, Keeps, Refuses, fault_by}
+use Rattle.fedi_core.specs.Machines.{KeepsClaims, Machine}
 use Rattle.fedi_core.specs.declared.delivering.RecordFault.{RecordFault}
+use Rattle.fedi_core.specs.declared.keeping.KeepFault.{KeepFault}
 use Rattle.fedi_core.specs.declared.delivering.RecordFault.TheVariants.{KeeperFault, Full, Memory}
 use Rattle.fedi_entry.specs.Codes.{code_of}
 use Rattle.fedi_log.specs.Claims.{HasClaimed}
@@ -18,15 +19,18 @@ use Rattle.fedi_objects.specs.declared.entry.Came.{Came}
 use Rattle.fedi_objects.specs.declared.entry.Entry.{Entry}
 use Rattle.fedi_opening.specs.Opening.{IsNext}
 use Rattle.fedi_outside.specs.Keepers.{Crashes}
+use Rattle.fedi_outside.specs.declared.keepers.Keeper.{Ghosts}
 use Rattle.fedi_queue.specs.declared.rows.Claim.{Claim}
 use Rattle.fedi_queue.specs.declared.rows.QueueRow.{QueueRow}
 use Rattle.fedi_queue.specs.Claims.{change_first, is_claimed_at, release}
 use Rattle.fedi_queue.specs.Rows.{rows_of}
 use Rattle.fedi_town.specs.Histories.{town}
 use Rattle.fedi_town.specs.Legal.{IsLegal}
+use Rattle.fedi_effects.specs.Rosters.{callers_in}
+use Rattle.fedi_logged.proofs.Callers.{callers_stay}
 use Rattle.fedi_logged.specs.Claiming.{FitsIf, IsClaiming, Records, outcome_of, tried, what_after}
 use Rattle.fedi_logged.specs.Logs.{StandsFor}
-use Rattle.fedi_logged.specs.Turns.{Standing, Turns}
+use Rattle.fedi_logged.specs.Turns.{Standing, Turns, standing_by}
 use Rattle.fedi_logged.proofs.Claiming.{claiming_failed, claiming_recorded, claiming_released}
 use Rattle.fedi_logged.proofs.Silent.{IsSilent, stands_silent}
 use Rattle.fedi_logged.proofs.Standing.{stands_more}
@@ -45,6 +49,36 @@ pub record IsRecorded (growth room : ℕ → ℕ) (before after : Standing) (e :
   pub time : OnOk r (PassesTimeWith before.state.keeper.records before.state.keeper.doubt (code_of e) before.crashes after.crashes)
   pub time_refused : IfErr r (λ f. PassesTimeUnkept (keep_fault f) before.state.keeper.records before.state.keeper.doubt (code_of e) before.crashes after.crashes)
 
+-- a machine that keeps its entry
+pub recorded_by : {P : Type 0} (k : Ghosts P) (before after : Machine P) (e : Entry)
+    (r : Result (Unit {0}) RecordFault) → Keeps k before after e (fault_by keep_fault r)
+    → IsRecorded k.growth k.room (standing_by k.shown k.crashes before)
+    (standing_by k.shown k.crashes after) e r
+recorded_by k before after e (Ok done) s = record {
+  kept = s.kept;
+  refused = tt;
+  next = tt;
+  same = tt;
+  legal = s.legal;
+  time = s.time;
+  time_refused = tt;
+}
+recorded_by k before after e (Err fault) s = record {
+  kept = tt;
+  refused = s.refused;
+  next = λ is. s.next (ap keep_fault is);
+  same = s.same;
+  legal = s.legal;
+  time = tt;
+  time_refused = s.time_refused;
+}
+
+-- what holds without an error, whatever the error is called
+pub claims_by : {F : Type 0} (T : Type 0) (of : F → KeepFault) (r : Result (Unit {0}) F)
+    → OnOk (fault_by of r) T → OnOk r T
+claims_by T of (Ok done) t = t
+claims_by T of (Err fault) t = tt
+
 -- the turn that it was
 pub record_turn : (growth room : ℕ → ℕ) (before after : Standing) (p : Pair) (came : Came) (m : ℕ) (r : Result (Unit {0}) RecordFault)
     → IsRecorded growth room before after (tried p came m) r → Turns growth before after (outcome_of (tried p came m) r)
@@ -52,6 +86,15 @@ record_turn growth room before after p came m (Ok done) k = kept_turn growth roo
 record_turn growth room before after p came m (Err KeeperFault) k = failed_turn growth room before after (tried p came m) k.same (k.next refl) (k.refused, k.time_refused)
 record_turn growth room before after p came m (Err Full) k = full_turn growth room before after (tried p came m) k.same (k.refused, k.time_refused)
 record_turn growth room before after p came m (Err Memory) k = memory_turn growth room before after (tried p came m) k.same (k.refused, k.time_refused)
+
+-- the same members and peers
+pub record_callers : (growth room : ℕ → ℕ) (before after : Standing) (p : Pair) (came : Came) (m : ℕ)
+    (r : Result (Unit {0}) RecordFault) → IsRecorded growth room before after (tried p came m) r
+    → callers_in (town after.state.history) ≡ callers_in (town before.state.history)
+record_callers growth room before after p came m (Ok done) k =
+    callers_stay before.state.history after.state.history (tried p came m) refl k.kept.history
+record_callers growth room before after p came m (Err f) k =
+    ap (λ (h : List Entry). callers_in (town h)) k.same
 
 -- the machine still holds its log
 pub record_stands : (growth room : ℕ → ℕ) (opened : State) (first : Crashes) (by : Option ℕ) (before after : Standing) (log now : Log) (p : Pair) (came : Came) (m : ℕ)

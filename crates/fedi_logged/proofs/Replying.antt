@@ -35,22 +35,22 @@ refused_answer t moment q body e caller = subst (λ (c : Result Caller Refusal).
 -- ---- the decision for a caller
 
 -- the reply to a caller for what the request asks
-asked_answer : (t : Town) (moment : ℕ) (q : Request) (body : List ℕ) (c : Caller) (ask : Ask) (r : Reply) → caller_of t q body ≡ Ok c → Asks t.host q body ask → r ≡ reply t c ask
+asked_answer : (t : Town) (moment : ℕ) (q : Request) (body : List ℕ) (c : Caller) (ask : Ask) (r : Reply) → caller_of t q body ≡ Ok c → Asks t.host c q body ask → r ≡ reply t c ask
     → Answers t moment q body r (entry_of t c ask moment)
 asked_answer t moment q body c ask r caller asks is =
     subst (λ (x : Result Caller Refusal). AnswersTo t moment x q body r (entry_of t c ask moment)) (sym caller) (ask, asks, is, refl)
 
-private_answer : (h g : List Entry) (moment : ℕ) (q : Request) (body : List ℕ) (c : Caller) (ask : Ask) (r : Reply) → caller_of (town h) q body ≡ Ok c → Asks (town h).host q body ask
+private_answer : (h g : List Entry) (moment : ℕ) (q : Request) (body : List ℕ) (c : Caller) (ask : Ask) (r : Reply) → caller_of (town h) q body ≡ Ok c → Asks (town h).host c q body ask
     → (Agree (town g) (town h) c → reply (town g) c ask ≡ r) → AgreeOn (town g) (town h) q body → (made : Option Entry) × Answers (town g) moment q body r made
 private_answer h g moment q body c ask r caller asks same agree =
     let known : Agree (town g) (town h) c = subst (λ (x : Result Caller Refusal). AgreeFor (town g) (town h) x) caller agree.known in
-    let asked = subst (λ (x : Option (List ℕ)). Asks x q body ask) (sym known.host) asks in
+    let asked = subst (λ (x : Option (List ℕ)). Asks x c q body ask) (sym known.host) asks in
     (entry_of (town g) c ask moment, asked_answer (town g) moment q body c ask r (agree.caller ∙ caller) asked (sym (same known)))
 
 -- what was decided for the caller of a request
 pub record IsDecided (state : State) (moment : ℕ) (q : Request) (body : List ℕ) (c : Caller) (ask : Ask) (r : Reply) (made : Option Entry) : Type 0 where
   pub caller : caller_of (town state.history) q body ≡ Ok c
-  pub asks : Asks (town state.history).host q body ask
+  pub asks : Asks (town state.history).host c q body ask
   pub reply_is : r ≡ reply (town state.history) c ask
   pub made_is : made ≡ entry_of (town state.history) c ask moment
   pub private : IsPrivate state.history c ask r
@@ -75,11 +75,11 @@ decided_clean state moment q body c ask r made d = subst (λ (x : Reply). IsClea
 
 -- the decision, by its parts
 pub decided : (state : State) (moment : ℕ) (q : Request) (body : List ℕ) (c : Caller) (ask : Ask) (r : Reply) (made other : Option Entry) (host : Option (List ℕ))
-    → caller_of (town state.history) q body ≡ Ok c → host ≡ (town state.history).host → Asks host q body ask → r ≡ reply (town state.history) c ask → made ≡ entry_of (town state.history) c ask moment
+    → caller_of (town state.history) q body ≡ Ok c → host ≡ (town state.history).host → Asks host c q body ask → r ≡ reply (town state.history) c ask → made ≡ entry_of (town state.history) c ask moment
     → IsPrivate state.history c ask r → made ≡ other → IsDecided state moment q body c ask r other
 decided state moment q body c ask r made other host is at asks reply_is made_is private so = record {
   caller = is;
-  asks = subst (λ (x : Option (List ℕ)). Asks x q body ask) at asks;
+  asks = subst (λ (x : Option (List ℕ)). Asks x c q body ask) at asks;
   reply_is = reply_is;
   made_is = sym so ∙ made_is;
   private = private;

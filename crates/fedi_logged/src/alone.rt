@@ -87,9 +87,18 @@ impl<S: Shelf + Drop, P: Keeper, O: Opened> Turns for Alone<S, P, O> {
         moment: Moment,
         closing: bool,
     ) -> Result<Vec<u8>, AllocError> {
-        let ask = route(alloc, request, body, self.logged.host(), &self.routes)?;
-        self.logged
-            .answer(alloc, None, request, body, ask, moment, closing)
+        match self.logged.caller_of(request, body)? {
+            Ok(caller) => {
+                let host = self.logged.host();
+                let ask = route(alloc, request, body, host, &self.routes, &caller)?;
+                self.logged
+                    .answer(alloc, None, request, body, &caller, ask, moment, closing)
+            }
+            Err(refusal) => {
+                self.logged
+                    .refuse(alloc, request, body, refusal, moment, closing)
+            }
+        }
     }
 }
 

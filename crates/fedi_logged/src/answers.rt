@@ -1,7 +1,9 @@
 //! A turn of a machine with its log.
-ghost use Rattle.std.specs.Prelude.{◌≡◌, [], IfOk, IsTrue, OnErr, is_some, option_copied};
+ghost use Rattle.std.specs.Prelude.{◌≡◌, ℕ, [], Err, IfOk, IsTrue, Ok, OnErr, Option, is_some};
+ghost use Rattle.std.specs.Prelude.{option_copied};
 ghost use Rattle.fedi_log.specs.Keeping.{base_of, state_of};
 ghost use Rattle.fedi_log.specs.Log.{given};
+ghost use Rattle.fedi_model.specs.Answers.{caller_of};
 ghost use Rattle.fedi_model.specs.Routes.{Asks, IsPostableAt};
 ghost use Rattle.fedi_queue.specs.Rows.{rows_of};
 ghost use Rattle.fedi_logged.specs.Turning.{Tells};
@@ -18,7 +20,7 @@ use fedi_address::Host;
 use fedi_core::{Core, Decision, KeepError, KeepFault};
 use fedi_http::reply_bytes;
 use fedi_log::Item;
-use fedi_model::{Ask, Refusal, Request};
+use fedi_model::{Ask, Caller, Refusal, Request};
 use fedi_outside::Keeper;
 use fedi_register::Trace;
 use fedi_routes::credentials;
@@ -81,11 +83,45 @@ impl<S: Shelf + Drop, P: Keeper, O: Opened> Logged<S, P, O> {
         self.core.host()
     }
 
-    /// Answers a request that has this body and asks this, in one turn of the machine by the pass
-    /// of this number, or by no pass if nobody else adds to the log. Returns the text of the reply,
-    /// which has no body if the method is HEAD and says that the connection closes if `closing`.
-    /// The reply to a post or a delivery is made before its entry is kept, and so is the one that
-    /// reports a failure of the keeper.
+    /// Who makes the request, or why nobody may be taken for its caller: no turn changes this. The
+    /// error is out of memory.
+    pub fn caller_of(
+        &self,
+        request: &Request,
+        body: &[u8],
+    ) -> Result<Result<Caller, Refusal>, AllocError>
+        ensures { IfOk result (λ caller.
+            caller ≡ caller_of (town O.state.history) request.now body.now) }
+    {
+        self.core.caller_of(&credentials(request, body))
+    }
+
+    /// Refuses a request whose caller was refused for this reason. Returns the text of the reply, as
+    /// `answer` does. Nothing is kept. The error is out of memory.
+    pub fn refuse(
+        &self,
+        alloc: Global,
+        request: &Request,
+        body: &[u8],
+        refusal: Refusal,
+        moment: Moment,
+        closing: bool,
+    ) -> Result<Vec<u8>, AllocError>
+        requires caller { caller_of (town O.state.history) request.now body.now ≡ Err refusal }
+        ensures { (by : Option ℕ) → IfOk result (λ text.
+            Tells (base_of P.growth P.room O.state) by self.now.log self.now.log
+            moment request.now body.now closing text.items) }
+    {
+        // What holds of the machine is known where a field is read.
+        let _front = self.front;
+        refusal_text(alloc, refusal, moment, request.head_only, closing)
+    }
+
+    /// Answers a request of this caller that has this body and asks this, in one turn of the machine
+    /// by the pass of this number, or by no pass if nobody else adds to the log. Returns the text of
+    /// the reply, which has no body if the method is HEAD and says that the connection closes if
+    /// `closing`. The reply to a post or a delivery is made before its entry is kept, and so is the
+    /// one that reports a failure of the keeper.
     ///
     /// The error is out of memory, and then nothing was kept, and the keeper did not fail. It is
     /// also returned when the log has 2^64 - 1 items, counting one for each claimed delivery.
@@ -95,12 +131,14 @@ impl<S: Shelf + Drop, P: Keeper, O: Opened> Logged<S, P, O> {
         by: Option<u64>,
         request: &Request,
         body: &[u8],
+        caller: &Caller,
         ask: Ask,
         moment: Moment,
         closing: bool,
     ) -> Result<Vec<u8>, AllocError>
         requires hosted { IsTrue (is_some (town O.state.history).host) }
-        requires asks { Asks (town O.state.history).host request.now body.now ask }
+        requires caller { caller_of (town O.state.history) request.now body.now ≡ Ok caller.now }
+        requires asks { Asks (town O.state.history).host caller.now request.now body.now ask }
         requires postable { IsPostableAt (town O.state.history).host ask }
         ensures text { IfOk result (λ text. Tells (base_of P.growth P.room O.state) by
             self.old.log self.new.log moment request.now body.now closing text.items) }
@@ -114,12 +152,7 @@ impl<S: Shelf + Drop, P: Keeper, O: Opened> Logged<S, P, O> {
             return Err(AllocError);
         }
         let head_only = request.head_only;
-        let found = self.core.caller_of(&credentials(request, body))?;
-        let caller = match found {
-            Ok(caller) => caller,
-            Err(refusal) => return refusal_text(alloc, refusal, moment, head_only, closing),
-        };
-        let Decision { reply, entry } = self.core.decide(alloc, &caller, ask, moment)?;
+        let Decision { reply, entry } = self.core.decide(alloc, caller, ask, moment)?;
         let text = reply_bytes(alloc, &reply, moment, head_only, closing)?;
         let Some(entry) = entry else {
             return Ok(text);

@@ -26,6 +26,7 @@ impl<S: Shelf, P: Keeper, O: Opened> Model for Logged<S, P, O> {
     ghost use Rattle.fedi_log.specs.Keeping.{state_of};
     ghost use Rattle.fedi_logged.specs.Logs.{MachineLog, StandsFor, log_of};
     ghost use Rattle.fedi_logged.specs.Claiming.{IsClaiming};
+    ghost use Rattle.fedi_effects.specs.Rosters.{callers_in};
     ghost use Rattle.fedi_town.specs.Histories.{town};
 
     ghost Value = { MachineLog P };
@@ -37,5 +38,6 @@ impl<S: Shelf, P: Keeper, O: Opened> Model for Logged<S, P, O> {
         (state_of l.core.history (P.shown l.core.keeper)) (P.crashes l.core.keeper)
         (log_of O.state.history l.noted)
         × IsClaiming (town l.core.history) l.core.rows (log_of O.state.history l.noted)
-        l.front l.claimed };
+        l.front l.claimed
+        × (callers_in (town l.core.history) ≡ callers_in (town O.state.history)) };
 }

@@ -1,3 +1,4 @@
 pub mod Delivered
 pub mod Posted
 pub mod PostedActivity
+pub mod SameCallers

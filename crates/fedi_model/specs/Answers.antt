@@ -26,7 +26,7 @@ caller_of t q body = caller_by t (credentials_of q body)
 abbrev pub AnswersTo : Town → ℕ → Result Caller Refusal → Request → List ℕ → Reply
     → Option Entry → Type 0
 AnswersTo t moment (Ok c) q body r made =
-    (ask : Ask) × Asks t.host q body ask × (r ≡ reply t c ask) × (made ≡ entry_of t c ask moment)
+    (ask : Ask) × Asks t.host c q body ask × (r ≡ reply t c ask) × (made ≡ entry_of t c ask moment)
 AnswersTo t moment (Err e) q body r made = (r ≡ refused e) × (made ≡ None)
 
 -- the answer to the request, and the entry that it makes

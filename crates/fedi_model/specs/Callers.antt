@@ -31,10 +31,15 @@ peer_or_refused s None = Err WrongMac
 peer_or_refused s (Some p) = if is_signed p.key s then Ok (callers.Peer p.host) else Err WrongMac
 
 -- nobody without credentials, the member whose key has the digest of the bearer's key, or the peer
--- that signed the request
+-- that signed the request, among these members and peers
+unfoldable pub caller_among : List Actor → List Peer → Shows → Result Caller Refusal
+caller_among actors peers Nothing = Ok callers.Nobody
+caller_among actors peers (Bearer None) = Err WrongKey
+caller_among actors peers (Bearer (Some key)) =
+    member_or_refused (find (has_digest (sha256 key)) actors)
+caller_among actors peers (Mac None) = Err WrongMac
+caller_among actors peers (Mac (Some s)) = peer_or_refused s (find (has_host s.host) peers)
+
+-- the caller, among the members and the peers of the town
 unfoldable pub caller_by : Town → Shows → Result Caller Refusal
-caller_by t Nothing = Ok callers.Nobody
-caller_by t (Bearer None) = Err WrongKey
-caller_by t (Bearer (Some key)) = member_or_refused (find (has_digest (sha256 key)) t.actors)
-caller_by t (Mac None) = Err WrongMac
-caller_by t (Mac (Some s)) = peer_or_refused s (find (has_host s.host) t.peers)
+caller_by t s = caller_among t.actors t.peers s

@@ -1,6 +1,6 @@
 -- What a request asks for, by its path and then by its method (RFC 9110, section 9.3; ActivityPub,
 -- sections 3.2 and 6).
-use Rattle.std.specs.Prelude.{◌≡◌, ℕ, ◌==◌, Bool, false, ◌&&◌, ◌||◌, ◌⊎◌, is_none, if◌then◌else◌}
+use Rattle.std.specs.Prelude.{◌≡◌, ℕ, ◌==◌, Bool, false, not, ◌&&◌, ◌||◌, ◌⊎◌, if◌then◌else◌}
 use Rattle.std.specs.Prelude.{List, map, replicate, codes, bytes_eq, MatchBool, Option, Some, None}
 use Rattle.std.specs.Prelude.{Result, Ok, Err}
 use Rattle.std.specs.Char.{to_ascii_lowercase}
@@ -30,7 +30,11 @@ use Rattle.fedi_town.specs.Legal.{IsLegal}
 use Rattle.fedi_town.specs.declared.caller.Which.TheVariants as which
 use Rattle.fedi_model.specs.declared.place.Place.{Place}
 use Rattle.fedi_model.specs.declared.place.Place.TheVariants as place
+use Rattle.fedi_model.specs.declared.request.Fields.{Fields}
 use Rattle.fedi_model.specs.declared.request.Request.{Request}
+use Rattle.fedi_model.specs.Posting.{is_bad_key}
+use Rattle.fedi_model.specs.Reading.{is_peer, is_self}
+use Rattle.fedi_town.specs.declared.caller.Caller.{Caller}
 use Rattle.fedi_model.specs.Pages.{page_in}
 use Rattle.fedi_model.specs.Places.{LeadsTo, allow_of}
 use Rattle.fedi_model.specs.Queries.{query_of}
@@ -66,18 +70,6 @@ ReadsBody reads body NotJson = (d : Data) → ¬ (IsBodyOf body d)
 ReadsBody reads body (Bad fault) = (d : Data) × IsBodyOf body d × (reads d ≡ Err fault)
 ReadsBody reads body (Ready a) = (d : Data) × IsBodyOf body d × (reads d ≡ Ok a)
 
--- the request shows nothing about who makes it
-abbrev pub is_anonymous : Request → Bool
-is_anonymous q =
-    is_none q.fields.authorization && (is_none q.fields.peer_host && is_none q.fields.peer_mac)
-
--- What is read of a post. If it shows nothing about who makes it, nothing is read: nobody may post,
--- whatever it holds.
-abbrev pub ReadsPost : (Data → Result activities.Activity ShapeFault) → Request → List ℕ
-    → Read → Type 0
-ReadsPost reads q body read =
-    MatchBool (is_anonymous q) (read ≡ NotJson) (ReadsBody reads body read)
-
 -- the key that the post is repeated under (the field Idempotency-Key): 1 to 64 bytes from 33 to 126
 abbrev pub repeat_key : Option (List ℕ) → KeyAsk
 repeat_key None = Absent
@@ -93,20 +85,40 @@ digest_under Absent body = no_digest
 digest_under Malformed body = no_digest
 digest_under (Given key) body = sha256 body
 
--- the author's post made by a request with this body
-pub record IsPost (q : Request) (author body : List ℕ) (post : Post) : Type 0 where
+-- Whether the body of a post by this caller to the outbox of this name is read (ActivityPub, section
+-- 6): the caller is that member, the body is declared as JSON or ActivityStreams, and the key, if
+-- there is one, is well formed. Otherwise the post is refused, whatever it holds.
+abbrev pub is_post_read : Caller → List ℕ → Fields → Bool
+is_post_read c name f =
+    is_self c name
+    && (is_typed f.content_type && not (is_bad_key (repeat_key f.idempotency_key)))
+
+-- Whether the body of a delivery by this caller is read (ActivityPub, section 7): the caller is
+-- another server, and the body is declared as JSON or ActivityStreams. Otherwise the delivery is
+-- refused, whatever it holds.
+abbrev pub is_delivery_read : Caller → Fields → Bool
+is_delivery_read c f = is_peer c && is_typed f.content_type
+
+-- what is read of the body of a post, if it is read
+abbrev pub ReadsIf : Bool → (Data → Result activities.Activity ShapeFault) → List ℕ → Read → Type 0
+ReadsIf read reads body found = MatchBool read (ReadsBody reads body found) (found ≡ NotJson)
+
+-- the author's post made by this caller's request with this body to the outbox of this name
+pub record IsPost (c : Caller) (name : List ℕ) (q : Request) (author body : List ℕ)
+    (post : Post) : Type 0 where
   pub typed : post.is_typed ≡ is_typed q.fields.content_type
   pub key : post.key ≡ repeat_key q.fields.idempotency_key
-  pub digest : post.digest ≡ digest_under post.key body
-  pub read : ReadsPost (reads_activity author) q body post.read
+  pub digest : post.digest
+      ≡ (if is_post_read c name q.fields then digest_under post.key body else no_digest)
+  pub read : ReadsIf (is_post_read c name q.fields) (reads_activity author) body post.read
 
--- The delivery made by a request with this body (ActivityPub, section 7). It has no key: the id of
--- its activity determines whether it is a repeat.
-pub record IsDelivery (q : Request) (body : List ℕ) (post : Post) : Type 0 where
+-- The delivery made by this caller's request with this body (ActivityPub, section 7). It has no
+-- key: the id of its activity determines whether it is a repeat.
+pub record IsDelivery (c : Caller) (q : Request) (body : List ℕ) (post : Post) : Type 0 where
   pub typed : post.is_typed ≡ is_typed q.fields.content_type
   pub key : post.key ≡ Absent
   pub digest : post.digest ≡ no_digest
-  pub read : ReadsPost reads_delivered q body post.read
+  pub read : ReadsIf (is_delivery_read c q.fields) reads_delivered body post.read
 
 -- ---- asks
 
@@ -124,38 +136,38 @@ refused_at there = WrongMethod (allow_of there)
 
 -- what a post to the outbox of this name asks for; before the server was set up, nobody has an
 -- outbox
-abbrev pub PostsAs : Option (List ℕ) → Request → List ℕ → List ℕ → Ask → Type 0
-PostsAs None q body name ask = ask ≡ Nowhere
-PostsAs (Some host) q body name ask =
-    (post : Post) × IsPost q (actor_id host name) body post × (ask ≡ Outbox name post)
+abbrev pub PostsAs : Option (List ℕ) → Caller → Request → List ℕ → List ℕ → Ask → Type 0
+PostsAs None c q body name ask = ask ≡ Nowhere
+PostsAs (Some host) c q body name ask =
+    (post : Post) × IsPost c name q (actor_id host name) body post × (ask ≡ Outbox name post)
 
 -- what a post to the inbox of this name asks for
-abbrev pub DeliversTo : Request → List ℕ → List ℕ → Ask → Type 0
-DeliversTo q body name ask = (post : Post) × IsDelivery q body post × (ask ≡ Inbox name post)
+abbrev pub DeliversTo : Caller → Request → List ℕ → List ℕ → Ask → Type 0
+DeliversTo c q body name ask = (post : Post) × IsDelivery c q body post × (ask ≡ Inbox name post)
 
 -- What a post to an endpoint asks for. Members post to their outboxes (ActivityPub, section 6), and
 -- other servers deliver to inboxes (section 7).
-abbrev pub PostsTo : Option (List ℕ) → Request → List ℕ → Place → Ask → Type 0
-PostsTo host q body (place.Collection (which.Outbox name)) ask = PostsAs host q body name ask
-PostsTo host q body (place.Collection (which.Inbox name)) ask = DeliversTo q body name ask
-PostsTo host q body there ask = ask ≡ refused_at there
+abbrev pub PostsTo : Option (List ℕ) → Caller → Request → List ℕ → Place → Ask → Type 0
+PostsTo host c q body (place.Collection (which.Outbox name)) ask = PostsAs host c q body name ask
+PostsTo host c q body (place.Collection (which.Inbox name)) ask = DeliversTo c q body name ask
+PostsTo host c q body there ask = ask ≡ refused_at there
 
--- what a request to an endpoint asks for, by its method
-abbrev pub AsksAt : Option (List ℕ) → Request → List ℕ → Place → Ask → Type 0
-AsksAt host q body there ask =
+-- what this caller's request to an endpoint asks for, by its method
+abbrev pub AsksAt : Option (List ℕ) → Caller → Request → List ℕ → Place → Ask → Type 0
+AsksAt host c q body there ask =
     MatchBool (is_reading q.method) (ask ≡ read_at host (query_of q.target) there)
-    (MatchBool (is_post q.method) (PostsTo host q body there ask) (ask ≡ refused_at there))
+    (MatchBool (is_post q.method) (PostsTo host c q body there ask) (ask ≡ refused_at there))
 
--- what a request with this body asks for at the server of this host: its path leads to an endpoint,
--- or it asks for nothing
-abbrev pub Asks : Option (List ℕ) → Request → List ℕ → Ask → Type 0
-Asks host q body ask =
+-- what this caller's request with this body asks for at the server of this host: its path leads to
+-- an endpoint, or it asks for nothing
+abbrev pub Asks : Option (List ℕ) → Caller → Request → List ℕ → Ask → Type 0
+Asks host c q body ask =
     (((there : Place) → ¬ (LeadsTo (path_of q.target) there)) × (ask ≡ Nowhere))
-    ⊎ ((there : Place) × LeadsTo (path_of q.target) there × AsksAt host q body there ask)
+    ⊎ ((there : Place) × LeadsTo (path_of q.target) there × AsksAt host c q body there ask)
 
--- a request asks for at most one thing
-abbrev pub IsAskedOnce : Option (List ℕ) → Request → List ℕ → Type 0
-IsAskedOnce host q body = (a b : Ask) → Asks host q body a → Asks host q body b → a ≡ b
+-- a caller's request asks for at most one thing
+abbrev pub IsAskedOnce : Option (List ℕ) → Caller → Request → List ℕ → Type 0
+IsAskedOnce host c q body = (a b : Ask) → Asks host c q body a → Asks host c q body b → a ≡ b
 
 -- it holds what the members of a legal history at this host may post, or what other servers may
 -- deliver

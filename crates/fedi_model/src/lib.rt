@@ -3,6 +3,7 @@
 #![tactic(auto)]
 
 mod ask;
+mod callers;
 mod credentials;
 mod place;
 mod post;
@@ -13,6 +14,7 @@ mod replying;
 mod request;
 
 pub use ask::{Allow, Ask, PageAsk, Resource};
+pub use callers::{is_nobody, is_peer, is_self};
 pub use credentials::{Credentials, Signed};
 pub use fedi_town::{Act, Actor, Caller, Refusal, Which};
 pub use place::Place;

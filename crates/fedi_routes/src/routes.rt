@@ -14,13 +14,13 @@ use crate::router::Routes;
 use crate::texts::{after, before};
 use crate::webfinger::resource_in;
 use fedi_address::{Host, LocalName};
-use fedi_model::{Allow, Ask, Place, Request, Which};
+use fedi_model::{Allow, Ask, Caller, Place, Request, Which};
 use fedi_town::actor_iri;
 use http::Method;
 use std::alloc::{AllocError, Global};
 
-/// What the request with this body asks for, at the server of this host once the host is set: the
-/// place that its path leads to decides first, and then its method.
+/// What this caller's request with this body asks for, at the server of this host once the host is
+/// set: the place that its path leads to decides first, and then its method.
 ///
 /// Members, activities, objects, collections and WebFinger are read by GET and HEAD. Outboxes and
 /// inboxes are posted to. Any other method asks for `Ask::WrongMethod`. A path that leads nowhere
@@ -28,9 +28,11 @@ use std::alloc::{AllocError, Global};
 /// target up to its first question mark (RFC 3986, section 3.3). It is compared byte for byte and
 /// never decoded.
 ///
+/// The body of a post is read only if the caller may post there, it is declared as JSON or
+/// ActivityStreams, and its key is well formed: otherwise it is refused whatever it holds.
+///
 /// The error is out of memory. It occurs only for a query of WebFinger or of a collection, and for
-/// a post to an outbox or an inbox, whose body is read unless the request shows nothing about who
-/// makes it.
+/// a post to an outbox or an inbox.
 #[tactic(auto, using(crate::proofs::AskLemmas::asked_once))]
 pub fn route(
     alloc: Global,
@@ -38,17 +40,18 @@ pub fn route(
     body: &[u8],
     host: Option<&Host>,
     routes: &Routes,
+    caller: &Caller,
 ) -> Result<Ask, AllocError>
     ensures asks { IfOk result (λ ask.
-        model.Asks (option_copied host.entry) request.now body.now ask) }
-    ensures once { model.IsAskedOnce (option_copied host.entry) request.now body.now }
+        model.Asks (option_copied host.entry) caller.now request.now body.now ask) }
+    ensures once { model.IsAskedOnce (option_copied host.entry) caller.now request.now body.now }
     // An activity to be posted is one that a history at this host may accept from its author, and
     // one that is delivered has the shape of a delivery.
     ensures postable { IfOk result (λ ask. model.IsPostableAt (option_copied host.entry) ask) }
     ensures memory { OnErr result (MayNeedMemory request.now) }
 {
     match place_of(routes, path_of(request)) {
-        Some(place) => ask_at(alloc, request, body, host, place),
+        Some(place) => ask_at(alloc, request, body, host, place, caller),
         None => Ok(Ask::Nowhere),
     }
 }
@@ -74,15 +77,16 @@ fn ask_at(
     body: &[u8],
     host: Option<&Host>,
     place: Place,
+    caller: &Caller,
 ) -> Result<Ask, AllocError>
     ensures asks { IfOk result (λ ask.
-        model.AsksAt (option_copied host.entry) request.now body.now place ask) }
+        model.AsksAt (option_copied host.entry) caller.now request.now body.now place ask) }
     ensures memory { OnErr result (IsTrue (needs_memory request.now.method place)) }
 {
     if is_reading(&request.method) {
         read_at(alloc, query_of(request), host, place)
     } else if request.method == Method::POST {
-        post_to(alloc, request, body, host, place)
+        post_to(alloc, request, body, host, place, caller)
     } else {
         Ok(refused_at(place))
     }
@@ -122,16 +126,19 @@ fn post_to(
     body: &[u8],
     host: Option<&Host>,
     place: Place,
+    caller: &Caller,
 ) -> Result<Ask, AllocError>
     requires { IsTrue (requests.is_post request.now.method) }
     ensures asks { IfOk result (λ ask.
-        model.PostsTo (option_copied host.entry) request.now body.now place ask) }
+        model.PostsTo (option_copied host.entry) caller.now request.now body.now place ask) }
     ensures memory { OnErr result (IsTrue (needs_memory request.now.method place)) }
 {
     match place {
-        Place::Collection(Which::Outbox(name)) => outbox_of(alloc, request, body, host, name),
+        Place::Collection(Which::Outbox(name)) => {
+            outbox_of(alloc, request, body, host, name, caller)
+        }
         Place::Collection(Which::Inbox(name)) => {
-            Ok(Ask::Inbox(name, delivery_of(alloc, request, body)?))
+            Ok(Ask::Inbox(name, delivery_of(alloc, request, body, caller)?))
         }
         place => Ok(refused_at(place)),
     }
@@ -144,15 +151,17 @@ fn outbox_of(
     body: &[u8],
     host: Option<&Host>,
     name: LocalName,
+    caller: &Caller,
 ) -> Result<Ask, AllocError>
     ensures { IfOk result (λ ask.
-        model.PostsAs (option_copied host.entry) request.now body.now name ask) }
+        model.PostsAs (option_copied host.entry) caller.now request.now body.now name ask) }
 {
     let Some(host) = host else {
         return Ok(Ask::Nowhere);
     };
     let author = actor_iri(alloc, host, &name)?;
-    Ok(Ask::Outbox(name, post_of(alloc, request, body, &author)?))
+    let post = post_of(alloc, request, body, caller, &name, &author)?;
+    Ok(Ask::Outbox(name, post))
 }
 
 /// What a method asks for that this place does not have.

@@ -13,6 +13,14 @@ use Rattle.fedi_turn.specs.declared.gate.GateView.{GateView}
 use Rattle.fedi_turn.specs.declared.gate.GateView.TheVariants.{NoFacts, Facts}
 use Rattle.fedi_turn.specs.Record.{idle_writer}
 
+-- the words at which the value is in the slot: for whoever comes, and for the first in the line
+abbrev pub HasValue : ℕ → Type 0
+HasValue word = (word ≡ 1) ⊎ (word ≡ 3)
+
+-- all other words
+abbrev pub LacksValue : ℕ → Type 0
+LacksValue word = (word ≢ 1) × (word ≢ 3)
+
 -- the gate has one word and one slot
 abbrev pub IsGateSize : TableId → Type 0
 IsGateSize t = (t.words ≡ 1) × (t.slots ≡ 1)
@@ -57,20 +65,20 @@ module _ {V I : Type 0} (list : V → List I) (base : V → List ℕ) where
       × (k.writer.views ≡ Writer (idle_writer (list k.value) v.start v.seats) ∷ [])
       × (base k.value ≡ v.base)
 
-  -- the rule of the gate: where the word is 1 the slot has a value that is at home, and each seat
-  -- knows the same
+  -- the rule of the gate: where the word says that the slot has a value, it is at home, and each
+  -- seat knows the same
   abbrev pub IsGate : GateFacts I → State (Option (Content V I)) (GateView I) → Type 0
   IsGate v s =
-      (slice_index s.words 0 ≡ 1
+      (HasValue (slice_index s.words 0)
       → (k : Content V I) × (get_elem? s.homes 0 ≡ some (some (Some k))) × IsHome v k)
       × ((j : ℕ) (u : GateView I) → get_elem? s.views j ≡ some u → (u ≡ NoFacts) ⊎ (u ≡ Facts v))
 
-  -- what a try to take the value out shows: if the word was 1, the seat has the slot
+  -- what a try to take the value out at a word shows: if that was the word, the seat has the slot
   abbrev pub TakesOut : Step (Option (Content V I)) → Me (Option (Content V I)) (GateView I) → ℕ
       → Me (Option (Content V I)) (GateView I) → Type 0
   TakesOut st me found after =
-      (after.0 ≡ me.0) × (found ≢ 1 → after.1 ≡ me.1)
-      × (found ≡ 1 → (k : Content V I) × (after.1 ≡ (0, Some k) ∷ me.1)
+      (after.0 ≡ me.0) × (found ≢ st.first → after.1 ≡ me.1)
+      × (found ≡ st.first → (k : Content V I) × (after.1 ≡ (0, Some k) ∷ me.1)
       × ((v : GateFacts I) → me.0 ≡ Facts v → IsHome v k))
 
 -- the step of one who puts the value back: the rest of what the seat holds stays

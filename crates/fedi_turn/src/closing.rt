@@ -6,7 +6,7 @@ ghost use Rattle.fedi_turn.specs.Turn.{NamesOneOf};
 
 use crate::gate::{Content, GateSeat, spend_seat, wait_turn};
 use crate::grows::Grows;
-use crate::lock::{Pass, TurnLock};
+use crate::lock::{Pass, Span, TurnLock};
 use crate::record::{RecordSeat, carry_reader, look_around};
 use std::sync::Wait;
 
@@ -84,7 +84,13 @@ impl<V: Grows> TurnLock<V> {
             seen: _,
         } = first;
         let mut seat = gate.into_seat();
-        let Content { value, writer } = wait_turn(rt, &self.gate.shared, &mut seat);
+        let Content { value, writer } = wait_turn(
+            rt,
+            &self.gate.shared,
+            &self.line,
+            &mut seat,
+            Span::Short,
+        );
         let mut writer = writer.into_seat();
         carry_reader(&self.log.shared, &mut writer, reader.into_seat());
         carry_all(&self, &mut seat, &mut writer, passes);

@@ -16,4 +16,4 @@ mod record;
 mod turns;
 
 pub use grows::Grows;
-pub use lock::{Held, Pass, TurnLock};
+pub use lock::{Held, Pass, Span, TurnLock};

@@ -6,15 +6,28 @@ use crate::gate::{Content, GateTable, GateView};
 use crate::grows::Grows;
 use crate::record::{RecordTable, View};
 use atomic_table::{Badge, Seat};
+use std::sync::Mutex;
+
+/// How long a turn is, by which it may come before others that wait.
+#[derive(Clone, Copy, Debug, PartialEq, Eq)]
+pub enum Span {
+    /// Some microseconds: it takes the value at once if it is there, though others wait.
+    Short,
+    /// It may wait for what is outside, as a disk: it comes after all who wait.
+    Long,
+}
 
 /// A value that one caller at a time has, each by a pass of the lock.
 ///
-/// What it promises, it promises of calls that return. That a turn comes, that turns come in the
-/// order in which callers asked, and how long one waits, nothing promises: a caller that finds the
-/// value there takes it, though others wait.
+/// What it promises, it promises of calls that return. That a turn comes, in which order turns come,
+/// and how long one waits, no contract promises. It is made so that nobody waits for long: callers
+/// who do not find the value wait in a line, and only a short turn may pass the first of them, and
+/// that a few times.
 #[derive(Drop)]
 pub struct TurnLock<V: Grows> {
     pub(crate) gate: GateTable<V>,
+    // Those who wait at the gate: who has it is the first of them.
+    pub(crate) line: Mutex<()>,
     pub(crate) log: RecordTable<V>,
     pub(crate) seats: u64,
     ghost sizes: { IsGateSize gate.shared.table_id × (log.shared.table_id.words ≡ 1) },

@@ -14,6 +14,7 @@ use crate::record::{RecordSeat, RecordShared, RecordTable, View, draw_number};
 use atomic_table::{Badge, Refused, Seat, Table};
 use std::alloc::{AllocError, Global};
 use std::snapshot::Snapshot;
+use std::sync::Mutex;
 
 // It has no seat of the gate yet.
 fn new_pass<I>(reader: Seat<(), View<I>>, number: u64, seen: u64) -> Pass<I>
@@ -146,7 +147,13 @@ impl<V: Grows> TurnLock<V> {
         match open_gate(alloc, content) {
             Ok((gate, seat)) => {
                 admit_all(&gate.shared, seat, &mut passes);
-                Ok((TurnLock { gate, log, seats }, passes))
+                let lock = TurnLock {
+                    gate,
+                    line: Mutex::new(()),
+                    log,
+                    seats,
+                };
+                Ok((lock, passes))
             }
             Err(content) => {
                 let Content { value, writer: _ } = content;

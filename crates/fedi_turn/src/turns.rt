@@ -5,7 +5,7 @@ ghost use Rattle.fedi_turn.specs.Turn.{base_of, number_of, seen_of, turn_list, I
 
 use crate::gate::{Content, put_value, wait_turn};
 use crate::grows::Grows;
-use crate::lock::{Held, Pass, TurnLock};
+use crate::lock::{Held, Pass, Span, TurnLock};
 use crate::record::{append_new, carry_reader, look_around, return_number};
 use atomic_table::Badge;
 use std::mem;
@@ -31,11 +31,11 @@ impl<V: Grows> TurnLock<V> {
     /// Waits for the turn of an idle pass of this lock, and returns the value. Its list begins with
     /// all that the pass has seen, and each item after that is another's. Takes no memory.
     ///
-    /// A caller that finds the value takes it at once. One that does not looks for it a hundred
-    /// times, then sleeps until a `give` wakes it, and looks again: a woken caller has no claim to
-    /// the value, so a running one may be first. If the caller before does not give the value back,
-    /// the call does not return.
-    pub fn take<R: Wait>(&self, rt: &R, pass: &mut Pass<V::Item>) -> Held<V, V::Item>
+    /// A caller who does not find the value looks for it a hundred times, then waits in the line,
+    /// and at its head looks again and sleeps until a `give` wakes it. A short turn may come before
+    /// it, but not more than eight times, and a long one does not. If the caller before does not
+    /// give the value back, the call does not return.
+    pub fn take<R: Wait>(&self, rt: &R, pass: &mut Pass<V::Item>, span: Span) -> Held<V, V::Item>
         requires { IsIdle V.Grows self.now pass.old }
         ensures turn { IsTurn V.Grows self.now pass.new result }
         ensures same { number_of pass.new ≡ number_of pass.old }
@@ -44,7 +44,13 @@ impl<V: Grows> TurnLock<V> {
         ensures list { Continues V.name (number_of pass.old) (seen_of pass.old) (turn_list result) }
     {
         let mut gate = mem::replace(&mut pass.gate, Badge::blank()).into_seat();
-        let Content { value, writer } = wait_turn(rt, &self.gate.shared, &mut gate);
+        let Content { value, writer } = wait_turn(
+            rt,
+            &self.gate.shared,
+            &self.line,
+            &mut gate,
+            span,
+        );
         let reader = mem::replace(&mut pass.reader, Badge::blank());
         pass.seen = 0;
         let mut writer = writer.into_seat();
@@ -63,8 +69,8 @@ impl<V: Grows> TurnLock<V> {
     /// name the pass; its base has to be as it was. The pass is then idle and has seen that list.
     /// Takes no memory.
     ///
-    /// It wakes one caller that sleeps, and makes no system call if none can sleep: after turns
-    /// without waiting, none does.
+    /// It wakes the caller that sleeps at the head of the line, and makes no system call if none can
+    /// sleep: after turns without waiting, none does.
     pub fn give(&self, pass: &mut Pass<V::Item>, held: Held<V, V::Item>)
         requires turn { IsTurn V.Grows self.now pass.old held }
         requires base { V.base held.value ≡ base_of V.Grows self.now }

@@ -3,7 +3,6 @@
 //! to find what its readers see of its collections.
 #![tactic(auto)]
 
-mod callers;
 mod listing;
 mod places;
 mod plain_shelf;
@@ -12,7 +11,6 @@ mod seeing;
 mod shelf;
 mod showing;
 
-pub use callers::{is_nobody, is_self};
 pub use listing::{is_item, is_same_item};
 pub use places::{is_same_seen, is_seen_item};
 pub use plain_shelf::PlainShelf;

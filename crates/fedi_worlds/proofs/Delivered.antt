@@ -29,7 +29,7 @@ use Rattle.fedi_model.specs.declared.request.Request.{Request}
 use Rattle.fedi_model.specs.AnswerKinds.{Refuse, Accepted}
 use Rattle.fedi_model.specs.Answers.{AnswersTo, caller_of}
 use Rattle.fedi_model.specs.Asks.{entry_of}
-use Rattle.fedi_model.specs.Callers.{caller_by, peer_or_refused, is_signed}
+use Rattle.fedi_model.specs.Callers.{caller_among, caller_by, peer_or_refused, is_signed}
 use Rattle.fedi_model.specs.Credentials.{Shows, Mac, Signature, credentials_by, credentials_of}
 use Rattle.fedi_model.specs.Credentials.{signature_of, signed_by, code_of}
 use Rattle.fedi_model.specs.Posting.{Judgement, Stop, Repeat, Keep, by_steps, judge_delivery}
@@ -39,8 +39,8 @@ use Rattle.fedi_model.specs.Reading.{is_nobody, is_peer}
 use Rattle.fedi_model.specs.Refusing.{refused}
 use Rattle.fedi_model.specs.Replies.{reply, reply_of}
 use Rattle.fedi_model.specs.Requests.{is_reading, is_post}
-use Rattle.fedi_model.specs.Routes.{Asks, AsksAt, DeliversTo, IsDelivery, ReadsPost, ReadsBody}
-use Rattle.fedi_model.specs.Routes.{path_of}
+use Rattle.fedi_model.specs.Routes.{Asks, AsksAt, DeliversTo, IsDelivery, ReadsBody, ReadsIf}
+use Rattle.fedi_model.specs.Routes.{is_delivery_read, path_of}
 use Rattle.fedi_model.specs.Places.{LeadsTo}
 use Rattle.fedi_objects.specs.declared.activity.Activity.{Activity}
 use Rattle.fedi_objects.specs.declared.entry.Entry.{Entry}
@@ -121,7 +121,7 @@ peer_is t s (Some p) e =
 
 by_signature : (t : Town) (own : List ℕ) (s : Option Signature)
     → ((x : Signature) → s ≡ Some x → x.host ≡ own) → IsPeerOr own (caller_by t (Mac s))
-unfolding caller_by
+unfolding caller_by caller_among
 by_signature t own None h = tt
 by_signature t own (Some s) h =
     subst (λ (o : List ℕ). IsPeerOr o (peer_or_refused s (find (has_host s.host) t.peers)))
@@ -183,10 +183,10 @@ no_query name named =
     no_mark path
     (weaker is_path_byte (λ b. not (b == 63)) (λ b k. grind (arith, nat_tests)) path parts.1)
 
-posts_there : (host : Option (List ℕ)) (q : Request) (body name : List ℕ) (ask : Ask)
-    → q.method ≡ codes "POST" → AsksAt host q body (places.Collection (which.Inbox name)) ask
-    → DeliversTo q body name ask
-posts_there host q body name ask method asks =
+posts_there : (host : Option (List ℕ)) (c : Caller) (q : Request) (body name : List ℕ) (ask : Ask)
+    → q.method ≡ codes "POST" → AsksAt host c q body (places.Collection (which.Inbox name)) ask
+    → DeliversTo c q body name ask
+posts_there host c q body name ask method asks =
     let m = is_post_text q.method method in rw (m.0, m.1) at asks
 
 leads : (name : List ℕ) → is_name name ≡ true
@@ -195,11 +195,11 @@ leads name named =
     record { there = named; spelled = sym (append_assoc (codes "/users/") name (codes "/inbox")) }
 
 -- a post to the path of an inbox is a delivery there
-asks_inbox : (host : Option (List ℕ)) (q : Request) (body name : List ℕ) (ask : Ask)
+asks_inbox : (host : Option (List ℕ)) (c : Caller) (q : Request) (body name : List ℕ) (ask : Ask)
     → is_name name ≡ true → q.method ≡ codes "POST"
     → q.target ≡ codes "/users/" ++ (name ++ codes "/inbox")
-    → Asks host q body ask → DeliversTo q body name ask
-asks_inbox host q body name ask named method target asks =
+    → Asks host c q body ask → DeliversTo c q body name ask
+asks_inbox host c q body name ask named method target asks =
     let path : path_of q.target ≡ codes "/users/" ++ (name ++ codes "/inbox") =
     ap path_of target ∙ no_query name named in
     ⊎_elim
@@ -208,11 +208,11 @@ asks_inbox host q body name ask named method target asks =
     (none.0 (places.Collection (which.Inbox name))
     (subst (λ (p : List ℕ). LeadsTo p (places.Collection (which.Inbox name))) (sym path)
     (leads name named))))
-    (λ (some : (there : Place) × LeadsTo (path_of q.target) there × AsksAt host q body there ask).
+    (λ (some : (there : Place) × LeadsTo (path_of q.target) there × AsksAt host c q body there ask).
     let at : some.0 ≡ places.Collection (which.Inbox name) =
     inbox_place name some.0 named (subst (λ (p : List ℕ). LeadsTo p some.0) path some.1) in
-    posts_there host q body name ask method
-    (subst (λ (p : Place). AsksAt host q body p ask) at some.2))
+    posts_there host c q body name ask method
+    (subst (λ (p : Place). AsksAt host c q body p ask) at some.2))
     asks
 
 -- ---- what becomes of it
@@ -336,14 +336,14 @@ at_owner t own name moment post (Some owner) given more s =
 record IsDelivering (t : Town) (own name : List ℕ) (moment : ℕ) (q : Request) (body : List ℕ)
     (given : Reply) (more : List Entry) : Type 0 where
   post : Post
-  read : IsDelivery q body post
+  read : IsDelivery (callers.Peer own) q body post
   owner : List ℕ
   owned : id_of t name ≡ Some owner
   ends : EndsAs t own name owner moment post.read given more
 
 by_ask : (t : Town) (own name : List ℕ) (moment : ℕ) (q : Request) (body : List ℕ) (c : Caller)
     (ask : Ask) (r given : Reply) (made : Option Entry) (more : List Entry)
-    → c ≡ callers.Peer own → DeliversTo q body name ask → r ≡ reply t c ask
+    → c ≡ callers.Peer own → DeliversTo c q body name ask → r ≡ reply t c ask
     → made ≡ entry_of t c ask moment → Settles r made given more
     → IsStopped given more ⊎ IsDelivering t own name moment q body given more
 by_ask t own name moment q body c ask r given made more who d is makes s =
@@ -362,7 +362,9 @@ by_ask t own name moment q body c ask r given made more who d is makes s =
     ⊎_elim (λ (stop : IsStopped given more). inl stop)
     (λ (e : (owner : List ℕ) × (id_of t name ≡ Some owner)
     × EndsAs t own name owner moment post.read given more).
-    inr (record { post = post; read = d.1; owner = e.0; owned = e.1; ends = e.2 }))
+    let read : IsDelivery (callers.Peer own) q body post =
+    subst (λ (x : Caller). IsDelivery x q body post) who d.1 in
+    inr (record { post = post; read = read; owner = e.0; owned = e.1; ends = e.2 }))
     (at_owner t own name moment post (id_of t name) given more now)
 
 by_caller : (t : Town) (own name : List ℕ) (moment : ℕ) (q : Request) (body : List ℕ)
@@ -373,7 +375,7 @@ by_caller : (t : Town) (own name : List ℕ) (moment : ℕ) (q : Request) (body 
     → IsStopped given more ⊎ IsDelivering t own name moment q body given more
 by_caller t own name moment q body (Ok c) r given made more who named method target a s =
     by_ask t own name moment q body c a.0 r given made more who
-    (asks_inbox t.host q body name a.0 named method target a.1) a.2 a.3 s
+    (asks_inbox t.host c q body name a.0 named method target a.1) a.2 a.3 s
 by_caller t own name moment q body (Err e) r given made more who named method target a s =
     let k =
     settled_none (refused e) given more
@@ -454,10 +456,11 @@ post_from (Some o) (Some p) own inbox body text h e =
           ∙ ap (λ (x : List ℕ). post_text x p.key inbox body) same,
     )
 
-body_read : (q : Request) (body own : List ℕ) (read : Read) → q.fields.authorization ≡ None
-    → q.fields.peer_host ≡ Some own → ReadsPost reads_delivered q body read
-    → ReadsBody reads_delivered body read
-body_read q body own read none some r = rw (none, some) at r
+-- an activity was read of the body
+body_read : (known : Bool) (body : List ℕ) (read : Read) (a : Activity) → read ≡ Ready a
+    → ReadsIf known reads_delivered body read → ReadsBody reads_delivered body read
+body_read true body read a is r = r
+body_read false body read a is r = absurd cc
 
 is_ready : (body : List ℕ) (read : Read) (a : Activity) → read ≡ Ready a
     → ReadsBody reads_delivered body read
@@ -466,11 +469,12 @@ is_ready body read a is r = subst (ReadsBody reads_delivered body) is r
 
 -- what was read of a post
 post_read : (t : Town) (x : Act) (body : List ℕ) (q : Request) (own : List ℕ) (post : Post)
-    (a : Activity) → body ≡ body_of t x → q.fields.authorization ≡ None
-    → q.fields.peer_host ≡ Some own
-    → IsDelivery q body post → post.read ≡ Ready a → reads_delivered (document_of t x) ≡ Ok a
-post_read t x body q own post a same none some d is =
-    let r = is_ready body post.read a is (body_read q body own post.read none some d.read) in
+    (a : Activity) → body ≡ body_of t x
+    → IsDelivery (callers.Peer own) q body post → post.read ≡ Ready a
+    → reads_delivered (document_of t x) ≡ Ok a
+post_read t x body q own post a same d is =
+    let known = is_delivery_read (callers.Peer own) q.fields in
+    let r = is_ready body post.read a is (body_read known body post.read a is d.read) in
     let back : read (body_of t x) ≡ Some r.0 = ap read (sym same) ∙ r.1.1 in
     let doc : document_of t x ≡ r.0 =
     some_is (document_of t x) r.0 (sym (document_back t x) ∙ back) in
@@ -536,8 +540,7 @@ posts since own id recipient inbox text place x s moment (Ok q) body given head_
     a.owned ∙ ap (λ (z : List ℕ). Some z) owner in
     let known : (b : Activity) → a.post.read ≡ Ready b
     → reads_delivered (document_of (town since) x) ≡ Ok b = λ b is.
-    post_read (town since) x body q own a.post b arrives.body_is r.authorization r.sender a.read
-    is in
+    post_read (town since) x body q own a.post b arrives.body_is a.read is in
     ⊎_elim
     (λ (stop : IsStopped given more).
     record {

@@ -54,19 +54,19 @@ reads_nothing t c host query (Collection which) moment = refl
 reads_nothing t c host query (Activity name number) moment = refl
 reads_nothing t c host query (Object name number) moment = refl
 
-get_asks : (host : Option (List ℕ)) (q : requests.Request) (body : List ℕ) (there : Place)
-    (ask : Ask) → is_reading q.method ≡ true → AsksAt host q body there ask
+get_asks : (host : Option (List ℕ)) (c : Caller) (q : requests.Request) (body : List ℕ) (there : Place)
+    (ask : Ask) → is_reading q.method ≡ true → AsksAt host c q body there ask
     → ask ≡ read_at host (query_of q.target) there
-get_asks host q body there ask get asks = rw get at asks
+get_asks host c q body there ask get asks = rw get at asks
 
 get_makes : (t : Town) (c : Caller) (q : requests.Request) (body : List ℕ) (ask : Ask) (moment : ℕ)
-    → is_reading q.method ≡ true → Asks t.host q body ask → entry_of t c ask moment ≡ None
+    → is_reading q.method ≡ true → Asks t.host c q body ask → entry_of t c ask moment ≡ None
 get_makes t c q body ask moment get asks =
     ⊎_elim
     (λ (none : ((there : Place) → ¬ (LeadsTo (path_of q.target) there)) × (ask ≡ Nowhere)).
     ap (λ (a : Ask). entry_of t c a moment) none.1)
-    (λ (some : (there : Place) × LeadsTo (path_of q.target) there × AsksAt t.host q body there ask).
-    ap (λ (a : Ask). entry_of t c a moment) (get_asks t.host q body some.0 ask get some.2)
+    (λ (some : (there : Place) × LeadsTo (path_of q.target) there × AsksAt t.host c q body there ask).
+    ap (λ (a : Ask). entry_of t c a moment) (get_asks t.host c q body some.0 ask get some.2)
     ∙ reads_nothing t c t.host (query_of q.target) some.0 moment)
     asks
 

@@ -51,6 +51,6 @@ returns-in-Ok-clause-counted g c =
     c.in_ok-entry.ensures ∙ ap (λ (t : Town). attempt_of t q.rows d c.args.came c.args.moment) facts in
     let keeps : KeepsClaims (town h).acts (attempt_of (town h) q.rows d c.args.came c.args.moment) q.rows new =
     subst (λ (e : Entry). KeepsClaims (town h).acts e q.rows new) entry
-    (subst (λ m. KeepsClaims (town m.history).acts c.in_ok-entry.entry m.rows new) (sym c.self.view_is) c.in-Ok.ensures.claims) in
+    (subst (λ m. KeepsClaims (town m.history).acts c.in_ok-entry.entry m.rows new) (sym c.self.view_is) c.in-Ok.ensures.keeps.claims) in
     subst (λ m. claims_in m.rows ≡ claims_in new + 1) c.self.view_is
     (fewer_recorded h q.rows new d c.args.came c.args.moment c.self.invariant.stands.legal same held keeps)

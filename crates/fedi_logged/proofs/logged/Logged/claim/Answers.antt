@@ -8,6 +8,7 @@ use Rattle.fedi_logged.proofs.Claiming.{claim_noted, claimed_silent, claiming_cl
 use Rattle.fedi_logged.proofs.Noting.{length_more, noted_more}
 use Rattle.fedi_logged.proofs.Silent.{stands_silent}
 use Rattle.fedi_town.specs.Histories.{town}
+use Rattle.fedi_effects.specs.Rosters.{callers_in}
 use Rattle.fedi_logged.proofs.logged.Logged.claim.Goals as goal
 
 -- ---- nothing was free
@@ -15,7 +16,7 @@ use Rattle.fedi_logged.proofs.logged.Logged.claim.Goals as goal
 pub invariant_of-self : goal.invariant_of-self
 invariant_of-self g c =
     let same = unclaimed_same c.args.moment c.self.inside.core c.claim.new.self c.claim.ensures.claimed (sym c.in_default.is ∙ c.claim.ensures.first) in
-    (c.self.invariant.0, rw same c.self.invariant.1, rw same c.self.invariant.2)
+    (c.self.invariant.0, rw same c.self.invariant.1, rw same c.self.invariant.2, rw same c.self.invariant.3)
 
 pub returns-in_default-clause-claimed : goal.returns-in_default-clause-claimed
 returns-in_default-clause-claimed g c =
@@ -46,6 +47,7 @@ invariant_of-self-2 g c =
       stands_silent g.P.Keeper.growth g.P.Keeper.room g.O.Opened.state g.O.Opened.crashes c.args.by (claimed_by pair claim) _ _ _ _ (claimed_silent pair claim) log stands,
       claiming_claimed before.history now.history c.args.by c.args.moment before.rows now.rows claim _ _ c.self.inside.front c.self.inside.claimed c.self.invariant.1.legal same
           (ap (λ x. x.rows) e.claimed) e.counted row log (let room = c.if-self-lt2.false in omega (arith, room)) c.self.invariant.2,
+      ap (λ h. callers_in (town h)) same ∙ c.self.invariant.3,
     )
 
 pub returns-clause-claimed : goal.returns-clause-claimed

@@ -1,4 +1,6 @@
-use Rattle.std.proofs.Common.{ap, arith}
+use Rattle.std.proofs.Common.{ap, arith, sym}
+use Rattle.fedi_effects.specs.Rosters.{callers_in}
+use Rattle.fedi_town.specs.Histories.{town}
 use Rattle.fedi_log.specs.Keeping.{state_of}
 use Rattle.fedi_logged.proofs.Claiming.{claiming_first}
 use Rattle.fedi_logged.proofs.Standing.{stands_opened}
@@ -11,4 +13,5 @@ invariant_of-result g c =
       stands.0,
       stands.1,
       claiming_first c.args.core.history g.O.Opened.state.history c.args.core.rows c.new.result c.count-front.result c.new.ensures (ap (λ s. s.history) c.requires.opened) c.requires.unclaimed (let within = c.count-front.type_inv in omega (arith, within)),
+      sym (ap (λ s. callers_in (town s.history)) c.requires.opened),
     )

@@ -8,6 +8,7 @@ use Rattle.fedi_logged.proofs.Noting.{length_more, noted_more}
 use Rattle.fedi_logged.proofs.Recording.{released_silent}
 use Rattle.fedi_logged.proofs.Silent.{stands_silent}
 use Rattle.fedi_town.specs.Histories.{town}
+use Rattle.fedi_effects.specs.Rosters.{callers_in}
 use Rattle.fedi_logged.proofs.logged.Logged.release.Goals as goal
 
 pub invariant_of-self : goal.invariant_of-self
@@ -25,6 +26,7 @@ invariant_of-self g c =
       stands_silent g.P.Keeper.growth g.P.Keeper.room g.O.Opened.state g.O.Opened.crashes c.args.by (Released p) _ _ _ _ (released_silent p) log stands,
       claiming_released before.history now.history c.args.by p c.args.claim before.rows now.rows _ _ c.self.inside.front c.self.inside.claimed c.self.invariant.1.legal
           (ap (λ x. x.history) c.release.ensures.released) has (ap (λ x. x.rows) c.release.ensures.released) c.release.ensures.counted log c.self.invariant.2,
+      ap (λ x. callers_in (town x.history)) c.release.ensures.released ∙ c.self.invariant.3,
     )
 
 pub returns : goal.returns
