@@ -29,6 +29,7 @@ fn push_fault(alloc: Global, text: &mut String, fault: JournalFault) -> Result<(
             text.push_str(&format!(in alloc; "damaged at {place}")?)
         }
         JournalFault::NotAStore => text.push_str("not a store"),
+        JournalFault::OldFormat => text.push_str("old format"),
         JournalFault::Failed => text.push_str("failed"),
         JournalFault::Memory => text.push_str("out of memory"),
     }
@@ -63,16 +64,24 @@ fn expect_found(alloc: Global, bytes: &[u8], wanted: &str, place: usize) -> Resu
 }
 
 // Files, and how they are read.
-const FILES: [(&[u8], &str); 8] = [
+const FILES: [(&[u8], &str); 11] = [
     (b"", "not a store"),
+    (b"FEDIJRN2", "not a store"),
     (b"FEDIJRN1", "not a store"),
-    (b"FEDIJRN2\0", "not a store"),
-    (b"FEDIJRN1\0", ""),
-    (b"FEDIJRN1\0and then anything", ""),
-    (b"FEDIJRN1\x02", "damaged at 8"),
-    (b"FEDIJRN1\x01\0\0\0\0\0\0\0\x02hi\0", "|hi"),
+    (b"FEDIJRN0\0", "not a store"),
+    (b"FEDIJRN3\0", "not a store"),
+    (b"FEDIJRN1\0", "old format"),
+    (b"FEDIJRN2\0", ""),
+    (b"FEDIJRN2\0and then anything", ""),
+    (b"FEDIJRN2\x02", "damaged at 8"),
     (
-        b"FEDIJRN1\x01\0\0\0\0\0\0\0\x02hi\0\x01\0\0\0\0\0\0\0\0\0",
+        b"FEDIJRN2\x01\0\0\0\0\0\0\0\x02his\xab%\xf4.\xf9\x9dB\xf8K\x88f|\x96\xcd\x0d\xf1\
+        \x5c\xc4\xd7\xfd\xfd\xd3\x9a\x1f\xbc/\xe7U.\x9f\xd4\0",
+        "|hi",
+    ),
+    (
+        b"FEDIJRN2\x01\0\0\0\0\0\0\0\x02his\xab%\xf4.\xf9\x9dB\xf8K\x88f|\x96\xcd\x0d\xf1\
+        \x5c\xc4\xd7\xfd\xfd\xd3\x9a\x1f\xbc/\xe7U.\x9f\xd4\0\x01\0\0\0\0\0\0\0\0\0",
         "|hi",
     ),
 ];
@@ -87,12 +96,13 @@ pub fn made(alloc: Global, disk: MemoryDisk) -> (&'static str, MemoryDisk) {
 }
 
 // Bytes, how the making of a journal over them ends, and the bytes afterwards.
-const MAKINGS: [(&[u8], &str, &[u8]); 7] = [
-    (b"", "made", b"FEDIJRN1\0"),
-    (b"FEDI", "made", b"FEDIJRN1\0"),
-    (b"whatever!", "made", b"FEDIJRN1\0"),
-    (b"FEDIJRN1\0", "made", b"FEDIJRN1\0"),
-    (b"FEDIJRN1\0rest", "made", b"FEDIJRN1\0rest"),
+const MAKINGS: [(&[u8], &str, &[u8]); 8] = [
+    (b"", "made", b"FEDIJRN2\0"),
+    (b"FEDI", "made", b"FEDIJRN2\0"),
+    (b"whatever!", "made", b"FEDIJRN2\0"),
+    (b"FEDIJRN2\0", "made", b"FEDIJRN2\0"),
+    (b"FEDIJRN2\0rest", "made", b"FEDIJRN2\0rest"),
+    (b"FEDIJRN1\0", "made", b"FEDIJRN2\0"),
     (b"whatever!!", "exists", b"whatever!!"),
     (
         b"FEDIJRN1\x01\0\0\0\0\0\0\0\0\0",

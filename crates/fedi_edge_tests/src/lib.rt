@@ -7,6 +7,8 @@ mod devices;
 #[cfg(test)]
 mod doubles;
 #[cfg(test)]
+mod formats;
+#[cfg(test)]
 mod images;
 #[cfg(test)]
 mod journals;

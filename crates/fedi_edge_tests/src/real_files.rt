@@ -3,7 +3,7 @@
 use fedi_adapters::FileDisk;
 use fedi_journal::{InitFault, Journal, JournalFault};
 use fedi_outside::{Disk, Failed, Keeper};
-use fedi_rows::expect;
+use fedi_rows::{expect, store_of};
 use std::alloc::Global;
 use std::fs;
 use std::os::unix::fs::PermissionsExt;
@@ -170,9 +170,7 @@ const OPENINGS: [(&str, &[u8]); 3] = [
     ("|one||three|four|5", b""),
 ];
 
-const KEPT: &[u8] =
-    b"FEDIJRN1\x01\0\0\0\0\0\0\0\x03one\x01\0\0\0\0\0\0\0\0\x01\0\0\0\0\0\0\0\x05three\
-    \x01\0\0\0\0\0\0\0\x04four\x01\0\0\0\0\0\0\0\x015\x01\0\0\0\0\0\0\0\0\0";
+const KEPT: [&[u8]; 6] = [b"one", b"", b"three", b"four", b"5", b""];
 
 // Records outlive the disk.
 fn expect_kept(rt: &HostRuntime) -> Result<(), Fail> {
@@ -182,7 +180,7 @@ fn expect_kept(rt: &HostRuntime) -> Result<(), Fail> {
     for row in &OPENINGS {
         expect_opened(rt.alloc(), FileDisk::new(rt, path), row.0, row.1)?;
     }
-    expect_bytes(rt, path, KEPT)?;
+    expect_bytes(rt, path, &store_of(rt.alloc(), &KEPT)?)?;
     fs::remove_file(rt, path)?;
     Ok(())
 }

@@ -8,8 +8,8 @@ use fedi_rows::{disk_of, expect, expect_at, store_of};
 use std::alloc::{AllocError, Global};
 use std::test::Fail;
 
-// Adds a record, trying at most this often if the disk fails, and says whether it was added.
-fn add<K: Keeper>(keeper: &mut K, payload: &[u8], tries: usize) -> bool {
+/// Adds a record, trying at most this often if the disk fails, and says whether it was added.
+pub fn add<K: Keeper>(keeper: &mut K, payload: &[u8], tries: usize) -> bool {
     for _ in 0..tries {
         if keeper.reserve(payload.len()).is_ok()
             && keeper.settle().is_ok()
@@ -56,7 +56,7 @@ fn added(alloc: Global, disk: MemoryDisk, payload: &[u8]) -> (bool, MemoryDisk) 
 }
 
 // The calls of an append, which are the last ones.
-const CALLS: &str = "write 14 at 30 sync write 1 at 29 sync ";
+const CALLS: &str = "write 46 at 94 sync write 1 at 93 sync ";
 
 fn expect_calls(alloc: Global, disk: &MemoryDisk) -> Result<(), Fail> {
     let words = words_of(alloc, disk.calls())?;
@@ -86,7 +86,9 @@ fn expect_appended(alloc: Global) -> Result<(), Fail> {
 }
 
 // A file of one record, with something after its closed gate.
-const ONE: &[u8] = b"FEDIJRN1\x01\0\0\0\0\0\0\0\x03one\0\x01 left of others";
+const ONE: &[u8] =
+    b"FEDIJRN2\x01\0\0\0\0\0\0\0\x03one\x1c\x08\x9b\xa0\xc0\xb2\xa2\x8a\x9bI|\x16\x15]\x09$\xae\
+    \x86=\xbf \x8b\x89\xb7\x9b:\x0b]>\xf8\xbcG\0\x01 left of others";
 
 // What an image is found to hold after a crash at this call, if the opening takes this many calls
 // and the append the next four: what was acknowledged, and all or nothing of the record of the
@@ -180,7 +182,7 @@ fn kept(alloc: Global, disk: MemoryDisk) -> (bool, MemoryDisk) {
 
 fn expect_kept(alloc: Global, call: u64, other: u64) -> Result<(), Fail> {
     let failing = [call, other].to_vec(alloc)?;
-    let (done, disk) = kept(alloc, disk_of(alloc, b"FEDIJRN1\0")?.failing(failing));
+    let (done, disk) = kept(alloc, disk_of(alloc, b"FEDIJRN2\0")?.failing(failing));
     expect_at(done, "records added", call as usize)?;
     let found = found(alloc, disk.bytes())?;
     expect_at(found.as_str() == "|one||three", &found, call as usize)
@@ -188,7 +190,7 @@ fn expect_kept(alloc: Global, call: u64, other: u64) -> Result<(), Fail> {
 
 #[test]
 fn records_are_kept_once_each_whichever_call_fails(rt: HostRuntime) -> Result<(), Fail> {
-    let opening = calls_of_an_opening(rt.alloc(), b"FEDIJRN1\0")?;
+    let opening = calls_of_an_opening(rt.alloc(), b"FEDIJRN2\0")?;
     for call in 0..12 {
         for more in 1..4 {
             let first = opening.saturating_add(call);

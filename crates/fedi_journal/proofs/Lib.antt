@@ -1,4 +1,8 @@
+pub mod ChainLemmas
+pub mod ChainRows
+pub mod ChainSteps
 pub mod FindingSteps
+pub mod HidingSteps
 pub mod KeeperSteps
 pub mod MakingSteps
 pub mod Rewriting

@@ -91,8 +91,8 @@ got [] i x d is = absurd (cc is)
 got (y ∷ ys) zero x d is = let same : y ≡ x = cc is in (omega arith, same)
 got (y ∷ ys) (suc i) x d is = let rest = got ys i x d is in (omega (arith, rest.0), rest.1)
 
-pub last_before : (gates : List ℕ) (end i gate : ℕ) → are_apart 9 gates end ≡ true → slice_get gates i ≡ Some gate → gate < end
-last_before gates end i gate apart is =
+pub last_before : (width : ℕ) (gates : List ℕ) (end i gate : ℕ) → are_apart (9 + width) gates end ≡ true → slice_get gates i ≡ Some gate → gate < end
+last_before width gates end i gate apart is =
     let here = got gates i gate end is in
-    let next = apart_at 9 gates end i here.0 apart in
+    let next = apart_at (9 + width) gates end i here.0 apart in
     omega (arith, here.1, next.0, next.1)

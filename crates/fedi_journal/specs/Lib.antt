@@ -1,5 +1,10 @@
 pub mod Blocks
+pub mod ChainLaws
+pub mod ChainRows
+pub mod Chains
 pub mod Files
 pub mod Finding
+pub mod Hiding
 pub mod Making
 pub mod Opening
+pub mod Seals

@@ -10,16 +10,17 @@ pub fn number_of(bytes: &[u8; 8]) -> u64
     u64::from_be_bytes(*bytes)
 }
 
-/// Replaces the contents of the block by the length of a record, the record and a closed gate.
-/// There is room.
-pub fn write_block(block: &mut Vec<u8>, payload: &[u8])
-    requires room { 9 + length payload.now ≤ vec_capacity block.old }
-    ensures bytes { block.new.items ≡ block_of payload.now }
+/// Replaces the contents of the block by the length of a record, the record, its seal and a closed
+/// gate. There is room.
+pub fn write_block(block: &mut Vec<u8>, payload: &[u8], seal: &[u8])
+    requires room { 9 + length payload.now + length seal.now ≤ vec_capacity block.old }
+    ensures bytes { block.new.items ≡ block_of payload.now seal.now }
     ensures capacity { vec_capacity block.old ≤ vec_capacity block.new }
 {
     block.clear();
     // These do not fail if there is room.
     let _ = block.extend_from_slice(&(payload.len() as u64).to_be_bytes());
     let _ = block.extend_from_slice(payload);
+    let _ = block.extend_from_slice(seal);
     let _ = block.push(0);
 }

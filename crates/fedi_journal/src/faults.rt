@@ -8,11 +8,15 @@ use thiserror::Error;
 /// Why a journal was not opened.
 #[derive(Clone, Copy, Debug, PartialEq, Eq, Error)]
 pub enum JournalFault {
-    /// The disk has fewer than 9 bytes, or does not begin with the magic.
+    /// The disk has fewer than 9 bytes, or begins with no magic.
     #[error("not a store")]
     NotAStore,
+    /// The disk has at least 9 bytes, and begins with the magic of the format before this one.
+    #[error("an old format")]
+    OldFormat,
     /// The byte at this offset should be a gate, but it is neither 0 nor 1; or it is 1, and the
-    /// record after it, or the gate after that, extends past the end.
+    /// record after it, its seal or the gate after that extends past the end, or the record is not
+    /// sealed as one that follows those before it.
     #[error("damaged at {place}")]
     Damaged { place: u64 },
     /// The disk failed, and has counted it.
@@ -72,4 +76,21 @@ impl From<Failed> for InitFault {
     fn from(_: Failed) -> Self {
         InitFault::Failed
     }
+}
+
+/// Why records were not copied.
+#[derive(Clone, Copy, Debug, PartialEq, Eq, Error)]
+pub enum CopyFault {
+    /// The keeper that they come from failed, and has counted it.
+    #[error("the source failed")]
+    Source,
+    /// The disk failed, and has counted it.
+    #[error("the disk failed")]
+    Failed,
+    /// A record has no room.
+    #[error("it is full")]
+    Full,
+    /// Out of memory.
+    #[error("out of memory")]
+    Memory,
 }

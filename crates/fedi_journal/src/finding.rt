@@ -3,18 +3,27 @@ ghost use Rattle.std.specs.Prelude.{ℕ, ◌≡◌, ◌<◌, ◌≤◌, ◌+◌,
 ghost use Rattle.std.specs.Prelude.{drop, get_or, Some, IfOk, IfSome, OnOk, OnErr, IsErrOf};
 ghost use Rattle.fedi_outside.specs.Causes.{HasCause};
 ghost use Rattle.fedi_outside.specs.Disks.{Elapses, IsUntouched, LeavesOnly, after_reading};
-ghost use Rattle.fedi_outside.specs.Images.{plain, size_code};
+ghost use Rattle.fedi_outside.specs.Images.{size_code};
 ghost use Rattle.fedi_outside.specs.Known.{are_apart};
-ghost use Rattle.fedi_outside.specs.Opening.{IsDamagedAt, IsFound, IsNoStore};
-ghost use Rattle.fedi_journal.specs.Finding.{IsGate, IsInside, faults_found};
+ghost use Rattle.fedi_outside.specs.Opening.{IsDamagedAt, IsFound, IsNoStore, IsOlder};
+ghost use Rattle.fedi_journal.specs.Finding.{IsGate, IsInside, IsSealed, IsStart, faults_found};
 
 use crate::blocks::number_of;
 use crate::faults::JournalFault;
+use crate::seals::Seal;
 use fedi_outside::{Disk, Failed};
 use std::alloc::Global;
 
-/// The bytes that a journal begins with.
-pub const MAGIC: [u8; 8] = *b"FEDIJRN1";
+/// How a file begins.
+#[derive(Clone, Copy)]
+pub enum Start {
+    /// With the magic.
+    Ours,
+    /// With the magic of the format before this one.
+    Older,
+    /// With other bytes, or it is too short for a magic and a gate.
+    Other,
+}
 
 /// What is found at a gate.
 #[derive(Clone, Copy)]
@@ -60,19 +69,20 @@ fn read_head<D: Disk>(disk: &mut D, gate: u64) -> Result<(u8, u64), Failed>
     Ok((head[0], number_of(&number)))
 }
 
-// What is found at this gate of a disk of this size.
-fn look<D: Disk>(disk: &mut D, gate: u64, size: u64) -> Result<Gate, Failed>
+// What is found at this gate of a disk of this size, if seals have this width.
+fn look<D: Disk>(disk: &mut D, gate: u64, size: u64, width: u64) -> Result<Gate, Failed>
     requires size { size ≡ (D.shown disk.old).size }
     requires inside { gate < size }
+    requires narrow { width ≤ 32 }
     ensures found { IfOk result (λ found. (bytes : List ℕ) → (D.shown disk.old).reads ≡ Some bytes
-        → IsGate (drop gate bytes) found) }
-    ensures inside { IfOk result (IsInside gate size) }
+        → IsGate width (drop gate bytes) found) }
+    ensures inside { IfOk result (IsInside width gate size) }
     ensures shown { D.shown disk.new ≡ after_reading result (D.shown disk.old) }
     ensures time { Elapses (D.crashes disk.old) (D.crashes disk.new)
         (D.crashes disk.old).may_leave }
 {
     let behind = size - gate;
-    if behind < 10 {
+    if behind < 10 + width {
         let closed = is_closed(disk, gate)?;
         return Ok(if closed { Gate::Closed } else { Gate::Bad });
     }
@@ -80,64 +90,86 @@ fn look<D: Disk>(disk: &mut D, gate: u64, size: u64) -> Result<Gate, Failed>
     if byte == 0 {
         return Ok(Gate::Closed);
     }
-    if byte != 1 || length > behind - 10 {
+    if byte != 1 || length > behind - 10 - width {
         return Ok(Gate::Bad);
     }
     Ok(Gate::Open(length))
 }
 
-// The gates of the records of a disk of this size that begins with the magic, and the offset of the
-// closed gate.
-fn scan<D: Disk>(alloc: Global, disk: &mut D, size: u64) -> Result<(Vec<u64>, u64), JournalFault>
+// The gates of the records of a disk of this size that begins with the magic, the offset of the
+// closed gate, and what is remembered of the records.
+fn scan<D: Disk, S: Seal>(
+    alloc: Global,
+    disk: &mut D,
+    size: u64,
+) -> Result<(Vec<u64>, u64, S), JournalFault>
     requires size { size ≡ (D.shown disk.old).size }
     requires long { 8 < size }
     requires magic { (bytes : List ℕ) → (D.shown disk.old).reads ≡ Some bytes
-        → take 8 bytes ≡ plain.magic }
+        → take 8 bytes ≡ S.format.magic }
     ensures found { IfOk result (λ found. (bytes : List ℕ) → (D.shown disk.old).reads ≡ Some bytes
-        → IsFound plain found.0.items found.1 bytes) }
-    ensures apart { IfOk result (λ found. are_apart 9 found.0.items found.1 ≡ true) }
+        → IsFound S.format found.0.items found.1 bytes) }
+    ensures sealed { IfOk result (λ found. (bytes : List ℕ) → (D.shown disk.old).reads ≡ Some bytes
+        → IsSealed S.format S.after (length found.0.items) found.2 bytes) }
+    ensures apart { IfOk result
+        (λ found. are_apart (9 + S.format.width) found.0.items found.1 ≡ true) }
     ensures inside { IfOk result (λ found. found.1 < size) }
     ensures damaged { (place : ℕ) → IsErrOf result (JournalFault.Damaged place)
-        → (bytes : List ℕ) → (D.shown disk.old).reads ≡ Some bytes → IsDamagedAt plain place bytes }
+        → (bytes : List ℕ) → (D.shown disk.old).reads ≡ Some bytes
+        → IsDamagedAt S.format place bytes }
     ensures store { IsErrOf result JournalFault.NotAStore → ⊥ }
+    ensures older { IsErrOf result JournalFault.OldFormat → ⊥ }
     ensures size { (D.shown disk.new).size ≡ (D.shown disk.old).size }
     ensures reads { (D.shown disk.new).reads ≡ (D.shown disk.old).reads }
     ensures faults { (D.shown disk.new).faults ≡ faults_found result (D.shown disk.old).faults }
     ensures time { Elapses (D.crashes disk.old) (D.crashes disk.new)
         (D.crashes disk.old).may_leave }
 {
+    let width = S::width();
     let mut gates = Vec::new(alloc);
     let mut gate = 8;
+    let mut seal = S::start();
     'records: loop {
-        match look(disk, gate, size)? {
-            Gate::Closed => return Ok((gates, gate)),
+        match look(disk, gate, size, width)? {
+            Gate::Closed => return Ok((gates, gate, seal)),
             Gate::Bad => return Err(JournalFault::Damaged { place: gate }),
             Gate::Open(length) => {
-                gates.push(gate)?;
-                gate += 9 + length;
+                match seal.follow(disk, gate + 9, length)? {
+                    Some(next) => {
+                        gates.push(gate)?;
+                        gate += 9 + width + length;
+                        seal = next;
+                    }
+                    None => return Err(JournalFault::Damaged { place: gate }),
+                }
             }
         }
     }
 }
 
-// Whether a disk of this size has room for the magic and a gate, and begins with the magic.
-fn is_store<D: Disk>(disk: &mut D, size: u64) -> Result<bool, Failed>
+// How a disk of this size begins.
+fn read_start<D: Disk, S: Seal>(disk: &mut D, size: u64) -> Result<Start, Failed>
     requires size { size ≡ (D.shown disk.old).size }
-    ensures yes { IfOk result (λ yes. (bytes : List ℕ) → (D.shown disk.old).reads ≡ Some bytes
-        → yes ≡ true → take 8 bytes ≡ plain.magic) }
-    ensures long { IfOk result (λ yes. yes ≡ true → 8 < size) }
-    ensures no { IfOk result (λ yes. (bytes : List ℕ) → (D.shown disk.old).reads ≡ Some bytes
-        → yes ≡ false → IsNoStore plain bytes) }
+    ensures found { IfOk result (λ start. (bytes : List ℕ) → (D.shown disk.old).reads ≡ Some bytes
+        → IsStart S.format bytes start) }
+    ensures long { IfOk result (λ start. start ≡ Start.Ours → 8 < size) }
     ensures shown { D.shown disk.new ≡ after_reading result (D.shown disk.old) }
     ensures time { Elapses (D.crashes disk.old) (D.crashes disk.new)
         (D.crashes disk.old).may_leave }
 {
     if size < 9 {
-        return Ok(false);
+        return Ok(Start::Other);
     }
     let mut first = [0; 8];
     disk.read_at(0, &mut first)?;
-    Ok(first == MAGIC)
+    if first == S::magic() {
+        return Ok(Start::Ours);
+    }
+    Ok(if S::is_older(&first) {
+        Start::Older
+    } else {
+        Start::Other
+    })
 }
 
 // Syncs the disk, and asks for its size.
@@ -154,30 +186,41 @@ fn synced_size<D: Disk>(disk: &mut D) -> Result<u64, Failed>
     disk.len()
 }
 
-// The gates of the records of a disk, and the offset of the closed gate. It syncs before it reads,
-// so that a crash leaves what it finds.
-fn find_gates<D: Disk>(alloc: Global, disk: &mut D) -> Result<(Vec<u64>, u64), JournalFault>
+/// The gates of the records of a disk, the offset of the closed gate, and what is remembered of the
+/// records. It syncs before it reads, so that a crash leaves what it finds, and writes nothing.
+pub fn find_gates<D: Disk, S: Seal>(
+    alloc: Global,
+    disk: &mut D,
+) -> Result<(Vec<u64>, u64, S), JournalFault>
     ensures found { IfOk result (λ found. (bytes : List ℕ) → (D.shown disk.old).reads ≡ Some bytes
-        → IsFound plain found.0.items found.1 bytes) }
-    ensures apart { IfOk result (λ found. are_apart 9 found.0.items found.1 ≡ true) }
+        → IsFound S.format found.0.items found.1 bytes) }
+    ensures sealed { IfOk result (λ found. (bytes : List ℕ) → (D.shown disk.old).reads ≡ Some bytes
+        → IsSealed S.format S.after (length found.0.items) found.2 bytes) }
+    ensures apart { IfOk result
+        (λ found. are_apart (9 + S.format.width) found.0.items found.1 ≡ true) }
     ensures inside { IfOk result (λ found. found.1 < (D.shown disk.new).size) }
     ensures fits { IfOk result (λ found. found.1 < 2 ^ 64) }
     ensures only { OnOk result (IfSome (D.shown disk.new).reads (LeavesOnly (D.crashes disk.new))) }
     ensures damaged { (place : ℕ) → IsErrOf result (JournalFault.Damaged place)
-        → (bytes : List ℕ) → (D.shown disk.old).reads ≡ Some bytes → IsDamagedAt plain place bytes }
+        → (bytes : List ℕ) → (D.shown disk.old).reads ≡ Some bytes
+        → IsDamagedAt S.format place bytes }
     ensures store { IsErrOf result JournalFault.NotAStore
-        → (bytes : List ℕ) → (D.shown disk.old).reads ≡ Some bytes → IsNoStore plain bytes }
+        → (bytes : List ℕ) → (D.shown disk.old).reads ≡ Some bytes → IsNoStore S.format bytes }
+    ensures older { IsErrOf result JournalFault.OldFormat
+        → (bytes : List ℕ) → (D.shown disk.old).reads ≡ Some bytes → IsOlder S.format bytes }
     ensures memory { IsErrOf result JournalFault.Memory
-        → (bytes : List ℕ) → (D.shown disk.old).reads ≡ Some bytes → take 8 bytes ≡ plain.magic }
+        → (bytes : List ℕ) → (D.shown disk.old).reads ≡ Some bytes
+        → take 8 bytes ≡ S.format.magic }
     ensures faults { (D.shown disk.new).faults ≡ faults_found result (D.shown disk.old).faults }
     ensures same { IsUntouched (D.shown disk.old) (D.shown disk.new)
         (D.crashes disk.old) (D.crashes disk.new) }
 {
     let size = synced_size(disk)?;
-    if !is_store(disk, size)? {
-        return Err(JournalFault::NotAStore);
+    match read_start::<D, S>(disk, size)? {
+        Start::Ours => scan(alloc, disk, size),
+        Start::Older => Err(JournalFault::OldFormat),
+        Start::Other => Err(JournalFault::NotAStore),
     }
-    scan(alloc, disk, size)
 }
 
 // Reads the byte at this offset and writes it again. Since the disk is synced, a crash leaves it as
@@ -200,7 +243,7 @@ fn rewrite<D: Disk>(disk: &mut D, at: u64) -> Result<(), Failed>
 // to sync one of them. Reads then give it, but the disk may not have it, even though the next sync
 // succeeds.
 fn rewrite_gates<D: Disk>(disk: &mut D, gates: &[u64], end: u64) -> Result<(), Failed>
-    requires apart { are_apart 9 gates.now end ≡ true }
+    requires apart { (width : ℕ) × (are_apart (9 + width) gates.now end ≡ true) }
     requires inside { end < (D.shown disk.old).size }
     requires synced { IfSome (D.shown disk.old).reads (LeavesOnly (D.crashes disk.old)) }
     ensures synced { IfSome (D.shown disk.new).reads (LeavesOnly (D.crashes disk.new)) }
@@ -216,27 +259,37 @@ fn rewrite_gates<D: Disk>(disk: &mut D, gates: &[u64], end: u64) -> Result<(), F
     disk.sync()
 }
 
-/// The gates of the records of a disk, and the offset of the closed gate. It syncs before it reads,
-/// and syncs again what it found, so that a crash leaves that. Whatever the result, reads give the
-/// same bytes, and a crash leaves nothing new.
-pub fn find<D: Disk>(alloc: Global, disk: &mut D) -> Result<(Vec<u64>, u64), JournalFault>
+/// The gates of the records of a disk, the offset of the closed gate, and what is remembered of the
+/// records. It syncs before it reads, and syncs again what it found, so that a crash leaves that.
+/// Whatever the result, reads give the same bytes, and a crash leaves nothing new.
+pub fn find<D: Disk, S: Seal>(
+    alloc: Global,
+    disk: &mut D,
+) -> Result<(Vec<u64>, u64, S), JournalFault>
     ensures found { IfOk result (λ found. (bytes : List ℕ) → (D.shown disk.old).reads ≡ Some bytes
-        → IsFound plain found.0.items found.1 bytes) }
-    ensures apart { IfOk result (λ found. are_apart 9 found.0.items found.1 ≡ true) }
+        → IsFound S.format found.0.items found.1 bytes) }
+    ensures sealed { IfOk result (λ found. (bytes : List ℕ) → (D.shown disk.old).reads ≡ Some bytes
+        → IsSealed S.format S.after (length found.0.items) found.2 bytes) }
+    ensures apart { IfOk result
+        (λ found. are_apart (9 + S.format.width) found.0.items found.1 ≡ true) }
     ensures inside { IfOk result (λ found. found.1 < (D.shown disk.new).size) }
     ensures fits { IfOk result (λ found. found.1 < 2 ^ 64) }
     ensures only { OnOk result (IfSome (D.shown disk.new).reads (LeavesOnly (D.crashes disk.new))) }
     ensures damaged { (place : ℕ) → IsErrOf result (JournalFault.Damaged place)
-        → (bytes : List ℕ) → (D.shown disk.old).reads ≡ Some bytes → IsDamagedAt plain place bytes }
+        → (bytes : List ℕ) → (D.shown disk.old).reads ≡ Some bytes
+        → IsDamagedAt S.format place bytes }
     ensures store { IsErrOf result JournalFault.NotAStore
-        → (bytes : List ℕ) → (D.shown disk.old).reads ≡ Some bytes → IsNoStore plain bytes }
+        → (bytes : List ℕ) → (D.shown disk.old).reads ≡ Some bytes → IsNoStore S.format bytes }
+    ensures older { IsErrOf result JournalFault.OldFormat
+        → (bytes : List ℕ) → (D.shown disk.old).reads ≡ Some bytes → IsOlder S.format bytes }
     ensures memory { IsErrOf result JournalFault.Memory
-        → (bytes : List ℕ) → (D.shown disk.old).reads ≡ Some bytes → take 8 bytes ≡ plain.magic }
+        → (bytes : List ℕ) → (D.shown disk.old).reads ≡ Some bytes
+        → take 8 bytes ≡ S.format.magic }
     ensures faults { (D.shown disk.new).faults ≡ faults_found result (D.shown disk.old).faults }
     ensures same { IsUntouched (D.shown disk.old) (D.shown disk.new)
         (D.crashes disk.old) (D.crashes disk.new) }
 {
-    let (gates, end) = find_gates(alloc, disk)?;
+    let (gates, end, seal) = find_gates(alloc, disk)?;
     rewrite_gates(disk, &gates, end)?;
-    Ok((gates, end))
+    Ok((gates, end, seal))
 }

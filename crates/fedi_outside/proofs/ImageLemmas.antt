@@ -1,6 +1,7 @@
 -- What files of records consist of: at most one list fits, records are read back, and what the
 -- steps of a journal make of a file.
 use Rattle.std.proofs.Common.{◌≡◌, ℕ, zero, suc, ◌+◌, ◌<◌, ◌≤◌, ◌^◌, List, [], ◌∷◌, ◌++◌, length, take, drop, refl, sym, ◌∙◌, ap, subst, append_assoc, arith, length-append, take-append-drop}
+use Rattle.std.specs.Prelude.{None, Some, get_or, nat_eq, false}
 use Rattle.std.specs.Int.{to_be_bytes, from_be_bytes, w64}
 use Rattle.std.proofs.lemmas.Nat.{from_be_bytes-to_be_bytes_8}
 use Rattle.std.proofs.lemmas.List.{take_at, drop_at, take-take, append-nil, drop-drop, append_cancel_left}
@@ -10,7 +11,17 @@ use Rattle.fedi_outside.specs.Images.{AreShort, Format, IsClosedAfter, IsFormat,
 use Rattle.fedi_outside.specs.Opening.{IsWhole}
 
 pub plain_ok : IsFormat plain
-plain_ok = record { eight = refl; wide = λ before r. refl }
+plain_ok = record { eight = refl; wide = λ before r. refl; other = λ is. absurd (cc is) }
+
+-- two magics that differ are not the same
+pub none_apart : (b : List ℕ) → None ≡ Some b → ⊥
+none_apart b is = absurd (cc is)
+
+pub some_apart : (a b : List ℕ) → (a ≡ b → ⊥) → Some a ≡ Some b → ⊥
+some_apart a b differ is = let same : a ≡ b = cc is in differ same
+
+pub digits_apart : (a b : List ℕ) (i : ℕ) → nat_eq (get_or a i 0) (get_or b i 0) ≡ false → a ≡ b → ⊥
+digits_apart a b i differ is = let same : get_or a i 0 ≡ get_or b i 0 = ap (λ (l : List ℕ). get_or l i 0) is in grind (arith, differ, same)
 
 pub length_size : (n : ℕ) → length (size_code n) ≡ 8
 unfolding size_code

@@ -8,16 +8,22 @@ pub record Format : Type 0 where
   pub magic : List ℕ  -- the bytes that it begins with
   pub width : ℕ  -- how many bytes seal a record
   pub seal : List (List ℕ) → List ℕ → List ℕ  -- the seal of a record after the records before it
+  pub older : Option (List ℕ)  -- the magic of the format before this one, if there is one
 
--- the magic has eight bytes, and each seal its width
+-- the magic has eight bytes, and each seal its width; the older magic is another
 pub record IsFormat (f : Format) : Type 0 where
   pub eight : length f.magic ≡ 8
   pub wide : (before : List (List ℕ)) (r : List ℕ) → length (f.seal before r) ≡ f.width
+  pub other : f.older ≡ Some f.magic → ⊥
 
 -- FEDIJRN1, and records that are not sealed
 abbrev pub plain : Format
-plain =
-    record { magic = 70 ∷ 69 ∷ 68 ∷ 73 ∷ 74 ∷ 82 ∷ 78 ∷ 49 ∷ []; width = 0; seal = λ before r. [] }
+plain = record {
+  magic = 70 ∷ 69 ∷ 68 ∷ 73 ∷ 74 ∷ 82 ∷ 78 ∷ 49 ∷ [];
+  width = 0;
+  seal = λ before r. [];
+  older = None;
+}
 
 -- a number in eight bytes, the most significant first
 unfoldable pub size_code : ℕ → List ℕ

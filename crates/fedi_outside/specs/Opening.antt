@@ -1,5 +1,6 @@
 -- What a file is found to be when it is opened: a file of records, a damaged one, or no store.
 use Rattle.std.specs.Prelude.{◌≡◌, ◌≢◌, ◌⊎◌, ◌<◌, ◌≤◌, ℕ, ◌+◌, List, length, get_or, take, drop}
+use Rattle.std.specs.Prelude.{Option, Some}
 use Rattle.fedi_outside.specs.Images.{Format, AreShort, IsImage, front, gates_of, size_at}
 
 module _ (f : Format) where
@@ -28,9 +29,15 @@ module _ (f : Format) where
   abbrev pub IsDamagedAt : ℕ → List ℕ → Type 0
   IsDamagedAt gate bytes = (rs : List (List ℕ)) × Begins rs gate bytes × IsBad rs (drop gate bytes)
 
-  -- the file is too short for the magic and a gate, or does not begin with the magic
+  -- the file is too short for the magic and a gate, or begins neither with the magic nor with the
+  -- older one
   abbrev pub IsNoStore : List ℕ → Type 0
-  IsNoStore bytes = (length bytes < 9) ⊎ (take 8 bytes ≢ f.magic)
+  IsNoStore bytes =
+      (length bytes < 9) ⊎ ((take 8 bytes ≢ f.magic) × (f.older ≡ Some (take 8 bytes) → ⊥))
+
+  -- the file is long enough for a magic and a gate, and begins with the older magic
+  abbrev pub IsOlder : List ℕ → Type 0
+  IsOlder bytes = (9 ≤ length bytes) × (f.older ≡ Some (take 8 bytes))
 
   -- the file is one of records whose gates are at these offsets, and the closed gate is at this one
   abbrev pub IsFound : List ℕ → ℕ → List ℕ → Type 0

@@ -2,19 +2,47 @@
 
 use fedi_journal::Journal;
 use fedi_outside::{Keeper, MemoryDisk};
+use sha2::{Digest, Sha256};
 use std::alloc::{AllocError, Global};
 
 /// The bytes of a store of these records: the magic, each record after an open gate and its length
-/// in eight bytes, and a closed gate. The error is out of memory.
+/// in eight bytes and before its chain, and a closed gate. The error is out of memory.
 pub fn store_of(alloc: Global, records: &[&[u8]]) -> Result<Vec<u8>, AllocError> {
-    let mut bytes = Vec::from_slice(alloc, b"FEDIJRN1")?;
+    let mut bytes = Vec::from_slice(alloc, b"FEDIJRN2")?;
+    let mut chain = [0; 32];
     for record in records {
-        bytes.push(1)?;
-        bytes.extend_from_slice(&(record.len() as u64).to_be_bytes())?;
-        bytes.extend_from_slice(record)?;
+        chain = next_chain(&chain, record);
+        push_record(&mut bytes, record)?;
+        bytes.extend_from_slice(&chain)?;
     }
     bytes.push(0)?;
     Ok(bytes)
+}
+
+/// The bytes of a store of these records in the first format, which has no chains. The error is out
+/// of memory.
+pub fn first_store_of(alloc: Global, records: &[&[u8]]) -> Result<Vec<u8>, AllocError> {
+    let mut bytes = Vec::from_slice(alloc, b"FEDIJRN1")?;
+    for record in records {
+        push_record(&mut bytes, record)?;
+    }
+    bytes.push(0)?;
+    Ok(bytes)
+}
+
+// The chain after this record: the digest of the chain before it, its length and the record.
+fn next_chain(chain: &[u8; 32], record: &[u8]) -> [u8; 32] {
+    let mut hasher = Sha256::new();
+    hasher.update(chain.as_slice());
+    hasher.update((record.len() as u64).to_be_bytes().as_slice());
+    hasher.update(record);
+    hasher.finalize()
+}
+
+fn push_record(bytes: &mut Vec<u8>, record: &[u8]) -> Result<(), AllocError> {
+    bytes.push(1)?;
+    bytes.extend_from_slice(&(record.len() as u64).to_be_bytes())?;
+    bytes.extend_from_slice(record)
 }
 
 /// A disk with these bytes, on which nothing fails. The error is out of memory.

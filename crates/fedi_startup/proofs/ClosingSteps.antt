@@ -3,7 +3,8 @@ use Rattle.std.proofs.Common.{◌≡◌, ℕ, List, length, map, Option, Some, N
 use Rattle.std.specs.Prelude.{IfSome, option_map}
 use Rattle.fedi_entry.specs.Codes.{code_of}
 use Rattle.fedi_outside.proofs.ImageSteps.{of_some}
-use Rattle.fedi_outside.specs.Images.{IsImage, kept_in, plain}
+use Rattle.fedi_journal.specs.Chains.{chained}
+use Rattle.fedi_outside.specs.Images.{IsImage, kept_in}
 use Rattle.fedi_outside.specs.Known.{records_told}
 use Rattle.fedi_log.specs.Keeping.{state_of}
 use Rattle.fedi_objects.specs.declared.entry.Entry.{Entry}
@@ -14,19 +15,19 @@ use Rattle.fedi_startup.specs.Stores.{IsClosed, IsSound, LeavesFiles, records_of
 use Rattle.fedi_startup.proofs.Told.{each_some}
 
 -- the records of a keeper on this disk
-pub of_history : (disk : DiskState) (k : KeeperState) (history : List Entry) (count : ℕ) → k.records ≡ records_told plain count disk
+pub of_history : (disk : DiskState) (k : KeeperState) (history : List Entry) (count : ℕ) → k.records ≡ records_told chained count disk
     → IfSome k.records (λ records. map code_of history ≡ records) → k.records ≡ option_map (λ _. records_of history) disk.reads
 of_history disk k history count told kept = each disk.reads k.records told kept
   where
-    each : (reads : Option (List ℕ)) (records : Option (List (List ℕ))) → records ≡ option_map (kept_in plain count) reads
+    each : (reads : Option (List ℕ)) (records : Option (List (List ℕ))) → records ≡ option_map (kept_in chained count) reads
         → IfSome records (λ records. map code_of history ≡ records) → records ≡ option_map (λ _. records_of history) reads
     each None records is all = is
     each (Some bytes) None is all = absurd (cc is)
     each (Some bytes) (Some rs) is all = ap (λ (l : List (List ℕ)). Some l) (sym all)
 
 pub is_closed : (disk : DiskState) (crashes : DiskCrashes) (k : KeeperState) (history : List Entry) (count : ℕ) → IsSound history → IfSome k.doubt (IsNextCode history)
-    → k.records ≡ records_told plain count disk → k.faults ≡ disk.faults → IfSome k.records (λ records. map code_of history ≡ records) → k.held ≡ length history
-    → ((kept : List (List ℕ)) → k.records ≡ Some kept → (image : List ℕ) → crashes.may_leave image → (rs : List (List ℕ)) × IsImage plain rs image × MayLeave kept k.doubt rs)
+    → k.records ≡ records_told chained count disk → k.faults ≡ disk.faults → IfSome k.records (λ records. map code_of history ≡ records) → k.held ≡ length history
+    → ((kept : List (List ℕ)) → k.records ≡ Some kept → (image : List ℕ) → crashes.may_leave image → (rs : List (List ℕ)) × IsImage chained rs image × MayLeave kept k.doubt rs)
     → IfSome disk.reads crashes.may_leave → IsClosed disk crashes (state_of history k)
 is_closed disk crashes k history count sound doubted told faults kept held images stays = record {
   sound = sound;

@@ -4,11 +4,13 @@ use Rattle.std.specs.Prelude.{◌≢◌, Err, IfSome, is_some, option_map}
 use Rattle.std.proofs.lemmas.List.{take_at}
 use Rattle.fedi_entry.specs.Codes.{code_of}
 use Rattle.fedi_outside.proofs.Finding.{images_left}
-use Rattle.fedi_outside.proofs.ImageLemmas.{one_image, plain_ok}
+use Rattle.fedi_journal.specs.ChainLaws.{chained_ok}
+use Rattle.fedi_outside.proofs.ImageLemmas.{one_image}
 use Rattle.fedi_outside.proofs.ImageSteps.{of_some, images_left as files_left}
-use Rattle.fedi_outside.specs.Images.{IsImage, blocks, front, kept_in, plain}
+use Rattle.fedi_journal.specs.Chains.{chained}
+use Rattle.fedi_outside.specs.Images.{IsImage, blocks, front, kept_in}
 use Rattle.fedi_outside.specs.Known.{IsKnown, record_crashes, records_told}
-use Rattle.fedi_outside.specs.Opening.{IsDamagedAt, IsNoStore}
+use Rattle.fedi_outside.specs.Opening.{IsDamagedAt, IsNoStore, IsOlder}
 use Rattle.fedi_journal.specs.Finding as journals
 use Rattle.fedi_journal.specs.Files.{HasRecords}
 use Rattle.fedi_journal.specs.declared.faults.JournalFault.{JournalFault}
@@ -35,7 +37,7 @@ pub untouched_files : (start found : DiskState) (before middle : DiskCrashes) (b
 untouched_files start found before middle bytes records doubt same is only files image since =
     left ((same.crashes bytes is).nothing_else before.clock image (omega arith) since)
   where
-    left : before.left_since before.clock image ⊎ before.may_leave image → HasRecords records doubt image
+    left : before.left_since before.clock image ⊎ before.may_leave image → HasRecords chained records doubt image
     left (inl past) = files image (only image past)
     left (inr now) = files image now
 
@@ -43,9 +45,9 @@ untouched_files start found before middle bytes records doubt same is only files
 
 -- the history of records that were found
 module _ (start found : DiskState) (k : KeeperState) (history : List Entry) (count : ℕ)
-    (finds : (bytes : List ℕ) → start.reads ≡ Some bytes → (rs : List (List ℕ)) × IsImage plain rs bytes × (k.records ≡ Some rs) × (k.end ≡ length (front plain rs)))
+    (finds : (bytes : List ℕ) → start.reads ≡ Some bytes → (rs : List (List ℕ)) × IsImage chained rs bytes × (k.records ≡ Some rs) × (k.end ≡ length (front chained rs)))
     (same : found.reads ≡ start.reads)
-    (told : k.records ≡ records_told plain count found)
+    (told : k.records ≡ records_told chained count found)
     (counted : IfSome k.records (λ records. k.held ≡ length records))
     (read : IsRead k.records k.held history) where
   spelled : (bytes : List ℕ) (is : start.reads ≡ Some bytes) → (finds bytes is).0 ≡ records_of history
@@ -64,64 +66,68 @@ module _ (start found : DiskState) (k : KeeperState) (history : List Entry) (cou
     stored = each_some start.reads (λ bytes is. record {
       some = some;
       sound = sound;
-      file = subst (λ (rs : List (List ℕ)). IsImage plain rs bytes) (spelled bytes is) (finds bytes is).1;
+      file = subst (λ (rs : List (List ℕ)). IsImage chained rs bytes) (spelled bytes is) (finds bytes is).1;
     });
-    records = records start.reads (told ∙ ap (option_map (kept_in plain count)) same) (λ bytes is. (finds bytes is).2 ∙ ap (λ (rs : List (List ℕ)). Some rs) (spelled bytes is));
+    records = records start.reads (told ∙ ap (option_map (kept_in chained count)) same) (λ bytes is. (finds bytes is).2 ∙ ap (λ (rs : List (List ℕ)). Some rs) (spelled bytes is));
     held = sym read.counted;
     doubt = settled;
-    end = each_some start.reads (λ bytes is. (finds bytes is).3 ∙ ap (λ (rs : List (List ℕ)). length (front plain rs)) (spelled bytes is));
+    end = each_some start.reads (λ bytes is. (finds bytes is).3 ∙ ap (λ (rs : List (List ℕ)). length (front chained rs)) (spelled bytes is));
     faults = counts ∙ faults;
   }
     where
       some : history ≢ []
       some none = filled (sym read.counted ∙ ap length none)
 
-      records : (reads : Option (List ℕ)) → k.records ≡ option_map (kept_in plain count) reads → ((bytes : List ℕ) → reads ≡ Some bytes → k.records ≡ Some (records_of history))
+      records : (reads : Option (List ℕ)) → k.records ≡ option_map (kept_in chained count) reads → ((bytes : List ℕ) → reads ≡ Some bytes → k.records ≡ Some (records_of history))
           → k.records ≡ option_map (λ _. records_of history) reads
       records None is each = is
       records (Some bytes) is each = each bytes refl
 
 -- and what a crash then leaves
 pub leaves_found : (start later : DiskState) (crashes : DiskCrashes) (end : ℕ) (gates : List ℕ) (k : KeeperState) (history : List Entry) → IsOpened start (state_of history k)
-    → k.records ≡ records_told plain (length gates) later → IsKnown plain later crashes end gates k.doubt → IfSome start.reads (λ _. LeavesFiles crashes (records_of history) None)
+    → k.records ≡ records_told chained (length gates) later → IsKnown chained later crashes end gates k.doubt → IfSome start.reads (λ _. LeavesFiles crashes (records_of history) None)
 leaves_found start later crashes end gates k history opened told known = each_some start.reads leaves
   where
     leaves : (bytes : List ℕ) → start.reads ≡ Some bytes → LeavesFiles crashes (records_of history) None
     leaves bytes is image left =
-        let file = files_left plain plain_ok later crashes end gates k.doubt known (records_of history)
+        let file = files_left chained chained_ok later crashes end gates k.doubt known (records_of history)
         (sym told ∙ (opened.records ∙ ap (option_map (λ _. records_of history)) is)) image left in
         (file.0, file.1, subst (λ (d : Option (List ℕ)). MayLeave (records_of history) d file.0) opened.doubt file.2)
 
 -- ---- no machine
 
 -- a file of records begins with the magic
-pub begins_so : (rs : List (List ℕ)) (bytes : List ℕ) → IsImage plain rs bytes → take 8 bytes ≡ plain.magic
+pub begins_so : (rs : List (List ℕ)) (bytes : List ℕ) → IsImage chained rs bytes → take 8 bytes ≡ chained.magic
 unfolding front
 begins_so rs bytes image =
-    ap (take 8) (image.spelled ∙ append_assoc plain.magic (blocks plain [] rs) (0 ∷ drop (length (front plain rs) + 1) bytes))
-    ∙ take_at plain.magic (blocks plain [] rs ++ 0 ∷ drop (length (front plain rs) + 1) bytes) 8 refl
+    ap (take 8) (image.spelled ∙ append_assoc chained.magic (blocks chained [] rs) (0 ∷ drop (length (front chained rs) + 1) bytes))
+    ∙ take_at chained.magic (blocks chained [] rs ++ 0 ∷ drop (length (front chained rs) + 1) bytes) 8 refl
 
 -- the journal was not opened
 pub not_found : (fault : JournalFault) (start after : DiskState)
-    → ((place : ℕ) → fault ≡ journal_faults.Damaged place → (bytes : List ℕ) → start.reads ≡ Some bytes → IsDamagedAt plain place bytes)
-    → (fault ≡ journal_faults.NotAStore → (bytes : List ℕ) → start.reads ≡ Some bytes → IsNoStore plain bytes)
-    → (fault ≡ journal_faults.Memory → (bytes : List ℕ) → start.reads ≡ Some bytes → take 8 bytes ≡ plain.magic)
+    → ((place : ℕ) → fault ≡ journal_faults.Damaged place → (bytes : List ℕ) → start.reads ≡ Some bytes → IsDamagedAt chained place bytes)
+    → (fault ≡ journal_faults.NotAStore → (bytes : List ℕ) → start.reads ≡ Some bytes → IsNoStore chained bytes)
+    → (fault ≡ journal_faults.OldFormat → (bytes : List ℕ) → start.reads ≡ Some bytes → IsOlder chained bytes)
+    → (fault ≡ journal_faults.Memory → (bytes : List ℕ) → start.reads ≡ Some bytes → take 8 bytes ≡ chained.magic)
     → after.faults ≡ journals.count_after fault start.faults → ComesBack (of_journal fault) start after
-not_found fault start after damaged store memory faults = record {
-  why = why fault damaged store memory;
+not_found fault start after damaged store older memory faults = record {
+  why = why fault damaged store older memory;
   faults = faults ∙ counts fault;
 }
   where
-    why : (fault : JournalFault) → ((place : ℕ) → fault ≡ journal_faults.Damaged place → (bytes : List ℕ) → start.reads ≡ Some bytes → IsDamagedAt plain place bytes)
-        → (fault ≡ journal_faults.NotAStore → (bytes : List ℕ) → start.reads ≡ Some bytes → IsNoStore plain bytes)
-        → (fault ≡ journal_faults.Memory → (bytes : List ℕ) → start.reads ≡ Some bytes → take 8 bytes ≡ plain.magic) → IsNotOpened (of_journal fault) start
-    why journal_faults.NotAStore damaged store memory = each_some start.reads (λ bytes is. inl (store refl bytes is))
-    why (journal_faults.Damaged place) damaged store memory = each_some start.reads (λ bytes is. damaged place refl bytes is)
-    why journal_faults.Failed damaged store memory = tt
-    why journal_faults.Memory damaged store memory = each_some start.reads (λ bytes is. memory refl bytes is)
+    why : (fault : JournalFault) → ((place : ℕ) → fault ≡ journal_faults.Damaged place → (bytes : List ℕ) → start.reads ≡ Some bytes → IsDamagedAt chained place bytes)
+        → (fault ≡ journal_faults.NotAStore → (bytes : List ℕ) → start.reads ≡ Some bytes → IsNoStore chained bytes)
+        → (fault ≡ journal_faults.OldFormat → (bytes : List ℕ) → start.reads ≡ Some bytes → IsOlder chained bytes)
+        → (fault ≡ journal_faults.Memory → (bytes : List ℕ) → start.reads ≡ Some bytes → take 8 bytes ≡ chained.magic) → IsNotOpened (of_journal fault) start
+    why journal_faults.NotAStore damaged store older memory = each_some start.reads (λ bytes is. inl (store refl bytes is))
+    why journal_faults.OldFormat damaged store older memory = each_some start.reads (λ bytes is. older refl bytes is)
+    why (journal_faults.Damaged place) damaged store older memory = each_some start.reads (λ bytes is. damaged place refl bytes is)
+    why journal_faults.Failed damaged store older memory = tt
+    why journal_faults.Memory damaged store older memory = each_some start.reads (λ bytes is. memory refl bytes is)
 
     counts : (fault : JournalFault) → journals.count_after fault start.faults ≡ count_after (of_journal fault) start.faults
     counts journal_faults.NotAStore = refl
+    counts journal_faults.OldFormat = refl
     counts (journal_faults.Damaged place) = refl
     counts journal_faults.Failed = refl
     counts journal_faults.Memory = refl
@@ -139,7 +145,7 @@ none_held (r ∷ rs) is = absurd (omega (arith, is))
 
 -- the history was not
 pub not_read : (fault : OpenFault) (start found after : DiskState) (k l : KeeperState) (history : List Entry)
-    → ((bytes : List ℕ) → start.reads ≡ Some bytes → (rs : List (List ℕ)) × IsImage plain rs bytes × (k.records ≡ Some rs) × (k.end ≡ length (front plain rs)))
+    → ((bytes : List ℕ) → start.reads ≡ Some bytes → (rs : List (List ℕ)) × IsImage chained rs bytes × (k.records ≡ Some rs) × (k.end ≡ length (front chained rs)))
     → found.faults ≡ start.faults → k.faults ≡ found.faults → IfSome k.records (λ records. k.held ≡ length records)
     → IsStopped fault k history → l ≡ after_open {T = ℕ} (Err fault) k → l.faults ≡ after.faults
     → ComesBack (of_opening fault) start after
@@ -151,8 +157,8 @@ not_read fault start found after k l history finds faults counts counted stopped
     counted_at : (rs : List (List ℕ)) → k.records ≡ Some rs → k.held ≡ length rs
     counted_at rs is = subst (λ (o : Option (List (List ℕ))). IfSome o (λ records. k.held ≡ length records)) is counted
 
-    empty : (rs : List (List ℕ)) (bytes : List ℕ) → k.held ≡ 0 → k.records ≡ Some rs → IsImage plain rs bytes → IsImage plain [] bytes
-    empty rs bytes none is image = subst (λ (r : List (List ℕ)). IsImage plain r bytes) (none_held rs (sym none ∙ counted_at rs is)) image
+    empty : (rs : List (List ℕ)) (bytes : List ℕ) → k.held ≡ 0 → k.records ≡ Some rs → IsImage chained rs bytes → IsImage chained [] bytes
+    empty rs bytes none is image = subst (λ (r : List (List ℕ)). IsImage chained r bytes) (none_held rs (sym none ∙ counted_at rs is)) image
 
     damaged : (rs : List (List ℕ)) (place : ℕ) → k.records ≡ Some rs → IsDamaged k.records k.held place history → IsDamaged (Some rs) (length rs) place history
     damaged rs place is stops =

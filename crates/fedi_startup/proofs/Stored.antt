@@ -8,7 +8,8 @@ use Rattle.std.proofs.Math.Seq.{drop-append_seam}
 use Rattle.std.proofs.lemmas.List.Elements.{All-contains, All-nil}
 use Rattle.fedi_core.specs.Machines.{IsNextCode}
 use Rattle.fedi_entry.specs.Codes.{code_of}
-use Rattle.fedi_outside.specs.Images.{IsImage, plain}
+use Rattle.fedi_journal.specs.Chains.{chained}
+use Rattle.fedi_outside.specs.Images.{IsImage}
 use Rattle.fedi_outside.specs.Known.{record_crashes, records_told}
 use Rattle.fedi_log.proofs.Growing.{given_history, history_append}
 use Rattle.fedi_log.specs.Keeping.{HoldsFrom, State, since}
@@ -62,13 +63,13 @@ front_some (e ∷ a) b some = λ is. absurd (cc is)
 -- ---- stores
 
 -- a file of the records of a sound history
-stored : (history : List Entry) (image : List ℕ) (rs : List (List ℕ)) → history ≢ [] → IsSound history → IsImage plain rs image → rs ≡ records_of history
+stored : (history : List Entry) (image : List ℕ) (rs : List (List ℕ)) → history ≢ [] → IsSound history → IsImage chained rs image → rs ≡ records_of history
     → IsStoreOf history image
 stored history image rs some sound file is =
-    record { some = some; sound = sound; file = subst (λ (l : List (List ℕ)). IsImage plain l image) is file }
+    record { some = some; sound = sound; file = subst (λ (l : List (List ℕ)). IsImage chained l image) is file }
 
 -- the records and one more code, that of an entry that may come next
-stored_more : (history : List Entry) (image code : List ℕ) (rs : List (List ℕ)) → history ≢ [] → IsSound history → IsImage plain rs image
+stored_more : (history : List Entry) (image code : List ℕ) (rs : List (List ℕ)) → history ≢ [] → IsSound history → IsImage chained rs image
     → rs ≡ records_of history ++ code ∷ [] → (next : IsNextCode history code) → IsStoreOf (history ++ next.0 ∷ []) image
 stored_more history image code rs some sound file is next =
     stored (history ++ next.0 ∷ []) image rs (front_some history (next.0 ∷ []) some) (sound_more history next.0 sound next.1) file
@@ -76,7 +77,7 @@ stored_more history image code rs some sound file is next =
 
 -- what a crash before the run may leave
 around : (crashes : DiskCrashes) (history : List Entry) (doubt : Option (List ℕ)) (image : List ℕ) (rs : List (List ℕ)) → LeavesStores crashes history doubt
-    → IsImage plain rs image → MayLeave (records_of history) doubt rs → (left : List Entry) × IsStoreOf left image × IsAround history doubt left
+    → IsImage chained rs image → MayLeave (records_of history) doubt rs → (left : List Entry) × IsStoreOf left image × IsAround history doubt left
 around crashes history None image rs leaves file is = (history, stored history image rs leaves.some leaves.sound file is, inl refl)
 around crashes history (Some d) image rs leaves file (inl is) = (history, stored history image rs leaves.some leaves.sound file is, inl refl)
 around crashes history (Some d) image rs leaves file (inr is) =
@@ -89,7 +90,7 @@ around crashes history (Some d) image rs leaves file (inr is) =
 -- what a crash during the run may leave of what the run opened
 first_part : (opened now : State) (log : Log) (image : List ℕ) (rs : List (List ℕ)) → opened.history ≢ [] → opened.keeper.doubt ≡ None → IsSound now.history
     → now.history ≡ opened.history ++ history_of (since (opened_base opened) log) → MarksMayCome opened.history (since (opened_base opened) log)
-    → IsImage plain rs image → IsLeft (opened_base opened) log (records_of opened.history) rs
+    → IsImage chained rs image → IsLeft (opened_base opened) log (records_of opened.history) rs
     → (left : List Entry) × IsStoreOf left image × IsFirstPart opened.history (since (opened_base opened) log) left
 first_part opened now log image rs some settled sound grown marks file left =
     let added : Log = since (opened_base opened) log in
@@ -193,10 +194,10 @@ stores_found before after opened now log some settled sound holds marks survives
 
 -- The moment is the one at which the opening ended.
 pub stores_since_opening : (start found later : DiskState) (middle after : DiskCrashes) (opened now : State) (log : Log) (count : ℕ) (bytes : List ℕ)
-    → start.reads ≡ Some bytes → IsOpened start opened → opened.keeper.records ≡ records_told plain count found
+    → start.reads ≡ Some bytes → IsOpened start opened → opened.keeper.records ≡ records_told chained count found
     → LeavesFiles middle (records_of opened.history) None → ((image : List ℕ) → middle.left_since middle.clock image → middle.may_leave image)
     → HoldsFrom (opened_base opened) (given opened.history) now log
-    → CrashesAlong (opened_base opened) log (record_crashes plain found middle) (record_crashes plain later after) → MarksMayCome [] log
+    → CrashesAlong (opened_base opened) log (record_crashes chained found middle) (record_crashes chained later after) → MarksMayCome [] log
     → IsSound now.history → LeavesStoresFrom middle.clock after opened.history (since (opened_base opened) log)
 stores_since_opening start found later middle after opened now log count bytes is opening told files only holds crashes marks sound =
     stores_from middle.clock after opened now log opening.some opening.doubt sound holds marks

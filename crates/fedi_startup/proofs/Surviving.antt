@@ -2,10 +2,11 @@
 use Rattle.std.proofs.Common.{◌≡◌, ◌⊎◌, inl, inr, ℕ, ◌+◌, ◌≤◌, List, [], length, map, Option, Some, None, refl, sym, ap, subst, ◌∙◌, append-nil, arith}
 use Rattle.std.specs.Prelude.{IfSome, is_some, option_map}
 use Rattle.fedi_outside.proofs.Finding.{images_left}
-use Rattle.fedi_outside.proofs.ImageLemmas.{plain_ok}
+use Rattle.fedi_journal.specs.ChainLaws.{chained_ok}
 use Rattle.fedi_entry.specs.Codes.{code_of}
 use Rattle.fedi_outside.proofs.ImageSteps.{of_some}
-use Rattle.fedi_outside.specs.Images.{IsImage, kept_in, plain}
+use Rattle.fedi_journal.specs.Chains.{chained}
+use Rattle.fedi_outside.specs.Images.{IsImage, kept_in}
 use Rattle.fedi_outside.specs.Known.{record_crashes, records_told}
 use Rattle.fedi_log.proofs.Leaving.{few_kept, few_left}
 use Rattle.fedi_log.specs.Keeping.{Base, State, since}
@@ -25,20 +26,20 @@ none_left b log kept left is = record { past = []; rest = since b log; is = refl
 -- A machine was opened over a disk whose bytes are known, and then its keeper survived: the crashes
 -- since the opening.
 module _ (found later : DiskState) (middle after : DiskCrashes) (opened : State) (log : Log) (count : ℕ)
-    (told : opened.keeper.records ≡ records_told plain count found)
+    (told : opened.keeper.records ≡ records_told chained count found)
     (held : opened.keeper.records ≡ Some (records_of opened.history))
-    (crashes : CrashesAlong (opened_base opened) log (record_crashes plain found middle) (record_crashes plain later after)) where
-  adds_since : Adds middle.clock (record_crashes plain found middle).left_since (record_crashes plain later after).left_since
+    (crashes : CrashesAlong (opened_base opened) log (record_crashes chained found middle) (record_crashes chained later after)) where
+  adds_since : Adds middle.clock (record_crashes chained found middle).left_since (record_crashes chained later after).left_since
       (IsLeft (opened_base opened) log (records_of opened.history))
   adds_since = of_told (is_some found.reads) opened.keeper.records (records_of opened.history)
-      (λ kept. Adds middle.clock (record_crashes plain found middle).left_since (record_crashes plain later after).left_since (IsLeft (opened_base opened) log kept))
-      (is_told (kept_in plain count) found.reads (records_of opened.history) (sym told ∙ held)) held crashes.crash
+      (λ kept. Adds middle.clock (record_crashes chained found middle).left_since (record_crashes chained later after).left_since (IsLeft (opened_base opened) log kept))
+      (is_told (kept_in chained count) found.reads (records_of opened.history) (sym told ∙ held)) held crashes.crash
 
   pub found_since : LeavesFiles middle (records_of opened.history) None → ((image : List ℕ) → middle.left_since middle.clock image → middle.may_leave image)
       → LeavesFoundFrom middle.clock after opened log
   found_since files only image since =
       let records : List (List ℕ) = records_of opened.history in
-      let file = images_left plain plain_ok found later middle after (λ left. left ≡ records) (IsLeft (opened_base opened) log records)
+      let file = images_left chained chained_ok found later middle after (λ left. left ≡ records) (IsLeft (opened_base opened) log records)
       (length records + length log + 1) middle.clock (omega arith) (λ image past. files image (only image past)) adds_since
       (λ left same. omega (arith, ap length same)) (λ left kept. omega (arith, few_left (opened_base opened) log records left kept)) image since in
       (file.0, file.1, either file.0 file.2)
@@ -55,10 +56,10 @@ records_held start opened bytes opening is = opening.records ∙ ap (option_map 
 -- What is known of the records that a machine's keeper has on its disk also holds of the disk, if
 -- its bytes are known. This was so before the opening, the keeper found it so, and left it so.
 pub survives_on_disk : (start found later : DiskState) (before middle after : DiskCrashes) (opened : State) (log : Log) (count : ℕ)
-    → IsOpened start opened → opened.keeper.records ≡ records_told plain count found → IsUntouched start found before middle
+    → IsOpened start opened → opened.keeper.records ≡ records_told chained count found → IsUntouched start found before middle
     → ((image : List ℕ) → before.left_since before.clock image → before.may_leave image)
     → IfSome start.reads (λ _. LeavesFiles middle (records_of opened.history) None) → ((image : List ℕ) → middle.left_since middle.clock image → middle.may_leave image)
-    → CrashesAlong (opened_base opened) log (record_crashes plain found middle) (record_crashes plain later after)
+    → CrashesAlong (opened_base opened) log (record_crashes chained found middle) (record_crashes chained later after)
     → IfSome start.reads (λ _. SurvivesOnDisk before after opened log)
 survives_on_disk start found later before middle after opened log count opening told untouched first leaves only crashes = each_some start.reads at
   where
@@ -76,7 +77,7 @@ survives_on_disk start found later before middle after opened log count opening 
 
         along : LeavesAlong before after opened log
         along records doubt files image since =
-            images_left plain plain_ok found later middle after (MayLeave records doubt) (IsLeft (opened_base opened) log (records_of opened.history))
+            images_left chained chained_ok found later middle after (MayLeave records doubt) (IsLeft (opened_base opened) log (records_of opened.history))
             (length records + length (records_of opened.history) + length log + 1) before.clock untouched.clock
             (untouched_files start found before middle bytes records doubt untouched is first files)
             (adds_since found later middle after opened log count told held crashes)

@@ -1,7 +1,7 @@
 -- What follows if the bytes of a disk are known.
 use Rattle.std.proofs.Common.{◌≡◌, ℕ, Bool, true, List, Option, Some, None, refl, sym, ap, subst}
 use Rattle.std.specs.Prelude.{IfSome, is_some, option_map}
-use Rattle.fedi_outside.specs.Images.{plain}
+use Rattle.fedi_journal.specs.Chains.{chained}
 use Rattle.fedi_outside.specs.Known.{records_told}
 use Rattle.fedi_outside.specs.Disks.{DiskState}
 use Rattle.fedi_outside.specs.Keepers.{IfTold}
@@ -36,8 +36,8 @@ told_alike f g h (Some x) None is = absurd (cc is)
 told_alike f g h (Some x) (Some y) is = refl
 
 -- the same disk by another name
-pub records_here : {D : Type 0} (shown : D → DiskState) (count : ℕ) (a b : D) → a ≡ b → records_told plain count (shown b) ≡ records_told plain count (shown a)
-records_here shown count a b same = ap (λ d. records_told plain count (shown d)) (sym same)
+pub records_here : {D : Type 0} (shown : D → DiskState) (count : ℕ) (a b : D) → a ≡ b → records_told chained count (shown b) ≡ records_told chained count (shown a)
+records_here shown count a b same = ap (λ d. records_told chained count (shown d)) (sym same)
 
 pub faults_here : {D : Type 0} (shown : D → DiskState) (a b : D) → a ≡ b → (shown b).faults ≡ (shown a).faults
 faults_here shown a b same = ap (λ d. (shown d).faults) (sym same)

@@ -8,12 +8,14 @@ use Rattle.fedi_opening.specs.declared.fault.OpenFault.TheVariants as openings
 use Rattle.fedi_startup.specs.declared.faults.MakeFault.{MakeFault}
 use Rattle.fedi_startup.specs.declared.faults.MakeFault.TheVariants as makes
 use Rattle.fedi_startup.specs.declared.faults.StoreFault.{StoreFault}
-use Rattle.fedi_startup.specs.declared.faults.StoreFault.TheVariants.{NotAStore, DamagedByte}
+use Rattle.fedi_startup.specs.declared.faults.StoreFault.TheVariants.{NotAStore, OldFormat}
+use Rattle.fedi_startup.specs.declared.faults.StoreFault.TheVariants.{DamagedByte}
 use Rattle.fedi_startup.specs.declared.faults.StoreFault.TheVariants.{DamagedRecord, Failed, Memory}
 
 -- a journal was not opened
 abbrev pub of_journal : JournalFault → StoreFault
 of_journal journals.NotAStore = NotAStore
+of_journal journals.OldFormat = OldFormat
 of_journal (journals.Damaged place) = DamagedByte place
 of_journal journals.Failed = Failed
 of_journal journals.Memory = Memory

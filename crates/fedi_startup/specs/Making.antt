@@ -1,6 +1,7 @@
 -- What becomes of a disk that is made a store.
 use Rattle.std.specs.Prelude.{◌≡◌, ◌⊎◌, ℕ, List, [], IfSome, Option, Some, None, is_some}
-use Rattle.fedi_outside.specs.Images.{IsImage, plain}
+use Rattle.fedi_journal.specs.Chains.{chained}
+use Rattle.fedi_outside.specs.Images.{IsImage}
 use Rattle.fedi_journal.specs.Files.{HasRecords}
 use Rattle.fedi_journal.specs.Making.{IsOther, blank}
 use Rattle.fedi_objects.specs.declared.entry.Entry.{Entry}
@@ -12,7 +13,7 @@ use Rattle.fedi_startup.specs.declared.faults.MakeFault.TheVariants.{Exists, Fai
 
 -- it was not both longer than a journal without records and different at the beginning
 abbrev pub WasFree : Option (List ℕ) → Type 0
-WasFree reads = IfSome reads (λ bytes. IsOther bytes → ⊥)
+WasFree reads = IfSome reads (λ bytes. IsOther chained bytes → ⊥)
 
 -- the disk was made the store of this history, and a crash now leaves its records
 pub record IsMade (history : List Entry) (before after : DiskState)
@@ -29,7 +30,7 @@ abbrev pub MayBeEmpty : Option (List ℕ) → Option (List ℕ) → Type 0
 MayBeEmpty None after = after ≡ None
 MayBeEmpty (Some bytes) after =
     (other : List ℕ) × (after ≡ Some other)
-    × ((other ≡ bytes) ⊎ ((IsOther bytes → ⊥) × IsImage plain [] other))
+    × ((other ≡ bytes) ⊎ ((IsOther chained bytes → ⊥) × IsImage chained [] other))
 
 -- Reads give the same bytes. Or the disk was free, and the first nine bytes are torn, or reads give
 -- the bytes of a file without records, or with this one.
@@ -38,12 +39,14 @@ MayBeBegun code None after = after ≡ None
 MayBeBegun code (Some bytes) after =
     (other : List ℕ) × (after ≡ Some other)
     × ((other ≡ bytes)
-    ⊎ ((IsOther bytes → ⊥) × (IsTorn 0 blank bytes other ⊎ HasRecords [] (Some code) other)))
+    ⊎ ((IsOther chained bytes → ⊥)
+    × (IsTorn 0 (blank chained) bytes other ⊎ HasRecords chained [] (Some code) other)))
 
 -- why the disk was not made a store whose first record is this one, and what became of it
 abbrev pub IsNotMade : List ℕ → MakeFault → DiskState → DiskState → Type 0
 IsNotMade code Exists before after =
-    IfSome before.reads IsOther × (after.reads ≡ before.reads) × (after.faults ≡ before.faults)
+    IfSome before.reads (IsOther chained) × (after.reads ≡ before.reads)
+    × (after.faults ≡ before.faults)
 IsNotMade code Failed before after =
     MayBeBegun code before.reads after.reads × (after.faults ≡ next_count before.faults)
 IsNotMade code Memory before after =
@@ -52,7 +55,8 @@ IsNotMade code Memory before after =
 -- an image that an earlier crash might have left, except that its first nine bytes may be torn, or
 -- a file of no record, or of this one
 abbrev pub MayBegin : List ℕ → DiskCrashes → List ℕ → Type 0
-MayBegin code before image = MayTear 0 blank before image ⊎ HasRecords [] (Some code) image
+MayBegin code before image =
+    MayTear 0 (blank chained) before image ⊎ HasRecords chained [] (Some code) image
 
 -- What crashes may leave once a disk whose bytes were known has been a journal without records
 -- since this moment: such images, and from that moment on files of no record, or of this one.
@@ -66,6 +70,6 @@ LeavesFirst code moment before after =
 -- the call on such a file alone.
 abbrev pub LeavesAtMost : List ℕ → Option (List ℕ) → DiskCrashes → DiskCrashes → Type 0
 LeavesAtMost code reads before after =
-    Elapses before after (MayTear 0 blank before)
+    Elapses before after (MayTear 0 (blank chained) before)
     ⊎ ((moment : ℕ) × IsDuring before after moment
     × IfSome reads (λ _. LeavesFirst code moment before after))

@@ -1,6 +1,7 @@
 -- What a crash at any moment of a run may leave of a disk.
 use Rattle.std.specs.Prelude.{◌≡◌, [], ◌∷◌, ◌++◌, ◌⊎◌, ℕ, ◌+◌, ◌≤◌, List, Contains, Option}
-use Rattle.fedi_outside.specs.Images.{IsImage, plain}
+use Rattle.fedi_journal.specs.Chains.{chained}
+use Rattle.fedi_outside.specs.Images.{IsImage}
 use Rattle.fedi_entry.specs.Codes.{code_of}
 use Rattle.fedi_log.specs.Keeping.{Base, State, base_of}
 use Rattle.fedi_log.specs.Leaving.{IsLeft}
@@ -13,11 +14,11 @@ use Rattle.fedi_startup.specs.Stores.{records_of}
 
 -- a record of this length moves the end by this much
 abbrev pub growth : ℕ → ℕ
-growth length = 9 + length
+growth length = 41 + length
 
 -- and beforehand the end has to be this far from the limit
 abbrev pub room : ℕ → ℕ
-room length = 10 + length
+room length = 42 + length
 
 -- the keeper of a machine that was opened so
 abbrev pub opened_base : State → Base
@@ -31,7 +32,7 @@ abbrev pub LeavesAlong : DiskCrashes → DiskCrashes → State → Log → Type 
 LeavesAlong before after opened log =
     (records : List (List ℕ)) (doubt : Option (List ℕ)) → LeavesFiles before records doubt
     → (image : List ℕ) → after.left_since before.clock image
-    → (left : List (List ℕ)) × IsImage plain left image
+    → (left : List (List ℕ)) × IsImage chained left image
     × (MayLeave records doubt left
     ⊎ IsLeft (opened_base opened) log (records_of opened.history) left)
 
@@ -41,7 +42,7 @@ LeavesAlong before after opened log =
 abbrev pub LeavesFoundFrom : ℕ → DiskCrashes → State → Log → Type 0
 LeavesFoundFrom moment after opened log =
     (image : List ℕ) → after.left_since moment image
-    → (left : List (List ℕ)) × IsImage plain left image
+    → (left : List (List ℕ)) × IsImage chained left image
     × IsLeft (opened_base opened) log (records_of opened.history) left
 
 -- crashes during the run left such files along the log, and from some moment of the run on without

@@ -9,10 +9,14 @@ use thiserror::Error;
 /// Why a store was not opened.
 #[derive(Clone, Copy, Debug, PartialEq, Eq, Error)]
 pub enum StoreFault {
-    /// The disk has fewer than 9 bytes, or does not begin with the magic, or has no record.
+    /// The disk has fewer than 9 bytes, or does not begin with a magic, or has no record.
     #[error("not a store")]
     NotAStore,
-    /// The gate at this byte is invalid, or its record extends past the end.
+    /// The disk begins with the magic of the format before this one.
+    #[error("old format")]
+    OldFormat,
+    /// The gate at this byte is invalid, or its record extends past the end or is not followed by
+    /// its chain.
     #[error("damaged at byte {place}")]
     DamagedByte {
         /// The offset of the gate, counted from 0.
@@ -38,6 +42,7 @@ impl From<JournalFault> for StoreFault {
     fn from(fault: JournalFault) -> StoreFault {
         match fault {
             JournalFault::NotAStore => StoreFault::NotAStore,
+            JournalFault::OldFormat => StoreFault::OldFormat,
             JournalFault::Damaged { place } => StoreFault::DamagedByte { place },
             JournalFault::Failed => StoreFault::Failed,
             JournalFault::Memory => StoreFault::Memory,

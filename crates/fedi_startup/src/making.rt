@@ -1,6 +1,7 @@
 //! Making a store.
 ghost use Rattle.std.specs.Prelude.{◌≡◌, [], ◌∷◌, IfErr, OnOk};
 ghost use Rattle.fedi_entry.specs.Codes.{code_of};
+ghost use Rattle.fedi_journal.specs.Chains.{chained};
 ghost use Rattle.fedi_journal.specs.Making.{KeepsOther};
 ghost use Rattle.fedi_objects.specs.declared.entry.Entry.TheVariants.{Hosted};
 ghost use Rattle.fedi_startup.specs.Making.{IsMade, IsNotMade, LeavesAtMost};
@@ -47,7 +48,7 @@ pub fn make_store<D: Disk>(
         (D.shown disk) (D.shown result.1) (D.crashes result.1)) }
     ensures refused { IfErr result.0 (λ fault. IsNotMade (code_of (Hosted host moment)) fault
         (D.shown disk) (D.shown result.1)) }
-    ensures stays { KeepsOther (D.shown disk) (D.shown result.1)
+    ensures stays { KeepsOther chained (D.shown disk) (D.shown result.1)
         (D.crashes disk) (D.crashes result.1) }
     ensures time { LeavesAtMost (code_of (Hosted host moment)) (D.shown disk).reads
         (D.crashes disk) (D.crashes result.1) }

@@ -16,7 +16,7 @@ use crate::faults::StoreFault;
 use fedi_core::Core;
 use fedi_effects::Seed;
 use fedi_index::IndexedShelf;
-use fedi_journal::Journal;
+use fedi_journal::{Chain, Journal, SealedJournal};
 use fedi_opening::OpenFault;
 use fedi_outside::{Disk, Keeper};
 use std::alloc::{AllocError, Global};
@@ -55,17 +55,18 @@ fn open_core<P: Keeper>(
 /// Whatever the answer, reads give the same bytes, and a crash leaves nothing new.
 ///
 /// Each error returns the disk. It is `NotAStore` if the disk has fewer than 9 bytes, does not
-/// begin with the magic, or has no record; `DamagedByte`, with the offset of the first gate that is
-/// invalid; `DamagedRecord`, with the index of the first record that is not the code of an entry
-/// that may occur there; `Failed` if the disk failed, which the disk counts once; and `Memory` if
-/// memory runs out, which is reported only if the disk begins with the magic.
+/// begin with a magic, or has no record; `OldFormat` if it begins with the magic of the format
+/// before this one; `DamagedByte`, with the offset of the first gate that is invalid or whose
+/// record is not followed by its chain; `DamagedRecord`, with the index of the first record that is
+/// not the code of an entry that may occur there; `Failed` if the disk failed, which the disk counts
+/// once; and `Memory` if memory runs out, which is reported only if the disk begins with the magic.
 pub fn open_store<D: Disk>(
     alloc: Global,
     seed: Seed,
     disk: D,
 ) -> Result<StoreCore<D>, (StoreFault, D)>
     ensures opened { IfOk result (λ core. IsOpened (D.shown disk)
-        (state_of core.history (⟦<Journal<D> as Keeper>⟧.shown core.keeper))) }
+        (state_of core.history (⟦<SealedJournal<D, Chain> as Keeper>⟧.shown core.keeper))) }
     ensures unclaimed { IfOk result (λ core. core.rows ≡ rows_of (town core.history)) }
     ensures leaves { IfOk result (λ core. IfSome (D.shown disk).reads (λ _.
         LeavesFiles (D.crashes (disk_of core.keeper)) (records_of core.history) None)) }

@@ -16,6 +16,6 @@ returns-then-byte-ne1-clause-found g c = λ bytes is.
       λ zero. omega (arith, byte, zero, c.if-byte-eq0.false),
       λ one. elim c.then-byte-ne1.branch [
         | then-byte-ne1-via-then-byte-ne1 w ↦ absurd (omega (arith, byte, one, w.if-byte-ne1.true))
-        | then-byte-ne1-via-else-byte-ne1+then-length-behind w ↦ omega (arith, c.requires.size, size, long, number, w.if-length-behind.true, c.if-behind-lt10.false)
+        | then-byte-ne1-via-else-byte-ne1+then-length-behind w ↦ omega (arith, c.requires.size, size, long, number, w.if-length-behind.true, c.if-behind-width.false)
       ],
     )

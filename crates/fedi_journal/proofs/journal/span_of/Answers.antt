@@ -7,7 +7,7 @@ overflow_add-result c =
     let gates = c.args.gates.now in
     let gate : c.in_ok-gate.field-0.now ≡ get_or gates c.args.place c.args.end = search rules in
     let within : c.args.place < length gates = search rules in
-    let gap = apart_next gates c.args.end c.args.place within c.requires.apart in
+    let gap = apart_next (9 + c.args.width) gates c.args.end c.args.place within c.requires.apart in
     omega (arith, gate, gap.0, gap.1, c.requires.fits)
 
 pub overflow_sub-result : goal.overflow_sub-result
@@ -16,7 +16,7 @@ overflow_sub-result c =
     let gate : c.in_ok-gate.field-0.now ≡ get_or gates c.args.place c.args.end = search rules in
     let next : c.unwrap_or-next.result ≡ get_or gates (c.args.place + 1) c.args.end = search rules in
     let within : c.args.place < length gates = search rules in
-    let gap = apart_next gates c.args.end c.args.place within c.requires.apart in
+    let gap = apart_next (9 + c.args.width) gates c.args.end c.args.place within c.requires.apart in
     omega (arith, gate, next, gap.0)
 
 pub overflow_sub-result-2 : goal.overflow_sub-result-2
@@ -25,7 +25,7 @@ overflow_sub-result-2 c =
     let gate : c.in_ok-gate.field-0.now ≡ get_or gates c.args.place c.args.end = search rules in
     let next : c.unwrap_or-next.result ≡ get_or gates (c.args.place + 1) c.args.end = search rules in
     let within : c.args.place < length gates = search rules in
-    let gap = apart_next gates c.args.end c.args.place within c.requires.apart in
+    let gap = apart_next (9 + c.args.width) gates c.args.end c.args.place within c.requires.apart in
     omega (arith, gate, next, gap.0)
 
 pub returns-clause-inside : goal.returns-clause-inside
@@ -34,5 +34,5 @@ returns-clause-inside c =
     let gate : c.in_ok-gate.field-0.now ≡ get_or gates c.args.place c.args.end = search rules in
     let next : c.unwrap_or-next.result ≡ get_or gates (c.args.place + 1) c.args.end = search rules in
     let within : c.args.place < length gates = search rules in
-    let gap = apart_next gates c.args.end c.args.place within c.requires.apart in
+    let gap = apart_next (9 + c.args.width) gates c.args.end c.args.place within c.requires.apart in
     omega (arith, gate, next, gap.0, gap.1)

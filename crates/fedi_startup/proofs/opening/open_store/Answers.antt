@@ -1,7 +1,7 @@
 use Rattle.std.proofs.Common.{refl, sym, subst, length}
-use Rattle.fedi_outside.proofs.ImageLemmas.{plain_ok}
+use Rattle.fedi_journal.specs.ChainLaws.{chained_ok}
 use Rattle.fedi_outside.proofs.ImageSteps.{told_count}
-use Rattle.fedi_outside.specs.Images.{plain}
+use Rattle.fedi_journal.specs.Chains.{chained}
 use Rattle.fedi_log.specs.Keeping.{state_of}
 use Rattle.fedi_outside.proofs.Untouched.{untouched_then}
 use Rattle.fedi_outside.specs.Disks.{IsUntouched}
@@ -17,7 +17,7 @@ returns-in-Err-clause-refused g c =
     let start = g.D.Disk.shown c.args.disk in
     let after = g.D.Disk.shown c.in-Err.disk in
     subst (λ (fault : StoreFault). ComesBack fault start after) (sym c.into.ensures)
-    (not_found c.in-Err.fault start after c.in-Err.ensures.damaged c.in-Err.ensures.store c.in-Err.ensures.memory c.in-Err.ensures.faults)
+    (not_found c.in-Err.fault start after c.in-Err.ensures.damaged c.in-Err.ensures.store c.in-Err.ensures.older c.in-Err.ensures.memory c.in-Err.ensures.faults)
 
 pub returns-in-Ok-open_core-clause-opened : goal.returns-in-Ok-open_core-clause-opened
 returns-in-Ok-open_core-clause-opened g c =
@@ -27,7 +27,7 @@ returns-in-Ok-open_core-clause-opened g c =
     let found = g.D.Disk.shown journal.disk in
     subst (λ (k : KeeperState). IsOpened start (state_of core.history k)) (sym c.in-Ok-open_core.ensures.shown)
     (is_opened start found _ core.history (length journal.gates.items) c.in-Ok.ensures.found c.in-Ok.ensures.same.reads refl
-    (told_count plain plain_ok (length journal.gates.items) found) c.in-Ok-open_core.ensures.opened
+    (told_count chained chained_ok (length journal.gates.items) found) c.in-Ok-open_core.ensures.opened
     c.in-Ok.ensures.settled c.in-Ok.ensures.faults refl c.in-Ok-open_core.ensures.some)
 
 pub returns-in-Ok-open_core-clause-leaves : goal.returns-in-Ok-open_core-clause-leaves
@@ -54,7 +54,7 @@ returns-in-Err-open_core-clause-refused g c =
     let stop = c.in-Err-open_core.ensures.stopped in
     subst (λ (fault : StoreFault). ComesBack fault start after) (sym c.into-in-Err-open_core.ensures)
     (not_read c.in-Err-open_core.fault start found after _ _ stop.0 c.in-Ok.ensures.found c.in-Ok.ensures.faults refl
-    (told_count plain plain_ok (length journal.gates.items) found) stop.1 c.in-Err-open_core.ensures.shown
+    (told_count chained chained_ok (length journal.gates.items) found) stop.1 c.in-Err-open_core.ensures.shown
     (faults_here g.D.Disk.shown _ _ c.into_disk.ensures.disk))
 
 pub returns-in-Err-open_core-clause-untouched : goal.returns-in-Err-open_core-clause-untouched
