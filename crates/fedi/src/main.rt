@@ -10,7 +10,7 @@ use fedi_adapters::{
     Writing, benches,
 };
 use fedi_outside::{Bench, Door};
-use fedi_program::{Connection, OUT_OF_MEMORY, Seed, address_of, run, store_of};
+use fedi_program::{Connection, OUT_OF_MEMORY, Seed, address_of, run, second_store_of, store_of};
 use std::alloc::{AllocError, Global};
 use std::fs::{File, Files};
 use std::io::ErrorKind;
@@ -110,6 +110,8 @@ fn main(rt: HostRuntime) -> ExitCode {
     let Ok((disk, benches)) = outside(&rt, alloc, path, &listening, &health) else {
         return ExitCode::from(OUT_OF_MEMORY);
     };
+    // Only `migrate` names a second store, and asks its disk.
+    let second = FileDisk::new(&rt, second_store_of(&arguments).unwrap_or_default());
     let mut entropy = SystemEntropy::new(&rt);
     let ended = run(
         &rt,
@@ -118,6 +120,7 @@ fn main(rt: HostRuntime) -> ExitCode {
         &arguments,
         &mut connection,
         disk,
+        second,
         benches,
         &mut entropy,
     );

@@ -5,7 +5,8 @@ use Rattle.std.specs.Prelude.{option_to_list}
 use Rattle.std.specs.Io.KnownBytes.{Appends}
 use Rattle.std.proofs.lemmas.List.{append_cancel_left}
 use Rattle.std.proofs.lemmas.List.Elements.{All-head}
-use Rattle.fedi_outside.specs.Images.{IsImage, plain}
+use Rattle.fedi_journal.specs.Chains.{chained}
+use Rattle.fedi_outside.specs.Images.{IsImage}
 use Rattle.fedi_journal.specs.Files.{HasRecords}
 use Rattle.fedi_log.specs.Keeping.{GoesAlone, HoldsFrom, HoldsSince, IsDoubted, Keeps, State, counted, since}
 use Rattle.fedi_log.specs.Log.{Added, Failed, Full, Goes, IsOthers, Kept, Log, NoEntry, Outcome, doubts_after, doubts_of, failed_in, given, history_of, mark_in, marks_of}
@@ -95,10 +96,10 @@ none_left by (x ∷ rest) others own =
 -- ---- the store of a disk
 
 closed_file : (records : List (List ℕ)) (doubt : Option (List ℕ)) (bytes : List ℕ) → doubt ≡ None
-    → HasRecords records doubt bytes → IsImage plain records bytes
+    → HasRecords chained records doubt bytes → IsImage chained records bytes
 closed_file records doubt bytes none has =
-    let file = subst (λ (d : Option (List ℕ)). HasRecords records d bytes) none has in
-    subst (λ (rs : List (List ℕ)). IsImage plain rs bytes) file.2 file.1
+    let file = subst (λ (d : Option (List ℕ)). HasRecords chained records d bytes) none has in
+    subst (λ (rs : List (List ℕ)). IsImage chained rs bytes) file.2 file.1
 
 -- a machine that was closed with nothing in doubt leaves the store of its history
 pub closed_store : (history : List Entry) (disk : MemoryDiskState) (crashes : DiskCrashes) (s : State)

@@ -12,14 +12,16 @@ use Rattle.fedi_objects.specs.declared.entry.Came.{Came}
 use Rattle.fedi_objects.specs.declared.entry.Entry.{Entry}
 use Rattle.fedi_objects.specs.declared.entry.Entry.TheVariants.{Tried}
 use Rattle.fedi_outside.specs.Causes.{Rose, next_count}
-use Rattle.fedi_outside.specs.Disks.{DiskCrashes, DiskState}
-use Rattle.fedi_outside.specs.Doors.{Row}
+use Rattle.fedi_outside.specs.Disks.{DiskState}
 use Rattle.fedi_outside.specs.Keepers.{HasRoom, IsFull, KeeperState}
+use Rattle.fedi_outside.specs.declared.disks.Disk.{Ghosts as DiskGhosts}
 use Rattle.fedi_outside.specs.declared.doors.Bench.{Bench}
+use Rattle.fedi_outside.specs.declared.doors.Door.{Ghosts as DoorGhosts}
+use Rattle.fedi_outside.specs.declared.links.Link.{Ghosts as LinkGhosts}
 use Rattle.fedi_hall.specs.declared.serving.ServeEnd.TheVariants as serves
 use Rattle.fedi_delivery.specs.Exchanges.{Told}
 use Rattle.fedi_queue.specs.Due.{due_in}
-use Rattle.fedi_startup.proofs.OneAnswer.{one_history, store_byte, store_none, store_record}
+use Rattle.fedi_startup.proofs.OneAnswer.{one_history, store_byte, store_none, store_older, store_record}
 use Rattle.fedi_startup.specs.Stores.{ComesBack, IsOpened, IsStoreOf, end_of}
 use Rattle.fedi_startup.specs.Surviving.{growth, room}
 use Rattle.fedi_startup.specs.declared.faults.MakeFault.TheVariants as makes
@@ -35,21 +37,22 @@ use Rattle.fedi_town.specs.Legal.{broken_command, is_taken_host}
 use Rattle.fedi_town.specs.Queues.{Delivery}
 use Rattle.fedi_program.specs.Commands.{AddActor, AddPeer, Check, Demo, Deliver, Export, Inetd, Init, Serve, Task, Usage}
 use Rattle.fedi_program.specs.Demonstrating.{Demonstrates}
-use Rattle.fedi_program.specs.Complete.{DoorsAreCalm, HasRoomForEach, HasStore, IsCalm, IsComplete, IsDone, IsFree, CanBeKept, Outside, outside_of}
+use Rattle.fedi_program.specs.Complete.{DoorsAreCalm, HasRoomForEach, HasStore, IsCalm, IsComplete, IsDone, IsFree, CanBeKept, outside_of}
 use Rattle.fedi_log.specs.Claims.{IsFirst}
 use Rattle.fedi_logged.specs.Attempts.{Exchange}
 use Rattle.fedi_program.specs.Delivering.{AreFirst, DeliversBy, DeliversStore, EndsTrying, Trial, TriesDue, TriesEach, entry_of}
 use Rattle.fedi_program.specs.Endings.{HasCauses, Prints}
-use Rattle.fedi_program.specs.Members.{Chance, Draws, EndsWith, IsSettled, MakesMember, ReportsFault, key_line, member_entry}
+use Rattle.fedi_program.specs.Members.{Draws, EndsWith, IsSettled, MakesMember, ReportsFault, key_line, member_entry}
 use Rattle.fedi_program.specs.Peers.{MakesPeer, peer_entry, peer_line}
 use Rattle.fedi_program.specs.Serving.{ServesDoors}
-use Rattle.fedi_program.specs.Stores.{AddsMember, AddsPeer, ChecksStore, ExportsStore, IsRefused, IsServed, MakesStore, Medium, ServesStore, ReportsStore, status_by}
+use Rattle.fedi_program.specs.Stores.{AddsMember, AddsPeer, ChecksStore, ExportsStore, IsRefused, IsServed, MakesStore, ServesStore, ReportsStore, status_by}
 use Rattle.fedi_program.specs.declared.commands.Table.{Table}
+use Rattle.fedi_program.specs.Seen.{Chance, Medium, tells}
 
 -- ---- counts
 
 -- a fault that was counted
-rises : (before now : ℕ) → now ≡ next_count before → Rose before now
+pub rises : (before now : ℕ) → now ≡ next_count before → Rose before now
 rises before now is = rw is (omega arith)
 
 -- and one more
@@ -93,6 +96,8 @@ not_opened : (fault : StoreFault) (before after : DiskState) (history : List Ent
     → ComesBack fault before after → fault ≡ faults.Memory
 not_opened faults.NotAStore before after history (bytes, told, store) calm back =
     absurd (store_none history bytes store (of_some before.reads _ back.why bytes told))
+not_opened faults.OldFormat before after history (bytes, told, store) calm back =
+    absurd (store_older history bytes store (of_some before.reads _ back.why bytes told))
 not_opened (faults.DamagedByte place) before after history (bytes, told, store) calm back =
     absurd (store_byte history place bytes store (of_some before.reads _ back.why bytes told))
 not_opened (faults.DamagedRecord place) before after history (bytes, told, store) calm back =
@@ -115,7 +120,7 @@ by_told task fault before after history first now status has calm refused told =
 
 -- ---- a text is printed
 
-printed : (task : Task) (first now : Output) (text : List ℕ) (status : ℕ) → IsCalm first.faults now.faults → Prints first now text status → IsDone task status
+pub printed : (task : Task) (first now : Output) (text : List ℕ) (status : ℕ) → IsCalm first.faults now.faults → Prints first now text status → IsDone task status
 printed task first now text status calm (inl done) = inl done.0
 printed task first now text status calm (inr broken) = absurd (calm (broke first now [] text broken.1))
 
@@ -275,36 +280,36 @@ one_of : {A : Type 0} (xs : List A) (k : ℕ) → k < length xs → A
 one_of [] k within = absurd (omega (arith, within))
 one_of (x ∷ xs) k within = x
 
-doors_done : {W K : Type 0} (told : Option ℕ) (before after : Medium) (served : W → Option (List Row)) (tells : K → Told) (closed : W → Bool) (counts : W → ℕ)
-    (first now : List (Bench W K)) (status : ℕ) (address : List ℕ) → ServesDoors told before after served tells closed counts first now status
-    → IsCalm before.shown.faults after.shown.faults → DoorsAreCalm counts first now
+doors_done : {W L K : Type 0} (doors : DoorGhosts W L) (links : LinkGhosts K) (told : Option ℕ) (before after : Medium) (first now : List (Bench W K)) (status : ℕ)
+    (address : List ℕ) → ServesDoors doors links told before after first now status
+    → IsCalm before.shown.faults after.shown.faults → DoorsAreCalm doors.faults first now
     → (history : List Entry) → HasStore before.shown history → IsDone (Serve address) status
-doors_done told before after served tells closed counts first now status address (inl (fault, refused, _, is)) calm doors history has =
+doors_done doors links told before after first now status address (inl (fault, refused, _, is)) calm quiet history has =
     by_status (Serve address) fault before after history status has calm refused is
-doors_done told before after served tells closed counts first now status address (inr (opened, last, log, _, _, (serves.Closed, is, _))) calm doors history has = inl is
-doors_done told before after served tells closed counts first now status address (inr (opened, last, log, _, _, (serves.DoorFault, is, failed))) calm doors history has =
+doors_done doors links told before after first now status address (inr (opened, last, log, _, _, (serves.Closed, is, _))) calm quiet history has = inl is
+doors_done doors links told before after first now status address (inr (opened, last, log, _, _, (serves.DoorFault, is, failed))) calm quiet history has =
     let b = one_of first failed.place failed.within in
-    absurd (doors failed.place b failed.within (rises (counts (slice_index_or first failed.place b).door) (counts (slice_index_or now failed.place b).door) (failed.rose b)))
-doors_done told before after served tells closed counts first now status address (inr (opened, last, log, _, _, (serves.Memory, is, _))) calm doors history has = inr (inl is)
+    absurd (quiet failed.place b failed.within (rises (doors.faults (slice_index_or first failed.place b).door) (doors.faults (slice_index_or now failed.place b).door) (failed.rose b)))
+doors_done doors links told before after first now status address (inr (opened, last, log, _, _, (serves.Memory, is, _))) calm quiet history has = inr (inl is)
 
-made_done : {D : Type 0} (shown : D → DiskState) (crashes : D → DiskCrashes) (told : Option ℕ) (before after : D) (first now : Output) (host : List ℕ) (status : ℕ)
-    → MakesStore shown crashes told before after first now host status
-    → IsCalm (shown before).faults (shown after).faults → IsCalm first.faults now.faults → IsHost host → IsFree (shown before) → IsDone (Init host) status
-made_done shown crashes told before after first now host status (inl memory) calm writes host_is free = inr (inl memory.0)
-made_done shown crashes told before after first now host status (inr (inl bad)) calm writes host_is free = absurd (bad.0 host_is)
-made_done shown crashes told before after first now host status (inr (inr (_, moment, _, _, inl made))) calm writes host_is free =
+made_done : {D : Type 0} (disks : DiskGhosts D) (told : Option ℕ) (before after : D) (first now : Output) (host : List ℕ) (status : ℕ)
+    → MakesStore disks told before after first now host status
+    → IsCalm (disks.shown before).faults (disks.shown after).faults → IsCalm first.faults now.faults → IsHost host → IsFree (disks.shown before) → IsDone (Init host) status
+made_done disks told before after first now host status (inl memory) calm writes host_is free = inr (inl memory.0)
+made_done disks told before after first now host status (inr (inl bad)) calm writes host_is free = absurd (bad.0 host_is)
+made_done disks told before after first now host status (inr (inr (_, moment, _, _, inl made))) calm writes host_is free =
     printed (Init host) first now _ status writes made.1
-made_done shown crashes told before after first now host status (inr (inr (_, moment, _, _, inr (makes.Exists, why, _)))) calm writes host_is free =
-    absurd (free.2 (of_some (shown before).reads _ why.0 free.0 free.1))
-made_done shown crashes told before after first now host status (inr (inr (_, moment, _, _, inr (makes.Failed, why, _)))) calm writes host_is free =
-    absurd (calm (rises (shown before).faults (shown after).faults why.1))
-made_done shown crashes told before after first now host status (inr (inr (_, moment, _, _, inr (makes.Memory, _, tells)))) calm writes host_is free = inr (inl tells.0)
+made_done disks told before after first now host status (inr (inr (_, moment, _, _, inr (makes.Exists, why, _)))) calm writes host_is free =
+    absurd (free.2 (of_some (disks.shown before).reads _ why.0 free.0 free.1))
+made_done disks told before after first now host status (inr (inr (_, moment, _, _, inr (makes.Failed, why, _)))) calm writes host_is free =
+    absurd (calm (rises (disks.shown before).faults (disks.shown after).faults why.1))
+made_done disks told before after first now host status (inr (inr (_, moment, _, _, inr (makes.Memory, _, tells)))) calm writes host_is free = inr (inl tells.0)
 
 checked_done : (before after : Medium) (first now : Output) (status : ℕ) → ChecksStore before after first now status
     → IsCalm before.shown.faults after.shown.faults → IsCalm first.faults now.faults → (history : List Entry) → HasStore before.shown history → IsDone Check status
 checked_done before after first now status (inl (fault, refused, tells)) calm writes history has = by_told Check fault before after history first now status has calm refused tells
-checked_done before after first now status (inr (opened, _, _, inl prints)) calm writes history has = printed Check first now _ status writes prints
-checked_done before after first now status (inr (opened, _, _, inr memory)) calm writes history has = inr (inl memory.0)
+checked_done before after first now status (inr (opened, _, _, (tip, _, inl prints))) calm writes history has = printed Check first now _ status writes prints
+checked_done before after first now status (inr (opened, _, _, (tip, _, inr memory))) calm writes history has = inr (inl memory.0)
 
 exported_done : (table : Table) (before after : Medium) (first now : Output) (status : ℕ) → ExportsStore table before after first now status
     → IsCalm before.shown.faults after.shown.faults → IsCalm first.faults now.faults → (history : List Entry) → HasStore before.shown history → IsDone (Export table) status
@@ -316,80 +321,72 @@ exported_done table before after first now status (inr (opened, _, _, inr (inr m
 
 -- ---- each task
 
--- the same for the task that the arguments ask for
-pub asked_complete : (asked : Option Task) (task other : Task) (told : Option ℕ) (before now : Outside) (status : ℕ) → Some task ≡ asked
-    → IsComplete task told before now status → asked ≡ Some other → IsComplete other told before now status
-asked_complete asked task other told before now status is complete some =
-    let same : Some task ≡ Some other = is ∙ some in
-    let tasks : task ≡ other = cc same in
-    subst (λ (t : Task). IsComplete t told before now status) tasks complete
-
 -- a task that only prints
-pub prints_complete : (task : Task) (told : Option ℕ) (disk after : DiskState) (chance left : Chance) (reads later : ℕ) (first now : Output) (text : List ℕ) (status : ℕ)
+pub prints_complete : (task : Task) (told : Option ℕ) (disk after : DiskState) (second filled : DiskState) (chance left : Chance) (reads later : ℕ) (first now : Output) (text : List ℕ) (status : ℕ)
     → Prints first now text status
-    → IsComplete task told (outside_of disk chance (faults_of reads first.faults)) (outside_of after left (faults_of later now.faults)) status
-prints_complete task told disk after chance left reads later first now text status prints = λ calm possible. printed task first now text status calm.writes prints
+    → IsComplete task told (outside_of disk second chance (faults_of reads first.faults)) (outside_of after filled left (faults_of later now.faults)) status
+prints_complete task told disk after second filled chance left reads later first now text status prints = λ calm possible. printed task first now text status calm.writes prints
 
-pub init_complete : {D : Type 0} (shown : D → DiskState) (crashes : D → DiskCrashes) (told : Option ℕ) (before after : D) (chance left : Chance) (reads later : ℕ)
-    (first now : Output) (host : List ℕ) (status : ℕ) → MakesStore shown crashes told before after first now host status
-    → IsComplete (Init host) told (outside_of (shown before) chance (faults_of reads first.faults)) (outside_of (shown after) left (faults_of later now.faults)) status
-init_complete shown crashes told before after chance left reads later first now host status made =
-    λ calm possible. made_done shown crashes told before after first now host status made calm.disk calm.writes possible.0 possible.1
+pub init_complete : {D : Type 0} (disks : DiskGhosts D) (told : Option ℕ) (before after : D) (second filled : DiskState) (chance left : Chance) (reads later : ℕ)
+    (first now : Output) (host : List ℕ) (status : ℕ) → MakesStore disks told before after first now host status
+    → IsComplete (Init host) told (outside_of (disks.shown before) second chance (faults_of reads first.faults)) (outside_of (disks.shown after) filled left (faults_of later now.faults)) status
+init_complete disks told before after second filled chance left reads later first now host status made =
+    λ calm possible. made_done disks told before after first now host status made calm.disk calm.writes possible.0 possible.1
 
-pub inetd_complete : (told : Option ℕ) (before after : Medium) (chance left : Chance) (first now : Scene) (was is : Faults) (status : ℕ)
+pub inetd_complete : (told : Option ℕ) (before after : Medium) (second filled : DiskState) (chance left : Chance) (first now : Scene) (was is : Faults) (status : ℕ)
     → ServesStore told before after first now status → HasCauses was is status
-    → IsComplete Inetd told (outside_of before.shown chance was) (outside_of after.shown left is) status
-inetd_complete told before after chance left first now was is status serves causes =
+    → IsComplete Inetd told (outside_of before.shown second chance was) (outside_of after.shown filled left is) status
+inetd_complete told before after second filled chance left first now was is status serves causes =
     λ calm possible. inetd_done told before after first now was is status serves causes calm.disk calm.reads calm.writes possible.0 possible.1
 
-pub serve_complete : {W K : Type 0} (told : Option ℕ) (before after : Medium) (chance left : Chance) (served : W → Option (List Row)) (tells : K → Told) (closed : W → Bool) (counts : W → ℕ)
-    (first now : List (Bench W K)) (was is : Faults) (status : ℕ) (address : List ℕ) → ServesDoors told before after served tells closed counts first now status
-    → DoorsAreCalm counts first now → IsComplete (Serve address) told (outside_of before.shown chance was) (outside_of after.shown left is) status
-serve_complete told before after chance left served tells closed counts first now was is status address serves doors =
-    λ calm possible. doors_done told before after served tells closed counts first now status address serves calm.disk doors possible.0 possible.1
+pub serve_complete : {W L K : Type 0} (doors : DoorGhosts W L) (links : LinkGhosts K) (told : Option ℕ) (before after : Medium) (second filled : DiskState) (chance left : Chance)
+    (first now : List (Bench W K)) (was is : Faults) (status : ℕ) (address : List ℕ) → ServesDoors doors links told before after first now status
+    → DoorsAreCalm doors.faults first now → IsComplete (Serve address) told (outside_of before.shown second chance was) (outside_of after.shown filled left is) status
+serve_complete doors links told before after second filled chance left first now was is status address serves quiet =
+    λ calm possible. doors_done doors links told before after first now status address serves calm.disk quiet possible.0 possible.1
 
-pub add_actor_complete : (told : Option ℕ) (before after : Medium) (chance left : Chance) (reads later : ℕ) (first now : Output) (name : List ℕ) (locked : Bool) (status : ℕ)
+pub add_actor_complete : (told : Option ℕ) (before after : Medium) (second filled : DiskState) (chance left : Chance) (reads later : ℕ) (first now : Output) (name : List ℕ) (locked : Bool) (status : ℕ)
     → AddsMember told before after chance left first now name locked status
-    → IsComplete (AddActor name locked) told (outside_of before.shown chance (faults_of reads first.faults)) (outside_of after.shown left (faults_of later now.faults)) status
-add_actor_complete told before after chance left reads later first now name locked status added =
+    → IsComplete (AddActor name locked) told (outside_of before.shown second chance (faults_of reads first.faults)) (outside_of after.shown filled left (faults_of later now.faults)) status
+add_actor_complete told before after second filled chance left reads later first now name locked status added =
     λ calm possible. added_done told before after chance left first now name locked status added calm.disk calm.draws calm.writes possible.0 possible.1 possible.2 possible.3
 
-pub add_peer_complete : (told : Option ℕ) (before after : Medium) (chance left : Chance) (reads later : ℕ) (first now : Output) (host key address : List ℕ) (relay : Bool) (status : ℕ)
+pub add_peer_complete : (told : Option ℕ) (before after : Medium) (second filled : DiskState) (chance left : Chance) (reads later : ℕ) (first now : Output) (host key address : List ℕ) (relay : Bool) (status : ℕ)
     → AddsPeer told before after first now host key address relay status
-    → IsComplete (AddPeer host key address relay) told (outside_of before.shown chance (faults_of reads first.faults)) (outside_of after.shown left (faults_of later now.faults)) status
-add_peer_complete told before after chance left reads later first now host key address relay status peered =
+    → IsComplete (AddPeer host key address relay) told (outside_of before.shown second chance (faults_of reads first.faults)) (outside_of after.shown filled left (faults_of later now.faults)) status
+add_peer_complete told before after second filled chance left reads later first now host key address relay status peered =
     λ calm possible. peered_done told before after first now host key address relay status peered calm.disk calm.writes possible.0 possible.1 possible.2 possible.3 possible.4 possible.5
 
-pub deliver_complete : (told : Option ℕ) (before after : Medium) (chance left : Chance) (reads later : ℕ) (asked heard : Told) (first now : Output) (status : ℕ)
+pub deliver_complete : (told : Option ℕ) (before after : Medium) (second filled : DiskState) (chance left : Chance) (reads later : ℕ) (asked heard : Told) (first now : Output) (status : ℕ)
     → DeliversStore told before after asked heard first now status
-    → IsComplete Deliver told (outside_of before.shown chance (faults_of reads first.faults)) (outside_of after.shown left (faults_of later now.faults)) status
-deliver_complete told before after chance left reads later asked heard first now status delivered =
+    → IsComplete Deliver told (outside_of before.shown second chance (faults_of reads first.faults)) (outside_of after.shown filled left (faults_of later now.faults)) status
+deliver_complete told before after second filled chance left reads later asked heard first now status delivered =
     λ calm possible. delivered_done told before after asked heard first now status delivered calm.disk calm.writes possible.0 possible.1 possible.2
 
 -- by the first bench's link
-pub deliver_by_complete : {W K : Type 0} (tells : K → Told) (told : Option ℕ) (before after : Medium) (chance left : Chance) (reads later : ℕ) (benches now_benches : List (Bench W K))
-    (first now : Output) (status : ℕ) → DeliversBy tells told before after benches now_benches first now status
-    → IsComplete Deliver told (outside_of before.shown chance (faults_of reads first.faults)) (outside_of after.shown left (faults_of later now.faults)) status
-deliver_by_complete tells told before after chance left reads later [] now_benches first now status delivered = absurd delivered
-deliver_by_complete tells told before after chance left reads later (b ∷ benches) now_benches first now status (link, _, delivered) =
-    deliver_complete told before after chance left reads later (tells b.link) (tells link) first now status delivered
+pub deliver_by_complete : {W K : Type 0} (links : LinkGhosts K) (told : Option ℕ) (before after : Medium) (second filled : DiskState) (chance left : Chance) (reads later : ℕ) (benches now_benches : List (Bench W K))
+    (first now : Output) (status : ℕ) → DeliversBy links told before after benches now_benches first now status
+    → IsComplete Deliver told (outside_of before.shown second chance (faults_of reads first.faults)) (outside_of after.shown filled left (faults_of later now.faults)) status
+deliver_by_complete links told before after second filled chance left reads later [] now_benches first now status delivered = absurd delivered
+deliver_by_complete links told before after second filled chance left reads later (b ∷ benches) now_benches first now status (link, _, delivered) =
+    deliver_complete told before after second filled chance left reads later (tells links b.link) (tells links link) first now status delivered
 
-pub export_complete : (table : Table) (told : Option ℕ) (before after : Medium) (chance left : Chance) (reads later : ℕ) (first now : Output) (status : ℕ)
+pub export_complete : (table : Table) (told : Option ℕ) (before after : Medium) (second filled : DiskState) (chance left : Chance) (reads later : ℕ) (first now : Output) (status : ℕ)
     → ExportsStore table before after first now status
-    → IsComplete (Export table) told (outside_of before.shown chance (faults_of reads first.faults)) (outside_of after.shown left (faults_of later now.faults)) status
-export_complete table told before after chance left reads later first now status exported =
+    → IsComplete (Export table) told (outside_of before.shown second chance (faults_of reads first.faults)) (outside_of after.shown filled left (faults_of later now.faults)) status
+export_complete table told before after second filled chance left reads later first now status exported =
     λ calm possible. exported_done table before after first now status exported calm.disk calm.writes possible.0 possible.1
 
-pub check_complete : (told : Option ℕ) (before after : Medium) (chance left : Chance) (reads later : ℕ) (first now : Output) (status : ℕ)
+pub check_complete : (told : Option ℕ) (before after : Medium) (second filled : DiskState) (chance left : Chance) (reads later : ℕ) (first now : Output) (status : ℕ)
     → ChecksStore before after first now status
-    → IsComplete Check told (outside_of before.shown chance (faults_of reads first.faults)) (outside_of after.shown left (faults_of later now.faults)) status
-check_complete told before after chance left reads later first now status checked =
+    → IsComplete Check told (outside_of before.shown second chance (faults_of reads first.faults)) (outside_of after.shown filled left (faults_of later now.faults)) status
+check_complete told before after second filled chance left reads later first now status checked =
     λ calm possible. checked_done before after first now status checked calm.disk calm.writes possible.0 possible.1
 
 -- its text is printed, or there is no memory
-pub demo_complete : (told : Option ℕ) (disk after : DiskState) (chance left : Chance) (reads later : ℕ) (first now : Output) (number : ℕ) (status : ℕ)
+pub demo_complete : (told : Option ℕ) (disk after : DiskState) (second filled : DiskState) (chance left : Chance) (reads later : ℕ) (first now : Output) (number : ℕ) (status : ℕ)
     → Demonstrates number first now status
-    → IsComplete (Demo number) told (outside_of disk chance (faults_of reads first.faults)) (outside_of after left (faults_of later now.faults)) status
-demo_complete told disk after chance left reads later first now number status (inl (text, _, prints)) =
-    prints_complete (Demo number) told disk after chance left reads later first now text status prints
-demo_complete told disk after chance left reads later first now number status (inr (none, _)) = λ calm possible. inr (inl none)
+    → IsComplete (Demo number) told (outside_of disk second chance (faults_of reads first.faults)) (outside_of after filled left (faults_of later now.faults)) status
+demo_complete told disk after second filled chance left reads later first now number status (inl (text, _, prints)) =
+    prints_complete (Demo number) told disk after second filled chance left reads later first now text status prints
+demo_complete told disk after second filled chance left reads later first now number status (inr (none, _)) = λ calm possible. inr (inl none)

@@ -1,8 +1,12 @@
+pub mod CheckLemmas
 pub mod ClaimLemmas
 pub mod CompleteLemmas
 pub mod DeliverLemmas
 pub mod Examples
+pub mod HeadlineLemmas
 pub mod MemberLemmas
+pub mod MigrateLemmas
+pub mod MigratingLemmas
 pub mod NumberLemmas
 pub mod PeerLemmas
 pub mod RunLemmas

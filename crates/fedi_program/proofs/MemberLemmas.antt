@@ -21,16 +21,16 @@ use Rattle.fedi_town.specs.Legal.{broken_command, is_taken_host}
 use Rattle.fedi_town.specs.Towns.{has_digest, has_name}
 use Rattle.fedi_logged.specs.Marks.{SurvivesMarked}
 use Rattle.fedi_startup.specs.Surviving.{growth, room}
-use Rattle.fedi_program.specs.declared.commands.Table.{Table}
-use Rattle.fedi_program.specs.Commands.{AddActor, Init, Task, Export, Demo}
+use Rattle.fedi_program.specs.Commands.{AddActor, Task}
 use Rattle.fedi_logged.specs.Turns.{Standing, Turns}
 use Rattle.fedi_logged.specs.Endings.{Output}
 use Rattle.fedi_program.specs.Endings.{Prints}
-use Rattle.fedi_program.specs.Members.{Chance, EndsWith, IsSettled, IsUnmade, MakesMember, ReportsFault, key_line, member_entry}
+use Rattle.fedi_program.specs.Members.{EndsWith, IsSettled, IsUnmade, MakesMember, ReportsFault, key_line, member_entry}
 use Rattle.fedi_program.specs.Runs.{is_status_of}
 use Rattle.fedi_logged.proofs.Crashing.{survives_first, survives_more, survives_turn}
 use Rattle.fedi_program.proofs.RunLemmas.{known_status}
 use Rattle.fedi_logged.proofs.Turning.{IsUnkept, failed_turn}
+use Rattle.fedi_program.specs.Seen.{Chance}
 
 -- ---- the status
 
@@ -46,7 +46,7 @@ fault_status task faults.Full first now status five ten twelve thirteen told = k
 fault_status task faults.KeeperFault first now status five ten twelve thirteen told = known_status task status 5 five told.0
 fault_status task faults.Memory first now status five ten twelve thirteen told = known_status task status 12 twelve told.0
 
-print_status : (task : Option Task) (first now : Output) (line : List ℕ) (status : ℕ) → is_status_of task 0 ≡ true → is_status_of task 7 ≡ true
+pub print_status : (task : Option Task) (first now : Output) (line : List ℕ) (status : ℕ) → is_status_of task 0 ≡ true → is_status_of task 7 ≡ true
     → Prints first now line status → is_status_of task status ≡ true
 print_status task first now line status zero seven (inl done) = known_status task status 0 zero done.0
 print_status task first now line status zero seven (inr failed) = known_status task status 7 seven failed.0
@@ -59,7 +59,7 @@ end_status task growth room before after first now e line status zero five seven
 end_status task growth room before after first now e line status zero five seven ten twelve thirteen (inr made) =
     print_status task first now line status zero seven made.2
 
-member_status : (growth room : ℕ → ℕ) (told : Option ℕ) (chance left : Chance) (before after : State) (first now : Output) (name : List ℕ) (locked : Bool) (status : ℕ)
+pub member_status : (growth room : ℕ → ℕ) (told : Option ℕ) (chance left : Chance) (before after : State) (first now : Output) (name : List ℕ) (locked : Bool) (status : ℕ)
     → MakesMember growth room told chance left before after first now name locked status → is_status_of (Some (AddActor name locked)) status ≡ true
 member_status growth room told chance left before after first now name locked status (inl failed) = known_status (Some (AddActor name locked)) status 6 refl failed.0
 member_status growth room told chance left before after first now name locked status (inr (key, moment, _, _, inl bad)) =
@@ -168,35 +168,3 @@ broken_unmade room s (PeerSet host key address relay moment) fault command is = 
     of : (fault ≡ faults.HostTaken) ⊎ (fault ≡ faults.BadAddress) → IsUnmade room s s e fault
     of (inl host_is) = subst (IsUnmade room s s e) (sym host_is) (s, refl, (is ∙ ap (λ (f : CommandFault). Some f) host_is, refl), refl)
     of (inr address_is) = subst (IsUnmade room s s e) (sym address_is) (s, refl, (is ∙ ap (λ (f : CommandFault). Some f) address_is, refl), refl)
-
--- ---- the task
-
--- what holds of the name and the flag that the command has holds of those that are asked for
-pub of_task : (P : List ℕ → Bool → Type 0) (task : Option Task) (name other : List ℕ) (locked flag : Bool) → Some (AddActor name locked) ≡ task → P name locked
-    → task ≡ Some (AddActor other flag) → P other flag
-of_task P task name other locked flag is holds asked =
-    let same : Some (AddActor name locked) ≡ Some (AddActor other flag) = is ∙ asked in
-    let names : name ≡ other = cc in
-    let flags : locked ≡ flag = cc in
-    subst (λ (n : List ℕ). P n flag) names (subst (λ (f : Bool). P name f) flags holds)
-
--- what holds of the table that the command has holds of the one that is asked for
-pub of_table : (P : Table → Type 0) (task : Option Task) (table other : Table) → Some (Export table) ≡ task → P table → task ≡ Some (Export other) → P other
-of_table P task table other is holds asked =
-    let same : Some (Export table) ≡ Some (Export other) = is ∙ asked in
-    let tables : table ≡ other = cc in
-    subst P tables holds
-
--- what holds of the number that the command has holds of the one that is asked for
-pub of_number : (P : ℕ → Type 0) (task : Option Task) (number other : ℕ) → Some (Demo number) ≡ task → P number → task ≡ Some (Demo other) → P other
-of_number P task number other is holds asked =
-    let same : Some (Demo number) ≡ Some (Demo other) = is ∙ asked in
-    let numbers : number ≡ other = cc in
-    subst P numbers holds
-
--- what holds of the host that the command has holds of the one that is asked for
-pub of_host : (P : List ℕ → Type 0) (task : Option Task) (host other : List ℕ) → Some (Init host) ≡ task → P host → task ≡ Some (Init other) → P other
-of_host P task host other is holds asked =
-    let same : Some (Init host) ≡ Some (Init other) = is ∙ asked in
-    let hosts : host ≡ other = cc in
-    subst P hosts holds

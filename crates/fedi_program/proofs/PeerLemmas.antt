@@ -1,5 +1,5 @@
 -- How the making of a peer ends, and with which status.
-use Rattle.std.proofs.Common.{◌≡◌, ℕ, Bool, true, false, List, Option, Some, inl, inr, refl, subst, ◌∙◌}
+use Rattle.std.proofs.Common.{◌≡◌, ℕ, Bool, true, false, List, Option, Some, inl, inr, refl, subst}
 use Rattle.fedi_address.specs.Hosts.{IsHost}
 use Rattle.fedi_log.specs.Keeping.{State}
 use Rattle.fedi_mac.specs.Keys.{key_of}
@@ -9,7 +9,7 @@ use Rattle.fedi_logged.specs.Endings.{Output}
 use Rattle.fedi_town.specs.Histories.{town}
 use Rattle.fedi_town.specs.Legal.{is_taken_host}
 use Rattle.fedi_town.specs.Towns.{Town}
-use Rattle.fedi_program.specs.Commands.{AddPeer, Task}
+use Rattle.fedi_program.specs.Commands.{AddPeer}
 use Rattle.fedi_program.specs.Members.{EndsWith}
 use Rattle.fedi_program.specs.Peers.{MakesPeer, peer_entry, peer_line}
 use Rattle.fedi_program.specs.Runs.{is_status_of}
@@ -39,7 +39,7 @@ peer_ends growth room told before after first now host read key secret address c
 
 -- ---- the status
 
-peer_status : (growth room : ℕ → ℕ) (told : Option ℕ) (before after : State) (first now : Output) (host key address : List ℕ) (relay : Bool) (status : ℕ)
+pub peer_status : (growth room : ℕ → ℕ) (told : Option ℕ) (before after : State) (first now : Output) (host key address : List ℕ) (relay : Bool) (status : ℕ)
     → MakesPeer growth room told before after first now host key address relay status → is_status_of (Some (AddPeer host key address relay)) status ≡ true
 peer_status growth room told before after first now host key address relay status (inl memory) =
     known_status (Some (AddPeer host key address relay)) status 12 refl memory.0
@@ -52,17 +52,3 @@ peer_status growth room told before after first now host key address relay statu
 peer_status growth room told before after first now host key address relay status (inr (inr (inr (inr (_, _, secret, moment, _, _, ends))))) =
     end_status (Some (AddPeer host key address relay)) growth room before after first now (peer_entry host secret address relay moment) (peer_line host) status
     refl refl refl refl refl refl ends
-
--- ---- the task
-
--- what holds of the peer that the command has holds of the one that is asked for
-pub of_peer : (P : List ℕ → List ℕ → List ℕ → Bool → Type 0) (task : Option Task) (host key address : List ℕ) (relay : Bool) (h k a : List ℕ) (r : Bool)
-    → Some (AddPeer host key address relay) ≡ task → P host key address relay → task ≡ Some (AddPeer h k a r) → P h k a r
-of_peer P task host key address relay h k a r is holds asked =
-    let same : Some (AddPeer host key address relay) ≡ Some (AddPeer h k a r) = is ∙ asked in
-    let hosts : host ≡ h = cc in
-    let keys : key ≡ k = cc in
-    let addresses : address ≡ a = cc in
-    let relays : relay ≡ r = cc in
-    subst (λ (x : List ℕ). P x k a r) hosts (subst (λ (x : List ℕ). P host x a r) keys (subst (λ (x : List ℕ). P host key x r) addresses
-    (subst (P host key address) relays holds)))

@@ -1,5 +1,5 @@
 -- From what becomes of a store, and from the end of a session, to the end of a run.
-use Rattle.std.proofs.Common.{◌≡◌, ◌⊎◌, ℕ, Bool, true, List, Option, Some, None, arith, inl, inr, refl, sym, ◌∙◌}
+use Rattle.std.proofs.Common.{◌≡◌, ◌⊎◌, ℕ, Bool, true, List, [], ◌∷◌, Option, Some, None, arith, inl, inr, refl, sym, ◌∙◌}
 use Rattle.fedi_log.specs.Log.{Log, given}
 use Rattle.fedi_startup.specs.Surviving.{growth, room}
 use Rattle.fedi_startup.specs.declared.faults.StoreFault.{StoreFault}
@@ -9,20 +9,21 @@ use Rattle.fedi_logged.specs.declared.sessions.SessionEnd.{SessionEnd}
 use Rattle.fedi_logged.specs.declared.sessions.SessionEnd.TheVariants.{End, CutShort, Closed, ReadFault, WriteFault, Memory}
 use Rattle.fedi_hall.specs.declared.serving.ServeEnd.{ServeEnd}
 use Rattle.fedi_hall.specs.declared.serving.ServeEnd.TheVariants as serves
-use Rattle.fedi_outside.specs.Doors.{Row}
 use Rattle.fedi_outside.specs.declared.doors.Bench.{Bench}
+use Rattle.fedi_outside.specs.declared.doors.Door.{Ghosts as DoorGhosts}
+use Rattle.fedi_outside.specs.declared.links.Link.{Ghosts as LinkGhosts}
 use Rattle.fedi_program.specs.Commands.{Serve, Task}
-use Rattle.fedi_delivery.specs.Exchanges.{Told}
+use Rattle.fedi_program.specs.Delivering.{DeliversBy}
 use Rattle.fedi_program.specs.Serving.{ServesDoors, status_after}
 use Rattle.fedi_logged.specs.Conversations.{Setting}
 use Rattle.fedi_logged.specs.Endings.{Faults, IsCaused, Output, Scene}
 use Rattle.fedi_program.specs.Endings.{HasCauses, RunsTo, TalksIfTold, status_of}
 use Rattle.fedi_logged.specs.Turning.{setting_by}
 use Rattle.fedi_logged.proofs.Ended.{ended_talks, closed_talks}
-use Rattle.fedi_program.specs.Members.{Chance}
 use Rattle.fedi_program.specs.Runs.{is_status_of}
 use Rattle.fedi_program.specs.declared.commands.Table.{Table}
-use Rattle.fedi_program.specs.Stores.{AddsMember, AddsPeer, ChecksStore, ExportsStore, IsKeptSafe, Medium, ServesStore, TalksOverStore, ReportsStore, status_by}
+use Rattle.fedi_program.specs.Stores.{AddsMember, AddsPeer, ChecksStore, ExportsStore, IsKeptSafe, ServesStore, TalksOverStore, ReportsStore, status_by}
+use Rattle.fedi_program.specs.Seen.{Chance, Medium}
 
 -- ---- the end of a session
 
@@ -36,6 +37,7 @@ session_talks w opened log first now status done (Memory, is, ran) = let clash :
 
 not_done : (fault : StoreFault) → 0 ≡ status_by fault → ⊥
 not_done faults.NotAStore is = absurd cc
+not_done faults.OldFormat is = absurd cc
 not_done (faults.DamagedByte place) is = absurd cc
 not_done (faults.DamagedRecord place) is = absurd cc
 not_done faults.Failed is = absurd cc
@@ -72,10 +74,16 @@ pub exported_safe : (table : Table) (before after : Medium) (first now : Output)
 exported_safe table before after first now status (inl (fault, refused, _)) = inl (fault, refused)
 exported_safe table before after first now status (inr (opened, served, _, _)) = inr (opened, opened, given opened.history, served)
 
-pub doors_safe : {W K : Type 0} (told : Option ℕ) (before after : Medium) (served : W → Option (List Row)) (tells : K → Told) (closed : W → Bool) (faults : W → ℕ)
-    (first now : List (Bench W K)) (status : ℕ) → ServesDoors told before after served tells closed faults first now status → IsKeptSafe before after
-doors_safe told before after served tells closed faults first now status (inl (fault, refused, _, _)) = inl (fault, refused)
-doors_safe told before after served tells closed faults first now status (inr (opened, last, log, is, _, _)) = inr (opened, last, log, is)
+pub doors_safe : {W L K : Type 0} (doors : DoorGhosts W L) (links : LinkGhosts K) (told : Option ℕ) (before after : Medium) (first now : List (Bench W K)) (status : ℕ)
+    → ServesDoors doors links told before after first now status → IsKeptSafe before after
+doors_safe doors links told before after first now status (inl (fault, refused, _, _)) = inl (fault, refused)
+doors_safe doors links told before after first now status (inr (opened, last, log, is, _, _)) = inr (opened, last, log, is)
+
+pub delivered_safe : {W K : Type 0} (links : LinkGhosts K) (told : Option ℕ) (before after : Medium) (first now : List (Bench W K)) (out later : Output) (status : ℕ)
+    → DeliversBy links told before after first now out later status → IsKeptSafe before after
+delivered_safe links told before after [] now out later status delivered = absurd delivered
+delivered_safe links told before after (b ∷ benches) now out later status (link, _, inl (fault, refused, _, _)) = inl (fault, refused)
+delivered_safe links told before after (b ∷ benches) now out later status (link, _, inr (opened, closed, run, _)) = inr (opened, closed, run.0, run.1.0)
 
 -- ---- the status
 
@@ -85,16 +93,18 @@ known_status task status known may is = rw is may
 
 -- it is reported that a store is not opened
 pub told_status : (task : Option Task) (fault : StoreFault) (first now : Output) (status : ℕ) → is_status_of task 3 ≡ true → is_status_of task 4 ≡ true
-    → is_status_of task 5 ≡ true → is_status_of task 12 ≡ true → ReportsStore fault first now status → is_status_of task status ≡ true
-told_status task faults.NotAStore first now status three four five twelve told = known_status task status 3 three told.0
-told_status task (faults.DamagedByte place) first now status three four five twelve told = known_status task status 4 four told.0
-told_status task (faults.DamagedRecord place) first now status three four five twelve told = known_status task status 4 four told.0
-told_status task faults.Failed first now status three four five twelve told = known_status task status 5 five told.0
-told_status task faults.Memory first now status three four five twelve told = known_status task status 12 twelve told.0
+    → is_status_of task 5 ≡ true → is_status_of task 12 ≡ true → is_status_of task 14 ≡ true → ReportsStore fault first now status → is_status_of task status ≡ true
+told_status task faults.NotAStore first now status three four five twelve fourteen told = known_status task status 3 three told.0
+told_status task faults.OldFormat first now status three four five twelve fourteen told = known_status task status 14 fourteen told.0
+told_status task (faults.DamagedByte place) first now status three four five twelve fourteen told = known_status task status 4 four told.0
+told_status task (faults.DamagedRecord place) first now status three four five twelve fourteen told = known_status task status 4 four told.0
+told_status task faults.Failed first now status three four five twelve fourteen told = known_status task status 5 five told.0
+told_status task faults.Memory first now status three four five twelve fourteen told = known_status task status 12 twelve told.0
 
 -- the connections of doors were served, or not
 of_fault : (address : List ℕ) (fault : StoreFault) → is_status_of (Some (Serve address)) (status_by fault) ≡ true
 of_fault address faults.NotAStore = refl
+of_fault address faults.OldFormat = refl
 of_fault address (faults.DamagedByte place) = refl
 of_fault address (faults.DamagedRecord place) = refl
 of_fault address faults.Failed = refl
@@ -105,11 +115,10 @@ of_ending address serves.Closed = refl
 of_ending address serves.DoorFault = refl
 of_ending address serves.Memory = refl
 
-pub doors_status : {W K : Type 0} (told : Option ℕ) (before after : Medium) (served : W → Option (List Row)) (tells : K → Told) (closed : W → Bool) (faults : W → ℕ)
-    (first now : List (Bench W K)) (status : ℕ) → ServesDoors told before after served tells closed faults first now status
-    → (address : List ℕ) → is_status_of (Some (Serve address)) status ≡ true
-doors_status told before after served tells closed faults first now status (inl (fault, _, _, is)) address = rw is (of_fault address fault)
-doors_status told before after served tells closed faults first now status (inr (opened, last, log, _, _, (ending, is, _))) address = rw is (of_ending address ending)
+pub doors_status : {W L K : Type 0} (doors : DoorGhosts W L) (links : LinkGhosts K) (told : Option ℕ) (before after : Medium) (first now : List (Bench W K)) (status : ℕ)
+    → ServesDoors doors links told before after first now status → (address : List ℕ) → is_status_of (Some (Serve address)) status ≡ true
+doors_status doors links told before after first now status (inl (fault, _, _, is)) address = rw is (of_fault address fault)
+doors_status doors links told before after first now status (inr (opened, last, log, _, _, (ending, is, _))) address = rw is (of_ending address ending)
 
 -- ---- why a session ended
 

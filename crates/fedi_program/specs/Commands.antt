@@ -18,8 +18,8 @@ use Rattle.fedi_program.specs.declared.words.Verb.TheVariants as verbs
 -- What the program is asked to do: to print its usage, to begin a store for this host, to serve one
 -- connection, to serve those that come to this address, to make a member of this name, who is
 -- locked or not, to make this host a peer with this key at this address, which is a relay or not,
--- to try each delivery that is due, to print this table of a store, to count what a store holds, or
--- to run the demonstration with this number.
+-- to try each delivery that is due, to print this table of a store, to count what a store holds, to
+-- move the records of a store to another file, or to run the demonstration with this number.
 pub data Task : Type 0 where
   Usage : Task
   Init : List ℕ → Task
@@ -30,6 +30,7 @@ pub data Task : Type 0 where
   Deliver : Task
   Export : Table → Task
   Check : Task
+  Migrate : Task
   Demo : ℕ → Task
 
 -- the task of a command, without its references
@@ -43,6 +44,7 @@ task_of (commands.AddPeer peer) = AddPeer peer.host.now peer.key.now peer.addres
 task_of commands.Deliver = Deliver
 task_of (commands.Export table) = Export table
 task_of commands.Check = Check
+task_of commands.Migrate = Migrate
 task_of (commands.Demo number) = Demo number
 
 -- ---- the table of commands
@@ -60,7 +62,8 @@ abbrev pub row : Verb → List ℕ → ℕ → Option (List ℕ) → Row
 row verb name positions flag =
     record { verb = verb; name = name; positions = positions; flag = flag }
 
--- the rows: the first positional argument is the store, but `usage` and `demo` have none
+-- the rows: the first positional argument is the store, but `usage` and `demo` have none; the second
+-- of `migrate` is the file that its records are moved to
 abbrev pub rows : List Row
 rows =
     row verbs.Usage (codes "usage") 0 None
@@ -72,6 +75,7 @@ rows =
     ∷ row verbs.Deliver (codes "deliver") 1 None
     ∷ row verbs.Export (codes "export") 2 None
     ∷ row verbs.Check (codes "check") 1 None
+    ∷ row verbs.Migrate (codes "migrate") 2 None
     ∷ row verbs.Demo (codes "demo") 1 None
     ∷ []
 
@@ -157,6 +161,7 @@ task_at verbs.AddPeer positions flagged =
 task_at verbs.Deliver positions flagged = Some Deliver
 task_at verbs.Export positions flagged = option_map Export (table_of (word positions 1))
 task_at verbs.Check positions flagged = Some Check
+task_at verbs.Migrate positions flagged = Some Migrate
 task_at verbs.Demo positions flagged = option_map Demo (number_of (word positions 0))
 
 -- what accepted arguments ask for
@@ -179,6 +184,7 @@ names_store (Some (AddPeer host key address relay)) = true
 names_store (Some Deliver) = true
 names_store (Some (Export table)) = true
 names_store (Some Check) = true
+names_store (Some Migrate) = true
 names_store (Some (Demo number)) = false
 
 -- the store that the arguments name: the first positional argument, if the arguments are accepted
@@ -187,6 +193,28 @@ abbrev pub store_in : List (List ℕ) → Option (List ℕ)
 store_in arguments =
     if names_store (task_in arguments)
     then option_map (λ reading. word reading.positions 0) (read arguments)
+    else None
+
+-- whether arguments that ask for this name a second store
+abbrev pub names_second : Option Task → Bool
+names_second None = false
+names_second (Some Usage) = false
+names_second (Some (Init host)) = false
+names_second (Some Inetd) = false
+names_second (Some (Serve address)) = false
+names_second (Some (AddActor name locked)) = false
+names_second (Some (AddPeer host key address relay)) = false
+names_second (Some Deliver) = false
+names_second (Some (Export table)) = false
+names_second (Some Check) = false
+names_second (Some Migrate) = true
+names_second (Some (Demo number)) = false
+
+-- that store: the second positional argument, if the arguments are accepted and the task has one
+abbrev pub second_in : List (List ℕ) → Option (List ℕ)
+second_in arguments =
+    if names_second (task_in arguments)
+    then option_map (λ reading. word reading.positions 1) (read arguments)
     else None
 
 -- the address at which connections are served, if that is the task
@@ -201,6 +229,7 @@ address_of (Some (AddPeer host key address relay)) = None
 address_of (Some Deliver) = None
 address_of (Some (Export table)) = None
 address_of (Some Check) = None
+address_of (Some Migrate) = None
 address_of (Some (Demo number)) = None
 
 -- ---- as the code has them

@@ -21,6 +21,7 @@ use Rattle.fedi_objects.specs.declared.entry.Entry.{Entry}
 use Rattle.fedi_objects.specs.declared.entry.Entry.TheVariants.{Tried}
 use Rattle.fedi_outside.specs.Keepers.{OnlyRoomChanged}
 use Rattle.fedi_outside.specs.declared.doors.Bench.{Bench}
+use Rattle.fedi_outside.specs.declared.links.Link.{Ghosts as LinkGhosts}
 use Rattle.fedi_startup.specs.declared.faults.StoreFault.{StoreFault}
 use Rattle.fedi_startup.specs.Surviving.{growth, room}
 use Rattle.fedi_logged.specs.Conversations.{IsNow}
@@ -31,10 +32,11 @@ use Rattle.fedi_town.specs.Histories.{town}
 use Rattle.fedi_town.specs.Queues.{Delivery, outcome}
 use Rattle.fedi_town.specs.Towns.{Town}
 use Rattle.fedi_program.specs.Members.{IsSettled}
-use Rattle.fedi_program.specs.Stores.{IsRefused, IsRunAlone, Medium, ReportsStore}
+use Rattle.fedi_program.specs.Stores.{IsRefused, IsRunAlone, ReportsStore}
 use Rattle.fedi_program.specs.declared.delivering.Stop.{Stop}
 use Rattle.fedi_program.specs.declared.delivering.Stop.TheVariants.{WriteFault, KeeperFault, Full}
 use Rattle.fedi_program.specs.declared.delivering.Stop.TheVariants.{Memory}
+use Rattle.fedi_program.specs.Seen.{Medium, tells}
 
 -- ---- one attempt
 
@@ -244,9 +246,9 @@ IsStopped Memory before after first now status = (status ≡ 12) × (after ≡ b
 -- How a run tries what is due by the link of the first of these benches: only this link is asked,
 -- and everything else of the benches stays.
 abbrev pub DeliversBy :
-    {W K : Type 0} → (K → Told) → Option ℕ → Medium → Medium → (benches now : List (Bench W K))
+    {W K : Type 0} → LinkGhosts K → Option ℕ → Medium → Medium → (benches now : List (Bench W K))
     → Output → Output → ℕ → Type 0
-DeliversBy tells told before after [] now first out status = ⊥
-DeliversBy tells told before after (b ∷ benches) now first out status =
+DeliversBy links told before after [] now first out status = ⊥
+DeliversBy links told before after (b ∷ benches) now first out status =
     (link : _) × (now ≡ record b { link = link } ∷ benches)
-    × DeliversStore told before after (tells b.link) (tells link) first out status
+    × DeliversStore told before after (tells links b.link) (tells links link) first out status

@@ -3,9 +3,12 @@ pub mod Complete
 pub mod Delivering
 pub mod Demonstrating
 pub mod Endings
+pub mod Headline
 pub mod Members
+pub mod Migrating
 pub mod Peers
 pub mod Runs
+pub mod Seen
 pub mod Serving
 pub mod Stores
 pub mod Usage

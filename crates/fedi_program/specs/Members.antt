@@ -22,17 +22,9 @@ use Rattle.fedi_core.specs.Keeping.{IsKept}
 use Rattle.fedi_logged.specs.Conversations.{IsNow}
 use Rattle.fedi_logged.specs.Endings.{Output, Writes, WritesUnlessFailed}
 use Rattle.fedi_program.specs.Endings.{Prints}
+use Rattle.fedi_program.specs.Seen.{Chance}
 
 -- ---- keys
-
--- what keys are drawn from: the bytes to come, if they are known, and how many draws failed
-pub record Chance : Type 0 where
-  pub next : Option (List ℕ)
-  pub faults : ℕ
-
--- the chance of this source of keys, as these functions show it
-abbrev pub chance_by : {E : Type 0} → (E → Option (List ℕ)) → (E → ℕ) → E → Chance
-chance_by next faults entropy = record { next = next entropy; faults = faults entropy }
 
 -- the key was drawn: it consists of the bytes that came next
 pub record Draws (before now : Chance) (key : List ℕ) : Type 0 where

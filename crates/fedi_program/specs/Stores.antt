@@ -1,18 +1,22 @@
 -- What a run does with the store of a disk, and what it prints about it.
 use Rattle.std.specs.Prelude.{◌≡◌, ◌⊎◌, ℕ, Bool, List, [], ◌∷◌, ◌++◌, codes, decimal, Option, None}
 use Rattle.std.specs.Prelude.{IfSome}
+use Rattle.hex.specs.Hex.{encode_lower}
 use Rattle.fedi_address.specs.Hosts.{IsHost}
 use Rattle.fedi_log.specs.Keeping.{GoesAlone, HoldsFrom, State, since}
 use Rattle.fedi_log.specs.Log.{Log, given}
 use Rattle.fedi_entry.specs.Codes.{code_of}
 use Rattle.fedi_objects.specs.declared.entry.Entry.{Entry}
 use Rattle.fedi_objects.specs.declared.entry.Entry.TheVariants.{Hosted}
+use Rattle.fedi_journal.specs.Chains.{chain, chained}
+use Rattle.fedi_journal.specs.Making.{KeepsOther}
 use Rattle.fedi_outside.specs.Disks.{DiskCrashes, DiskState, IsUntouched}
+use Rattle.fedi_outside.specs.declared.disks.Disk.{Ghosts as DiskGhosts}
 use Rattle.fedi_logged.specs.Conversations.{IsNow}
 use Rattle.fedi_logged.specs.Endings.{BreaksOff, Output, Scene, Writes}
 use Rattle.fedi_program.specs.Endings.{Prints, RunsTo, TalksIfTold}
 use Rattle.fedi_logged.specs.Turning.{setting_by}
-use Rattle.fedi_program.specs.Members.{Chance, MakesMember, Reports, refusal_line}
+use Rattle.fedi_program.specs.Members.{MakesMember, Reports, refusal_line}
 use Rattle.fedi_program.specs.Peers.{MakesPeer}
 use Rattle.fedi_program.specs.declared.commands.Table.{Table}
 use Rattle.fedi_program.specs.declared.commands.Table.TheVariants.{Actors, Activities, Queue}
@@ -23,25 +27,18 @@ use Rattle.fedi_town.specs.Histories.{town}
 use Rattle.fedi_town.specs.Towns.{Town}
 use Rattle.fedi_logged.specs.Marks.{MarksMayCome}
 use Rattle.fedi_startup.specs.Making.{IsMade, IsNotMade, LeavesAtMost}
-use Rattle.fedi_startup.specs.Stores.{ComesBack, IsClosed, IsOpened, LeavesStores}
+use Rattle.fedi_startup.specs.Stores.{ComesBack, IsClosed, IsOpened, LeavesStores, records_of}
 use Rattle.fedi_startup.specs.Surviving.{LeavesStoresAlong, LeavesStoresFound, SurvivesOnDisk}
 use Rattle.fedi_startup.specs.Surviving.{growth, opened_base, room}
 use Rattle.fedi_startup.specs.declared.faults.MakeFault.{MakeFault}
 use Rattle.fedi_startup.specs.declared.faults.MakeFault.TheVariants as makes
 use Rattle.fedi_startup.specs.declared.faults.StoreFault.{StoreFault}
-use Rattle.fedi_startup.specs.declared.faults.StoreFault.TheVariants.{NotAStore, DamagedByte}
+use Rattle.fedi_startup.specs.declared.faults.StoreFault.TheVariants.{NotAStore, OldFormat}
+use Rattle.fedi_startup.specs.declared.faults.StoreFault.TheVariants.{DamagedByte}
 use Rattle.fedi_startup.specs.declared.faults.StoreFault.TheVariants.{DamagedRecord, Failed, Memory}
+use Rattle.fedi_program.specs.Seen.{Chance, Medium}
 
 -- ---- disks
-
--- a disk, and what a crash may leave of it
-pub record Medium : Type 1 where
-  pub shown : DiskState
-  pub crashes : DiskCrashes
-
--- the medium of this disk, as these functions show it
-abbrev pub medium_by : {D : Type 0} → (D → DiskState) → (D → DiskCrashes) → D → Medium
-medium_by shown crashes disk = record { shown = shown disk; crashes = crashes disk }
 
 -- reads of the disk give the same bytes, and a crash meanwhile or afterwards leaves nothing new,
 -- image by image
@@ -98,6 +95,7 @@ damage_line what place =
 -- the status of a run whose store is not opened
 abbrev pub status_by : StoreFault → ℕ
 status_by NotAStore = 3
+status_by OldFormat = 14
 status_by (DamagedByte place) = 4
 status_by (DamagedRecord place) = 4
 status_by Failed = 5
@@ -106,6 +104,7 @@ status_by Memory = 12
 -- and what is printed, which is nothing if memory ran out
 abbrev pub ReportsStore : StoreFault → Output → Output → ℕ → Type 0
 ReportsStore NotAStore before now status = Reports before now 3 (codes "not a store\n") status
+ReportsStore OldFormat before now status = Reports before now 14 (codes "old format\n") status
 ReportsStore (DamagedByte place) before now status =
     Reports before now 4 (damage_line (codes "byte") place) status
 ReportsStore (DamagedRecord place) before now status =
@@ -148,11 +147,22 @@ AddsPeer told before after first now host key address relay status =
     ⊎ ((opened : State) × (closed : State) × IsRunAlone before after opened closed
     × MakesPeer growth room told opened closed first now host key address relay status)
 
--- how much this history holds is printed, unless there is no memory for the line (12) or a write
--- failed (7)
-abbrev pub Counts : Output → Output → List Entry → ℕ → Type 0
-Counts first now history status =
-    Prints first now (check_text history) status ⊎ ((status ≡ 12) × Writes first now [])
+-- the line that gives the chain of the records, in 64 digits
+unfoldable pub tip_line : List ℕ → List ℕ
+tip_line tip = codes "tip " ++ (encode_lower tip ++ codes "\n")
+
+-- how much this history holds is printed, and then this chain, unless there is no memory for the
+-- lines (12) or a write failed (7)
+abbrev pub PrintsCount : List ℕ → Output → Output → List Entry → ℕ → Type 0
+PrintsCount tip first now history status =
+    Prints first now (check_text history ++ tip_line tip) status
+    ⊎ ((status ≡ 12) × Writes first now [])
+
+-- and it is the chain of the records of the history, if the bytes of the store are known
+abbrev pub Counts : Option (List ℕ) → Output → Output → List Entry → ℕ → Type 0
+Counts reads first now history status =
+    (tip : List ℕ) × IfSome reads (λ _. tip ≡ chain (records_of history))
+    × PrintsCount tip first now history status
 
 -- how a run counts what the store of a disk holds; the disk is untouched
 abbrev pub ChecksStore : Medium → Medium → Output → Output → ℕ → Type 0
@@ -160,7 +170,7 @@ ChecksStore before after first now status =
     ((fault : StoreFault) × IsRefused before after fault × ReportsStore fault first now status)
     ⊎ ((opened : State) × IsServed before after opened opened (given opened.history)
     × IsSame before after
-    × Counts first now opened.history status)
+    × Counts before.shown.reads first now opened.history status)
 
 -- the text of a table
 abbrev pub table_text : Table → Town → List ℕ
@@ -207,14 +217,20 @@ EndsMaking before after crashes first now host e status =
 -- How a run makes the disk a store for this host: it ends without asking the disk, because memory
 -- ran out (12) or the text is not a valid host (10); or the first entry says the host and the
 -- moment.
-abbrev pub MakesStore : {D : Type 0} → (D → DiskState) → (D → DiskCrashes) → Option ℕ → D → D
-    → Output → Output → List ℕ → ℕ → Type 0
-MakesStore shown crashes told before after first now host status =
+abbrev pub MakesStore : {D : Type 0} → DiskGhosts D → Option ℕ → D → D → Output → Output → List ℕ
+    → ℕ → Type 0
+MakesStore disks told before after first now host status =
     ((status ≡ 12) × (after ≡ before) × Writes first now [])
     ⊎ (((IsHost host → ⊥) × (after ≡ before)
     × Reports first now 10 (refusal_line (codes "bad host")) status)
     ⊎ (IsHost host × (moment : ℕ) × IsNow told moment
-    × LeavesAtMost (code_of (Hosted host moment)) (shown before).reads (crashes before)
-    (crashes after)
-    × EndsMaking (shown before) (shown after) (crashes after) first now host
+    × LeavesAtMost (code_of (Hosted host moment)) (disks.shown before).reads
+    (disks.crashes before) (disks.crashes after)
+    × EndsMaking (disks.shown before) (disks.shown after) (disks.crashes after) first now host
     (Hosted host moment) status))
+
+-- the bytes of an existing store stay: reads give the same, and a crash at any moment leaves
+-- nothing new
+abbrev pub KeepsStore : Medium → Medium → Type 0
+KeepsStore before after =
+    KeepsOther chained before.shown after.shown before.crashes after.crashes

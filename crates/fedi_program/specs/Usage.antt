@@ -13,4 +13,5 @@ usage_text =
     ++ (codes "fedi deliver STORE\n"
     ++ (codes "fedi export STORE actors|activities|queue\n"
     ++ (codes "fedi check STORE\n"
-    ++ codes "fedi demo NUMBER\n"))))))))
+    ++ (codes "fedi migrate OLD NEW\n"
+    ++ codes "fedi demo NUMBER\n")))))))))

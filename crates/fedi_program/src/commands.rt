@@ -2,7 +2,8 @@
 
 ghost use Rattle.std.specs.Prelude.{◌≡◌, map, is_some, option_map, string_bytes};
 ghost use Rattle.fedi_program.specs.Commands.{address_of, names_store, number_of, reading_of};
-ghost use Rattle.fedi_program.specs.Commands.{store_in, table_of, task_by, task_in, task_of};
+ghost use Rattle.fedi_program.specs.Commands.{second_in, store_in, table_of, task_by, task_in};
+ghost use Rattle.fedi_program.specs.Commands.{task_of};
 
 use crate::words::{Reading, Verb, read};
 use fedi_text::read_decimal;
@@ -42,6 +43,8 @@ pub enum Command<'a> {
     },
     /// To count what a store holds.
     Check,
+    /// To move the records of a store to another file.
+    Migrate,
     /// To run a demonstration.
     Demo {
         /// Its number.
@@ -124,6 +127,7 @@ fn command_by<'a>(reading: &Reading<'a>) -> Option<Command<'a>>
             table: table_of(reading.position(1))?,
         },
         Verb::Check => Command::Check,
+        Verb::Migrate => Command::Migrate,
         Verb::Demo => Command::Demo {
             number: number_of(reading.position(0))?,
         },
@@ -151,6 +155,18 @@ pub fn store_of(arguments: &[String]) -> Option<&str>
     match command_by(&reading)? {
         Command::Usage | Command::Demo { .. } => None,
         _ => Some(reading.position(0)),
+    }
+}
+
+/// The file that the records of a store are to be moved to, if the arguments ask for that: the second
+/// positional argument after the command.
+pub fn second_store_of(arguments: &[String]) -> Option<&str>
+    ensures { option_map (λ store. store.now) result ≡ second_in (map string_bytes arguments.now) }
+{
+    let reading = read(arguments)?;
+    match command_by(&reading)? {
+        Command::Migrate => Some(reading.position(1)),
+        _ => None,
     }
 }
 

@@ -2,7 +2,6 @@
 
 ghost use Rattle.std.specs.Prelude.{◌≡◌, ◌+◌, ℕ, IfOk, None, OnOk, Option, length, map};
 ghost use Rattle.fedi_core.specs.Delivering.{claimed_id, claimed_recipient, claims_in};
-ghost use Rattle.fedi_delivery.specs.Exchanges.{told};
 ghost use Rattle.fedi_entry.specs.Fields.{MayCome};
 ghost use Rattle.fedi_log.specs.Keeping.{base_of, state_of};
 ghost use Rattle.fedi_log.specs.Log.{given};
@@ -12,11 +11,11 @@ ghost use Rattle.fedi_outside.specs.Keepers.{PassesTime};
 ghost use Rattle.fedi_logged.specs.Attempts.{EndsAttempt};
 ghost use Rattle.fedi_program.specs.Delivering.{EndsTrial, IsStopped, TrialSurvives, TriesDue};
 ghost use Rattle.fedi_program.specs.Delivering.{attempt_line, came_in, done_line, stop_of, word_of};
+ghost use Rattle.fedi_program.specs.Seen.{output, tells};
 ghost use Rattle.fedi_queue.specs.Claims.{release};
 ghost use Rattle.fedi_queue.specs.Queues.{IsHeld};
 ghost use Rattle.fedi_queue.specs.Rows.{rows_of};
 ghost use Rattle.fedi_logged.specs.Conversations.{IsNow};
-ghost use Rattle.fedi_logged.specs.Endings.{output_by};
 ghost use Rattle.fedi_town.specs.Histories.{town};
 ghost use Rattle.fedi_town.specs.Legal.{IsLegal};
 ghost use Rattle.fedi_town.specs.Queues.{outcome};
@@ -113,8 +112,7 @@ fn attempt<P: Keeper, K: Link>(
     requires buffer { length buffer.old ≡ 65536 }
     ensures came { let t = town core.now.history in
         EndsAttempt t (claimed_id t.acts claim.now) (claimed_recipient core.now.rows claim.now)
-        (told (K.asked link.old) (K.heard link.old) (K.link_faults link.old))
-        (told (K.asked link.new) (K.heard link.new) (K.link_faults link.new)) result }
+        (tells K.Link link.old) (tells K.Link link.new) result }
     ensures may_come { IfOk result (λ came. MayCome came.step came.what) }
     ensures room { length buffer.new ≡ length buffer.old }
 {
@@ -142,8 +140,7 @@ fn attempt_told<P: Keeper, K: Link>(
     requires buffer { length buffer.old ≡ 65536 }
     ensures came { let t = town core.now.history in
         EndsAttempt t (claimed_id t.acts claim.now) (claimed_recipient core.now.rows claim.now)
-        (told (K.asked link.old) (K.heard link.old) (K.link_faults link.old))
-        (told (K.asked link.new) (K.heard link.new) (K.link_faults link.new)) (came_in result) }
+        (tells K.Link link.old) (tells K.Link link.new) (came_in result) }
     ensures line { let t = town core.now.history in IfOk result (λ done. done.1.items
         ≡ attempt_line (claimed_id t.acts claim.now)
         (claimed_recipient core.now.rows claim.now) done.0) }
@@ -185,10 +182,8 @@ fn try_claimed<O: Sink, P: Keeper, K: Link>(
         (claimed_id t.acts claim) (claimed_recipient core.old.rows claim)
         (state_of core.old.history (P.shown core.old.keeper))
         (state_of core.new.history (P.shown core.new.keeper))
-        (told (K.asked link.old) (K.heard link.old) (K.link_faults link.old))
-        (told (K.asked link.new) (K.heard link.new) (K.link_faults link.new))
-        (output_by O.sent O.write_faults out.old) (output_by O.sent O.write_faults out.new)
-        result }
+        (tells K.Link link.old) (tells K.Link link.new)
+        (output O.Sink out.old) (output O.Sink out.new) result }
     ensures counted { OnOk result (claims_in core.old.rows ≡ claims_in core.new.rows + 1) }
     ensures queue { OnOk result
         (map release core.new.rows ≡ rows_of (town core.new.history)) }
@@ -220,8 +215,7 @@ fn report_stop<O: Sink, P: Keeper>(core: &mut Core<IndexedShelf, P>, out: &mut O
     ensures ends { IsStopped stop
         (state_of core.old.history (P.shown core.old.keeper))
         (state_of core.new.history (P.shown core.new.keeper))
-        (output_by O.sent O.write_faults out.old) (output_by O.sent O.write_faults out.new)
-        result }
+        (output O.Sink out.old) (output O.Sink out.new) result }
     ensures time { PassesTime (P.shown core.old.keeper).records (P.shown core.old.keeper).doubt
         (P.crashes core.old.keeper) (P.crashes core.new.keeper) }
 {
@@ -250,14 +244,11 @@ fn try_due<O: Sink, P: Keeper, K: Link>(
     requires legal { IsLegal core.old.history }
     requires unclaimed { core.old.rows ≡ rows_of (town core.old.history) }
     requires buffer { length buffer.old ≡ 65536 }
-    ensures tried { (reading : Option ℕ) → IsNow reading moment
-        → TriesDue P.growth P.room reading
+    ensures tried { (reading : Option ℕ) → IsNow reading moment → TriesDue P.growth P.room reading
         (state_of core.old.history (P.shown core.old.keeper))
         (state_of core.new.history (P.shown core.new.keeper))
-        (told (K.asked link.old) (K.heard link.old) (K.link_faults link.old))
-        (told (K.asked link.new) (K.heard link.new) (K.link_faults link.new))
-        (output_by O.sent O.write_faults out.old) (output_by O.sent O.write_faults out.new)
-        result }
+        (tells K.Link link.old) (tells K.Link link.new)
+        (output O.Sink out.old) (output O.Sink out.new) result }
     ensures crashes { SurvivesMarked
         (base_of P.growth P.room (state_of core.old.history (P.shown core.old.keeper)))
         None (given core.old.history) (state_of core.new.history (P.shown core.new.keeper))
@@ -292,10 +283,8 @@ pub fn deliver<O: Sink, P: Keeper, C: Clock, K: Link>(
     ensures tried { TriesDue P.growth P.room (C.told clock.now)
         (state_of core.old.history (P.shown core.old.keeper))
         (state_of core.new.history (P.shown core.new.keeper))
-        (told (K.asked link.old) (K.heard link.old) (K.link_faults link.old))
-        (told (K.asked link.new) (K.heard link.new) (K.link_faults link.new))
-        (output_by O.sent O.write_faults out.old) (output_by O.sent O.write_faults out.new)
-        result }
+        (tells K.Link link.old) (tells K.Link link.new)
+        (output O.Sink out.old) (output O.Sink out.new) result }
     ensures crashes { SurvivesMarked
         (base_of P.growth P.room (state_of core.old.history (P.shown core.old.keeper)))
         None (given core.old.history) (state_of core.new.history (P.shown core.new.keeper))

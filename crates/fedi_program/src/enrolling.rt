@@ -6,8 +6,8 @@ ghost use Rattle.fedi_core.specs.Keeping.{IsKept};
 ghost use Rattle.fedi_log.specs.Keeping.{base_of, state_of};
 ghost use Rattle.fedi_log.specs.Log.{given};
 ghost use Rattle.fedi_logged.specs.Marks.{SurvivesMarked};
-ghost use Rattle.fedi_logged.specs.Endings.{output_by};
 ghost use Rattle.fedi_program.specs.Members.{EndsWith, IsUnmade, ReportsFault};
+ghost use Rattle.fedi_program.specs.Seen.{output};
 ghost use Rattle.fedi_town.specs.Histories.{town};
 ghost use Rattle.fedi_town.specs.Legal.{broken_command};
 
@@ -22,8 +22,7 @@ use std::alloc::{AllocError, Global};
 
 /// Reports why a command was refused. Returns the exit status.
 fn report_fault<O: Sink>(out: &mut O, fault: CommandFault) -> u8
-    ensures { ReportsFault fault (output_by O.sent O.write_faults out.old)
-        (output_by O.sent O.write_faults out.new) result }
+    ensures { ReportsFault fault (output O.Sink out.old) (output O.Sink out.new) result }
 {
     match fault {
         CommandFault::NameTaken => report(out, REFUSED, b"refused: name taken\n"),
@@ -96,11 +95,9 @@ pub fn enroll<O: Sink, P: Keeper>(
 ) -> u8
     requires command { IsCommand (town core.old.history) entry }
     ensures ends { (text : List ℕ) → IfOk line (λ told. told.items ≡ text)
-        → EndsWith P.growth P.room
-        (state_of core.old.history (P.shown core.old.keeper))
+        → EndsWith P.growth P.room (state_of core.old.history (P.shown core.old.keeper))
         (state_of core.new.history (P.shown core.new.keeper))
-        (output_by O.sent O.write_faults out.old) (output_by O.sent O.write_faults out.new)
-        entry text result }
+        (output O.Sink out.old) (output O.Sink out.new) entry text result }
     ensures crashes { SurvivesMarked
         (base_of P.growth P.room (state_of core.old.history (P.shown core.old.keeper)))
         None (given core.old.history) (state_of core.new.history (P.shown core.new.keeper))

@@ -4,9 +4,9 @@ ghost use Rattle.std.specs.Prelude.{None};
 ghost use Rattle.fedi_log.specs.Keeping.{base_of, state_of};
 ghost use Rattle.fedi_log.specs.Log.{given};
 ghost use Rattle.fedi_logged.specs.Marks.{Survives};
-ghost use Rattle.fedi_program.specs.Stores.{ExportsStore, PrintsTable, medium_by, table_text};
+ghost use Rattle.fedi_program.specs.Seen.{medium, output};
+ghost use Rattle.fedi_program.specs.Stores.{ExportsStore, PrintsTable, table_text};
 ghost use Rattle.fedi_report.specs.Tables.{Reports};
-ghost use Rattle.fedi_logged.specs.Endings.{output_by};
 ghost use Rattle.fedi_town.specs.Histories.{town};
 ghost use Rattle.fedi_town.specs.Legal.{IsLegal};
 
@@ -28,8 +28,7 @@ fn write_table<O: Sink, P: Keeper>(
     table: Table,
 ) -> Result<(), ReportFault>
     requires legal { IsLegal core.now.history }
-    ensures { Reports (output_by O.sent O.write_faults out.old)
-        (output_by O.sent O.write_faults out.new)
+    ensures { Reports (output O.Sink out.old) (output O.Sink out.new)
         (table_text table (town core.now.history)) result }
 {
     match table {
@@ -47,8 +46,7 @@ fn print_table<O: Sink, P: Keeper>(
     table: Table,
 ) -> u8
     requires legal { IsLegal core.now.history }
-    ensures printed { PrintsTable (output_by O.sent O.write_faults out.old)
-        (output_by O.sent O.write_faults out.new)
+    ensures printed { PrintsTable (output O.Sink out.old) (output O.Sink out.new)
         (table_text table (town core.now.history)) result }
     // The machine is only read.
     ensures crashes { let opened = state_of core.now.history (P.shown core.now.keeper) in
@@ -71,10 +69,8 @@ pub(crate) fn export<O: Sink, D: Disk>(
     disk: D,
     table: Table,
 ) -> (u8, D)
-    ensures exported { ExportsStore table
-        (medium_by D.shown D.crashes disk) (medium_by D.shown D.crashes result.1)
-        (output_by O.sent O.write_faults out.old) (output_by O.sent O.write_faults out.new)
-        result.0 }
+    ensures exported { ExportsStore table (medium D.Disk disk) (medium D.Disk result.1)
+        (output O.Sink out.old) (output O.Sink out.new) result.0 }
 {
     match open_store(alloc, seed, disk) {
         Ok(core) => {

@@ -1,12 +1,14 @@
 //! The program over whatever lies outside: its commands, and the sessions that it serves.
 #![tactic(auto)]
 
+mod checking;
 mod commands;
 mod delivering;
 mod demonstrating;
 mod enrolling;
 mod exporting;
 mod members;
+mod migrating;
 mod peers;
 mod printing;
 mod running;
@@ -16,7 +18,7 @@ mod stores;
 mod usage;
 mod words;
 
-pub use commands::{Command, NewPeer, Table, address_of, command_of, store_of};
+pub use commands::{Command, NewPeer, Table, address_of, command_of, second_store_of, store_of};
 pub use fedi_effects::Seed;
 pub use fedi_logged::Connection;
 pub use running::{Ended, run, run_alone};

@@ -4,8 +4,8 @@ ghost use Rattle.std.specs.Prelude.{◌≡◌, IfOk, IsTrue, None, is_some};
 ghost use Rattle.fedi_log.specs.Keeping.{base_of, state_of};
 ghost use Rattle.fedi_log.specs.Log.{given};
 ghost use Rattle.fedi_logged.specs.Marks.{SurvivesMarked};
-ghost use Rattle.fedi_logged.specs.Endings.{output_by};
-ghost use Rattle.fedi_program.specs.Members.{MakesMember, chance_by, key_line};
+ghost use Rattle.fedi_program.specs.Members.{MakesMember, key_line};
+ghost use Rattle.fedi_program.specs.Seen.{chance, output};
 ghost use Rattle.fedi_town.specs.Histories.{town};
 
 use crate::enrolling::enroll;
@@ -49,11 +49,10 @@ pub fn make_member<O: Sink, P: Keeper, C: Clock, E: Entropy>(
 ) -> u8
     requires hosted { IsTrue (is_some (town core.old.history).host) }
     ensures made { MakesMember P.growth P.room (C.told clock.now)
-        (chance_by E.next E.faults entropy.old) (chance_by E.next E.faults entropy.new)
+        (chance E.Entropy entropy.old) (chance E.Entropy entropy.new)
         (state_of core.old.history (P.shown core.old.keeper))
         (state_of core.new.history (P.shown core.new.keeper))
-        (output_by O.sent O.write_faults out.old) (output_by O.sent O.write_faults out.new)
-        name.now locked result }
+        (output O.Sink out.old) (output O.Sink out.new) name.now locked result }
     ensures crashes { SurvivesMarked
         (base_of P.growth P.room (state_of core.old.history (P.shown core.old.keeper)))
         None (given core.old.history) (state_of core.new.history (P.shown core.new.keeper))

@@ -5,7 +5,7 @@ ghost use Rattle.fedi_log.specs.Keeping.{base_of, state_of};
 ghost use Rattle.fedi_log.specs.Log.{given};
 ghost use Rattle.fedi_logged.specs.Marks.{SurvivesMarked};
 ghost use Rattle.fedi_program.specs.Peers.{MakesPeer, peer_line};
-ghost use Rattle.fedi_logged.specs.Endings.{output_by};
+ghost use Rattle.fedi_program.specs.Seen.{output};
 ghost use Rattle.fedi_town.specs.Histories.{town};
 
 use crate::commands::NewPeer;
@@ -50,7 +50,7 @@ pub fn make_peer<O: Sink, P: Keeper, C: Clock>(
     ensures made { MakesPeer P.growth P.room (C.told clock.now)
         (state_of core.old.history (P.shown core.old.keeper))
         (state_of core.new.history (P.shown core.new.keeper))
-        (output_by O.sent O.write_faults out.old) (output_by O.sent O.write_faults out.new)
+        (output O.Sink out.old) (output O.Sink out.new)
         peer.entry.host.now peer.entry.key.now peer.entry.address.now peer.entry.relay result }
     ensures crashes { SurvivesMarked
         (base_of P.growth P.room (state_of core.old.history (P.shown core.old.keeper)))

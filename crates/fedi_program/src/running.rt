@@ -1,48 +1,32 @@
 //! The whole program, over whatever lies outside.
 
-ghost use Rattle.std.specs.Prelude.{◌≡◌, ◌≢◌, ◌↔◌, ◌<◌, ℕ, All, Bool, false, true, List, []};
-ghost use Rattle.std.specs.Prelude.{IfSome, IsTrue, Some, None, length, map, string_bytes, vec_len};
-ghost use Rattle.fedi_program.specs.Commands.{AddActor, AddPeer, Check, Deliver, Demo, Export};
-ghost use Rattle.fedi_program.specs.Commands.{Inetd, Init, Serve, Task, Usage, address_of};
-ghost use Rattle.fedi_program.specs.Commands.{names_store, task_in};
-ghost use Rattle.fedi_logged.specs.Endings.{WritesUnlessFailed, faults_by, output_by, scene_by};
-ghost use Rattle.fedi_logged.specs.Attempts.{told_by};
-ghost use Rattle.fedi_program.specs.Complete.{DoorsAreCalm, IsComplete, outside_of};
-ghost use Rattle.fedi_program.specs.Delivering.{DeliversBy, DeliversStore};
-ghost use Rattle.fedi_program.specs.Demonstrating.{Demonstrates};
-ghost use Rattle.fedi_program.specs.Endings.{HasCauses, Prints, status_of};
-ghost use Rattle.fedi_program.specs.Members.{chance_by};
-ghost use Rattle.fedi_program.specs.Runs.{is_status_of, may_draw, opens_store};
+ghost use Rattle.std.specs.Prelude.{◌≡◌, ◌<◌, All, IsTrue, Some, None, length, map, string_bytes};
+ghost use Rattle.std.specs.Prelude.{vec_len};
 ghost use Rattle.fedi_hall.specs.Works.{IsWaiting};
-ghost use Rattle.fedi_journal.specs.Making.{KeepsOther};
-ghost use Rattle.fedi_log.specs.Keeping.{base_of, state_of};
-ghost use Rattle.fedi_log.specs.Log.{given};
-ghost use Rattle.fedi_logged.specs.Marks.{Survives};
-ghost use Rattle.fedi_program.specs.Serving.{ServesDoors};
-ghost use Rattle.fedi_program.specs.Stores.{AddsMember, AddsPeer, ChecksStore, Counts};
-ghost use Rattle.fedi_program.specs.Stores.{ExportsStore, IsKeptSafe, MakesStore, ServesStore};
-ghost use Rattle.fedi_program.specs.Stores.{TalksOverStore, medium_by};
-ghost use Rattle.fedi_program.specs.Usage.{usage_text};
-ghost use Rattle.fedi_program.specs.declared.commands.Table.{Table};
-ghost use Rattle.fedi_town.specs.Legal.{IsLegal};
+ghost use Rattle.fedi_program.specs.Commands.{Deliver, Inetd, address_of, task_in, task_of};
+ghost use Rattle.fedi_program.specs.Delivering.{DeliversBy, DeliversStore};
+ghost use Rattle.fedi_program.specs.Endings.{HasCauses, status_of};
+ghost use Rattle.fedi_program.specs.Headline.{Does, LeavesOthers, Runs, kinds, world};
+ghost use Rattle.fedi_program.specs.Runs.{is_status_of};
+ghost use Rattle.fedi_program.specs.Seen.{chance, faults, medium, output, scene, tells};
+ghost use Rattle.fedi_program.specs.Stores.{AddsMember, AddsPeer, IsKeptSafe, ServesStore};
 
+use crate::checking::check;
 use crate::commands::{Command, NewPeer, command_of};
 use crate::delivering::deliver;
 use crate::demonstrating::demo;
 use crate::exporting::export;
 use crate::members::make_member;
+use crate::migrating::migrate;
 use crate::peers::make_peer;
 use crate::printing::{print, report};
 use crate::serving::serve;
 use crate::statuses::{CUT_SHORT, DONE, NOT_ACCEPTED, OUT_OF_MEMORY, READ_FAULT, WRITE_FAULT};
 use crate::stores::{begin_store, report_store, status_by};
 use crate::usage::usage;
-use fedi_core::Core;
 use fedi_effects::Seed;
-use fedi_index::IndexedShelf;
 use fedi_logged::{Connection, SessionEnd, serve_connection};
-use fedi_outside::{Bench, Clock, Disk, Door, Entropy, Keeper, Link, Sink, Source};
-use fedi_report::check_line;
+use fedi_outside::{Bench, Clock, Disk, Door, Entropy, Link, Sink, Source};
 use fedi_routes::Routes;
 use fedi_startup::{close_store, open_store};
 use std::alloc::{AllocError, Global};
@@ -56,6 +40,8 @@ pub struct Ended<D, W, K> {
     pub status: u8,
     /// The disk, with all that the run kept.
     pub disk: D,
+    /// The second disk, with all that was moved to it.
+    pub second: D,
     /// The benches.
     pub benches: Vec<Bench<W, K>>,
 }
@@ -82,14 +68,12 @@ fn inetd<S: Source, O: Sink, D: Disk, C: Clock>(
     disk: D,
 ) -> (u8, D)
     ensures session { ServesStore (C.told connection.old.clock)
-        (medium_by D.shown D.crashes disk) (medium_by D.shown D.crashes result.1)
-        (scene_by S.left O.sent O.write_faults connection.old.input connection.old.out)
-        (scene_by S.left O.sent O.write_faults connection.new.input connection.new.out)
-        result.0 }
+        (medium D.Disk disk) (medium D.Disk result.1)
+        (scene S.Source O.Sink connection.old.input connection.old.out)
+        (scene S.Source O.Sink connection.new.input connection.new.out) result.0 }
     ensures causes { HasCauses
-        (faults_by S.read_faults O.write_faults connection.old.input connection.old.out)
-        (faults_by S.read_faults O.write_faults connection.new.input connection.new.out)
-        result.0 }
+        (faults S.Source O.Sink connection.old.input connection.old.out)
+        (faults S.Source O.Sink connection.new.input connection.new.out) result.0 }
     ensures statuses { IsTrue (is_status_of (Some Inetd) result.0) }
     ensures clock { connection.new.clock ≡ connection.old.clock }
 {
@@ -116,10 +100,10 @@ fn add_actor<S, O: Sink, D: Disk, C: Clock, E: Entropy>(
     locked: bool,
 ) -> (u8, D)
     ensures added { AddsMember (C.told connection.old.clock)
-        (medium_by D.shown D.crashes disk) (medium_by D.shown D.crashes result.1)
-        (chance_by E.next E.faults entropy.old) (chance_by E.next E.faults entropy.new)
-        (output_by O.sent O.write_faults connection.old.out)
-        (output_by O.sent O.write_faults connection.new.out) name.now locked result.0 }
+        (medium D.Disk disk) (medium D.Disk result.1)
+        (chance E.Entropy entropy.old) (chance E.Entropy entropy.new)
+        (output O.Sink connection.old.out) (output O.Sink connection.new.out)
+        name.now locked result.0 }
     ensures input { connection.new.input ≡ connection.old.input }
     ensures clock { connection.new.clock ≡ connection.old.clock }
 {
@@ -142,9 +126,8 @@ fn add_peer<S, O: Sink, D: Disk, C: Clock>(
     peer: NewPeer<'_>,
 ) -> (u8, D)
     ensures peered { AddsPeer (C.told connection.old.clock)
-        (medium_by D.shown D.crashes disk) (medium_by D.shown D.crashes result.1)
-        (output_by O.sent O.write_faults connection.old.out)
-        (output_by O.sent O.write_faults connection.new.out)
+        (medium D.Disk disk) (medium D.Disk result.1)
+        (output O.Sink connection.old.out) (output O.Sink connection.new.out)
         peer.entry.host.now peer.entry.key.now peer.entry.address.now peer.entry.relay result.0 }
     ensures input { connection.new.input ≡ connection.old.input }
     ensures clock { connection.new.clock ≡ connection.old.clock }
@@ -168,11 +151,9 @@ fn deliver_over<S, O: Sink, D: Disk, K: Link, C: Clock>(
     link: &mut K,
 ) -> (u8, D)
     ensures delivered { DeliversStore (C.told connection.old.clock)
-        (medium_by D.shown D.crashes disk) (medium_by D.shown D.crashes result.1)
-        (told_by K.asked K.heard K.link_faults link.old)
-        (told_by K.asked K.heard K.link_faults link.new)
-        (output_by O.sent O.write_faults connection.old.out)
-        (output_by O.sent O.write_faults connection.new.out) result.0 }
+        (medium D.Disk disk) (medium D.Disk result.1)
+        (tells K.Link link.old) (tells K.Link link.new)
+        (output O.Sink connection.old.out) (output O.Sink connection.new.out) result.0 }
     ensures input { connection.new.input ≡ connection.old.input }
     ensures clock { connection.new.clock ≡ connection.old.clock }
 {
@@ -195,14 +176,10 @@ fn deliver_by<S, O: Sink, D: Disk, W, K: Link, C: Clock>(
     benches: &mut [Bench<W, K>],
 ) -> (u8, D)
     requires some { 0 < length benches.old }
-    ensures delivered { DeliversBy (told_by K.asked K.heard K.link_faults)
-        (C.told connection.old.clock)
-        (medium_by D.shown D.crashes disk) (medium_by D.shown D.crashes result.1)
-        benches.old benches.new
-        (output_by O.sent O.write_faults connection.old.out)
-        (output_by O.sent O.write_faults connection.new.out) result.0 }
-    ensures safe { IsKeptSafe (medium_by D.shown D.crashes disk)
-        (medium_by D.shown D.crashes result.1) }
+    ensures delivered { DeliversBy K.Link (C.told connection.old.clock)
+        (medium D.Disk disk) (medium D.Disk result.1) benches.old benches.new
+        (output O.Sink connection.old.out) (output O.Sink connection.new.out) result.0 }
+    ensures safe { IsKeptSafe (medium D.Disk disk) (medium D.Disk result.1) }
     ensures statuses { IsTrue (is_status_of (Some Deliver) result.0) }
     ensures input { connection.new.input ≡ connection.old.input }
     ensures clock { connection.new.clock ≡ connection.old.clock }
@@ -210,272 +187,109 @@ fn deliver_by<S, O: Sink, D: Disk, W, K: Link, C: Clock>(
     deliver_over(alloc, seed, connection, disk, &mut benches[0].link)
 }
 
-/// Prints how much the machine holds. Returns the exit status.
-fn count<O: Sink, P: Keeper>(alloc: Global, out: &mut O, core: &Core<IndexedShelf, P>) -> u8
-    requires legal { IsLegal core.now.history }
-    ensures counted { Counts (output_by O.sent O.write_faults out.old)
-        (output_by O.sent O.write_faults out.new) core.now.history result }
-    // The machine is only read.
-    ensures crashes { let opened = state_of core.now.history (P.shown core.now.keeper) in
-        Survives (base_of P.growth P.room opened) None (given core.now.history)
-        (given core.now.history) opened (P.crashes core.now.keeper) (P.crashes core.now.keeper) }
+/// Does what the command asks, unless that is `serve`. Returns the exit status, and the two disks.
+fn perform<S: Source, O: Sink, D: Disk, W: Door, K: Link, C: Clock, E: Entropy>(
+    alloc: Global,
+    seed: Seed,
+    command: Command<'_>,
+    connection: &mut Connection<S, O, C>,
+    disk: D,
+    second: D,
+    benches: &mut Vec<Bench<W, K>>,
+    entropy: &mut E,
+) -> (u8, D, D)
+    requires alone { address_of (Some (task_of command)) ≡ None }
+    requires linked { task_of command ≡ Deliver → 0 < vec_len benches.old }
+    ensures does { Does (kinds S.Source O.Sink D.Disk C.Clock E.Entropy W.Door K.Link)
+        (task_of command.entry) (world connection.old disk second entropy.old benches.old)
+        (world connection.new result.1 result.2 entropy.new benches.new) result.0 }
+    ensures others { LeavesOthers (Some (task_of command.entry))
+        (world connection.old disk second entropy.old benches.old)
+        (world connection.new result.1 result.2 entropy.new benches.new) }
 {
-    match check_line(alloc, core) {
-        Ok(line) => print(out, &line),
-        Err(AllocError) => OUT_OF_MEMORY,
-    }
-}
-
-/// Counts what the store of the disk holds.
-fn check<O: Sink, D: Disk>(alloc: Global, seed: Seed, out: &mut O, disk: D) -> (u8, D)
-    ensures checked { ChecksStore
-        (medium_by D.shown D.crashes disk) (medium_by D.shown D.crashes result.1)
-        (output_by O.sent O.write_faults out.old) (output_by O.sent O.write_faults out.new)
-        result.0 }
-{
-    match open_store(alloc, seed, disk) {
-        Ok(core) => {
-            let status = count(alloc, out, &core);
-            (status, close_store(core))
+    match command {
+        Command::Usage => (print(&mut connection.out, usage().as_bytes()), disk, second),
+        Command::Init { host } => {
+            let (out, clock) = (&mut connection.out, &connection.clock);
+            let (status, disk) = begin_store(alloc, out, clock, disk, host);
+            (status, disk, second)
         }
-        Err((fault, disk)) => (report_store(out, fault), disk),
+        Command::Inetd => {
+            let (status, disk) = inetd(alloc, seed, connection, disk);
+            (status, disk, second)
+        }
+        Command::Serve { .. } => unreachable!(),
+        Command::AddActor { name, locked } => {
+            let (status, disk) = add_actor(alloc, seed, connection, disk, entropy, name, locked);
+            (status, disk, second)
+        }
+        Command::AddPeer(peer) => {
+            let (status, disk) = add_peer(alloc, seed, connection, disk, peer);
+            (status, disk, second)
+        }
+        Command::Deliver => {
+            let (status, disk) = deliver_by(alloc, seed, connection, disk, benches);
+            (status, disk, second)
+        }
+        Command::Export { table } => {
+            let (status, disk) = export(alloc, seed, &mut connection.out, disk, table);
+            (status, disk, second)
+        }
+        Command::Check => {
+            let (status, disk) = check(alloc, seed, &mut connection.out, disk);
+            (status, disk, second)
+        }
+        Command::Migrate => migrate(alloc, seed, &mut connection.out, disk, second),
+        Command::Demo { number } => {
+            (demo(alloc, seed, &mut connection.out, number), disk, second)
+        }
     }
 }
 
 /// Does what `run` does, in this thread alone: whatever the arguments ask for, except `serve`. The
 /// benches are returned as they were, except for the first one's link, which `deliver` asks.
-pub fn run_alone<S: Source, O: Sink, D: Disk, W, K: Link, C: Clock, E: Entropy>(
+pub fn run_alone<S: Source, O: Sink, D: Disk, W: Door, K: Link, C: Clock, E: Entropy>(
     alloc: Global,
     seed: Seed,
     arguments: &[String],
     connection: &mut Connection<S, O, C>,
     disk: D,
+    second: D,
     benches: Vec<Bench<W, K>>,
     entropy: &mut E,
 ) -> Ended<D, W, K>
     requires alone { address_of (task_in (map string_bytes arguments.now)) ≡ None }
     requires linked { task_in (map string_bytes arguments.now) ≡ Some Deliver
         → 0 < vec_len benches }
-
-    // The status is one that the task may end with, and it is 2 exactly if the arguments are not
-    // accepted.
-    ensures statuses { IsTrue
-        (is_status_of (task_in (map string_bytes arguments.now)) result.status) }
-    ensures arguments { (result.status ≡ 2) ↔ (task_in (map string_bytes arguments.now) ≡ None) }
-
-    // At 0 the whole conversation over the input was held, over the history of the disk's file.
-    // Each request has the reply that the machine gives at the history so far, and each history
-    // that agrees on what the caller may know gives the same reply; or it has a reply about the
-    // disk, whose cause lies there. The entries that were kept are those that were acknowledged.
-    ensures talk { task_in (map string_bytes arguments.now) ≡ Some Inetd → result.status ≡ 0
-        → TalksOverStore (C.told connection.old.clock)
-        (medium_by D.shown D.crashes disk) (medium_by D.shown D.crashes result.disk)
-        (scene_by S.left O.sent O.write_faults connection.old.input connection.old.out)
-        (scene_by S.left O.sent O.write_faults connection.new.input connection.new.out) }
-
-    // At every other status it is a conversation too, as far as it went; or the store was not
-    // opened, for a reason that is reported, and nothing was read or written.
-    ensures session { task_in (map string_bytes arguments.now) ≡ Some Inetd
-        → ServesStore (C.told connection.old.clock)
-        (medium_by D.shown D.crashes disk) (medium_by D.shown D.crashes result.disk)
-        (scene_by S.left O.sent O.write_faults connection.old.input connection.old.out)
-        (scene_by S.left O.sent O.write_faults connection.new.input connection.new.out)
-        result.status }
-
-    // A member is made with the key that was drawn, or the first reason not to make it is reported.
-    // Each reason has its cause: at 6 the draw failed, at 7 a write, and at 5 the disk.
-    ensures added { (name : List ℕ) (locked : Bool)
-        → task_in (map string_bytes arguments.now) ≡ Some (AddActor name locked)
-        → AddsMember (C.told connection.old.clock)
-        (medium_by D.shown D.crashes disk) (medium_by D.shown D.crashes result.disk)
-        (chance_by E.next E.faults entropy.old) (chance_by E.next E.faults entropy.new)
-        (output_by O.sent O.write_faults connection.old.out)
-        (output_by O.sent O.write_faults connection.new.out) name locked result.status }
-
-    // A peer is made from the host, the key and the address, or the first reason not to make it is
-    // reported. Each reason has its cause: at 7 a write failed, and at 5 the disk.
-    ensures peered { (host key address : List ℕ) (relay : Bool)
-        → task_in (map string_bytes arguments.now) ≡ Some (AddPeer host key address relay)
-        → AddsPeer (C.told connection.old.clock)
-        (medium_by D.shown D.crashes disk) (medium_by D.shown D.crashes result.disk)
-        (output_by O.sent O.write_faults connection.old.out)
-        (output_by O.sent O.write_faults connection.new.out)
-        host key address relay result.status }
-
-    // A store is made, or the first reason not to make it is reported.
-    ensures made { (host : List ℕ)
-        → task_in (map string_bytes arguments.now) ≡ Some (Init host)
-        → MakesStore D.shown D.crashes (C.told connection.old.clock) disk result.disk
-        (output_by O.sent O.write_faults connection.old.out)
-        (output_by O.sent O.write_faults connection.new.out) host result.status }
-
-    // Whatever the result, the bytes of an existing store stay: reads give the same, and a crash at
-    // any moment of the run leaves nothing new.
-    ensures stays { (host : List ℕ)
-        → task_in (map string_bytes arguments.now) ≡ Some (Init host)
-        → KeepsOther (D.shown disk) (D.shown result.disk)
-        (D.crashes disk) (D.crashes result.disk) }
-
-    // The deliveries that are due at the one moment that is read are tried, each once and in order,
-    // by the first bench's link: all of them at 0, and otherwise the first of them. What was asked
-    // of the link and what was heard show the result of each, which is kept and then reported by
-    // its line.
-    ensures delivered { task_in (map string_bytes arguments.now) ≡ Some Deliver
-        → DeliversBy (told_by K.asked K.heard K.link_faults) (C.told connection.old.clock)
-        (medium_by D.shown D.crashes disk) (medium_by D.shown D.crashes result.disk)
-        benches.items result.benches.items
-        (output_by O.sent O.write_faults connection.old.out)
-        (output_by O.sent O.write_faults connection.new.out) result.status }
-
-    // What a store holds is counted, and the disk is untouched: reads give the same bytes, and a
-    // crash at any moment of the run leaves nothing new.
-    ensures checked { task_in (map string_bytes arguments.now) ≡ Some Check
-        → ChecksStore
-        (medium_by D.shown D.crashes disk) (medium_by D.shown D.crashes result.disk)
-        (output_by O.sent O.write_faults connection.old.out)
-        (output_by O.sent O.write_faults connection.new.out) result.status }
-
-    // A table of what a store holds is printed, and the disk is untouched, as it is by counting.
-    ensures exported { (table : Table)
-        → task_in (map string_bytes arguments.now) ≡ Some (Export table)
-        → ExportsStore table
-        (medium_by D.shown D.crashes disk) (medium_by D.shown D.crashes result.disk)
-        (output_by O.sent O.write_faults connection.old.out)
-        (output_by O.sent O.write_faults connection.new.out) result.status }
-
-    // A demonstration prints the one text of its number, which depends on nothing else: at 7 a
-    // prefix of it, since a write failed, and at 12 nothing.
-    ensures demonstrated { (number : ℕ)
-        → task_in (map string_bytes arguments.now) ≡ Some (Demo number)
-        → Demonstrates number (output_by O.sent O.write_faults connection.old.out)
-        (output_by O.sent O.write_faults connection.new.out) result.status }
-
-    // Whatever the task and the input, a store that is opened is returned with the records of a
-    // legal history: those that the opening found, and those of the entries that the run made. A
-    // crash at any moment of the run leaves the records from before the run, or those that the
-    // opening found, followed by the first of the new ones, none or more, and by at most one that
-    // was in doubt then. After the run a crash leaves the records of all of them, followed by at
-    // most the one in doubt. A store that is not opened is untouched, image by image.
-    ensures crashes { opens_store (task_in (map string_bytes arguments.now)) ≡ true
-        → IsKeptSafe (medium_by D.shown D.crashes disk) (medium_by D.shown D.crashes result.disk) }
-
-    // The usage is printed completely, unless a write failed.
-    ensures usage { task_in (map string_bytes arguments.now) ≡ Some Usage
-        → Prints (output_by O.sent O.write_faults connection.old.out)
-        (output_by O.sent O.write_faults connection.new.out) usage_text result.status }
-    ensures refused { result.status ≡ 2
-        → WritesUnlessFailed (output_by O.sent O.write_faults connection.old.out)
-        (output_by O.sent O.write_faults connection.new.out) [] usage_text }
-
-    // Only serving a connection reads the input, only the tasks of a store ask the disk, and only
-    // making a member draws a key.
-    ensures idle { task_in (map string_bytes arguments.now) ≢ Some Inetd
-        → connection.new.input ≡ connection.old.input }
-    ensures unasked { names_store (task_in (map string_bytes arguments.now)) ≡ false
-        → result.disk ≡ disk }
-
-    ensures undrawn { may_draw (task_in (map string_bytes arguments.now)) ≡ false
-        → entropy.new ≡ entropy.old }
-
-    // A failure has its cause outside: the count of failed reads rose exactly at 6, and that of
-    // failed writes at 7. (For making a member, a peer or a store, `added`, `peered` and `made` say
-    // so, and for what is tried `delivered` does.)
-    ensures causes { task_in (map string_bytes arguments.now) ≡ Some Inetd → HasCauses
-        (faults_by S.read_faults O.write_faults connection.old.input connection.old.out)
-        (faults_by S.read_faults O.write_faults connection.new.input connection.new.out)
-        result.status }
-    ensures clock { connection.new.clock ≡ connection.old.clock }
-    // Only `deliver` asks a link, the first.
-    ensures benches { task_in (map string_bytes arguments.now) ≢ Some Deliver
-        → result.benches ≡ benches }
-
-    // If no call failed, a task is done (0) unless memory ran out (12), over each store, and `init`
-    // over a disk that may become one, if the task breaks no rule and has room. The input of
-    // `inetd` may also have ended inside a request (8).
-    ensures complete { (task : Task) → task_in (map string_bytes arguments.now) ≡ Some task
-        → IsComplete task (C.told connection.old.clock)
-        (outside_of (D.shown disk) (chance_by E.next E.faults entropy.old)
-        (faults_by S.read_faults O.write_faults connection.old.input connection.old.out))
-        (outside_of (D.shown result.disk) (chance_by E.next E.faults entropy.new)
-        (faults_by S.read_faults O.write_faults connection.new.input connection.new.out))
-        result.status }
+    ensures { Runs (kinds S.Source O.Sink D.Disk C.Clock E.Entropy W.Door K.Link)
+        (task_in (map string_bytes arguments.now))
+        (world connection.old disk second entropy.old benches)
+        (world connection.new result.disk result.second entropy.new result.benches) result.status }
 {
+    let mut benches = benches;
     match command_of(arguments) {
-        Some(Command::Inetd) => {
-            let (status, disk) = inetd(alloc, seed, connection, disk);
+        Some(command) => {
+            let (status, disk, second) = perform(
+                alloc,
+                seed,
+                command,
+                connection,
+                disk,
+                second,
+                &mut benches,
+                entropy,
+            );
             Ended {
                 status,
                 disk,
+                second,
                 benches,
             }
         }
-        Some(Command::AddActor { name, locked }) => {
-            let (status, disk) = add_actor(alloc, seed, connection, disk, entropy, name, locked);
-            Ended {
-                status,
-                disk,
-                benches,
-            }
-        }
-        Some(Command::AddPeer(peer)) => {
-            let (status, disk) = add_peer(alloc, seed, connection, disk, peer);
-            Ended {
-                status,
-                disk,
-                benches,
-            }
-        }
-        Some(Command::Init { host }) => {
-            let (out, clock) = (&mut connection.out, &connection.clock);
-            let (status, disk) = begin_store(alloc, out, clock, disk, host);
-            Ended {
-                status,
-                disk,
-                benches,
-            }
-        }
-        Some(Command::Deliver) => {
-            let mut benches = benches;
-            let (status, disk) = deliver_by(alloc, seed, connection, disk, &mut benches);
-            Ended {
-                status,
-                disk,
-                benches,
-            }
-        }
-        Some(Command::Export { table }) => {
-            let (status, disk) = export(alloc, seed, &mut connection.out, disk, table);
-            Ended {
-                status,
-                disk,
-                benches,
-            }
-        }
-        Some(Command::Check) => {
-            let (status, disk) = check(alloc, seed, &mut connection.out, disk);
-            Ended {
-                status,
-                disk,
-                benches,
-            }
-        }
-        Some(Command::Demo { number }) => {
-            let status = demo(alloc, seed, &mut connection.out, number);
-            Ended {
-                status,
-                disk,
-                benches,
-            }
-        }
-        Some(Command::Usage) => Ended {
-            status: print(&mut connection.out, usage().as_bytes()),
-            disk,
-            benches,
-        },
-        Some(Command::Serve { .. }) => unreachable!(),
         None => Ended {
             status: report(&mut connection.out, NOT_ACCEPTED, usage().as_bytes()),
             disk,
+            second,
             benches,
         },
     }
@@ -498,7 +312,11 @@ pub fn run_alone<S: Source, O: Sink, D: Disk, W, K: Link, C: Clock, E: Entropy>(
 /// or `gave-up`; and then `done N`, the number of deliveries that it tried. `export STORE TABLE`
 /// prints the members (`actors`), the `activities` or the deliveries that have not ended (`queue`)
 /// as comma-separated values (RFC 4180), and names no recipient. `check STORE` opens the store and
-/// prints how many entries, members, activities and deliveries that have not ended it has.
+/// prints how many entries, members, activities and deliveries that have not ended it has, and
+/// `tip HEX`, the chain of its records in 64 digits. `migrate OLD NEW` copies the records of a store
+/// of this format or of the first one to a second disk, which becomes a store of this format, and
+/// prints `moved E entries`; it does not write the first disk. Every other command refuses a store of
+/// the first format.
 /// `demo NUMBER` has eight members of a town in memory send 2,000 requests, which are drawn from a
 /// number of one to four digits, and prints how many replies had each status, what the town then
 /// has, and the length and the digest of all replies. Other arguments are answered with the usage,
@@ -508,23 +326,24 @@ pub fn run_alone<S: Source, O: Sink, D: Disk, W, K: Link, C: Clock, E: Entropy>(
 /// |---|---|---|
 /// | 0 | it is done | as above |
 /// | 2 | the arguments are not accepted | the usage |
-/// | 3 | the disk has fewer than 9 bytes, or does not begin with a store's, or has no record | `not a store` |
+/// | 3 | the disk has fewer than 9 bytes, or does not begin with a store's, of either format, or has no record | `not a store` |
 /// | 4 | the store is damaged | `damaged at byte P`, `damaged at record R` |
-/// | 5 | the disk failed | `disk fault` |
+/// | 5 | a disk failed | `disk fault` |
 /// | 6 | a read failed, or no key could be drawn | nothing |
 /// | 7 | a write failed | |
 /// | 8 | the input ended inside a request | |
-/// | 9 | a store was to be made, and the disk has other bytes | `exists` |
+/// | 9 | a store was to be made, or records to be moved, and the disk for them has other bytes | `exists` |
 /// | 10 | a rule is broken | `refused: bad name`, `refused: name taken`, `refused: key taken`, `refused: bad host`, `refused: host taken`, `refused: bad key`, `refused: bad address` |
 /// | 11 | a door failed | nothing |
 /// | 12 | out of memory | nothing, lines of attempts that were kept, or a prefix of the table |
-/// | 13 | the store has no room for a member or a peer, or for the result of an attempt | `full` |
+/// | 13 | the store has no room for a member or a peer, for the result of an attempt, or for the records that are to be moved | `full` |
+/// | 14 | the store is of the first format, and the command is not `migrate` | `old format` |
 ///
 /// `inetd` is done if the input ended after the last request, or a reply closed the connection, and
-/// `serve` if each door closed. At 7, a member, peer or store that was to be made was made, and the
-/// result of the last attempt of `deliver` was kept.
+/// `serve` if each door closed. At 7, a member, peer or store that was to be made was made, records
+/// that were to be moved were moved, and the result of the last attempt of `deliver` was kept.
 ///
-/// A status other than 0 stays if its text cannot be written. The disk is returned with everything
+/// A status other than 0 stays if its text cannot be written. Each disk is returned with everything
 /// that was kept, and the benches are returned too. The seed is used to look up strings: nothing
 /// that can be seen depends on it except time.
 pub fn run<
@@ -543,181 +362,23 @@ pub fn run<
     arguments: &[String],
     connection: &mut Connection<S, O, C>,
     disk: D,
+    second: D,
     benches: Vec<Bench<W, K>>,
     entropy: &mut E,
 ) -> Ended<D, W, K>
     requires some { 0 < vec_len benches }
     requires waiting { All (λ b. IsWaiting W.out W.idle b.door) benches.items }
-
-    // The status is one that the task may end with, and it is 2 exactly if the arguments are not
-    // accepted.
-    ensures statuses { IsTrue
-        (is_status_of (task_in (map string_bytes arguments.now)) result.status) }
-    ensures arguments { (result.status ≡ 2) ↔ (task_in (map string_bytes arguments.now) ≡ None) }
-
-    // At 0 the whole conversation over the input was held, over the history of the disk's file.
-    // Each request has the reply that the machine gives at the history so far, and each history
-    // that agrees on what the caller may know gives the same reply; or it has a reply about the
-    // disk, whose cause lies there. The entries that were kept are those that were acknowledged.
-    ensures talk { task_in (map string_bytes arguments.now) ≡ Some Inetd → result.status ≡ 0
-        → TalksOverStore (C.told connection.old.clock)
-        (medium_by D.shown D.crashes disk) (medium_by D.shown D.crashes result.disk)
-        (scene_by S.left O.sent O.write_faults connection.old.input connection.old.out)
-        (scene_by S.left O.sent O.write_faults connection.new.input connection.new.out) }
-
-    // At every other status it is a conversation too, as far as it went; or the store was not
-    // opened, for a reason that is reported, and nothing was read or written.
-    ensures session { task_in (map string_bytes arguments.now) ≡ Some Inetd
-        → ServesStore (C.told connection.old.clock)
-        (medium_by D.shown D.crashes disk) (medium_by D.shown D.crashes result.disk)
-        (scene_by S.left O.sent O.write_faults connection.old.input connection.old.out)
-        (scene_by S.left O.sent O.write_faults connection.new.input connection.new.out)
-        result.status }
-
-    // A member is made with the key that was drawn, or the first reason not to make it is reported.
-    // Each reason has its cause: at 6 the draw failed, at 7 a write, and at 5 the disk.
-    ensures added { (name : List ℕ) (locked : Bool)
-        → task_in (map string_bytes arguments.now) ≡ Some (AddActor name locked)
-        → AddsMember (C.told connection.old.clock)
-        (medium_by D.shown D.crashes disk) (medium_by D.shown D.crashes result.disk)
-        (chance_by E.next E.faults entropy.old) (chance_by E.next E.faults entropy.new)
-        (output_by O.sent O.write_faults connection.old.out)
-        (output_by O.sent O.write_faults connection.new.out) name locked result.status }
-
-    // A peer is made from the host, the key and the address, or the first reason not to make it is
-    // reported. Each reason has its cause: at 7 a write failed, and at 5 the disk.
-    ensures peered { (host key address : List ℕ) (relay : Bool)
-        → task_in (map string_bytes arguments.now) ≡ Some (AddPeer host key address relay)
-        → AddsPeer (C.told connection.old.clock)
-        (medium_by D.shown D.crashes disk) (medium_by D.shown D.crashes result.disk)
-        (output_by O.sent O.write_faults connection.old.out)
-        (output_by O.sent O.write_faults connection.new.out)
-        host key address relay result.status }
-
-    // A store is made, or the first reason not to make it is reported.
-    ensures made { (host : List ℕ)
-        → task_in (map string_bytes arguments.now) ≡ Some (Init host)
-        → MakesStore D.shown D.crashes (C.told connection.old.clock) disk result.disk
-        (output_by O.sent O.write_faults connection.old.out)
-        (output_by O.sent O.write_faults connection.new.out) host result.status }
-
-    // Whatever the result, the bytes of an existing store stay: reads give the same, and a crash at
-    // any moment of the run leaves nothing new.
-    ensures stays { (host : List ℕ)
-        → task_in (map string_bytes arguments.now) ≡ Some (Init host)
-        → KeepsOther (D.shown disk) (D.shown result.disk)
-        (D.crashes disk) (D.crashes result.disk) }
-
-    // The deliveries that are due at the one moment that is read are tried, each once and in order,
-    // by the first bench's link: all of them at 0, and otherwise the first of them. What was asked
-    // of the link and what was heard show the result of each, which is kept and then reported by
-    // its line.
-    ensures delivered { task_in (map string_bytes arguments.now) ≡ Some Deliver
-        → DeliversBy (told_by K.asked K.heard K.link_faults) (C.told connection.old.clock)
-        (medium_by D.shown D.crashes disk) (medium_by D.shown D.crashes result.disk)
-        benches.items result.benches.items
-        (output_by O.sent O.write_faults connection.old.out)
-        (output_by O.sent O.write_faults connection.new.out) result.status }
-
-    // What a store holds is counted, and the disk is untouched: reads give the same bytes, and a
-    // crash at any moment of the run leaves nothing new.
-    ensures checked { task_in (map string_bytes arguments.now) ≡ Some Check
-        → ChecksStore
-        (medium_by D.shown D.crashes disk) (medium_by D.shown D.crashes result.disk)
-        (output_by O.sent O.write_faults connection.old.out)
-        (output_by O.sent O.write_faults connection.new.out) result.status }
-
-    // A table of what a store holds is printed, and the disk is untouched, as it is by counting.
-    ensures exported { (table : Table)
-        → task_in (map string_bytes arguments.now) ≡ Some (Export table)
-        → ExportsStore table
-        (medium_by D.shown D.crashes disk) (medium_by D.shown D.crashes result.disk)
-        (output_by O.sent O.write_faults connection.old.out)
-        (output_by O.sent O.write_faults connection.new.out) result.status }
-
-    // A demonstration prints the one text of its number, which depends on nothing else: at 7 a
-    // prefix of it, since a write failed, and at 12 nothing.
-    ensures demonstrated { (number : ℕ)
-        → task_in (map string_bytes arguments.now) ≡ Some (Demo number)
-        → Demonstrates number (output_by O.sent O.write_faults connection.old.out)
-        (output_by O.sent O.write_faults connection.new.out) result.status }
-
-    // Whatever the task and the input, a store that is opened is returned with the records of a
-    // legal history: those that the opening found, and those of the entries that the run made. A
-    // crash at any moment of the run leaves the records from before the run, or those that the
-    // opening found, followed by the first of the new ones, none or more, and by at most one that
-    // was in doubt then. After the run a crash leaves the records of all of them, followed by at
-    // most the one in doubt. A store that is not opened is untouched, image by image.
-    ensures crashes { opens_store (task_in (map string_bytes arguments.now)) ≡ true
-        → IsKeptSafe (medium_by D.shown D.crashes disk) (medium_by D.shown D.crashes result.disk) }
-
-    // The usage is printed completely, unless a write failed.
-    ensures usage { task_in (map string_bytes arguments.now) ≡ Some Usage
-        → Prints (output_by O.sent O.write_faults connection.old.out)
-        (output_by O.sent O.write_faults connection.new.out) usage_text result.status }
-    ensures refused { result.status ≡ 2
-        → WritesUnlessFailed (output_by O.sent O.write_faults connection.old.out)
-        (output_by O.sent O.write_faults connection.new.out) [] usage_text }
-
-    // Only serving a connection reads the input, only the tasks of a store ask the disk, and only
-    // making a member draws a key.
-    ensures idle { task_in (map string_bytes arguments.now) ≢ Some Inetd
-        → connection.new.input ≡ connection.old.input }
-    ensures unasked { names_store (task_in (map string_bytes arguments.now)) ≡ false
-        → result.disk ≡ disk }
-
-    ensures undrawn { may_draw (task_in (map string_bytes arguments.now)) ≡ false
-        → entropy.new ≡ entropy.old }
-
-    // A failure has its cause outside: the count of failed reads rose exactly at 6, and that of
-    // failed writes at 7. (For making a member, a peer or a store, `added`, `peered` and `made` say
-    // so, and for what is tried `delivered` does.)
-    ensures causes { task_in (map string_bytes arguments.now) ≡ Some Inetd → HasCauses
-        (faults_by S.read_faults O.write_faults connection.old.input connection.old.out)
-        (faults_by S.read_faults O.write_faults connection.new.input connection.new.out)
-        result.status }
-    ensures clock { connection.new.clock ≡ connection.old.clock }
-
-    // `serve` serves each connection that a door gives, over one log that begins with the history
-    // of the disk's file: each request has the reply that the machine gives at the log so far. When
-    // a door is idle, its worker makes one step of delivery: it tries the first delivery that is
-    // due and that nobody has claimed. Each item that was added is that of one request or one
-    // attempt of one worker. A door that failed is the cause of 11, and at 0 each door has closed.
-    ensures doors { (address : List ℕ)
-        → task_in (map string_bytes arguments.now) ≡ Some (Serve address)
-        → ServesDoors (C.told connection.old.clock)
-        (medium_by D.shown D.crashes disk) (medium_by D.shown D.crashes result.disk)
-        W.served (told_by K.asked K.heard K.link_faults) W.closed W.faults
-        benches.items result.benches.items result.status }
-
-    // However it ended, each connection that a door gave has come back to it, and each step that
-    // was made while no connection waited was reported. `serve` prints nothing.
-    ensures waiting { (address : List ℕ)
-        → task_in (map string_bytes arguments.now) ≡ Some (Serve address)
-        → All (λ b. IsWaiting W.out W.idle b.door) result.benches.items }
-    ensures silent { (address : List ℕ)
-        → task_in (map string_bytes arguments.now) ≡ Some (Serve address)
-        → connection.new.out ≡ connection.old.out }
-
-    // Only `serve` asks doors and links, and `deliver` the first link.
-    ensures benches { address_of (task_in (map string_bytes arguments.now)) ≡ None
-        → task_in (map string_bytes arguments.now) ≢ Some Deliver
-        → result.benches ≡ benches }
-
-    // If no call failed, a task is done (0) unless memory ran out (12), over each store, and `init`
-    // over a disk that may become one, if the task breaks no rule and has room. The input of
-    // `inetd` may also have ended inside a request (8).
-    ensures complete { (task : Task) → task_in (map string_bytes arguments.now) ≡ Some task
-        → DoorsAreCalm W.faults benches.items result.benches.items
-        → IsComplete task (C.told connection.old.clock)
-        (outside_of (D.shown disk) (chance_by E.next E.faults entropy.old)
-        (faults_by S.read_faults O.write_faults connection.old.input connection.old.out))
-        (outside_of (D.shown result.disk) (chance_by E.next E.faults entropy.new)
-        (faults_by S.read_faults O.write_faults connection.new.input connection.new.out))
-        result.status }
+    ensures { Runs (kinds S.Source O.Sink D.Disk C.Clock E.Entropy W.Door K.Link)
+        (task_in (map string_bytes arguments.now))
+        (world connection.old disk second entropy.old benches)
+        (world connection.new result.disk result.second entropy.new result.benches) result.status }
 {
     match command_of(arguments) {
-        Some(Command::Serve { .. }) => serve(rt, alloc, seed, &connection.clock, disk, benches),
-        _ => run_alone(alloc, seed, arguments, connection, disk, benches, entropy),
+        Some(Command::Serve { .. }) => {
+            serve(rt, alloc, seed, &connection.clock, disk, second, benches)
+        }
+        _ => run_alone(
+            alloc, seed, arguments, connection, disk, second, benches, entropy,
+        ),
     }
 }

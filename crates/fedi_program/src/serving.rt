@@ -2,11 +2,11 @@
 
 ghost use Rattle.std.specs.Prelude.{◌≡◌, ◌<◌, ℕ, All, List, Some, true, vec_len};
 ghost use Rattle.fedi_hall.specs.Works.{IsWaiting};
-ghost use Rattle.fedi_logged.specs.Attempts.{told_by};
 ghost use Rattle.fedi_program.specs.Commands.{Serve};
 ghost use Rattle.fedi_program.specs.Runs.{is_status_of};
-ghost use Rattle.fedi_program.specs.Serving.{ServesDoors, status_after};
-ghost use Rattle.fedi_program.specs.Stores.{IsKeptSafe, medium_by};
+ghost use Rattle.fedi_program.specs.Seen.{medium};
+ghost use Rattle.fedi_program.specs.Serving.{AreWaiting, ServesDoors, status_after};
+ghost use Rattle.fedi_program.specs.Stores.{IsKeptSafe};
 
 use crate::running::Ended;
 use crate::statuses::{DONE, DOOR_FAULT, OUT_OF_MEMORY};
@@ -44,19 +44,19 @@ pub(crate) fn serve<
     seed: Seed,
     clock: &C,
     disk: D,
+    second: D,
     benches: Vec<Bench<W, K>>,
 ) -> Ended<D, W, K>
     requires some { 0 < vec_len benches }
     requires waiting { All (λ b. IsWaiting W.out W.idle b.door) benches.items }
-    ensures served { ServesDoors (C.told clock.now)
-        (medium_by D.shown D.crashes disk) (medium_by D.shown D.crashes result.disk)
-        W.served (told_by K.asked K.heard K.link_faults) W.closed W.faults
+    ensures served { ServesDoors W.Door K.Link (C.told clock.now)
+        (medium D.Disk disk) (medium D.Disk result.disk)
         benches.items result.benches.items result.status }
-    ensures safe { IsKeptSafe (medium_by D.shown D.crashes disk)
-        (medium_by D.shown D.crashes result.disk) }
+    ensures safe { IsKeptSafe (medium D.Disk disk) (medium D.Disk result.disk) }
     ensures statuses { (address : List ℕ)
         → is_status_of (Some (Serve address)) result.status ≡ true }
-    ensures waiting { All (λ b. IsWaiting W.out W.idle b.door) result.benches.items }
+    ensures waiting { AreWaiting W.Door result.benches.items }
+    ensures second { result.second ≡ second }
 {
     match open_store(alloc, seed, disk) {
         Ok(core) => {
@@ -64,12 +64,14 @@ pub(crate) fn serve<
             Ended {
                 status: status_after(end),
                 disk: close_store(core),
+                second,
                 benches,
             }
         }
         Err((fault, disk)) => Ended {
             status: status_by(fault),
             disk,
+            second,
             benches,
         },
     }

@@ -24,7 +24,7 @@ pub const WRITE_FAULT: u8 = 7;
 /// The input ended inside a request.
 pub const CUT_SHORT: u8 = 8;
 
-/// The disk that is to be made a store holds something else.
+/// The disk that is to be made a store, or to be filled, holds something else.
 pub const EXISTS: u8 = 9;
 
 /// A command breaks a rule.
@@ -38,3 +38,6 @@ pub const OUT_OF_MEMORY: u8 = 12;
 
 /// The store has no room.
 pub const FULL: u8 = 13;
+
+/// The store is of the first format.
+pub const OLD_FORMAT: u8 = 14;

@@ -1,14 +1,17 @@
 //! What a run prints about a store that is made, or that is not opened.
 
 ghost use Rattle.std.specs.Prelude.{◌≡◌, ◌≤◌, IfOk, length};
+ghost use Rattle.fedi_journal.specs.Chains.{chained};
 ghost use Rattle.fedi_journal.specs.Making.{KeepsOther};
-ghost use Rattle.fedi_logged.specs.Endings.{output_by};
 ghost use Rattle.fedi_program.specs.Members.{Reports};
+ghost use Rattle.fedi_program.specs.Seen.{output};
 ghost use Rattle.fedi_program.specs.Stores.{MakesStore, ReportsMaking, ReportsStore, damage_line};
 ghost use Rattle.fedi_program.specs.Stores.{made_line, status_by};
 
 use crate::printing::{print, report};
-use crate::statuses::{DAMAGED, DISK_FAULT, EXISTS, NOT_A_STORE, OUT_OF_MEMORY, REFUSED};
+use crate::statuses::{
+    DAMAGED, DISK_FAULT, EXISTS, NOT_A_STORE, OLD_FORMAT, OUT_OF_MEMORY, REFUSED,
+};
 use arrayvec::ArrayString;
 use fedi_address::{Host, HostFault};
 use fedi_outside::{Clock, Disk, Sink};
@@ -22,6 +25,7 @@ pub fn status_by(fault: StoreFault) -> u8
 {
     match fault {
         StoreFault::NotAStore => NOT_A_STORE,
+        StoreFault::OldFormat => OLD_FORMAT,
         StoreFault::DamagedByte { .. } => DAMAGED,
         StoreFault::DamagedRecord { .. } => DAMAGED,
         StoreFault::Failed => DISK_FAULT,
@@ -48,8 +52,8 @@ fn damage_line(what: &str, place: u64) -> ArrayString<64>
 /// Reports where a store is damaged. Returns the exit status.
 fn report_damage<O: Sink>(out: &mut O, what: &str, place: u64) -> u8
     requires { length what.now ≤ 8 }
-    ensures { Reports (output_by O.sent O.write_faults out.old)
-        (output_by O.sent O.write_faults out.new) DAMAGED (damage_line what.now place) result }
+    ensures { Reports (output O.Sink out.old) (output O.Sink out.new) DAMAGED
+        (damage_line what.now place) result }
 {
     let line = damage_line(what, place);
     report(out, DAMAGED, line.as_bytes())
@@ -57,11 +61,11 @@ fn report_damage<O: Sink>(out: &mut O, what: &str, place: u64) -> u8
 
 /// Reports why a store is not opened. Returns the exit status.
 pub fn report_store<O: Sink>(out: &mut O, fault: StoreFault) -> u8
-    ensures { ReportsStore fault (output_by O.sent O.write_faults out.old)
-        (output_by O.sent O.write_faults out.new) result }
+    ensures { ReportsStore fault (output O.Sink out.old) (output O.Sink out.new) result }
 {
     match fault {
         StoreFault::NotAStore => report(out, NOT_A_STORE, b"not a store\n"),
+        StoreFault::OldFormat => report(out, OLD_FORMAT, b"old format\n"),
         StoreFault::DamagedByte { place } => report_damage(out, "byte", place),
         StoreFault::DamagedRecord { place } => report_damage(out, "record", place),
         StoreFault::Failed => report(out, DISK_FAULT, b"disk fault\n"),
@@ -70,9 +74,8 @@ pub fn report_store<O: Sink>(out: &mut O, fault: StoreFault) -> u8
 }
 
 /// Reports why a store is not made. Returns the exit status.
-fn report_making<O: Sink>(out: &mut O, fault: MakeFault) -> u8
-    ensures { ReportsMaking fault (output_by O.sent O.write_faults out.old)
-        (output_by O.sent O.write_faults out.new) result }
+pub fn report_making<O: Sink>(out: &mut O, fault: MakeFault) -> u8
+    ensures { ReportsMaking fault (output O.Sink out.old) (output O.Sink out.new) result }
 {
     match fault {
         MakeFault::Exists => report(out, EXISTS, b"exists\n"),
@@ -105,10 +108,9 @@ pub fn begin_store<O: Sink, D: Disk, C: Clock>(
     disk: D,
     host: &str,
 ) -> (u8, D)
-    ensures made { MakesStore D.shown D.crashes (C.told clock.now) disk result.1
-        (output_by O.sent O.write_faults out.old) (output_by O.sent O.write_faults out.new)
-        host.now result.0 }
-    ensures stays { KeepsOther (D.shown disk) (D.shown result.1)
+    ensures made { MakesStore D.Disk (C.told clock.now) disk result.1
+        (output O.Sink out.old) (output O.Sink out.new) host.now result.0 }
+    ensures stays { KeepsOther chained (D.shown disk) (D.shown result.1)
         (D.crashes disk) (D.crashes result.1) }
 {
     let moment = Moment::clamped(clock.now());

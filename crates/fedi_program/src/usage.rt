@@ -13,6 +13,7 @@ fedi serve STORE ADDRESS
 fedi deliver STORE
 fedi export STORE actors|activities|queue
 fedi check STORE
+fedi migrate OLD NEW
 fedi demo NUMBER
 ";
 

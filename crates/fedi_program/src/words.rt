@@ -28,6 +28,8 @@ pub enum Verb {
     Export,
     /// `check`
     Check,
+    /// `migrate`
+    Migrate,
     /// `demo`
     Demo,
 }
@@ -99,6 +101,7 @@ fn row_of(name: &str) -> Option<Row>
         "deliver" => Some(Row::new(Verb::Deliver, 1)),
         "export" => Some(Row::new(Verb::Export, 2)),
         "check" => Some(Row::new(Verb::Check, 1)),
+        "migrate" => Some(Row::new(Verb::Migrate, 2)),
         "demo" => Some(Row::new(Verb::Demo, 1)),
         _ => None,
     }

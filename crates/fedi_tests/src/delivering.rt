@@ -1,176 +1,18 @@
 //! Runs that deliver waiting activities to other servers, byte for byte.
 
 use crate::cases::{Case, SECONDS, calm, inetd};
-use crate::example::{MEMBERS, PEERED};
-use crate::records::{ANA, FOLLOWED, HOSTED, LAKE, NOTE};
-use crate::runs::{are_texts, calls_after, calls_of_an_opening, left_by};
+use crate::example::PEERED;
+use crate::runs::{are_texts, calls_after, calls_of_an_opening, ends, left_by};
+use fedi_rows::records::{ANA, FOLLOWED, FORWARDED, HILL, HOSTED, LAKE, NOTE};
 use fedi_rows::{expect, expect_at, has_records};
 use std::alloc::{AllocError, Global};
 use std::test::Fail;
-
-/// Another server became a peer.
-pub const HILL: &[u8] = b"\
-    \x03\
-    \0\0\0\x0chill.example\
-    0123456789abcdef0123456789abcdef\
-    \0\0\0\x0e127.0.0.1:8082\
-    \0\
-    \0\0\0\0.\xbc\x98\xa1";
-
-/// It delivered a Follow of the first member, which is accepted at once.
-const FOLLOWED_BY_FINN: &[u8] = b"\
-    \x05\
-    \0\0\0\x0chill.example\
-    \0\0\0\x03ana\
-    \x01\0\0\0\x23https://hill.example/users/finn/a/1\
-    \x0a\
-    \x01\0\0\0\x1fhttps://hill.example/users/finn\
-    \x01\
-    \0\0\0\x1ehttps://club.example/users/ana\
-    \0\0\0\0\0\0\0\0\0\0\0\0\0\0\0\0\0\0\0\0\0\0\0\0\0\0\0\0\0\0\
-    \0\0\0\0.\xbc\x98\xa1";
-
-/// It delivered a reply to the member's second activity.
-pub const REPLIED: &[u8] = b"\
-    \x05\
-    \0\0\0\x0chill.example\
-    \0\0\0\x03ana\
-    \x01\0\0\0\x23https://hill.example/users/dora/a/9\
-    \x06\
-    \x01\0\0\0\x1fhttps://hill.example/users/dora\
-    \x02\
-    \x01\0\0\0\x23https://hill.example/users/dora/o/9\
-    \0\0\0\x04Note\
-    \0\
-    \0\0\0\0\0\0\0\0\0\0\0\0\0\0\0\0\0\0\0\0\
-    \x01\0\0\0\x22https://club.example/users/ana/o/2\
-    \x01\0\0\0\x05Hello\
-    \0\0\0\0\0\0\0\0\0\0\0\
-    \0\
-    \0\0\0\0\0\0\0\0\0\0\0\0\0\0\0\0\0\0\0\0\
-    \0\0\0\0\0\0\0\0\0\
-    \0\0\0\0.\xbc\x98\xa1";
-
-/// It delivered a Tombstone in place of that reply.
-const EMPTIED: &[u8] = b"\
-    \x05\
-    \0\0\0\x0chill.example\
-    \0\0\0\x03ana\
-    \x01\0\0\0\x23https://hill.example/users/dora/a/9\
-    \x06\
-    \x01\0\0\0\x1fhttps://hill.example/users/dora\
-    \x02\
-    \x01\0\0\0\x23https://hill.example/users/dora/o/9\
-    \0\0\0\x09Tombstone\
-    \0\
-    \0\0\0\0\0\0\0\0\0\0\0\0\0\0\0\0\0\0\0\0\
-    \x01\0\0\0\x22https://club.example/users/ana/o/2\
-    \0\0\0\0\0\0\0\0\0\0\0\0\
-    \0\
-    \0\0\0\0\0\0\0\0\0\0\0\0\0\0\0\0\0\0\0\0\
-    \0\0\0\0\0\0\0\0\0\
-    \0\0\0\0.\xbc\x98\xa1";
-
-/// It delivered a Like of that object, which is for the followers of the member.
-pub const REPLY_LIKED: &[u8] = b"\
-    \x05\
-    \0\0\0\x0chill.example\
-    \0\0\0\x03ana\
-    \x01\0\0\0\x24https://hill.example/users/dora/a/10\
-    \x0f\
-    \x01\0\0\0\x1fhttps://hill.example/users/dora\
-    \x01\
-    \0\0\0\x23https://hill.example/users/dora/o/9\
-    \0\
-    \0\0\0\0\
-    \0\0\0\x01\
-    \0\0\0(https://club.example/users/ana/followers\
-    \0\0\0\0\0\0\0\0\0\0\0\0\
-    \0\0\0\0\0\0\0\0\0\
-    \0\0\0\0.\xbc\x98\xa1";
-
-/// It delivered another one, which is also for the followers of the member.
-pub const FORWARDED: &[u8] = b"\
-    \x05\
-    \0\0\0\x0chill.example\
-    \0\0\0\x03ana\
-    \x01\0\0\0\x23https://hill.example/users/dora/a/8\
-    \x06\
-    \x01\0\0\0\x1fhttps://hill.example/users/dora\
-    \x02\
-    \x01\0\0\0\x23https://hill.example/users/dora/o/8\
-    \0\0\0\x04Note\
-    \0\
-    \0\0\0\0\0\0\0\0\0\0\0\0\0\0\0\0\0\0\0\0\
-    \x01\0\0\0\x22https://club.example/users/ana/o/2\
-    \x01\0\0\0\x05Hello\
-    \0\0\0\0\0\0\0\0\0\0\0\
-    \0\
-    \0\0\0\0\
-    \0\0\0\x01\
-    \0\0\0(https://club.example/users/ana/followers\
-    \0\0\0\0\0\0\0\0\0\0\0\0\
-    \0\0\0\0\0\0\0\0\0\
-    \0\0\0\0.\xbc\x98\xa1";
 
 /// A town in which the acceptance of a Follow is due.
 const FOLLOWING: [&[u8]; 4] = [HOSTED, ANA, LAKE, FOLLOWED];
 
 /// A town in which that acceptance is due, and the forwarding of a note to the follower.
 pub const WAITING: [&[u8]; 7] = [HOSTED, ANA, LAKE, HILL, FOLLOWED, NOTE, FORWARDED];
-
-/// The same records, except that the note is not for the followers.
-const NOT_FORWARDED: [&[u8]; 7] = [HOSTED, ANA, LAKE, HILL, FOLLOWED, NOTE, REPLIED];
-
-/// A town with one more follower, on the server that the note came from.
-const FOLLOWED_TWICE: [&[u8]; 8] = [
-    HOSTED,
-    ANA,
-    LAKE,
-    HILL,
-    FOLLOWED,
-    NOTE,
-    FOLLOWED_BY_FINN,
-    FORWARDED,
-];
-
-/// The Like of the reply is forwarded, and that of the Tombstone is not: it replies to nothing.
-const LIKED_REPLY: [&[u8]; 8] = [
-    HOSTED,
-    ANA,
-    LAKE,
-    HILL,
-    FOLLOWED,
-    NOTE,
-    REPLIED,
-    REPLY_LIKED,
-];
-
-const LIKED_TOMBSTONE: [&[u8]; 8] = [
-    HOSTED,
-    ANA,
-    LAKE,
-    HILL,
-    FOLLOWED,
-    NOTE,
-    EMPTIED,
-    REPLY_LIKED,
-];
-
-/// What `check` prints of each.
-const COUNTS: [(&[&[u8]], &str); 7] = [
-    (&MEMBERS, "entries 5 actors 4 activities 0 queue 0\n"),
-    (&FOLLOWING, "entries 4 actors 1 activities 2 queue 1\n"),
-    (&WAITING, "entries 7 actors 1 activities 4 queue 2\n"),
-    (&NOT_FORWARDED, "entries 7 actors 1 activities 4 queue 1\n"),
-    // Nothing is forwarded to the server that it came from.
-    (&FOLLOWED_TWICE, "entries 8 actors 1 activities 6 queue 3\n"),
-    (&LIKED_REPLY, "entries 8 actors 1 activities 5 queue 2\n"),
-    (
-        &LIKED_TOMBSTONE,
-        "entries 8 actors 1 activities 5 queue 1\n",
-    ),
-];
 
 /// The actor document of the follower.
 const EVE: &str = "\
@@ -262,48 +104,6 @@ const RUNS: [(&str, &[&str], &[u64], &[&str], &[&str]); 4] = [
     ),
 ];
 
-/// The replies to the requests of one attempt, which exchanges fail, and the word that is printed.
-const WORDS: [(&[&str], &[u64], &str); 19] = [
-    (&["HTTP/1.1 404 Not Found\r\n\r\n"], &[], "gave-up\n"),
-    (&["HTTP/1.1 403 Forbidden\r\n\r\n"], &[], "again\n"),
-    (&["HTTP/1.1 204 No Content\r\n\r\n"], &[], "again\n"),
-    // No head, half of one, or an invalid status.
-    (&[""], &[], "again\n"),
-    (&["220 lake.example ESMTP\r\n"], &[], "again\n"),
-    (&["HTTP/1.1 200 OK\r\n"], &[], "again\n"),
-    (&["HTTP/1.1 099 Odd\r\n\r\n"], &[], "again\n"),
-    // No actor document, one of another actor, and one whose inbox is on another server.
-    (&["HTTP/1.1 200 OK\r\n\r\n"], &[], "again\n"),
-    (&["HTTP/1.1 200 OK\r\n\r\n{}"], &[], "again\n"),
-    (
-        &[
-            "HTTP/1.1 200 OK\r\n\r\n\
-             {\"id\":\"https://lake.example/users/eva\",\
-             \"inbox\":\"https://lake.example/users/eva/inbox\"}",
-        ],
-        &[],
-        "again\n",
-    ),
-    (
-        &[
-            "HTTP/1.1 200 OK\r\n\r\n\
-             {\"id\":\"https://lake.example/users/eve\",\
-             \"inbox\":\"https://hill.example/users/eve/inbox\"}",
-        ],
-        &[],
-        "again\n",
-    ),
-    // The post.
-    (&[EVE, "HTTP/1.1 200 OK\r\n\r\n"], &[], "delivered\n"),
-    (&[EVE, "HTTP/1.1 299 Odd\r\n\r\n"], &[], "delivered\n"),
-    (&[EVE, "HTTP/1.1 301 Moved\r\n\r\n"], &[], "again\n"),
-    (&[EVE, "HTTP/1.1 404 Not Found\r\n\r\n"], &[], "gave-up\n"),
-    (&[EVE, GONE], &[], "gave-up\n"),
-    (&[EVE, "HTTP/1.1 500 Odd\r\n\r\n"], &[], "again\n"),
-    (&[EVE, "nothing of HTTP"], &[], "again\n"),
-    (&[EVE, TAKEN], &[1], "again\n"),
-];
-
 /// How long after the first attempt each of the eight is due. The last one ends the delivery.
 const DUE: [u64; 8] = [0, 60, 180, 420, 900, 1_860, 3_780, 7_620];
 
@@ -324,11 +124,6 @@ fn delivering<'a>(records: &'a [&'a [u8]], replies: &'a [&'a str]) -> Case<'a> {
         replies,
         ..calm("fedi deliver s", records)
     }
-}
-
-fn has_count(alloc: Global, records: &[&[u8]], printed: &str) -> Result<bool, AllocError> {
-    let left = left_by(alloc, &calm("fedi check s", records))?;
-    Ok(left.status == 0 && are_texts(&left.out, &[printed]))
 }
 
 // Whether the run over the records tries each delivery once, and the next run at the same moment
@@ -359,52 +154,39 @@ fn has_run(
     )
 }
 
-fn has_word(alloc: Global, row: &(&[&str], &[u64], &str)) -> Result<bool, AllocError> {
-    let (replies, failing_exchanges, word) = *row;
-    let case = Case {
-        failing_exchanges,
-        ..delivering(&FOLLOWING, replies)
-    };
-    let left = left_by(alloc, &case)?;
-    Ok(
-        left.status == 0
-            && are_texts(&left.out, &[OWN, word, "done 1\n"])
-            && has_records(alloc, &left.disk, &FOLLOWING, 1)?,
-    )
-}
-
-// What is printed this long after the first moment, over the disk, and the disk after it.
+// Whether this is printed so long after the first moment, over the disk, which is then the one that
+// is left.
 fn is_printed(
     alloc: Global,
-    disk: &[u8],
+    disk: &mut Vec<u8>,
     after: u64,
     printed: &[&str],
-) -> Result<(bool, Vec<u8>), AllocError> {
+) -> Result<bool, AllocError> {
     let case = Case {
         bytes: disk,
         seconds: SECONDS.saturating_add(after),
         ..delivering(&[], &[])
     };
     let left = left_by(alloc, &case)?;
-    Ok((left.status == 0 && are_texts(&left.out, printed), left.disk))
+    let holds = left.status == 0 && are_texts(&left.out, printed);
+    *disk = left.disk;
+    Ok(holds)
 }
 
-// The first of the attempts that is not made when it is due, or is made a second before that.
-fn first_off(alloc: Global) -> Result<Option<usize>, AllocError> {
-    let none = left_by(alloc, &calm("fedi check s", &FOLLOWING))?;
-    let mut disk = none.disk;
+// Whether nothing is tried a second before this one is due, and then it is.
+fn is_tried(alloc: Global, disk: &mut Vec<u8>, due: u64) -> Result<bool, AllocError> {
+    let waits = due == 0 || is_printed(alloc, disk, due.saturating_sub(1), &["done 0\n"])?;
+    Ok(waits && is_printed(alloc, disk, due, &[OWN, "again\n", "done 1\n"])?)
+}
+
+fn expect_tries(alloc: Global, disk: &mut Vec<u8>) -> Result<(), Fail> {
     for (number, due) in DUE.iter().enumerate() {
-        if *due > 0 && !is_printed(alloc, &disk, due.saturating_sub(1), &["done 0\n"])?.0 {
-            return Ok(Some(number));
-        }
-        let (holds, after) = is_printed(alloc, &disk, *due, &[OWN, "again\n", "done 1\n"])?;
-        if !holds {
-            return Ok(Some(number));
-        }
-        disk = after;
+        expect_at(is_tried(alloc, disk, *due)?, "attempt", number)?;
     }
-    let (holds, _) = is_printed(alloc, &disk, 1_000_000, &["done 0\n"])?;
-    Ok(if holds { None } else { Some(DUE.len()) })
+    expect(
+        is_printed(alloc, disk, 1_000_000, &["done 0\n"])?,
+        "after the last one",
+    )
 }
 
 fn has_fault(
@@ -419,34 +201,21 @@ fn has_fault(
         failing_writes,
         ..delivering(&WAITING, &[EVE, TAKEN, EVE, TAKEN])
     };
-    let left = left_by(alloc, &case)?;
-    Ok(
-        left.status == status
-            && are_texts(&left.out, printed)
-            && has_records(alloc, &left.disk, &WAITING, kept)?,
-    )
+    ends(alloc, &case, status, printed, kept)
 }
 
 #[test]
 fn each_delivery_that_is_due_is_tried_once(rt: HostRuntime) -> Result<(), Fail> {
-    for (number, row) in COUNTS.iter().enumerate() {
-        expect_at(has_count(rt.alloc(), row.0, row.1)?, row.1, number)?;
-    }
     for (number, row) in RUNS.iter().enumerate() {
         expect_at(has_run(rt.alloc(), row)?, row.0, number)?;
-    }
-    for (number, row) in WORDS.iter().enumerate() {
-        expect_at(has_word(rt.alloc(), row)?, row.2, number)?;
     }
     Ok(())
 }
 
 #[test]
 fn a_delivery_is_tried_again_until_the_eighth_time(rt: HostRuntime) -> Result<(), Fail> {
-    match first_off(rt.alloc())? {
-        Some(number) => expect_at(false, "attempt", number),
-        None => Ok(()),
-    }
+    let mut left = left_by(rt.alloc(), &calm("fedi check s", &FOLLOWING))?;
+    expect_tries(rt.alloc(), &mut left.disk)
 }
 
 #[test]

@@ -3,8 +3,7 @@
 //! to everybody and one to ben alone. All of it happened at 1994-11-06T08:49:37Z. The keys of the
 //! members are 32 bytes 0, 1, 2 and 3, and their records have the SHA-256 digests of these.
 
-use crate::delivering::HILL;
-use crate::records::LAKE;
+use fedi_rows::records::{HILL, LAKE};
 
 /// The server was set up for club.example.
 pub const HOSTED: &[u8] = b"\

@@ -1,28 +1,21 @@
-//! Tests of histories and of whole runs: that calls succeed if there is ample memory, what worked
-//! examples require, and what happens if what lies outside fails or stops. Whole conversations in
-//! which nothing fails are scenes, as in `scenes/`.
+//! Tests of whole runs: that calls succeed if there is ample memory, what worked examples require,
+//! and what happens if what lies outside fails or stops. Whole conversations in which nothing fails
+//! are scenes, as in `scenes/`.
 //!
 //! Values are made in helper functions and lent, and a test fails with the text of the row that
 //! does not hold. Tests call the program in `runs` and nowhere else.
 #![tactic(auto)]
 
-// Histories over keepers in memory.
-#[cfg(test)]
-mod example;
-#[cfg(test)]
-mod forwards;
-#[cfg(test)]
-mod opening;
-#[cfg(test)]
-mod records;
-
-// Whole runs over what lies in memory.
 #[cfg(test)]
 mod cases;
 #[cfg(test)]
 mod delivering;
 #[cfg(test)]
+mod example;
+#[cfg(test)]
 mod members;
+#[cfg(test)]
+mod migrating;
 #[cfg(test)]
 mod peers;
 #[cfg(test)]

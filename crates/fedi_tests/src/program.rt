@@ -1,4 +1,4 @@
-//! Connections over the example town, in memory: reads and writes that fail, inputs that are cut,
+//! Connections over the example town, in memory: a read or a write that fails, inputs that are cut,
 //! and the dates of replies.
 
 use crate::cases::{Case, calm, inetd};
@@ -18,6 +18,7 @@ pub const USAGE: &str = "\
     fedi deliver STORE\n\
     fedi export STORE actors|activities|queue\n\
     fedi check STORE\n\
+    fedi migrate OLD NEW\n\
     fedi demo NUMBER\n";
 
 /// The command line, which writes fail; then the status and the output.
@@ -81,50 +82,32 @@ const NOT_FOUND: &str = "\
     Content-Length: 20\r\n\r\n\
     {\"error\":\"NotFound\"}";
 
-/// Whether the run ends when this read fails, if each read takes one byte of two requests: those
-/// that were read before it are answered.
-fn ends_at_read(alloc: Global, call: usize) -> Result<bool, AllocError> {
+/// Each read takes one byte of two requests, and each write one byte of two replies: which reads and
+/// which writes fail; then the status and the output, in which no byte comes twice.
+const FAILING: [(&[u64], &[u64], u8, &[&str]); 5] = [
+    (&[5], &[], 6, &[]),
+    (&[30], &[], 6, &[NOT_FOUND]),
+    (&[], &[0], 7, &[]),
+    (&[], &[4], 7, &["HTTP"]),
+    (&[], &[139], 7, &[NOT_FOUND, "HTTP"]),
+];
+
+fn ends_at_failure(alloc: Global, row: &(&[u64], &[u64], u8, &[&str])) -> Result<bool, AllocError> {
+    let (failing_reads, failing_writes, status, wanted) = *row;
     let case = Case {
         in_bytes: true,
-        failing_reads: &[call as u64],
-        ..inetd(&TOWN, &[READ, READ])
-    };
-    if call < READ.len() {
-        ends(alloc, &case, 6, &[], 0)
-    } else {
-        ends(alloc, &case, 6, &[NOT_FOUND], 0)
-    }
-}
-
-/// Whether these are this many bytes of two such replies.
-fn begins_both(bytes: &[u8], count: usize) -> bool {
-    let reply = NOT_FOUND.as_bytes();
-    bytes.len() == count
-        && match bytes.strip_prefix(reply) {
-            Some(rest) => reply.starts_with(rest),
-            None => reply.starts_with(bytes),
-        }
-}
-
-/// Whether the run ends when this write fails, if each write takes one byte of two replies, and no
-/// byte is written twice.
-fn ends_at_write(alloc: Global, call: usize) -> Result<bool, AllocError> {
-    let case = Case {
+        failing_reads,
         write_limit: 1,
-        failing_writes: &[call as u64],
+        failing_writes,
         ..inetd(&TOWN, &[READ, READ])
     };
-    let left = left_by(alloc, &case)?;
-    Ok(left.status == 7 && begins_both(&left.out, call))
+    ends(alloc, &case, status, wanted, 0)
 }
 
 #[test]
-fn each_read_and_each_write_fails_once(rt: HostRuntime) -> Result<(), Fail> {
-    for call in 0..2 * READ.len() {
-        expect_at(ends_at_read(rt.alloc(), call)?, "read", call)?;
-    }
-    for call in 0..2 * NOT_FOUND.len() {
-        expect_at(ends_at_write(rt.alloc(), call)?, "write", call)?;
+fn a_read_or_a_write_fails(rt: HostRuntime) -> Result<(), Fail> {
+    for (number, row) in FAILING.iter().enumerate() {
+        expect_at(ends_at_failure(rt.alloc(), row)?, "a failure", number)?;
     }
     Ok(())
 }
@@ -159,29 +142,29 @@ pub const SECOND: &str = "\
     Location: https://club.example/users/ana/a/2\r\n\
     Content-Length: 0\r\n\r\n";
 
-/// Whether the run ends inside this post if its input is cut short at this byte.
-fn ends_inside(alloc: Global, post: &str, cut_at: usize) -> Result<bool, AllocError> {
-    let input = [post];
-    let case = Case {
-        cut_at,
-        ..inetd(&TOWN, &input)
-    };
-    ends(alloc, &case, 8, &[], 0)
-}
+/// A post, how many of its bytes the first read takes, and where the input ends; then the status,
+/// the reply, and how many entries are kept.
+const POSTS: [(&str, usize, usize, u8, &[&str], usize); 6] = [
+    (NOTE, 100, usize::MAX, 0, &[FIRST], 1),
+    (CHUNKED_NOTE, 200, usize::MAX, 0, &[FIRST], 1),
+    (NOTE, usize::MAX, 1, 8, &[], 0),
+    (NOTE, usize::MAX, 243, 8, &[], 0),
+    (CHUNKED_NOTE, usize::MAX, 210, 8, &[], 0),
+    (CHUNKED_NOTE, usize::MAX, 284, 8, &[], 0),
+];
 
-/// Whether the post is kept and acknowledged if the first read takes this many of its bytes.
-fn is_kept_in_two(alloc: Global, post: &str, first: usize) -> Result<bool, AllocError> {
+fn is_posted(
+    alloc: Global,
+    row: &(&str, usize, usize, u8, &[&str], usize),
+) -> Result<bool, AllocError> {
+    let (post, first, cut_at, status, wanted, more) = *row;
     let input = [post];
     let case = Case {
         first,
+        cut_at,
         ..inetd(&MEMBERS, &input)
     };
-    ends(alloc, &case, 0, &[FIRST], 1)
-}
-
-fn expect_cut(alloc: Global, post: &str, at: usize) -> Result<(), Fail> {
-    expect_at(is_kept_in_two(alloc, post, at)?, "in two at", at)?;
-    expect_at(ends_inside(alloc, post, at)?, "cut at", at)
+    ends(alloc, &case, status, wanted, more)
 }
 
 /// Whether the record of `NOTE` is that of ana's first post in the example town.
@@ -192,10 +175,8 @@ fn keeps_the_note(alloc: Global) -> Result<bool, AllocError> {
 
 #[test]
 fn a_post_comes_whole_or_is_cut_short(rt: HostRuntime) -> Result<(), Fail> {
-    for post in [NOTE, CHUNKED_NOTE] {
-        for at in 1..post.len() {
-            expect_cut(rt.alloc(), post, at)?;
-        }
+    for (number, row) in POSTS.iter().enumerate() {
+        expect_at(is_posted(rt.alloc(), row)?, "a post", number)?;
     }
     expect(keeps_the_note(rt.alloc())?, "the record of a note")
 }

@@ -1,16 +1,15 @@
 //! Runs, and what they leave.
 
-ghost use Rattle.std.specs.Prelude.{◌<◌, vec_len};
-
 use crate::cases::{
     Case, arguments_of, benches_of, calm, connection_of, disk_in, entropy_of, seed,
 };
 use fedi_outside::{
     Bench, FixedClock, MemoryDisk, MemoryDoor, MemoryEntropy, MemoryLink, MemorySink, MemorySource,
 };
-use fedi_program::{Connection, OUT_OF_MEMORY, address_of, run_alone};
-use fedi_rows::has_records;
+use fedi_program::{Connection, Ended, address_of, run_alone};
+use fedi_rows::{disk_of, has_records, leaked};
 use std::alloc::{AllocError, Global};
+use std::mem::ManuallyDrop;
 
 /// What a run left: its status, what it wrote, the bytes of the disk, how many calls the disk
 /// received, and the requests that were sent to other servers, one after another.
@@ -38,59 +37,54 @@ fn asked_by(
 
 fn left_of(
     alloc: Global,
-    status: u8,
-    out: &MemorySink,
-    disk: &MemoryDisk,
-    benches: &[Bench<MemoryDoor, MemoryLink>],
+    ended: &Ended<MemoryDisk, MemoryDoor, MemoryLink>,
+    connection: &Connection<MemorySource, MemorySink, FixedClock>,
 ) -> Result<Left, AllocError> {
     Ok(Left {
-        status,
-        out: out.bytes().to_vec(alloc)?,
-        disk: disk.bytes().to_vec(alloc)?,
-        calls: disk.calls().len() as u64,
-        asked: asked_by(alloc, benches)?,
+        status: ended.status,
+        out: connection.out.bytes().to_vec(alloc)?,
+        disk: ended.disk.bytes().to_vec(alloc)?,
+        calls: ended.disk.calls().len() as u64,
+        asked: asked_by(alloc, &ended.benches)?,
     })
 }
 
-// What the run leaves, over what lies outside, which is lent.
-fn left_in(
-    alloc: Global,
-    arguments: &[String],
-    connection: &mut Connection<MemorySource, MemorySink, FixedClock>,
-    disk: MemoryDisk,
-    benches: Vec<Bench<MemoryDoor, MemoryLink>>,
-    entropy: &mut MemoryEntropy,
-) -> Result<Left, AllocError>
-    requires { 0 < vec_len benches }
-{
+// What the run leaves. What lies outside is made here alone, and never dropped.
+fn left_with(alloc: Global, case: &Case, arguments: &[String]) -> Result<Left, AllocError> {
+    // No case serves.
     let None = address_of(arguments) else {
-        return left_of(alloc, OUT_OF_MEMORY, &connection.out, &disk, &benches);
+        return Err(AllocError);
     };
-    let ended = run_alone(alloc, seed(), arguments, connection, disk, benches, entropy);
-    left_of(
+    let mut entropy = leaked(entropy_of(alloc, case)?);
+    let mut connection = leaked(connection_of(alloc, case)?);
+    let disk = leaked(disk_in(alloc, case)?);
+    let second = leaked(disk_of(alloc, b"")?);
+    let benches = benches_of(alloc, case)?;
+    let ended = leaked(run_alone::<
+        MemorySource,
+        MemorySink,
+        MemoryDisk,
+        MemoryDoor,
+        MemoryLink,
+        FixedClock,
+        MemoryEntropy,
+    >(
         alloc,
-        ended.status,
-        &connection.out,
-        &ended.disk,
-        &ended.benches,
-    )
+        seed(),
+        arguments,
+        &mut connection,
+        ManuallyDrop::into_inner(disk),
+        ManuallyDrop::into_inner(second),
+        benches,
+        &mut entropy,
+    ));
+    left_of(alloc, &ended, &connection)
 }
 
 /// What the run leaves. The error is out of memory.
 pub fn left_by(alloc: Global, case: &Case) -> Result<Left, AllocError> {
     let arguments = arguments_of(alloc, case.line)?;
-    let mut entropy = entropy_of(alloc, case)?;
-    let mut connection = connection_of(alloc, case)?;
-    let disk = disk_in(alloc, case)?;
-    let benches = benches_of(alloc, case)?;
-    left_in(
-        alloc,
-        &arguments,
-        &mut connection,
-        disk,
-        benches,
-        &mut entropy,
-    )
+    left_with(alloc, case, &arguments)
 }
 
 /// Whether these bytes are those of the texts, one after another.

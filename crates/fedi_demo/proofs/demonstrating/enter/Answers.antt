@@ -6,5 +6,5 @@ use Rattle.fedi_demo.proofs.demonstrating.enter.Goals as goal
 pub returns-in-Ok-clause-hosted : goal.returns-in-Ok-clause-hosted
 returns-in-Ok-clause-hosted g c =
     hosted c.command.new.self.history
-    (λ empty. one_more_some c.args.core.now.history c.args.entry (sym c.in-Ok.ensures.kept.history ∙ empty))
-    c.command.ensures.legal
+    (λ empty. one_more_some c.args.core.now.history c.args.entry (sym c.in-Ok.ensures.keeps.kept.history ∙ empty))
+    c.command.ensures.keeps.legal

@@ -10,11 +10,11 @@ returns-in-Ok-write-clause-crashes g c =
     let e = attempt_of (town c.args.core.now.history) c.args.core.now.rows c.args.claim c.in-Ok.came c.args.claim.moment in
     let was = standing_by g.P.Keeper.shown g.P.Keeper.crashes c.args.core.now in
     let is = standing_by g.P.Keeper.shown g.P.Keeper.crashes c.record.new.self in
-    (Kept e, kept_turn g.P.Keeper.growth g.P.Keeper.room was is e c.in-Ok-record.ensures.kept c.in-Ok-record.ensures.time)
+    (Kept e, kept_turn g.P.Keeper.growth g.P.Keeper.room was is e c.in-Ok-record.ensures.keeps.kept c.in-Ok-record.ensures.keeps.time)
 
 pub returns-in-Ok-record-clause-crashes : goal.returns-in-Ok-record-clause-crashes
 returns-in-Ok-record-clause-crashes g c =
     let e = attempt_of (town c.args.core.now.history) c.args.core.now.rows c.args.claim c.in-Ok.came c.args.claim.moment in
     let was = standing_by g.P.Keeper.shown g.P.Keeper.crashes c.args.core.now in
     let is = standing_by g.P.Keeper.shown g.P.Keeper.crashes c.record.new.self in
-    (Kept e, kept_turn g.P.Keeper.growth g.P.Keeper.room was is e c.in-Ok-record.ensures.kept c.in-Ok-record.ensures.time)
+    (Kept e, kept_turn g.P.Keeper.growth g.P.Keeper.room was is e c.in-Ok-record.ensures.keeps.kept c.in-Ok-record.ensures.keeps.time)

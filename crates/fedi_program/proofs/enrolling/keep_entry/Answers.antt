@@ -26,13 +26,13 @@ returns-in-Ok-keep-clause-crashes g c =
     let opened = state_of c.args.core.now.history (g.P.Keeper.shown c.args.core.now.keeper) in
     let was = standing_by g.P.Keeper.shown g.P.Keeper.crashes c.args.core.now in
     let is = standing_by g.P.Keeper.shown g.P.Keeper.crashes c.keep.new.self in
-    let k = c.in-Ok-keep.ensures in
+    let k = c.in-Ok-keep.ensures.keeps in
     survives_turn (base_of g.P.Keeper.growth g.P.Keeper.room opened) None was is refl refl (g.met.P.Keeper.crash_now c.args.core.now.keeper)
     (Kept c.args.entry, kept_turn g.P.Keeper.growth g.P.Keeper.room was is c.args.entry k.kept k.time)
 
 pub returns-in-Full-clause-crashes : goal.returns-in-Full-clause-crashes
 returns-in-Full-clause-crashes g c =
-    let x = c.in-Err-keep.ensures in
+    let x = c.in-Err-keep.ensures.keeps in
     let opened = state_of c.args.core.now.history (g.P.Keeper.shown c.args.core.now.keeper) in
     let was = standing_by g.P.Keeper.shown g.P.Keeper.crashes c.args.core.now in
     let is = standing_by g.P.Keeper.shown g.P.Keeper.crashes c.keep.new.self in
@@ -41,7 +41,7 @@ returns-in-Full-clause-crashes g c =
 
 pub returns-clause-crashes : goal.returns-clause-crashes
 returns-clause-crashes g c =
-    let x = c.in-Err-keep.ensures in
+    let x = c.in-Err-keep.ensures.keeps in
     let opened = state_of c.args.core.now.history (g.P.Keeper.shown c.args.core.now.keeper) in
     let was = standing_by g.P.Keeper.shown g.P.Keeper.crashes c.args.core.now in
     let is = standing_by g.P.Keeper.shown g.P.Keeper.crashes c.keep.new.self in
@@ -50,7 +50,7 @@ returns-clause-crashes g c =
 
 pub returns-in-Failed-clause-unmade : goal.returns-in-Failed-clause-unmade
 returns-in-Failed-clause-unmade g c =
-    let x = c.in-Err-keep.ensures in
+    let x = c.in-Err-keep.ensures.keeps in
     let was = standing_by g.P.Keeper.shown g.P.Keeper.crashes c.args.core.now in
     let refused = standing_by g.P.Keeper.shown g.P.Keeper.crashes c.keep.new.self in
     let after = state_of c.settle.new.self.history (g.P.Keeper.shown c.settle.new.self.keeper) in
@@ -63,7 +63,7 @@ returns-in-Failed-clause-unmade g c =
 
 pub returns-in-Failed-clause-crashes : goal.returns-in-Failed-clause-crashes
 returns-in-Failed-clause-crashes g c =
-    let x = c.in-Err-keep.ensures in
+    let x = c.in-Err-keep.ensures.keeps in
     let opened = state_of c.args.core.now.history (g.P.Keeper.shown c.args.core.now.keeper) in
     let was = standing_by g.P.Keeper.shown g.P.Keeper.crashes c.args.core.now in
     let refused = standing_by g.P.Keeper.shown g.P.Keeper.crashes c.keep.new.self in

@@ -1,12 +1,10 @@
-use Rattle.fedi_logged.specs.Attempts.{told_by}
-use Rattle.fedi_program.proofs.CompleteLemmas.{asked_complete, serve_complete}
+use Rattle.std.proofs.Common.{refl}
+use Rattle.fedi_program.specs.Headline.{kinds}
+use Rattle.fedi_program.proofs.HeadlineLemmas.{runs}
 use Rattle.fedi_program.proofs.running.run.Goals as goal
 
-pub returns-in-Some-Serve-clause-complete : goal.returns-in-Some-Serve-clause-complete
-returns-in-Some-Serve-clause-complete g c = λ task is doors.
-    let told = g.C.Clock.told c.args.connection.now.clock in
-    asked_complete _ _ task told _ _ _ (rw c.in-Some-Serve.field-0-is at c.in-Some-Serve.ensures)
-    (serve_complete told _ _ _ _ g.W.Door.served (told_by g.K.Link.asked g.K.Link.heard g.K.Link.link_faults) g.W.Door.closed g.W.Door.faults _ _ _ _ _ _ c.serve.ensures.served doors) is
-
-pub returns-in_default-clause-complete : goal.returns-in_default-clause-complete
-returns-in_default-clause-complete g c = λ task is doors. c.run_alone.ensures.complete task is
+pub returns-in-Some-Serve : goal.returns-in-Some-Serve
+returns-in-Some-Serve g c =
+    runs (kinds g.S.Source g.O.Sink g.D.Disk g.C.Clock g.E.Entropy g.W.Door g.K.Link) _ _ _ _ _ (rw c.in-Some-Serve.field-0-is at c.in-Some-Serve.ensures)
+    (c.serve.ensures.served, c.serve.ensures.waiting, refl)
+    (record { input = λ _. refl; clock = refl; disk = λ store. absurd (cc store); second = λ _. c.serve.ensures.second; entropy = λ _. refl; benches = λ alone. absurd (cc alone) })

@@ -2,7 +2,6 @@ use Rattle.std.proofs.Common.{length, inr, refl}
 use denote.Param.Send.{sendable}
 use Rattle.fedi_index.proofs.Sent.{shelf_send}
 use Rattle.fedi_logged.proofs.Hosted.{hosted}
-use Rattle.fedi_logged.specs.Attempts.{told_by}
 use Rattle.fedi_program.proofs.RunLemmas.{doors_safe, doors_status}
 use Rattle.fedi_program.proofs.StoreLemmas.{serves_doors}
 use Rattle.fedi_program.proofs.serving.serve.Goals as goal
@@ -21,13 +20,15 @@ returns-in-Ok g c =
     let core = c.in-Ok.core in
     let last = c.serve_core-end.result.core.keeper.disk in
     let closed = rw c.close_store.ensures.disk at c.close_store.ensures.closed in
-    let served = serves_doors _ (g.D.Disk.shown c.args.disk) (g.D.Disk.shown core.keeper.disk) (g.D.Disk.shown last) (g.D.Disk.crashes c.args.disk)
-    (g.D.Disk.crashes core.keeper.disk) (g.D.Disk.crashes last) _ _ (length core.keeper.gates.items) g.W.Door.served (told_by g.K.Link.asked g.K.Link.heard g.K.Link.link_faults) g.W.Door.closed g.W.Door.faults _ _ _
+    let served = serves_doors g.W.Door g.K.Link _ (g.D.Disk.shown c.args.disk) (g.D.Disk.shown core.keeper.disk) (g.D.Disk.shown last) (g.D.Disk.crashes c.args.disk)
+    (g.D.Disk.crashes core.keeper.disk) (g.D.Disk.crashes last) _ _ (length core.keeper.gates.items) _ _ _
     c.in-Ok.ensures.opened refl c.in-Ok.ensures.untouched (met.only_now c.args.disk) c.in-Ok.ensures.leaves (met.only_now core.keeper.disk)
     c.serve_core-end.ensures.served closed (c.serve_core-end.result.end, c.status_after.ensures, c.serve_core-end.ensures.ends) in
     record {
       served = rw c.close_store.ensures.disk served;
-      safe = rw c.close_store.ensures.disk (doors_safe _ _ _ g.W.Door.served (told_by g.K.Link.asked g.K.Link.heard g.K.Link.link_faults) g.W.Door.closed g.W.Door.faults _ _ _ served);
-      statuses = doors_status _ _ _ g.W.Door.served (told_by g.K.Link.asked g.K.Link.heard g.K.Link.link_faults) g.W.Door.closed g.W.Door.faults _ _ _ served;
+      safe = rw c.close_store.ensures.disk
+          (doors_safe g.W.Door g.K.Link _ _ _ _ _ _ served);
+      statuses = doors_status g.W.Door g.K.Link _ _ _ _ _ _ served;
       waiting = c.serve_core-end.ensures.waiting;
+      second = refl;
     }
