@@ -1,5 +1,14 @@
 """Stores for measurements, written in the format of the journal and of entries (docs/FORMAT.md)."""
+import os
+import random
 import struct
+import sys
+
+sys.path.insert(
+    0, os.path.join(os.path.dirname(os.path.dirname(os.path.abspath(__file__))), "contrib")
+)
+
+from journal import records, write, write_first  # noqa: E402, F401
 
 HOST = "club.example"
 MOMENT = 784111777
@@ -168,14 +177,44 @@ def post(member, place, length, repeat=None):
     return of(f"{place:010d}" + "x" * (length - len(of("")) - 10))
 
 
-# ---- files
+
+# ---- a town
 
 
-def write(path, entries):
-    """Writes a journal of these entries."""
-    with open(path, "wb") as file:
-        file.write(b"FEDIJRN1")
-        for entry in entries:
-            file.write(b"\1" + struct.pack(">Q", len(entry)))
-            file.write(entry)
-        file.write(b"\0")
+def lively(entries, members=100):
+    """The entries of a town whose members each follow five others, and then post, like, boost and
+    change what was posted lately.
+    """
+    draw, posted, numbers = random.Random(1), [], [0] * members
+    yield hosted()
+    for member in range(members):
+        yield made(name_of(member), member.to_bytes(32, "big"))
+    follows = [
+        (member, other)
+        for member in range(members)
+        for other in draw.sample([other for other in range(members) if other != member], 5)
+    ]
+    for member, other in follows:
+        # The Accept takes a number of the one who is followed.
+        numbers[member] += 1
+        numbers[other] += 1
+        yield local(name_of(member), of(FOLLOW, id_of(other)))
+    for place in range(entries - 1 - members - len(follows)):
+        member, what = draw.randrange(members), draw.random()
+        if what < 0.35 or not posted:
+            numbers[member] += 1
+            posted.append((member, f"{id_of(member)}/o/{numbers[member]}"))
+            yield post(member, place, draw.choice([300, 300, 300, 500, 1000]))
+            continue
+        author, object = posted[-1 - min(len(posted) - 1, int(draw.expovariate(1 / 200)))]
+        if what < 0.7:
+            numbers[member] += 1
+            yield local(name_of(member), of(LIKE, object, [id_of(author)]))
+        elif what < 0.85:
+            numbers[member] += 1
+            yield local(
+                name_of(member), of(ANNOUNCE, object, [PUBLIC], [id_of(member) + "/followers"])
+            )
+        else:
+            numbers[author] += 1
+            yield local(name_of(author), change(object, f"New {place} " + 100 * "x"))
