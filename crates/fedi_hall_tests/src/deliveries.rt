@@ -33,6 +33,9 @@ const TAKEN: &str = "HTTP/1.1 202 Accepted\r\n\r\n";
 /// How many entries a store has if a note of ana is to be delivered from it to eve.
 const ENTRIES: u64 = 4;
 
+/// How many bytes seal a record.
+const SEAL: usize = 32;
+
 // The disk of such a store, with this many notes.
 fn waiting(alloc: Global, notes: u32) -> Result<MemoryDisk, Fail> {
     let mut disk = disk_after(alloc, PEER, "", town(alloc)?)?;
@@ -169,11 +172,14 @@ fn slow_rests<R: Threads + Wait + Sync>(
     }
 }
 
-// Whether the last record of the disk's store is of this moment. Its bytes end in the moment, and a
-// closed gate is behind them.
+// Whether the last record of the disk's store is of this moment. Its bytes end in the moment, and
+// its seal and a closed gate come after them.
 fn ends_at(disk: &MemoryDisk, moment: u64) -> bool {
-    match disk.bytes().strip_suffix(b"\0") {
-        Some(records) => records.ends_with(&moment.to_be_bytes()),
+    let Some(records) = disk.bytes().strip_suffix(b"\0") else {
+        return false;
+    };
+    match records.len().checked_sub(SEAL) {
+        Some(end) => records[..end].ends_with(&moment.to_be_bytes()),
         None => false,
     }
 }
