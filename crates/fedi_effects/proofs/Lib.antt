@@ -6,6 +6,7 @@ pub mod Gathering
 pub mod KeptKeys
 pub mod Longer
 pub mod MemberMarks
+pub mod OfHost
 pub mod Originals
 pub mod Prefixes
 pub mod SameCallers

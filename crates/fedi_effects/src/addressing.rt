@@ -1,7 +1,7 @@
 //! Who gets a member's activity.
 
-ghost use Rattle.std.specs.Prelude.{◌≡◌, ◌<◌, IfOk, IfSome, OnOk, [], bytes_eq, filter, is_some};
-ghost use Rattle.std.specs.Prelude.{length};
+ghost use Rattle.std.specs.Prelude.{◌≡◌, ◌<◌, true, IfOk, IfSome, OnOk, [], bytes_eq, filter};
+ghost use Rattle.std.specs.Prelude.{is_some, length};
 ghost use Rattle.std.specs.List.{fold};
 ghost use Rattle.fedi_address.specs.Iris.{public_iri};
 ghost use Rattle.fedi_address.specs.Recipients.{all_of, is_among, names};
@@ -22,11 +22,28 @@ fn is_public(iri: &Iri) -> bool
     iri.text() == Iri::PUBLIC
 }
 
+// Whether the IRI begins with `https://`, the host and `/`, so that it is of the host. This is asked
+// many times for each entry, and takes much less time than to look where the host begins and ends.
+#[tactic(auto, using(crate::proofs::OfHost::begins_there))]
+fn begins_with_host(host: &Host, iri: &Iri) -> bool
+    ensures { result ≡ true → is_of_host host.now iri.now ≡ true }
+{
+    let Some(onward) = iri.text().as_bytes().strip_prefix(b"https://") else {
+        return false;
+    };
+    let Some(rest) = onward.strip_prefix(host.text().as_bytes()) else {
+        return false;
+    };
+    rest.starts_with(b"/")
+}
+
+// An IRI with user information is of the host too, but does not begin with it.
 #[tactic(auto, unfolding(fedi_town::specs::Ids::is_of_host))]
 fn is_of_host(host: &Host, iri: &Iri) -> bool
     ensures { result ≡ is_of_host host.now iri.now }
 {
-    iri.text().as_bytes().starts_with(b"https://") && iri.host() == host.text()
+    begins_with_host(host, iri)
+        || (iri.text().as_bytes().starts_with(b"https://") && iri.host() == host.text())
 }
 
 /// Whether the IRI belongs to the host that was set up.

@@ -1,3 +1,4 @@
+pub mod AheadSteps
 pub mod ChainLemmas
 pub mod ChainRows
 pub mod ChainSteps

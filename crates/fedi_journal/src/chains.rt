@@ -14,7 +14,7 @@ use fedi_outside::{Disk, Failed};
 use sha2::{Digest, Sha256};
 
 /// How many bytes of a record are hashed at a time, so that a record of any length takes no memory.
-const PIECE: usize = 4096;
+const PIECE: usize = 1024;
 
 // Feeds the hasher the bytes at this offset, at most as many as a piece.
 fn hash_piece<D: Disk>(
@@ -24,7 +24,7 @@ fn hash_piece<D: Disk>(
     hasher: &mut Sha256,
 ) -> Result<(), Failed>
     requires inside { at + count ≤ (D.shown disk.old).size }
-    requires small { count ≤ 4096 }
+    requires small { count ≤ 1024 }
     ensures held { OnOk result ((bytes message : List ℕ) → (D.shown disk.old).reads ≡ Some bytes
         → Holds256 hasher.old message
         → Holds256 hasher.new (message ++ take count (drop at bytes))) }

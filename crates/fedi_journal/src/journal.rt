@@ -8,6 +8,7 @@ ghost use Rattle.fedi_journal.specs.Finding.{IsSealed};
 ghost use Rattle.fedi_outside.proofs.Untouched.{untouched_now, untouched_then};
 ghost use Rattle.fedi_outside.specs.Disks.{IsUntouched};
 
+use crate::ahead::ReadAhead;
 use crate::blocks::write_block;
 use crate::chains::Chain;
 use crate::faults::{InitFault, JournalFault};
@@ -109,10 +110,10 @@ impl<D: Disk, S: Seal> SealedJournal<D, S> {
         ensures same { IsUntouched (D.shown disk) (D.shown (disk_after result))
             (D.crashes disk) (D.crashes (disk_after result)) }
     {
-        let mut disk = disk;
-        match find(alloc, &mut disk) {
+        let mut ahead = ReadAhead::over(alloc, disk);
+        match find(alloc, &mut ahead) {
             Ok((gates, end, seal)) => Ok(SealedJournal {
-                disk,
+                disk: ahead.disk,
                 gates,
                 end,
                 block: Vec::new(alloc),
@@ -120,7 +121,7 @@ impl<D: Disk, S: Seal> SealedJournal<D, S> {
                 spare: 0,
                 seal,
             }),
-            Err(fault) => Err((fault, disk)),
+            Err(fault) => Err((fault, ahead.disk)),
         }
     }
 
@@ -152,10 +153,10 @@ impl<D: Disk, S: Seal> SealedJournal<D, S> {
         ensures same { IsUntouched (D.shown disk) (D.shown (disk_after result))
             (D.crashes disk) (D.crashes (disk_after result)) }
     {
-        let mut disk = disk;
-        match find_gates(alloc, &mut disk) {
+        let mut ahead = ReadAhead::over(alloc, disk);
+        match find_gates(alloc, &mut ahead) {
             Ok((gates, end, seal)) => Ok(SealedJournal {
-                disk,
+                disk: ahead.disk,
                 gates,
                 end,
                 block: Vec::new(alloc),
@@ -163,7 +164,7 @@ impl<D: Disk, S: Seal> SealedJournal<D, S> {
                 spare: 0,
                 seal,
             }),
-            Err(fault) => Err((fault, disk)),
+            Err(fault) => Err((fault, ahead.disk)),
         }
     }
 

@@ -1,6 +1,7 @@
 //! A journal: records on a disk, each of them whole or absent, whenever the program stops.
 #![tactic(auto)]
 
+mod ahead;
 mod blocks;
 mod chains;
 mod faults;

@@ -16,9 +16,9 @@ use Rattle.fedi_register.proofs.Once.{place_any}
 
 -- ---- among activities
 
-pub counted : (id : List ℕ) (seed : Seed) (acts : List Act) (keyed made ids pairs followed : List Mark) (authors : List Author) → IsIndexed seed acts keyed made ids pairs followed authors
+pub counted : (id : List ℕ) (seed : Seed) (acts : List Act) (keyed made ids pairs followed blocked : List Mark) (authors : List Author) → IsIndexed seed acts keyed made ids pairs followed blocked authors
     → count_in authors id ≡ count_by acts id
-counted id seed acts keyed made ids pairs followed authors h = h.count id
+counted id seed acts keyed made ids pairs followed blocked authors h = h.count id
 
 pub fewer : (p : Act → Bool) (acts : List Act) → length (filter p acts) ≤ length acts
 fewer p [] = omega arith
@@ -29,9 +29,9 @@ fewer p (x ∷ acts) =
 pub few : (id : List ℕ) (acts : List Act) (n : ℕ) → n ≡ count_by acts id → length acts < 2 ^ 63 → n < 2 ^ 63
 few id acts n is short = let h = fewer (is_by id) acts in omega (arith, h, is)
 
-pub nothing_indexed : (seed : Seed) → IsIndexed seed [] [] [] [] [] [] []
+pub nothing_indexed : (seed : Seed) → IsIndexed seed [] [] [] [] [] [] [] []
 unfolding count_in
-nothing_indexed seed = record { key = refl; object = refl; id = refl; pair = refl; follow = refl; count = λ id. refl }
+nothing_indexed seed = record { key = refl; object = refl; id = refl; pair = refl; follow = refl; block = refl; count = λ id. refl }
 
 -- ---- authors who are known
 

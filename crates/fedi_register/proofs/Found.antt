@@ -3,7 +3,7 @@ use Rattle.std.proofs.Common.{◌≡◌, ℕ, suc, ◌+◌, ◌≤◌, arith, Bo
 use Rattle.std.specs.Prelude.{◌||◌, min, nat_eq, is_some, option_copied, if◌then◌else◌}
 use Rattle.std.specs.List.{find, list_any, position_or_len}
 use Rattle.std.proofs.Math.Seq.{take-length}
-use Rattle.std.proofs.lemmas.Bool.{lt-ltb, ltb-false, ltb-true}
+use Rattle.std.proofs.lemmas.Bool.{eqb-true, lt-ltb, ltb-false, ltb-true}
 use Rattle.std.proofs.lemmas.List.{append-nil, take_all}
 use Rattle.std.proofs.lemmas.Option.{slice_get_past}
 use Rattle.fedi_register.specs.Changes.{place_where}
@@ -122,6 +122,12 @@ pub any_found : {A : Type 0} (p q : A → Bool) (mark : A → ℕ) (n m : ℕ) (
     → any ≡ is_some (first_place (passes_at q ys) n marks) → ys ++ after ≡ xs → n ≡ m → marks ≡ marks_from p mark 0 xs → IsMarkedSo p mark m q → any ≡ list_any q ys
 any_found p q mark n m ys after xs marks any is parts number are so =
     rw (is, number, are, ← parts) (ap is_some (placed-after p q mark m so [] ys after) ∙ from-any q 0 ys)
+
+-- without marks, none passes
+pub none_found : {A : Type 0} (p q : A → Bool) (mark : A → ℕ) (m : ℕ) (xs : List A) (marks : List Mark)
+    → nat_eq (length marks) 0 ≡ true → marks ≡ marks_from p mark 0 xs → IsMarkedSo p mark m q → false ≡ list_any q xs
+none_found p q mark m xs [] empty are so = any_found p q mark m m xs [] xs [] false refl (append-nil xs) refl are so
+none_found p q mark m xs (own ∷ marks) empty are so = let none = eqb-true (suc (length marks)) 0 empty in absurd (omega (arith, none))
 
 pub some_copied : {T : Type 0} (o : Option (Bor T)) → is_some o ≡ is_some (option_copied o)
 some_copied None = refl

@@ -8,7 +8,7 @@ use Rattle.fedi_town.specs.declared.act.Act.{Act}
 use Rattle.fedi_town.specs.declared.effect.Effect.{Effect}
 use Rattle.fedi_town.specs.declared.effect.Effect.TheVariants as effects
 use Rattle.fedi_town.specs.declared.deed.Deed.{Deed}
-use Rattle.fedi_town.specs.Deeds.{is_create, is_follow}
+use Rattle.fedi_town.specs.Deeds.{is_block, is_create, is_follow}
 use Rattle.fedi_town.specs.Effects.{affect, end_follow, in_state, is_pending_follow, is_standing_activity, where_passes}
 use Rattle.fedi_objects.specs.declared.kind.State.{State}
 use Rattle.fedi_objects.specs.declared.kind.State.TheVariants.{Accepted, Undone}
@@ -23,7 +23,7 @@ use Rattle.fedi_register.specs.declared.authors.Author.{Author}
 use Rattle.fedi_register.specs.declared.seeds.Seed.{Seed}
 use Rattle.fedi_register.specs.Authors.{CountsOne, SameCounts, count_in}
 use Rattle.fedi_register.specs.Marks.{Mark, marks_from}
-use Rattle.fedi_register.specs.Registers.{IsIndexed, asks_to_follow, count_by, has_own_id, is_keyed, is_making, is_relation, key_mark, object_mark, own_mark, ref_mark, relates, relation_mark}
+use Rattle.fedi_register.specs.Registers.{IsIndexed, asks_to_follow, count_by, has_own_id, is_blocking, is_keyed, is_making, is_relation, key_mark, object_mark, own_mark, ref_mark, relates, relation_mark}
 
 -- ---- one more activity
 
@@ -42,13 +42,26 @@ marks-push {A} p mark n (y ∷ xs) x =
       | false ↦ rest
     ]
 
+-- the number is the mark of the new item if this is looked up
+pub marks_pushed_if : {A : Type 0} (p : A → Bool) (mark : A → ℕ) (xs : List A) (x : A) (old new : List Mark) (place own : ℕ) (passes : Bool) → place ≡ length xs
+    → passes ≡ p x → (p x ≡ true → own ≡ mark x) → old ≡ marks_from p mark 0 xs → new ≡ old ++ (if passes then record { mark = own; place = place } ∷ [] else [])
+    → new ≡ marks_from p mark 0 (xs ++ x ∷ [])
+marks_pushed_if {A} p mark xs x old new place own passes at is marked before after =
+    let from_none : 0 + length xs ≡ length xs = omega arith in
+    let one : ℕ → ℕ → List Mark = λ m k. record { mark = m; place = k } ∷ [] in
+    let same : (if p x then one own (length xs) else []) ≡ (if p x then one (mark x) (length xs) else []) =
+    elim (p x) as (λ b. p x ≡ b → (if b then one own (length xs) else []) ≡ (if b then one (mark x) (length xs) else [])) [
+      | true ↦ λ yes. ap (λ (m : ℕ). one m (length xs)) (marked yes)
+      | false ↦ λ _. refl
+    ] refl in
+    let next : marks_from p mark 0 (xs ++ x ∷ []) ≡ marks_from p mark 0 xs ++ (if p x then one (mark x) (length xs) else []) =
+    marks-push p mark 0 xs x ∙ ap (λ (k : ℕ). marks_from p mark 0 xs ++ (if p x then one (mark x) k else [])) from_none in
+    rw (after, before, is, at) (ap (λ (marks : List Mark). marks_from p mark 0 xs ++ marks) same ∙ sym next)
+
 pub marks_pushed : {A : Type 0} (p : A → Bool) (mark : A → ℕ) (xs : List A) (x : A) (old new : List Mark) (place own : ℕ) (passes : Bool) → place ≡ length xs
     → passes ≡ p x → own ≡ mark x → old ≡ marks_from p mark 0 xs → new ≡ old ++ (if passes then record { mark = own; place = place } ∷ [] else [])
     → new ≡ marks_from p mark 0 (xs ++ x ∷ [])
-marks_pushed p mark xs x old new place own passes at is marked before after =
-    let from_none : 0 + length xs ≡ length xs = omega arith in
-    rw (after, before, is, at, marked)
-    (sym (marks-push p mark 0 xs x ∙ ap (λ (k : ℕ). marks_from p mark 0 xs ++ (if p x then record { mark = mark x; place = k } ∷ [] else [])) from_none))
+marks_pushed p mark xs x old new place own passes at is marked = marks_pushed_if p mark xs x old new place own passes at is (λ _. marked)
 
 count-push : (id : List ℕ) (acts : List Act) (x : Act) → count_by (acts ++ x ∷ []) id ≡ count_by acts id + (if bytes_eq x.author id then 1 else 0)
 unfolding is_by
@@ -147,6 +160,10 @@ follows-alike : (x y : Act) → IsAlike x y → asks_to_follow y ≡ asks_to_fol
 unfolding asks_to_follow
 follows-alike x y h = ap (λ (d : Deed). is_follow d) h.deed
 
+blocks-alike : (x y : Act) → IsAlike x y → is_blocking y ≡ is_blocking x
+unfolding is_blocking
+blocks-alike x y h = ap (λ (d : Deed). is_block d) h.deed
+
 own-alike : (x y : Act) → IsAlike x y → has_own_id y ≡ has_own_id x
 unfolding has_own_id
 own-alike x y h = ap (λ (o : Option (List ℕ)). is_some o) h.id
@@ -172,19 +189,20 @@ unfolding is_by
 by-alike id x y h = ap (λ (author : List ℕ). bytes_eq author id) h.author
 
 -- if all looked-up properties of each activity stay the same
-indexed_alike : (f : Act → Act) → ((y : Act) → IsAlike y (f y)) → (seed : Seed) (acts : List Act) (k m i p w : List Mark) (authors : List Author)
-    → IsIndexed seed acts k m i p w authors → IsIndexed seed (map f acts) k m i p w authors
-indexed_alike f like seed acts k m i p w authors h = record {
+indexed_alike : (f : Act → Act) → ((y : Act) → IsAlike y (f y)) → (seed : Seed) (acts : List Act) (k m i p w b : List Mark) (authors : List Author)
+    → IsIndexed seed acts k m i p w b authors → IsIndexed seed (map f acts) k m i p w b authors
+indexed_alike f like seed acts k m i p w b authors h = record {
   key = h.key ∙ sym (marks-mapped is_keyed (key_mark seed) f (λ x. keyed-alike x (f x) (like x)) (λ x. key-alike seed x (f x) (like x)) 0 acts);
   object = h.object ∙ sym (marks-mapped is_making (object_mark seed) f (λ x. making-alike x (f x) (like x)) (λ x. mark-alike seed x (f x) (like x)) 0 acts);
   id = h.id ∙ sym (marks-mapped has_own_id (own_mark seed) f (λ x. own-alike x (f x) (like x)) (λ x. own_mark-alike seed x (f x) (like x)) 0 acts);
   pair = h.pair ∙ sym (marks-mapped relates (relation_mark seed) f (λ x. relates-alike x (f x) (like x)) (λ x. relation-alike seed x (f x) (like x)) 0 acts);
   follow = h.follow ∙ sym (marks-mapped asks_to_follow (object_mark seed) f (λ x. follows-alike x (f x) (like x)) (λ x. mark-alike seed x (f x) (like x)) 0 acts);
+  block = h.block ∙ sym (marks-mapped is_blocking (relation_mark seed) f (λ x. blocks-alike x (f x) (like x)) (λ x. relation-alike seed x (f x) (like x)) 0 acts);
   count = λ id. h.count id ∙ sym (count-mapped (is_by id) f (λ x. by-alike id x (f x) (like x)) acts);
 }
 
-pub indexed_affected : (seed : Seed) (e : Effect) (acts : List Act) (k m i p f : List Mark) (authors : List Author) → IsIndexed seed acts k m i p f authors
-    → IsIndexed seed (map (affect e) acts) k m i p f authors
+pub indexed_affected : (seed : Seed) (e : Effect) (acts : List Act) (k m i p f b : List Mark) (authors : List Author) → IsIndexed seed acts k m i p f b authors
+    → IsIndexed seed (map (affect e) acts) k m i p f b authors
 indexed_affected seed e = indexed_alike (affect e) (affected-alike e) seed
 
 inbox-alike : (id owner : List ℕ) (y : Act) → IsAlike y (with_recipient id owner y)
@@ -194,12 +212,12 @@ inbox-alike id owner y =
       | false ↦ alike y
     ]
 
-pub indexed_inbox : (seed : Seed) (id owner : List ℕ) (acts : List Act) (k m i p f : List Mark) (authors : List Author) → IsIndexed seed acts k m i p f authors
-    → IsIndexed seed (map (with_recipient id owner) acts) k m i p f authors
+pub indexed_inbox : (seed : Seed) (id owner : List ℕ) (acts : List Act) (k m i p f b : List Mark) (authors : List Author) → IsIndexed seed acts k m i p f b authors
+    → IsIndexed seed (map (with_recipient id owner) acts) k m i p f b authors
 indexed_inbox seed id owner = indexed_alike (with_recipient id owner) (inbox-alike id owner) seed
 
 -- if the counts of the authors are the same
-pub indexed_known : (seed : Seed) (acts : List Act) (k m i p f : List Mark) (old new : List Author) → IsIndexed seed acts k m i p f old → SameCounts old new
-    → IsIndexed seed acts k m i p f new
-indexed_known seed acts k m i p f old new h same =
-    record { key = h.key; object = h.object; id = h.id; pair = h.pair; follow = h.follow; count = λ id. same.count id ∙ h.count id }
+pub indexed_known : (seed : Seed) (acts : List Act) (k m i p f b : List Mark) (old new : List Author) → IsIndexed seed acts k m i p f b old → SameCounts old new
+    → IsIndexed seed acts k m i p f b new
+indexed_known seed acts k m i p f b old new h same =
+    record { key = h.key; object = h.object; id = h.id; pair = h.pair; follow = h.follow; block = h.block; count = λ id. same.count id ∙ h.count id }

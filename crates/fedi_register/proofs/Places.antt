@@ -28,7 +28,7 @@ use Rattle.fedi_register.specs.Keys.{is_repeat}
 use Rattle.fedi_register.specs.Marks.{Mark, every, marks_from, places_of}
 use Rattle.fedi_register.specs.Seeds.{mark_of, mark_of_pair}
 use Rattle.fedi_register.specs.declared.seeds.Seed.{Seed}
-use Rattle.fedi_register.specs.Registers.{IsNarrower, asks_to_follow, has_own_id, is_keyed, is_making, is_relation, key_mark, object_mark, own_mark, ref_mark, relates, relates_by_key, relation_mark}
+use Rattle.fedi_register.specs.Registers.{IsNarrower, asks_to_follow, has_own_id, is_blocking, is_keyed, is_making, is_relation, key_mark, object_mark, own_mark, ref_mark, relates, relates_by_key, relation_mark}
 use Rattle.fedi_register.proofs.Chains.{got_at, longer}
 use Rattle.fedi_register.proofs.Found.{IsMarkedSo}
 
@@ -128,6 +128,16 @@ shares_narrower a b x is = relating a b x (is_announce (deed x)) (is_standing x.
 pub blocks_narrower : (a b : List ℕ) → IsNarrower (is_block_of a b) (relates_by_key a b)
 unfolding is_block_of
 blocks_narrower a b x is = relating a b x (is_block (deed x)) (is_standing x.state) (block_relates (deed x)) is
+
+pub blocking_relates : (x : Act) → is_blocking x ≡ true → relates x ≡ true
+unfolding is_blocking relates
+blocking_relates x is = block_relates (deed x) is
+
+pub block_marked : (seed : Seed) (a b : List ℕ) → IsMarkedSo is_blocking (relation_mark seed) (mark_of_pair seed a b) (is_block_of a b)
+unfolding is_blocking is_block_of
+block_marked seed a b x is =
+    let parts = and_parts (is_block (deed x) && is_standing x.state) (is_by a x && is_about b x) is in
+    ((and_parts (is_block (deed x)) (is_standing x.state) parts.0).0, (relation_marked seed a b x (blocks_narrower a b x is)).1)
 
 -- ---- what is gathered
 

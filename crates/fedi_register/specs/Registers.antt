@@ -7,7 +7,7 @@ use Rattle.fedi_town.specs.declared.act.Act.{Act}
 use Rattle.fedi_town.specs.declared.deed.Deed.{Deed}
 use Rattle.fedi_town.specs.declared.deed.Deed.TheVariants.{Follow, Like, Announce, Block}
 use Rattle.fedi_town.specs.Collections.{object_key}
-use Rattle.fedi_town.specs.Deeds.{is_create, is_follow}
+use Rattle.fedi_town.specs.Deeds.{is_block, is_create, is_follow}
 use Rattle.fedi_town.specs.Relations.{ref_id}
 use Rattle.fedi_town.specs.Towns.{deed, is_by}
 use Rattle.fedi_register.specs.declared.authors.Author.{Author}
@@ -28,6 +28,10 @@ pub record Registered : Type 0 where
 -- it is a request to follow
 unfoldable pub asks_to_follow : Act → Bool
 asks_to_follow x = is_follow (deed x)
+
+-- it is a Block
+unfoldable pub is_blocking : Act → Bool
+is_blocking x = is_block (deed x)
 
 -- it was posted under a key
 unfoldable pub is_keyed : Act → Bool
@@ -102,20 +106,21 @@ abbrev pub registered_in : Inside → Registered
 registered_in r = record { acts = r.acts.items; known = ids_of r.authors; room = r.room }
 
 -- each index matches the activities
-pub record IsIndexed (seed : Seed) (acts : List Act) (keyed made ids pairs followed : List Mark)
-    (authors : List Author) : Type 0 where
+pub record IsIndexed (seed : Seed) (acts : List Act)
+    (keyed made ids pairs followed blocked : List Mark) (authors : List Author) : Type 0 where
   pub key : keyed ≡ marks_from is_keyed (key_mark seed) 0 acts
   pub object : made ≡ marks_from is_making (object_mark seed) 0 acts
   pub id : ids ≡ marks_from has_own_id (own_mark seed) 0 acts
   pub pair : pairs ≡ marks_from relates (relation_mark seed) 0 acts
   pub follow : followed ≡ marks_from asks_to_follow (object_mark seed) 0 acts
+  pub block : blocked ≡ marks_from is_blocking (relation_mark seed) 0 acts
   pub count : (id : List ℕ) → count_in authors id ≡ count_by acts id
 
 -- the indexes match the activities, there is room in each list, and a position fits its field
 abbrev pub IsRegister : Inside → Type 0
 IsRegister r =
     IsIndexed r.seed r.acts.items r.keyed.marks r.made.marks r.ids.marks r.pairs.marks
-    r.followed.marks r.authors
+    r.followed.marks r.blocked.marks r.authors
     × (vec_len r.acts + r.room ≤ vec_capacity r.acts)
     × (vec_len r.acts + r.room < 2 ^ 32)
     × (r.room ≤ r.keyed.room)
@@ -123,3 +128,4 @@ IsRegister r =
     × (r.room ≤ r.ids.room)
     × (r.room ≤ r.pairs.room)
     × (r.room ≤ r.followed.room)
+    × (r.room ≤ r.blocked.room)

@@ -1,11 +1,12 @@
 //! Which activities are looked up by which property, and the marks used for this.
 
-ghost use Rattle.std.specs.Prelude.{◌≡◌, option_copied, option_map};
-ghost use Rattle.fedi_register.specs.Registers.{asks_to_follow, has_own_id, is_keyed, is_making};
+ghost use Rattle.std.specs.Prelude.{◌≡◌, true, option_copied, option_map};
+ghost use Rattle.fedi_register.specs.Registers.{asks_to_follow, has_own_id, is_blocking, is_keyed};
+ghost use Rattle.fedi_register.specs.Registers.{is_making};
 ghost use Rattle.fedi_register.specs.Registers.{key_mark, object_mark, own_mark, ref_mark, relates};
 ghost use Rattle.fedi_register.specs.Registers.{relation_mark};
 
-use crate::acts::{is_create, is_follow, object_key};
+use crate::acts::{is_block, is_create, is_follow, object_key};
 use crate::kept::Kept;
 use crate::seeds::Seed;
 use fedi_address::Iri;
@@ -72,6 +73,13 @@ pub(crate) fn asks_to_follow(act: &Kept) -> bool
     is_follow(act)
 }
 
+#[tactic(auto, unfolding(crate::specs::Registers::is_blocking))]
+pub(crate) fn is_blocking(act: &Kept) -> bool
+    ensures { result ≡ is_blocking act.now }
+{
+    is_block(act)
+}
+
 #[tactic(auto, unfolding(crate::specs::Registers::is_keyed))]
 pub(crate) fn is_keyed(act: &Kept) -> bool
     ensures { result ≡ is_keyed act.now }
@@ -93,5 +101,31 @@ pub(crate) fn relates(act: &Kept) -> bool
     match act.deed() {
         Deed::Follow | Deed::Like | Deed::Announce | Deed::Block => true,
         _ => false,
+    }
+}
+
+/// The mark of the object if the activity is looked up by it, and else any number, since hashing
+/// takes much of the time of an entry.
+pub(crate) fn found_object_mark(seed: &Seed, act: &Kept) -> u32
+    ensures made { is_making act.now ≡ true → result ≡ object_mark seed.now act.now }
+    ensures followed { asks_to_follow act.now ≡ true → result ≡ object_mark seed.now act.now }
+{
+    if is_making(act) || asks_to_follow(act) {
+        object_mark(seed, act)
+    } else {
+        0
+    }
+}
+
+/// The mark of the author and the object if the activity is looked up by them, and else any number.
+#[tactic(auto, using(crate::proofs::Places::blocking_relates))]
+pub(crate) fn found_relation_mark(seed: &Seed, act: &Kept) -> u32
+    ensures related { relates act.now ≡ true → result ≡ relation_mark seed.now act.now }
+    ensures blocked { is_blocking act.now ≡ true → result ≡ relation_mark seed.now act.now }
+{
+    if relates(act) {
+        relation_mark(seed, act)
+    } else {
+        0
     }
 }

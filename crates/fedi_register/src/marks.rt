@@ -3,8 +3,8 @@
 //! look-up visits only the few marks in the same chain as the one it is looking for.
 
 ghost use Rattle.std.specs.Prelude.{◌≡◌, ℕ, Bool, ◌∷◌, [], ◌+◌, ◌-◌, ◌^◌, ◌<◌, ◌≤◌, ◌++◌, OnErr};
-ghost use Rattle.std.specs.Prelude.{OnOk, IfOk, is_some, length, option_copied, set, slice_index};
-ghost use Rattle.std.specs.Prelude.{vec_capacity, vec_len};
+ghost use Rattle.std.specs.Prelude.{OnOk, IfOk, is_some, length, nat_eq, option_copied, set};
+ghost use Rattle.std.specs.Prelude.{slice_index, vec_capacity, vec_len};
 ghost use Rattle.std.specs.Fn.{FnReturnsAt};
 ghost use Rattle.fedi_register.specs.Chains.{HasHeads, IsChained, chain_of, marks_of, newest};
 ghost use Rattle.fedi_register.specs.Chains.{step_before};
@@ -275,6 +275,13 @@ impl Marks {
             heads: Vec::new(alloc),
             room: 0,
         }
+    }
+
+    /// Whether there are no marks.
+    pub fn is_empty(&self) -> bool
+        ensures { result ≡ nat_eq (length self.now.marks) 0 }
+    {
+        self.steps.is_empty()
     }
 
     /// Makes room for two more marks. The error is out of memory, also if there are more than

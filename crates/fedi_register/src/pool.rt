@@ -45,12 +45,29 @@ fn replace_at<T: Drop>(known: &mut [Option<T>], place: usize, value: T) {
     }
 }
 
-fn hash(text: &[u8]) -> u32 {
-    let mut hash = 2_166_136_261u32;
-    for byte in text {
-        hash = (hash ^ u32::from(*byte)).wrapping_mul(16_777_619);
+// The eight bytes from this position on as a number, or 0 if there are fewer.
+fn word_at(text: &[u8], at: usize) -> u64 {
+    match text.get(at..) {
+        Some([a, b, c, d, e, f, g, h, ..]) => u64::from_le_bytes([*a, *b, *c, *d, *e, *f, *g, *h]),
+        _ => 0,
     }
-    hash
+}
+
+fn mix(hash: u64, word: u64) -> u64 {
+    (hash.rotate_left(5) ^ word).wrapping_mul(0x517c_c1b7_2722_0a95)
+}
+
+// A number for a text of eight bytes or more, taken in by words of eight bytes, the last of which
+// ends with the text. It has no secret, and so somebody may choose texts with equal numbers. These
+// replace one another in their slot, and then fewer texts are shared; no look-up takes longer.
+fn hash(text: &[u8]) -> u32 {
+    let mut hash = text.len() as u64;
+    for at in (0..text.len()).step_by(8) {
+        hash = mix(hash, word_at(text, at));
+    }
+    hash = mix(hash, word_at(text, text.len().saturating_sub(8)));
+    // The upper half depends on all bits of each word, and the lower one does not.
+    (mix(hash.rotate_left(32), 0) >> 32) as u32
 }
 
 fn hash_list(iris: &[Iri]) -> u32 {

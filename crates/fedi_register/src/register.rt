@@ -19,9 +19,8 @@ ghost use Rattle.fedi_register.specs.Following.{followers_in, is_first_follow, w
 ghost use Rattle.fedi_register.specs.Keys.{is_repeat};
 ghost use Rattle.fedi_register.specs.Marks.{Decides, marks_from};
 ghost use Rattle.fedi_register.specs.Registers.{IsNarrower, asks_to_follow, count_by, has_own_id};
-ghost use Rattle.fedi_register.specs.Registers.{is_keyed, is_making, key_mark, object_mark};
-ghost use Rattle.fedi_register.specs.Registers.{own_mark, ref_mark, relates, relates_by_key};
-ghost use Rattle.fedi_register.specs.Registers.{relation_mark};
+ghost use Rattle.fedi_register.specs.Registers.{is_keyed, is_making, object_mark, own_mark};
+ghost use Rattle.fedi_register.specs.Registers.{ref_mark, relates, relates_by_key, relation_mark};
 
 use crate::acts::{
     has_activity_id, is_announce_of, is_block_of, is_follow_of, is_following, is_like_of, makes,
@@ -32,8 +31,8 @@ use crate::extras::Spare;
 use crate::iris::Iris;
 use crate::kept::Kept;
 use crate::marking::{
-    asks_to_follow, has_own_id, is_keyed, is_making, key_mark, object_mark, own_mark, relates,
-    relation_mark,
+    asks_to_follow, found_object_mark, found_relation_mark, has_own_id, is_blocking, is_keyed,
+    is_making, key_mark, own_mark, relates,
 };
 use crate::marks::{MOST_ITEMS, Marks};
 use crate::repeats::is_repeat;
@@ -47,8 +46,9 @@ use std::snapshot::Snapshot;
 
 /// The accepted activities in order, indexed by what is looked up for each post so that no look-up
 /// scans all of them. There are marks of the keys under which posts were made, of the objects that
-/// were created, of the activities' own ids, of who follows, likes, shares or blocks what, and of
-/// who is followed. The number of activities of each author is kept too.
+/// were created, of the activities' own ids, of who follows, likes, shares or blocks what, of who
+/// is followed, and of who blocks whom alone, since that is asked for each recipient of each post.
+/// The number of activities of each author is kept too.
 #[derive(Drop)]
 pub struct Register {
     seed: Seed,
@@ -58,6 +58,7 @@ pub struct Register {
     ids: Marks,
     pairs: Marks,
     followed: Marks,
+    blocked: Marks,
     authors: Authors,
     // The number of further activities that there is room for in each of the lists.
     room: usize,
@@ -155,6 +156,7 @@ impl Register {
             ids: Marks::empty(alloc),
             pairs: Marks::empty(alloc),
             followed: Marks::empty(alloc),
+            blocked: Marks::empty(alloc),
             authors: Authors::empty(alloc, seed),
             room: 0,
         }
@@ -200,7 +202,13 @@ impl Register {
     pub fn blocks(&self, a: &Iri, b: &Iri) -> bool
         ensures { result ≡ list_any (is_block_of a.now b.now) self.now.acts }
     {
-        self.relates(a, b, |act| is_block_of(act, a, b))
+        // In most towns nobody blocks anybody, and then nothing is hashed.
+        if self.blocked.is_empty() {
+            return false;
+        }
+        let mark = self.seed.mark_of_pair(a, b.text());
+        self.blocked
+            .any_of(&self.acts, mark, |act| is_block_of(act, a, b))
     }
 
     /// Whether a follows b: a Follow of b by a was accepted.
@@ -376,6 +384,7 @@ impl Register {
         self.ids.reserve()?;
         self.pairs.reserve()?;
         self.followed.reserve()?;
+        self.blocked.reserve()?;
         self.room = 2;
         Ok(())
     }
@@ -436,30 +445,18 @@ impl Register {
             key_mark(&self.seed, &act),
             at,
         );
-        mark_if(
-            &mut self.made,
-            is_making(&act),
-            object_mark(&self.seed, &act),
-            at,
-        );
+        let object = found_object_mark(&self.seed, &act);
+        mark_if(&mut self.made, is_making(&act), object, at);
+        mark_if(&mut self.followed, asks_to_follow(&act), object, at);
         mark_if(
             &mut self.ids,
             has_own_id(&act),
             own_mark(&self.seed, &act),
             at,
         );
-        mark_if(
-            &mut self.pairs,
-            relates(&act),
-            relation_mark(&self.seed, &act),
-            at,
-        );
-        mark_if(
-            &mut self.followed,
-            asks_to_follow(&act),
-            object_mark(&self.seed, &act),
-            at,
-        );
+        let relation = found_relation_mark(&self.seed, &act);
+        mark_if(&mut self.pairs, relates(&act), relation, at);
+        mark_if(&mut self.blocked, is_blocking(&act), relation, at);
         self.authors.count_one(act.author());
         self.acts.push_reserved(act);
         self.room -= 1;

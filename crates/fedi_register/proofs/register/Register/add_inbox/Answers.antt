@@ -18,7 +18,7 @@ add_inbox_in_place-requires-clause-ids c = c.self.invariant.0.id
 
 pub invariant_of-self : goal.invariant_of-self
 invariant_of-self c = (
-  rw c.add_inbox_in_place.ensures.items (indexed_inbox c.self.inside.seed c.args.id.now c.args.owner.now.value _ _ _ _ _ _ _ c.self.invariant.0),
+  rw c.add_inbox_in_place.ensures.items (indexed_inbox c.self.inside.seed c.args.id.now c.args.owner.now.value _ _ _ _ _ _ _ _ c.self.invariant.0),
   rw (c.add_inbox_in_place.ensures.len, c.add_inbox_in_place.ensures.capacity) c.self.invariant.1,
   rw c.add_inbox_in_place.ensures.len c.self.invariant.2,
   c.self.invariant.3,
@@ -26,4 +26,5 @@ invariant_of-self c = (
   c.self.invariant.5,
   c.self.invariant.6,
   c.self.invariant.7,
+  c.self.invariant.8,
 )

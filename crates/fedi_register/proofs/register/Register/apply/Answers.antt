@@ -17,7 +17,7 @@ apply_in_place-requires-clause-pairs c = c.self.invariant.0.pair
 
 pub invariant_of-self : goal.invariant_of-self
 invariant_of-self c = (
-  rw c.apply_in_place.ensures.items (indexed_affected c.self.inside.seed c.args.effect _ _ _ _ _ _ _ c.self.invariant.0),
+  rw c.apply_in_place.ensures.items (indexed_affected c.self.inside.seed c.args.effect _ _ _ _ _ _ _ _ c.self.invariant.0),
   rw (c.apply_in_place.ensures.len, c.apply_in_place.ensures.capacity) c.self.invariant.1,
   rw c.apply_in_place.ensures.len c.self.invariant.2,
   c.self.invariant.3,
@@ -25,4 +25,5 @@ invariant_of-self c = (
   c.self.invariant.5,
   c.self.invariant.6,
   c.self.invariant.7,
+  c.self.invariant.8,
 )
