@@ -107,7 +107,7 @@ class Site:
         with open(os.path.join(HOME, "contrib/nginx/fedi.conf")) as file:
             text = file.read()
         for old, new in [
-            (r"server 127.0.0.1:8765;", f"server 127.0.0.1:{upstream};"),
+            (r"server 127\.0\.0\.1:8765 ", f"server 127.0.0.1:{upstream} "),
             (r"listen (\[::\]:)\S+.*;", ""),
             (r"listen 80;", f"listen 127.0.0.1:{self.plain};"),
             (r"listen 443 ", f"listen 127.0.0.1:{self.tls} "),

@@ -103,9 +103,10 @@ fn main(rt: HostRuntime) -> ExitCode {
     // Arguments that name no store never ask the disk, and so open nothing.
     let health = Health::new();
     let path = store_of(&arguments).unwrap_or_default();
-    // In the same way, only `serve` asks its doors, and the address is bound when one is first
-    // asked.
-    let listening = Listening::new(&rt, address_of(&arguments).unwrap_or_default());
+    // In the same way, only `serve` asks its doors, and the address is bound, or the socket on the
+    // standard input taken, when one is first asked.
+    let address = address_of(&arguments).unwrap_or_default();
+    let listening = Listening::new(&rt, address).or_on(rt.stdin());
     let alloc = rt.alloc();
     let Ok((disk, benches)) = outside(&rt, alloc, path, &listening, &health) else {
         return ExitCode::from(OUT_OF_MEMORY);
