@@ -1,4 +1,4 @@
-// The screens. `#/home` and the like are the signed-in member's, `#/@ana` and `#/@ana/5` are for strangers too.
+// The screens. `#/home` and the like are the signed-in member's, `#/@ana`, `#/@ana/5` and `#/@ana/c/best` are for strangers too.
 import * as server from './server.js';
 import * as history from './history.js';
 import {shown, plain, htmlOf, namesIn} from './safe.js';
@@ -6,6 +6,8 @@ import {does, el, face, feed, field, form, line, local, say, time, to, who} from
 
 const main = document.getElementById('main'), nav = document.getElementById('nav');
 const ANSWERS = 3;
+/** The board whose notes a profile shows, how many of them, and after how many requests it shows one alone. */
+const FEATURED = 'featured', PINS = 3, SPENT = 8;
 /** What I did, as it was when this screen was begun, and how many requests there were then. */
 let mine = [], begun = 0;
 /** Objects that were read for this screen, by their ids. */
@@ -104,8 +106,11 @@ function headOf(note, via, label) {
     el('div', {className: 'soft'}, when, ` · ${audiences[audienceOf(note)]}${note.updated ? ' · changed' : ''}`)));
 }
 
-/** A note, with what can be done about it. `via` is the Announce that brought it, and `then` is called after an answer. */
-function article(note, {via, then} = {}) {
+/**
+ * A note, with what can be done about it. `via` is the Announce that brought it, `then` is called after an answer, and `board` is the board of
+ * mine that shows it.
+ */
+function article(note, {via, then, board} = {}) {
   if (note.type === 'Tombstone') return tombstone();
   const label = `label${++labels}`;
   const content = shown(note.content ?? note.name ?? '', local);
@@ -123,7 +128,9 @@ function article(note, {via, then} = {}) {
   if (audienceOf(note) === 'everybody') {
     buttons.push(toggle(note, 'Announce', 'Boost', 'Boosted.', {to: [server.everybody], cc: [`${server.me.id}/followers`]}));
   }
-  if (note.attributedTo === server.me.id) buttons.push(...changesOf(note, node, open, {via, then}));
+  buttons.push(does('Boards', async () => open(...boardsFor(note, await history.outbox().acts()))));
+  if (board) buttons.push(toTop(note, board), takeOff(note.id, board));
+  if (note.attributedTo === server.me.id) buttons.push(...changesOf(note, node, open, {via, then, board}));
   node.append(el('div', {className: 'does'}, ...buttons), below);
   return node;
 }
@@ -152,6 +159,101 @@ function changesOf(note, node, open, options) {
     does('Change', () => open(writer({changed: note, then: redraw}))),
     does('Delete', () => open(el('p', {}, 'Delete this note for ever? ', remove, ' ', does('No', () => open())))),
   ];
+}
+
+// ---- boards
+
+const isFeatured = board => server.boardOf(board).name === FEATURED;
+const titleOf = board => isFeatured(board) ? 'Pinned' : server.boardOf(board).name;
+const done = (board, on) => `${on ? 'Put on' : 'Taken off'} ${isFeatured(board) ? 'your profile' : titleOf(board)}.`;
+
+/** Who is shown that a note is on a board of mine: everybody, if everybody may read the note, or my followers. */
+function peopleOf(note) {
+  const followers = `${server.me.id}/followers`;
+  return audienceOf(note) === 'everybody' ? {to: [server.everybody], cc: [followers]} : {to: [followers]};
+}
+
+/** Buttons that put a note on boards of mine and take it off, as they are by what I did, and a form for another board. */
+function boardsFor(note, acts) {
+  const own = name => `${server.me.id}/c/${name}`;
+  const boards = [...new Set([own(FEATURED), ...history.boards(acts)])];
+  const bar = el('div', {className: 'does', role: 'group', 'aria-label': 'Your boards'}, ...boards.map(board => pinned(note, board, acts)));
+  const input = el('input', {name: 'board', required: true, maxLength: 30, autocomplete: 'off', autocapitalize: 'none'});
+  const work = async (_, made) => {
+    const board = own(input.value.trim().toLowerCase());
+    if (!server.boardOf(board)) throw new Error('A board has a name of 1 to 30 letters, digits and _.');
+    await history.putOn(note.id, board, peopleOf(note));
+    const fresh = boardsFor(note, await history.outbox().acts());
+    bar.replaceWith(fresh[0]);
+    made.replaceWith(fresh[1]);
+    fresh[0].querySelector('button:last-of-type').focus();
+    say(done(board, true));
+  };
+  const seen = 'Your followers see its address there, and read it only if they may.';
+  const hint = audienceOf(note) === 'everybody' ? null : el('p', {className: 'soft'}, seen);
+  return [bar, form(work, field('Another board', input), hint, el('button', {type: 'submit'}, 'Put it there'))];
+}
+
+/** A button for a board of mine, which is pressed while the note is on it. */
+function pinned(note, board, acts) {
+  return does(isFeatured(board) ? 'Pin to your profile' : titleOf(board), async button => {
+    const on = button.getAttribute('aria-pressed') === 'true';
+    if (on) await history.takeOff(note.id, board);
+    else await history.putOn(note.id, board, peopleOf(note));
+    button.setAttribute('aria-pressed', String(!on));
+    say(done(board, !on));
+  }, {'aria-pressed': String(history.pinned(acts, board).has(note.id))});
+}
+
+const takeOff = (id, board) => does('Take off', async () => {
+  await history.takeOff(id, board);
+  say(done(board, false));
+  await show();
+});
+
+const toTop = (note, board) => does('To the top', async () => {
+  await history.putOn(note.id, board, peopleOf(note));
+  say('It is at the top.');
+  await show();
+});
+
+/** What a board shows of an id: a note, or where it is on another server. Only whose board it is sees that an id has nothing to read. */
+async function pin(id, board) {
+  const isNote = server.pathOf(id) && /\/[0-9]+$/.test(local(id) ?? '');
+  const note = isNote ? await noteOf(id) : null;
+  if (note && note.type !== 'Tombstone') return article(note, {board});
+  const line = server.pathOf(id) ? board && 'A note that was deleted, or that you may not see.' : to(id, 'A note of another server');
+  const off = board ? el('div', {className: 'does'}, takeOff(id, board)) : null;
+  return line ? el('article', {'aria-label': 'Not here'}, el('p', {className: 'soft'}, line), off) : undefined;
+}
+
+/** Links to a member's boards, the first one first, by one request for twenty. */
+async function linksOf(owner) {
+  const boards = new history.Collection(`${owner}/c`), label = `Boards of ${server.handle(owner)}`;
+  const bar = el('div', {className: 'does', role: 'group', 'aria-label': label}), more = does('More boards', () => add());
+  let number = 0;
+  async function add() {
+    const page = await boards.page(number++);
+    const ids = [...page?.orderedItems ?? []].reverse().filter(id => server.boardOf(id)?.owner === owner);
+    more.before(...ids.map(id => to(id, titleOf(id))));
+    more.hidden = !page?.prev;
+    return ids;
+  }
+  bar.append(more);
+  return (await add()).length ? bar : null;
+}
+
+/** The notes on the board that is for the profile: the newest of them, which are few. */
+async function pinnedBy(owner) {
+  const board = new history.Collection(`${owner}/c/${FEATURED}`), oldest = await board.page(0);
+  const nodes = [];
+  for (const id of oldest?.prev ? await board.newestPage() : oldest?.orderedItems ?? []) {
+    if (nodes.length === PINS) break;
+    const node = await pin(id, null);
+    if (node) nodes.push(node);
+    if (server.asked - begun >= SPENT) break;
+  }
+  return nodes.length ? [el('h2', {}, 'Pinned'), ...nodes, el('h2', {}, 'Notes')] : [];
 }
 
 /** What a timeline shows of an activity, or undefined. */
@@ -317,9 +419,22 @@ async function profile(name) {
   await server.get(id);
   const isMe = server.me?.id === id;
   const bar = server.me && !isMe ? await relation(id) : null;
+  const boards = await linksOf(id), pins = boards ? await pinnedBy(id) : [];
   const {node, fill} = feed(entries(merged(isMe ? history.outbox() : new history.Collection(`${id}/outbox`))), `Notes of @${name}`);
+  await fill(Math.max(begun, server.asked - SPENT));
+  return [el('div', {className: 'profile'}, face(id), heading(`@${name}@${server.host}`)), bar, boards, ...pins, node];
+}
+
+/** What a member put on a board, as far as the reader sees it. */
+async function board(name, slug) {
+  const owner = `${server.site}/users/${name}`, id = `${owner}/c/${slug}`, isMine = server.me?.id === owner;
+  const next = (await new history.Collection(id).open()).walk();
+  const {node, fill} = feed(async () => {
+    const at = await next();
+    return at && pin(at.item, isMine ? id : null);
+  }, `${titleOf(id)} of @${name}`, {empty: 'Nothing is here that you may see.'});
   await fill(begun);
-  return [el('div', {className: 'profile'}, face(id), heading(`@${name}@${server.host}`)), bar, node];
+  return [heading(titleOf(id)), el('p', {className: 'soft'}, 'A board of ', who(owner)), node];
 }
 
 /** Somebody of another server: what came from there. */
@@ -398,9 +513,10 @@ function signIn() {
 
 /** The screen of a route, by its name and a function that makes its nodes. */
 function screenOf(route) {
-  const [, name, host, number] = /^@([a-z0-9_]+)(?:@([a-z0-9.:-]+))?(?:\/([0-9]+))?$/.exec(route) ?? [];
+  const [, name, host, number, slug] = /^@([a-z0-9_]+)(?:@([a-z0-9.:-]+))?(?:\/(?:([0-9]+)|c\/([a-z0-9_]{1,30})))?$/.exec(route) ?? [];
   if (name && host && host !== server.host) return ['profile', () => remoteProfile(name, host)];
   if (name && number) return ['note', () => note(name, number)];
+  if (name && slug) return ['board', () => board(name, slug)];
   if (name) return ['profile', () => profile(name)];
   if (!server.me) return ['signin', signIn];
   return Object.hasOwn(screens, route) ? [route, screens[route]] : ['home', screens.home];

@@ -12,6 +12,8 @@ const SIDE_BY_SIDE = 6;
 const RECENT = 200;
 /** How many items are looked through for that. */
 const SEARCHED = 200;
+/** What is kept of activities: an index of another form is read anew. */
+const FORM = 2;
 /** The length of the beginning of a note that is kept, and how many items are read without telling how far it is. */
 const QUOTE = 80, LONG = 400;
 
@@ -93,7 +95,8 @@ class History extends Collection {
     super(`${server.me.id}/${box}`);
     this.place = `history ${box}`;
     this.brief = brief;
-    this.kept = JSON.parse(server.storage.getItem(this.place) ?? 'null') ?? {length: 0, recent: [], acts: []};
+    const kept = JSON.parse(server.storage.getItem(this.place) ?? 'null');
+    this.kept = kept?.form === FORM ? kept : {form: FORM, length: 0, recent: [], acts: []};
     this.length = this.kept.length || null;
     this.newest = this.kept.recent[0];
   }
@@ -190,10 +193,12 @@ function quote(note) {
 }
 const noted = act => ({...about(act), text: quote(act.object), ...act.object?.inReplyTo && {inReplyTo: act.object.inReplyTo}});
 const changes = new Set(['Accept', 'Announce', 'Block', 'Delete', 'Follow', 'Like', 'Reject', 'Undo']);
+const pins = new Set(['Add', 'Remove']);
 const isMine = id => String(id).startsWith(`${server.me.id}/`);
 const namesMe = act => [...list(act.to), ...list(act.cc)].includes(server.me.id);
 
 function briefOfMine(act) {
+  if (pins.has(act.type)) return {...about(act), target: act.target};
   return act.type === 'Create' || act.type === 'Update' ? noted(act) : changes.has(act.type) ? about(act) : null;
 }
 
@@ -236,6 +241,40 @@ export function standing(mine, type, object) {
 export async function takeBack(type, object) {
   const [act] = standing(await outbox().acts(), type, object);
   if (act) await server.post({type: 'Undo', object: act.id});
+}
+
+/** What is on a board of mine: the Adds of each id since its last Remove, and the ids in the order in which they were put there. */
+export function pinned(mine, board) {
+  const found = new Map();
+  for (const {type, target, object, id} of mine.filter(act => pins.has(act.type) && act.target === board && act.object)) {
+    if (type === 'Remove') found.delete(object);
+    else found.set(object, [...found.get(object) ?? [], id]);
+  }
+  return found;
+}
+
+/** The ids of my boards that are not empty, in the order in which they were begun. */
+export function boards(mine) {
+  const targets = new Set(mine.filter(act => act.type === 'Add').map(act => act.target));
+  return [...targets].filter(id => server.boardOf(id)?.owner === server.me.id && pinned(mine, id).size > 0);
+}
+
+/**
+ * Takes an id off a board of mine, if it is there. The Remove goes to all whom the Adds name: for whoever does not see it the id stays. Hidden
+ * recipients are in no document, so nothing is put on a board for them.
+ */
+export async function takeOff(object, board) {
+  const adds = pinned(await outbox().acts(), board).get(object) ?? [];
+  if (!adds.length) return;
+  const documents = await Promise.all(adds.map(id => server.get(id)));
+  const named = field => [...new Set(documents.flatMap(add => list(add[field])))];
+  await server.post({type: 'Remove', object, target: board, to: named('to'), cc: named('cc'), audience: named('audience')});
+}
+
+/** Puts an id at the top of a board of mine. Where it is there it would stay where it is, so it is taken off first. */
+export async function putOn(object, board, people) {
+  await takeOff(object, board);
+  await server.post({type: 'Add', object, target: board, ...people});
 }
 
 /** Those whom I block. */

@@ -208,6 +208,12 @@ export function handle(id) {
 /** The member whose activity or object this is, as far as the id shows it. */
 export const ownerOf = id => /^https:\/\/[a-z0-9.:-]+\/users\/[a-z0-9_]+(?=$|\/)/.exec(id ?? '')?.[0] ?? id;
 
+/** The owner and the name of a board of a member here, by its id, or null. */
+export function boardOf(id) {
+  const [, there, owner, name] = /^https:\/\/([a-z0-9.:-]+)(\/users\/[a-z0-9_]+)\/c\/([a-z0-9_]{1,30})$/.exec(id ?? '') ?? [];
+  return there === host ? {owner: site + owner, name} : null;
+}
+
 /** The id of `@name` or `@name@host`, by WebFinger (RFC 7033), for which no key is needed. */
 export async function find(text) {
   const found = /^@?([a-zA-Z0-9_.-]+)(?:@([a-z0-9.:-]+))?$/.exec(text.trim());

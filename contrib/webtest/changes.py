@@ -1,4 +1,4 @@
-"""Twelve changes of the page and its policy, each of which has to make a check fail."""
+"""Thirteen changes of the page and its policy, each of which has to make a check fail."""
 import os
 import shutil
 
@@ -22,6 +22,14 @@ def signed_in(stage, check):
         "ana", {"type": "Note", "content": "<p>A note</p>", "to": [PUBLIC, stage.town.id("ben")]}
     )
     stage.pages = {name: stage.member(name) for name in ("ana", "ben", "cleo")}
+
+
+def with_a_note(stage, check):
+    """A note of ana, whom ben follows."""
+    town = stage.town
+    town.post("ben", {"type": "Follow", "object": town.id("ana")})
+    note = town.post("ana", {"type": "Note", "content": "Good evening", "to": [PUBLIC]})
+    stage.places["morning"] = f"#/@ana/{note.split('/')[-1]}"
 
 
 UNSAFE = (
@@ -63,6 +71,11 @@ CHANGES = {
         [("server.js", "url.origin === site && ", "")],
         True,
         [signed_in, clicks.signing_out],
+    ),
+    "a Remove that its author alone sees": (
+        [("history.js", ", to: named('to'), cc: named('cc'), audience: named('audience')", "")],
+        True,
+        [signed_in, with_a_note, clicks.pinning],
     ),
     "notes without content": (
         [("app.js", "shown(note.content ?? note.name ?? '', local)", "shown('', local)")],

@@ -7,7 +7,10 @@ from serving import HOME
 from town import HILL, HOST, OPEN, OTHER, PUBLIC
 
 TEXT = "Good morning, town! <script>alert(1)</script> & see https://example.org/a?b=1&c=2."
-HAS_BUTTON = "[...document.querySelectorAll('button')].some(b => b.textContent === '%s')"
+BUTTON = "[...document.querySelectorAll('button')].find(b => b.textContent === '%s')"
+HAS_BUTTON = f"!!{BUTTON}"
+# How many boards of a member a screen has links to.
+BOARDS = "document.querySelectorAll(\"[aria-label='Boards of @%s'] a\").length"
 
 
 def path_of(place):
@@ -222,6 +225,139 @@ def changing(stage, check):
     check("a note is deleted", True)
 
 
+def pinning(stage, check):
+    """A note that is put on boards, shown to who may see that, and taken off."""
+    ana, ben, town = stage.pages["ana"], stage.pages["ben"], stage.town
+    morning, pin = stage.places["morning"], "Pin to your profile"
+    stranger = stage.visitor("@ana")
+    stranger.settle()
+    check("without a pin a profile has no boards", not stranger.eval(BOARDS % "ana"))
+    ana.go(morning)
+    ana.press("Good evening", "Boards")
+    ana.click("button", pin, times=2)
+    ana.has("Put on your profile.")
+    check(
+        "a note is pinned once, and the button is pressed",
+        town.total("ana/c/featured") == 1
+        and ana.eval(f"{BUTTON % pin}.getAttribute('aria-pressed') === 'true'"),
+    )
+    ana.fill("article input[name=board]", "Best Of")
+    ana.click("button", "Put it there")
+    ana.has("1 to 30 letters, digits and _")
+    ana.fill("article input[name=board]", "Best")
+    ana.click("button", "Put it there")
+    ana.has("Put on best.")
+    check(
+        "and put on a board with a new name, in lower case",
+        town.total("ana/c/best") == 1 and town.total("ana/c") == 2,
+    )
+    second = stage.write(ana, "On my boards too")
+    private = stage.write(ana, "A board of my followers", "followers")
+    for place, text in ((second, "On my boards too"), (private, "A board of my")):
+        ana.go(place)
+        ana.press(text, "Boards")
+        ana.click("button", "best")
+        ana.has("Put on best.")
+    check("which is told before", "Your followers see its address" in ana.screen())
+    check(
+        "what is for followers is on the board for them alone",
+        [town.total("ana/c/best", name) for name in (None, "ben", "dan")] == [2, 3, 2],
+    )
+    for page, name in ((ana, "the owner"), (ben, "a follower"), (stranger, "a stranger")):
+        page.go("#/@ana")
+        check(
+            f"{name} finds the pin above the notes, and the boards",
+            order(page, "Pinned", "Good evening", "Notes") and page.eval(BOARDS % "ana") == 2,
+            page.screen(),
+        )
+    stage.picture(ana, "profile")
+    stranger.click("a", "best")
+    stranger.wait("location.hash === '#/@ana/c/best'", "board")
+    stranger.settle()
+    check(
+        "a stranger reads a board, the last note that was put there first",
+        order(stranger, "On my boards too", "Good evening")
+        and "A board of my" not in stranger.screen(),
+        stranger.screen(),
+    )
+    check(
+        "and has nothing to click that would be refused",
+        not any(stranger.eval(HAS_BUTTON % text) for text in ("Boards", "Take off", "To the top")),
+    )
+    ben.go("#/@ana/c/best")
+    check(
+        "a follower reads what is for followers there",
+        order(ben, "A board of my followers", "On my boards too", "Good evening"),
+    )
+    check("and takes nothing off", not ben.eval(HAS_BUTTON % "Take off"))
+    stage.picture(ben, "board")
+    ana.go("#/@ana/c/best")
+    ana.press("Good evening", "To the top")
+    ana.has("It is at the top.")
+    ana.settle()
+    stranger.go("#/@ana/c/best")
+    check(
+        "a note is moved to the top, for strangers too",
+        order(ana, "Good evening", "A board of my followers", "On my boards too")
+        and order(stranger, "Good evening", "On my boards too"),
+    )
+    taken_off(stage, check)
+
+
+def taken_off(stage, check):
+    ana, ben, town = stage.pages["ana"], stage.pages["ben"], stage.town
+    ana.go("#/@ana/c/best")
+    for text in ("A board of my followers", "On my boards too"):
+        turn = ana.eval("document.getElementById('main').dataset.turn")
+        ana.press(text, "Take off")
+        ana.settle(turn)
+    check(
+        "what is taken off is off for all who saw it there",
+        [town.total("ana/c/best", name) for name in (None, "ana", "ben")] == [1, 1, 1],
+    )
+    removed = town.newest("outbox", "ana")[1]
+    check(
+        "a Remove goes to whom the Add names",
+        removed["type"] == "Remove" and removed["to"] == [f"{town.id('ana')}/followers"],
+        f"{removed}",
+    )
+    other = {"object": f"{town.id('ana')}/o/999", "target": f"{town.id('ana')}/c/best"}
+    town.post("ana", other | {"type": "Add", "to": [PUBLIC]})
+    town.post("ana", other | {"type": "Add", "object": "https://far.example/o/1", "to": [PUBLIC]})
+    ben.go("#/@ana/c/best")
+    check(
+        "what is not there is hidden, and what is elsewhere is a link",
+        "you may not see" not in ben.screen() and "A note of another server" in ben.screen(),
+        ben.screen(),
+    )
+    ana.go("#/@ana/c/best")
+    ana.press("that you may not see", "Take off")
+    ana.wait("!document.body.innerText.includes('that you may not see')", "end of the item")
+    ana.settle()
+    check("its owner takes it off", town.total("ana/c/best") == 2)
+    ana.go("#/@ana")
+    ana.press("Good evening", "Boards")
+    ana.click("button", "Pin to your profile")
+    ana.has("Taken off your profile.")
+    stranger = stage.visitor("#/@ana/c/featured")
+    stranger.settle()
+    stranger.has("Nothing is here that you may see.")
+    stranger.go("#/@ana")
+    check(
+        "an unpinned note is on the profile no longer, and the empty board is not listed",
+        "Pinned" not in stranger.screen() and stranger.eval(BOARDS % "ana") == 1,
+        stranger.screen(),
+    )
+    stranger.go("#/@zoe/c/best")
+    check("a board of nobody is told", "There is no such thing" in stranger.text())
+
+
+def order(page, *texts):
+    """Whether the screen has these texts in this order."""
+    places = [page.screen().find(text) for text in texts]
+    return -1 not in places and places == sorted(places)
+
+
 def blocking(stage, check):
     ana, ben, cleo, town = stage.pages["ana"], stage.pages["ben"], stage.pages["cleo"], stage.town
     ana.go("#/@cleo")
@@ -389,6 +525,7 @@ def stranger(stage, check):
     check("what is sent is packed", packed)
     for path, place in (
         ("users/ana", "#/@ana"),
+        ("users/ana/c/best", "#/@ana/c/best"),
         (f"users/{path_of(stage.places['morning'])}", stage.places["morning"]),
     ):
         page.open(f"https://{HOST}/{path}")
@@ -411,6 +548,7 @@ def phone(stage, check):
         "People",
         "Requests",
         "#/@ana",
+        "#/@ana/c/best",
         stage.places.get("morning", "#/@ben"),
     )
     page.send(
@@ -419,6 +557,10 @@ def phone(stage, check):
     widths, small, backs = [], [], set()
     for place in places:
         page.go(place)
+        if place == "#/@ana":
+            page.click("article button", "Boards")
+            page.wait(HAS_BUTTON % "Put it there")
+            stage.picture(page, "boards")
         widths.append(page.eval("document.documentElement.scrollWidth"))
         small += page.eval(
             "[...document.querySelectorAll('button, nav a, input, select, summary, textarea')].filter(e => e.offsetParent)"
@@ -530,7 +672,15 @@ def keyboard(stage, check):
     page.has("You follow them.")
     page.wait("document.activeElement.localName === 'button'", "focus after a Follow")
     check("the focus goes on after what it was on has gone", True)
-    for place in ("Home", "Notices", "People", "Requests", "#/@ben"):
+    page.go("#/@ben")
+    page.eval(f"{BUTTON % 'Boards'}.focus()")
+    page.enter()
+    pin = "Pin to your profile"
+    page.wait(f"document.activeElement.textContent === {pin!r}", "focus on the boards")
+    page.enter()
+    page.has("Put on your profile.")
+    check("and put on a board", stage.town.total("ana/c/featured", "ana") == 1)
+    for place in ("Home", "Notices", "People", "Requests", "#/@ben", "#/@ana", "#/@ana/c/featured"):
         page.go(place)
         check(f"each control of {place} has a name", not unnamed(page), f"{unnamed(page)}")
     check(
@@ -648,6 +798,7 @@ STEPS = [
     writing,
     answering,
     changing,
+    pinning,
     blocking,
     listing,
     neighbours,

@@ -71,6 +71,7 @@ def command(path, folder, check):
         follows(town, ana, ben, dan, check)
         recipients(town, ana, check)
         answers(town, ana, ben, dan, check)
+        boards(town, ana, ben, dan, check)
         deliveries(town, ben, dan, check)
         lengths(town, ana, check)
         lies(f"{folder}/kept-liar", check)
@@ -229,6 +230,60 @@ def answers(town, ana, ben, dan, check):
     check("nor one to what was deleted", told.startswith("1 ") and "deleted" in told, told)
 
 
+def boards(town, ana, ben, dan, check):
+    """What goes on boards and comes off them, for whom."""
+    total = lambda board, name=None: town.total(f"ana/c/{board}", name)
+    public = ana.says("post", "One for the board")
+    other = ana.says("post", "Another for the board")
+    private = ana.says("post", "--followers", "One for followers")
+    short = f"ana/{public.split('/')[-1]}"
+    pinned = ana.says("pin", short)
+    check("a note is pinned", total("featured") == 1, pinned)
+    add = town.ask("GET", pinned.removeprefix(f"https://{HOST}"))[2]
+    people = ["https://www.w3.org/ns/activitystreams#Public"], [f"{town.id('ana')}/followers"]
+    check("by an Add to everybody", (add.get("to"), add.get("cc")) == people, f"{add}")
+    for note in (public, other, private):
+        ana.says("pin", note, "best")
+    counts = [total("best", name) for name in (None, "ana", "ben", "dan")]
+    check("what is for followers is on the board for them", counts == [2, 3, 3, 2], f"{counts}")
+    shown = ben.says("board", "@ana", "best")
+    texts = ("One for followers", "Another for the board", "One for the board")
+    places = [shown.find(text) for text in texts]
+    check("a board is read, the newest first", -1 not in places and places == sorted(places), shown)
+    own = ana.says("board", "best")
+    check("one's own by its name alone", own == shown, own)
+    pins = dan.says("board", "@ana@club.example")
+    check("and pins by the member's alone", pins == ana.says("board") and texts[2] in pins, pins)
+    listed = [f"{town.id('ana')}/c/{board}" for board in ("best", "featured")]
+    check("the boards of a member are listed", dan.says("boards", "@ana").split() == listed)
+    check("who has none has none", dan.says("boards") == "")
+    ana.says("pin", short, "best")
+    shown = dan.says("board", "@ana", "best")
+    fine = 0 < shown.find(texts[2]) < shown.find(texts[1])
+    check("a pin of what is there moves it up", fine, shown)
+    check("and doubles nothing", total("best", "ana") == 3)
+    for note in (private, short):
+        ana.says("unpin", note, "best")
+    counts = [total("best", name) for name in (None, "ana", "ben", "dan")]
+    check("what is taken off is off for all who saw it", counts == [1, 1, 1, 1], f"{counts}")
+    removed = [act for act in town.newest("outbox", "ana") if act["type"] == "Remove"][1]
+    check("a Remove goes to whom the Add named", removed["to"] == people[1], f"{removed}")
+    told = ana.says("unpin", short, "best")
+    check("what is not there is not taken off", told.startswith("1 ") and "is not on" in told, told)
+    far = "https://far.example/o/1"
+    for note in (far, f"{town.id('ana')}/o/9999"):
+        told = ana.says("pin", note)
+        check(f"{note} is pinned or refused", told.startswith("https://") == (note == far), told)
+    check("an id that cannot be read is shown", ana.says("board").split("\n")[0] == far)
+    ana.says("delete", other)
+    check("and what was deleted", f"{other}  was deleted" in dan.says("board", "@ana", "best"))
+    told = ana.says("pin", other)
+    check("which is not pinned", told.startswith("1 ") and "was deleted" in told, told)
+    for words in (("pin", short, "Best"), ("unpin", short, "a" * 31), ("board", "a/b"), ("pin",)):
+        told = ana.says(*words)
+        check(f"'{' '.join(words)}' is not accepted", told.startswith("2 "), told)
+
+
 def delivered(url, activity):
     """What contrib/deliver-to to the inbox of dan comes to, as hill.example."""
     return subprocess.run(
@@ -361,12 +416,13 @@ def lies(kept, check):
         answer = ["post", "--answer", "ana/1", "x"]
         for reply in LIES:
             liar.says(reply)
-            for words in (["timeline"], ["requests"], ["follow", "@ben"], answer):
+            pins = (["pin", "ana/1"], ["unpin", "ana/1"], ["board"], ["boards", "@ben"])
+            for words in (["timeline"], ["requests"], ["follow", "@ben"], answer, *pins):
                 told(person, f"{liar.reply[-40:]}", words, check)
             liar.says(reply, "404 Not Found")
             told(person, f"404 {liar.reply[-40:]}", ["read", "a/1"], check)
         liar.says(BOX)
-        for word in ("timeline", "requests"):
+        for word in ("timeline", "requests", "board", "boards"):
             done = person.runs(word)
             check(f"{word} passes over what is no activity", done.returncode == 0, done.stderr)
         terminal(liar, person, check)

@@ -377,6 +377,74 @@ def names(stage, check):
     check("a reply of 507 has its words", "short of memory" in said, said)
 
 
+PINNED = [
+    f"https://{EVIL}/users/ana/o/1",
+    f"https://{HOST}@{EVIL}/users/ana/o/1",
+    f"https://{EVIL}/{HANDLER}",
+    f"javascript:{RUN}",
+    f"data:text/html,{SCRIPT}",
+    f"https://{HOST}/users/ana",
+    f"https://{HOST}/users/ben/liked",
+    f"https://{HOST}/users/ana/c/best",
+    f"https://{HOST}/users/ana/o/1?x=/o/1",
+    f"https://{HOST}/users/ana/../ana/o/4294967295",
+    f"https://{HOST}/{SCRIPT}",
+]
+NO_BOARDS = [HANDLER, SCRIPT, "../x", "Best", "best/x", "a" * 31, "%62est", "", "constructor/"]
+
+
+def boards(stage, check):
+    """Boards with ids that are no notes, and addresses of the page that name no board."""
+    town, page = stage.town, stage.member("ana")
+    stage.browser.events.clear()
+    for id in PINNED:
+        for board in ("best", "featured"):
+            target = f"{town.id('ben')}/c/{board}"
+            town.post("ben", {"type": "Add", "object": id, "target": target, "to": [PUBLIC]})
+    for slug in NO_BOARDS:
+        target = f"{town.id('ben')}/c/{slug}"
+        town.post("ben", {"type": "Add", "object": PINNED[0], "target": target, "to": [PUBLIC]})
+    for place in ("#/@ben", "#/@ben/c/best"):
+        page.go(place)
+        targets = page.eval(
+            "[...document.querySelectorAll('main a')].map(a => a.getAttribute('href'))"
+        )
+        fine = all(target.startswith(("https://", "http://", "#/")) for target in targets)
+        named = [target for target in targets if "@" in "".join(target.split("/")[2:3])]
+        check(f"links of {place} go to http, https or a screen", fine, f"{targets}")
+        check("and to no address with a user name", not [it for it in named if it[0] != "#"])
+        foreign = page.eval(f"!!document.querySelector({FOREIGN!r})")
+        check("nothing of another kind is there", not foreign)
+        check("and nothing ran", not page.eval("window.pwned"))
+    check("ids that lead elsewhere are links", "A note of another server" in page.screen())
+    page.go("#/@ben")
+    links = page.eval(
+        "[...document.querySelectorAll('[aria-label=\"Boards of @ben\"] a')].map(a => a.hash)"
+    )
+    check("only boards are listed", links == ["#/@ben/c/best", "#/@ben/c/featured"], f"{links}")
+    for slug in NO_BOARDS:
+        page.go(f"#/@ben/c/{slug}")
+        text = page.screen()
+        check(
+            f"'{slug[:31]}' names no board",
+            page.view() != "board" and HANDLER not in text and not page.eval("window.pwned"),
+            text,
+        )
+    page.go("#/@constructor/c/constructor")
+    check("nor is there one of nobody", "There is no such thing" in page.screen())
+    asked = {
+        event["request"]["url"]
+        for event in page.browser.happened("Network.requestWillBeSent")
+        if f"https://{HOST}/" not in event["request"]["url"]
+    }
+    check("no other host was asked", not asked and not stage.elsewhere.asked, f"{asked}")
+    paths = [
+        event["request"]["url"].removeprefix(f"https://{HOST}")
+        for event in page.browser.happened("Network.requestWillBeSent")
+    ]
+    check("nor what is no note for an item", "/users/ben/liked" not in paths, f"{paths}")
+
+
 def lengths(stage, check):
     """How long the documents of notes are, as the page reckons and as the server writes them."""
     page, signs = stage.member("cleo"), [chr(code) for code in range(32, 127) if code != ord("|")]
@@ -409,4 +477,4 @@ def everybody(id):
     return "https://www.w3.org/ns/activitystreams#Public" if id == PUBLIC else id
 
 
-STEPS = [lost_lines, repeated, policy, listed, names, lengths, contents]
+STEPS = [lost_lines, repeated, policy, listed, names, boards, lengths, contents]

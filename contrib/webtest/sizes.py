@@ -7,6 +7,7 @@ from browser import Browser, Page
 from serving import HOST
 from stores import (
     ACCEPT,
+    ADD,
     ANNOUNCE,
     FOLLOW,
     LIKE,
@@ -23,8 +24,8 @@ from stores import (
 from town import Town
 
 MEMBERS, NOTES, ACTIVITIES, LIMIT = 12, 2300, 5000, 12
-# Boosts in a row, each showing a note that has to be read.
-BOOSTS = 30
+# Boosts in a row, each showing a note that has to be read, and notes on boards.
+BOOSTS, PINS = 30, 10
 BEGUN = 1_700_000_000
 KEY = "5a" * 32
 WORDS = "the quick brown fox of the town hall said that tea is at four and the choir sings on Sunday in the old mill by the lake".split()
@@ -58,7 +59,7 @@ class Log:
 
 def lively(members, notes):
     """A town whose members follow each other, and write, answer, like and boost. The first is
-    locked, and two wait for an answer. The newest activities are boosts.
+    locked, and two wait for an answer. The newest activities are boosts, after pins.
     """
     draw, log = random.Random(1), Log(members)
     for one in range(members):
@@ -90,9 +91,17 @@ def lively(members, notes):
         if number % 8 == 0:
             two = draw.randrange(members)
             log.post(two, boost(log, draw, two))
+    for number in range(PINS):
+        for board in ("featured", "best", f"board_{number}"):
+            log.post(3, pin(log, draw, 3, board))
     for _ in range(BOOSTS):
         log.post(3, boost(log, draw, 3))
     return log
+
+
+def pin(log, draw, member, board):
+    followers, target = f"{id_of(member)}/followers", f"{id_of(member)}/c/{board}"
+    return of(ADD, "%s/o/%d" % draw.choice(log.notes[-400:]), [PUBLIC], [followers], target)
 
 
 def boost(log, draw, member):
@@ -196,6 +205,7 @@ def member_screens(page, log, check):
         ("requests", "Requests"),
         ("one's own profile", f"#/@{me}"),
         ("another's profile", f"#/@{name_of(3)}"),
+        ("another's board", f"#/@{name_of(3)}/c/best"),
         ("one's own note", place_of("%s/o/%d" % own)),
         ("another's note", place_of("%s/o/%d" % other)),
     ):
@@ -219,6 +229,7 @@ def stranger_screens(page, log, check):
     screens = Screens(page, check)
     for name, place in (
         ("a profile for strangers", f"#/@{name_of(3)}"),
+        ("a board for strangers", f"#/@{name_of(3)}/c/best"),
         ("a note for strangers", place_of("%s/o/%d" % log.notes[-5])),
     ):
         screens.visit(name, lambda: page.go(place))
