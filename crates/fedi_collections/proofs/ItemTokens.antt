@@ -22,7 +22,7 @@ items_in_order form (x ∷ xs) =
     ap (λ ts. json_tokens (outline (form x)) ++ ts) (items_in_order form xs)
     ∙ sym (append_assoc (json_tokens (outline (form x))) (flat_map (tokens_at form) (map Some xs)) (Token.end_array ∷ []))
 
-map_reverse : {A B : Type 0} (f : A → B) (xs : List A) → map f (reverse xs) ≡ reverse (map f xs)
+pub map_reverse : {A B : Type 0} (f : A → B) (xs : List A) → map f (reverse xs) ≡ reverse (map f xs)
 map_reverse f [] = refl
 map_reverse f (x ∷ xs) =
     ap (map f) (reverse-append (x ∷ []) xs) ∙ map-append f (reverse xs) (x ∷ []) ∙ ap (λ ys. ys ++ f x ∷ []) (map_reverse f xs)

@@ -1,4 +1,4 @@
-mod Adding
-mod DocumentParts
-mod Found
-mod ItemTokens
+pub mod Adding
+pub mod DocumentParts
+pub mod Found
+pub mod ItemTokens

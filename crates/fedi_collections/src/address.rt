@@ -14,7 +14,7 @@ use std::marker::Model;
 
 /// The id of a collection, with room for the ids of its pages.
 #[derive(Drop)]
-pub(crate) struct Address {
+pub struct Address {
     id: String,
     page: String,
 }
@@ -53,20 +53,26 @@ fn put_page_id(buffer: &mut String, id: &str, number: u64) -> Result<(), AllocEr
 }
 
 impl Address {
+    /// The collection with this id. The error is out of memory.
+    pub fn of_text(alloc: Global, id: String) -> Result<Address, AllocError>
+        ensures { IfOk result (λ address. address ≡ string_bytes id) }
+    {
+        let page = String::with_capacity(alloc, id.len().saturating_add(32))?;
+        Ok(Address { id, page })
+    }
+
     /// The id of the owner's collection. The owner is the member or the object with this id.
     pub(crate) fn of(alloc: Global, which: &Which, owner: &Iri) -> Result<Address, AllocError>
         ensures { IfOk result (λ address. address ≡ collection_id which.now owner.now) }
     {
-        let room = owner.text().len() + 16;
-        let mut id = String::with_capacity(alloc, room)?;
+        let mut id = String::with_capacity(alloc, owner.text().len() + 16)?;
         id.push_str(owner.text())?;
         id.push_str(suffix(which))?;
-        let page = String::with_capacity(alloc, room + 32)?;
-        Ok(Address { id, page })
+        Address::of_text(alloc, id)
     }
 
-    /// The bytes of the collection's id.
-    pub(crate) fn id(&self) -> &str
+    /// The text of the collection's id.
+    pub fn id(&self) -> &str
         ensures { result.now ≡ self.now }
     {
         self.id.as_str()

@@ -15,7 +15,7 @@ use json::Writer;
 use std::alloc::AllocError;
 
 /// The number of the highest page for this many items. It has the newest.
-pub(crate) fn highest_page(total: u64) -> u64
+pub fn highest_page(total: u64) -> u64
     ensures { result ≡ highest total }
 {
     total.saturating_sub(1) / PAGE as u64
@@ -95,12 +95,9 @@ fn write_prev(
     }
 }
 
-/// Writes the beginning of a page (ActivityStreams 2.0 Core, section 5.2), up to its items.
-pub(crate) fn begin_page(
-    out: &mut Writer,
-    address: &mut Address,
-    number: u64,
-) -> Result<(), AllocError>
+/// Writes the beginning of a page (ActivityStreams 2.0 Core, section 5.2), up to its items. The
+/// error is out of memory.
+pub fn begin_page(out: &mut Writer, address: &mut Address, number: u64) -> Result<(), AllocError>
     ensures written { OnOk result (Adds (page_start address.old number) out.old out.new) }
     ensures same { address.new ≡ address.old }
 {
@@ -110,8 +107,9 @@ pub(crate) fn begin_page(
     out.key("orderedItems")
 }
 
-/// Writes what follows the items of a page of a collection with this many items.
-pub(crate) fn end_page(
+/// Writes what follows the items of a page of a collection with this many items. The error is out of
+/// memory.
+pub fn end_page(
     out: &mut Writer,
     address: &mut Address,
     number: u64,

@@ -8,5 +8,7 @@ mod members;
 mod pages;
 mod replies;
 
-pub use pages::{page, summary};
+pub use address::Address;
+pub use documents::{begin_page, end_page, highest_page};
+pub use pages::{page, summary, summary_text};
 pub use replies::collection_reply;

@@ -28,16 +28,12 @@ const EMBEDDED: usize = 640;
 
 const ADDRESS: usize = 128;
 
-fn summary_text(
-    alloc: Global,
-    which: &Which,
-    owner: &Iri,
-    total: u64,
-) -> Result<Vec<u8>, AllocError>
-    ensures { IfOk result (λ text. text.items
-        ≡ compact_text (summary_form (collection_id which.now owner.now) total)) }
+/// The JSON of the collection at this address, which has this many items, without them
+/// (ActivityStreams 2.0 Core, section 5). The error is out of memory.
+pub fn summary_text(alloc: Global, address: Address, total: u64) -> Result<Vec<u8>, AllocError>
+    ensures { IfOk result (λ text. text.items ≡ compact_text (summary_form address total)) }
 {
-    let mut address = Address::of(alloc, which, owner)?;
+    let mut address = address;
     let mut out = Writer::new(Vec::with_capacity(alloc, FRAME)?);
     write_summary(&mut out, &mut address, total)?;
     Ok(out.into_inner())
@@ -61,7 +57,7 @@ pub fn summary<S: Shelf, L: Ledger>(
     ensures cost { steps.new ≤ steps.old + S.page_cost shelf.now which.now owner.now }
 {
     let page = shelf.visible_page(caller, which, owner, 0, steps);
-    summary_text(alloc, which, owner, page.total)
+    summary_text(alloc, Address::of(alloc, which, owner)?, page.total)
 }
 
 // The room for a page with this many items.

@@ -11,7 +11,7 @@ use Rattle.fedi_town.specs.Histories.{town}
 use Rattle.fedi_town.specs.Legal.{IsLegal}
 use Rattle.fedi_town.specs.Towns.{Town, id_of}
 use Rattle.fedi_model.specs.declared.ask.Ask.{Ask}
-use Rattle.fedi_model.specs.declared.ask.Ask.TheVariants.{Nowhere, WrongMethod, Webfinger, Actor, Collection, Activity, Object, Outbox, Inbox}
+use Rattle.fedi_model.specs.declared.ask.Ask.TheVariants.{Nowhere, WrongMethod, Webfinger, Actor, Collection, Activity, Object, Outbox, Inbox, Board}
 use Rattle.fedi_model.specs.declared.post.Post.{Post}
 use Rattle.fedi_model.specs.Posting.{Judgement, Stop, Repeat, Keep, entry_at, inbox_entry, inbox_entry_at, judge_inbox, judge_post, post_entry, repeat_by}
 use Rattle.fedi_model.specs.Asks.{IsPostable, entry_of}
@@ -53,6 +53,7 @@ no_attempt t c (WrongMethod allow) moment e made = absurd cc
 no_attempt t c (Webfinger resource) moment e made = absurd cc
 no_attempt t c (Actor name) moment e made = absurd cc
 no_attempt t c (Collection which ask) moment e made = absurd cc
+no_attempt t c (Board name slug ask) moment e made = absurd cc
 no_attempt t c (Activity name number) moment e made = absurd cc
 no_attempt t c (Object name number) moment e made = absurd cc
 no_attempt t c (Outbox name post) moment e made = post_at_no_attempt t c name post moment (id_of t name) e made

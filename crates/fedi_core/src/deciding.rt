@@ -18,6 +18,7 @@ use fedi_effects::Facts;
 use fedi_inbound::{Received, receive};
 use fedi_model::{Ask, Post, Reply, misshapen_reply, refusal_reply};
 use fedi_objects::{Activity, Boxed, Entry};
+use fedi_pins::board_reply;
 use fedi_text::Moment;
 use fedi_town::{Caller, Refusal, activity_iri};
 use fedi_visible::{Shelf, activity_reply, object_reply};
@@ -192,6 +193,9 @@ pub fn decide<S: Shelf>(
             return decide_post(alloc, facts, caller, name, post, moment);
         }
         Ask::Collection(which, part) => collection_reply(alloc, shelf, caller, &which, &part)?,
+        Ask::Board(name, slug, part) => {
+            board_reply(alloc, shelf, caller, &name, slug.as_ref(), &part)?
+        }
         Ask::Inbox(name, post) => {
             return decide_delivery(facts, caller, name, post, moment);
         }

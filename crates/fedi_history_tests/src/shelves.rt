@@ -1,12 +1,14 @@
 //! The shelf that scans all activities for a collection, and the one that keeps the positions of its
 //! candidates, asked for the same.
 
-ghost use Rattle.std.specs.Prelude.{◌≡◌, []};
+ghost use Rattle.std.specs.Prelude.{◌≡◌, ◌<◌, [], IfOk, string_bytes};
+ghost use Rattle.fedi_town.specs.Boards.{board_id};
 
 use crate::seeds::seed;
 use crate::town::{ACTIVITIES, NAMES, add_town};
-use fedi_address::{Host, LocalName};
+use fedi_address::{Host, Iri, LocalName};
 use fedi_collections::collection_reply;
+use fedi_effects::Steps;
 use fedi_index::IndexedShelf;
 use fedi_model::PageAsk;
 use fedi_opening::open_history;
@@ -15,6 +17,8 @@ use fedi_rows::{expect, expect_at, leaked};
 use fedi_town::{Caller, Which};
 use fedi_visible::{PlainShelf, Shelf};
 use std::alloc::{AllocError, Global};
+use std::marker::Brand;
+use std::sync::ledger::{Blank, Ledger};
 use std::test::Fail;
 
 // Whether both shelves have the same reply for who asks for this part of the collection.
@@ -147,6 +151,108 @@ fn expect_counts<S: Shelf>(alloc: Global, shelf: &S) -> Result<(), Fail> {
     Ok(())
 }
 
+// ---- the collections that members make
+
+// The positions of the member's Adds and Removes, with steps that are counted in this ledger.
+fn counted_pins<S: Shelf, L: Ledger>(
+    alloc: Global,
+    shelf: &S,
+    name: &LocalName,
+    blank: Blank,
+) -> Result<Vec<usize>, AllocError>
+    requires name { blank.name ≡ L.name }
+    requires parts { blank.parts ≡ L.parts }
+    requires some { 0 < blank.parts }
+{
+    let mut steps = Steps::<L>::new(blank);
+    match shelf.facts().id_of(name) {
+        Some(member) => shelf.pins(alloc, name, member, &mut steps),
+        None => Ok(Vec::new(alloc)),
+    }
+}
+
+// The same, with steps of its own.
+fn pins_in<S: Shelf>(alloc: Global, shelf: &S, name: &LocalName) -> Result<Vec<usize>, AllocError> {
+    counted_pins::<S, Brand>(alloc, shelf, name, Blank::new(1))
+}
+
+// The id of the member's collection of this name.
+fn board_text(alloc: Global, member: &Iri, slug: &LocalName) -> Result<String, AllocError>
+    ensures { IfOk result (λ text. string_bytes text ≡ board_id member.now slug.now) }
+{
+    let mut text = String::from_str(alloc, member.text())?;
+    text.push_str("/c/")?;
+    text.push_str(slug.text())?;
+    Ok(text)
+}
+
+// The positions of what is directed to the member's collection of this name, with steps that are
+// counted in this ledger.
+fn counted_directed<S: Shelf, L: Ledger>(
+    alloc: Global,
+    shelf: &S,
+    name: &LocalName,
+    slug: &LocalName,
+    blank: Blank,
+) -> Result<Vec<usize>, AllocError>
+    requires name { blank.name ≡ L.name }
+    requires parts { blank.parts ≡ L.parts }
+    requires some { 0 < blank.parts }
+{
+    let mut steps = Steps::<L>::new(blank);
+    match shelf.facts().id_of(name) {
+        Some(member) => {
+            let board = board_text(alloc, member, slug)?;
+            shelf.directed(alloc, name, member, slug, board.as_str(), &mut steps)
+        }
+        None => Ok(Vec::new(alloc)),
+    }
+}
+
+// The same, with steps of its own.
+fn directed_in<S: Shelf>(
+    alloc: Global,
+    shelf: &S,
+    name: &LocalName,
+    slug: &LocalName,
+) -> Result<Vec<usize>, AllocError> {
+    counted_directed::<S, Brand>(alloc, shelf, name, slug, Blank::new(1))
+}
+
+// Fails unless both shelves find as many Adds and Removes by the member, and as many that are
+// directed to the member's collection of this name, and the same ones.
+fn expect_pins<A: Shelf, B: Shelf>(
+    alloc: Global,
+    one: &A,
+    other: &B,
+    text: &str,
+    slug: &str,
+    counts: (usize, usize),
+) -> Result<(), Fail> {
+    let (Some(name), Some(slug)) = (LocalName::parse(text), LocalName::parse(slug)) else {
+        return Err(Fail::new(text));
+    };
+    let first = pins_in(alloc, one, &name)?;
+    let second = pins_in(alloc, other, &name)?;
+    let holds = first.len() == counts.0 && first.as_slice() == second.as_slice();
+    expect(holds, "the Adds and Removes by a member")?;
+    let first = directed_in(alloc, one, &name, &slug)?;
+    let second = directed_in(alloc, other, &name, &slug)?;
+    let holds = first.len() == counts.1 && first.as_slice() == second.as_slice();
+    expect(holds, "the Adds and Removes of a collection")
+}
+
+// The same for each member, by hand: ana and ben make collections, eli adds to that of ana twice,
+// and ben takes something out of it once.
+fn expect_boards<A: Shelf, B: Shelf>(alloc: Global, one: &A, other: &B) -> Result<(), Fail> {
+    expect_pins(alloc, one, other, "ana", "best", (3, 6))?;
+    expect_pins(alloc, one, other, "ana", "worst", (3, 0))?;
+    expect_pins(alloc, one, other, "ben", "best", (3, 2))?;
+    expect_pins(alloc, one, other, "eli", "best", (2, 0))?;
+    expect_pins(alloc, one, other, "dan", "best", (0, 0))?;
+    expect_pins(alloc, one, other, "fay", "best", (0, 0))
+}
+
 // Both shelves open the history that the keeper has, and answer the same.
 fn expect_same<A: Shelf, B: Shelf, K: Keeper>(
     alloc: Global,
@@ -161,6 +267,7 @@ fn expect_same<A: Shelf, B: Shelf, K: Keeper>(
     open_history(alloc, keeper, other)?;
     expect(one.facts().activities() == ACTIVITIES, "the activities")?;
     expect_counts(alloc, one)?;
+    expect_boards(alloc, one, other)?;
     expect_callers(alloc, one, other)
 }
 

@@ -1,7 +1,7 @@
 //! A long history, the same in each run, in which four members and two people elsewhere do what the
-//! items of collections are: posts, Follows with their answers, Likes, Announces, and what undoes
-//! them. The records are filled in from forms, which were worked out by hand from the format of
-//! entries.
+//! items of collections are: posts, Follows with their answers, Likes, Announces, what undoes them,
+//! and Adds and Removes. The records are filled in from forms, which were worked out by hand from
+//! the format of entries.
 
 use crate::opening::{add, add_all};
 use fedi_outside::Keeper;
@@ -13,7 +13,7 @@ use std::test::Fail;
 pub const NAMES: [&str; 4] = ["ana", "ben", "eli", "dan"];
 
 /// How many activities the history has.
-pub const ACTIVITIES: usize = 492;
+pub const ACTIVITIES: usize = 500;
 
 // What a form has in place of the first name, the second name, a number of two digits and a byte.
 // None of these bytes is in a text.
@@ -119,6 +119,20 @@ const ABOUT_ACTIVITY: &[u8] = b"\
     \0\0\0\0\0\0\0\0\0\0\0\0\0\0\0\0\0\0\0\0\0\0\0\0\0\0\0\0\0\0\
     \0\0\0\0.\xbc\x98\xa1";
 
+// What the first member posted to everyone, of this type, about a note of the second member, and
+// directed to a collection that the second member makes.
+const DIRECTED: &[u8] = b"\
+    \x04\
+    \0\0\0\x03\xf1\
+    \0\0\xf4\0\x01\
+    \0\0\0\x23https://club.example/users/\xf2/o/\xf3\
+    \x01\
+    \0\0\0\x25https://club.example/users/\xf2/c/best\
+    \0\0\0\x01\
+    \0\0\0,https://www.w3.org/ns/activitystreams#Public\
+    \0\0\0\0\0\0\0\0\0\0\0\0\0\0\0\0\0\0\0\0\0\0\0\0\0\
+    \0\0\0\0.\xbc\x98\xa1";
+
 // What dora delivered to the first member: something about that member, about an activity of that
 // member, and about an object of the second member; and what undoes the last.
 const BY_DORA: &[u8] = b"\
@@ -187,6 +201,8 @@ const BY_EVE: &[u8] = b"\
 // The numbers of the types.
 const ACCEPT: u8 = 1;
 
+const ADD: u8 = 2;
+
 const ANNOUNCE: u8 = 3;
 
 const BLOCK: u8 = 5;
@@ -198,6 +214,8 @@ const FOLLOW: u8 = 10;
 const LIKE: u8 = 15;
 
 const REJECT: u8 = 21;
+
+const REMOVE: u8 = 22;
 
 const UNDO: u8 = 26;
 
@@ -261,7 +279,7 @@ type Step = (
 
 // The steps after the server was set up with its peers. A comment says how many activities each
 // member then has.
-const STEPS: [Step; 25] = [
+const STEPS: [Step; 27] = [
     (
         MADE,
         0,
@@ -315,6 +333,15 @@ const STEPS: [Step; 25] = [
     // 83, and ben 84.
     (ABOUT_OBJECT, DELETE, &EACH, &[18]),
     (ABOUT_MEMBER, BLOCK, &[("ben", "eli")], &[0]),
+    // 85, but ben 86 and dan 83.
+    (
+        DIRECTED,
+        ADD,
+        &[("ana", "ana"), ("ben", "ben"), ("eli", "ana")],
+        &[19, 20],
+    ),
+    // ana 86, ben 87.
+    (DIRECTED, REMOVE, &[("ana", "ana"), ("ben", "ana")], &[19]),
 ];
 
 // ---- records

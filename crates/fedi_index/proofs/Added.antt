@@ -9,14 +9,15 @@ use Rattle.std.proofs.lemmas.List.Folds.{list_any-append, list_any_at}
 use Rattle.std.proofs.lemmas.Slice.Eq.{bytes_eq-Decides}
 use Rattle.fedi_address.specs.Recipients.{is_among}
 use Rattle.fedi_index.specs.declared.collection.Collection.{Collection}
-use Rattle.fedi_index.specs.declared.collection.Collection.TheVariants.{Inbox, Outbox, Followers, Following, Liked, Likes, Shares}
+use Rattle.fedi_index.specs.declared.collection.Collection.TheVariants.{Inbox, Outbox, Followers, Following, Liked, Likes, Shares, Pins, Board}
 use Rattle.fedi_index.specs.Candidates.{belongs, is_same}
-use Rattle.fedi_index.specs.Lists.{HasOneMore, Listing, at_end, is_same_list, places_of, room_of}
-use Rattle.fedi_index.specs.Growing.{AddsOnce, CanAdd, ends_in, is_inbox, is_kept, is_kind, is_lacking, is_one, list_of_author, list_of_object}
-use Rattle.fedi_index.proofs.SameKind.{kind_itself, same_kind}
+use Rattle.fedi_index.specs.Lists.{AddsOnce, CanAdd, Listing, ends_in, is_lacking, is_same_list, places_of, room_of}
+use Rattle.fedi_index.specs.Growing.{is_inbox, is_kept, is_kind, is_one, list_of_author, list_of_other, other_owner}
+use Rattle.fedi_index.proofs.Pushed.{nothing_added}
+use Rattle.fedi_index.proofs.TypeLists.{author_lists, no_pin, other_lists}
 use Rattle.fedi_town.specs.declared.act.Act.{Act}
-use Rattle.fedi_town.specs.declared.deed.Deed.{Deed}
-use Rattle.fedi_town.specs.declared.deed.Deed.TheVariants.{Create, Update, Delete, Follow, Like, Announce, Block, Accept, Reject, Undo, Other}
+use Rattle.fedi_town.specs.Boards.{is_pin_kind}
+use Rattle.fedi_visible.specs.Pins.{is_directed, is_pin_kind_by}
 use Rattle.fedi_town.specs.Addressing.{is_of_town}
 use Rattle.fedi_town.specs.Deeds.{is_announce, is_follow, is_like}
 use Rattle.fedi_town.specs.Relations.{is_about, is_id, ref_id}
@@ -25,61 +26,40 @@ use Rattle.fedi_town.proofs.Texts.{and_none, or_no, or_true}
 
 -- ---- one list
 
--- whether the position is missing from one list
-lacking-one : (host : Option (List ℕ)) (kind : Collection) (owner : List ℕ) (place : ℕ) (l : List Listing) (k : Collection) (o : List ℕ)
-    → is_lacking place (places_of k o l) (is_one host (Some kind) (Some owner) k o)
-    ≡ (is_same_list k o kind owner && (is_of_town host owner && not (ends_in place (places_of kind owner l))))
+-- whether it is the list of an owner of this host
+one-here : (host : Option (List ℕ)) (kind : Collection) (owner : List ℕ) → is_of_town host owner ≡ true → (k : Collection) (o : List ℕ)
+    → is_same_list k o kind owner ≡ is_one host (Some kind) (Some owner) k o
 unfolding is_one
-lacking-one host kind owner place l k o =
-    elim (is_same_list k o kind owner) as (λ b. is_same_list k o kind owner ≡ b
-    → ((is_of_town host o && b) && not (ends_in place (places_of k o l))) ≡ (b && (is_of_town host owner && not (ends_in place (places_of kind owner l))))) [
-      | true ↦ λ e.
-          let parts = and_parts (is_same kind k) (bytes_eq owner o) e in
-          rw (← same_kind kind k parts.0, ← (bytes_eq-Decides owner o).0 parts.1) (without_true (is_of_town host owner) (not (ends_in place (places_of kind owner l))))
-      | false ↦ λ e. rw (and_none (is_of_town host o)) refl
+one-here host kind owner here k o =
+    elim (is_same_list k o kind owner) as (λ b. is_same_list k o kind owner ≡ b → b ≡ (is_of_town host o && b)) [
+      | true ↦ λ e. rw (← (bytes_eq-Decides owner o).0 (and_parts (is_same kind k) (bytes_eq owner o) e).1, here) refl
+      | false ↦ λ e. sym (and_none (is_of_town host o))
     ] refl
-  where
-    without_true : (a b : Bool) → ((a && true) && b) ≡ (a && b)
-    without_true true b = refl
-    without_true false b = refl
 
-pub one_pushed : (host : Option (List ℕ)) (kind : Collection) (owner : List ℕ) (place : ℕ) (old new : List Listing)
-    → (is_of_town host owner && not (ends_in place (places_of kind owner old))) ≡ true → HasOneMore kind owner (at_end place) old new
-    → AddsOnce (is_one host (Some kind) (Some owner)) place old new
-one_pushed host kind owner place old new here h =
-    let same : (k : Collection) (o : List ℕ) → is_same_list k o kind owner ≡ is_lacking place (places_of k o old) (is_one host (Some kind) (Some owner) k o) =
-    λ k o. sym (lacking-one host kind owner place old k o ∙ rw here (with_true (is_same_list k o kind owner))) in record {
-      places = λ k o.
-          h.places k o ∙ put_last (is_same_list k o kind owner) (places_of k o old)
-          ∙ ap (λ (b : Bool). places_of k o old ++ (if b then place ∷ [] else [])) (same k o);
-      room = λ k o. rw (← same k o) (h.room k o);
-    }
-  where
-    put_last : (b : Bool) (ps : List ℕ) → (if b then at_end place ps else ps) ≡ ps ++ (if b then place ∷ [] else [])
-    put_last true ps = refl
-    put_last false ps = sym (append-nil ps)
+pub one_room : (host : Option (List ℕ)) (kind : Collection) (owner : List ℕ) (place : ℕ) (l : List Listing) → is_of_town host owner ≡ true
+    → CanAdd (is_one host (Some kind) (Some owner)) place l → CanAdd (λ k o. is_same_list k o kind owner) place l
+one_room host kind owner place l here can = record { room = λ k o is. can.room k o (rw (one-here host kind owner here k o) at is) }
 
-    with_true : (a : Bool) → (a && true) ≡ a
-    with_true true = refl
-    with_true false = refl
-
-pub nothing_added : (listed : Collection → List ℕ → Bool) (place : ℕ) (l : List Listing) → ((k : Collection) (o : List ℕ) → is_lacking place (places_of k o l) (listed k o) ≡ false)
-    → AddsOnce listed place l l
-nothing_added listed place l none = record {
-  places = λ k o. rw (none k o) (sym (append-nil (places_of k o l)));
-  room = λ k o. rw (none k o) (omega arith);
+pub one_pushed : (host : Option (List ℕ)) (kind : Collection) (owner : List ℕ) (place : ℕ) (old new : List Listing) → is_of_town host owner ≡ true
+    → AddsOnce (λ k o. is_same_list k o kind owner) place old new → AddsOnce (is_one host (Some kind) (Some owner)) place old new
+one_pushed host kind owner place old new here h = record {
+  places = λ k o. rw (← one-here host kind owner here k o) (h.places k o);
+  room = λ k o. rw (← one-here host kind owner here k o) (h.room k o);
 }
 
-pub one_there : (host : Option (List ℕ)) (kind : Collection) (owner : List ℕ) (place : ℕ) (l : List Listing)
-    → (is_of_town host owner && not (ends_in place (places_of kind owner l))) ≡ false → AddsOnce (is_one host (Some kind) (Some owner)) place l l
-one_there host kind owner place l there =
-    nothing_added (is_one host (Some kind) (Some owner)) place l (λ k o. lacking-one host kind owner place l k o ∙ rw there (and_none (is_same_list k o kind owner)))
-
--- there is room in the list if the position has to be added
-pub one_room : (host : Option (List ℕ)) (kind : Collection) (owner : List ℕ) (place : ℕ) (l : List Listing) → CanAdd (is_one host (Some kind) (Some owner)) place l
-    → (is_of_town host owner && not (ends_in place (places_of kind owner l))) ≡ true → 1 ≤ room_of kind owner l
-one_room host kind owner place l can here =
-    can.room kind owner (lacking-one host kind owner place l kind owner ∙ rw (kind_itself kind, (bytes_eq-Decides owner owner).1 refl, here) refl)
+-- an owner of another host has no list
+pub one_elsewhere : (host : Option (List ℕ)) (kind : Collection) (owner : List ℕ) (place : ℕ) (l : List Listing) → is_of_town host owner ≡ false
+    → AddsOnce (is_one host (Some kind) (Some owner)) place l l
+unfolding is_one
+one_elsewhere host kind owner place l far =
+    nothing_added (is_one host (Some kind) (Some owner)) place l (λ k o. ap (λ (b : Bool). is_lacking place (places_of k o l) b) (none k o))
+  where
+    none : (k : Collection) (o : List ℕ) → (is_of_town host o && (is_same kind k && bytes_eq owner o)) ≡ false
+    none k o =
+        elim (bytes_eq owner o) as (λ b. bytes_eq owner o ≡ b → (is_of_town host o && (is_same kind k && b)) ≡ false) [
+          | true ↦ λ e. rw (← (bytes_eq-Decides owner o).0 e, far) refl
+          | false ↦ λ e. rw (and_none (is_same kind k)) (and_none (is_of_town host o))
+        ] refl
 
 pub no-kind : (host owner : Option (List ℕ)) (k : Collection) (o : List ℕ) → is_one host None owner k o ≡ false
 unfolding is_one
@@ -232,46 +212,31 @@ no_inbox_added host place l = nothing_added (is_inbox host []) place l (λ k o. 
 
 -- ---- all lists of an activity
 
-author_lists : (d : Deed) → (is_kind Inbox (list_of_author d) ≡ false) × (is_kind Outbox (list_of_author d) ≡ false) × (is_kind Followers (list_of_author d) ≡ false)
-    × (is_kind Following (list_of_author d) ≡ is_follow d) × (is_kind Liked (list_of_author d) ≡ is_like d) × (is_kind Likes (list_of_author d) ≡ false) × (is_kind Shares (list_of_author d) ≡ false)
-author_lists Create = (refl, refl, refl, refl, refl, refl, refl)
-author_lists Update = (refl, refl, refl, refl, refl, refl, refl)
-author_lists Delete = (refl, refl, refl, refl, refl, refl, refl)
-author_lists Follow = (refl, refl, refl, refl, refl, refl, refl)
-author_lists Like = (refl, refl, refl, refl, refl, refl, refl)
-author_lists Announce = (refl, refl, refl, refl, refl, refl, refl)
-author_lists Block = (refl, refl, refl, refl, refl, refl, refl)
-author_lists Accept = (refl, refl, refl, refl, refl, refl, refl)
-author_lists Reject = (refl, refl, refl, refl, refl, refl, refl)
-author_lists Undo = (refl, refl, refl, refl, refl, refl, refl)
-author_lists Other = (refl, refl, refl, refl, refl, refl, refl)
+-- what an activity other than an Add or a Remove is about
+about_under : (b : Bool) (o : List ℕ) (x : Act) → (b ≡ true → is_pin_kind x.activity.kind ≡ false) → (b && is_id o (other_owner x)) ≡ (b && is_id o (ref_id x.activity.object))
+about_under true o x none = rw (none refl) refl
+about_under false o x none = refl
 
-object_lists : (d : Deed) → (is_kind Inbox (list_of_object d) ≡ false) × (is_kind Outbox (list_of_object d) ≡ false) × (is_kind Followers (list_of_object d) ≡ is_follow d)
-    × (is_kind Following (list_of_object d) ≡ false) × (is_kind Liked (list_of_object d) ≡ false) × (is_kind Likes (list_of_object d) ≡ is_like d) × (is_kind Shares (list_of_object d) ≡ is_announce d)
-object_lists Create = (refl, refl, refl, refl, refl, refl, refl)
-object_lists Update = (refl, refl, refl, refl, refl, refl, refl)
-object_lists Delete = (refl, refl, refl, refl, refl, refl, refl)
-object_lists Follow = (refl, refl, refl, refl, refl, refl, refl)
-object_lists Like = (refl, refl, refl, refl, refl, refl, refl)
-object_lists Announce = (refl, refl, refl, refl, refl, refl, refl)
-object_lists Block = (refl, refl, refl, refl, refl, refl, refl)
-object_lists Accept = (refl, refl, refl, refl, refl, refl, refl)
-object_lists Reject = (refl, refl, refl, refl, refl, refl, refl)
-object_lists Undo = (refl, refl, refl, refl, refl, refl, refl)
-object_lists Other = (refl, refl, refl, refl, refl, refl, refl)
+-- what an Add or a Remove is directed to
+directed_under : (o : List ℕ) (x : Act) → (is_pin_kind x.activity.kind && is_id o (other_owner x)) ≡ (is_pin_kind x.activity.kind && is_id o x.activity.target)
+directed_under o x =
+    elim (is_pin_kind x.activity.kind) as (λ b. (b && is_id o (if b then x.activity.target else ref_id x.activity.object)) ≡ (b && is_id o x.activity.target)) [
+      | true ↦ refl
+      | false ↦ refl
+    ]
 
 -- the lists that the activity is in: the outbox, the list of its author, that of its object, and
 -- the inboxes
 abbrev pub lists_of : Option (List ℕ) → Act → Collection → List ℕ → Bool
 lists_of host x k o =
-    ((is_one host (Some Outbox) (Some x.author) k o || is_one host (list_of_author (deed x)) (Some x.author) k o)
-    || is_one host (list_of_object (deed x)) (ref_id x.activity.object) k o) || is_inbox host x.recipients k o
+    ((is_one host (Some Outbox) (Some x.author) k o || is_one host (list_of_author x.activity.kind) (Some x.author) k o)
+    || is_one host (list_of_other x.activity.kind) (other_owner x) k o) || is_inbox host x.recipients k o
 
 pub all_lists : (host : Option (List ℕ)) (x : Act) (k : Collection) (o : List ℕ) → lists_of host x k o ≡ is_kept host k o x
-unfolding is_one is_inbox is_kept belongs is_by is_about
+unfolding is_one is_inbox is_kept belongs is_by is_about is_directed is_pin_kind_by
 all_lists host x k o =
-    with_host (is_of_town host o) (is_same Outbox k && bytes_eq x.author o) (is_kind k (list_of_author (deed x)) && bytes_eq x.author o)
-    (is_kind k (list_of_object (deed x)) && is_id o (ref_id x.activity.object)) (is_same Inbox k && is_among o x.recipients) (belongs k o x) (each k)
+    with_host (is_of_town host o) (is_same Outbox k && bytes_eq x.author o) (is_kind k (list_of_author x.activity.kind) && bytes_eq x.author o)
+    (is_kind k (list_of_other x.activity.kind) && is_id o (other_owner x)) (is_same Inbox k && is_among o x.recipients) (belongs k o x) (each k)
   where
     with_host : (h a b c d e : Bool) → (((a || b) || c) || d) ≡ e → ((((h && a) || (h && b)) || (h && c)) || (h && d)) ≡ (h && e)
     with_host true a b c d e is = is
@@ -279,24 +244,26 @@ all_lists host x k o =
 
     parts : Collection → Bool
     parts k =
-        ((is_same Outbox k && bytes_eq x.author o) || (is_kind k (list_of_author (deed x)) && bytes_eq x.author o))
-        || (is_kind k (list_of_object (deed x)) && is_id o (ref_id x.activity.object))
+        ((is_same Outbox k && bytes_eq x.author o) || (is_kind k (list_of_author x.activity.kind) && bytes_eq x.author o))
+        || (is_kind k (list_of_other x.activity.kind) && is_id o (other_owner x))
 
     each : (k : Collection) → (parts k || (is_same Inbox k && is_among o x.recipients)) ≡ belongs k o x
-    each Inbox = rw ((author_lists (deed x)).0, (object_lists (deed x)).0) refl
-    each Outbox = rw ((author_lists (deed x)).1, (object_lists (deed x)).1) (or_no ((bytes_eq x.author o || false) || false) ∙ or_no (bytes_eq x.author o || false) ∙ or_no (bytes_eq x.author o))
-    each Followers = rw ((author_lists (deed x)).2, (object_lists (deed x)).2) (or_no (is_follow (deed x) && is_id o (ref_id x.activity.object)))
-    each Following = rw ((author_lists (deed x)).3, (object_lists (deed x)).3) (or_no ((is_follow (deed x) && bytes_eq x.author o) || false) ∙ or_no (is_follow (deed x) && bytes_eq x.author o))
-    each Liked = rw ((author_lists (deed x)).4, (object_lists (deed x)).4) (or_no ((is_like (deed x) && bytes_eq x.author o) || false) ∙ or_no (is_like (deed x) && bytes_eq x.author o))
-    each Likes = rw ((author_lists (deed x)).5, (object_lists (deed x)).5) (or_no (is_like (deed x) && is_id o (ref_id x.activity.object)))
-    each Shares = rw ((author_lists (deed x)).6, (object_lists (deed x)).6) (or_no (is_announce (deed x) && is_id o (ref_id x.activity.object)))
+    each Inbox = rw ((author_lists x.activity.kind).0, (other_lists x.activity.kind).0) refl
+    each Outbox = rw ((author_lists x.activity.kind).1, (other_lists x.activity.kind).1) (or_no ((bytes_eq x.author o || false) || false) ∙ or_no (bytes_eq x.author o || false) ∙ or_no (bytes_eq x.author o))
+    each Followers = rw ((author_lists x.activity.kind).2, (other_lists x.activity.kind).2) (or_no (is_follow (deed x) && is_id o (other_owner x)) ∙ about_under (is_follow (deed x)) o x (no_pin x.activity.kind).0)
+    each Following = rw ((author_lists x.activity.kind).3, (other_lists x.activity.kind).3) (or_no ((is_follow (deed x) && bytes_eq x.author o) || false) ∙ or_no (is_follow (deed x) && bytes_eq x.author o))
+    each Liked = rw ((author_lists x.activity.kind).4, (other_lists x.activity.kind).4) (or_no ((is_like (deed x) && bytes_eq x.author o) || false) ∙ or_no (is_like (deed x) && bytes_eq x.author o))
+    each Likes = rw ((author_lists x.activity.kind).5, (other_lists x.activity.kind).5) (or_no (is_like (deed x) && is_id o (other_owner x)) ∙ about_under (is_like (deed x)) o x (no_pin x.activity.kind).1)
+    each Shares = rw ((author_lists x.activity.kind).6, (other_lists x.activity.kind).6) (or_no (is_announce (deed x) && is_id o (other_owner x)) ∙ about_under (is_announce (deed x)) o x (no_pin x.activity.kind).2)
+    each Pins = rw ((author_lists x.activity.kind).7, (other_lists x.activity.kind).7) (or_no ((is_pin_kind x.activity.kind && bytes_eq x.author o) || false) ∙ or_no (is_pin_kind x.activity.kind && bytes_eq x.author o))
+    each Board = rw ((author_lists x.activity.kind).8, (other_lists x.activity.kind).8) (or_no (is_pin_kind x.activity.kind && is_id o (other_owner x)) ∙ directed_under o x)
 
 -- the values that determine these lists are those of the activity
 pub record IsOf (x : Act) (author : List ℕ) (own other : Option Collection) (about : Option (List ℕ)) (to : List (List ℕ)) : Type 0 where
   pub by : author ≡ x.author
-  pub its : own ≡ list_of_author (deed x)
-  pub theirs : other ≡ list_of_object (deed x)
-  pub of : about ≡ ref_id x.activity.object
+  pub its : own ≡ list_of_author x.activity.kind
+  pub theirs : other ≡ list_of_other x.activity.kind
+  pub of : about ≡ other_owner x
   pub sent : to ≡ x.recipients
 
 first_or : (a b c d : Bool) → a ≡ true → (((a || b) || c) || d) ≡ true
@@ -317,25 +284,25 @@ can_add_outbox host x author place l own can =
     can_part (is_one host (Some Outbox) (Some author)) (λ k o. is_kept host k o x) place l
     (λ k o is. sym (all_lists host x k o) ∙ first_or _ _ _ _ (rw own at is)) can
 
-pub can_add_own : (host : Option (List ℕ)) (x : Act) (author : List ℕ) (kind : Option Collection) (place : ℕ) (l : List Listing) → author ≡ x.author → kind ≡ list_of_author (deed x)
+pub can_add_own : (host : Option (List ℕ)) (x : Act) (author : List ℕ) (kind : Option Collection) (place : ℕ) (l : List Listing) → author ≡ x.author → kind ≡ list_of_author x.activity.kind
     → CanAdd (λ k o. is_kept host k o x) place l → CanAdd (is_one host kind (Some author)) place l
 can_add_own host x author kind place l own its can =
     can_part (is_one host kind (Some author)) (λ k o. is_kept host k o x) place l
     (λ k o is. sym (all_lists host x k o) ∙ second_or (is_one host (Some Outbox) (Some x.author) k o) _ _ _ (rw (own, its) at is)) can
 
-pub can_add_other : (host : Option (List ℕ)) (x : Act) (about : Option (List ℕ)) (kind : Option Collection) (place : ℕ) (l : List Listing) → about ≡ ref_id x.activity.object
-    → kind ≡ list_of_object (deed x) → CanAdd (λ k o. is_kept host k o x) place l → CanAdd (is_one host kind about) place l
+pub can_add_other : (host : Option (List ℕ)) (x : Act) (about : Option (List ℕ)) (kind : Option Collection) (place : ℕ) (l : List Listing) → about ≡ other_owner x
+    → kind ≡ list_of_other x.activity.kind → CanAdd (λ k o. is_kept host k o x) place l → CanAdd (is_one host kind about) place l
 can_add_other host x about kind place l own its can =
     can_part (is_one host kind about) (λ k o. is_kept host k o x) place l
     (λ k o is. sym (all_lists host x k o)
-    ∙ third_or (is_one host (Some Outbox) (Some x.author) k o) (is_one host (list_of_author (deed x)) (Some x.author) k o) _ _ (rw (own, its) at is)) can
+    ∙ third_or (is_one host (Some Outbox) (Some x.author) k o) (is_one host (list_of_author x.activity.kind) (Some x.author) k o) _ _ (rw (own, its) at is)) can
 
 pub can_add_inboxes : (host : Option (List ℕ)) (x : Act) (to : List (List ℕ)) (place : ℕ) (l : List Listing) → to ≡ x.recipients → CanAdd (λ k o. is_kept host k o x) place l
     → CanAdd (is_inbox host to) place l
 can_add_inboxes host x to place l own can =
     can_part (is_inbox host to) (λ k o. is_kept host k o x) place l
     (λ k o is. sym (all_lists host x k o)
-    ∙ last_or (is_one host (Some Outbox) (Some x.author) k o) (is_one host (list_of_author (deed x)) (Some x.author) k o) (is_one host (list_of_object (deed x)) (ref_id x.activity.object) k o) _ (rw own at is)) can
+    ∙ last_or (is_one host (Some Outbox) (Some x.author) k o) (is_one host (list_of_author x.activity.kind) (Some x.author) k o) (is_one host (list_of_other x.activity.kind) (other_owner x) k o) _ (rw own at is)) can
 
 -- the four parts together are all lists of the activity
 pub all_added : (host : Option (List ℕ)) (x : Act) (author : List ℕ) (own other : Option Collection) (about : Option (List ℕ)) (to : List (List ℕ)) (place : ℕ) (a b c d e : List Listing)

@@ -1,6 +1,6 @@
 -- What the entry for which there is room adds: activities, or one more inbox for a known activity.
-use Rattle.std.proofs.Common.{◌≡◌, ℕ, ◌≤◌, List, [], ◌++◌, Option, Some, None, refl, sym, subst, ◌∙◌}
-use Rattle.std.specs.Prelude.{⊤, map}
+use Rattle.std.proofs.Common.{◌≡◌, ℕ, ◌≤◌, List, [], ◌++◌, Option, Some, None, refl, sym, subst}
+use Rattle.std.specs.Prelude.{map}
 use Rattle.std.proofs.lemmas.List.{append-nil}
 use Rattle.fedi_effects.specs.Additions.{acts_in, inbox_in}
 use Rattle.fedi_effects.specs.Holdings.{Holding, coming, coming_in, coming_inbox, coming_inbox_in}

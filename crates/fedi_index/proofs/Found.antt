@@ -5,7 +5,7 @@ use Rattle.std.specs.List.{find, position_or_len}
 use Rattle.std.specs.Str.{bytes_eq}
 use Rattle.std.proofs.lemmas.Bool.{and_parts, lt-ltb}
 use Rattle.std.proofs.lemmas.Slice.Eq.{bytes_eq-Decides}
-use Rattle.std.proofs.lemmas.List.{append-nil, length-map, map-append}
+use Rattle.std.proofs.lemmas.List.{length-map, map-append}
 use Rattle.std.specs.declared.vec.Vec.{Vec}
 use Rattle.fedi_register.specs.Changes.{place_where}
 use Rattle.fedi_register.specs.declared.seeds.Seed.{Seed}
@@ -19,7 +19,7 @@ use Rattle.fedi_index.specs.declared.collection.Collection.{Collection}
 use Rattle.fedi_index.specs.declared.lists.Row.{Row}
 use Rattle.fedi_index.specs.Candidates.{is_same}
 use Rattle.fedi_index.proofs.SameKind.{kind_itself, same_kind}
-use Rattle.fedi_index.specs.Lists.{AreRoomier, HasOneMore, IsRoomier, Listing, first_from, grown, grown_at, is_list, is_row, is_same_list, list_found, list_mark, listing_in, listings, new_list, places_found, places_of, room_found, room_of, row_mark}
+use Rattle.fedi_index.specs.Lists.{AreRoomier, HasOneMore, IsRoomier, Listing, ends_in, first_from, grown, grown_at, is_list, is_row, is_same_list, list_found, list_mark, listing_in, listings, new_list, places_found, places_of, room_found, room_of, row_mark}
 
 -- ---- rows
 
@@ -300,6 +300,12 @@ pub listing_there : (rows : List Row) (at : ℕ) (r : Row) → slice_get rows at
 listing_there [] at r got = absurd cc
 listing_there (x ∷ rows) zero r got = let same : x ≡ r = cc in rw same refl
 listing_there (x ∷ rows) (suc at) r got = listing_there rows at r got
+
+-- whether the list of the row at this index ends in the position
+pub ends_there : (rows : List Row) (at : ℕ) (r : Row) (place : ℕ) (places : List ℕ) (ends : Bool) → slice_get rows at ≡ Some r → places ≡ r.places.items → ends ≡ ends_in place places
+    → ends_in place (places_found (slice_get (listings rows) at)) ≡ ends
+ends_there rows at r place places ends got are is =
+    ap (λ (l : Option Listing). ends_in place (places_found l)) (listing_there rows at r got) ∙ ap (ends_in place) (sym are) ∙ sym is
 
 pub rows_grown : (rows : List Row) (at : ℕ) (put : List ℕ → List ℕ) (r r' : Row) → slice_get rows at ≡ Some r → listing_in r' ≡ grown put (listing_in r)
     → listings (set rows at r') ≡ grown_at at put (listings rows)

@@ -1,16 +1,18 @@
 -- A known activity is added to one more inbox: its position is added to the list of that inbox, in
 -- order, and no other list changes.
 use Rattle.std.proofs.Common.{◌≡◌, ℕ, suc, zero, ◌+◌, ◌<◌, ◌≤◌, arith, Bool, true, false, List, [], ◌∷◌, ◌++◌, Option, Some, None, refl, sym, ap, subst, ◌∙◌, get_or, length, ltb}
-use Rattle.std.specs.Prelude.{◌&&◌, ◌||◌, map, nat_lt, if◌then◌else◌}
-use Rattle.std.specs.List.{insert, list_any, position_or_len}
+use Rattle.std.specs.Prelude.{◌&&◌, map, if◌then◌else◌}
+use Rattle.std.specs.List.{list_any, position_or_len}
 use Rattle.std.specs.List.Sorted.{IsNonDecreasing, IsPartitionPoint}
 use Rattle.std.specs.Str.{bytes_eq}
-use Rattle.std.proofs.lemmas.Bool.{and_parts, le-ltb, lt-ltb, ltb-false, not-true, or_parts}
+use Rattle.std.proofs.lemmas.Bool.{and_parts, le-ltb, lt-ltb, not-true, or_parts}
 use Rattle.std.proofs.lemmas.List.Folds.{list_any-append}
 use Rattle.fedi_address.specs.Recipients.{is_among}
 use Rattle.fedi_index.specs.declared.collection.Collection.{Collection}
 use Rattle.fedi_index.specs.declared.collection.Collection.TheVariants as kinds
-use Rattle.fedi_index.specs.Candidates.{belongs, is_same, places_from}
+use Rattle.fedi_index.specs.Candidates.{belongs, is_same}
+use Rattle.fedi_visible.specs.Pins.{is_directed, is_pin_kind_by}
+use Rattle.fedi_visible.specs.Places.{places_from}
 use Rattle.fedi_index.specs.Growing.{AreCandidates, MayGo, in_order, is_kept}
 use Rattle.fedi_index.specs.Lists.{HasOneMore, Listing, at_index, is_same_list, places_of}
 use Rattle.fedi_index.proofs.Positions.{places-mapped, places-same}
@@ -123,7 +125,7 @@ one_comes_in p has f here out n (x ∷ acts) once lacking any =
 
 -- adding an activity to one more inbox does not change whether it is a candidate of any other list
 passed : (owner : List ℕ) (k : Collection) (o : List ℕ) (y : Act) → is_same_list k o kinds.Inbox owner ≡ false → belongs k o (record y { recipients = y.recipients ++ owner ∷ [] }) ≡ belongs k o y
-unfolding belongs is_by is_about is_among
+unfolding belongs is_by is_about is_among is_directed is_pin_kind_by
 passed owner kinds.Inbox o y other = list_any-append (λ u. bytes_eq u o) y.recipients (owner ∷ []) ∙ rw other (or_no (list_any (λ u. bytes_eq u o) y.recipients))
 passed owner kinds.Outbox o y other = refl
 passed owner kinds.Followers o y other = refl
@@ -131,6 +133,8 @@ passed owner kinds.Following o y other = refl
 passed owner kinds.Liked o y other = refl
 passed owner kinds.Likes o y other = refl
 passed owner kinds.Shares o y other = refl
+passed owner kinds.Pins o y other = refl
+passed owner kinds.Board o y other = refl
 
 other_list : (host : Option (List ℕ)) (id owner : List ℕ) (k : Collection) (o : List ℕ) → is_same_list k o kinds.Inbox owner ≡ false → (y : Act)
     → is_kept host k o (with_recipient id owner y) ≡ is_kept host k o y

@@ -7,7 +7,9 @@ mod Listed
 mod NextEntry
 mod Owners
 mod Positions
+mod Pushed
 mod Rooms
 mod SameKind
 pub mod Sent
 mod Shelved
+mod TypeLists

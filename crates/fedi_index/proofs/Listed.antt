@@ -5,7 +5,8 @@ use Rattle.std.specs.List.{range_with_len}
 use Rattle.std.proofs.lemmas.Bool.{and_parts}
 use Rattle.std.proofs.lemmas.List.{append-nil}
 use Rattle.std.proofs.lemmas.List.Elements.{filter_more}
-use Rattle.fedi_index.specs.Candidates.{belongs, is_candidate, places_from}
+use Rattle.fedi_index.specs.Candidates.{belongs, is_candidate}
+use Rattle.fedi_visible.specs.Places.{places_from}
 use Rattle.fedi_visible.specs.Places.{is_first, is_first_of, is_listed, is_seen_item, places}
 use Rattle.fedi_visible.proofs.Items.{page_placed, places_counted}
 use Rattle.fedi_town.specs.declared.act.Act.{Act}

@@ -7,11 +7,14 @@ use Rattle.std.proofs.lemmas.List.{append-nil, length-map}
 use Rattle.fedi_address.specs.Hosts.{is_host_text}
 use Rattle.fedi_index.specs.declared.collection.Collection.{Collection}
 use Rattle.fedi_index.specs.declared.collection.Collection.TheVariants as kinds
-use Rattle.fedi_index.specs.Candidates.{belongs, places_from}
+use Rattle.fedi_index.specs.Candidates.{belongs}
+use Rattle.fedi_visible.specs.Pins.{is_directed, is_pin_kind_by}
+use Rattle.fedi_visible.specs.Places.{places_from}
 use Rattle.fedi_index.specs.Growing.{AreCandidates, MayComeIn, is_kept, sent_on}
 use Rattle.fedi_index.specs.Lists.{Listing}
 use Rattle.fedi_index.proofs.Owners.{member_here}
-use Rattle.fedi_index.proofs.Positions.{places-mapped, places-more}
+use Rattle.fedi_index.proofs.Positions.{places-mapped}
+use Rattle.fedi_visible.proofs.Scanned.{places-more}
 use Rattle.fedi_effects.specs.Additions.{acts_in, inbox_in}
 use Rattle.fedi_town.proofs.Due.{affected_on}
 use Rattle.fedi_town.proofs.IdsTown.{HasIds, step_by, town_ids}
@@ -39,6 +42,24 @@ use Rattle.fedi_town.proofs.Growing.{legal_push}
 
 -- ---- an effect on an activity leaves it in its lists
 
+where-directed : (p : Act → Bool) (f : Act → Act) (y : Act) → (f y).activity.target ≡ y.activity.target → (where_passes p f y).activity.target ≡ y.activity.target
+where-directed p f y same = elim (p y) as (λ b. (if b then f y else y).activity.target ≡ y.activity.target) [ true ↦ same | false ↦ refl ]
+
+ended-directed : (a b : List ℕ) (s : State) (y : Act) → (end_follow a b s y).activity.target ≡ y.activity.target
+unfolding end_follow
+ended-directed a b s y = where-directed (is_open_follow a b) (in_state s) y refl
+
+-- what it is directed to stays the same
+affected-directed : (e : Effect) (y : Act) → (affect e y).activity.target ≡ y.activity.target
+unfolding rewrite_act
+affected-directed effects.Nothing y = refl
+affected-directed (effects.Update id by stamp) y = where-directed (makes id) (rewrite_act (update_object by stamp)) y refl
+affected-directed (effects.Delete id kind stamp) y = where-directed (makes id) (rewrite_act (tombstone_of kind stamp)) y refl
+affected-directed (effects.Accept id) y = where-directed (is_pending_follow id) (in_state Accepted) y refl
+affected-directed (effects.EndFollows a b s) y = ended-directed a b s y
+affected-directed (effects.EndBoth a b) y = ended-directed a b Undone (end_follow b a Undone y) ∙ ended-directed b a Undone y
+affected-directed (effects.Undo id) y = where-directed (is_standing_activity id) (in_state Undone) y refl
+
 where-sent : (p : Act → Bool) (f : Act → Act) (y : Act) → (f y).recipients ≡ y.recipients → (where_passes p f y).recipients ≡ y.recipients
 where-sent p f y same = elim (p y) as (λ b. (if b then f y else y).recipients ≡ y.recipients) [ true ↦ same | false ↦ refl ]
 
@@ -57,19 +78,21 @@ affected-sent (effects.EndFollows a b s) y = ended-sent a b s y
 affected-sent (effects.EndBoth a b) y = ended-sent a b Undone (end_follow b a Undone y) ∙ ended-sent b a Undone y
 affected-sent (effects.Undo id) y = where-sent (is_standing_activity id) (in_state Undone) y refl
 
-belongs-kept : (k : Collection) (o : List ℕ) (y z : Act) → IsKept y z → z.author ≡ y.author → z.recipients ≡ y.recipients → belongs k o z ≡ belongs k o y
-unfolding belongs is_by is_about
-belongs-kept kinds.Inbox o y z same author to = rw to refl
-belongs-kept kinds.Outbox o y z same author to = rw author refl
-belongs-kept kinds.Followers o y z same author to = rw (same.kind, same.about) refl
-belongs-kept kinds.Following o y z same author to = rw (same.kind, author) refl
-belongs-kept kinds.Liked o y z same author to = rw (same.kind, author) refl
-belongs-kept kinds.Likes o y z same author to = rw (same.kind, same.about) refl
-belongs-kept kinds.Shares o y z same author to = rw (same.kind, same.about) refl
+belongs-kept : (k : Collection) (o : List ℕ) (y z : Act) → IsKept y z → z.author ≡ y.author → z.recipients ≡ y.recipients → z.activity.target ≡ y.activity.target → belongs k o z ≡ belongs k o y
+unfolding belongs is_by is_about is_directed is_pin_kind_by
+belongs-kept kinds.Inbox o y z same author to at = rw to refl
+belongs-kept kinds.Outbox o y z same author to at = rw author refl
+belongs-kept kinds.Followers o y z same author to at = rw (same.kind, same.about) refl
+belongs-kept kinds.Following o y z same author to at = rw (same.kind, author) refl
+belongs-kept kinds.Liked o y z same author to at = rw (same.kind, author) refl
+belongs-kept kinds.Likes o y z same author to at = rw (same.kind, same.about) refl
+belongs-kept kinds.Shares o y z same author to at = rw (same.kind, same.about) refl
+belongs-kept kinds.Pins o y z same author to at = rw (same.kind, author) refl
+belongs-kept kinds.Board o y z same author to at = rw (same.kind, at) refl
 
 kept-after : (t : Town) (x : Act) (host : Option (List ℕ)) (k : Collection) (o : List ℕ) (y : Act) → is_kept host k o (affect (effect_of t x) y) ≡ is_kept host k o y
 unfolding is_kept
-kept-after t x host k o y = rw (belongs-kept k o y (affect (effect_of t x) y) (changed-kept t x y) (affected_on (effect_of t x) y).author (affected-sent (effect_of t x) y)) refl
+kept-after t x host k o y = rw (belongs-kept k o y (affect (effect_of t x) y) (changed-kept t x y) (affected_on (effect_of t x) y).author (affected-sent (effect_of t x) y) (affected-directed (effect_of t x) y)) refl
 
 -- ---- one more entry
 

@@ -1,10 +1,14 @@
 -- The owner of a collection is of this host.
-use Rattle.std.proofs.Common.{◌≡◌, ℕ, ◌<◌, ◌^◌, Bool, true, List, [], ◌∷◌, Option, Some, None, refl, subst}
-use Rattle.std.specs.Prelude.{option_map}
+use Rattle.std.proofs.Common.{◌≡◌, ℕ, ◌<◌, ◌≤◌, ◌^◌, ◌==◌, arith, Bool, true, List, [], ◌∷◌, ◌++◌, Option, Some, None, refl, sym, subst, ◌∙◌, length, append_assoc}
+use Rattle.std.specs.Cmp.Derive.{both_true}
+use Rattle.std.specs.Prelude.{◌&&◌, codes, nat_le, option_map, slice_index}
 use Rattle.std.specs.List.{list_all, list_any}
-use Rattle.fedi_address.specs.Hosts.{address, is_host_text}
+use Rattle.std.proofs.lemmas.Bool.{and_parts, le-leb, leb-true}
+use Rattle.std.proofs.lemmas.List.{length-append}
+use Rattle.std.proofs.lemmas.List.Folds.{list_all-append}
+use Rattle.fedi_address.specs.Hosts.{address, is_host_text, is_path_byte, is_plain_path}
 use Rattle.fedi_address.specs.Iris.{host_of}
-use Rattle.fedi_address.specs.Names.{is_name}
+use Rattle.fedi_address.specs.Names.{is_name, is_name_byte}
 use Rattle.fedi_address.proofs.Parts.{host_of-address}
 use Rattle.fedi_index.specs.Shelves.{IsNamed}
 use Rattle.fedi_town.proofs.IdsTown.{found_any}
@@ -16,6 +20,7 @@ use Rattle.fedi_town.specs.declared.act.Actor.{Actor}
 use Rattle.fedi_town.specs.declared.caller.Which.{Which}
 use Rattle.fedi_town.specs.declared.caller.Which.TheVariants.{Inbox, Outbox, Followers, Following, Liked, Likes, Shares}
 use Rattle.fedi_town.specs.Addressing.{is_of_town}
+use Rattle.fedi_town.specs.Boards.{board_id}
 use Rattle.fedi_town.specs.Collections.{owner_of}
 use Rattle.fedi_town.specs.Histories.{town}
 use Rattle.fedi_town.specs.Ids.{actor_id, actor_path, is_of_host, object_id, object_path}
@@ -72,3 +77,47 @@ owner_here history (Following name) id legal named is = member_here history (tow
 owner_here history (Liked name) id legal named is = member_here history (town history).host name id legal refl is
 owner_here history (Likes name number) id legal named is = made_here history (town history).host name number id legal refl named.0 named.1 is
 owner_here history (Shares name number) id legal named is = made_here history (town history).host name number id legal refl named.0 named.1 is
+
+-- ---- the collections that members make
+
+-- the bytes of a name are those of a path
+name_bytes : (name : List ℕ) → is_name name ≡ true → list_all is_path_byte name ≡ true
+name_bytes name named =
+    (and_parts (slice_index (actor_path name) 0 == 47 && nat_le (length (actor_path name)) 128) (list_all is_path_byte name) (actor_path_is_plain name named)).1
+
+name_short : (name : List ℕ) → is_name name ≡ true → length name ≤ 30
+name_short name named =
+    let long = (and_parts (nat_le 1 (length name) && nat_le (length name) 30) (list_all is_name_byte name) named).0 in
+    leb-true (length name) 30 (and_parts (nat_le 1 (length name)) (nat_le (length name) 30) long).1
+
+-- the path of a member's collection
+abbrev board_path : List ℕ → List ℕ → List ℕ
+board_path name slug = actor_path name ++ (codes "/c/" ++ slug)
+
+board_path_is_plain : (name slug : List ℕ) → is_name name ≡ true → is_name slug ≡ true → is_plain_path (board_path name slug) ≡ true
+board_path_is_plain name slug named slugged =
+    let short : length (board_path name slug) ≤ 128 = omega (arith, length-append name (codes "/c/" ++ slug), name_short name named, name_short slug slugged) in
+    let bytes : list_all is_path_byte (name ++ (codes "/c/" ++ slug)) ≡ true =
+    list_all-append is_path_byte name (codes "/c/" ++ slug) ∙ both_true (name_bytes name named) (name_bytes slug slugged) in
+    both_true (both_true refl (le-leb (length (board_path name slug)) 128 short)) bytes
+
+board_there : (host name slug : List ℕ) → is_host_text host ≡ true → is_name name ≡ true → is_name slug ≡ true → is_of_host host (board_id (actor_id host name) slug) ≡ true
+unfolding actor_id
+board_there host name slug shape named slugged =
+    let path = board_path name slug in
+    subst (λ (text : List ℕ). is_of_host host (codes "https://" ++ text) ≡ true) (sym (append_assoc host (actor_path name) (codes "/c/" ++ slug)))
+    (address_here host path (host_of-address host path shape (board_path_is_plain name slug named slugged)))
+
+board_of : (history : List Entry) (host : Option (List ℕ)) (name slug id : List ℕ) → IsLegal history → (town history).host ≡ host → is_name slug ≡ true
+    → id_of (town history) name ≡ Some id → is_of_town host (board_id id slug) ≡ true
+board_of history None name slug id legal own slugged known =
+    let far = member_here history None name id legal own known in absurd cc
+board_of history (Some host) name slug id legal own slugged known =
+    let is = members_have_ids history host name id legal own known in
+    let shape : is_host_text host ≡ true = subst (λ (k : Option (List ℕ)). is_set k ≡ true) own (town_sound history legal).host in
+    rw is.1 (board_there host name slug shape is.0 slugged)
+
+-- In a legal history a collection that a member makes is of this host.
+pub board_here : (history : List Entry) (name slug id : List ℕ) → IsLegal history → is_name slug ≡ true → id_of (town history) name ≡ Some id
+    → is_of_town (town history).host (board_id id slug) ≡ true
+board_here history name slug id legal slugged known = board_of history (town history).host name slug id legal refl slugged known

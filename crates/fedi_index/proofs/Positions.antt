@@ -4,9 +4,10 @@ use Rattle.std.specs.Prelude.{◌-◌, map, slice_get, if◌then◌else◌}
 use Rattle.std.proofs.lemmas.Bool.{ne_eqb}
 use Rattle.std.proofs.lemmas.List.{append-nil}
 use Rattle.fedi_index.specs.declared.collection.Collection.{Collection}
-use Rattle.fedi_index.specs.Candidates.{places_from}
-use Rattle.fedi_index.specs.Growing.{AddsOnce, AreCandidates, CanAdd, HasRoom, UsesOne, ends_in, is_kept, is_lacking}
-use Rattle.fedi_index.specs.Lists.{Listing, places_of, room_of}
+use Rattle.fedi_visible.specs.Places.{places_from}
+use Rattle.fedi_visible.proofs.Scanned.{places-more}
+use Rattle.fedi_index.specs.Growing.{AreCandidates, HasRoom, UsesOne, is_kept}
+use Rattle.fedi_index.specs.Lists.{AddsOnce, CanAdd, Listing, ends_in, is_lacking, places_of, room_of}
 use Rattle.fedi_town.specs.declared.act.Act.{Act}
 use Rattle.std.proofs.lemmas.Bool.{and_parts}
 
@@ -17,18 +18,6 @@ places-mapped p f same n (x ∷ acts) = rw (same x, places-mapped p f same (suc 
 pub places-same : (p q : Act → Bool) → ((x : Act) → p x ≡ q x) → (n : ℕ) (acts : List Act) → places_from p n acts ≡ places_from q n acts
 places-same p q same n [] = refl
 places-same p q same n (x ∷ acts) = rw (same x, places-same p q same (suc n) acts) refl
-
-pub places-more : (p : Act → Bool) (n : ℕ) (acts ys : List Act) → places_from p n (acts ++ ys) ≡ places_from p n acts ++ places_from p (n + length acts) ys
-places-more p n [] ys = let here : n + 0 ≡ n = omega arith in rw here refl
-places-more p n (x ∷ acts) ys =
-    let further : suc n + length acts ≡ n + length (x ∷ acts) = omega arith in
-    let rest : places_from p (suc n) (acts ++ ys) ≡ places_from p (suc n) acts ++ places_from p (n + length (x ∷ acts)) ys =
-    places-more p (suc n) acts ys ∙ ap (λ (k : ℕ). places_from p (suc n) acts ++ places_from p k ys) further in
-    elim (p x) as (λ b. (if b then n ∷ places_from p (suc n) (acts ++ ys) else places_from p (suc n) (acts ++ ys))
-    ≡ (if b then n ∷ places_from p (suc n) acts else places_from p (suc n) acts) ++ places_from p (n + length (x ∷ acts)) ys) [
-      | true ↦ ap (λ (places : List ℕ). n ∷ places) rest
-      | false ↦ rest
-    ]
 
 ends-later : (place n : ℕ) (ps : List ℕ) → nat_eq n place ≡ false → ends_in place ps ≡ false → ends_in place (n ∷ ps) ≡ false
 ends-later place n [] other none = other

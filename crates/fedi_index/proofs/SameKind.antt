@@ -1,7 +1,7 @@
 -- Equal kinds of collections.
 use Rattle.std.proofs.Common.{◌≡◌, true, refl}
 use Rattle.fedi_index.specs.declared.collection.Collection.{Collection}
-use Rattle.fedi_index.specs.declared.collection.Collection.TheVariants.{Inbox, Outbox, Followers, Following, Liked, Likes, Shares}
+use Rattle.fedi_index.specs.declared.collection.Collection.TheVariants.{Inbox, Outbox, Followers, Following, Liked, Likes, Shares, Pins, Board}
 use Rattle.fedi_index.specs.Candidates.{is_same}
 
 pub same_kind : (a b : Collection) → is_same a b ≡ true → a ≡ b
@@ -12,6 +12,8 @@ same_kind Following Following is = refl
 same_kind Liked Liked is = refl
 same_kind Likes Likes is = refl
 same_kind Shares Shares is = refl
+same_kind Pins Pins is = refl
+same_kind Board Board is = refl
 same_kind a b is = absurd cc
 
 pub kind_itself : (a : Collection) → is_same a a ≡ true
@@ -22,3 +24,5 @@ kind_itself Following = refl
 kind_itself Liked = refl
 kind_itself Likes = refl
 kind_itself Shares = refl
+kind_itself Pins = refl
+kind_itself Board = refl

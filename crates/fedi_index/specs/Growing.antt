@@ -1,20 +1,22 @@
 -- The lists that an activity is in, and how they change when it is added.
-use Rattle.std.specs.Prelude.{◌≡◌, ℕ, ◌+◌, ◌≤◌, ⊤, IsTrue, Bool, true, false, not, ◌&&◌, nat_eq}
-use Rattle.std.specs.Prelude.{nat_lt, List, [], ◌∷◌, ◌++◌, map, Option, Some, None, if◌then◌else◌}
+use Rattle.std.specs.Prelude.{◌≡◌, ℕ, ◌+◌, ◌≤◌, ⊤, IsTrue, Bool, true, false, ◌&&◌}
+use Rattle.std.specs.Prelude.{nat_lt, List, [], ◌∷◌, map, Option, Some, None, if◌then◌else◌}
 use Rattle.fedi_address.specs.Recipients.{is_among}
 use Rattle.fedi_index.specs.declared.collection.Collection.{Collection}
 use Rattle.fedi_index.specs.declared.collection.Collection.TheVariants as kinds
-use Rattle.fedi_index.specs.Candidates.{belongs, is_same, places_from}
+use Rattle.fedi_index.specs.Candidates.{belongs, is_same}
 use Rattle.fedi_index.specs.Lists.{Listing, places_of, room_of}
+use Rattle.fedi_objects.specs.declared.kind.Kind.{Kind}
+use Rattle.fedi_objects.specs.declared.kind.Kind.TheVariants.{Add, Announce, Follow, Like, Remove}
 use Rattle.fedi_town.specs.declared.act.Act.{Act}
-use Rattle.fedi_town.specs.declared.deed.Deed.{Deed}
-use Rattle.fedi_town.specs.declared.deed.Deed.TheVariants.{Follow, Like, Announce}
 use Rattle.fedi_town.specs.Addressing.{is_of_town}
+use Rattle.fedi_town.specs.Boards.{is_pin_kind}
 use Rattle.fedi_town.specs.Histories.{with_recipient}
 use Rattle.fedi_town.specs.Legal.{lacks}
 use Rattle.fedi_town.specs.Lists.{PassesOnce}
-use Rattle.fedi_town.specs.Relations.{has_activity_id, is_id}
+use Rattle.fedi_town.specs.Relations.{has_activity_id, is_id, ref_id}
 use Rattle.fedi_town.specs.Towns.{Town}
+use Rattle.fedi_visible.specs.Places.{places_from}
 
 -- the activity may be in this collection of the owner, and the owner is of this host
 unfoldable pub is_kept : Option (List ℕ) → Collection → List ℕ → Act → Bool
@@ -28,18 +30,28 @@ pub record AreCandidates (host : Option (List ℕ)) (acts : List Act)
 
 -- ---- which lists
 
--- the collection of its author, besides the outbox, that an activity with this deed may be in
-abbrev pub list_of_author : Deed → Option Collection
+-- the collection of its author, besides the outbox, that an activity of this type may be in
+abbrev pub list_of_author : Kind → Option Collection
 list_of_author Follow = Some kinds.Following
 list_of_author Like = Some kinds.Liked
+list_of_author Add = Some kinds.Pins
+list_of_author Remove = Some kinds.Pins
 list_of_author _ = None
 
--- the collection of what it is about that an activity with this deed may be in
-abbrev pub list_of_object : Deed → Option Collection
-list_of_object Follow = Some kinds.Followers
-list_of_object Like = Some kinds.Likes
-list_of_object Announce = Some kinds.Shares
-list_of_object _ = None
+-- the collection of another owner that an activity of this type may be in
+abbrev pub list_of_other : Kind → Option Collection
+list_of_other Follow = Some kinds.Followers
+list_of_other Like = Some kinds.Likes
+list_of_other Announce = Some kinds.Shares
+list_of_other Add = Some kinds.Board
+list_of_other Remove = Some kinds.Board
+list_of_other _ = None
+
+-- that other owner: the collection that an Add or a Remove is directed to, or what another activity
+-- is about
+abbrev pub other_owner : Act → Option (List ℕ)
+other_owner x =
+    if is_pin_kind x.activity.kind then x.activity.target else ref_id x.activity.object
 
 -- there is a kind, and it is this one
 abbrev pub is_kind : Collection → Option Collection → Bool
@@ -54,32 +66,6 @@ is_one host kind owner k o = is_of_town host o && (is_kind k kind && is_id o own
 -- it is the inbox of one of these owners, and the owner is of this host
 unfoldable pub is_inbox : Option (List ℕ) → List (List ℕ) → Collection → List ℕ → Bool
 is_inbox host owners k o = is_of_town host o && (is_same kinds.Inbox k && is_among o owners)
-
--- ---- one more position
-
--- the list ends in this position
-abbrev pub ends_in : ℕ → List ℕ → Bool
-ends_in place [] = false
-ends_in place (p ∷ []) = nat_eq p place
-ends_in place (p ∷ q ∷ ps) = ends_in place (q ∷ ps)
-
--- the position has to be added
-abbrev pub is_lacking : ℕ → List ℕ → Bool → Bool
-is_lacking place places listed = listed && not (ends_in place places)
-
--- this position was added to these lists unless they had it, and the other lists are unchanged
-pub record AddsOnce (listed : Collection → List ℕ → Bool) (place : ℕ)
-    (old new : List Listing) : Type 0 where
-  pub places : (k : Collection) (o : List ℕ) → places_of k o new ≡ places_of k o old
-      ++ (if is_lacking place (places_of k o old) (listed k o) then place ∷ [] else [])
-  pub room : (k : Collection) (o : List ℕ) → room_of k o old
-      ≤ room_of k o new + (if is_lacking place (places_of k o old) (listed k o) then 1 else 0)
-
--- there is room for this position in these lists unless they already have it
-pub record CanAdd (listed : Collection → List ℕ → Bool) (place : ℕ)
-    (lists : List Listing) : Type 0 where
-  pub room : (k : Collection) (o : List ℕ)
-      → is_lacking place (places_of k o lists) (listed k o) ≡ true → 1 ≤ room_of k o lists
 
 -- ---- room
 

@@ -1,7 +1,7 @@
 -- Lists of positions, one for each collection of an owner.
-use Rattle.std.specs.Prelude.{◌≡◌, ℕ, zero, suc, ◌+◌, ◌-◌, ◌≤◌, Bool, ◌&&◌, List, [], ◌∷◌, ◌++◌}
-use Rattle.std.specs.Prelude.{map, Option, None, Some, slice_get, vec_len, vec_capacity}
-use Rattle.std.specs.Prelude.{if◌then◌else◌}
+use Rattle.std.specs.Prelude.{◌≡◌, ℕ, zero, suc, ◌+◌, ◌-◌, ◌≤◌, Bool, true, false, not, ◌&&◌}
+use Rattle.std.specs.Prelude.{nat_eq, List, [], ◌∷◌, ◌++◌, map, Option, None, Some, slice_get}
+use Rattle.std.specs.Prelude.{vec_len, vec_capacity, if◌then◌else◌}
 use Rattle.std.specs.List.{find, insert}
 use Rattle.std.specs.Str.{bytes_eq}
 use Rattle.fedi_index.specs.declared.collection.Collection.{Collection}
@@ -68,6 +68,32 @@ pub record HasOneMore (kind : Collection) (owner : List ℕ) (put : List ℕ →
   pub room : (k : Collection) (o : List ℕ)
       → room_of k o old ≤ room_of k o new + (if is_same_list k o kind owner then 1 else 0)
 
+-- ---- one more position, at most once
+
+-- the list ends in this position
+abbrev pub ends_in : ℕ → List ℕ → Bool
+ends_in place [] = false
+ends_in place (p ∷ []) = nat_eq p place
+ends_in place (p ∷ q ∷ ps) = ends_in place (q ∷ ps)
+
+-- the position has to be added
+abbrev pub is_lacking : ℕ → List ℕ → Bool → Bool
+is_lacking place places listed = listed && not (ends_in place places)
+
+-- this position was added to these lists unless they had it, and the other lists are unchanged
+pub record AddsOnce (listed : Collection → List ℕ → Bool) (place : ℕ)
+    (old new : List Listing) : Type 0 where
+  pub places : (k : Collection) (o : List ℕ) → places_of k o new ≡ places_of k o old
+      ++ (if is_lacking place (places_of k o old) (listed k o) then place ∷ [] else [])
+  pub room : (k : Collection) (o : List ℕ) → room_of k o old
+      ≤ room_of k o new + (if is_lacking place (places_of k o old) (listed k o) then 1 else 0)
+
+-- there is room for this position in these lists unless they already have it
+pub record CanAdd (listed : Collection → List ℕ → Bool) (place : ℕ)
+    (lists : List Listing) : Type 0 where
+  pub room : (k : Collection) (o : List ℕ)
+      → is_lacking place (places_of k o lists) (listed k o) ≡ true → 1 ≤ room_of k o lists
+
 -- ---- where they are
 
 -- the number by which a list is looked up
@@ -93,6 +119,11 @@ abbrev pub grown_at : ℕ → (List ℕ → List ℕ) → List Listing → List 
 grown_at at put [] = []
 grown_at zero put (l ∷ ls) = grown put l ∷ ls
 grown_at (suc n) put (l ∷ ls) = l ∷ grown_at n put ls
+
+-- the lists after the one at this index got one more position at its end, unless it ended in it
+abbrev pub pushed_at : ℕ → ℕ → List Listing → List Listing
+pushed_at at place ls =
+    if ends_in place (places_found (slice_get ls at)) then ls else grown_at at (at_end place) ls
 
 -- each list is the same and has no less room
 abbrev pub AreRoomier : List Listing → List Listing → Type 0

@@ -22,6 +22,10 @@ pub(crate) enum Collection {
     Likes,
     /// The Announces of an object (ActivityPub, section 5.8).
     Shares,
+    /// The Adds and Removes by a member (ActivityPub, sections 6.6 and 6.7).
+    Pins,
+    /// The Adds and Removes that are directed to one collection.
+    Board,
 }
 
 impl Collection {

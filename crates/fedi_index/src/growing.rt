@@ -1,9 +1,10 @@
 //! The lists that an activity is in: that of its author's outbox, those of its recipients' inboxes,
-//! and, for a Follow, a Like or an Announce, those of its author and of what it is about. There are
-//! lists only for owners of this host. If a known activity is delivered to one more inbox, only the
-//! list of that inbox changes.
+//! for a Follow, a Like or an Announce those of its author and of what it is about, and for an Add
+//! or a Remove those of its author and of the collection that it is directed to. There are lists
+//! only for owners of this host. If a known activity is delivered to one more inbox, only the list
+//! of that inbox changes.
 
-ghost use Rattle.std.specs.Prelude.{◌≡◌, List, ◌+◌, ◌++◌, ◌<◌, ◌≤◌, ◌^◌, ◌&&◌, not, OnOk, Some};
+ghost use Rattle.std.specs.Prelude.{◌≡◌, List, ◌+◌, ◌++◌, ◌<◌, ◌≤◌, ◌^◌, OnOk, Some};
 ghost use Rattle.std.specs.Prelude.{length, map, option_copied, option_map, option_to_list};
 ghost use Rattle.std.specs.List.Sorted.{IsNonDecreasing};
 ghost use Rattle.fedi_town.specs.declared.act.Act.{Act};
@@ -11,49 +12,53 @@ ghost use Rattle.fedi_town.specs.Addressing.{is_of_town};
 ghost use Rattle.fedi_town.specs.Histories.{with_recipient};
 ghost use Rattle.fedi_effects.specs.Holdings.{coming_in, coming_inbox_in};
 ghost use Rattle.fedi_index.specs.declared.collection.Collection.TheVariants.{Inbox};
-ghost use Rattle.fedi_index.specs.Growing.{AddsOnce, AreCandidates, CanAdd, HasInboxRoom, HasRoom};
-ghost use Rattle.fedi_index.specs.Growing.{HasRooms, MayComeIn, MayGo, UsesOne, ends_in, in_order};
-ghost use Rattle.fedi_index.specs.Growing.{is_inbox, is_kept, is_one, list_of_author};
-ghost use Rattle.fedi_index.specs.Growing.{list_of_object, sent_on};
-ghost use Rattle.fedi_index.specs.Lists.{IsRoomier, at_index, places_of, room_of};
+ghost use Rattle.fedi_index.specs.Growing.{AreCandidates, HasInboxRoom, HasRoom, HasRooms};
+ghost use Rattle.fedi_index.specs.Growing.{MayComeIn, MayGo, UsesOne, in_order, is_inbox, is_kept};
+ghost use Rattle.fedi_index.specs.Growing.{is_one, list_of_author, list_of_other, other_owner};
+ghost use Rattle.fedi_index.specs.Growing.{sent_on};
+ghost use Rattle.fedi_index.specs.Lists.{AddsOnce, CanAdd, IsRoomier, at_index, places_of, room_of};
 
 use crate::collection::Collection;
 use crate::lists::Lists;
 use fedi_address::Iri;
 use fedi_effects::{Facts, is_of_town};
+use fedi_objects::Kind;
 use fedi_register::Kept;
-use fedi_town::Deed;
 use std::alloc::{AllocError, Global};
 
-// The collection of its author, besides the outbox, that an activity with this deed may be in.
-fn list_of_author(deed: Deed) -> Option<Collection>
-    ensures { result ≡ list_of_author deed }
+// The collection of its author, besides the outbox, that an activity of this type may be in.
+fn list_of_author(kind: Kind) -> Option<Collection>
+    ensures { result ≡ list_of_author kind }
 {
-    match deed {
-        Deed::Follow => Some(Collection::Following),
-        Deed::Like => Some(Collection::Liked),
+    match kind {
+        Kind::Follow => Some(Collection::Following),
+        Kind::Like => Some(Collection::Liked),
+        Kind::Add | Kind::Remove => Some(Collection::Pins),
         _ => None,
     }
 }
 
-// The collection of what it is about that an activity with this deed may be in.
-fn list_of_object(deed: Deed) -> Option<Collection>
-    ensures { result ≡ list_of_object deed }
+// The collection of another owner that an activity of this type may be in.
+fn list_of_other(kind: Kind) -> Option<Collection>
+    ensures { result ≡ list_of_other kind }
 {
-    match deed {
-        Deed::Follow => Some(Collection::Followers),
-        Deed::Like => Some(Collection::Likes),
-        Deed::Announce => Some(Collection::Shares),
+    match kind {
+        Kind::Follow => Some(Collection::Followers),
+        Kind::Like => Some(Collection::Likes),
+        Kind::Announce => Some(Collection::Shares),
+        Kind::Add | Kind::Remove => Some(Collection::Board),
         _ => None,
     }
 }
 
-fn ends_in(place: usize, places: &[usize]) -> bool
-    ensures { result ≡ ends_in place places.now }
+// That other owner: the collection that an Add or a Remove is directed to, or what another activity
+// is about.
+fn other_owner(act: &Kept) -> Option<&Iri>
+    ensures { option_copied result ≡ other_owner act.now }
 {
-    match places.last() {
-        Some(last) => *last == place,
-        None => false,
+    match act.kind() {
+        Kind::Add | Kind::Remove => act.target(),
+        _ => act.object_id(),
     }
 }
 
@@ -129,15 +134,15 @@ fn reserve_each(
         lists,
         alloc,
         facts,
-        list_of_author(act.deed()),
+        list_of_author(act.kind()),
         Some(author),
     )?;
     reserve_some(
         lists,
         alloc,
         facts,
-        list_of_object(act.deed()),
-        act.object_id(),
+        list_of_other(act.kind()),
+        other_owner(act),
     )?;
     reserve_inboxes(lists, alloc, facts, act.recipients())?;
     Ok(())
@@ -192,30 +197,15 @@ pub(crate) fn reserve_coming(
 
 // ---- one more position
 
-// Whether this position has to be added to the list: the list's owner is of this host, and the list
-// does not already end in the position.
-fn is_lacking(
-    lists: &Lists,
-    facts: &Facts,
-    collection: Collection,
-    owner: &Iri,
-    place: usize,
-) -> bool
-    ensures { result ≡ (is_of_town facts.now.town.host owner.now
-        && not (ends_in place (places_of collection owner.now lists.now))) }
-{
-    is_of_town(facts, owner) && !ends_in(place, lists.places(collection, owner))
-}
-
-#[tactic(auto, using(crate::proofs::Added::one_room, crate::proofs::Added::one_pushed, crate::proofs::Added::one_there))]
+#[tactic(auto, using(crate::proofs::Added::one_room, crate::proofs::Added::one_pushed, crate::proofs::Added::one_elsewhere))]
 fn add_one(lists: &mut Lists, facts: &Facts, collection: Collection, owner: &Iri, place: usize)
     requires { CanAdd (is_one facts.now.town.host (Some collection) (Some owner.now))
         place lists.old }
     ensures { AddsOnce (is_one facts.now.town.host (Some collection) (Some owner.now))
         place lists.old lists.new }
 {
-    if is_lacking(lists, facts, collection, owner, place) {
-        lists.push(collection, owner, place);
+    if is_of_town(facts, owner) {
+        lists.push_unless_last(collection, owner, place);
     }
 }
 
@@ -258,15 +248,15 @@ fn add_to_each(lists: &mut Lists, facts: &Facts, act: &Kept, place: usize)
     add_some(
         lists,
         facts,
-        list_of_author(act.deed()),
+        list_of_author(act.kind()),
         Some(author),
         place,
     );
     add_some(
         lists,
         facts,
-        list_of_object(act.deed()),
-        act.object_id(),
+        list_of_other(act.kind()),
+        other_owner(act),
         place,
     );
     add_to_inboxes(lists, facts, act.recipients(), place);
@@ -332,7 +322,7 @@ fn add_to_inbox(lists: &mut Lists, facts: &Facts, id: &Iri, owner: &Iri)
 {
     match facts.position_of(id) {
         Some(place) => {
-            let index = count_below(lists.places(Collection::Inbox, owner), place);
+            let index = count_below(lists.places(Collection::Inbox, owner.text()), place);
             lists.insert(Collection::Inbox, owner, index, place);
         }
         None => {}

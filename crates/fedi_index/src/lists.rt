@@ -1,16 +1,17 @@
 //! Lists of positions, one for each collection of an owner.
 
 ghost use Rattle.std.specs.Prelude.{◌≡◌, ◌∷◌, ◌++◌, [], ◌+◌, ◌-◌, ◌<◌, ◌≤◌, IfOk, OnErr, OnOk};
-ghost use Rattle.std.specs.Prelude.{Some, length, map, option_copied, set, slice_get, vec_capacity};
-ghost use Rattle.std.specs.Prelude.{vec_len};
+ghost use Rattle.std.specs.Prelude.{Some, false, length, map, option_copied, set, slice_get};
+ghost use Rattle.std.specs.Prelude.{vec_capacity, vec_len};
 ghost use Rattle.std.specs.List.{find};
 ghost use Rattle.fedi_register.specs.Changes.{place_where};
 ghost use Rattle.fedi_register.specs.Marks.{every, marks_from};
 ghost use Rattle.fedi_register.specs.Seeds.{mark_of};
-ghost use Rattle.fedi_index.specs.Lists.{AreRoomier, HasOneMore, IsRoomier, at_end, at_index};
-ghost use Rattle.fedi_index.specs.Lists.{first_from, grown_at, is_list, is_row, list_mark};
-ghost use Rattle.fedi_index.specs.Lists.{listing_in, listings, new_list, places_found, places_of};
-ghost use Rattle.fedi_index.specs.Lists.{room_found, room_of, row_mark};
+ghost use Rattle.fedi_index.specs.Lists.{AddsOnce, AreRoomier, CanAdd, HasOneMore, IsRoomier};
+ghost use Rattle.fedi_index.specs.Lists.{at_index, ends_in, first_from, grown_at, is_list, is_row};
+ghost use Rattle.fedi_index.specs.Lists.{is_same_list, list_mark, listing_in, listings, new_list};
+ghost use Rattle.fedi_index.specs.Lists.{places_found, places_of, pushed_at, room_found, room_of};
+ghost use Rattle.fedi_index.specs.Lists.{row_mark};
 
 use crate::collection::{Collection, is_same};
 use fedi_address::Iri;
@@ -46,17 +47,17 @@ impl Model for Lists {
 }
 
 #[tactic(auto, unfolding(crate::specs::Lists::is_row, crate::specs::Lists::is_list))]
-fn is_row(row: &Row, collection: Collection, owner: &Iri) -> bool
+fn is_row(row: &Row, collection: Collection, owner: &str) -> bool
     ensures { result ≡ is_row collection owner.now row.now }
 {
-    is_same(row.collection, collection) && row.owner == *owner
+    is_same(row.collection, collection) && row.owner.text() == owner
 }
 
 // The mark by which lists are looked up.
-fn mark_of_list(seed: &Seed, owner: &Iri) -> u32
+fn mark_of_list(seed: &Seed, owner: &str) -> u32
     ensures { result ≡ mark_of seed.now owner.now }
 {
-    seed.mark_of_iri(owner)
+    seed.mark_of(owner.as_bytes())
 }
 
 // The list of this collection and this owner.
@@ -65,7 +66,7 @@ fn row_of<'a>(
     rows: &'a [Row],
     index: &Marks,
     collection: Collection,
-    owner: &Iri,
+    owner: &str,
 ) -> Option<&'a Row>
     requires { index.now.marks ≡ marks_from every (list_mark seed.now) 0 (listings rows.now) }
     ensures { option_copied result ≡ find (is_row collection owner.now) rows.now }
@@ -83,7 +84,7 @@ fn position_of(
     rows: &[Row],
     index: &Marks,
     collection: Collection,
-    owner: &Iri,
+    owner: &str,
 ) -> Option<usize>
     requires { index.now.marks ≡ marks_from every (list_mark seed.now) 0 (listings rows.now) }
     ensures { result ≡ first_from (is_list collection owner.now) 0 (listings rows.now) }
@@ -95,13 +96,26 @@ fn position_of(
     )
 }
 
-// Appends a position to the list at index `at`, which has room for it.
+fn ends_in(place: usize, places: &[usize]) -> bool
+    ensures { result ≡ ends_in place places.now }
+{
+    match places.last() {
+        Some(last) => *last == place,
+        None => false,
+    }
+}
+
+// Appends a position to the list at index `at`, unless the list ends in it. If it does not, it has
+// room for the position.
 fn push_at(rows: &mut Vec<Row>, at: usize, place: usize)
     requires there { at < length rows.old.items }
-    requires room { 1 ≤ room_found (slice_get (listings rows.old.items) at) }
-    ensures { listings rows.new.items ≡ grown_at at (at_end place) (listings rows.old.items) }
+    requires room { ends_in place (places_found (slice_get (listings rows.old.items) at)) ≡ false
+        → 1 ≤ room_found (slice_get (listings rows.old.items) at) }
+    ensures { listings rows.new.items ≡ pushed_at at place (listings rows.old.items) }
 {
-    rows[at].places.push_reserved(place);
+    if !ends_in(place, &rows[at].places) {
+        rows[at].places.push_reserved(place);
+    }
 }
 
 // Inserts a position into the list at index `at`, which has room for it, before the position at
@@ -137,8 +151,8 @@ impl Lists {
         }
     }
 
-    /// The positions in this collection of this owner.
-    pub(crate) fn places(&self, collection: Collection, owner: &Iri) -> &[usize]
+    /// The positions in this collection of the owner with this id.
+    pub(crate) fn places(&self, collection: Collection, owner: &str) -> &[usize]
         ensures { result.now ≡ places_of collection owner.now self.now }
     {
         match row_of(&self.seed, &self.rows, &self.index, collection, owner) {
@@ -147,12 +161,20 @@ impl Lists {
         }
     }
 
-    /// Appends a position to a list that has room for it. This allocates nothing.
-    pub(crate) fn push(&mut self, collection: Collection, owner: &Iri, place: usize)
-        requires { 1 ≤ room_of collection owner.now self.old }
-        ensures { HasOneMore collection owner.now (at_end place) self.old self.new }
+    /// Appends a position to a list, unless the list ends in it. If it does not, it has room for the
+    /// position. This looks the list up once, and allocates nothing.
+    pub(crate) fn push_unless_last(&mut self, collection: Collection, owner: &Iri, place: usize)
+        requires { CanAdd (λ k o. is_same_list k o collection owner.now) place self.old }
+        ensures { AddsOnce (λ k o. is_same_list k o collection owner.now) place
+            self.old self.new }
     {
-        match position_of(&self.seed, &self.rows, &self.index, collection, owner) {
+        match position_of(
+            &self.seed,
+            &self.rows,
+            &self.index,
+            collection,
+            owner.text(),
+        ) {
             None => unreachable!(),
             Some(at) => push_at(&mut self.rows, at, place),
         }
@@ -165,7 +187,13 @@ impl Lists {
         requires index { index ≤ length (places_of collection owner.now self.old) }
         ensures { HasOneMore collection owner.now (at_index index place) self.old self.new }
     {
-        match position_of(&self.seed, &self.rows, &self.index, collection, owner) {
+        match position_of(
+            &self.seed,
+            &self.rows,
+            &self.index,
+            collection,
+            owner.text(),
+        ) {
             None => unreachable!(),
             Some(at) => insert_at(&mut self.rows, at, index, place),
         }
@@ -188,7 +216,7 @@ impl Lists {
         }
         self.index.reserve()?;
         let owner = owner.copy()?;
-        let mark = mark_of_list(&self.seed, &owner);
+        let mark = mark_of_list(&self.seed, owner.text());
         self.rows.push(Row {
             collection,
             owner,
@@ -209,7 +237,13 @@ impl Lists {
         ensures known { IfOk result (λ at.
             first_from (is_list collection owner.now) 0 self.new ≡ Some at) }
     {
-        match position_of(&self.seed, &self.rows, &self.index, collection, owner) {
+        match position_of(
+            &self.seed,
+            &self.rows,
+            &self.index,
+            collection,
+            owner.text(),
+        ) {
             Some(at) => Ok(at),
             None => {
                 let at = self.add(alloc, collection, owner)?;

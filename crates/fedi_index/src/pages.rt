@@ -2,8 +2,8 @@
 
 ghost use Rattle.std.specs.Prelude.{◌≡◌, ◌+◌, ◌*◌, ◌<◌, ◌≤◌, drop, filter, length, take};
 ghost use Rattle.std.specs.List.{list_any};
-ghost use Rattle.fedi_index.specs.Candidates.{is_candidate, places_from};
-ghost use Rattle.fedi_visible.specs.Places.{is_first, is_listed, is_same_seen};
+ghost use Rattle.fedi_index.specs.Candidates.{is_candidate};
+ghost use Rattle.fedi_visible.specs.Places.{is_first, is_listed, is_same_seen, places_from};
 
 use fedi_address::Iri;
 use fedi_effects::{Facts, Steps, object_key};

@@ -3,18 +3,21 @@
 ghost use Rattle.std.specs.Prelude.{◌≡◌, ◌≤◌, ◌++◌, ◌∷◌, [], ◌+◌, ◌*◌, IfOk, IsTrue, None, OnErr};
 ghost use Rattle.std.specs.Prelude.{OnOk, Some, drop, length, map, slice_get, take};
 ghost use Rattle.fedi_effects.specs.Holdings.{Holding};
-ghost use Rattle.fedi_index.specs.Candidates.{is_candidate, places_from};
+ghost use Rattle.fedi_index.specs.Candidates.{is_candidate};
 ghost use Rattle.fedi_index.specs.Shelves.{IsNamed};
+ghost use Rattle.fedi_town.specs.Boards.{board_id};
 ghost use Rattle.fedi_town.specs.Collections.{items, owner_of};
 ghost use Rattle.fedi_town.specs.Histories.{town};
 ghost use Rattle.fedi_town.specs.Legal.{IsLegal, is_admissible};
-ghost use Rattle.fedi_town.specs.Towns.{empty_town};
+ghost use Rattle.fedi_town.specs.Towns.{empty_town, id_of};
+ghost use Rattle.fedi_visible.specs.Pins.{directed_places, pin_places};
+ghost use Rattle.fedi_visible.specs.Places.{places_from};
 
 use crate::collection::Collection;
 use crate::growing::{add_coming, reserve_coming};
 use crate::lists::Lists;
 use crate::pages::page;
-use fedi_address::Iri;
+use fedi_address::{Iri, LocalName};
 use fedi_effects::{Facts, Seed, Steps};
 use fedi_objects::Entry;
 use fedi_town::{Caller, Which};
@@ -24,7 +27,8 @@ use std::marker::Model;
 use std::sync::ledger::Ledger;
 
 /// The facts of a legal history, with the positions of the candidates of each collection of this
-/// host. A page reads each of its candidates once, and no other activity.
+/// host, and of the Adds and Removes by each member and to each collection that a member makes. A
+/// page reads each of its candidates once, and no other activity.
 #[derive(Drop)]
 pub struct IndexedShelf {
     facts: Facts,
@@ -55,6 +59,15 @@ fn is_named(which: &Which)
     }
 }
 
+// A copy of the positions. The error is out of memory.
+fn copy_of(alloc: Global, places: &[usize]) -> Result<Vec<usize>, AllocError>
+    ensures { IfOk result (λ copy. copy.items ≡ places.now) }
+{
+    let mut copy = Vec::new(alloc);
+    copy.extend_from_slice(places)?;
+    Ok(copy)
+}
+
 impl IndexedShelf {
     /// An empty shelf, without entries. The seed is for the marks used in all look-ups. The error
     /// is out of memory.
@@ -79,7 +92,29 @@ impl IndexedShelf {
             ≡ places_from (is_candidate which.now owner.now) 0 self.now.town.acts }
     {
         is_named(which);
-        self.lists.places(Collection::of(which), owner)
+        self.lists.places(Collection::of(which), owner.text())
+    }
+
+    /// The positions, among the activities, of the Adds and Removes by the member with this name
+    /// and this id, in order, whoever may see them (ActivityPub, sections 6.6 and 6.7). This
+    /// allocates nothing.
+    pub fn pins_by(&self, name: &LocalName, member: &Iri) -> &[usize]
+        requires { id_of self.now.town name.now ≡ Some member.now }
+        ensures { result.now ≡ pin_places self.now.town member.now }
+    {
+        self.lists.places(Collection::Pins, member.text())
+    }
+
+    /// The positions, among the activities, of the Adds and Removes that are directed to the
+    /// member's collection with this name, whose id is `board`, in order, by anybody and whoever may
+    /// see them (ActivityPub, sections 6.6 and 6.7). This allocates nothing.
+    pub fn pins_of(&self, name: &LocalName, member: &Iri, slug: &LocalName, board: &str) -> &[usize]
+        requires member { id_of self.now.town name.now ≡ Some member.now }
+        requires board { board.now ≡ board_id member.now slug.now }
+        ensures { result.now ≡ directed_places self.now.town board.now }
+    {
+        let _slug = slug.text();
+        self.lists.places(Collection::Board, board)
     }
 }
 
@@ -88,6 +123,8 @@ impl Shelf for IndexedShelf {
 
     ghost page_cost = { λ shelf which owner.
         length (places_from (is_candidate which owner) 0 shelf.town.acts) };
+
+    ghost pin_cost = { λ shelf. 0 };
 
     fn facts(&self) -> &Facts {
         &self.facts
@@ -119,5 +156,27 @@ impl Shelf for IndexedShelf {
     ) -> VisiblePage {
         let candidates = self.candidates(which, owner);
         page(&self.facts, candidates, caller, which, owner, number, steps)
+    }
+
+    fn pins<L: Ledger>(
+        &self,
+        alloc: Global,
+        name: &LocalName,
+        member: &Iri,
+        _steps: &mut Steps<L>,
+    ) -> Result<Vec<usize>, AllocError> {
+        copy_of(alloc, self.pins_by(name, member))
+    }
+
+    fn directed<L: Ledger>(
+        &self,
+        alloc: Global,
+        name: &LocalName,
+        member: &Iri,
+        slug: &LocalName,
+        board: &str,
+        _steps: &mut Steps<L>,
+    ) -> Result<Vec<usize>, AllocError> {
+        copy_of(alloc, self.pins_of(name, member, slug, board))
     }
 }

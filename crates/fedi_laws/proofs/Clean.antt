@@ -20,6 +20,7 @@ use Rattle.fedi_town.specs.declared.caller.Caller.{Caller}
 use Rattle.fedi_town.specs.declared.caller.Which.{Which}
 use Rattle.fedi_town.specs.declared.caller.Which.TheVariants as whiches
 use Rattle.fedi_town.specs.Agreement.{repeats_of, peer_of}
+use Rattle.fedi_town.specs.Boards.{board_address, board_items}
 use Rattle.fedi_town.specs.Collections.{items, owner_of, highest, page_of}
 use Rattle.fedi_town.specs.Origins.{is_foreign}
 use Rattle.fedi_town.specs.Ids.{actor_id, activity_id, object_id}
@@ -28,7 +29,7 @@ use Rattle.fedi_town.specs.Rules.{broken_post, seen_act, seen_maker}
 use Rattle.fedi_town.specs.Showing.{shown_activity}
 use Rattle.fedi_town.specs.Towns.{Town, id_of}
 use Rattle.fedi_model.specs.declared.ask.Ask.{Ask}
-use Rattle.fedi_model.specs.declared.ask.Ask.TheVariants.{Nowhere, WrongMethod, Webfinger, Actor, Collection, Activity, Object, Outbox, Inbox}
+use Rattle.fedi_model.specs.declared.ask.Ask.TheVariants.{Nowhere, WrongMethod, Webfinger, Actor, Collection, Activity, Object, Outbox, Inbox, Board}
 use Rattle.fedi_model.specs.declared.ask.PageAsk.{PageAsk}
 use Rattle.fedi_model.specs.declared.ask.PageAsk.TheVariants as pages
 use Rattle.fedi_model.specs.declared.ask.Resource.{Resource}
@@ -40,7 +41,7 @@ use Rattle.fedi_model.specs.Asks.{id_at, answer_of}
 use Rattle.fedi_model.specs.Cleanness.{is_clean_answer}
 use Rattle.fedi_model.specs.Documents.{actor_form, self_link, links_of, jrd_form, embedded_form, item_form, page_id, with_ends, summary_form, with_next, with_prev, page_form}
 use Rattle.fedi_model.specs.Posting.{Judgement, Stop, Repeat, Keep, unless_broken, by_steps, judge_activity, is_bad_key, repeat_under, unless_repeat, judge_read, answer_post, post_answer, judge_delivery, is_there, answer_delivery, delivery_answer}
-use Rattle.fedi_model.specs.Reading.{is_nobody, is_self, is_peer, actor_or_missing, profile_or_missing, resource_answer, webfinger_answer, activity_document, activity_or_missing, activity_answer, object_document, maker_document, object_or_missing, object_answer, name_of, reading_rule, object_rule, part_answer, items_answer, owner_answer, is_malformed, member_answer}
+use Rattle.fedi_model.specs.Reading.{is_nobody, is_self, is_peer, actor_or_missing, profile_or_missing, resource_answer, webfinger_answer, activity_document, activity_or_missing, activity_answer, object_document, maker_document, object_or_missing, object_answer, name_of, reading_rule, object_rule, part_answer, items_answer, owner_answer, is_malformed, member_answer, board_answer}
 
 abbrev IsClean : Answer → Type 0
 IsClean a = is_clean_answer a ≡ true
@@ -56,7 +57,7 @@ put_clean k d (member l e ms) free one rest =
       | Greater ↦ rw (first.0, second.0) (put_clean k d ms free one second.1)
     ]
 
-items_clean : (f : Act → Data) → ((x : Act) → is_clean (f x) ≡ true) → (xs : List Act) → items_are_clean (items_of (map f xs)) ≡ true
+items_clean : {A : Type 0} (f : A → Data) → ((x : A) → is_clean (f x) ≡ true) → (xs : List A) → items_are_clean (items_of (map f xs)) ≡ true
 items_clean f all [] = refl
 items_clean f all (x ∷ xs) = rw (all x, items_clean f all xs) refl
 
@@ -106,14 +107,14 @@ choice_clean false x y h k = k
 prev_clean : (id : List ℕ) (k top : ℕ) (ms : Members) → Many ms → Many (with_prev id k top ms)
 prev_clean id k top ms h = choice_clean (nat_le (k + 1) top) _ ms (with_one (codes "prev") _ ms refl (text_one _) h) h
 
-page_clean : (id : List ℕ) (k total : ℕ) (f : Act → Data) (xs : List Act) → ((x : Act) → is_clean (f x) ≡ true) → is_clean (page_form id k total (map f xs)) ≡ true
+page_clean : {A : Type 0} (id : List ℕ) (k total : ℕ) (f : A → Data) (xs : List A) → ((x : A) → is_clean (f x) ≡ true) → is_clean (page_form id k total (map f xs)) ≡ true
 unfolding page_form
 page_clean id k total f xs all =
     let list : One (array (items_of (map f xs))) = record { clean = items_clean f all xs } in
     (context_clean _ (with_one (codes "id") _ _ refl (text_one (page_id id k)) (next_clean id k _ (with_one (codes "orderedItems") _ _ refl list
     (with_one (codes "partOf") _ _ refl (text_one id) (prev_clean id k (highest total) _ (type_clean _))))))).clean
 
-list_clean : (ask : PageAsk) (id : List ℕ) (total : ℕ) (f : Act → Data) (xs : List Act) → ((x : Act) → is_clean (f x) ≡ true) → IsClean (part_answer ask id total (λ k. map f (page_of k xs)))
+list_clean : {A : Type 0} (ask : PageAsk) (id : List ℕ) (total : ℕ) (f : A → Data) (xs : List A) → ((x : A) → is_clean (f x) ≡ true) → IsClean (part_answer ask id total (λ k. map f (page_of k xs)))
 list_clean pages.Summary id total f xs all = summary_clean id total
 list_clean (pages.Page k) id total f xs all =
     elim (nat_le k (highest total)) as (λ b. IsClean (if b then Document (page_form id k total (map f (page_of k xs))) else Refuse NotFound)) [
@@ -224,6 +225,12 @@ member_clean : (t : Town) (c : Caller) (which : Which) (ask : PageAsk) (id : Opt
 member_clean t c which ask None = refl
 member_clean t c which ask (Some id) = choice_answer (is_malformed ask) (Refuse BadQuery) _ refl (owner_clean t c which ask (owner_of t which))
 
+-- ---- collections that members make
+
+board_clean : (t : Town) (c : Caller) (slug : Option (List ℕ)) (ask : PageAsk) (id : Option (List ℕ)) → IsClean (board_answer t c slug ask id)
+board_clean t c slug ask None = refl
+board_clean t c slug ask (Some id) = list_clean ask (board_address id slug) _ (λ i. string i) (board_items t c id slug) (λ i. refl)
+
 -- ---- posts
 
 -- an answer that stops a post is clean
@@ -294,6 +301,7 @@ answers_clean t c (WrongMethod allow) = refl
 answers_clean t c (Webfinger resource) = webfinger_clean t resource
 answers_clean t c (Actor name) = actor_answer_clean t.host name (id_of t name)
 answers_clean t c (Collection which ask) = member_clean t c which ask (id_of t (name_of which))
+answers_clean t c (Board name slug ask) = board_clean t c slug ask (id_of t name)
 answers_clean t c (Activity name n) = act_clean t c (id_at t.host activity_id name n)
 answers_clean t c (Object name n) = object_answer_clean t c (id_at t.host object_id name n)
 answers_clean t c (Outbox name post) = post_clean t c name post (id_of t name)

@@ -14,9 +14,9 @@ use Rattle.fedi_model.specs.AnswerKinds.{Answer, Refuse, Document, unless_refuse
 use Rattle.fedi_model.specs.Asks.{id_at, answer_of}
 use Rattle.fedi_model.specs.Documents.{collection_id, embedded_form, item_form}
 use Rattle.fedi_model.specs.Posting.{is_bad_key, Judgement, Stop, Repeat, Keep, judge_activity, judge_read, by_steps, answer_post, post_answer, delivery_answer, judge_delivery, answer_delivery, is_there}
-use Rattle.fedi_model.specs.Reading.{activity_document, activity_or_missing, activity_answer, object_document, maker_document, object_or_missing, object_answer, is_self, is_nobody, is_peer, name_of, reading_rule, marks_rule, object_rule, part_answer, items_answer, owner_answer, member_answer, collection_answer, resource_answer, webfinger_answer}
+use Rattle.fedi_model.specs.Reading.{activity_document, activity_or_missing, activity_answer, object_document, maker_document, object_or_missing, object_answer, is_self, is_nobody, is_peer, name_of, reading_rule, marks_rule, object_rule, part_answer, items_answer, owner_answer, member_answer, collection_answer, board_answer, resource_answer, webfinger_answer}
 use Rattle.fedi_model.specs.declared.ask.Ask.{Ask}
-use Rattle.fedi_model.specs.declared.ask.Ask.TheVariants.{Nowhere, WrongMethod, Webfinger, Actor, Collection, Activity, Object, Outbox, Inbox}
+use Rattle.fedi_model.specs.declared.ask.Ask.TheVariants.{Nowhere, WrongMethod, Webfinger, Actor, Collection, Activity, Object, Outbox, Inbox, Board}
 use Rattle.fedi_model.specs.declared.ask.PageAsk.{PageAsk}
 use Rattle.fedi_model.specs.declared.ask.PageAsk.TheVariants as pages
 use Rattle.fedi_model.specs.declared.ask.Resource.{Resource}
@@ -27,8 +27,10 @@ use Rattle.fedi_laws.specs.Statements.{is_of_profiles}
 use Rattle.fedi_laws.proofs.Alike.{IsAlike, shown_alike}
 use Rattle.fedi_town.proofs.Lists.{list_any-through, filter-through, find-through, map-through}
 use Rattle.fedi_laws.proofs.Pages.{page_of-map, firsts-map}
+use Rattle.fedi_laws.proofs.Boards.{view_boards, view_pinned}
 use Rattle.fedi_town.specs.Addressing.{is_nobody_here, is_of_town}
 use Rattle.fedi_town.specs.Agreement.{SameOwn, IsSameOwn, peer_of}
+use Rattle.fedi_town.specs.Boards.{board_address, board_id, board_items, boards_by, pinned_by}
 use Rattle.fedi_town.specs.Collections.{owner_of, is_item, is_same_item, items, object_key, text_of, page_of}
 use Rattle.fedi_town.specs.Deeds.{is_open, is_pending, deed_of}
 use Rattle.fedi_town.specs.Origins.{is_foreign}
@@ -332,6 +334,7 @@ profiles_agree g h c d (WrongMethod allow) host same is = absurd cc
 profiles_agree g h c d (Webfinger resource) host same is = webfinger_agrees g h resource host same
 profiles_agree g h c d (Actor name) host same is = rw (host, same_ids g h name same) refl
 profiles_agree g h c d (Collection which ask) host same is = absurd cc
+profiles_agree g h c d (Board name slug ask) host same is = absurd cc
 profiles_agree g h c d (Activity name n) host same is = absurd cc
 profiles_agree g h c d (Object name n) host same is = absurd cc
 profiles_agree g h c d (Outbox name post) host same is = absurd cc
@@ -384,6 +387,20 @@ member_agrees g h c which ask (Some id) agree =
 collection_agrees : (g h : Town) (c : Caller) (which : Which) (ask : PageAsk) → Knows g h c → collection_answer g c which ask ≡ collection_answer h c which ask
 collection_agrees g h c which ask agree =
     ap (member_answer g c which ask) (ids_agree g h c (name_of which) agree) ∙ member_agrees g h c which ask (id_of h (name_of which)) agree
+
+-- ---- reading a collection that a member makes
+
+board_items_agree : (g h : Town) (c : Caller) (author : List ℕ) (slug : Option (List ℕ)) → view g c ≡ view h c → board_items g c author slug ≡ board_items h c author slug
+board_items_agree g h c author None same = view_boards g c author ∙ ap (boards_by author) same ∙ sym (view_boards h c author)
+board_items_agree g h c author (Some slug) same =
+    view_pinned g c author slug ∙ ap (pinned_by author (board_id author slug)) same ∙ sym (view_pinned h c author slug)
+
+board_agrees : (g h : Town) (c : Caller) (slug : Option (List ℕ)) (ask : PageAsk) (author : Option (List ℕ)) → view g c ≡ view h c
+    → board_answer g c slug ask author ≡ board_answer h c slug ask author
+board_agrees g h c slug ask None same = refl
+board_agrees g h c slug ask (Some author) same =
+    ap (λ (ids : List (List ℕ)). part_answer ask (board_address author slug) (length ids) (λ k. map string (page_of k ids)))
+    (board_items_agree g h c author slug same)
 
 -- ---- a member's post
 
@@ -541,6 +558,8 @@ answers_agree g h c (WrongMethod allow) agree = refl
 answers_agree g h c (Webfinger resource) agree = webfinger_agrees g h resource agree.host agree.members
 answers_agree g h c (Actor name) agree = rw (agree.host, ids_agree g h c name agree) refl
 answers_agree g h c (Collection which ask) agree = collection_agrees g h c which ask agree
+answers_agree g h c (Board name slug ask) agree =
+    ap (board_answer g c slug ask) (ids_agree g h c name agree) ∙ board_agrees g h c slug ask (id_of h name) agree.view
 answers_agree g h c (Activity name number) agree =
     ap (λ (k : Option (List ℕ)). activity_answer g c (id_at k activity_id name number)) agree.host ∙ act_agrees g h c (id_at h.host activity_id name number) agree.host agree.view
 answers_agree g h c (Object name number) agree =

@@ -1,10 +1,12 @@
 pub mod Alike
 pub mod Bare
 pub mod Beside
+pub mod Boards
 pub mod Burial
 pub mod Changes
 pub mod Clean
 pub mod CleanReplies
+pub mod ClubBoards
 pub mod ClubFollows
 pub mod ClubObjects
 pub mod ClubPeers

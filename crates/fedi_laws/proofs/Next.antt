@@ -13,7 +13,7 @@ use Rattle.fedi_model.specs.Asks.{IsRead, IsReadFor, IsPostable, entry_of}
 use Rattle.fedi_model.specs.Posting.{Judgement, Stop, Repeat, Keep, by_steps, judge_read, unless_repeat, judge_activity, unless_broken, judge_post, repeat_under, is_bad_key, is_there, judge_delivery, judge_inbox, repeat_by, post_entry, inbox_entry, entry_at, inbox_entry_at, delivery_of}
 use Rattle.fedi_model.specs.Reading.{is_nobody, is_self}
 use Rattle.fedi_model.specs.declared.ask.Ask.{Ask}
-use Rattle.fedi_model.specs.declared.ask.Ask.TheVariants.{Nowhere, WrongMethod, Webfinger, Actor, Collection, Activity, Object, Outbox, Inbox}
+use Rattle.fedi_model.specs.declared.ask.Ask.TheVariants.{Nowhere, WrongMethod, Webfinger, Actor, Collection, Activity, Object, Outbox, Inbox, Board}
 use Rattle.fedi_model.specs.declared.post.KeyAsk.{KeyAsk}
 use Rattle.fedi_model.specs.declared.post.KeyAsk.TheVariants.{Absent, Malformed, Given}
 use Rattle.fedi_model.specs.declared.post.Post.{Post}
@@ -170,6 +170,7 @@ entry_admissible t c (WrongMethod allow) moment e p made = absurd cc
 entry_admissible t c (Webfinger resource) moment e p made = absurd cc
 entry_admissible t c (Actor name) moment e p made = absurd cc
 entry_admissible t c (Collection which ask) moment e p made = absurd cc
+entry_admissible t c (Board name slug ask) moment e p made = absurd cc
 entry_admissible t c (Activity name number) moment e p made = absurd cc
 entry_admissible t c (Object name number) moment e p made = absurd cc
 entry_admissible t c (Outbox name post) moment e p made = posted_by t c name post moment (id_of t name) e p refl made

@@ -1,3 +1,4 @@
+pub mod ClubBoards
 pub mod ClubFollows
 pub mod ClubObjects
 pub mod ClubPeers

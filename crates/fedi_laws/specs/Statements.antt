@@ -17,6 +17,7 @@ use Rattle.fedi_town.specs.declared.act.Act.{Act}
 use Rattle.fedi_town.specs.declared.caller.Caller.{Caller}
 use Rattle.fedi_town.specs.Activities.{local_act, remote_act}
 use Rattle.fedi_town.specs.Agreement.{Agree, member_names}
+use Rattle.fedi_town.specs.Boards.{board_id, boards, boards_by, pinned, pinned_by}
 use Rattle.fedi_town.specs.Deeds.{deed_of, changes_nothing, is_delete, is_follow, is_update}
 use Rattle.fedi_town.specs.Histories.{town, is_known}
 use Rattle.fedi_town.specs.Ids.{actor_id, object_id}
@@ -27,7 +28,7 @@ use Rattle.fedi_town.specs.Queues.{is_due, is_due_delivery, is_of_pair, queue}
 use Rattle.fedi_town.specs.Relations.{has_activity_id, ref_id}
 use Rattle.fedi_town.specs.Replays.{acts_of, replay}
 use Rattle.fedi_town.specs.Seeing.{sees}
-use Rattle.fedi_town.specs.Showing.{bare_tombstone}
+use Rattle.fedi_town.specs.Showing.{bare_tombstone, view}
 use Rattle.fedi_town.specs.Towns.{Town, count_of, has_name, id_of}
 use Rattle.fedi_town.specs.declared.caller.Caller.TheVariants as callers
 use Rattle.fedi_model.specs.declared.ask.Ask.{Ask}
@@ -265,3 +266,11 @@ MembersHaveTheirIds =
     (history : List Entry) (host name id : List ℕ) → IsLegal history
     → (town history).host ≡ Some host
     → id_of (town history) name ≡ Some id → (is_name name ≡ true) × (id ≡ actor_id host name)
+
+-- What a caller sees in the collections that a member makes, and which of them, depends only on what
+-- the caller is shown.
+pub record BoardsTellWhatIsShown : Type 0 where
+  pub pinned : (t : Town) (c : Caller) (author slug : List ℕ)
+      → pinned t c author slug ≡ pinned_by author (board_id author slug) (view t c)
+  pub boards : (t : Town) (c : Caller) (author : List ℕ)
+      → boards t c author ≡ boards_by author (view t c)

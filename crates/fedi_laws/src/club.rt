@@ -1,5 +1,6 @@
 //! Events in a small club, computed from the definitions.
 
+ghost use Rattle.fedi_laws.specs.ClubBoards.{EmptyBoards, OwnBoards};
 ghost use Rattle.fedi_laws.specs.ClubFollows.{BlockAndUndo, LastNumber, LateFollower, LockedFollow};
 ghost use Rattle.fedi_laws.specs.ClubFollows.{PostToFollowers};
 ghost use Rattle.fedi_laws.specs.ClubObjects.{ChangedNote, DeletedNote, OpenNote, SecretNote};
@@ -103,4 +104,17 @@ pub fn a_reply_is_forwarded()
 #[tactic(auto, using(crate::proofs::ClubPeers::far_follower))]
 pub fn a_follower_elsewhere_sees_a_note()
     ensures { FarFollower }
+{}
+
+/// A member makes a collection, of which each caller sees what the Adds and Removes that the caller
+/// sees leave.
+#[tactic(auto, using(crate::proofs::ClubBoards::own_boards))]
+pub fn a_collection_is_made()
+    ensures { OwnBoards }
+{}
+
+/// Only its author changes a collection, and an empty one is not listed.
+#[tactic(auto, using(crate::proofs::ClubBoards::empty_boards))]
+pub fn a_collection_is_emptied()
+    ensures { EmptyBoards }
 {}

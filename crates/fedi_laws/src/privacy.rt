@@ -6,6 +6,7 @@ ghost use Rattle.fedi_laws.specs.Statements.{
   AnswersAreClean,
   AnswersArePrivate,
   AttemptsTellNothing,
+  BoardsTellWhatIsShown,
   ChangesReachTheReaders,
   DeletedContentIsToldToNobody,
   ProfilesTellNamesAlone,
@@ -87,4 +88,12 @@ pub fn changes_reach_the_readers()
 #[tactic(auto, using(crate::proofs::Clean::answers_clean))]
 pub fn answers_are_clean()
     ensures { AnswersAreClean }
+{}
+
+/// What a caller sees in the collections that a member makes by Add and Remove, and which of them,
+/// depends only on what the caller is shown: an Add or Remove that the caller does not see changes
+/// nothing for the caller.
+#[tactic(auto, using(crate::proofs::Boards::boards_are_shown))]
+pub fn boards_tell_what_is_shown()
+    ensures { BoardsTellWhatIsShown }
 {}

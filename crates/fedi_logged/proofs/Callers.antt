@@ -13,7 +13,7 @@ use Rattle.fedi_model.specs.Posting.{inbox_entry_at, judge_inbox, judge_post, po
 use Rattle.fedi_model.specs.declared.ask.Ask.{Ask}
 use Rattle.fedi_model.specs.declared.ask.Ask.TheVariants.{Nowhere, WrongMethod, Webfinger, Actor}
 use Rattle.fedi_model.specs.declared.ask.Ask.TheVariants.{Collection, Activity, Object, Outbox}
-use Rattle.fedi_model.specs.declared.ask.Ask.TheVariants.{Inbox}
+use Rattle.fedi_model.specs.declared.ask.Ask.TheVariants.{Inbox, Board}
 use Rattle.fedi_model.specs.declared.post.Post.{Post}
 use Rattle.fedi_model.specs.declared.request.Request.{Request}
 use Rattle.fedi_objects.specs.declared.entry.Entry.{Entry}
@@ -63,6 +63,7 @@ settled t c (WrongMethod allow) moment e is = absurd cc
 settled t c (Webfinger resource) moment e is = absurd cc
 settled t c (Actor name) moment e is = absurd cc
 settled t c (Collection which part) moment e is = absurd cc
+settled t c (Board name slug part) moment e is = absurd cc
 settled t c (Activity name number) moment e is = absurd cc
 settled t c (Object name number) moment e is = absurd cc
 settled t c (Outbox name post) moment e is = posted_at t c name post moment (id_of t name) e is

@@ -5,7 +5,7 @@ use Rattle.fedi_log.specs.declared.items.Pair.{Pair}
 use Rattle.fedi_model.specs.Asks.{entry_of}
 use Rattle.fedi_model.specs.Posting.{Judgement, Keep, Repeat, Stop, entry_at, inbox_entry, inbox_entry_at, judge_inbox, judge_post, post_entry, repeat_by}
 use Rattle.fedi_model.specs.declared.ask.Ask.{Ask}
-use Rattle.fedi_model.specs.declared.ask.Ask.TheVariants.{Nowhere, WrongMethod, Webfinger, Actor, Collection, Activity, Object, Outbox, Inbox}
+use Rattle.fedi_model.specs.declared.ask.Ask.TheVariants.{Nowhere, WrongMethod, Webfinger, Actor, Collection, Activity, Object, Outbox, Inbox, Board}
 use Rattle.fedi_model.specs.declared.post.Post.{Post}
 use Rattle.fedi_objects.specs.declared.entry.Entry.{Entry}
 use Rattle.fedi_objects.specs.declared.entry.Entry.TheVariants.{Local, Remote}
@@ -43,6 +43,7 @@ untried t c (WrongMethod allow) moment e is = absurd cc
 untried t c (Webfinger resource) moment e is = absurd cc
 untried t c (Actor name) moment e is = absurd cc
 untried t c (Collection which part) moment e is = absurd cc
+untried t c (Board name slug part) moment e is = absurd cc
 untried t c (Activity name number) moment e is = absurd cc
 untried t c (Object name number) moment e is = absurd cc
 untried t c (Outbox name post) moment e is = posted_at t c name post moment (id_of t name) e is

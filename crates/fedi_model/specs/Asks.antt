@@ -10,13 +10,13 @@ use Rattle.fedi_town.specs.Towns.{Town, id_of}
 use Rattle.fedi_model.specs.declared.ask.Ask.{Ask}
 use Rattle.fedi_model.specs.declared.ask.Ask.TheVariants.{Nowhere, WrongMethod, Webfinger, Actor}
 use Rattle.fedi_model.specs.declared.ask.Ask.TheVariants.{Collection, Activity, Object, Outbox}
-use Rattle.fedi_model.specs.declared.ask.Ask.TheVariants.{Inbox}
+use Rattle.fedi_model.specs.declared.ask.Ask.TheVariants.{Inbox, Board}
 use Rattle.fedi_model.specs.declared.post.Read.{Read}
 use Rattle.fedi_model.specs.declared.post.Read.TheVariants.{NotJson, Bad, Ready}
 use Rattle.fedi_model.specs.AnswerKinds.{Answer, Refuse, Disallow}
 use Rattle.fedi_model.specs.Posting.{post_answer, delivery_answer, entry_at, inbox_entry_at}
 use Rattle.fedi_model.specs.Reading.{actor_or_missing, webfinger_answer, activity_answer}
-use Rattle.fedi_model.specs.Reading.{object_answer, collection_answer}
+use Rattle.fedi_model.specs.Reading.{object_answer, collection_answer, board_answer}
 
 -- the id with this number at the host, if the server was set up
 abbrev pub id_at : Option (List ℕ) → (List ℕ → List ℕ → ℕ → List ℕ) → List ℕ → ℕ → Option (List ℕ)
@@ -29,6 +29,7 @@ answer_of t c (WrongMethod allow) = Disallow allow
 answer_of t c (Webfinger resource) = webfinger_answer t resource
 answer_of t c (Actor name) = actor_or_missing t.host name (id_of t name)
 answer_of t c (Collection which part) = collection_answer t c which part
+answer_of t c (Board name slug part) = board_answer t c slug part (id_of t name)
 answer_of t c (Activity name number) = activity_answer t c (id_at t.host activity_id name number)
 answer_of t c (Object name number) = object_answer t c (id_at t.host object_id name number)
 answer_of t c (Outbox name post) = post_answer t c name post (id_of t name)
@@ -41,6 +42,7 @@ entry_of t c (WrongMethod allow) moment = None
 entry_of t c (Webfinger resource) moment = None
 entry_of t c (Actor name) moment = None
 entry_of t c (Collection which part) moment = None
+entry_of t c (Board name slug part) moment = None
 entry_of t c (Activity name number) moment = None
 entry_of t c (Object name number) moment = None
 entry_of t c (Outbox name post) moment = entry_at t c name post moment (id_of t name)
@@ -66,6 +68,7 @@ IsPostable t (WrongMethod allow) = Unit {0}
 IsPostable t (Webfinger resource) = Unit {0}
 IsPostable t (Actor name) = Unit {0}
 IsPostable t (Collection which part) = Unit {0}
+IsPostable t (Board name slug part) = Unit {0}
 IsPostable t (Activity name number) = Unit {0}
 IsPostable t (Object name number) = Unit {0}
 IsPostable t (Outbox name post) = IsReadFor (id_of t name) post.read

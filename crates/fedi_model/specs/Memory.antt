@@ -4,7 +4,7 @@ use Rattle.std.specs.Prelude.{Err}
 use Rattle.fedi_model.specs.declared.ask.Ask.{Ask}
 use Rattle.fedi_model.specs.declared.ask.Ask.TheVariants.{Nowhere, WrongMethod, Webfinger, Actor}
 use Rattle.fedi_model.specs.declared.ask.Ask.TheVariants.{Collection, Activity, Object, Outbox}
-use Rattle.fedi_model.specs.declared.ask.Ask.TheVariants.{Inbox}
+use Rattle.fedi_model.specs.declared.ask.Ask.TheVariants.{Inbox, Board}
 use Rattle.fedi_model.specs.declared.ask.PageAsk.{PageAsk}
 use Rattle.fedi_model.specs.declared.post.Post.{Post}
 use Rattle.fedi_model.specs.AnswerKinds.{Answer, Refuse, Misshape, Disallow, Document, Profile}
@@ -47,6 +47,12 @@ finds_marked (Liked name) part = false
 finds_marked (Likes name number) part = not (is_malformed part)
 finds_marked (Shares name number) part = not (is_malformed part)
 
+-- a collection that a member makes, which is put together to find how much is in it, unless there is
+-- no such member or the page is not a number
+abbrev pub finds_board : PageAsk → Option (List ℕ) → Bool
+finds_board part None = false
+finds_board part (Some id) = not (is_malformed part)
+
 -- the delivered activity is kept
 abbrev pub is_kept : Judgement → Bool
 is_kept (Stop a) = false
@@ -67,6 +73,7 @@ takes_memory t c (Webfinger resource) = not (is_refused (answer_of t c (Webfinge
 takes_memory t c (Actor name) = not (is_refused (answer_of t c (Actor name)))
 takes_memory t c (Collection which part) =
     finds_marked which part || not (is_refused (answer_of t c (Collection which part)))
+takes_memory t c (Board name slug part) = finds_board part (id_of t name)
 takes_memory t c (Activity name number) = true
 takes_memory t c (Object name number) = true
 takes_memory t c (Outbox name post) = not (is_refused (answer_of t c (Outbox name post)))

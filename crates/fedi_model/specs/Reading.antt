@@ -3,7 +3,7 @@
 use Rattle.std.specs.Prelude.{ℕ, Bool, true, false, nat_le, List, map, length, Option, Some, None}
 use Rattle.std.specs.Prelude.{if◌then◌else◌}
 use Rattle.std.specs.Str.{bytes_eq}
-use Rattle.serde_json.specs.Data.{Data}
+use Rattle.serde_json.specs.Data.{Data, string}
 use Rattle.fedi_town.specs.declared.refusal.Refusal.{Refusal}
 use Rattle.fedi_town.specs.declared.refusal.Refusal.TheVariants.{NotFound, BadQuery, NoKey}
 use Rattle.fedi_town.specs.declared.refusal.Refusal.TheVariants.{NotOwner, Gone}
@@ -16,6 +16,7 @@ use Rattle.fedi_town.specs.declared.caller.Which.{Which}
 use Rattle.fedi_town.specs.declared.caller.Which.TheVariants.{Inbox, Outbox, Followers, Following}
 use Rattle.fedi_town.specs.declared.caller.Which.TheVariants.{Liked, Likes, Shares}
 use Rattle.fedi_town.specs.Addressing.{is_of_town}
+use Rattle.fedi_town.specs.Boards.{board_address, board_items}
 use Rattle.fedi_town.specs.Collections.{items, owner_of, highest, page_of}
 use Rattle.fedi_town.specs.Objects.{is_deleted, whole_of}
 use Rattle.fedi_town.specs.Rules.{seen_maker, seen_act}
@@ -185,3 +186,13 @@ member_answer t c which ask (Some id) =
 -- the answer to reading a collection
 abbrev pub collection_answer : Town → Caller → Which → PageAsk → Answer
 collection_answer t c which ask = member_answer t c which ask (id_of t (name_of which))
+
+-- ---- collections that members make
+
+-- The answer to reading a collection that a member makes, or without a name the list of them, given
+-- the member's id if it was found. The items are the ids of what the caller sees there.
+abbrev pub board_answer : Town → Caller → Option (List ℕ) → PageAsk → Option (List ℕ) → Answer
+board_answer t c slug ask None = Refuse NotFound
+board_answer t c slug ask (Some id) =
+    part_answer ask (board_address id slug) (length (board_items t c id slug))
+    (λ k. map string (page_of k (board_items t c id slug)))

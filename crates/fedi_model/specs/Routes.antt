@@ -11,7 +11,7 @@ use Rattle.fedi_model.specs.Asks.{IsPostable}
 use Rattle.fedi_model.specs.declared.ask.Ask.{Ask}
 use Rattle.fedi_model.specs.declared.ask.Ask.TheVariants.{Nowhere, WrongMethod, Webfinger, Actor}
 use Rattle.fedi_model.specs.declared.ask.Ask.TheVariants.{Collection, Activity, Object, Outbox}
-use Rattle.fedi_model.specs.declared.ask.Ask.TheVariants.{Inbox}
+use Rattle.fedi_model.specs.declared.ask.Ask.TheVariants.{Inbox, Board}
 use Rattle.fedi_model.specs.declared.post.KeyAsk.{KeyAsk}
 use Rattle.fedi_model.specs.declared.post.KeyAsk.TheVariants.{Absent, Malformed, Given}
 use Rattle.fedi_model.specs.declared.post.Post.{Post}
@@ -127,6 +127,7 @@ abbrev pub read_at : Option (List ℕ) → List ℕ → Place → Ask
 read_at host query place.Webfinger = Webfinger (resource_in host query)
 read_at host query (place.Actor name) = Actor name
 read_at host query (place.Collection which) = Collection which (page_in query)
+read_at host query (place.Board name slug) = Board name slug (page_in query)
 read_at host query (place.Activity name number) = Activity name number
 read_at host query (place.Object name number) = Object name number
 

@@ -47,6 +47,9 @@ pub enum Ask {
     Actor(LocalName),
     /// To read a collection (ActivityPub, section 5).
     Collection(Which, PageAsk),
+    /// To read the member's collection with this name, which the member makes by Add and Remove
+    /// (ActivityPub, sections 6.6 and 6.7), or without a name the list of such collections.
+    Board(LocalName, Option<LocalName>, PageAsk),
     /// To read the member's activity with this number (ActivityPub, section 3.2).
     Activity(LocalName, u32),
     /// To read the object that the member's activity with this number made.

@@ -12,6 +12,9 @@ pub enum Place {
     Actor(LocalName),
     /// A collection (ActivityPub, section 5).
     Collection(Which),
+    /// The member's collection with this name, which the member makes by Add and Remove
+    /// (ActivityPub, sections 6.6 and 6.7), or without a name the list of such collections.
+    Board(LocalName, Option<LocalName>),
     /// The member's activity with this number (ActivityPub, section 3.2).
     Activity(LocalName, u32),
     /// The object that the member's activity with this number made.

@@ -26,7 +26,7 @@ use Rattle.fedi_model.specs.Requests.{is_post, is_reading}
 use Rattle.fedi_model.specs.Routes.{path_of, digest_under, no_digest, is_post_read, is_delivery_read, ReadsBody, ReadsIf, IsPost, IsDelivery, read_at, refused_at, PostsAs, DeliversTo, PostsTo, AsksAt, IsAskedOnce, IsPostableAt}
 use Rattle.fedi_model.specs.Queries.{query_of}
 use Rattle.fedi_model.specs.declared.place.Place.{Place}
-use Rattle.fedi_model.specs.declared.place.Place.TheVariants.{Webfinger, Actor, Collection, Activity, Object}
+use Rattle.fedi_model.specs.declared.place.Place.TheVariants.{Webfinger, Actor, Collection, Board, Activity, Object}
 use Rattle.fedi_model.specs.declared.request.Request.{Request}
 use Rattle.fedi_routes.proofs.PlaceLemmas.{place_once}
 
@@ -96,6 +96,7 @@ read_at_postable : (host : Option (List ℕ)) (query : List ℕ) (there : Place)
 read_at_postable host query Webfinger = λ h legal hosted. tt
 read_at_postable host query (Actor name) = λ h legal hosted. tt
 read_at_postable host query (Collection which) = λ h legal hosted. tt
+read_at_postable host query (Board name slug) = λ h legal hosted. tt
 read_at_postable host query (Activity name number) = λ h legal hosted. tt
 read_at_postable host query (Object name number) = λ h legal hosted. tt
 

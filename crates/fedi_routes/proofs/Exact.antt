@@ -15,7 +15,7 @@ use Rattle.fedi_routes.proofs.Segments.{texts, Texts}
 use Rattle.fedi_town.specs.Collections.{text_of}
 use Rattle.fedi_routes.specs.Table.{route_text, pattern_of, names_of, route_of, rows, IsRouted}
 use Rattle.fedi_routes.specs.declared.kinds.Kind.{Kind}
-use Rattle.fedi_routes.specs.declared.kinds.Kind.TheVariants.{Webfinger, Member, Numbered}
+use Rattle.fedi_routes.specs.declared.kinds.Kind.TheVariants.{Webfinger, Member, Numbered, Board}
 use Rattle.fedi_routes.specs.declared.kinds.Part.TheVariants.{Actor}
 use Rattle.fedi_routes.specs.declared.kinds.NumberedPart.TheVariants.{Activity}
 use Rattle.fedi_routes.proofs.PathTexts.{name_is_utf8}
@@ -48,16 +48,17 @@ walked kind ps path segments spelled =
 name_text : IsUtf8 (codes "name")
 name_text = name_is_utf8 (codes "name") refl
 
-number_text : IsUtf8 (codes "number")
-number_text = name_is_utf8 (codes "number") refl
+item_text : IsUtf8 (codes "item")
+item_text = name_is_utf8 (codes "item") refl
 
 -- names and segments are UTF-8
 all_text : (kind : Kind) (ps : List (List ℕ)) → Texts (pattern_of kind) ps → AllText (pairs (route_text kind) (names_of kind) ps)
 all_text Webfinger ps h = tt
 all_text (Member Actor) ps h = (name_text, h.0, tt)
 all_text (Member part) ps h = (name_text, h.0, tt)
-all_text (Numbered Activity) ps h = (name_text, h.0, (number_text, h.1.0, tt))
-all_text (Numbered part) ps h = (name_text, h.0, (number_text, h.1.0, tt))
+all_text (Numbered Activity) ps h = (name_text, h.0, (item_text, h.1.0, tt))
+all_text (Numbered part) ps h = (name_text, h.0, (item_text, h.1.0, tt))
+all_text Board ps h = (name_text, h.0, (item_text, h.1.0, tt))
 
 -- the two that are looked up by their names make the path
 by_name : (kind : Kind) (ps : List (List ℕ)) (path name number : List ℕ) → name ≡ name_in kind ps → number ≡ number_in kind ps
@@ -67,6 +68,7 @@ by_name (Member Actor) ps path name number n m h e = rw n (record { segments = h
 by_name (Member part) ps path name number n m h e = rw n (record { segments = h; spelled = e })
 by_name (Numbered Activity) ps path name number n m h e = rw (n, m) (record { segments = h; spelled = e })
 by_name (Numbered part) ps path name number n m h e = rw (n, m) (record { segments = h; spelled = e })
+by_name Board ps path name number n m h e = rw (n, m) (record { segments = h; spelled = e })
 
 -- the text is what the parameter of this name took
 abbrev IsTextOf : List ℕ → List ℕ → List (ℕ × ℕ) → List ℕ → List ℕ → List ℕ → Type 0
@@ -76,7 +78,7 @@ IsTextOf pattern text names path key given =
 fitted : (kind : Kind) (ps : List (List ℕ)) (path pattern text : List ℕ) (names : List (ℕ × ℕ)) (name number : List ℕ)
     → (pattern ≡ pattern_of kind) × (text ≡ route_text kind) × (names ≡ names_of kind) → AreSegments (pattern_of kind) ps
     → path ≡ path_by (pattern_of kind) ps → IsUtf8 path → IsTextOf pattern text names path (codes "name") name
-    → IsTextOf pattern text names path (codes "number") number → IsRouted kind name number path
+    → IsTextOf pattern text names path (codes "item") number → IsRouted kind name number path
 fitted kind ps path pattern text names name number e segments spelled utf8 n m =
     let k = good kind in
     let all = all_text kind ps (texts (pattern_of kind) ps k.plain segments (rw spelled at utf8)) in
@@ -87,7 +89,7 @@ fitted kind ps path pattern text names name number e segments spelled utf8 n m =
 -- the route that is found makes the path of the texts that its parameters took
 pub is_routed : (rs : RowsOf (RouteOf Kind)) (path pattern text : List ℕ) (names : List (ℕ × ℕ)) (kind : Kind) (name number : List ℕ) → rs ≡ rows
     → AreBytes path → IsUtf8 path → first rs path ≡ Some (record { pattern = pattern; text = text; names = names; value = kind })
-    → IsTextOf pattern text names path (codes "name") name → IsTextOf pattern text names path (codes "number") number
+    → IsTextOf pattern text names path (codes "name") name → IsTextOf pattern text names path (codes "item") number
     → IsRouted kind name number path
 is_routed rs path pattern text names kind name number same bytes utf8 e n m =
     let route : RouteOf Kind = record { pattern = pattern; text = text; names = names; value = kind } in
@@ -114,7 +116,7 @@ routed_once k l n m o p path a b =
     record {
       kind = same;
       name = sym ((good k).name (n ∷ m ∷ [])) ∙ (ap (by (codes "name")) took ∙ (good k).name (o ∷ p ∷ []));
-      number = sym ((good k).number (n ∷ m ∷ [])) ∙ (ap (by (codes "number")) took ∙ (good k).number (o ∷ p ∷ []));
+      number = sym ((good k).number (n ∷ m ∷ [])) ∙ (ap (by (codes "item")) took ∙ (good k).number (o ∷ p ∷ []));
     }
   where
     value_of : Option (RouteOf Kind) → Kind

@@ -1,5 +1,5 @@
 -- Names and the paths of places are UTF-8.
-use Rattle.std.proofs.Common.{◌≡◌, ℕ, zero, suc, List, [], ◌∷◌, ◌++◌, true, length, refl, arith, Bool}
+use Rattle.std.proofs.Common.{◌≡◌, ℕ, zero, suc, List, [], ◌∷◌, ◌++◌, true, length, refl, arith, Bool, None, Some}
 use Rattle.std.specs.Prelude.{◌&&◌, codes, decimal, nat_le, nat_lt, IsTrue}
 use Rattle.std.specs.List.{list_all}
 use Rattle.std.specs.Str.{IsUtf8, IsAscii}
@@ -12,7 +12,7 @@ use Rattle.fedi_town.specs.declared.caller.Which.TheVariants.{Likes, Shares, Inb
 use Rattle.fedi_address.specs.Names.{is_name, is_name_byte}
 use Rattle.fedi_model.specs.Places.{place_path, IsPlace, IsNumber}
 use Rattle.fedi_model.specs.declared.place.Place.{Place}
-use Rattle.fedi_model.specs.declared.place.Place.TheVariants.{Webfinger, Actor, Collection, Activity, Object}
+use Rattle.fedi_model.specs.declared.place.Place.TheVariants.{Webfinger, Actor, Collection, Board, Activity, Object}
 
 name_bytes_ascii : (xs : List ℕ) → list_all is_name_byte xs ≡ true → IsAscii xs
 name_bytes_ascii [] h i = grind arith
@@ -64,5 +64,9 @@ path_text (Collection (Outbox name)) h = behind (actor_path name) (codes "/outbo
 path_text (Collection (Followers name)) h = behind (actor_path name) (codes "/followers") refl (actor_text name h)
 path_text (Collection (Following name)) h = behind (actor_path name) (codes "/following") refl (actor_text name h)
 path_text (Collection (Liked name)) h = behind (actor_path name) (codes "/liked") refl (actor_text name h)
+path_text (Board name None) h = behind (actor_path name) (codes "/c") refl (actor_text name h.0)
+path_text (Board name (Some slug)) h =
+    IsUtf8-append (actor_path name) (codes "/c/" ++ slug) (actor_text name h.0)
+    (IsUtf8-append (codes "/c/") slug (literal (codes "/c/") refl) (name_is_utf8 slug h.1))
 path_text (Activity name n) h = numbered_text name (codes "/a/") n h.0 h.1 refl
 path_text (Object name n) h = object_text name n h.0 h.1

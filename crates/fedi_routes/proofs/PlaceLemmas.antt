@@ -19,7 +19,7 @@ use Rattle.fedi_routes.specs.declared.kinds.Part.TheVariants as part
 use Rattle.fedi_routes.specs.declared.kinds.NumberedPart.{NumberedPart}
 use Rattle.fedi_routes.specs.declared.kinds.NumberedPart.TheVariants as numbered
 use Rattle.fedi_model.specs.declared.place.Place.{Place}
-use Rattle.fedi_model.specs.declared.place.Place.TheVariants.{Webfinger, Actor, Collection, Activity, Object}
+use Rattle.fedi_model.specs.declared.place.Place.TheVariants.{Webfinger, Actor, Collection, Board, Activity, Object}
 use Rattle.fedi_routes.proofs.Rows.{name_in, number_in}
 use Rattle.fedi_routes.proofs.Exact.{routed_once}
 
@@ -62,6 +62,8 @@ kind_of (Collection (Following name)) = kind.Member part.Following
 kind_of (Collection (Liked name)) = kind.Member part.Liked
 kind_of (Collection (Likes name number)) = kind.Numbered numbered.Likes
 kind_of (Collection (Shares name number)) = kind.Numbered numbered.Shares
+kind_of (Board name None) = kind.Member part.Boards
+kind_of (Board name (Some slug)) = kind.Board
 kind_of (Activity name number) = kind.Numbered numbered.Activity
 kind_of (Object name number) = kind.Numbered numbered.Object
 
@@ -75,12 +77,14 @@ name_at (Collection (Following name)) = name
 name_at (Collection (Liked name)) = name
 name_at (Collection (Likes name number)) = name
 name_at (Collection (Shares name number)) = name
+name_at (Board name slug) = name
 name_at (Activity name number) = name
 name_at (Object name number) = name
 
 abbrev number_at : Place → List ℕ
 number_at (Collection (Likes name number)) = decimal number
 number_at (Collection (Shares name number)) = decimal number
+number_at (Board name (Some slug)) = slug
 number_at (Activity name number) = decimal number
 number_at (Object name number) = decimal number
 number_at place = []
@@ -112,6 +116,11 @@ routed_path (Collection (Shares name n)) h = record {
   segments = (name_segment name h.0, (number_segment n h.1, tt));
   spelled = behind_number name (decimal n) (codes "/shares");
 }
+routed_path (Board name None) h = record { segments = (name_segment name h.0, tt); spelled = refl }
+routed_path (Board name (Some slug)) h = record {
+  segments = (name_segment name h.0, (name_segment slug h.1, tt));
+  spelled = bare_number name (codes "/c/") slug;
+}
 routed_path (Activity name n) h = record {
   segments = (name_segment name h.0, (number_segment n h.1, tt));
   spelled = bare_number name (codes "/a/") (decimal n);
@@ -136,6 +145,8 @@ is_at (Collection (Outbox name)) h = (h, refl)
 is_at (Collection (Followers name)) h = (h, refl)
 is_at (Collection (Following name)) h = (h, refl)
 is_at (Collection (Liked name)) h = (h, refl)
+is_at (Board name None) h = (h.0, refl)
+is_at (Board name (Some slug)) h = (h.0, h.1, refl)
 is_at (Activity name n) h = (h.0, (n, h.1, refl, refl))
 is_at (Object name n) h = (h.0, (n, h.1, refl, refl))
 
@@ -145,6 +156,7 @@ is_at_same : (k : Kind) (n m o p : List ℕ) (place : Place) → name_in k (n �
 is_at_same kind.Webfinger n m o p place name number h = h
 is_at_same (kind.Member part) n m o p place name number h = rw (← name) h
 is_at_same (kind.Numbered part) n m o p place name number h = rw (← name, ← number) h
+is_at_same kind.Board n m o p place name number h = rw (← name, ← number) h
 
 -- what a path leads to is what is at the route that is found
 pub stands_at : (place : Place) (k : Kind) (name number path : List ℕ) → IsRouted k name number path → LeadsTo path place → IsAt k name number place
@@ -167,6 +179,7 @@ leads_to place (kind.Member p) name number path r h = rw h.1 (member p h.0 r)
     member part.Followers is r = record { there = is; spelled = r.spelled }
     member part.Following is r = record { there = is; spelled = r.spelled }
     member part.Liked is r = record { there = is; spelled = r.spelled }
+    member part.Boards is r = record { there = (is, tt); spelled = r.spelled }
 leads_to place (kind.Numbered p) name number path r h = rw h.1.3 (numbered_part p h.0 h.1.0 h.1.1 (rw h.1.2 at r))
   where
     numbered_part : (p : NumberedPart) → IsTrue (is_name name) → (n : ℕ) → IsNumber n → IsRouted (kind.Numbered p) name (decimal n) path
@@ -175,6 +188,7 @@ leads_to place (kind.Numbered p) name number path r h = rw h.1.3 (numbered_part 
     numbered_part numbered.Object is n small r = stands_there (Object name n) path (is, small) r
     numbered_part numbered.Likes is n small r = stands_there (Collection (Likes name n)) path (is, small) r
     numbered_part numbered.Shares is n small r = stands_there (Collection (Shares name n)) path (is, small) r
+leads_to place kind.Board name number path r h = rw h.2 (stands_there (Board name (Some number)) path (h.0, h.1) r)
 
 -- ---- one path, one place
 
@@ -182,6 +196,7 @@ leads_to place (kind.Numbered p) name number path r h = rw h.1.3 (numbered_part 
 at_once : (k : Kind) (name number : List ℕ) (a b : Place) → IsAt k name number a → IsAt k name number b → a ≡ b
 at_once kind.Webfinger name number a b x y = x ∙ sym y
 at_once (kind.Member p) name number a b x y = x.1 ∙ sym y.1
+at_once kind.Board name number a b x y = x.2 ∙ sym y.2
 at_once (kind.Numbered p) name number a b x y =
     let same : x.1.0 ≡ y.1.0 = decimal_injective x.1.0 y.1.0 (omega arith) (omega arith) (sym x.1.2 ∙ y.1.2) in
     x.1.3 ∙ (ap (λ n. numbered_place p name n) same ∙ sym y.1.3)

@@ -17,7 +17,7 @@ use Rattle.fedi_routes.proofs.Taken.{pairs, wilds}
 use Rattle.fedi_town.specs.Collections.{text_of}
 use Rattle.fedi_routes.specs.Table.{route_text, pattern_of, names_of, route_of, added, kinds, rows}
 use Rattle.fedi_routes.specs.declared.kinds.Kind.{Kind}
-use Rattle.fedi_routes.specs.declared.kinds.Kind.TheVariants.{Webfinger, Member, Numbered}
+use Rattle.fedi_routes.specs.declared.kinds.Kind.TheVariants.{Webfinger, Member, Numbered, Board}
 use Rattle.fedi_routes.specs.declared.kinds.Part.TheVariants.{Actor}
 use Rattle.fedi_routes.specs.declared.kinds.NumberedPart.TheVariants.{Activity}
 
@@ -28,17 +28,20 @@ abbrev start_of : Kind → ℕ
 start_of Webfinger = 0
 start_of (Member part) = 8
 start_of (Numbered part) = 17
+start_of Board = 17
 
 -- those of these segments that its parameters take
 abbrev pub name_in : Kind → List (List ℕ) → List ℕ
 name_in Webfinger ps = []
 name_in (Member part) ps = get_or ps 0 []
 name_in (Numbered part) ps = get_or ps 0 []
+name_in Board ps = get_or ps 0 []
 
 abbrev pub number_in : Kind → List (List ℕ) → List ℕ
 number_in Webfinger ps = []
 number_in (Member part) ps = []
 number_in (Numbered part) ps = get_or (drop 1 ps) 0 []
+number_in Board ps = get_or (drop 1 ps) 0 []
 
 -- the result of reading its text
 abbrev scan_of : Kind → Scan
@@ -59,7 +62,7 @@ pub record Good (kind : Kind) : Type 0 where
   pub short : leb (length (pattern_of kind)) 18446744073709551615 ≡ true
   pub counted : wilds (pattern_of kind) ≡ length (names_of kind)
   pub name : (ps : List (List ℕ)) → text_of (named (codes "name") (pairs (route_text kind) (names_of kind) ps)) ≡ name_in kind ps
-  pub number : (ps : List (List ℕ)) → text_of (named (codes "number") (pairs (route_text kind) (names_of kind) ps)) ≡ number_in kind ps
+  pub number : (ps : List (List ℕ)) → text_of (named (codes "item") (pairs (route_text kind) (names_of kind) ps)) ≡ number_in kind ps
 
 -- each is computed
 pub good : (kind : Kind) → Good kind
@@ -69,6 +72,7 @@ good (Member Actor) = record { parsed = refl; found = refl; clear = refl; plain 
 good (Member part) = record { parsed = refl; found = refl; clear = refl; plain = refl; short = refl; counted = refl; name = λ ps. refl; number = λ ps. refl }
 good (Numbered Activity) = record { parsed = refl; found = refl; clear = refl; plain = refl; short = refl; counted = refl; name = λ ps. refl; number = λ ps. refl }
 good (Numbered part) = record { parsed = refl; found = refl; clear = refl; plain = refl; short = refl; counted = refl; name = λ ps. refl; number = λ ps. refl }
+good Board = record { parsed = refl; found = refl; clear = refl; plain = refl; short = refl; counted = refl; name = λ ps. refl; number = λ ps. refl }
 
 pub all_plain : are_clear_of [] rows ≡ true
 unfolding rows

@@ -12,6 +12,7 @@ use Rattle.fedi_model.specs.Routes.{path_of}
 abbrev pub has_query : Place → Bool
 has_query place.Webfinger = true
 has_query (place.Collection which) = true
+has_query (place.Board name slug) = true
 has_query there = false
 
 -- outboxes and inboxes are posted to

@@ -1,5 +1,5 @@
 -- The routes of the server, as the router keeps them.
-use Rattle.std.specs.Prelude.{◌≡◌, ℕ, List, [], ◌∷◌, ◌++◌, codes, decimal, IsTrue}
+use Rattle.std.specs.Prelude.{◌≡◌, ℕ, List, [], ◌∷◌, ◌++◌, codes, decimal, IsTrue, None, Some}
 use Rattle.matchit.specs.Order.{placed}
 use Rattle.matchit.specs.Router.{RouteOf}
 use Rattle.matchit.specs.Rows.{RowsOf, param_token}
@@ -8,10 +8,10 @@ use Rattle.fedi_routes.specs.Patterns.{AreSegments, path_by}
 use Rattle.fedi_town.specs.declared.caller.Which.TheVariants as which
 use Rattle.fedi_model.specs.Places.{IsNumber}
 use Rattle.fedi_routes.specs.declared.kinds.Kind.{Kind}
-use Rattle.fedi_routes.specs.declared.kinds.Kind.TheVariants.{Webfinger, Member, Numbered}
+use Rattle.fedi_routes.specs.declared.kinds.Kind.TheVariants.{Webfinger, Member, Numbered, Board}
 use Rattle.fedi_routes.specs.declared.kinds.Part.{Part}
 use Rattle.fedi_routes.specs.declared.kinds.Part.TheVariants.{Actor, Inbox, Outbox, Followers}
-use Rattle.fedi_routes.specs.declared.kinds.Part.TheVariants.{Following, Liked}
+use Rattle.fedi_routes.specs.declared.kinds.Part.TheVariants.{Following, Liked, Boards}
 use Rattle.fedi_routes.specs.declared.kinds.NumberedPart.{NumberedPart}
 use Rattle.fedi_routes.specs.declared.kinds.NumberedPart.TheVariants.{Activity, Object, Likes}
 use Rattle.fedi_routes.specs.declared.kinds.NumberedPart.TheVariants.{Shares}
@@ -28,6 +28,7 @@ end_of Outbox = codes "/outbox"
 end_of Followers = codes "/followers"
 end_of Following = codes "/following"
 end_of Liked = codes "/liked"
+end_of Boards = codes "/c"
 
 -- what is between the member's name and the number
 abbrev pub middle_of : NumberedPart → List ℕ
@@ -46,7 +47,8 @@ abbrev pub route_text : Kind → List ℕ
 route_text Webfinger = codes "/.well-known/webfinger"
 route_text (Member part) = codes "/users/{name}" ++ end_of part
 route_text (Numbered part) =
-    codes "/users/{name}" ++ (middle_of part ++ (codes "{number}" ++ last_of part))
+    codes "/users/{name}" ++ (middle_of part ++ (codes "{item}" ++ last_of part))
+route_text Board = codes "/users/{name}/c/{item}"
 
 -- its pattern
 abbrev pub pattern_of : Kind → List ℕ
@@ -54,12 +56,14 @@ pattern_of Webfinger = codes "/.well-known/webfinger"
 pattern_of (Member part) = codes "/users/" ++ param_token ∷ end_of part
 pattern_of (Numbered part) =
     codes "/users/" ++ param_token ∷ (middle_of part ++ param_token ∷ last_of part)
+pattern_of Board = codes "/users/" ++ param_token ∷ (codes "/c/" ++ param_token ∷ [])
 
 -- the positions of the names of its parameters in the text
 abbrev pub names_of : Kind → List (ℕ × ℕ)
 names_of Webfinger = []
 names_of (Member part) = (8, 12) ∷ []
-names_of (Numbered part) = (8, 12) ∷ (17, 23) ∷ []
+names_of (Numbered part) = (8, 12) ∷ (17, 21) ∷ []
+names_of Board = (8, 12) ∷ (17, 21) ∷ []
 
 -- the route
 abbrev pub route_of : Kind → RouteOf Kind
@@ -76,7 +80,8 @@ route_of kind = record {
 abbrev pub kinds : List Kind
 kinds =
     Webfinger ∷ Member Actor ∷ Member Inbox ∷ Member Outbox ∷ Member Followers ∷ Member Following
-    ∷ Member Liked ∷ Numbered Activity ∷ Numbered Object ∷ Numbered Likes ∷ Numbered Shares ∷ []
+    ∷ Member Liked ∷ Member Boards ∷ Numbered Activity ∷ Numbered Object ∷ Numbered Likes
+    ∷ Numbered Shares ∷ Board ∷ []
 
 -- the rows after the routes of these kinds are added, one after another
 abbrev pub added : List Kind → RowsOf (RouteOf Kind) → RowsOf (RouteOf Kind)
@@ -102,6 +107,7 @@ member_place Outbox name = place.Collection (which.Outbox name)
 member_place Followers name = place.Collection (which.Followers name)
 member_place Following name = place.Collection (which.Following name)
 member_place Liked name = place.Collection (which.Liked name)
+member_place Boards name = place.Board name None
 
 -- the place of the part, for the member and the number
 abbrev pub numbered_place : NumberedPart → List ℕ → ℕ → Place
@@ -117,3 +123,5 @@ IsAt (Member part) name number there = IsTrue (is_name name) × (there ≡ membe
 IsAt (Numbered part) name number there =
     IsTrue (is_name name)
     × ((n : ℕ) × IsNumber n × (number ≡ decimal n) × (there ≡ numbered_place part name n))
+IsAt Board name slug there =
+    IsTrue (is_name name) × IsTrue (is_name slug) × (there ≡ place.Board name (Some slug))

@@ -15,6 +15,7 @@ pub(crate) enum Part {
     Followers,
     Following,
     Liked,
+    Boards,
 }
 
 /// What has a path that continues after a member's name and a number.
@@ -32,6 +33,7 @@ pub(crate) enum Kind {
     Webfinger,
     Member(Part),
     Numbered(NumberedPart),
+    Board,
 }
 
 impl Part {
@@ -46,6 +48,7 @@ impl Part {
             Part::Followers => Place::Collection(Which::Followers(name)),
             Part::Following => Place::Collection(Which::Following(name)),
             Part::Liked => Place::Collection(Which::Liked(name)),
+            Part::Boards => Place::Board(name, None),
         }
     }
 }
@@ -66,7 +69,7 @@ impl NumberedPart {
 
 impl Kind {
     /// All of them.
-    pub(crate) const ALL: [Kind; 11] = [
+    pub(crate) const ALL: [Kind; 13] = [
         Kind::Webfinger,
         Kind::Member(Part::Actor),
         Kind::Member(Part::Inbox),
@@ -74,10 +77,12 @@ impl Kind {
         Kind::Member(Part::Followers),
         Kind::Member(Part::Following),
         Kind::Member(Part::Liked),
+        Kind::Member(Part::Boards),
         Kind::Numbered(NumberedPart::Activity),
         Kind::Numbered(NumberedPart::Object),
         Kind::Numbered(NumberedPart::Likes),
         Kind::Numbered(NumberedPart::Shares),
+        Kind::Board,
     ];
 
     /// The route as the router writes it: parameters are in braces.
@@ -92,10 +97,12 @@ impl Kind {
             Kind::Member(Part::Followers) => "/users/{name}/followers",
             Kind::Member(Part::Following) => "/users/{name}/following",
             Kind::Member(Part::Liked) => "/users/{name}/liked",
-            Kind::Numbered(NumberedPart::Activity) => "/users/{name}/a/{number}",
-            Kind::Numbered(NumberedPart::Object) => "/users/{name}/o/{number}",
-            Kind::Numbered(NumberedPart::Likes) => "/users/{name}/o/{number}/likes",
-            Kind::Numbered(NumberedPart::Shares) => "/users/{name}/o/{number}/shares",
+            Kind::Member(Part::Boards) => "/users/{name}/c",
+            Kind::Numbered(NumberedPart::Activity) => "/users/{name}/a/{item}",
+            Kind::Numbered(NumberedPart::Object) => "/users/{name}/o/{item}",
+            Kind::Numbered(NumberedPart::Likes) => "/users/{name}/o/{item}/likes",
+            Kind::Numbered(NumberedPart::Shares) => "/users/{name}/o/{item}/shares",
+            Kind::Board => "/users/{name}/c/{item}",
         }
     }
 }

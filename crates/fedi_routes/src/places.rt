@@ -28,15 +28,19 @@ pub(crate) fn place_of(routes: &Routes, path: &[u8]) -> Option<Place>
 /// The place at the route with these texts.
 fn place_at(routed: &Routed) -> Option<Place>
     ensures { MatchOption result
-        ((place : Place) → ¬ (IsAt routed.now.kind routed.now.name.now routed.now.number.now place))
-        (IsAt routed.now.kind routed.now.name.now routed.now.number.now) }
+        ((place : Place) → ¬ (IsAt routed.now.kind routed.now.name.now routed.now.item.now place))
+        (IsAt routed.now.kind routed.now.name.now routed.now.item.now) }
 {
     match routed.kind {
         Kind::Webfinger => Some(Place::Webfinger),
         Kind::Member(part) => Some(part.place(LocalName::parse(routed.name)?)),
         Kind::Numbered(part) => {
             let name = LocalName::parse(routed.name)?;
-            Some(part.place(name, number_of(routed.number)?))
+            Some(part.place(name, number_of(routed.item)?))
+        }
+        Kind::Board => {
+            let name = LocalName::parse(routed.name)?;
+            Some(Place::Board(name, Some(LocalName::parse(routed.item)?)))
         }
     }
 }

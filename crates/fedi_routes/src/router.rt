@@ -25,7 +25,7 @@ pub struct Routes {
 pub(crate) struct Routed<'p> {
     pub(crate) kind: Kind,
     pub(crate) name: &'p str,
-    pub(crate) number: &'p str,
+    pub(crate) item: &'p str,
 }
 
 impl Routes {
@@ -41,8 +41,8 @@ impl Routes {
     /// The route of the path.
     pub(crate) fn find<'p>(&self, path: &'p str) -> Option<Routed<'p>>
         ensures { MatchOption result
-            ((kind : Kind) (name number : List ℕ) → ¬ (IsRouted kind name number path.now))
-            (λ routed. IsRouted routed.kind routed.name.now routed.number.now path.now) }
+            ((kind : Kind) (name item : List ℕ) → ¬ (IsRouted kind name item path.now))
+            (λ routed. IsRouted routed.kind routed.name.now routed.item.now path.now) }
     {
         let Ok(found) = self.router.at(path) else {
             return None;
@@ -50,7 +50,7 @@ impl Routes {
         Some(Routed {
             kind: *found.value,
             name: parameter(&found.params, "name"),
-            number: parameter(&found.params, "number"),
+            item: parameter(&found.params, "item"),
         })
     }
 }

@@ -114,6 +114,7 @@ fn read_at(
         Place::Webfinger => Ok(Ask::Webfinger(resource_in(alloc, query, host)?)),
         Place::Actor(name) => Ok(Ask::Actor(name)),
         Place::Collection(which) => Ok(Ask::Collection(which, page_in(alloc, query)?)),
+        Place::Board(name, slug) => Ok(Ask::Board(name, slug, page_in(alloc, query)?)),
         Place::Activity(name, number) => Ok(Ask::Activity(name, number)),
         Place::Object(name, number) => Ok(Ask::Object(name, number)),
     }

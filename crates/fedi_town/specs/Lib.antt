@@ -1,6 +1,7 @@
 pub mod Activities
 pub mod Addressing
 pub mod Agreement
+pub mod Boards
 pub mod Collections
 pub mod Deeds
 pub mod Effects

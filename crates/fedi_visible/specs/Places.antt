@@ -1,6 +1,6 @@
 -- The positions, among all activities, of the items of a collection that somebody sees.
-use Rattle.std.specs.Prelude.{ℕ, Bool, true, false, not, ◌&&◌, List, filter, length, take, Option}
-use Rattle.std.specs.Prelude.{None, Some}
+use Rattle.std.specs.Prelude.{ℕ, suc, Bool, true, false, not, ◌&&◌, List, [], ◌∷◌, filter, length}
+use Rattle.std.specs.Prelude.{take, Option, None, Some, if◌then◌else◌}
 use Rattle.std.specs.List.{list_any, range_with_len, slice_get}
 use Rattle.fedi_town.specs.declared.act.Act.{Act}
 use Rattle.fedi_town.specs.declared.caller.Caller.{Caller}
@@ -42,3 +42,8 @@ is_listed t c which id place = is_first_of t c which id (take place t.acts) (sli
 -- the positions of the items
 abbrev pub places : Town → Caller → Which → List ℕ → List ℕ
 places t c which id = filter (is_listed t c which id) (range_with_len 0 (length t.acts))
+
+-- the positions of the activities that pass, if the first activity has this position
+abbrev pub places_from : (Act → Bool) → ℕ → List Act → List ℕ
+places_from p n [] = []
+places_from p n (x ∷ xs) = if p x then n ∷ places_from p (suc n) xs else places_from p (suc n) xs

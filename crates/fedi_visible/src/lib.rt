@@ -4,6 +4,7 @@
 #![tactic(auto)]
 
 mod listing;
+mod pins;
 mod places;
 mod plain_shelf;
 mod replies;
@@ -12,6 +13,7 @@ mod shelf;
 mod showing;
 
 pub use listing::{is_item, is_same_item};
+pub use pins::{is_directed, is_pin_kind};
 pub use places::{is_same_seen, is_seen_item};
 pub use plain_shelf::PlainShelf;
 pub use replies::{activity_reply, document_reply, object_reply, seen_maker};

@@ -1,17 +1,20 @@
 //! What holds a history, with what its readers see of its collections.
 
-ghost use Rattle.std.specs.Prelude.{◌≡◌, ◌≤◌, ◌<◌, ◌+◌, ◌*◌, ◌/◌, ◌^◌, ◌++◌, ◌∷◌, [], ℕ, IsTrue};
-ghost use Rattle.std.specs.Prelude.{List, None, OnErr, OnOk, Some, drop, if◌then◌else◌, length};
+ghost use Rattle.std.specs.Prelude.{◌≡◌, ◌≤◌, ◌<◌, ◌+◌, ◌*◌, ◌/◌, ◌^◌, ◌++◌, ◌∷◌, [], ℕ, IfOk};
+ghost use Rattle.std.specs.Prelude.{IsTrue, List, None, OnErr, OnOk, Some, drop, if◌then◌else◌, length};
 ghost use Rattle.std.specs.Prelude.{map, nat_eq, slice_get, take};
 ghost use Rattle.arrayvec.specs.ArrayVec.{array_vec_len};
 ghost use Rattle.fedi_effects.specs.Holdings.{Holding};
 ghost use Rattle.fedi_town.specs.declared.caller.Which.{Which};
+ghost use Rattle.fedi_town.specs.Boards.{board_id};
 ghost use Rattle.fedi_town.specs.Collections.{items, owner_of};
 ghost use Rattle.fedi_town.specs.Histories.{town};
 ghost use Rattle.fedi_town.specs.Legal.{IsLegal, is_admissible};
+ghost use Rattle.fedi_town.specs.Towns.{id_of};
+ghost use Rattle.fedi_visible.specs.Pins.{directed_places, pin_places};
 
 use arrayvec::ArrayVec;
-use fedi_address::Iri;
+use fedi_address::{Iri, LocalName};
 use fedi_effects::{Facts, Steps};
 use fedi_objects::Entry;
 use fedi_town::{Caller, Which};
@@ -70,6 +73,10 @@ pub trait Shelf {
     /// The most steps that a page of the owner's collection takes: how often an activity is read.
     ghost page_cost: { Self → Which → List ℕ → ℕ };
 
+    /// The most steps that finding the candidates of a member's own collections takes: how often an
+    /// activity is read.
+    ghost pin_cost: { Self → ℕ };
+
     /// The facts of the history.
     fn facts(&self) -> &Facts
         ensures { result.now ≡ holding self.now };
@@ -110,4 +117,37 @@ pub trait Shelf {
             ≡ map Some (take 20 (drop (20 * number)
             (items (holding self.now).town caller.now which.now owner.now))) }
         ensures cost { steps.new ≤ steps.old + page_cost self.now which.now owner.now };
+
+    /// The positions, among the activities, of the Adds and Removes by the member with this name
+    /// and this id, in order, whoever may see them (ActivityPub, sections 6.6 and 6.7). The error
+    /// is out of memory.
+    fn pins<L: Ledger>(
+        &self,
+        alloc: Global,
+        name: &LocalName,
+        member: &Iri,
+        steps: &mut Steps<L>,
+    ) -> Result<Vec<usize>, AllocError>
+        requires member { id_of (holding self.now).town name.now ≡ Some member.now }
+        ensures places { IfOk result (λ places. places.items
+            ≡ pin_places (holding self.now).town member.now) }
+        ensures cost { steps.new ≤ steps.old + pin_cost self.now };
+
+    /// The positions, among the activities, of the Adds and Removes that are directed to the
+    /// member's collection of this name, whose id is `board`, in order, by anybody and whoever may
+    /// see them (ActivityPub, sections 6.6 and 6.7). The error is out of memory.
+    fn directed<L: Ledger>(
+        &self,
+        alloc: Global,
+        name: &LocalName,
+        member: &Iri,
+        slug: &LocalName,
+        board: &str,
+        steps: &mut Steps<L>,
+    ) -> Result<Vec<usize>, AllocError>
+        requires member { id_of (holding self.now).town name.now ≡ Some member.now }
+        requires board { board.now ≡ board_id member.now slug.now }
+        ensures places { IfOk result (λ places. places.items
+            ≡ directed_places (holding self.now).town board.now) }
+        ensures cost { steps.new ≤ steps.old + pin_cost self.now };
 }

@@ -5,6 +5,7 @@ use Rattle.std.proofs.Common.{inr, ⊎_elim, arith, lit<, nat_eq, eq-eqb}
 use Rattle.std.specs.Prelude.{◌⊎◌, ◌&&◌, ◌||◌, ◌==◌, codes, decimal, map, filter, nat_le, is_some}
 use Rattle.std.specs.Prelude.{option_to_list, Ok, Err, Result, if◌then◌else◌}
 use Rattle.std.specs.Fmt.{digits}
+use Rattle.std.specs.List.{fold}
 use Rattle.std.specs.Str.{bytes_eq}
 use Rattle.std.proofs.lemmas.Bool.{and_parts}
 use Rattle.serde_json.specs.Data.{Data, number, unsigned, string, array, object, Members}
@@ -19,7 +20,7 @@ use Rattle.serde_json.proofs.Numbers.{number_of-decimal}
 use Rattle.serde_json.proofs.Views.{get_member-put, get_member-put_other}
 use Rattle.json.proofs.Printed.Decimals.{IsNumber-decimal}
 use Rattle.fedi_address.specs.Names.{is_name}
-use Rattle.fedi_address.specs.Recipients.{is_among}
+use Rattle.fedi_address.specs.Recipients.{add_new, is_among}
 use Rattle.fedi_delivery.specs.Replies.{HasHead, IsFoundIn, NamesInbox, inbox_in, inbox_of}
 use Rattle.fedi_delivery.specs.declared.replies.Found.TheVariants.{Inbox as FoundInbox}
 use Rattle.fedi_model.specs.declared.ask.Ask.{Ask}
@@ -49,7 +50,7 @@ use Rattle.fedi_model.specs.Reading.{webfinger_answer, activity_document, activi
 use Rattle.fedi_model.specs.Reading.{activity_answer, object_document, maker_document}
 use Rattle.fedi_model.specs.Reading.{object_or_missing, object_answer, part_answer, items_answer}
 use Rattle.fedi_model.specs.Reading.{owner_answer, member_answer, reading_rule, object_rule}
-use Rattle.fedi_model.specs.Reading.{is_malformed, name_of, is_nobody, is_self}
+use Rattle.fedi_model.specs.Reading.{is_malformed, name_of, is_nobody, is_self, board_answer}
 use Rattle.fedi_model.specs.Replies.{reply, reply_of, showing}
 use Rattle.fedi_model.specs.ReplyText.{reply_text, body_text}
 use Rattle.fedi_objects.specs.Forms.{activity_form, object_form, object_members, live_members}
@@ -71,7 +72,10 @@ use Rattle.fedi_town.proofs.People.{named_is}
 use Rattle.fedi_town.proofs.Sound.{town_sound}
 use Rattle.fedi_town.proofs.Texts.{bytes_eq-is}
 use Rattle.fedi_town.specs.Addressing.{is_of_town}
-use Rattle.fedi_town.specs.Collections.{items, highest, page_of, is_item, is_same_item, owner_of}
+use Rattle.fedi_town.specs.Boards.{board_address, board_id, board_items, is_filled_by, is_pin_of}
+use Rattle.fedi_town.specs.Boards.{is_remove, opens_board, target_key, with_pin}
+use Rattle.fedi_town.specs.Collections.{items, highest, page_of, is_item, is_same_item, object_key}
+use Rattle.fedi_town.specs.Collections.{owner_of}
 use Rattle.fedi_town.specs.Histories.{town}
 use Rattle.fedi_town.specs.Ids.{actor_id, inbox_id, outbox_id, followers_id, following_id, liked_id}
 use Rattle.fedi_town.specs.Ids.{activity_id, object_id}
@@ -107,6 +111,7 @@ use Rattle.fedi_worlds.proofs.Local.{DocumentsAreMembers}
 use Rattle.fedi_worlds.proofs.Places.{some_is}
 use Rattle.fedi_worlds.proofs.Plain.{Good, good_put, good_none, good_string, good_context}
 use Rattle.fedi_worlds.proofs.Plain.{low_members, activity_low, object_low, AreLow, items_good}
+use Rattle.fedi_worlds.proofs.Plain.{strings_low}
 use Rattle.fedi_worlds.proofs.Replies.{document_reply, body_read}
 use Rattle.fedi_worlds.proofs.Statuses.{status_read, refused_bad, misshapen_bad, IsBad, is_good}
 
@@ -375,6 +380,60 @@ firsts_less same [] = omega arith
 firsts_less same (x ∷ xs) =
     omega (arith, filter_less (differs same x) (firsts same xs), firsts_less same xs)
 
+fold_less : {A : Type 0} (step : List (List ℕ) → A → List (List ℕ))
+    → ((ids : List (List ℕ)) (x : A) → length (step ids x) ≤ suc (length ids))
+    → (ids : List (List ℕ)) (xs : List A) → length (fold step ids xs) ≤ length ids + length xs
+fold_less step few ids [] = omega arith
+fold_less step few ids (x ∷ xs) = omega (arith, few ids x, fold_less step few (step ids x) xs)
+
+append_one : {A : Type 0} (xs : List A) (x : A) → length (xs ++ x ∷ []) ≡ suc (length xs)
+append_one [] x = refl
+append_one (y ∷ xs) x = ap suc (append_one xs x)
+
+added_few : (ids : List (List ℕ)) (id : List ℕ) → length (add_new ids id) ≤ suc (length ids)
+added_few ids id =
+    elim (is_among id ids) as (λ b.
+    length (if b then ids else ids ++ id ∷ []) ≤ suc (length ids)) [
+      | true ↦ omega arith
+      | false ↦ omega (arith, append_one ids id)
+    ]
+
+pin_few : (ids : List (List ℕ)) (x : Act) → length (with_pin ids x) ≤ suc (length ids)
+pin_few ids x =
+    elim (is_remove x.activity.kind) as (λ b.
+    length
+    (if b then filter (differs bytes_eq (object_key x)) ids else add_new ids (object_key x))
+    ≤ suc (length ids)) [
+      | true ↦ omega (arith, filter_less (differs bytes_eq (object_key x)) ids)
+      | false ↦ added_few ids (object_key x)
+    ]
+
+map_length : {A B : Type 0} (f : A → B) (xs : List A) → length (map f xs) ≡ length xs
+map_length f [] = refl
+map_length f (x ∷ xs) = ap suc (map_length f xs)
+
+-- a collection that a member makes, and the list of them, have at most as many items as there are
+-- activities
+board_less : (t : Town) (c : Caller) (id : List ℕ) (slug : Option (List ℕ))
+    → length (board_items t c id slug) ≤ length t.acts
+board_less t c id (Some slug) =
+    omega (
+      arith,
+      fold_less with_pin pin_few [] (filter (is_pin_of id (board_id id slug)) (seen t c)),
+      filter_less (is_pin_of id (board_id id slug)) (seen t c),
+      filter_less (sees t c) t.acts,
+    )
+board_less t c id None =
+    let opened : List Act = filter (opens_board id) (seen t c) in
+    omega (
+      arith,
+      filter_less (is_filled_by id (seen t c)) (firsts bytes_eq (map target_key opened)),
+      firsts_less bytes_eq (map target_key opened),
+      map_length target_key opened,
+      filter_less (opens_board id) (seen t c),
+      filter_less (sees t c) t.acts,
+    )
+
 items_less : (t : Town) (c : Caller) (w : Which) (id : List ℕ)
     → length (items t c w id) ≤ length t.acts
 items_less t c w id =
@@ -596,6 +655,30 @@ part_fits host t w (Page k) id xs small =
     ]
 part_fits host t w Malformed id xs small = refuses host BadQuery
 
+board_fits : (host : List ℕ) (t : Town) (c : Caller) (slug : Option (List ℕ)) (part : PageAsk)
+    (id : Option (List ℕ)) → length t.acts < 2 ^ 64 → Fits host (board_answer t c slug part id)
+board_fits host t c slug part None few = refuses host NotFound
+board_fits host t c slug part (Some id) few =
+    texts_fit host part (board_address id slug) (board_items t c id slug)
+    (omega (arith, board_less t c id slug))
+  where
+    texts_fit : (host : List ℕ) (part : PageAsk) (id : List ℕ) (texts : List (List ℕ))
+        → length texts < 2 ^ 64
+        → Fits host (part_answer part id (length texts) (λ k. map string (page_of k texts)))
+    texts_fit host Summary id texts small = shows host _ (summary_none id (length texts) small)
+    texts_fit host (Page k) id texts small =
+        elim (nat_le k (highest (length texts))) as (λ b.
+        Fits host
+        (if b then Document (page_form id k (length texts) (map string (page_of k texts))) else
+        Refuse NotFound)) [
+          | true ↦
+              shows host _
+              (page_none id k (length texts) (map string (page_of k texts))
+              (strings_low 4 (page_of k texts)))
+          | false ↦ refuses host NotFound
+        ]
+    texts_fit host Malformed id texts small = refuses host BadQuery
+
 owner_fits : (host : List ℕ) (t : Town) (c : Caller) (w : Which) (part : PageAsk)
     (id : Option (List ℕ)) → length t.acts < 2 ^ 64 → Fits host (owner_answer t c w part id)
 unfolding items_answer
@@ -631,6 +714,8 @@ answers_fit s k c (asks.Actor name) =
     (λ i is. member_named s.history s.host name i k.legal k.host is)
 answers_fit s k c (asks.Collection w part) =
     collection_fits s.host (town s.history) c w part (id_of (town s.history) (name_of w)) k.few
+answers_fit s k c (asks.Board name slug part) =
+    board_fits s.host (town s.history) c slug part (id_of (town s.history) name) k.few
 answers_fit s k c (asks.Activity name n) =
     activity_fits s.host (town s.history) c (id_at (town s.history).host activity_id name n)
 answers_fit s k c (asks.Object name n) =

@@ -91,7 +91,7 @@ good_list n k ds ms h g =
       | false ↦ good_put (suc n) k (array (items_of ds)) ms r.plain (omega (arith, r.low)) g
     ]
 
-strings_low : (n : ℕ) (ts : List (List ℕ)) → AreLow n (map string ts)
+pub strings_low : (n : ℕ) (ts : List (List ℕ)) → AreLow n (map string ts)
 strings_low n [] = tt
 strings_low n (t ∷ ts) = (tt, omega arith, strings_low n ts)
 

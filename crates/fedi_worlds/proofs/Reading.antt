@@ -17,7 +17,7 @@ use Rattle.fedi_http.specs.declared.requests.TheConstants.{MOST_FIELDS}
 use Rattle.fedi_model.specs.declared.ask.Ask.{Ask}
 use Rattle.fedi_model.specs.declared.ask.Ask.TheVariants.{Nowhere}
 use Rattle.fedi_model.specs.declared.place.Place.{Place}
-use Rattle.fedi_model.specs.declared.place.Place.TheVariants.{Webfinger, Actor, Collection}
+use Rattle.fedi_model.specs.declared.place.Place.TheVariants.{Webfinger, Actor, Collection, Board}
 use Rattle.fedi_model.specs.declared.place.Place.TheVariants.{Activity, Object}
 use Rattle.fedi_model.specs.declared.reply.Reply as replies
 use Rattle.fedi_model.specs.declared.request.Request as requests
@@ -51,6 +51,7 @@ reads_nothing : (t : Town) (c : Caller) (host : Option (List ℕ)) (query : List
 reads_nothing t c host query Webfinger moment = refl
 reads_nothing t c host query (Actor name) moment = refl
 reads_nothing t c host query (Collection which) moment = refl
+reads_nothing t c host query (Board name slug) moment = refl
 reads_nothing t c host query (Activity name number) moment = refl
 reads_nothing t c host query (Object name number) moment = refl
 
@@ -211,6 +212,14 @@ inbox_place name (Actor own) named l =
     (append_cancel_left (codes "/users/") _ _ (sym l.spelled)))
 inbox_place name (Collection which) named l =
     ap (λ (w : Which). Collection w) (which_at name which named l.there (sym l.spelled))
+inbox_place name (Board own None) named l =
+    absurd
+    (differ (codes "c") (codes "inbox") refl
+    (tail_is name own (codes "c") named l.there.0 (sym l.spelled)).1)
+inbox_place name (Board own (Some slug)) named l =
+    absurd
+    (differ (codes "c/" ++ slug) (codes "inbox") refl
+    (tail_is name own (codes "c/" ++ slug) named l.there.0 (sym l.spelled)).1)
 inbox_place name (Activity own number) named l =
     absurd
     (differ (codes "a/" ++ decimal number) (codes "inbox") refl

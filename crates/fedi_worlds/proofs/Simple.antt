@@ -17,7 +17,7 @@ use Rattle.fedi_address.proofs.Parts.{host_of-address, target_of-address}
 use Rattle.fedi_log.specs.Claims.{IsFirst}
 use Rattle.fedi_model.specs.declared.ask.Ask.TheVariants.{Nowhere, WrongMethod, Webfinger, Actor}
 use Rattle.fedi_model.specs.declared.ask.Ask.TheVariants.{Collection, Activity, Object, Outbox}
-use Rattle.fedi_model.specs.declared.ask.Ask.TheVariants.{Inbox}
+use Rattle.fedi_model.specs.declared.ask.Ask.TheVariants.{Inbox, Board}
 use Rattle.fedi_model.specs.declared.post.Post.{Post}
 use Rattle.fedi_model.specs.Posting.{Judgement, Stop, Repeat, Keep, post_entry, entry_at}
 use Rattle.fedi_model.specs.Posting.{inbox_entry, inbox_entry_at, delivery_of, judge_post}
@@ -156,6 +156,7 @@ asks t c (WrongMethod allow) moment e not_peer is = absurd cc
 asks t c (Webfinger resource) moment e not_peer is = absurd cc
 asks t c (Actor name) moment e not_peer is = absurd cc
 asks t c (Collection which part) moment e not_peer is = absurd cc
+asks t c (Board name slug part) moment e not_peer is = absurd cc
 asks t c (Activity name number) moment e not_peer is = absurd cc
 asks t c (Object name number) moment e not_peer is = absurd cc
 asks t c (Outbox name post) moment e not_peer is =

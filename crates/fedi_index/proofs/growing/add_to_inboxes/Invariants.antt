@@ -1,5 +1,6 @@
 use Rattle.std.proofs.Common.{take}
-use Rattle.fedi_index.specs.Growing.{AddsOnce, is_inbox}
+use Rattle.fedi_index.specs.Growing.{is_inbox}
+use Rattle.fedi_index.specs.Lists.{AddsOnce}
 use Rattle.fedi_index.proofs.growing.add_to_inboxes.Given as goal
 
 abbrev pub invariant-loop-recipient : goal.invariant-loop-recipient

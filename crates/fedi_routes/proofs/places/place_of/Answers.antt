@@ -15,4 +15,4 @@ pub returns : goal.returns
 returns c =
     let same : c.in-Ok.text.now ≡ c.args.path.now = c.in-Ok.ensures.cases.0 in
     let routed = c.in_ok-routed.routed in
-    place_found c.args.path.now routed.kind routed.name.now routed.number.now c.place_at.result (rw same at c.in_ok-routed.ensures) c.place_at.ensures
+    place_found c.args.path.now routed.kind routed.name.now routed.item.now c.place_at.result (rw same at c.in_ok-routed.ensures) c.place_at.ensures

@@ -8,6 +8,6 @@ returns-in_ok-at-in-None-clause-roomier c = rw c.in_ok-at-in-None.ensures.added.
 
 pub returns-in_ok-at-in-None-clause-known : goal.returns-in_ok-at-in-None-clause-known
 returns-in_ok-at-in-None-clause-known c =
-    let none : first_from (is_list c.args.collection c.args.owner.now) 0 (listings c.self.inside.rows.items) ≡ None = rw (← c.deref.ensures.value, ← c.position_of.ensures) c.in-None.is in
+    let none : first_from (is_list c.args.collection c.args.owner.now) 0 (listings c.self.inside.rows.items) ≡ None = rw (← c.deref.ensures.value, ← c.text.ensures.value, ← c.position_of.ensures) c.in-None.is in
     let from_none : 0 + length (listings c.self.inside.rows.items) ≡ length (listings c.self.inside.rows.items) = omega arith in
     rw (c.in_ok-at-in-None.ensures.added.0, c.in_ok-at-in-None.ensures.added.1, ← c.self.view_is) (new_first c.args.collection c.args.owner.now 0 (listings c.self.inside.rows.items) none ∙ ap (λ (n : ℕ). Some n) from_none)

@@ -1,0 +1,11 @@
+use Rattle.std.proofs.Common.{◌≡◌, Some, ◌∙◌}
+use Rattle.fedi_town.specs.Towns.{id_of}
+use Rattle.fedi_index.proofs.Shelved.{pins_of_board}
+use Rattle.fedi_index.proofs.shelf.IndexedShelf.pins_of.Goals as goal
+
+pub returns : goal.returns
+returns c =
+    let known : id_of c.self.inside.facts.town c.args.name.now ≡ Some c.args.member.now = rw (← c.self.view_is) at c.requires.member in
+    c.places.ensures
+    ∙ rw (← c.self.view_is) (pins_of_board c.self.inside.facts c.self.inside.lists c.args.name.now c.args.member.now c.args.slug.now c.args.board.now c.self.invariant
+    c.text-slug.ensures.name known c.requires.board)

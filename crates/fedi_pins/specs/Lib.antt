@@ -1,0 +1,4 @@
+pub mod Costs
+pub mod Held
+pub mod Maps
+pub mod Pages
