@@ -14,6 +14,7 @@ HOST = "club.example"
 MOMENT = 784111777
 PUBLIC = "https://www.w3.org/ns/activitystreams#Public"
 ACCEPT, ANNOUNCE, BLOCK, CREATE, DELETE, FOLLOW, LIKE, UNDO, UPDATE = 1, 3, 5, 6, 7, 10, 15, 26, 27
+ADD, REMOVE = 2, 22
 
 
 # ---- entries in their format
@@ -132,14 +133,14 @@ def note(to, cc, content, answered=None):
     return b"\0" + bytes([CREATE]) + b"\0\2" + whole + b"\0" + fields + 5 * b"\0" + number(0)
 
 
-def about(kind, object, to=(), cc=()):
+def about(kind, object, to=(), cc=(), target=None):
     """An activity about this, to nobody if nobody is named."""
     return (
         b"\0"
         + bytes([kind])
         + b"\0"
         + object
-        + b"\0"
+        + optional(target)
         + texts(to)
         + texts(cc)
         + 3 * number(0)
@@ -148,9 +149,9 @@ def about(kind, object, to=(), cc=()):
     )
 
 
-def of(kind, id, to=(), cc=()):
+def of(kind, id, to=(), cc=(), target=None):
     """An activity of this type about the object of this id, to nobody if nobody is named."""
-    return about(kind, b"\1" + text(id), to, cc)
+    return about(kind, b"\1" + text(id), to, cc, target)
 
 
 def change(id, content):
