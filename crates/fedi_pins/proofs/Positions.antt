@@ -1,11 +1,11 @@
 -- What a map holds after an id was put in or taken out, and after one position more.
 use Rattle.std.proofs.Common.{◌≡◌, ◌<◌, ◌≤◌, ℕ, suc, ◌+◌, arith, Bool, true, false, List, [], ◌∷◌, ◌++◌, length, take, Option, Some, None, get_or, refl, sym, ap, subst, ◌∙◌}
-use Rattle.std.specs.Prelude.{cond, filter, is_none, nat_lt, unwrap_or, if◌then◌else◌}
+use Rattle.std.specs.Prelude.{◌&&◌, cond, filter, nat_lt, slice_get, unwrap_or, if◌then◌else◌}
 use Rattle.std.specs.Borrow.{Bor}
 use Rattle.std.specs.BTreeMap.{BTreeMap}
-use Rattle.std.specs.List.{list_all}
+use Rattle.std.specs.List.{fold, list_all}
 use Rattle.std.specs.Str.{bytes_eq}
-use Rattle.std.proofs.lemmas.Bool.{and_from, lt-ltb, ltb-true}
+use Rattle.std.proofs.lemmas.Bool.{and_from, lt-ltb, ltb-true, ne_eqb}
 use Rattle.std.proofs.lemmas.List.{append-nil, take_all}
 use Rattle.std.proofs.lemmas.List.Elements.{filter_more}
 use Rattle.std.proofs.lemmas.List.Folds.{list_all_at}
@@ -13,12 +13,13 @@ use Rattle.std.proofs.lemmas.List.Sums.{fold_more}
 use Rattle.fedi_town.proofs.Texts.{bytes_eq-is, not_both}
 use Rattle.fedi_town.specs.declared.act.Act.{Act}
 use Rattle.fedi_town.specs.declared.caller.Caller.{Caller}
+use Rattle.fedi_town.specs.Boards.{is_remove}
 use Rattle.fedi_town.specs.Towns.{Town}
 use Rattle.fedi_visible.specs.Pins.{directed_places, is_directed, is_pin_kind_by, pin_places}
 use Rattle.fedi_visible.specs.Places.{places_from}
 use Rattle.fedi_pins.specs.declared.pins.Listing.{Listing}
-use Rattle.fedi_pins.specs.Held.{held_at, holder, is_holder, is_place, item_at}
-use Rattle.fedi_pins.specs.Maps.{are_there, place_in}
+use Rattle.fedi_pins.specs.Held.{held_at, held_found, holder, is_holder, is_place, is_remove_at, is_seen_change, item_at, item_key}
+use Rattle.fedi_pins.specs.Maps.{HasAddsAlone, are_there, place_in}
 
 -- ---- one id
 
@@ -31,18 +32,14 @@ put_new f g id place none is other =
       | false ↦ λ e. refl
     ] refl
 
--- it was there
-pub put_there : (f : List ℕ → Option ℕ) (id : List ℕ) (place : ℕ) → is_none (f id) ≡ false
-    → (other : List ℕ) → f other ≡ (if bytes_eq id other then Some (unwrap_or (f other) place) else f other)
-put_there f id place some other =
-    elim (bytes_eq id other) as (λ b. bytes_eq id other ≡ b → f other ≡ (if b then Some (unwrap_or (f other) place) else f other)) [
-      | true ↦ λ e. stays (f other) (subst (λ (i : List ℕ). is_none (f i) ≡ false) (bytes_eq-is id other e) some)
-      | false ↦ λ e. refl
+-- it was there, and got its position back
+pub put_back : (f g h : List ℕ → Option ℕ) (id : List ℕ) (place first : ℕ) → f id ≡ Some first → ((other : List ℕ) → g other ≡ cond (bytes_eq id other) (Some place) (f other))
+    → ((other : List ℕ) → h other ≡ cond (bytes_eq id other) (Some first) (g other)) → (other : List ℕ) → h other ≡ (if bytes_eq id other then Some (unwrap_or (f other) place) else f other)
+put_back f g h id place first there one two other =
+    two other ∙ elim (bytes_eq id other) as (λ b. bytes_eq id other ≡ b → cond b (Some first) (g other) ≡ (if b then Some (unwrap_or (f other) place) else f other)) [
+      | true ↦ λ e. let some : f other ≡ Some first = subst (λ (i : List ℕ). f i ≡ Some first) (bytes_eq-is id other e) there in rw some refl
+      | false ↦ λ e. one other ∙ rw e refl
     ] refl
-  where
-    stays : (held : Option ℕ) → is_none held ≡ false → held ≡ Some (unwrap_or held place)
-    stays None none = absurd cc
-    stays (Some q) none = refl
 
 -- ---- positions of candidates
 
@@ -101,3 +98,51 @@ pub holder_is : (t : Town) (c : Caller) (k : Listing) (author board : List ℕ) 
     → (place : ℕ) → is_place place (place_in m (item_at t k place)) ≡ is_holder t c k author board places place
 unfolding is_holder
 holder_is t c k author board places m h place = ap (is_place place) (h (item_at t k place))
+
+-- ---- what a map of Adds says of a Remove
+
+adds_at : (t : Town) (c : Caller) (k : Listing) (author board id : List ℕ) (h : Option ℕ) (q : ℕ) → ((p : ℕ) → h ≡ Some p → is_remove_at t p ≡ false)
+    → (p : ℕ) → held_at t c k author board id h q ≡ Some p → is_remove_at t p ≡ false
+unfolding held_at is_remove_at
+adds_at t c k author board id h q so_far p = found (slice_get t.acts q) refl
+  where
+    found : (x : Option Act) → slice_get t.acts q ≡ x → held_found t c k author board id h q x ≡ Some p → is_remove_at t p ≡ false
+    found None e is = so_far p is
+    found (Some x) e now =
+        (elim (is_seen_change t c k author board x && bytes_eq (item_key k x) id) as (λ b. (if b then (if is_remove x.activity.kind then None else Some (unwrap_or h q)) else h) ≡ Some p → is_remove_at t p ≡ false) [
+          | true ↦ elim (is_remove x.activity.kind) as (λ r. is_remove x.activity.kind ≡ r → (if r then None else Some (unwrap_or h q)) ≡ Some p → is_remove_at t p ≡ false) [
+            | true ↦ λ r is. absurd cc
+            | false ↦ λ r is. kept h refl r is
+          ] refl
+          | false ↦ λ is. so_far p is
+        ]) now
+      where
+        kept : (o : Option ℕ) → h ≡ o → is_remove x.activity.kind ≡ false → Some (unwrap_or o q) ≡ Some p → is_remove_at t p ≡ false
+        kept None o r is = let same : q ≡ p = cc in rw (← same, e) r
+        kept (Some n) o r is = so_far p (o ∙ is)
+
+adds_from : (t : Town) (c : Caller) (k : Listing) (author board id : List ℕ) (h : Option ℕ) (places : List ℕ) → ((p : ℕ) → h ≡ Some p → is_remove_at t p ≡ false)
+    → (p : ℕ) → fold (held_at t c k author board id) h places ≡ Some p → is_remove_at t p ≡ false
+adds_from t c k author board id h [] so_far p is = so_far p is
+adds_from t c k author board id h (q ∷ qs) so_far p is =
+    adds_from t c k author board id (held_at t c k author board id h q) qs (adds_at t c k author board id h q so_far) p is
+
+-- the map has no position of a Remove
+pub adds_alone : (t : Town) (c : Caller) (k : Listing) (author board : List ℕ) (places : List ℕ) (m : BTreeMap (Bor (List ℕ)) ℕ)
+    → ((id : List ℕ) → place_in m id ≡ holder t c k author board places id) → HasAddsAlone t m
+adds_alone t c k author board places m h id p is =
+    adds_from t c k author board id None places (λ q no_place. absurd cc) p (sym (h id) ∙ is)
+
+-- so it does not say of a Remove that its item is listed by it
+pub not_by_a_remove : (t : Town) (m : BTreeMap (Bor (List ℕ)) ℕ) (id : List ℕ) (place : ℕ) → HasAddsAlone t m → is_remove_at t place ≡ true
+    → is_place place (place_in m id) ≡ false
+not_by_a_remove t m id place alone out = found (place_in m id) refl
+  where
+    found : (o : Option ℕ) → place_in m id ≡ o → is_place place o ≡ false
+    found None e = refl
+    found (Some p) e = ne_eqb p place (λ same. let stays : is_remove_at t p ≡ false = alone id p e in absurd cc)
+
+-- what was found there is a Remove
+pub found_remove : (t : Town) (place : ℕ) (x : Act) → slice_get t.acts place ≡ Some x → is_remove x.activity.kind ≡ true → is_remove_at t place ≡ true
+unfolding is_remove_at
+found_remove t place x there is = rw there is

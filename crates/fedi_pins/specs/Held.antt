@@ -50,6 +50,15 @@ key_found listing (Some x) = item_key listing x
 abbrev pub item_at : Town → Listing → ℕ → List ℕ
 item_at t listing place = key_found listing (slice_get t.acts place)
 
+-- the activity that was found takes something out
+abbrev pub is_remove_found : Option Act → Bool
+is_remove_found None = false
+is_remove_found (Some x) = is_remove x.activity.kind
+
+-- the activity at this position takes something out
+unfoldable pub is_remove_at : Town → ℕ → Bool
+is_remove_at t place = is_remove_found (slice_get t.acts place)
+
 -- ---- the Add by which an item is there
 
 -- The position of the Add by which this id is listed for the caller, after the activity at this

@@ -3,8 +3,8 @@
 ghost use Rattle.std.specs.Prelude.{◌≡◌, ℕ, List, ◌+◌, ◌<◌, ◌≤◌, IfOk, IsTrue, None, OnOk, Some};
 ghost use Rattle.std.specs.Prelude.{length, unwrap_or, if◌then◌else◌};
 ghost use Rattle.std.specs.Str.{bytes_eq};
-ghost use Rattle.fedi_pins.specs.Held.{held_at, held_by, holder, is_place};
-ghost use Rattle.fedi_pins.specs.Maps.{are_there, place_in};
+ghost use Rattle.fedi_pins.specs.Held.{held_at, held_by, holder, is_place, item_at};
+ghost use Rattle.fedi_pins.specs.Maps.{HasAddsAlone, are_there, place_in};
 
 use crate::pins::{Listing, is_remove, is_seen_change, item_key};
 use fedi_address::Iri;
@@ -15,14 +15,15 @@ use std::alloc::{AllocError, Global};
 use std::collections::BTreeMap;
 use std::sync::ledger::Ledger;
 
-// Puts the id in at this position, unless it is in already.
+// Puts the id in at this position, unless it is in already. Most ids are new, so it is put in at
+// once, and one that was in gets its position back.
 fn put<'a>(held: &mut BTreeMap<&'a str, usize>, id: &'a str, place: usize) -> Result<(), AllocError>
     ensures { OnOk result ((other : List ℕ) → place_in held.new other
         ≡ (if bytes_eq id.now other then Some (unwrap_or (place_in held.old other) place)
         else place_in held.old other)) }
 {
-    if held.get(id).is_none() {
-        held.insert(id, place)?;
+    if let Some(first) = held.insert(id, place)? {
+        held.insert(id, first)?;
     }
     Ok(())
 }
@@ -118,4 +119,23 @@ pub(crate) fn is_held(held: &BTreeMap<&str, usize>, id: &str, place: usize) -> b
         Some(holder) => *holder == place,
         None => false,
     }
+}
+
+/// Whether the activity at this position is the Add by which its item is listed. It is read once.
+/// Nothing is listed by a Remove, so the map is not asked about its item.
+pub(crate) fn lists_item<L: Ledger>(
+    held: &BTreeMap<&str, usize>,
+    facts: &Facts,
+    listing: Listing,
+    place: usize,
+    steps: &mut Steps<L>,
+) -> bool
+    requires there { place < length facts.now.town.acts }
+    requires adds { HasAddsAlone facts.now.town held.now }
+    ensures value { result
+        ≡ is_place place (place_in held.now (item_at facts.now.town listing place)) }
+    ensures cost { steps.new ≡ steps.old + 1 }
+{
+    let act = facts.shown(place, steps);
+    !is_remove(act.kind()) && is_held(held, item_key(listing, act), place)
 }

@@ -9,8 +9,7 @@ ghost use Rattle.fedi_pins.specs.Costs.{board_cost};
 ghost use Rattle.fedi_pins.specs.Pages.{IsPage};
 ghost use Rattle.fedi_pins.specs.declared.pins.Listing.TheVariants.{Objects};
 
-use crate::held::{hold, is_held};
-use crate::items::item_at;
+use crate::held::{hold, lists_item};
 use crate::pins::Listing;
 use fedi_address::{Iri, LocalName};
 use fedi_effects::{Facts, Steps};
@@ -48,8 +47,7 @@ fn pinned_page<L: Ledger>(
     )?;
     let mut page = VisiblePage::empty();
     for place in places {
-        let id = item_at(facts, Listing::Objects, *place, steps);
-        if is_held(&held, id, *place) {
+        if lists_item(&held, facts, Listing::Objects, *place, steps) {
             page.add(number, *place);
         }
     }

@@ -5,12 +5,20 @@ use Rattle.fedi_pins.specs.Held.{is_holder}
 use Rattle.fedi_pins.specs.declared.pins.Listing.TheVariants.{Objects}
 use Rattle.fedi_pins.proofs.Boards.{page_gathered}
 use Rattle.fedi_pins.proofs.Listed.{listed_held}
-use Rattle.fedi_pins.proofs.Positions.{directed_there, holder_is, none_more, one_more}
+use Rattle.fedi_pins.proofs.Positions.{adds_alone, directed_there, holder_is, none_more, one_more, there_at}
 use Rattle.fedi_pins.proofs.pages.pinned_page.Goals as goal
-use Rattle.fedi_pins.proofs.pages.pinned_page.Goals.{then-is_held, else-is_held}
+use Rattle.fedi_pins.proofs.pages.pinned_page.Goals.{then-lists_item, else-lists_item}
 
 pub hold-requires : goal.hold-requires
 hold-requires g c = rw c.requires (directed_there c.args.facts.now.town c.args.board.now)
+
+pub lists_item-requires-clause-there : goal.lists_item-requires-clause-there
+lists_item-requires-clause-there g c =
+    there_at c.args.facts.now.town c.args.places.now c.loop-place.place-index _ (rw c.requires (directed_there c.args.facts.now.town c.args.board.now)) c.loop-place-test.true refl
+
+pub lists_item-requires-clause-adds : goal.lists_item-requires-clause-adds
+lists_item-requires-clause-adds g c =
+    adds_alone c.args.facts.now.town c.args.caller.now Objects c.args.author.now c.args.board.now c.args.places.now c.in_ok-held.held c.in_ok-held.ensures.held
 
 pub loop-place-init : goal.loop-place-init
 loop-place-init g c = record {
@@ -38,20 +46,20 @@ loop-place-preserved g c =
     let so_far = c.loop-place.invariant in
     let total = c.loop-place.page.total in
     let found = c.loop-place.page.places.items in
-    let is = (rw c.item_at-id.ensures.value at c.is_held.ensures) ∙ holder_is t caller Objects author board all c.in_ok-held.held c.in_ok-held.ensures.held (get_or all i 0) in
-    elim c.if-is_held.branch [
-      | then-is_held w ↦ rw w.page-is (record {
+    let is = c.lists_item.ensures.value ∙ holder_is t caller Objects author board all c.in_ok-held.held c.in_ok-held.ensures.held (get_or all i 0) in
+    elim c.if-lists_item.branch [
+      | then-lists_item w ↦ rw w.page-is (record {
         gathered = subst (λ (places : List ℕ). IsPageOf number places w.add.new.self.total w.add.new.self.places.items)
-            (sym (one_more listed all i _ c.loop-place-test.true refl (sym is ∙ w.if-is_held.true)))
+            (sym (one_more listed all i _ c.loop-place-test.true refl (sym is ∙ w.if-lists_item.true)))
             (one_counted number (filter listed (take i all)) total found _ _ _ so_far.gathered w.add.ensures.total w.add.ensures.places);
         few = omega (arith, so_far.few, w.add.ensures.total);
-        cost = omega (arith, so_far.cost, c.item_at-id.ensures.cost);
+        cost = omega (arith, so_far.cost, c.lists_item.ensures.cost);
       })
-      | else-is_held w ↦ rw w.page-is (record {
+      | else-lists_item w ↦ rw w.page-is (record {
         gathered = subst (λ (places : List ℕ). IsPageOf number places total found)
-            (sym (none_more listed all i _ c.loop-place-test.true refl (sym is ∙ w.if-is_held.false))) so_far.gathered;
+            (sym (none_more listed all i _ c.loop-place-test.true refl (sym is ∙ w.if-lists_item.false))) so_far.gathered;
         few = omega (arith, so_far.few);
-        cost = omega (arith, so_far.cost, c.item_at-id.ensures.cost);
+        cost = omega (arith, so_far.cost, c.lists_item.ensures.cost);
       })
     ]
 
