@@ -1,3 +1,4 @@
+pub mod Copying
 pub mod DiskSteps
 pub mod Finding
 pub mod Gates

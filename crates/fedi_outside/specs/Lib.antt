@@ -10,7 +10,9 @@ pub mod MemoryDiskLaws
 pub mod MemoryDisks
 pub mod MemoryDoors
 pub mod MemoryKeepers
+pub mod MemoryVaults
 pub mod Opening
 pub mod Plans
 pub mod Sinks
 pub mod Sources
+pub mod Vaults

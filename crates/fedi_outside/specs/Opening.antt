@@ -1,6 +1,6 @@
 -- What a file is found to be when it is opened: a file of records, a damaged one, or no store.
 use Rattle.std.specs.Prelude.{◌≡◌, ◌≢◌, ◌⊎◌, ◌<◌, ◌≤◌, ℕ, ◌+◌, List, length, get_or, take, drop}
-use Rattle.std.specs.Prelude.{Option, Some}
+use Rattle.std.specs.Prelude.{Some}
 use Rattle.fedi_outside.specs.Images.{Format, AreShort, IsImage, front, gates_of, size_at}
 
 module _ (f : Format) where

@@ -1,8 +1,8 @@
 //! A keeper in memory that never fails.
 ghost use Rattle.std.specs.Prelude.{ℕ, ◌≡◌, ◌↔◌, ◌+◌, ◌^◌, ◌<◌, ◌≤◌, max, List, [], ◌∷◌, ◌++◌};
 ghost use Rattle.std.specs.Prelude.{length, Some, None, IsOk, IfOk, IfErr, OnOk, OnErr, IsErr};
-ghost use Rattle.std.specs.Prelude.{IsErrOf, vec_capacity};
-ghost use Rattle.fedi_outside.specs.Keepers.{Finds};
+ghost use Rattle.std.specs.Prelude.{IfSome, IsErrOf, vec_capacity};
+ghost use Rattle.fedi_outside.specs.Keepers.{Finds, after_load};
 ghost use Rattle.fedi_outside.specs.MemoryKeepers.{no_crashes, no_records, shown_with};
 ghost use Rattle.std.proofs.Common.{refl, ◌∙◌};
 
@@ -94,6 +94,41 @@ impl CalmKeeper {
             spare: 0,
             end,
         }
+    }
+
+    /// A keeper with a copy of each record of another. Its end is where these records end, or
+    /// 2^64 - 1 if that is less. `Failed` if the other failed, and `Memory`. The other is only
+    /// read.
+    pub(crate) fn copy_of<P: Keeper>(alloc: Global, from: &mut P) -> Result<Self, LoadFault>
+        ensures records { IfOk result (λ copy. IfSome (P.shown from.old).records
+            (λ records. copy.records ≡ records)) }
+        ensures settled { IfOk result (λ copy. copy.doubt ≡ None) }
+        ensures source { P.shown from.new ≡ after_load result (P.shown from.old) }
+        ensures outside { P.only_read from.old from.new }
+    {
+        let count = from.count();
+        let mut records = Vec::new(alloc);
+        let mut end = 0_u64;
+        let mut place = 0;
+        'records: while place < count {
+            let Some(bytes) = from.load(alloc, place)? else {
+                unreachable!();
+            };
+            end = end
+                .saturating_add(GROWTH)
+                .saturating_add(bytes.len() as u64);
+            records.reserve(1)?;
+            records.push_reserved(Record { bytes });
+            place += 1;
+        }
+        Ok(CalmKeeper {
+            alloc,
+            records,
+            blank: Vec::new(alloc),
+            in_doubt: false,
+            spare: 0,
+            end,
+        })
     }
 
     /// The records.

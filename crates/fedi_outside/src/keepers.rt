@@ -53,7 +53,8 @@ impl From<AllocError> for ReserveFault {
 
 /// A list of records, each of them bytes, that only grows. A record goes in by three calls:
 /// `reserve` makes room, `settle` removes the doubt that a failed append left, and `append` adds
-/// it. The keeper ends at 2^62.
+/// it. The keeper ends at 2^62. The last two are given no allocator. A keeper may have one of its
+/// own for them, and then lack of memory counts as its fault.
 pub trait Keeper {
     /// The keeper, as its callers see it.
     ghost shown: { Self → KeeperState };
@@ -101,17 +102,16 @@ pub trait Keeper {
         ensures time { PassesTime (shown self.old).records (shown self.old).doubt
             (crashes self.old) (crashes self.new) };
 
-    /// Removes what a failed append may have left, so that nothing is in doubt. It allocates no
-    /// memory. After an error the doubt is as before.
+    /// Removes what a failed append may have left, so that nothing is in doubt. After an error the
+    /// doubt is as before.
     fn settle(&mut self) -> Result<(), Failed>
         ensures settled { OnOk result (shown self.new ≡ record (shown self.old) { doubt = None }) }
         ensures refused { OnErr result (shown self.new ≡ after_fault (shown self.old)) }
         ensures time { PassesTime (shown self.old).records (shown self.old).doubt
             (crashes self.old) (crashes self.new) };
 
-    /// Adds the payload as the last record. It allocates no memory: nothing is in doubt, and room
-    /// was made. After an error the records and the room are as before, and this record may be in
-    /// doubt.
+    /// Adds the payload as the last record. Nothing is in doubt, and room was made. After an error
+    /// the records and the room are as before, and this record may be in doubt.
     fn append(&mut self, payload: &[u8]) -> Result<(), Failed>
         requires settled { (shown self.old).doubt ≡ None }
         requires spare { length payload.now < (shown self.old).spare }

@@ -1,7 +1,7 @@
 //! A keeper in memory that may be made to fail.
 ghost use Rattle.std.specs.Prelude.{◌≡◌, ◌↔◌, ◌+◌, ◌^◌, ◌<◌, ◌≤◌, max, not, [], ◌∷◌, ◌++◌, length};
-ghost use Rattle.std.specs.Prelude.{is_ok, Some, None, IsTrue, IfOk, OnOk, OnErr, IsErrOf};
-ghost use Rattle.fedi_outside.specs.Keepers.{Finds};
+ghost use Rattle.std.specs.Prelude.{is_ok, Some, None, IsTrue, IfOk, IfSome, OnOk, OnErr, IsErrOf};
+ghost use Rattle.fedi_outside.specs.Keepers.{Finds, after_load};
 ghost use Rattle.fedi_outside.specs.MemoryKeepers.{no_crashes, no_records, shown_with};
 ghost use Rattle.fedi_outside.specs.Plans.{after_call, is_to_fail, no_faults};
 ghost use Rattle.std.proofs.Common.{refl, ◌∙◌};
@@ -64,6 +64,58 @@ impl MemoryKeeper {
         ensures { result.now ≡ self.now.keeper.records }
     {
         self.keeper.records()
+    }
+
+    /// Counts a call, and returns whether it is to fail. If it is, its fault is counted too.
+    pub(crate) fn next_fails(&mut self) -> bool
+        ensures answer { result ≡ is_to_fail self.old.plan }
+        ensures after { self.new ≡ record self.old { plan = after_call self.old.plan } }
+    {
+        self.plan.next_fails()
+    }
+
+    /// How many calls failed.
+    pub(crate) fn faults(&self) -> u64
+        ensures { result ≡ self.now.plan.faults }
+    {
+        self.plan.faults()
+    }
+
+    /// Raises the count of faults to this one, if it is lower.
+    pub(crate) fn raise_faults(&mut self, faults: u64)
+        ensures { self.new ≡ record self.old {
+          plan = record self.old.plan { faults = max self.old.plan.faults faults };
+        } }
+    {
+        self.plan.raise_faults(faults);
+    }
+
+    /// Drops the record in doubt. It is no call, and does not fail.
+    pub(crate) fn forget_doubt(&mut self)
+        ensures { self.new ≡ record self.old {
+          keeper = record self.old.keeper { doubt = None };
+        } }
+    {
+        let _ = self.keeper.settle();
+    }
+
+    /// Takes a copy of each record of another keeper in place of its own. `Failed` if the other
+    /// failed, and `Memory`. The other is only read. After an error all is as before.
+    pub(crate) fn copy_records<P: Keeper>(
+        &mut self,
+        alloc: Global,
+        from: &mut P,
+    ) -> Result<(), LoadFault>
+        ensures records { OnOk result (IfSome (P.shown from.old).records
+            (λ records. self.new.keeper.records ≡ records)) }
+        ensures settled { OnOk result (self.new.keeper.doubt ≡ None) }
+        ensures plan { self.new.plan ≡ self.old.plan }
+        ensures err { OnErr result (self.new ≡ self.old) }
+        ensures source { P.shown from.new ≡ after_load result (P.shown from.old) }
+        ensures outside { P.only_read from.old from.new }
+    {
+        self.keeper = CalmKeeper::copy_of(alloc, from)?;
+        Ok(())
     }
 }
 

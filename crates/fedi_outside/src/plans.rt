@@ -1,5 +1,5 @@
 //! When an object in memory is to fail, and how many bytes one of its calls moves.
-ghost use Rattle.std.specs.Prelude.{◌≡◌, ◌<◌, ◌≤◌, [], if◌then◌else◌, IsTrue};
+ghost use Rattle.std.specs.Prelude.{◌≡◌, ◌<◌, ◌≤◌, [], if◌then◌else◌, max, IsTrue};
 ghost use Rattle.fedi_outside.specs.Causes.{next_count};
 ghost use Rattle.fedi_outside.specs.Plans.{after_call, is_to_fail, moved, no_faults};
 
@@ -59,6 +59,20 @@ impl FaultPlan {
             self.count_fault();
         }
         fails
+    }
+
+    /// How many calls failed.
+    pub fn faults(&self) -> u64
+        ensures { result ≡ self.now.faults }
+    {
+        self.faults
+    }
+
+    /// Raises the count of faults to this one, if it is lower.
+    pub fn raise_faults(&mut self, faults: u64)
+        ensures { self.new ≡ record self.old { faults = max self.old.faults faults } }
+    {
+        self.faults = self.faults.max(faults);
     }
 
     /// Counts a fault.
