@@ -11,5 +11,5 @@ pub use exchanges::{look_up, post};
 pub use laws::{
     bodies_are_clean, replies_are_as_shown, replies_show_once, requests_are_as_written,
 };
-pub use replies::Found;
+pub use replies::{Found, came_of, found_in};
 pub use sending::{Outgoing, lookup_bytes, post_bytes};

@@ -111,7 +111,7 @@ fn document_shows(alloc: Global, bytes: &[u8], recipient: &Iri) -> Result<Found,
 
 /// What the reply to a lookup of the recipient shows. The error is out of memory, which comes only
 /// after a head with the status 200.
-pub(crate) fn found_in(alloc: Global, reply: &[u8], recipient: &Iri) -> Result<Found, AllocError>
+pub fn found_in(alloc: Global, reply: &[u8], recipient: &Iri) -> Result<Found, AllocError>
     ensures { IsLookedUp recipient.now (Some reply.now) result }
 {
     match read_head(reply) {
@@ -142,7 +142,7 @@ fn came_with(what: What) -> Came
 }
 
 /// What the reply to a post means for the attempt. It takes no memory.
-pub(crate) fn came_of(reply: &[u8]) -> Came
+pub fn came_of(reply: &[u8]) -> Came
     ensures { IsCameOfPost (Some reply.now) result }
 {
     match read_head(reply) {
