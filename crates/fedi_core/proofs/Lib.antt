@@ -8,3 +8,4 @@ pub mod Limits
 pub mod Judging
 pub mod Crashing
 pub mod SameCallers
+pub mod Reopening

@@ -16,7 +16,7 @@ ghost use Rattle.fedi_model.specs.Routes.{IsPostableAt};
 ghost use Rattle.fedi_core.specs.Commands.{IsCommand, RefusesCommand, unkept};
 ghost use Rattle.fedi_core.specs.Keeping.{HidesDeliveries, HidesPosts, Keeps, MayAdd, TellsOwners};
 ghost use Rattle.fedi_core.specs.Keeping.{TellsPeers, fault_by};
-ghost use Rattle.fedi_core.specs.Opening.{keeper_after, outcome_of};
+ghost use Rattle.fedi_core.specs.Opening.{IsUnopened, keeper_after, outcome_of};
 ghost use Rattle.fedi_objects.specs.declared.entry.Entry.{Entry};
 ghost use Rattle.fedi_core.specs.Machines.{IsNextCode};
 ghost use Rattle.fedi_opening.specs.Opening.{IsRead, IsStopped, after_open};
@@ -107,10 +107,44 @@ impl<S: Shelf + Drop, P: Keeper> Core<S, P> {
         }
     }
 
-    /// The facts of the history.
+    /// Opens the history anew from the keeper's records, on an empty shelf, as after a crash: what
+    /// was only in memory is lost, and none of the deliveries is claimed any more.
+    ///
+    /// The errors are those of `open`, and after one the machine is unchanged, except that a fault
+    /// of the keeper is counted. If the keeper reports its records, they are those of the history:
+    /// it is opened again, or the error is `Failed`, if the keeper failed, `Memory`, out of memory,
+    /// or `Empty`, if the history has no entry.
+    pub fn reopen(&mut self, alloc: Global, blank: S) -> Result<(), OpenFault>
+        requires empty { S.holding blank ≡ empty_holding }
+        requires settled { (P.shown self.old.keeper).doubt ≡ None }
+        ensures opened { OnOk result (IsRead (P.shown self.old.keeper).records
+            (P.shown self.old.keeper).held self.new.history) }
+        ensures history { IfSome (P.shown self.old.keeper).records
+            (λ _. self.new.history ≡ self.old.history) }
+        ensures unclaimed { OnOk result (self.new.rows ≡ rows_of (town self.new.history)) }
+        ensures same { OnErr result (self.new.history ≡ self.old.history) }
+        ensures rows { OnErr result (self.new.rows ≡ self.old.rows) }
+        ensures refused { IfErr result
+            (IsUnopened (P.shown self.old.keeper).records self.old.history) }
+        ensures shown { P.shown self.new.keeper ≡ after_open result (P.shown self.old.keeper) }
+        ensures outside { P.only_read self.old.keeper self.new.keeper }
+        ensures time { PassesTime (P.shown self.old.keeper).records (P.shown self.old.keeper).doubt
+            (P.crashes self.old.keeper) (P.crashes self.new.keeper) }
+    {
+        let mut shelf = blank;
+        open_history(alloc, &mut self.keeper, &mut shelf)?;
+        shelf.facts().show_town();
+        let queue = Queue::of(alloc, shelf.facts())?;
+        self.shelf = shelf;
+        self.queue = queue;
+        Ok(())
+    }
+
+    /// The facts of the history, which is legal.
     pub fn facts(&self) -> &Facts
         ensures history { result.now.history ≡ self.now.history }
         ensures town { result.now.town ≡ town self.now.history }
+        ensures legal { IsLegal self.now.history }
     {
         self.shelf.facts()
     }
