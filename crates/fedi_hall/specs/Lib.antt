@@ -1,4 +1,3 @@
-pub mod Delivering
 pub mod Lobbies
 pub mod Locks
 pub mod Serving

@@ -9,8 +9,8 @@ use Rattle.fedi_outside.specs.Doors.{Coming, Rested, Row, Served, Spoken}
 use Rattle.fedi_logged.specs.Conversations.{Setting}
 use Rattle.fedi_logged.specs.Endings.{IsCaused, Output, Serves, faults_of, scene_of}
 use Rattle.fedi_logged.specs.declared.sessions.SessionEnd.{SessionEnd}
-use Rattle.fedi_hall.specs.Delivering.{IsStep, rest_of}
-use Rattle.fedi_hall.specs.declared.delivering.Step.{Step}
+use Rattle.fedi_logged.specs.Delivering.{IsStep, rest_of}
+use Rattle.fedi_logged.specs.declared.delivering.Step.{Step}
 use Rattle.fedi_hall.specs.declared.workers.WorkerEnd.{WorkerEnd}
 use Rattle.fedi_hall.specs.declared.workers.WorkerEnd.TheVariants.{Closed, DoorFault}
 

@@ -18,31 +18,45 @@ use fedi_log::Item;
 use fedi_logged::{Logged, Opened};
 use fedi_outside::Keeper;
 use fedi_routes::Routes;
-use fedi_turn::{Grows, Pass, TurnLock};
+use fedi_turn::{Grows, Line, Pass, Span, TurnLock};
 use fedi_visible::Shelf;
 use std::alloc::{AllocError, Global};
-use std::sync::{Mutex, Wait};
+use std::sync::Wait;
 
-/// Where workers wait for each other outside of turns. Who records an attempt has both locks of
-/// those who keep an entry, the one of attempts first.
+/// Where workers wait for each other outside of turns, first come, first served. Who records an
+/// attempt is at the head of both lines of those who keep an entry, first of the one of attempts.
 #[derive(Drop)]
 pub struct Queues {
     /// Those who keep an entry: a turn that keeps nothing waits for one of them at most.
-    pub entries: Mutex<()>,
+    pub entries: Line,
     /// Those who record an attempt: so posts and deliveries to members get every second turn of
     /// those who keep an entry.
-    pub attempts: Mutex<()>,
+    pub attempts: Line,
     /// Those who read a long body, which takes much memory.
-    pub bodies: Mutex<()>,
+    pub bodies: Line,
 }
 
 impl Queues {
     /// Nobody waits.
     pub fn new() -> Self {
         Queues {
-            entries: Mutex::new(()),
-            attempts: Mutex::new(()),
-            bodies: Mutex::new(()),
+            entries: Line::new(),
+            attempts: Line::new(),
+            bodies: Line::new(),
+        }
+    }
+
+    /// Waits, before a long turn, until nobody else is about to keep an entry.
+    pub fn enter<R: Wait>(&self, rt: &R, span: Span) {
+        if span == Span::Long {
+            self.entries.enter(rt);
+        }
+    }
+
+    /// Lets the next one keep an entry, after a long turn.
+    pub fn leave<R: Wait>(&self, rt: &R, span: Span) {
+        if span == Span::Long {
+            self.entries.leave(rt);
         }
     }
 }

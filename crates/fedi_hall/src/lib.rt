@@ -11,7 +11,7 @@ mod stations;
 mod turns;
 mod workers;
 
-pub use delivering::{Delivers, Step, deliver_one};
+pub use delivering::{inbox_post_in_turn, record_in_turn, release_in_turn, take_up_in_turn};
 pub use hall::{Hall, Lobby, Queues};
 pub use laws::work_stays;
 pub use serving::{ServeEnd, Served, serve_core};

@@ -8,14 +8,17 @@ ghost use Rattle.fedi_turn.specs.Turn.{number_of, seen_of};
 ghost use Rattle.fedi_hall.specs.Lobbies.{IsLobbyOf};
 ghost use Rattle.fedi_hall.specs.Locks.{IsIdleBy};
 
-use crate::delivering::{Delivers, Step, deliver_one};
+use crate::delivering::{inbox_post_in_turn, record_in_turn, release_in_turn, take_up_in_turn};
 use crate::hall::Lobby;
 use crate::turns::{answer_in_turn, refuse_in_turn};
-use fedi_core::caller_of;
+use fedi_address::Iri;
+use fedi_core::{RecordFault, caller_of};
 use fedi_log::Item;
-use fedi_logged::{Logged, Opened, Turns};
+use fedi_logged::{Answers, Delivers, Logged, Opened, Sending, Turns};
 use fedi_model::{Ask, Caller, Request};
-use fedi_outside::{Clock, Keeper, Link};
+use fedi_objects::Came;
+use fedi_outside::Keeper;
+use fedi_queue::Claim;
 use fedi_routes::{credentials, route};
 use fedi_text::Moment;
 use fedi_turn::{Pass, TurnLock};
@@ -50,19 +53,22 @@ fn read_ask<R: Wait>(
         Asks (Some lobby.now.host) caller.now request.now body.now ask) }
     ensures postable { IfOk result (IsPostableAt (Some lobby.now.host)) }
 {
-    let _one = if body.len() > SHORT_BODY {
-        Some(lobby.queues.bodies.lock(rt))
-    } else {
-        None
-    };
-    route(
+    let is_long = body.len() > SHORT_BODY;
+    if is_long {
+        lobby.queues.bodies.enter(rt);
+    }
+    let ask = route(
         alloc,
         request,
         body,
         Some(&lobby.host),
         &lobby.routes,
         caller,
-    )
+    );
+    if is_long {
+        lobby.queues.bodies.leave(rt);
+    }
+    ask
 }
 
 impl<'a, 'b, R: Wait, S: Shelf + Drop, P: Keeper + Drop, O: Opened> Turns
@@ -85,7 +91,10 @@ impl<'a, 'b, R: Wait, S: Shelf + Drop, P: Keeper + Drop, O: Opened> Turns
     ghost same_both = { λ _ _ _ one two. (two.0 ∙ one.0, two.1 ∙ one.1, two.2 ∙ one.2) };
 
     ghost same_by = { λ _ _ is. ap Some is.1 };
+}
 
+impl<'a, 'b, R: Wait, S: Shelf + Drop, P: Keeper + Drop, O: Opened> Answers
+    for Shared<'a, 'b, R, S, P, O> {
     fn answer(
         &mut self,
         alloc: Global,
@@ -123,15 +132,42 @@ impl<'a, 'b, R: Wait, S: Shelf + Drop, P: Keeper + Drop, O: Opened> Turns
 
 impl<'a, 'b, R: Wait, S: Shelf + Drop, P: Keeper + Drop, O: Opened> Delivers
     for Shared<'a, 'b, R, S, P, O> {
-    fn deliver_one<K: Link, C: Clock>(&mut self, alloc: Global, link: &mut K, clock: &C) -> Step {
-        deliver_one(
-            self.rt,
-            alloc,
-            self.lock,
-            &self.lobby.queues,
-            self.pass,
-            link,
-            clock,
+    ghost Own = { Unit {0} };
+
+    ghost own = { λ _. tt };
+
+    fn take_up(
+        &mut self,
+        alloc: Global,
+        moment: Moment,
+    ) -> (u64, Result<Option<Sending>, AllocError>) {
+        take_up_in_turn(self.rt, alloc, self.lock, self.pass, moment)
+    }
+
+    fn inbox_post(
+        &mut self,
+        alloc: Global,
+        claim: &Claim,
+        inbox: &Iri,
+        body: &[u8],
+    ) -> Result<Vec<u8>, AllocError> {
+        inbox_post_in_turn(self.rt, alloc, self.lock, self.pass, claim, inbox, body)
+    }
+
+    fn release(&mut self, claim: Claim) {
+        release_in_turn(self.rt, self.lock, self.pass, claim);
+    }
+
+    fn record(
+        &mut self,
+        alloc: Global,
+        claim: Claim,
+        came: Came,
+        moment: Moment,
+    ) -> (u64, Result<(), RecordFault>) {
+        let queues = &self.lobby.queues;
+        record_in_turn(
+            self.rt, alloc, self.lock, queues, self.pass, claim, came, moment,
         )
     }
 }

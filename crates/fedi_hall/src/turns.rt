@@ -72,13 +72,11 @@ pub fn answer_in_turn<R: Wait, S: Shelf + Drop, P: Keeper + Drop, O: Opened>(
 {
     let by = pass.number();
     let span = span_of(&ask);
-    let _first = match span {
-        Span::Long => Some(queues.entries.lock(rt)),
-        Span::Short => None,
-    };
+    queues.enter(rt, span);
     let mut held = lock.take(rt, pass, span);
     let text = held.value.answer(alloc, Some(by), request, body, caller, ask, moment, closing);
     lock.give(pass, held);
+    queues.leave(rt, span);
     text
 }
 

@@ -4,8 +4,7 @@ ghost use Rattle.fedi_logged.specs.Attempts.{told_by};
 ghost use Rattle.fedi_logged.specs.Turning.{setting_at};
 ghost use Rattle.fedi_hall.specs.Works.{EndsWork, HasWorked, IsWaiting, both};
 
-use crate::delivering::Delivers;
-use fedi_logged::session;
+use fedi_logged::{Answers, Delivers, deliver_one, session};
 use fedi_outside::{Bench, Clock, Door, Link, Turn};
 use std::alloc::Global;
 use std::sync::Wait;
@@ -35,7 +34,7 @@ impl WorkerEnd {
 /// Each line that the door gave is returned to it, and a fault of a line ends only that line.
 /// Whenever no connection is waiting, one delivery that is due is attempted over the bench's link,
 /// and the result is reported to the door.
-pub fn worker<R: Wait, T: Delivers, W: Door, K: Link, C: Clock>(
+pub fn worker<R: Wait, T: Answers + Delivers, W: Door, K: Link, C: Clock>(
     rt: &R,
     alloc: Global,
     turns: &mut T,
@@ -64,7 +63,7 @@ pub fn worker<R: Wait, T: Delivers, W: Door, K: Link, C: Clock>(
                 bench.door.back(line);
             }
             Turn::Idle => {
-                let step = turns.deliver_one(alloc, &mut bench.link, clock);
+                let step = deliver_one(alloc, turns, &mut bench.link, clock);
                 bench.door.rested(step.rest());
             }
             Turn::Closed => return WorkerEnd::Closed,

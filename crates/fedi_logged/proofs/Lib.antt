@@ -1,3 +1,4 @@
+pub mod Attempting
 pub mod Attempts
 pub mod Callers
 pub mod Claimed

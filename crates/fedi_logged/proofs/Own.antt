@@ -25,6 +25,16 @@ alone_more growth by before after seen log now g turn = record {
   own = All-append (λ (i : Item). i.pass ≡ by) g.past (items_of by turn.0) g.own (alone_outcome by turn.0);
 }
 
+pub alone_item : (by : Option ℕ) (seen log now : Log) (what : What) → GoesAlone by seen log
+    → now ≡ log ++ made_by by what ∷ [] → GoesAlone by seen now
+alone_item by seen log now what g is = record {
+  past = g.past ++ made_by by what ∷ [];
+  is = is ∙ ap (λ (l : Log). l ++ made_by by what ∷ []) g.is
+      ∙ append_assoc seen g.past (made_by by what ∷ []);
+  own = All-append (λ (i : Item). i.pass ≡ by) g.past (made_by by what ∷ []) g.own
+      (own_one by what);
+}
+
 -- ---- what a turn leaves
 
 pub alone_lacks : {T E : Type 0} (by : Option ℕ) (log now : Log) (r : Result T E) → OnErr r (now ≡ log) → OnErr r (Goes by log now)

@@ -1,9 +1,8 @@
 -- The turn that ends an attempt, given what became of its entry.
-use Rattle.std.proofs.Common.{◌≡◌, ℕ, ◌+◌, ◌-◌, List, [], ◌∷◌, ◌++◌, length, Option, Some, None, Result, Ok, Err, IfErr, OnErr, OnOk, refl, sym, ap, subst, ◌∙◌, append-nil}
+use Rattle.std.proofs.Common.{◌≡◌, ℕ, ◌+◌, ◌-◌, List, [], ◌∷◌, ◌++◌, length, Option, Some, None, Result, Ok, Err, OnErr, OnOk, refl, sym, ap, subst, ◌∙◌, append-nil}
 use Rattle.std.specs.Prelude.{map}
-use Rattle.fedi_core.specs.Crashing.{PassesTimeUnkept, PassesTimeWith}
 use Rattle.fedi_core.specs.Delivering.{claims_in, keep_fault}
-use Rattle.fedi_core.specs.Keeping.{IsKept, Keeps, Refuses, fault_by}
+use Rattle.fedi_core.specs.Keeping.{Keeps, fault_by}
 use Rattle.fedi_core.specs.Machines.{KeepsClaims, Machine}
 use Rattle.fedi_core.specs.declared.delivering.RecordFault.{RecordFault}
 use Rattle.fedi_core.specs.declared.keeping.KeepFault.{KeepFault}
@@ -17,11 +16,9 @@ use Rattle.fedi_log.specs.declared.items.Pair.{Pair}
 use Rattle.fedi_log.specs.declared.items.What.TheVariants.{Released}
 use Rattle.fedi_objects.specs.declared.entry.Came.{Came}
 use Rattle.fedi_objects.specs.declared.entry.Entry.{Entry}
-use Rattle.fedi_opening.specs.Opening.{IsNext}
 use Rattle.fedi_outside.specs.Keepers.{Crashes}
 use Rattle.fedi_outside.specs.declared.keepers.Keeper.{Ghosts}
 use Rattle.fedi_queue.specs.declared.rows.Claim.{Claim}
-use Rattle.fedi_queue.specs.declared.rows.QueueRow.{QueueRow}
 use Rattle.fedi_queue.specs.Claims.{change_first, is_claimed_at, release}
 use Rattle.fedi_queue.specs.Rows.{rows_of}
 use Rattle.fedi_town.specs.Histories.{town}
@@ -39,115 +36,114 @@ use Rattle.fedi_logged.proofs.Turning.{failed_turn, full_turn, kept_turn, memory
 pub released_silent : (p : Pair) → IsSilent (Released p)
 released_silent p = record { entries = refl; marks = refl; doubts = λ ds. refl; may_come = λ h. tt }
 
--- what became of the machine, if this is its entry
-pub record IsRecorded (growth room : ℕ → ℕ) (before after : Standing) (e : Entry) (r : Result (Unit {0}) RecordFault) : Type 0 where
-  pub kept : OnOk r (IsKept growth room before.state.history e before.state.keeper after.state.keeper after.state.history)
-  pub refused : IfErr r (λ f. Refuses room (code_of e) (keep_fault f) before.state.keeper after.state.keeper)
-  pub next : IfErr r (λ f. f ≡ KeeperFault → IsNext (town before.state.history) e)
-  pub same : OnErr r (after.state.history ≡ before.state.history)
-  pub legal : IsLegal after.state.history
-  pub time : OnOk r (PassesTimeWith before.state.keeper.records before.state.keeper.doubt (code_of e) before.crashes after.crashes)
-  pub time_refused : IfErr r (λ f. PassesTimeUnkept (keep_fault f) before.state.keeper.records before.state.keeper.doubt (code_of e) before.crashes after.crashes)
-
--- a machine that keeps its entry
-pub recorded_by : {P : Type 0} (k : Ghosts P) (before after : Machine P) (e : Entry)
-    (r : Result (Unit {0}) RecordFault) → Keeps k before after e (fault_by keep_fault r)
-    → IsRecorded k.growth k.room (standing_by k.shown k.crashes before)
-    (standing_by k.shown k.crashes after) e r
-recorded_by k before after e (Ok done) s = record {
-  kept = s.kept;
-  refused = tt;
-  next = tt;
-  same = tt;
-  legal = s.legal;
-  time = s.time;
-  time_refused = tt;
-}
-recorded_by k before after e (Err fault) s = record {
-  kept = tt;
-  refused = s.refused;
-  next = λ is. s.next (ap keep_fault is);
-  same = s.same;
-  legal = s.legal;
-  time = tt;
-  time_refused = s.time_refused;
-}
-
 -- what holds without an error, whatever the error is called
 pub claims_by : {F : Type 0} (T : Type 0) (of : F → KeepFault) (r : Result (Unit {0}) F)
     → OnOk (fault_by of r) T → OnOk r T
 claims_by T of (Ok done) t = t
 claims_by T of (Err fault) t = tt
 
--- the turn that it was
-pub record_turn : (growth room : ℕ → ℕ) (before after : Standing) (p : Pair) (came : Came) (m : ℕ) (r : Result (Unit {0}) RecordFault)
-    → IsRecorded growth room before after (tried p came m) r → Turns growth before after (outcome_of (tried p came m) r)
-record_turn growth room before after p came m (Ok done) k = kept_turn growth room before after (tried p came m) k.kept k.time
-record_turn growth room before after p came m (Err KeeperFault) k = failed_turn growth room before after (tried p came m) k.same (k.next refl) (k.refused, k.time_refused)
-record_turn growth room before after p came m (Err Full) k = full_turn growth room before after (tried p came m) k.same (k.refused, k.time_refused)
-record_turn growth room before after p came m (Err Memory) k = memory_turn growth room before after (tried p came m) k.same (k.refused, k.time_refused)
+-- ---- a machine that keeps the entry of an attempt
 
--- the same members and peers
-pub record_callers : (growth room : ℕ → ℕ) (before after : Standing) (p : Pair) (came : Came) (m : ℕ)
-    (r : Result (Unit {0}) RecordFault) → IsRecorded growth room before after (tried p came m) r
-    → callers_in (town after.state.history) ≡ callers_in (town before.state.history)
-record_callers growth room before after p came m (Ok done) k =
-    callers_stay before.state.history after.state.history (tried p came m) refl k.kept.history
-record_callers growth room before after p came m (Err f) k =
-    ap (λ (h : List Entry). callers_in (town h)) k.same
+module _ {P : Type 0} (k : Ghosts P) (before after : Machine P) (p : Pair) (came : Came) (m : ℕ) where
+  abbrev was : Standing
+  was = standing_by k.shown k.crashes before
 
--- the machine still holds its log
-pub record_stands : (growth room : ℕ → ℕ) (opened : State) (first : Crashes) (by : Option ℕ) (before after : Standing) (log now : Log) (p : Pair) (came : Came) (m : ℕ)
-    (r : Result (Unit {0}) RecordFault) → StandsFor growth room opened first before.state before.crashes log → IsRecorded growth room before after (tried p came m) r
-    → now ≡ log ++ made_by by (what_after p came m r) ∷ [] → StandsFor growth room opened first after.state after.crashes now
-record_stands growth room opened first by before after log now p came m (Ok done) s k is =
-    stands_more growth room opened first by before after log now (logs.Kept (tried p came m)) s k.legal (record_turn growth room before after p came m (Ok done) k) is
-record_stands growth room opened first by before after log now p came m (Err KeeperFault) s k is =
-    stands_more growth room opened first by before after log now (logs.Failed (tried p came m)) s k.legal (record_turn growth room before after p came m (Err KeeperFault) k) is
-record_stands growth room opened first by before after log now p came m (Err Full) s k is =
-    stands_silent growth room opened first by (Released p) after.state after.crashes log now (released_silent p) is
-    (stands_more growth room opened first by before after log log (logs.Full (tried p came m)) s k.legal
-    (record_turn growth room before after p came m (Err Full) k) (sym (append-nil log)))
-record_stands growth room opened first by before after log now p came m (Err Memory) s k is =
-    stands_silent growth room opened first by (Released p) after.state after.crashes log now (released_silent p) is
-    (stands_more growth room opened first by before after log log logs.NoEntry s k.legal
-    (record_turn growth room before after p came m (Err Memory) k) (sym (append-nil log)))
+  abbrev now_is : Standing
+  now_is = standing_by k.shown k.crashes after
 
--- what became of the rows
-pub record AreRecorded (h h' : List Entry) (rows new : List QueueRow) (c : Claim) (e : Entry) (r : Result (Unit {0}) RecordFault) : Type 0 where
-  pub claims : OnOk r (KeepsClaims (town h).acts e rows new)
-  pub released : OnErr r (new ≡ change_first (is_claimed_at c.activity c.recipient) release rows)
-  pub counted : claims_in rows ≡ claims_in new + 1
-  pub queue : map release new ≡ rows_of (town h')
+  abbrev e : Entry
+  e = tried p came m
 
--- and its claims are still those of its log
-pub record_claims : (growth room : ℕ → ℕ) (before after : Standing) (by : Option ℕ) (p : Pair) (c : Claim) (came : Came) (m : ℕ) (rows new : List QueueRow) (log now : Log) (front claimed : ℕ)
-    (r : Result (Unit {0}) RecordFault) → IsLegal before.state.history → IsRecorded growth room before after (tried p came m) r
-    → AreRecorded before.state.history after.state.history rows new c (tried p came m) r → HasClaimed by log p c → now ≡ log ++ made_by by (what_after p came m r) ∷ []
-    → IsClaiming (town before.state.history) rows log front claimed → IsClaiming (town after.state.history) new now (front + 1) (claimed - 1)
-record_claims growth room before after by p c came m rows new log now front claimed (Ok done) legal k a has is held =
-    claiming_recorded before.state.history after.state.history by p c came m rows new log now front claimed k.kept.history a.queue has a.claims a.counted is held
-record_claims growth room before after by p c came m rows new log now front claimed (Err KeeperFault) legal k a has is held =
-    claiming_failed before.state.history after.state.history by p c came m rows new log now front claimed legal k.same has a.released a.counted is held
-record_claims growth room before after by p c came m rows new log now front claimed (Err Full) legal k a has is held =
-    claiming_released before.state.history after.state.history by p c rows new log now front claimed legal k.same has a.released a.counted is held
-record_claims growth room before after by p c came m rows new log now front claimed (Err Memory) legal k a has is held =
-    claiming_released before.state.history after.state.history by p c rows new log now front claimed legal k.same has a.released a.counted is held
+  -- its entry was kept, or not, with this result
+  abbrev pub KeepsTried : Result (Unit {0}) RecordFault → Type 0
+  KeepsTried r = Keeps k before after e (fault_by keep_fault r)
 
--- what its contract says
-pub records : (growth room : ℕ → ℕ) (opened : State) (by : Option ℕ) (before after : Standing) (log now : Log) (p : Pair) (came : Came) (m : ℕ) (r : Result (Unit {0}) RecordFault)
-    → Holds (base_of growth room opened) before.state log → IsRecorded growth room before after (tried p came m) r
-    → now ≡ log ++ made_by by (what_after p came m r) ∷ [] → Records (base_of growth room opened) by log now p came m r
-records growth room opened by before after log now p came m r holds k is = record { fits = fits r k; grown = is }
-  where
-    b : Base
-    b = base_of growth room opened
+  -- the turn that it was
+  pub record_turn : (r : Result (Unit {0}) RecordFault) → KeepsTried r
+      → Turns k.growth was now_is (outcome_of e r)
+  record_turn (Ok done) y = kept_turn k.growth k.room was now_is e y.kept y.time
+  record_turn (Err KeeperFault) y =
+      failed_turn k.growth k.room was now_is e y.same (y.next refl) (y.refused, y.time_refused)
+  record_turn (Err Full) y =
+      full_turn k.growth k.room was now_is e y.same (y.refused, y.time_refused)
+  record_turn (Err Memory) y =
+      memory_turn k.growth k.room was now_is e y.same (y.refused, y.time_refused)
 
-    at : (x : Result (Unit {0}) RecordFault) → FitsIf room before.state.keeper.end (length (code_of (tried p came m))) x → FitsIf room (end_of b log) (length (code_of (tried p came m))) x
-    at x fit = subst (λ (n : ℕ). FitsIf room n (length (code_of (tried p came m))) x) holds.keeper.end fit
+  -- the same members and peers
+  pub record_callers : (r : Result (Unit {0}) RecordFault) → KeepsTried r
+      → callers_in (town after.history) ≡ callers_in (town before.history)
+  record_callers (Ok done) y = callers_stay before.history after.history e refl y.kept.history
+  record_callers (Err f) y = ap (λ (h : List Entry). callers_in (town h)) y.same
 
-    fits : (x : Result (Unit {0}) RecordFault) → IsRecorded growth room before after (tried p came m) x → FitsIf room (end_of b log) (length (code_of (tried p came m))) x
-    fits (Ok done) y = at (Ok done) y.kept.fits
-    fits (Err KeeperFault) y = at (Err KeeperFault) y.refused.0
-    fits (Err Full) y = at (Err Full) y.refused.0
-    fits (Err Memory) y = tt
+  -- the machine still holds its log
+  pub record_stands : (opened : State) (first : Crashes) (by : Option ℕ) (log now : Log)
+      (r : Result (Unit {0}) RecordFault)
+      → StandsFor k.growth k.room opened first was.state was.crashes log → KeepsTried r
+      → now ≡ log ++ made_by by (what_after p came m r) ∷ []
+      → StandsFor k.growth k.room opened first now_is.state now_is.crashes now
+  record_stands opened first by log now (Ok done) s y is =
+      stands_more k.growth k.room opened first by was now_is log now (logs.Kept e) s y.legal
+      (record_turn (Ok done) y) is
+  record_stands opened first by log now (Err KeeperFault) s y is =
+      stands_more k.growth k.room opened first by was now_is log now (logs.Failed e) s y.legal
+      (record_turn (Err KeeperFault) y) is
+  record_stands opened first by log now (Err Full) s y is =
+      stands_silent k.growth k.room opened first by (Released p) now_is.state now_is.crashes log now
+      (released_silent p) is
+      (stands_more k.growth k.room opened first by was now_is log log (logs.Full e) s y.legal
+      (record_turn (Err Full) y) (sym (append-nil log)))
+  record_stands opened first by log now (Err Memory) s y is =
+      stands_silent k.growth k.room opened first by (Released p) now_is.state now_is.crashes log now
+      (released_silent p) is
+      (stands_more k.growth k.room opened first by was now_is log log logs.NoEntry s y.legal
+      (record_turn (Err Memory) y) (sym (append-nil log)))
+
+  -- what became of the rows
+  pub record AreRecorded (c : Claim) (r : Result (Unit {0}) RecordFault) : Type 0 where
+    pub claims : OnOk r (KeepsClaims (town before.history).acts e before.rows after.rows)
+    pub released : OnErr r (after.rows
+        ≡ change_first (is_claimed_at c.activity c.recipient) release before.rows)
+    pub counted : claims_in before.rows ≡ claims_in after.rows + 1
+    pub queue : map release after.rows ≡ rows_of (town after.history)
+
+  -- and its claims are still those of its log
+  pub record_claims : (by : Option ℕ) (c : Claim) (log now : Log) (front claimed : ℕ)
+      (r : Result (Unit {0}) RecordFault) → IsLegal before.history → KeepsTried r
+      → AreRecorded c r → HasClaimed by log p c → now ≡ log ++ made_by by (what_after p came m r) ∷ []
+      → IsClaiming (town before.history) before.rows log front claimed
+      → IsClaiming (town after.history) after.rows now (front + 1) (claimed - 1)
+  record_claims by c log now front claimed (Ok done) legal y a has is held =
+      claiming_recorded before.history after.history by p c came m before.rows after.rows log now
+      front claimed y.kept.history a.queue has a.claims a.counted is held
+  record_claims by c log now front claimed (Err KeeperFault) legal y a has is held =
+      claiming_failed before.history after.history by p c came m before.rows after.rows log now
+      front claimed legal y.same has a.released a.counted is held
+  record_claims by c log now front claimed (Err Full) legal y a has is held =
+      claiming_released before.history after.history by p c before.rows after.rows log now
+      front claimed legal y.same has a.released a.counted is held
+  record_claims by c log now front claimed (Err Memory) legal y a has is held =
+      claiming_released before.history after.history by p c before.rows after.rows log now
+      front claimed legal y.same has a.released a.counted is held
+
+  -- what its contract says
+  pub records : (opened : State) (by : Option ℕ) (log now : Log)
+      (r : Result (Unit {0}) RecordFault) → Holds (base_of k.growth k.room opened) was.state log
+      → KeepsTried r → now ≡ log ++ made_by by (what_after p came m r) ∷ []
+      → Records (base_of k.growth k.room opened) by log now p came m r
+  records opened by log now r holds y is = record { fits = fits r y; grown = is }
+    where
+      b : Base
+      b = base_of k.growth k.room opened
+
+      at : (x : Result (Unit {0}) RecordFault)
+          → FitsIf k.room was.state.keeper.end (length (code_of e)) x
+          → FitsIf k.room (end_of b log) (length (code_of e)) x
+      at x fit =
+          subst (λ (n : ℕ). FitsIf k.room n (length (code_of e)) x) holds.keeper.end fit
+
+      fits : (x : Result (Unit {0}) RecordFault) → KeepsTried x
+          → FitsIf k.room (end_of b log) (length (code_of e)) x
+      fits (Ok done) z = at (Ok done) z.kept.fits
+      fits (Err KeeperFault) z = at (Err KeeperFault) z.refused.0
+      fits (Err Full) z = at (Err Full) z.refused.0
+      fits (Err Memory) z = tt

@@ -2,6 +2,7 @@ pub mod Attempts
 pub mod Channels
 pub mod Claiming
 pub mod Conversations
+pub mod Delivering
 pub mod Endings
 pub mod Logs
 pub mod Marks

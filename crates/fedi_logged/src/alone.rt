@@ -1,6 +1,7 @@
 //! A machine that nobody else uses.
-ghost use Rattle.std.specs.Prelude.{◌≡◌, ℕ, IfOk, IsTrue, None, OnErr, is_some};
+ghost use Rattle.std.specs.Prelude.{◌≡◌, [], ℕ, IfOk, IsTrue, None, OnErr, is_some};
 ghost use Rattle.std.proofs.Common.{refl};
+ghost use Rattle.fedi_core.specs.Machines.{Machine};
 ghost use Rattle.fedi_log.specs.Keeping.{GoesAlone, base_of, state_of};
 ghost use Rattle.fedi_log.specs.Log.{Goes, given};
 ghost use Rattle.fedi_queue.specs.Rows.{rows_of};
@@ -13,29 +14,37 @@ ghost use Rattle.fedi_logged.specs.Marks.{Survives};
 ghost use Rattle.fedi_logged.specs.Sessions.{EndsSession};
 
 use crate::channels::Channel;
+use crate::claims::Sending;
+use crate::delivering::Delivers;
 use crate::logged::Logged;
 use crate::opened::Opened;
 use crate::sessions::{SessionEnd, session};
-use crate::turns::Turns;
-use fedi_core::Core;
+use crate::turns::{Answers, Turns};
+use fedi_address::Iri;
+use fedi_core::{Core, RecordFault};
 use fedi_model::Request;
+use fedi_objects::Came;
 use fedi_outside::{Clock, Keeper};
+use fedi_queue::Claim;
 use fedi_routes::{Routes, route};
 use fedi_text::Moment;
 use fedi_visible::Shelf;
 use std::alloc::{AllocError, Global};
 use std::marker::Brand;
 
-/// A machine with its log that nobody else adds to: each item since the opening is by no pass.
+/// A machine with its log that nobody else adds to: each item since the opening is by no pass. If
+/// it answers requests, it has `Routes`.
 #[derive(Drop)]
-pub struct Alone<S: Shelf, P: Keeper, O: Opened> {
-    logged: Logged<S, P, O>,
-    routes: Routes,
+pub struct Alone<S: Shelf, P: Keeper, O: Opened, R> {
+    /// The machine with its log.
+    pub logged: Logged<S, P, O>,
+    /// Where paths lead, or nothing.
+    pub routes: R,
 }
 
-impl<S: Shelf + Drop, P: Keeper, O: Opened> Alone<S, P, O> {
+impl<S: Shelf + Drop, P: Keeper, O: Opened, R: Drop> Alone<S, P, O, R> {
     /// The machine, as it was opened.
-    pub fn of(core: Core<S, P>, routes: Routes) -> Self
+    pub fn of(core: Core<S, P>, routes: R) -> Self
         requires unclaimed { core.rows ≡ rows_of (town core.history) }
         requires opened { O.state ≡ state_of core.history (P.shown core.keeper) }
         requires crashes { AreSame O.crashes (P.crashes core.keeper) }
@@ -61,7 +70,7 @@ impl<S: Shelf + Drop, P: Keeper, O: Opened> Alone<S, P, O> {
     }
 }
 
-impl<S: Shelf + Drop, P: Keeper, O: Opened> Turns for Alone<S, P, O> {
+impl<S: Shelf + Drop, P: Keeper, O: Opened, R: Drop> Turns for Alone<S, P, O, R> {
     ghost by = { λ _. None };
 
     ghost base = { base_of P.growth P.room O.state };
@@ -78,7 +87,9 @@ impl<S: Shelf + Drop, P: Keeper, O: Opened> Turns for Alone<S, P, O> {
     ghost same_both = { λ _ _ _ _ _. tt };
 
     ghost same_by = { λ _ _ _. refl };
+}
 
+impl<S: Shelf + Drop, P: Keeper, O: Opened> Answers for Alone<S, P, O, Routes> {
     fn answer(
         &mut self,
         alloc: Global,
@@ -102,6 +113,46 @@ impl<S: Shelf + Drop, P: Keeper, O: Opened> Turns for Alone<S, P, O> {
     }
 }
 
+impl<S: Shelf + Drop, P: Keeper, O: Opened, R: Drop> Delivers for Alone<S, P, O, R> {
+    ghost Own = { Machine P };
+
+    ghost own = { λ a. record a.logged.core { rows = [] } };
+
+    fn take_up(
+        &mut self,
+        alloc: Global,
+        moment: Moment,
+    ) -> (u64, Result<Option<Sending>, AllocError>) {
+        let front = self.logged.log_length();
+        (front, self.logged.take_up(alloc, None, moment))
+    }
+
+    fn inbox_post(
+        &mut self,
+        alloc: Global,
+        claim: &Claim,
+        inbox: &Iri,
+        body: &[u8],
+    ) -> Result<Vec<u8>, AllocError> {
+        self.logged.inbox_post(alloc, claim, inbox, body)
+    }
+
+    fn release(&mut self, claim: Claim) {
+        self.logged.release(None, claim);
+    }
+
+    fn record(
+        &mut self,
+        alloc: Global,
+        claim: Claim,
+        came: Came,
+        moment: Moment,
+    ) -> (u64, Result<(), RecordFault>) {
+        let front = self.logged.log_length();
+        (front, self.logged.record(alloc, None, claim, came, moment))
+    }
+}
+
 fn serve_opened<S: Shelf + Drop, P: Keeper, O: Opened, H: Channel, C: Clock>(
     alloc: Global,
     core: Core<S, P>,
@@ -122,7 +173,7 @@ fn serve_opened<S: Shelf + Drop, P: Keeper, O: Opened, H: Channel, C: Clock>(
         (faults_on H.read_faults H.write_faults channel.new) result.0 }
     ensures channel { H.same channel.old channel.new }
 {
-    let mut alone = Alone::<S, P, O>::of(core, routes);
+    let mut alone = Alone::<S, P, O, Routes>::of(core, routes);
     let end = session(alloc, &mut alone, channel, clock);
     (end, alone.into_core())
 }

@@ -1,6 +1,6 @@
 //! A turn of a machine with its log.
 ghost use Rattle.std.specs.Prelude.{◌≡◌, ℕ, [], Err, IfOk, IsTrue, Ok, OnErr, Option, is_some};
-ghost use Rattle.std.specs.Prelude.{option_copied};
+ghost use Rattle.std.specs.Prelude.{length, option_copied};
 ghost use Rattle.fedi_log.specs.Keeping.{base_of, state_of};
 ghost use Rattle.fedi_log.specs.Log.{given};
 ghost use Rattle.fedi_model.specs.Answers.{caller_of};
@@ -64,6 +64,13 @@ impl<S: Shelf + Drop, P: Keeper, O: Opened> Logged<S, P, O> {
             claimed: 0,
             of: PhantomData,
         }
+    }
+
+    /// The length of the log.
+    pub fn log_length(&self) -> u64
+        ensures { result ≡ length self.now.log }
+    {
+        self.front
     }
 
     /// The machine, which holds the log.

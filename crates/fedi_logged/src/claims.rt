@@ -1,6 +1,7 @@
 //! Deliveries that a pass has claimed.
 ghost use Rattle.std.specs.Prelude.{◌≡◌, ◌∷◌, [], ◌++◌, ◌≤◌, ℕ, IfOk, OnErr, Option, Some};
-ghost use Rattle.fedi_core.specs.Delivering.{claimed_id, claimed_recipient};
+ghost use Rattle.fedi_core.specs.Delivering.{claimed_id, claimed_recipient, keep_fault};
+ghost use Rattle.fedi_core.specs.Keeping.{Keeps, fault_by};
 ghost use Rattle.fedi_entry.specs.Fields.{MayCome};
 ghost use Rattle.fedi_log.specs.Claims.{HasClaimed};
 ghost use Rattle.fedi_log.specs.Keeping.{base_of};
@@ -8,8 +9,8 @@ ghost use Rattle.fedi_log.specs.Log.{history_of, made_by};
 ghost use Rattle.fedi_log.specs.declared.items.Pair.{Pair};
 ghost use Rattle.fedi_log.specs.declared.items.What.TheVariants.{Released};
 ghost use Rattle.fedi_logged.specs.Claiming.{ChangesClaims, Claims, IsClaimed, IsCrowded};
-ghost use Rattle.fedi_logged.specs.Claiming.{IsPostSince, IsSending, Records, TakesUp, outcome_of};
-ghost use Rattle.fedi_logged.specs.Claiming.{tried, what_after};
+ghost use Rattle.fedi_logged.specs.Claiming.{IsPostSince, IsSending, Records, TakesUp};
+ghost use Rattle.fedi_logged.specs.Claiming.{outcome_of, tried, what_after};
 ghost use Rattle.fedi_logged.specs.Logs.{pair_of, what_of};
 ghost use Rattle.fedi_logged.specs.Turns.{Turns, standing_by};
 ghost use Rattle.fedi_queue.specs.Queues.{IsHeld};
@@ -173,6 +174,15 @@ impl<S: Shelf + Drop, P: Keeper, O: Opened> Logged<S, P, O> {
         self.core.inbox_post(alloc, claim, inbox, body)
     }
 
+    /// The id of the activity of a delivery that some pass has claimed, and its recipient.
+    pub fn claimed_of(&self, claim: &Claim) -> (&Iri, &Iri)
+        requires claimed { (by : Option ℕ) × IsClaimed by self.now.log claim.now }
+        ensures { (by : Option ℕ) (p : Pair) → HasClaimed by self.now.log p claim.now
+            → (result.0.now ≡ p.activity) × (result.1.now ≡ p.recipient) }
+    {
+        (self.core.activity_of(claim), self.core.recipient_of(claim))
+    }
+
     /// Gives up a delivery that the pass of this number has claimed, so that it may be claimed
     /// again. It takes no memory.
     pub fn release(&mut self, by: Option<u64>, claim: Claim)
@@ -209,6 +219,9 @@ impl<S: Shelf + Drop, P: Keeper, O: Opened> Logged<S, P, O> {
         ensures recorded { (p : Pair) → HasClaimed by self.old.log p claim
             → Records (base_of P.growth P.room O.state) by self.old.log self.new.log
             p came moment result }
+        ensures machine { (p : Pair) → HasClaimed by self.old.log p claim
+            → Keeps P.Keeper self.old.core self.new.core
+            (tried p came moment) (fault_by keep_fault result) }
         // A crash during the turn leaves the records, followed by at most one more: the one in
         // doubt, or that of the entry.
         ensures turn { (p : Pair) → HasClaimed by self.old.log p claim

@@ -12,6 +12,7 @@ mod channels;
 mod claims;
 mod connection;
 mod conversations;
+mod delivering;
 mod laws;
 mod logged;
 mod noted;
@@ -28,10 +29,11 @@ pub use conversations::{
     conversations_are_determined, conversations_have_no_gaps, conversations_own_their_items,
     conversations_stand_in_the_log, conversations_stay, failures_are_marked,
 };
+pub use delivering::{Delivers, Step, Tried, attempt_next, deliver_one};
 pub use laws::acknowledged_entries_survive;
 pub use logged::Logged;
 pub use noted::{Deed, Delivery, Noted};
 pub use opened::Opened;
 pub use refusals::refusal_text;
 pub use sessions::{SessionEnd, exchange, session};
-pub use turns::Turns;
+pub use turns::{Answers, Turns};

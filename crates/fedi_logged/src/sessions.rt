@@ -7,7 +7,7 @@ ghost use Rattle.fedi_logged.specs.Turning.{setting_at};
 
 use crate::channels::Channel;
 use crate::refusals::refusal_text;
-use crate::turns::Turns;
+use crate::turns::Answers;
 use fedi_http::{Arrived, Buffer, memory_text};
 use fedi_model::Request;
 use fedi_outside::{Clock, Failed};
@@ -74,7 +74,7 @@ fn is_last(request: &Request, served: u64) -> bool
 
 /// Reads the next request and answers it, after this many were served. The bytes after it stay
 /// pending. Returns how the session ends, if it does.
-pub fn exchange<T: Turns, H: Channel, C: Clock>(
+pub fn exchange<T: Answers, H: Channel, C: Clock>(
     alloc: Global,
     turns: &mut T,
     channel: &mut H,
@@ -116,7 +116,7 @@ pub fn exchange<T: Turns, H: Channel, C: Clock>(
 
 /// Serves one connection: answers the requests on the channel one after another, until it ends, a
 /// reply closes it, or a read or a write fails (RFC 9112, sections 9.3 and 9.6).
-pub fn session<T: Turns, H: Channel, C: Clock>(
+pub fn session<T: Answers, H: Channel, C: Clock>(
     alloc: Global,
     turns: &mut T,
     channel: &mut H,

@@ -1,4 +1,4 @@
-//! A machine that answers requests, each in one turn.
+//! A machine that is used in turns.
 ghost use Rattle.std.specs.Prelude.{◌≡◌, ℕ, IfOk, OnErr, Option};
 ghost use Rattle.fedi_log.specs.Keeping.{Base};
 ghost use Rattle.fedi_log.specs.Log.{Goes, Log};
@@ -8,8 +8,7 @@ use fedi_model::Request;
 use fedi_text::Moment;
 use std::alloc::{AllocError, Global};
 
-/// A machine that serves one connection after another: it answers requests, each in one turn.
-/// Between two turns others may add to the log of the machine.
+/// A machine that is used in turns. Between two turns others may add to the log of the machine.
 pub trait Turns {
     /// The number of the pass that it adds to the log as, if others add to the log too.
     ghost by: { Self → Option ℕ };
@@ -27,6 +26,19 @@ pub trait Turns {
     /// and what it borrows.
     ghost same: { Self → Self → Type 0 };
 
+    /// Without a turn, nothing changes.
+    ghost same_none: { (turns : Self) → same turns turns };
+
+    /// What neither of two turns changes stays the same over both.
+    ghost same_both: { (first middle last : Self)
+        → same first middle → same middle last → same first last };
+
+    /// The pass is part of it.
+    ghost same_by: { (before after : Self) → same before after → by after ≡ by before };
+}
+
+/// A machine that serves one connection after another: it answers requests, each in one turn.
+pub trait Answers: Turns {
     /// Answers a request that has this body in one turn. Returns the text of the reply, which has
     /// no body if the method is HEAD and says that the connection closes if `closing`. The error is
     /// out of memory, and then nothing was kept, and the keeper did not fail.
@@ -38,20 +50,12 @@ pub trait Turns {
         moment: Moment,
         closing: bool,
     ) -> Result<Vec<u8>, AllocError>
-        requires ready { ready self.old }
-        ensures ready { ready self.new }
-        ensures same { same self.old self.new }
-        ensures text { IfOk result (λ text. TurnTells base (by self.old) (seen self.old)
-            (seen self.new) moment request.now body.now closing text.items) }
-        ensures lacking { OnErr result (Goes (by self.old) (seen self.old) (seen self.new)) };
-
-    /// Without a turn, nothing changes.
-    ghost same_none: { (turns : Self) → same turns turns };
-
-    /// What neither of two turns changes stays the same over both.
-    ghost same_both: { (first middle last : Self)
-        → same first middle → same middle last → same first last };
-
-    /// The pass is part of it.
-    ghost same_by: { (before after : Self) → same before after → by after ≡ by before };
+        requires ready { Self.ready self.old }
+        ensures ready { Self.ready self.new }
+        ensures same { Self.same self.old self.new }
+        ensures text { IfOk result (λ text. TurnTells Self.base (Self.by self.old)
+            (Self.seen self.old) (Self.seen self.new)
+            moment request.now body.now closing text.items) }
+        ensures lacking { OnErr result
+            (Goes (Self.by self.old) (Self.seen self.old) (Self.seen self.new)) };
 }

@@ -1,5 +1,5 @@
 -- How trials follow one another, and how their trying ends.
-use Rattle.std.proofs.Common.{◌≡◌, ◌⊎◌, ℕ, ◌+◌, ◌-◌, ◌≤◌, true, List, [], ◌∷◌, ◌++◌, length, Option, None, Some, Ok, Err, arith, inl, inr, refl, sym, ap, subst, ◌∙◌, append-nil, codes}
+use Rattle.std.proofs.Common.{◌≡◌, ◌⊎◌, ℕ, ◌+◌, ◌-◌, ◌≤◌, false, true, List, [], ◌∷◌, ◌++◌, length, Option, None, Some, Ok, Err, arith, inl, inr, refl, sym, ap, subst, ◌∙◌, append-nil, codes}
 use Rattle.std.proofs.lemmas.Grind.{flat_map-append}
 use Rattle.std.proofs.lemmas.List.{length-append}
 use Rattle.fedi_core.specs.Keeping.{IsKept, Refuses}
@@ -9,14 +9,15 @@ use Rattle.fedi_queue.proofs.Due.{attempts_leave}
 use Rattle.fedi_queue.specs.Due.{IsTo, due_in}
 use Rattle.fedi_entry.specs.Codes.{code_of}
 use Rattle.fedi_log.proofs.Keeping.{unchanged}
-use Rattle.fedi_log.specs.Keeping.{Base, State}
+use Rattle.fedi_log.specs.Keeping.{Base, Keeps, State}
 use Rattle.fedi_log.specs.Log.{Failed, Log, NoEntry, items_of}
 use Rattle.fedi_logged.proofs.Crashing.{survives_more}
 use Rattle.fedi_logged.specs.Marks.{Survives, SurvivesMarked}
-use Rattle.fedi_logged.specs.Turns.{Standing, SurvivesTurn, Turns}
+use Rattle.fedi_logged.specs.Turns.{Standing, Turns}
 use Rattle.fedi_objects.specs.declared.entry.Entry.{Entry}
+use Rattle.fedi_objects.specs.declared.entry.Entry.TheVariants.{Tried}
 use Rattle.fedi_opening.specs.Opening.{IsNext}
-use Rattle.fedi_outside.specs.Keepers.{Crashes, OnlyRoomChanged, PassesTime, after_fault}
+use Rattle.fedi_outside.specs.Keepers.{Crashes, KeeperState, OnlyRoomChanged, PassesTime, after_fault}
 use Rattle.fedi_startup.specs.Surviving.{growth, room}
 use Rattle.fedi_logged.specs.Conversations.{IsNow}
 use Rattle.fedi_logged.specs.Endings.{BreaksOff, Output, Writes, WritesUnlessFailed}
@@ -27,12 +28,13 @@ use Rattle.fedi_program.specs.Commands.{Deliver}
 use Rattle.fedi_logged.specs.Attempts.{Exchange, HasExchanged}
 use Rattle.fedi_logged.proofs.Attempts.{exchanged_more, exchanged_none}
 use Rattle.fedi_logged.proofs.SessionLemmas.{writes_on, breaks_on, unless_failed_on}
-use Rattle.fedi_program.specs.Delivering.{AreFirst, EndsTrial, EndsTrying, IsAttempt, IsStopped, TellsDone, Trial, TrialSurvives, TriesDue, TriesEach, done_line, entry_of, exchanges_of, line_of, lines_of}
+use Rattle.fedi_program.specs.Members.{IsSettled}
+use Rattle.fedi_program.specs.Delivering.{AreFirst, DoesNothing, EndsNext, EndsTrial, EndsTrying, IsAttempt, IsStopped, TellsDone, Trial, TriesDue, TriesEach, TriesFirst, done_line, entry_of, exchanges_of, line_of, lines_of}
 use Rattle.fedi_program.specs.declared.delivering.Stop.{Stop}
 use Rattle.fedi_program.specs.declared.delivering.Stop.TheVariants.{WriteFault, KeeperFault, Full, Memory}
 use Rattle.fedi_program.specs.Endings.{Prints}
 use Rattle.fedi_program.specs.Runs.{is_status_of}
-use Rattle.fedi_program.proofs.MemberLemmas.{failed_again, settled_turn}
+use Rattle.fedi_program.proofs.MemberLemmas.{failed_again}
 use Rattle.fedi_program.proofs.RunLemmas.{known_status}
 
 -- ---- one trial more
@@ -162,21 +164,67 @@ trying_done growth room told moment count opened now asked heard first out last 
     of (inl p) = inl (p.0, writes_on first out last (lines_of t.tried) (done_line (length t.tried)) t.written p.1)
     of (inr p) = inr (p.0, breaks_on first out last (lines_of t.tried) (done_line (length t.tried)) t.written p.1)
 
--- there was no memory to begin
-pub trying_none : (growth room : ℕ → ℕ) (told : Option ℕ) (moment : ℕ) (opened : State) (link : Told) (out : Output) (status : ℕ) → IsNow told moment → status ≡ 12 → Writes out out []
-    → TriesDue growth room told opened opened link link out out status
-trying_none growth room told moment opened link out status is_now is nothing = record {
-  moment = moment;
-  is_now = is_now;
-  tried = [];
-  left = due_in (town opened.history) moment;
-  last = opened;
-  beyond = [];
-  each = refl;
-  due = refl;
-  exchanged = exchanged_none link;
-  ends = inr (inr (inr (is, refl, record { records = refl; held = refl; doubt = refl; end = refl; faults = refl }, nothing, inl refl)));
+-- nothing was done
+pub trying_still : (growth room : ℕ → ℕ) (moment : ℕ) (opened now next : State)
+    (asked heard later : Told) (first out after : Output)
+    → IsTrying growth room moment opened now asked heard first out
+    → DoesNothing now next heard later out after
+    → IsTrying growth room moment opened next asked later first after
+trying_still growth room moment opened now next asked heard later first out after t d = record {
+  tried = t.tried;
+  each = subst (TriesEach growth room moment opened t.tried) (sym d.same) t.each;
+  due = subst (λ (s : State). AreFirst (due_in (town opened.history) moment) t.tried
+      (due_in (town s.history) moment)) (sym d.same) t.due;
+  exchanged = subst (HasExchanged asked later) (append-nil (exchanges_of t.tried))
+      (exchanged_more asked heard later (exchanges_of t.tried) [] t.exchanged d.silent);
+  written = subst (λ (o : Output). Writes first o (lines_of t.tried)) (sym d.unwritten) t.written;
 }
+
+-- there was none to try, and the last line was printed, or that write failed
+pub done_due : (growth room : ℕ → ℕ) (told : Option ℕ) (moment count : ℕ) (opened now next : State)
+    (asked heard later : Told) (first out mid last : Output) (status : ℕ) → IsNow told moment
+    → IsTrying growth room moment opened now asked heard first out
+    → EndsNext growth room moment now next heard later out mid (Ok false)
+    → count ≡ length next.history - length opened.history
+    → Prints mid last (done_line count) status
+    → TriesDue growth room told opened next asked later first last status
+done_due growth room told moment count opened now next asked heard later first out mid last status
+    is_now t (none, d) counted prints =
+    trying_done growth room told moment count opened next asked later first mid last status is_now
+    (trying_still growth room moment opened now next asked heard later first out mid t d)
+    (ap (λ (s : State). due_in (town s.history) moment) d.same ∙ none) counted prints
+
+-- there was no memory to begin the next
+pub trying_lacked : (growth room : ℕ → ℕ) (told : Option ℕ) (moment : ℕ) (opened now after : State)
+    (asked heard : Told) (first out last : Output) (status : ℕ) → IsNow told moment
+    → IsTrying growth room moment opened now asked heard first out
+    → IsStopped Memory now after out last status
+    → TriesDue growth room told opened after asked heard first last status
+trying_lacked growth room told moment opened now after asked heard first out last status is_now t
+    (is_twelve, same, quiet) = record {
+      moment = moment;
+      is_now = is_now;
+      tried = t.tried;
+      left = due_in (town now.history) moment;
+      last = now;
+      beyond = [];
+      each = t.each;
+      due = t.due;
+      exchanged = none-beyond asked heard t.tried t.exchanged;
+      ends = inr (inr (inr (
+        is_twelve,
+        ap (λ (s : State). s.history) same,
+        record {
+          records = ap (λ (s : State). s.keeper.records) same;
+          held = ap (λ (s : State). s.keeper.held) same;
+          doubt = ap (λ (s : State). s.keeper.doubt) same;
+          end = ap (λ (s : State). s.keeper.end) same;
+          faults = ap (λ (s : State). s.keeper.faults) same;
+        },
+        subst (λ (o : Output). Writes first o (lines_of t.tried)) (sym quiet) t.written,
+        inl refl,
+      )));
+    }
 
 -- the result of one more attempt was not kept, or not reported
 pub trying_stopped : (growth room : ℕ → ℕ) (told : Option ℕ) (moment : ℕ) (opened now refused after : State) (asked heard later : Told) (first out mid last : Output)
@@ -212,7 +260,7 @@ trying_stopped growth room told moment opened now refused after asked heard late
       ));
     }
 trying_stopped growth room told moment opened now refused after asked heard later first out mid last id recipient d rest KeeperFault status is_now t is to
-    (exchanges, came, shows, exchanged, still, refuses, silent) (is_five, settled, tells) =
+    (exchanges, came, shows, exchanged, still, refuses, next, silent) (is_five, settled, tells) =
     let x : Trial = record { activity = id; recipient = recipient; exchanges = exchanges; came = came } in
     record {
       moment = moment;
@@ -287,6 +335,35 @@ trying_stopped growth room told moment opened now refused after asked heard late
       )));
     }
 
+-- the first of what was due was tried
+pub sent_more : (growth room : ℕ → ℕ) (moment : ℕ) (opened now next : State)
+    (asked heard later : Told) (first out after : Output)
+    → IsTrying growth room moment opened now asked heard first out → IsLegal next.history
+    → (f : TriesFirst growth room moment now next heard later out after (Ok tt))
+    → IsTrying growth room moment opened next asked later first after
+    × (due_in (town next.history) moment ≡ f.rest)
+sent_more growth room moment opened now next asked heard later first out after t legal f =
+    trial_more growth room moment opened now next asked heard later first out after f.id f.recipient
+    f.delivery f.rest tt t f.due f.to legal f.ends
+
+-- no more is tried
+pub ended_due : (growth room : ℕ → ℕ) (told : Option ℕ) (moment : ℕ)
+    (opened now refused after : State) (asked heard later : Told) (first out mid last : Output)
+    (stop : Stop) (status : ℕ) → IsNow told moment
+    → IsTrying growth room moment opened now asked heard first out
+    → EndsNext growth room moment now refused heard later out mid (Err stop)
+    → IsStopped stop refused after mid last status
+    → TriesDue growth room told opened after asked later first last status
+ended_due growth room told moment opened now refused after asked heard later first out mid last stop
+    status is_now t (inl f) is =
+    trying_stopped growth room told moment opened now refused after asked heard later first out mid
+    last f.id f.recipient f.delivery f.rest stop status is_now t f.due f.to f.ends is
+ended_due growth room told moment opened now refused after asked heard later first out mid last stop
+    status is_now t (inr (none, d)) is =
+    trying_lacked growth room told moment opened refused after asked later first mid last status
+    is_now (trying_still growth room moment opened now refused asked heard later first out mid t d)
+    (subst (λ (s : Stop). IsStopped s refused after mid last status) none is)
+
 -- ---- the status
 
 ends-status : (room : ℕ → ℕ) (moment : ℕ) (last after : State) (tried : List Trial) (left : List Delivery) (beyond : List Exchange) (first now : Output) (status : ℕ)
@@ -310,44 +387,71 @@ still-turn growth before after same time = record {
   may_fail = tt;
 }
 
--- two turns
-two : (b : Base) (seen log : Log) (x : Crashes) (before refused after : Standing) → SurvivesTurn b.growth before refused
-    → Survives b None seen log before.state x before.crashes → after.state ≡ refused.state
-    → PassesTime refused.state.keeper.records refused.state.keeper.doubt refused.crashes after.crashes → SurvivesMarked b None seen after.state x after.crashes
-two b seen log x before refused after trial was same time = (
-  (log ++ items_of None trial.0) ++ items_of None NoEntry,
-  survives_more b None seen (log ++ items_of None trial.0) x refused after NoEntry
-      (survives_more b None seen log x before refused trial.0 was trial.1) (still-turn b.growth refused after same time),
-)
+-- what was in doubt is settled
+undoubted : (b : Base) (seen log : Log) (x y : Crashes) (refused after : State)
+    → after.history ≡ refused.history → after.keeper ≡ record refused.keeper { doubt = None }
+    → Survives b None seen log refused x y → Survives b None seen log after x y
+undoubted b seen log x y refused after still settled s =
+    let k = s.holds.holds.keeper in
+    let kept : Keeps b (record refused.keeper { doubt = None }) log = record {
+      opened = k.opened;
+      records = k.records;
+      end = k.end;
+      doubt = tt;
+      faults = k.faults;
+    } in
+    record {
+      holds = record {
+        grown = s.holds.grown;
+        holds = record {
+          history = still ∙ s.holds.holds.history;
+          keeper = subst (λ (q : KeeperState). Keeps b q log) (sym settled) kept;
+        };
+      };
+      crashes = s.crashes;
+      marks = s.marks;
+    }
 
--- the trial left what a turn leaves
-pub trial_survives : (b : Base) (seen : Log) (x : Crashes) (before after : Standing) → SurvivesMarked b None seen before.state x before.crashes
-    → SurvivesTurn b.growth before after → SurvivesMarked b None seen after.state x after.crashes
-trial_survives b seen x before after was turn = (was.0 ++ items_of None turn.0, survives_more b None seen was.0 x before after turn.0 was.1 turn.1)
-
--- whatever the trial left, the machine represents a log
-pub stopped_survives : (b : Base) (room : ℕ → ℕ) (seen : Log) (x : Crashes) (before refused after : Standing) (stop : Stop) (first now : Output) (status : ℕ)
-    → SurvivesMarked b None seen before.state x before.crashes → TrialSurvives b.growth room before refused (Err stop)
-    → IsStopped stop refused.state after.state first now status
-    → PassesTime refused.state.keeper.records refused.state.keeper.doubt refused.crashes after.crashes → SurvivesMarked b None seen after.state x after.crashes
-stopped_survives b room seen x before refused after WriteFault first now status was trial is time = two b seen was.0 x before refused after trial was.1 is.1 time
-stopped_survives b room seen x before refused after Full first now status was trial is time = two b seen was.0 x before refused after trial was.1 is.1 time
-stopped_survives b room seen x before refused after Memory first now status was trial is time = two b seen was.0 x before refused after trial was.1 is.1 time
-stopped_survives b room seen x before refused after KeeperFault first now status (log, was) (e, refuses, turn) (is, settled, tells) time = of settled.1
+-- whatever stopped it, the machine represents a log: a failure to settle is marked once more
+pub stopped_survives : (growth room : ℕ → ℕ) (b : Base) (m : ℕ) (before : State) (seen log : Log)
+    (x : Crashes) (refused after : Standing) (asked heard : Told) (first mid last : Output)
+    (stop : Stop) (status : ℕ)
+    → Survives b None seen log refused.state x refused.crashes
+    → EndsNext growth room m before refused.state asked heard first mid (Err stop)
+    → IsStopped stop refused.state after.state mid last status
+    → PassesTime refused.state.keeper.records refused.state.keeper.doubt refused.crashes after.crashes
+    → SurvivesMarked b None seen after.state x after.crashes
+stopped_survives growth room b m before seen log x refused after asked heard first mid last stop
+    status was ends is time = of stop ends is
   where
-    same : refused.state.history ≡ before.state.history
-    same = turn.follows.history ∙ append-nil before.state.history
+    still : (s : State) → s ≡ refused.state
+        → Survives b None seen (log ++ items_of None NoEntry) s x after.crashes
+    still s same = survives_more b None seen log x refused (record { state = s; crashes = after.crashes })
+        NoEntry was (still-turn b.growth refused (record { state = s; crashes = after.crashes }) same
+        time)
 
-    of : (after.state.keeper ≡ record refused.state.keeper { doubt = None }) ⊎ (after.state.keeper ≡ after_fault refused.state.keeper)
+    settled : (e : Entry) → IsNext (town refused.state.history) e
+        → IsSettled refused.state after.state
         → SurvivesMarked b None seen after.state x after.crashes
-    of (inl done) = (
+    settled e next (same, inl done) = (
+      log ++ items_of None NoEntry,
+      undoubted b seen (log ++ items_of None NoEntry) x after.crashes refused.state after.state same
+          done (still refused.state refl),
+    )
+    settled e next (same, inr failed) = (
       log ++ items_of None (Failed e),
-      survives_more b None seen log x before after (Failed e) was
-          (settled_turn b.growth room before refused after e same turn.may_fail (refuses, turn.passes) settled.0 done time),
+      survives_more b None seen log x refused after (Failed e) was
+          (failed_again b.growth refused after e next same failed time),
     )
-    of (inr failed) = (
-      (log ++ items_of None (Failed e)) ++ items_of None (Failed e),
-      survives_more b None seen (log ++ items_of None (Failed e)) x refused after (Failed e)
-          (survives_more b None seen log x before refused (Failed e) was turn)
-          (failed_again b.growth refused after e (subst (λ (h : List Entry). IsNext (town h) e) (sym same) turn.may_fail) settled.0 failed time),
-    )
+
+    of : (s : Stop) → EndsNext growth room m before refused.state asked heard first mid (Err s)
+        → IsStopped s refused.state after.state mid last status
+        → SurvivesMarked b None seen after.state x after.crashes
+    of WriteFault ends is = (log ++ items_of None NoEntry, still after.state is.1)
+    of Full ends is = (log ++ items_of None NoEntry, still after.state is.1)
+    of Memory ends is = (log ++ items_of None NoEntry, still after.state is.1)
+    of KeeperFault (inr (never, same)) is = absurd (cc never)
+    of KeeperFault (inl f) is =
+        let e = Tried f.id f.recipient f.ends.1 m in
+        let same : refused.state.history ≡ before.history = f.ends.4 in
+        settled e (subst (λ (h : List Entry). IsNext (town h) e) (sym same) f.ends.6) is.1

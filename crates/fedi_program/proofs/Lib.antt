@@ -1,5 +1,4 @@
 pub mod CheckLemmas
-pub mod ClaimLemmas
 pub mod CompleteLemmas
 pub mod DeliverLemmas
 pub mod Examples
@@ -7,9 +6,9 @@ pub mod HeadlineLemmas
 pub mod MemberLemmas
 pub mod MigrateLemmas
 pub mod MigratingLemmas
+pub mod NextLemmas
 pub mod NumberLemmas
 pub mod PeerLemmas
 pub mod RunLemmas
 pub mod StoreLemmas
-pub mod TrialLemmas
 pub mod WordLemmas

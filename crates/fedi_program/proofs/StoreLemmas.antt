@@ -13,6 +13,7 @@ use Rattle.fedi_log.specs.Log.{Log, given}
 use Rattle.fedi_objects.specs.declared.entry.Entry.TheVariants.{Hosted}
 use Rattle.fedi_outside.proofs.Untouched.{untouched_now}
 use Rattle.fedi_outside.specs.Disks.{DiskCrashes, DiskState, IsUntouched}
+use Rattle.fedi_outside.specs.Keepers.{Crashes}
 use Rattle.fedi_startup.proofs.OpeningSteps.{begins_so}
 use Rattle.fedi_startup.proofs.Stored.{leaves_stores, stores_along, stores_found}
 use Rattle.fedi_startup.proofs.Surviving.{survives_on_disk}
@@ -32,113 +33,180 @@ use Rattle.fedi_outside.specs.declared.disks.Disk.{Ghosts as DiskGhosts}
 use Rattle.fedi_outside.specs.declared.doors.Bench.{Bench}
 use Rattle.fedi_outside.specs.declared.doors.Door.{Ghosts as DoorGhosts}
 use Rattle.fedi_outside.specs.declared.links.Link.{Ghosts as LinkGhosts}
-use Rattle.fedi_program.specs.Seen.{tells}
+use Rattle.fedi_program.specs.Seen.{Medium, medium, tells}
 use Rattle.fedi_program.specs.Serving.{ServesDoors, status_after}
 use Rattle.fedi_program.specs.Stores.{ChecksStore, Counts, EndsMaking, ExportsStore, IsRefused, IsRunAlone, IsServed, IsServedAlone, MakesStore, PrintsTable, ServesStore, table_text}
 use Rattle.fedi_program.specs.declared.commands.Table.{Table}
 use Rattle.fedi_town.specs.Histories.{town}
 
--- A machine was opened over a disk, and its keeper then survived along a log.
-pub served : (start found later : DiskState) (before middle after : DiskCrashes) (opened closed : State) (log : Log) (count : ℕ)
-    → IsOpened start opened → opened.keeper.records ≡ records_told chained count found → IsUntouched start found before middle
-    → ((image : List ℕ) → before.left_since before.clock image → before.may_leave image)
-    → IfSome start.reads (λ _. LeavesFiles middle (records_of opened.history) None) → ((image : List ℕ) → middle.left_since middle.clock image → middle.may_leave image)
-    → HoldsFrom (opened_base opened) (given opened.history) closed log
-    → CrashesAlong (opened_base opened) log (record_crashes chained found middle) (record_crashes chained later after) → MarksMayCome [] log
-    → IsClosed later after closed
-    → IsServed (record { shown = start; crashes = before }) (record { shown = later; crashes = after }) opened closed log
-served start found later before middle after opened closed log count opens told same first left only holds crashes marks closes = record {
+-- A machine was opened over a disk, which then was as it was found, did something, and was closed.
+pub record IsOver (before found after : Medium) (opened closed : State) : Type 0 where
+  pub opens : IsOpened before.shown opened
+  pub count : ℕ
+  pub told : opened.keeper.records ≡ records_told chained count found.shown
+  pub untouched : IsUntouched before.shown found.shown before.crashes found.crashes
+  pub leaves : IfSome before.shown.reads
+      (λ _. LeavesFiles found.crashes (records_of opened.history) None)
+  pub first : (image : List ℕ) → before.crashes.left_since before.crashes.clock image
+      → before.crashes.may_leave image
+  pub only : (image : List ℕ) → found.crashes.left_since found.crashes.clock image
+      → found.crashes.may_leave image
+  pub closes : IsClosed after.shown after.crashes closed
+
+-- what an opening and a closing say of the disk
+pub over : {D : Type 0} (disks : DiskGhosts D)
+    → ((d : D) (image : List ℕ) → (disks.crashes d).left_since (disks.crashes d).clock image
+    → (disks.crashes d).may_leave image)
+    → (disk found last : D) (opened closed : State) (count : ℕ)
+    → IsOpened (disks.shown disk) opened
+    → opened.keeper.records ≡ records_told chained count (disks.shown found)
+    → IsUntouched (disks.shown disk) (disks.shown found) (disks.crashes disk) (disks.crashes found)
+    → IfSome (disks.shown disk).reads
+    (λ _. LeavesFiles (disks.crashes found) (records_of opened.history) None)
+    → IsClosed (disks.shown last) (disks.crashes last) closed
+    → IsOver (medium disks disk) (medium disks found) (medium disks last) opened closed
+over disks only disk found last opened closed count opens told untouched leaves closes = record {
   opens = opens;
+  count = count;
+  told = told;
+  untouched = untouched;
+  leaves = leaves;
+  first = only disk;
+  only = only found;
   closes = closes;
-  holds = holds;
-  marks = marks;
-  leaves = leaves_stores later after opened closed log opens.some holds closes;
-  files = files;
-  stores = with_all start.reads files;
-  found = with_found start.reads files;
 }
-  where
-    files : IfSome start.reads (λ _. SurvivesOnDisk before after opened log)
-    files = survives_on_disk start found later before middle after opened log count opens told same first left only crashes
 
-    with_all : (reads : Option (List ℕ)) → IfSome reads (λ _. SurvivesOnDisk before after opened log)
-        → IfSome reads (λ _. LeavesStoresAlong before after opened.history (since (opened_base opened) log))
-    with_all None all = tt
-    with_all (Some bytes) all = stores_along before after opened closed log opens.some opens.doubt closes.sound holds marks all
+-- what a crash may leave of the records on this disk
+abbrev left : Medium → Crashes
+left m = record_crashes chained m.shown m.crashes
 
-    with_found : (reads : Option (List ℕ)) → IfSome reads (λ _. SurvivesOnDisk before after opened log)
-        → IfSome reads (λ _. LeavesStoresFound before after opened.history (since (opened_base opened) log))
-    with_found None all = tt
-    with_found (Some bytes) all = stores_found before after opened closed log opens.some opens.doubt closes.sound holds marks all
+module _ (before found after : Medium) (opened closed : State) where
+  -- its keeper survived along a log
+  pub served : (log : Log) → IsOver before found after opened closed
+      → HoldsFrom (opened_base opened) (given opened.history) closed log
+      → CrashesAlong (opened_base opened) log (left found) (left after) → MarksMayCome [] log
+      → IsServed before after opened closed log
+  served log k holds crashes marks = record {
+    opens = k.opens;
+    closes = k.closes;
+    holds = holds;
+    marks = marks;
+    leaves = leaves_stores after.shown after.crashes opened closed log k.opens.some holds k.closes;
+    files = files;
+    stores = with_all before.shown.reads files;
+    found = with_found before.shown.reads files;
+  }
+    where
+      files : IfSome before.shown.reads (λ _. SurvivesOnDisk before.crashes after.crashes opened log)
+      files = survives_on_disk before.shown found.shown after.shown before.crashes found.crashes
+          after.crashes opened log k.count k.opens k.told k.untouched k.first k.leaves k.only crashes
 
--- and nobody else added to the log
-served_alone : (start found later : DiskState) (before middle after : DiskCrashes) (opened closed : State) (log : Log) (count : ℕ)
-    → IsOpened start opened → opened.keeper.records ≡ records_told chained count found → IsUntouched start found before middle
-    → ((image : List ℕ) → before.left_since before.clock image → before.may_leave image)
-    → IfSome start.reads (λ _. LeavesFiles middle (records_of opened.history) None) → ((image : List ℕ) → middle.left_since middle.clock image → middle.may_leave image)
-    → Survives (opened_base opened) None (given opened.history) log closed (record_crashes chained found middle) (record_crashes chained later after)
-    → IsClosed later after closed
-    → IsServedAlone (record { shown = start; crashes = before }) (record { shown = later; crashes = after }) opened closed log
-served_alone start found later before middle after opened closed log count opens told same first left only survives closes =
-    let alone = survives.holds.grown in
-    let holds : HoldsFrom (opened_base opened) (given opened.history) closed log = record { past = alone.past; is = alone.is; holds = survives.holds.holds } in
-    (served start found later before middle after opened closed log count opens told same first left only holds survives.crashes survives.marks closes, alone)
+      with_all : (reads : Option (List ℕ))
+          → IfSome reads (λ _. SurvivesOnDisk before.crashes after.crashes opened log)
+          → IfSome reads (λ _. LeavesStoresAlong before.crashes after.crashes opened.history
+          (since (opened_base opened) log))
+      with_all None all = tt
+      with_all (Some bytes) all = stores_along before.crashes after.crashes opened closed log
+          k.opens.some k.opens.doubt k.closes.sound holds marks all
 
--- and served a connection in between
-pub serves : (told : Option ℕ) (start found later : DiskState) (before middle after : DiskCrashes) (opened closed : State) (log : Log) (count : ℕ) (first now : Scene) (status : ℕ)
-    → IsOpened start opened → opened.keeper.records ≡ records_told chained count found → IsUntouched start found before middle
-    → ((image : List ℕ) → before.left_since before.clock image → before.may_leave image)
-    → IfSome start.reads (λ _. LeavesFiles middle (records_of opened.history) None) → ((image : List ℕ) → middle.left_since middle.clock image → middle.may_leave image)
-    → Survives (opened_base opened) None (given opened.history) log closed (record_crashes chained found middle) (record_crashes chained later after)
-    → IsClosed later after closed
-    → RunsTo (setting_by growth room told None opened) opened log first now status
-    → ServesStore told (record { shown = start; crashes = before }) (record { shown = later; crashes = after }) first now status
-serves told start found later before middle after opened closed log count first now status opens records same before_now left only survives closes runs =
-    inr (opened, closed, log, served_alone start found later before middle after opened closed log count opens records same before_now left only survives closes, runs)
+      with_found : (reads : Option (List ℕ))
+          → IfSome reads (λ _. SurvivesOnDisk before.crashes after.crashes opened log)
+          → IfSome reads (λ _. LeavesStoresFound before.crashes after.crashes opened.history
+          (since (opened_base opened) log))
+      with_found None all = tt
+      with_found (Some bytes) all = stores_found before.crashes after.crashes opened closed log
+          k.opens.some k.opens.doubt k.closes.sound holds marks all
 
--- or served those of many doors
-pub serves_doors : {W L K : Type 0} (doors : DoorGhosts W L) (links : LinkGhosts K) (told : Option ℕ) (start found later : DiskState) (before middle after : DiskCrashes)
-    (opened closed : State) (count : ℕ) (first now : List (Bench W K)) (status : ℕ)
-    → IsOpened start opened → opened.keeper.records ≡ records_told chained count found → IsUntouched start found before middle
-    → ((image : List ℕ) → before.left_since before.clock image → before.may_leave image)
-    → IfSome start.reads (λ _. LeavesFiles middle (records_of opened.history) None) → ((image : List ℕ) → middle.left_since middle.clock image → middle.may_leave image)
-    → ServesAll growth room told opened (record_crashes chained found middle) closed (record_crashes chained later after) doors.served (tells links) first now
-    → IsClosed later after closed
-    → (ending : ServeEnd) × (status ≡ status_after ending) × EndsServing doors.closed doors.faults first now ending
-    → ServesDoors doors links told (record { shown = start; crashes = before }) (record { shown = later; crashes = after }) first now status
-serves_doors doors links told start found later before middle after opened closed count first now status opens records same before_now left only all closes ends =
-    let stands = all.stands in
-    let holds : HoldsFrom (opened_base opened) (given opened.history) closed all.log = record { past = stands.past; is = stands.begins; holds = stands.holds } in
-    inr (
-      opened,
-      closed,
-      all.log,
-      served start found later before middle after opened closed all.log count opens records same before_now left only holds stands.crashed stands.marked closes,
-      record { named = all.named; same = all.same; each = all.each },
-      ends,
-    )
+  -- and nobody else added to the log
+  pub served_alone : (log : Log) → IsOver before found after opened closed
+      → Survives (opened_base opened) None (given opened.history) log closed (left found) (left after)
+      → IsServedAlone before after opened closed log
+  served_alone log k survives =
+      let alone = survives.holds.grown in
+      let holds : HoldsFrom (opened_base opened) (given opened.history) closed log =
+      record { past = alone.past; is = alone.is; holds = survives.holds.holds } in
+      (served log k holds survives.crashes survives.marks, alone)
 
--- or did what a command asks
-pub ran_alone : (start found later : DiskState) (before middle after : DiskCrashes) (opened closed : State) (log : Log) (count : ℕ)
-    → IsOpened start opened → opened.keeper.records ≡ records_told chained count found → IsUntouched start found before middle
-    → ((image : List ℕ) → before.left_since before.clock image → before.may_leave image)
-    → IfSome start.reads (λ _. LeavesFiles middle (records_of opened.history) None) → ((image : List ℕ) → middle.left_since middle.clock image → middle.may_leave image)
-    → Survives (opened_base opened) None (given opened.history) log closed (record_crashes chained found middle) (record_crashes chained later after)
-    → IsClosed later after closed
-    → IsRunAlone (record { shown = start; crashes = before }) (record { shown = later; crashes = after }) opened closed
-ran_alone start found later before middle after opened closed log count opens records same before_now left only survives closes =
-    (log, served_alone start found later before middle after opened closed log count opens records same before_now left only survives closes)
+  -- it served a connection
+  pub serves : (told : Option ℕ) (log : Log) (first now : Scene) (status : ℕ)
+      → IsOver before found after opened closed
+      → Survives (opened_base opened) None (given opened.history) log closed (left found) (left after)
+      → RunsTo (setting_by growth room told None opened) opened log first now status
+      → ServesStore told before after first now status
+  serves told log first now status k survives runs =
+      inr (opened, closed, log, served_alone log k survives, runs)
 
--- a machine that was opened, and closed before it did anything, because memory ran out
-pub given_up : (start found : DiskState) (before middle : DiskCrashes) (opened : State) → IsOpened start opened → IsClosed found middle opened → IsUntouched start found before middle
-    → IsRefused (record { shown = start; crashes = before }) (record { shown = found; crashes = middle }) faults.Memory
-given_up start found before middle opened opens closes same = record {
-  back = record {
-    why = each_some start.reads (λ bytes is. begins_so (records_of opened.history) bytes (of_some start.reads (IsStoreOf opened.history) opens.stored bytes is).file);
-    faults = sym closes.faults ∙ opens.faults;
-  };
-  same = same;
-}
+  -- or those of many doors
+  pub serves_doors : {W L K : Type 0} (doors : DoorGhosts W L) (links : LinkGhosts K)
+      (told : Option ℕ) (first now : List (Bench W K)) (status : ℕ)
+      → IsOver before found after opened closed
+      → ServesAll growth room told opened (left found) closed (left after) doors.served (tells links)
+      first now
+      → (ending : ServeEnd) × (status ≡ status_after ending)
+      × EndsServing doors.closed doors.faults first now ending
+      → ServesDoors doors links told before after first now status
+  serves_doors doors links told first now status k all ends =
+      let stands = all.stands in
+      let holds : HoldsFrom (opened_base opened) (given opened.history) closed all.log =
+      record { past = stands.past; is = stands.begins; holds = stands.holds } in
+      inr (
+        opened,
+        closed,
+        all.log,
+        served all.log k holds stands.crashed stands.marked,
+        record { named = all.named; same = all.same; each = all.each },
+        ends,
+      )
+
+  -- or did what a command asks
+  pub ran_alone : (log : Log) → IsOver before found after opened closed
+      → Survives (opened_base opened) None (given opened.history) log closed (left found) (left after)
+      → IsRunAlone before after opened closed
+  ran_alone log k survives = (log, served_alone log k survives)
+
+-- ---- a machine that was only read
+
+module _ (before found : Medium) (opened : State) where
+  -- memory ran out before it did anything
+  pub given_up : IsOver before found found opened opened → IsRefused before found faults.Memory
+  given_up k = record {
+    back = record {
+      why = each_some before.shown.reads (λ bytes is.
+          begins_so (records_of opened.history) bytes
+          (of_some before.shown.reads (IsStoreOf opened.history) k.opens.stored bytes is).file);
+      faults = sym k.closes.faults ∙ k.opens.faults;
+    };
+    same = k.untouched;
+  }
+
+  -- what it holds was counted
+  pub checks : (first now : Output) (status : ℕ) → IsOver before found found opened opened
+      → Survives (opened_base opened) None (given opened.history) (given opened.history) opened
+      (left found) (left found)
+      → Counts before.shown.reads first now opened.history status
+      → ChecksStore before found first now status
+  checks first now status k survives counts = inr (
+    opened,
+    (served_alone before found found opened opened (given opened.history) k survives).0,
+    k.untouched,
+    counts,
+  )
+
+  -- or a table of what it has was printed
+  pub exports : (table : Table) (first now : Output) (status : ℕ)
+      → IsOver before found found opened opened
+      → Survives (opened_base opened) None (given opened.history) (given opened.history) opened
+      (left found) (left found)
+      → PrintsTable first now (table_text table (town opened.history)) status
+      → ExportsStore table before found first now status
+  exports table first now status k survives prints = inr (
+    opened,
+    (served_alone before found found opened opened (given opened.history) k survives).0,
+    k.untouched,
+    prints,
+  )
+
+-- ---- a disk that has no store
 
 -- nothing was asked of the disk
 pub not_asked : (shown : DiskState) (crashes : DiskCrashes) → KeepsOther chained shown shown crashes crashes
@@ -158,25 +226,3 @@ making_ends disks told before after first now host other moment status same is m
       subst (λ (h : List ℕ). LeavesAtMost (code_of (Hosted h moment)) (disks.shown before).reads (disks.crashes before) (disks.crashes after)) same time,
       subst (λ (h : List ℕ). EndsMaking (disks.shown before) (disks.shown after) (disks.crashes after) first now host (Hosted h moment) status) same ends,
     ))
-
--- A machine that was opened to be counted, and closed.
-pub checks : (start found : DiskState) (before middle : DiskCrashes) (opened : State) (count : ℕ) (first now : Output) (status : ℕ)
-    → IsOpened start opened → opened.keeper.records ≡ records_told chained count found → IsUntouched start found before middle
-    → ((image : List ℕ) → before.left_since before.clock image → before.may_leave image)
-    → IfSome start.reads (λ _. LeavesFiles middle (records_of opened.history) None) → ((image : List ℕ) → middle.left_since middle.clock image → middle.may_leave image)
-    → Survives (opened_base opened) None (given opened.history) (given opened.history) opened (record_crashes chained found middle) (record_crashes chained found middle)
-    → IsClosed found middle opened → Counts start.reads first now opened.history status
-    → ChecksStore (record { shown = start; crashes = before }) (record { shown = found; crashes = middle }) first now status
-checks start found before middle opened count first now status opens told same before_now left only survives closes counts =
-    inr (opened, (served_alone start found found before middle middle opened opened (given opened.history) count opens told same before_now left only survives closes).0, same, counts)
-
--- A machine that was opened for a table of what it has, and closed.
-pub exports : (table : Table) (start found : DiskState) (before middle : DiskCrashes) (opened : State) (count : ℕ) (first now : Output) (status : ℕ)
-    → IsOpened start opened → opened.keeper.records ≡ records_told chained count found → IsUntouched start found before middle
-    → ((image : List ℕ) → before.left_since before.clock image → before.may_leave image)
-    → IfSome start.reads (λ _. LeavesFiles middle (records_of opened.history) None) → ((image : List ℕ) → middle.left_since middle.clock image → middle.may_leave image)
-    → Survives (opened_base opened) None (given opened.history) (given opened.history) opened (record_crashes chained found middle) (record_crashes chained found middle)
-    → IsClosed found middle opened → PrintsTable first now (table_text table (town opened.history)) status
-    → ExportsStore table (record { shown = start; crashes = before }) (record { shown = found; crashes = middle }) first now status
-exports table start found before middle opened count first now status opens told same before_now left only survives closes prints =
-    inr (opened, (served_alone start found found before middle middle opened opened (given opened.history) count opens told same before_now left only survives closes).0, same, prints)

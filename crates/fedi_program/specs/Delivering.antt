@@ -1,7 +1,7 @@
 -- Trying each delivery that is due once (ActivityPub, sections 7.1 and 7.1.2): the operator's
 -- command, and what is printed.
 use Rattle.std.specs.Prelude.{◌≡◌, ◌⊎◌, ℕ, List, [], ◌∷◌, ◌++◌, codes, decimal, length, map, Option}
-use Rattle.std.specs.Prelude.{Result, Ok, Err}
+use Rattle.std.specs.Prelude.{Bool, false, true, None, Result, Ok, Err}
 use Rattle.std.specs.List.{flat_map}
 use Rattle.fedi_address.specs.Iris.{host_of}
 use Rattle.fedi_core.specs.Keeping.{IsKept, Refuses}
@@ -11,14 +11,15 @@ use Rattle.fedi_core.specs.declared.keeping.KeepFault.TheVariants as keeps
 use Rattle.fedi_delivery.specs.Exchanges.{Told}
 use Rattle.fedi_queue.specs.Due.{IsTo, due_in}
 use Rattle.fedi_entry.specs.Codes.{code_of}
-use Rattle.fedi_log.specs.Claims.{IsFirst}
-use Rattle.fedi_log.specs.Keeping.{State}
+use Rattle.fedi_log.specs.Claims.{IsFirst, is_claimed_in}
+use Rattle.fedi_log.specs.Keeping.{GoesAlone, State}
+use Rattle.fedi_log.specs.Log.{Log, given, history_of}
+use Rattle.fedi_log.specs.declared.items.Pair.{Pair}
 use Rattle.fedi_logged.specs.Attempts.{Exchange, HasExchanged, IsBegun, ShowsCame}
-use Rattle.fedi_logged.specs.Turns.{Standing, SurvivesTurn, Turns}
-use Rattle.fedi_log.specs.Log as logs
 use Rattle.fedi_objects.specs.declared.entry.Came.{Came}
 use Rattle.fedi_objects.specs.declared.entry.Entry.{Entry}
 use Rattle.fedi_objects.specs.declared.entry.Entry.TheVariants.{Tried}
+use Rattle.fedi_opening.specs.Opening.{IsNext}
 use Rattle.fedi_outside.specs.Keepers.{OnlyRoomChanged}
 use Rattle.fedi_outside.specs.declared.doors.Bench.{Bench}
 use Rattle.fedi_outside.specs.declared.links.Link.{Ghosts as LinkGhosts}
@@ -29,6 +30,7 @@ use Rattle.fedi_logged.specs.Endings.{BreaksOff, Output, Writes, WritesUnlessFai
 use Rattle.fedi_town.specs.declared.outcome.Outcome.{Outcome}
 use Rattle.fedi_town.specs.declared.outcome.Outcome.TheVariants.{Delivered, Again, GivenUp}
 use Rattle.fedi_town.specs.Histories.{town}
+use Rattle.fedi_town.specs.Legal.{IsLegal}
 use Rattle.fedi_town.specs.Queues.{Delivery, outcome}
 use Rattle.fedi_town.specs.Towns.{Town}
 use Rattle.fedi_program.specs.Members.{IsSettled}
@@ -171,12 +173,7 @@ DeliversStore told before after asked heard first now status =
     ⊎ ((opened : State) × (closed : State) × IsRunAlone before after opened closed
     × TriesDue growth room told opened closed asked heard first now status)
 
--- ---- one claim
-
--- the result of an attempt, without what else was returned
-abbrev pub came_in : {B E : Type 0} → Result (Came × B) E → Result Came E
-came_in (Ok done) = Ok done.0
-came_in (Err e) = Err e
+-- ---- one delivery
 
 -- why no more is tried, if the result of an attempt was not kept for this reason
 abbrev pub stop_of : RecordFault → Stop
@@ -185,7 +182,8 @@ stop_of records.Full = Full
 stop_of records.Memory = Memory
 
 -- How one claimed delivery is tried: its entry is kept and its line printed; or that write failed;
--- or the entry was not kept; or there was no memory to end the attempt.
+-- or the entry was not kept, and if the keeper failed, it can be read at its position if it is
+-- found there; or there was no memory to end the attempt.
 abbrev pub EndsTrial :
     (growth room : ℕ → ℕ) → ℕ → (id recipient : List ℕ) → (before after : State)
     → (asked heard : Told) → (first now : Output) → Result (Unit {0}) Stop → Type 0
@@ -208,7 +206,7 @@ EndsTrial growth room moment id recipient before after asked heard first now (Er
     × ShowsCame (town before.history) id recipient exchanges came
     × HasExchanged asked heard exchanges × (after.history ≡ before.history)
     × Refuses room (code_of (Tried id recipient came moment)) keeps.Failed before.keeper
-    after.keeper × (now ≡ first)
+    after.keeper × IsNext (town before.history) (Tried id recipient came moment) × (now ≡ first)
 EndsTrial growth room moment id recipient before after asked heard first now (Err Full) =
     (exchanges : List Exchange) × (came : Came)
     × ShowsCame (town before.history) id recipient exchanges came
@@ -220,16 +218,43 @@ EndsTrial growth room moment id recipient before after asked heard first now (Er
     × HasExchanged asked heard exchanges
     × (after.history ≡ before.history) × OnlyRoomChanged before.keeper after.keeper × (now ≡ first)
 
--- what a crash during it may leave: the keeper that failed may have left the entry
-abbrev pub TrialSurvives : (growth room : ℕ → ℕ) → (before after : Standing)
-    → Result (Unit {0}) Stop → Type 0
-TrialSurvives growth room before after (Ok done) = SurvivesTurn growth before after
-TrialSurvives growth room before after (Err WriteFault) = SurvivesTurn growth before after
-TrialSurvives growth room before after (Err KeeperFault) =
-    (e : Entry) × Refuses room (code_of e) keeps.Failed before.state.keeper after.state.keeper
-    × Turns growth before after (logs.Failed e)
-TrialSurvives growth room before after (Err Full) = SurvivesTurn growth before after
-TrialSurvives growth room before after (Err Memory) = SurvivesTurn growth before after
+-- the first delivery that is due at this moment was tried, with this result
+pub record TriesFirst (growth room : ℕ → ℕ) (moment : ℕ) (before after : State) (asked heard : Told)
+    (first now : Output) (result : Result (Unit {0}) Stop) : Type 0 where
+  pub id : List ℕ
+  pub recipient : List ℕ
+  pub delivery : Delivery
+  pub rest : List Delivery
+  pub due : due_in (town before.history) moment ≡ delivery ∷ rest
+  pub to : IsTo id recipient delivery
+  pub ends : EndsTrial growth room moment id recipient before after asked heard first now result
+
+-- nothing was done
+pub record DoesNothing (before after : State) (asked heard : Told) (first now : Output) : Type 0
+  where
+    pub same : after ≡ before
+    pub silent : HasExchanged asked heard []
+    pub unwritten : now ≡ first
+
+-- How the first delivery that is due is tried: there is none, or its entry is kept and its line
+-- printed; or no more is tried, after it was, or since there was no memory to begin.
+abbrev pub EndsNext :
+    (growth room : ℕ → ℕ) → ℕ → (before after : State) → (asked heard : Told)
+    → (first now : Output) → Result Bool Stop → Type 0
+EndsNext growth room moment before after asked heard first now (Ok false) =
+    (due_in (town before.history) moment ≡ []) × DoesNothing before after asked heard first now
+EndsNext growth room moment before after asked heard first now (Ok true) =
+    TriesFirst growth room moment before after asked heard first now (Ok tt)
+EndsNext growth room moment before after asked heard first now (Err stop) =
+    TriesFirst growth room moment before after asked heard first now (Err stop)
+    ⊎ ((stop ≡ Memory) × DoesNothing before after asked heard first now)
+
+-- the log of a machine that nobody else uses, with this history: nothing of it is claimed
+pub record IsAtRest (opened history : List Entry) (log : Log) : Type 0 where
+  pub alone : GoesAlone None (given opened) log
+  pub held : history ≡ history_of log
+  pub free : (p : Pair) → is_claimed_in log p ≡ false
+  pub legal : IsLegal history
 
 -- What follows if no more is tried, and the status: the reason is reported, unless a write failed,
 -- or there is no memory; and a keeper that failed is asked once to settle.

@@ -158,9 +158,9 @@ fn deliver_over<S, O: Sink, D: Disk, K: Link, C: Clock>(
     ensures clock { connection.new.clock ≡ connection.old.clock }
 {
     match open_store(alloc, seed, disk) {
-        Ok(mut core) => {
+        Ok(core) => {
             let (out, clock) = (&mut connection.out, &connection.clock);
-            let status = deliver(alloc, &mut core, out, clock, link);
+            let (status, core) = deliver(alloc, core, out, clock, link);
             (status, close_store(core))
         }
         Err((fault, disk)) => (report_store(&mut connection.out, fault), disk),

@@ -1,14 +1,15 @@
 //! The gate: a table with one word and one slot. The word is `HOME` or `LEFT` while the value lies
 //! in the slot.
 //!
-//! Callers who do not find the value wait in a line, which is a plain lock. The first in the line
-//! alone looks at the gate, and sleeps there. A running caller may take the value before it, but
+//! Callers who do not find the value wait in a line. The first in the line alone looks at the gate,
+//! and sleeps there. A running caller may take the value before it, but
 //! not more than `MOST_PASSES` times: then the value is left to it.
 ghost use Rattle.std.specs.Prelude.{◌≡◌, ◌∷◌, [], IfSome, IfNone};
 ghost use Rattle.fedi_turn.specs.Gate.{facts_of, inside, outside, HasValue, IsGateSize, IsHome};
 ghost use Rattle.fedi_turn.specs.Gate.{LacksValue};
 
 use crate::grows::Grows;
+use crate::line::Line;
 use crate::lock::Span;
 use crate::record::View;
 use atomic_table::{Badge, Join, Play, Seat, Shared, Split, Table, TableRule};
@@ -17,7 +18,7 @@ use std::collections::LinkedList;
 use std::hint::spin_loop;
 use std::marker::PhantomData;
 use std::snapshot::Snapshot;
-use std::sync::{Mutex, Wait};
+use std::sync::Wait;
 
 // The value lies in the slot, and whoever comes takes it.
 pub(crate) const HOME: u64 = 1;
@@ -203,14 +204,11 @@ fn take_first<V: Grows>(gate: &GateShared<V>, seat: &mut GateSeat<V>) -> Option<
     try_take(gate, seat, HOME)
 }
 
-/// Waits for the value. A short turn takes it at once if it is there. Any other waits until it is
-/// the first in the line, and then for the value, asleep if it does not come soon.
-pub(crate) fn wait_turn<V: Grows, R: Wait>(
+// Waits for the value at the head of the line, asleep if it does not come soon.
+fn wait_at_head<V: Grows, R: Wait>(
     rt: &R,
     gate: &GateShared<V>,
-    line: &Mutex<()>,
     seat: &mut GateSeat<V>,
-    span: Span,
 ) -> Content<V, V::Item>
     requires table { (seat.old.table_id ≡ gate.now.table_id) × IsGateSize gate.now.table_id }
     requires seat { seat.old.me ≡ outside (facts_of V.list V.base gate.now.key.value) }
@@ -218,12 +216,6 @@ pub(crate) fn wait_turn<V: Grows, R: Wait>(
     ensures home { IsHome V.list V.base (facts_of V.list V.base gate.now.key.value) result }
     ensures slot { seat.new.me ≡ inside (facts_of V.list V.base gate.now.key.value) }
 {
-    if span == Span::Short {
-        if let Some(content) = take_first(gate, seat) {
-            return content;
-        }
-    }
-    let _head = line.lock(rt);
     let mut passes_left = MOST_PASSES;
     for _ in rt.forever() {
         if let Some(content) = try_take(gate, seat, LEFT) {
@@ -239,6 +231,32 @@ pub(crate) fn wait_turn<V: Grows, R: Wait>(
         passes_left = passes_left.saturating_sub(1);
     }
     unreachable!()
+}
+
+/// Waits for the value. A short turn takes it at once if it is there. Any other waits until it is
+/// the first in the line, and then for the value.
+pub(crate) fn wait_turn<V: Grows, R: Wait>(
+    rt: &R,
+    gate: &GateShared<V>,
+    line: &Line,
+    seat: &mut GateSeat<V>,
+    span: Span,
+) -> Content<V, V::Item>
+    requires table { (seat.old.table_id ≡ gate.now.table_id) × IsGateSize gate.now.table_id }
+    requires seat { seat.old.me ≡ outside (facts_of V.list V.base gate.now.key.value) }
+    ensures table { seat.new.table_id ≡ seat.old.table_id }
+    ensures home { IsHome V.list V.base (facts_of V.list V.base gate.now.key.value) result }
+    ensures slot { seat.new.me ≡ inside (facts_of V.list V.base gate.now.key.value) }
+{
+    if span == Span::Short {
+        if let Some(content) = take_first(gate, seat) {
+            return content;
+        }
+    }
+    line.enter(rt);
+    let content = wait_at_head(rt, gate, seat);
+    line.leave(rt);
+    content
 }
 
 /// Puts the value back, and wakes the first in the line if it may be parked.

@@ -10,10 +10,12 @@
 mod closing;
 mod gate;
 mod grows;
+mod line;
 mod lock;
 mod opening;
 mod record;
 mod turns;
 
 pub use grows::Grows;
+pub use line::Line;
 pub use lock::{Held, Pass, Span, TurnLock};

@@ -4,9 +4,9 @@ ghost use Rattle.fedi_turn.specs.Gate.{IsGateSize, list_in, writer_in};
 
 use crate::gate::{Content, GateTable, GateView};
 use crate::grows::Grows;
+use crate::line::Line;
 use crate::record::{RecordTable, View};
 use atomic_table::{Badge, Seat};
-use std::sync::Mutex;
 
 /// How long a turn is, by which it may come before others that wait.
 #[derive(Clone, Copy, Debug, PartialEq, Eq)]
@@ -21,13 +21,13 @@ pub enum Span {
 ///
 /// What it promises, it promises of calls that return. That a turn comes, in which order turns come,
 /// and how long one waits, no contract promises. It is made so that nobody waits for long: callers
-/// who do not find the value wait in a line, and only a short turn may pass the first of them, and
-/// that a few times.
+/// who do not find the value wait in a line, first come, first served, and only short turns pass the
+/// first of them, and that eight times at most.
 #[derive(Drop)]
 pub struct TurnLock<V: Grows> {
     pub(crate) gate: GateTable<V>,
-    // Those who wait at the gate: who has it is the first of them.
-    pub(crate) line: Mutex<()>,
+    // Those who wait at the gate.
+    pub(crate) line: Line,
     pub(crate) log: RecordTable<V>,
     pub(crate) seats: u64,
     ghost sizes: { IsGateSize gate.shared.table_id × (log.shared.table_id.words ≡ 1) },

@@ -9,12 +9,12 @@ ghost use Rattle.fedi_turn.specs.Turn.{Each, HasGate, IsSamePass};
 
 use crate::gate::{Content, GateSeat, GateShared, GateTable, HOME, another_seat};
 use crate::grows::Grows;
+use crate::line::Line;
 use crate::lock::{Pass, TurnLock};
 use crate::record::{RecordSeat, RecordShared, RecordTable, View, draw_number};
 use atomic_table::{Badge, Refused, Seat, Table};
 use std::alloc::{AllocError, Global};
 use std::snapshot::Snapshot;
-use std::sync::Mutex;
 
 // It has no seat of the gate yet.
 fn new_pass<I>(reader: Seat<(), View<I>>, number: u64, seen: u64) -> Pass<I>
@@ -149,7 +149,7 @@ impl<V: Grows> TurnLock<V> {
                 admit_all(&gate.shared, seat, &mut passes);
                 let lock = TurnLock {
                     gate,
-                    line: Mutex::new(()),
+                    line: Line::new(),
                     log,
                     seats,
                 };

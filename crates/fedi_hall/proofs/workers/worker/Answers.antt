@@ -11,7 +11,7 @@ loop-init g c = (
   tt,
   tt,
   c.requires.ready,
-  g.met.T.Turns.same_none c.args.turns.now,
+  g.T.Turns.same_none c.args.turns.now,
   c.requires.waiting.0,
   c.requires.waiting.1,
   refl,
@@ -29,7 +29,7 @@ loop-preserved-in-Line g c =
       tt,
       tt,
       c.session.ensures.ready,
-      g.met.T.Turns.same_both c.args.turns.now c.loop.turns c.session.new.turns same c.session.ensures.same,
+      g.T.Turns.same_both c.args.turns.now c.loop.turns c.session.new.turns same c.session.ensures.same,
       c.back.ensures.out,
       c.back.ensures.idle,
       c.back.ensures.faults ∙ c.in-Line.ensures.cause ∙ c.loop.invariant.6,
@@ -38,7 +38,7 @@ loop-preserved-in-Line g c =
           (g.W.Door.served c.args.bench.now.door) (g.W.Door.served c.loop.bench.door) (g.W.Door.served c.back.new.self)
           (told_by g.K.Link.asked g.K.Link.heard g.K.Link.link_faults c.args.bench.now.link) (told_by g.K.Link.asked g.K.Link.heard g.K.Link.link_faults c.loop.bench.link)
           (told_by g.K.Link.asked g.K.Link.heard g.K.Link.link_faults c.loop.bench.link) [] (Served row)
-          (g.met.T.Turns.same_by c.args.turns.now c.loop.turns same) c.loop.invariant.7
+          (g.T.Turns.same_by c.args.turns.now c.loop.turns same) c.loop.invariant.7
           (exchanged_none (told_by g.K.Link.asked g.K.Link.heard g.K.Link.link_faults c.loop.bench.link)) (
             refl,
             served_row (setting_at (g.T.Turns.by c.loop.turns) (g.C.Clock.told c.args.clock.now) g.T.Turns.base) (g.T.Turns.seen c.loop.turns) (g.T.Turns.seen c.session.new.turns) row
@@ -54,15 +54,15 @@ loop-preserved g c =
       tt,
       tt,
       c.deliver_one-step.ensures.ready,
-      g.met.T.Turns.same_both c.args.turns.now c.loop.turns c.deliver_one-step.new.self c.loop.invariant.3 c.deliver_one-step.ensures.same,
+      g.T.Turns.same_both c.args.turns.now c.loop.turns c.deliver_one-step.new.turns c.loop.invariant.3 c.deliver_one-step.ensures.same,
       c.rested.ensures.out,
       c.rested.ensures.idle,
       c.rested.ensures.faults ∙ c.in-Idle.ensures.cause ∙ c.loop.invariant.6,
       worked_next g.T.Turns.base (g.C.Clock.told c.args.clock.now) (g.T.Turns.by c.args.turns.now) (g.T.Turns.by c.loop.turns)
-          (g.T.Turns.seen c.args.turns.now) (g.T.Turns.seen c.loop.turns) (g.T.Turns.seen c.deliver_one-step.new.self)
+          (g.T.Turns.seen c.args.turns.now) (g.T.Turns.seen c.loop.turns) (g.T.Turns.seen c.deliver_one-step.new.turns)
           (g.W.Door.served c.args.bench.now.door) (g.W.Door.served c.loop.bench.door) (g.W.Door.served c.rested.new.self)
           (told_by g.K.Link.asked g.K.Link.heard g.K.Link.link_faults c.args.bench.now.link) (told_by g.K.Link.asked g.K.Link.heard g.K.Link.link_faults c.loop.bench.link)
           (told_by g.K.Link.asked g.K.Link.heard g.K.Link.link_faults c.deliver_one-step.new.link) steps.exchanges (Rested c.rest.result)
-          (g.met.T.Turns.same_by c.args.turns.now c.loop.turns c.loop.invariant.3) c.loop.invariant.7 steps.exchanged (c.deliver_one-step.result, c.rest.ensures, steps.is)
+          (g.T.Turns.same_by c.args.turns.now c.loop.turns c.loop.invariant.3) c.loop.invariant.7 steps.exchanged (c.deliver_one-step.result, c.rest.ensures, steps.is)
           (c.rested.ensures.served ∙ ap (with_row (Rested c.rest.result)) c.in-Idle.ensures.served),
     )

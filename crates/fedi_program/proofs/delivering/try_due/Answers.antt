@@ -1,136 +1,152 @@
-use Rattle.std.proofs.Common.{◌≡◌, ◌+◌, ◌-◌, ◌<◌, ℕ, List, Ok, Err, arith, length, subst, ap, ◌∙◌}
-use Rattle.std.specs.Prelude.{filter, map}
+use Rattle.std.proofs.Common.{◌≡◌, ◌-◌, ◌<◌, ◌+◌, ℕ, List, None, arith, length, sym, subst, ap, ◌∙◌}
+use Rattle.std.specs.Prelude.{IsTrue, is_some}
 use Rattle.fedi_core.specs.Machines.{Machine}
-use Rattle.fedi_queue.proofs.Due.{rows_fresh}
+use Rattle.fedi_log.specs.Keeping.{State, base_of, state_of}
+use Rattle.fedi_log.specs.Log.{given}
+use Rattle.fedi_logged.proofs.SessionLemmas.{writes_none}
+use Rattle.fedi_logged.specs.Turns.{standing_by}
 use Rattle.fedi_queue.specs.Due.{due_in}
-use Rattle.fedi_log.specs.Keeping.{base_of, state_of}
-use Rattle.fedi_logged.specs.Turns.{SurvivesTurn, standing_by}
-use Rattle.fedi_queue.specs.Claims.{release}
-use Rattle.fedi_queue.specs.Queues.{is_claimed}
-use Rattle.fedi_queue.specs.declared.rows.QueueRow.{QueueRow}
-use Rattle.fedi_logged.specs.Endings.{output_by}
 use Rattle.fedi_town.specs.Histories.{town}
 use Rattle.fedi_town.specs.Queues.{Delivery}
-use Rattle.fedi_logged.specs.Attempts.{told_by}
-use Rattle.fedi_logged.proofs.SessionLemmas.{writes_none}
-use Rattle.fedi_program.specs.Delivering.{TrialSurvives}
+use Rattle.fedi_program.specs.Delivering.{EndsNext, TriesDue}
 use Rattle.fedi_program.specs.Endings.{Prints}
-use Rattle.fedi_program.proofs.ClaimLemmas.{claimed_first, claimed_none, trial_first}
-use Rattle.fedi_program.proofs.DeliverLemmas.{stopped_survives, trial_more, trial_survives, trying_done, trying_first, trying_grown, trying_stopped}
-use Rattle.fedi_program.proofs.MemberLemmas.{unmoved}
+use Rattle.fedi_program.specs.Seen.{output, tells}
+use Rattle.fedi_program.proofs.DeliverLemmas.{IsTrying, done_due, ended_due, sent_more}
+use Rattle.fedi_program.proofs.DeliverLemmas.{stopped_survives, trying_first, trying_grown}
+use Rattle.fedi_program.proofs.NextLemmas.{rest_opened}
 use Rattle.fedi_program.proofs.delivering.try_due.Goals as goal
 
 pub due-init : goal.due-init
 due-init g c =
-    let t = town c.args.core.now.history in
-    let fresh = rows_fresh t in
-    let own = c.requires.unclaimed in
+    let opened = g.N.Opened.state in
+    let now = c.of-alone.result.logged.core in
     record {
-      buffer = c.requires.buffer;
-      first = c.count-first.ensures;
-      unclaimed = ap (λ (rows : List QueueRow). length (filter is_claimed rows)) own ∙ ap (λ (rows : List QueueRow). length rows) fresh.1;
-      queue = ap (λ (rows : List QueueRow). map release rows) own ∙ fresh.0;
-      legal = c.requires.legal;
-      trying = trying_first g.P.Keeper.growth g.P.Keeper.room _ _ _ _ (writes_none _);
-      survives = unmoved g.P.Keeper.growth g.P.Keeper.room (state_of c.args.core.now.history (g.P.Keeper.shown c.args.core.now.keeper)) _
-          (g.met.P.Keeper.crash_now c.args.core.now.keeper);
+      first = c.count-first.ensures ∙ sym (ap (λ s. length s.history) c.requires.opened);
+      rest = rest_opened opened.history c.args.core.history now.history c.of-alone.result.logged.log
+          (ap (λ s. s.history) c.requires.opened) (ap (λ m. m.history) c.of-alone.ensures.core)
+          c.of-alone.ensures.log c.requires.legal;
+      trying = subst (λ (s : State). IsTrying g.P.Keeper.growth g.P.Keeper.room c.args.moment opened s
+          (tells g.K.Link c.args.link.now) (tells g.K.Link c.args.link.now)
+          (output g.O.Sink c.args.out.now) (output g.O.Sink c.args.out.now))
+          (c.requires.opened ∙ ap (λ m. state_of m.history (g.P.Keeper.shown m.keeper))
+          (sym c.of-alone.ensures.core))
+          (trying_first g.P.Keeper.growth g.P.Keeper.room c.args.moment opened _ _ (writes_none _));
     }
 
-pub returns-in-Err-clause-tried : goal.returns-in-Err-clause-tried
-returns-in-Err-clause-tried g c =
-    λ reading is_now.
-    let told_of = told_by g.K.Link.asked g.K.Link.heard g.K.Link.link_faults in
-    let written = output_by g.O.Sink.sent g.O.Sink.write_faults in
-    let inv = c.due.invariant in
-    let f = claimed_first c.args.moment c.due.core c.claim.new.self _ c.in-Some.claim inv.legal inv.queue inv.unclaimed c.claim.ensures.claimed c.in-Some.ensures.first
-    c.in-Some.ensures.row c.in-Some.ensures.delivery in
-    let ends = trial_first g.P.Keeper.shown g.P.Keeper.growth g.P.Keeper.room c.args.moment c.due.core c.claim.new.self _ c.in-Some.claim
-    (state_of c.try_claimed.new.core.history (g.P.Keeper.shown c.try_claimed.new.core.keeper)) (told_of c.due.link) (told_of c.try_claimed.new.link)
-    (written c.due.out) (written c.try_claimed.new.out) (Err c.in-Err.stop) c.claim.ensures.claimed f.moment c.in-Err.ensures.ends in
-    trying_stopped g.P.Keeper.growth g.P.Keeper.room reading c.args.moment
-    (state_of c.args.core.now.history (g.P.Keeper.shown c.args.core.now.keeper)) (state_of c.due.core.history (g.P.Keeper.shown c.due.core.keeper))
-    (state_of c.try_claimed.new.core.history (g.P.Keeper.shown c.try_claimed.new.core.keeper)) (state_of c.report_stop.new.core.history (g.P.Keeper.shown c.report_stop.new.core.keeper))
-    (told_of c.args.link.now) (told_of c.due.link) (told_of c.try_claimed.new.link) (written c.args.out.now) (written c.due.out) (written c.try_claimed.new.out)
-    (written c.report_stop.new.out) _ _ f.first f.rest c.in-Err.stop _ is_now inv.trying f.due f.to ends c.report_stop.ensures.ends
-
-pub returns-in-Err-clause-crashes : goal.returns-in-Err-clause-crashes
-returns-in-Err-clause-crashes g c =
-    let opened = state_of c.args.core.now.history (g.P.Keeper.shown c.args.core.now.keeper) in
-    let shown = g.P.Keeper.shown in
-    let crashes = g.P.Keeper.crashes in
-    let trial = subst (λ (m : Machine _). TrialSurvives g.P.Keeper.growth g.P.Keeper.room (standing_by shown crashes m) (standing_by shown crashes c.try_claimed.new.core) (Err c.in-Err.stop))
-    c.claim.ensures.claimed c.in-Err.ensures.crashes in
-    stopped_survives (base_of g.P.Keeper.growth g.P.Keeper.room opened) g.P.Keeper.room _ _ (standing_by shown crashes c.due.core)
-    (standing_by shown crashes c.try_claimed.new.core) (standing_by shown crashes c.report_stop.new.core) c.in-Err.stop _ _ _ c.due.invariant.survives trial c.report_stop.ensures.ends
-    c.report_stop.ensures.time
+pub try_next-requires : goal.try_next-requires
+try_next-requires g c = record {
+  hosted = subst (λ (s : State). IsTrue (is_some (town s.history).host)) (sym c.requires.opened)
+      c.requires.hosted;
+  rest = c.due.invariant.rest;
+}
 
 pub due-smaller : goal.due-smaller
 due-smaller g c =
-    let told_of = told_by g.K.Link.asked g.K.Link.heard g.K.Link.link_faults in
-    let written = output_by g.O.Sink.sent g.O.Sink.write_faults in
+    let k = g.P.Keeper in
     let inv = c.due.invariant in
-    let f = claimed_first c.args.moment c.due.core c.claim.new.self _ c.in-Some.claim inv.legal inv.queue inv.unclaimed c.claim.ensures.claimed c.in-Some.ensures.first
-    c.in-Some.ensures.row c.in-Some.ensures.delivery in
-    let ends = trial_first g.P.Keeper.shown g.P.Keeper.growth g.P.Keeper.room c.args.moment c.due.core c.claim.new.self _ c.in-Some.claim
-    (state_of c.try_claimed.new.core.history (g.P.Keeper.shown c.try_claimed.new.core.keeper)) (told_of c.due.link) (told_of c.try_claimed.new.link)
-    (written c.due.out) (written c.try_claimed.new.out) (Ok c.in_default-try_claimed.field-0) c.claim.ensures.claimed f.moment c.in_default-try_claimed.ensures.ends in
-    let more = trial_more g.P.Keeper.growth g.P.Keeper.room c.args.moment
-    (state_of c.args.core.now.history (g.P.Keeper.shown c.args.core.now.keeper)) (state_of c.due.core.history (g.P.Keeper.shown c.due.core.keeper))
-    (state_of c.try_claimed.new.core.history (g.P.Keeper.shown c.try_claimed.new.core.keeper)) (told_of c.args.link.now) (told_of c.due.link) (told_of c.try_claimed.new.link)
-    (written c.args.out.now) (written c.due.out) (written c.try_claimed.new.out) _ _ f.first f.rest c.in_default-try_claimed.field-0
-    inv.trying f.due f.to c.in_default-try_claimed.ensures.legal ends in
-    let now : length (due_in (town c.try_claimed.new.core.history) c.args.moment) ≡ length f.rest = ap (λ (ds : List Delivery). length ds) more.1 in
-    let was : length (due_in (town c.due.core.history) c.args.moment) ≡ length f.rest + 1 = ap (λ (ds : List Delivery). length ds) f.due ∙ omega arith in
-    let less : length (due_in (town c.try_claimed.new.core.history) c.args.moment) < length (due_in (town c.due.core.history) c.args.moment) = omega (arith, now, was) in
+    let now = state_of c.due.alone.logged.core.history (k.shown c.due.alone.logged.core.keeper) in
+    let core = c.try_next.new.alone.logged.core in
+    let f = rw (c.in-Ok-true.is, c.in-Ok-true.field-0-test) at c.try_next.ensures.tries in
+    let legal = (rw c.in-Ok-true.is at c.try_next.ensures.rest).legal in
+    let more = sent_more k.growth k.room c.args.moment g.N.Opened.state now
+    (state_of core.history (k.shown core.keeper)) (tells g.K.Link c.args.link.now)
+    (tells g.K.Link c.due.link) (tells g.K.Link c.try_next.new.link)
+    (output g.O.Sink c.args.out.now) (output g.O.Sink c.due.out)
+    (output g.O.Sink c.try_next.new.out) inv.trying legal f in
+    let left : length (due_in (town core.history) c.args.moment) ≡ length f.rest =
+    ap (λ (ds : List Delivery). length ds) more.1 in
+    let was : length (due_in (town now.history) c.args.moment) ≡ length f.rest + 1 =
+    ap (λ (ds : List Delivery). length ds) f.due ∙ omega arith in
+    let less : length (due_in (town core.history) c.args.moment)
+    < length (due_in (town now.history) c.args.moment) = omega (arith, left, was) in
     less
 
 pub due-preserved : goal.due-preserved
 due-preserved g c =
-    let told_of = told_by g.K.Link.asked g.K.Link.heard g.K.Link.link_faults in
-    let written = output_by g.O.Sink.sent g.O.Sink.write_faults in
-    let opened = state_of c.args.core.now.history (g.P.Keeper.shown c.args.core.now.keeper) in
-    let shown = g.P.Keeper.shown in
-    let crashes = g.P.Keeper.crashes in
+    let k = g.P.Keeper in
     let inv = c.due.invariant in
-    let f = claimed_first c.args.moment c.due.core c.claim.new.self _ c.in-Some.claim inv.legal inv.queue inv.unclaimed c.claim.ensures.claimed c.in-Some.ensures.first
-    c.in-Some.ensures.row c.in-Some.ensures.delivery in
-    let ends = trial_first shown g.P.Keeper.growth g.P.Keeper.room c.args.moment c.due.core c.claim.new.self _ c.in-Some.claim
-    (state_of c.try_claimed.new.core.history (g.P.Keeper.shown c.try_claimed.new.core.keeper)) (told_of c.due.link) (told_of c.try_claimed.new.link)
-    (written c.due.out) (written c.try_claimed.new.out) (Ok c.in_default-try_claimed.field-0) c.claim.ensures.claimed f.moment c.in_default-try_claimed.ensures.ends in
-    let more = trial_more g.P.Keeper.growth g.P.Keeper.room c.args.moment
-    (state_of c.args.core.now.history (g.P.Keeper.shown c.args.core.now.keeper)) (state_of c.due.core.history (g.P.Keeper.shown c.due.core.keeper))
-    (state_of c.try_claimed.new.core.history (g.P.Keeper.shown c.try_claimed.new.core.keeper)) (told_of c.args.link.now) (told_of c.due.link) (told_of c.try_claimed.new.link)
-    (written c.args.out.now) (written c.due.out) (written c.try_claimed.new.out) _ _ f.first f.rest c.in_default-try_claimed.field-0
-    inv.trying f.due f.to c.in_default-try_claimed.ensures.legal ends in
-    let trial = subst (λ (m : Machine _). SurvivesTurn g.P.Keeper.growth (standing_by shown crashes m) (standing_by shown crashes c.try_claimed.new.core))
-    c.claim.ensures.claimed c.in_default-try_claimed.ensures.crashes in
-    record {
-      buffer = c.try_claimed.ensures.room ∙ inv.buffer;
-      first = inv.first;
-      unclaimed = omega (arith, c.in_default-try_claimed.ensures.counted, c.in-Some.ensures.counted, inv.unclaimed);
-      queue = c.in_default-try_claimed.ensures.queue;
-      legal = c.in_default-try_claimed.ensures.legal;
-      trying = more.0;
-      survives = trial_survives (base_of g.P.Keeper.growth g.P.Keeper.room opened) _ _ (standing_by shown crashes c.due.core) (standing_by shown crashes c.try_claimed.new.core)
-          inv.survives trial;
-    }
+    let now = state_of c.due.alone.logged.core.history (k.shown c.due.alone.logged.core.keeper) in
+    let core = c.try_next.new.alone.logged.core in
+    let rest = rw c.in-Ok-true.is at c.try_next.ensures.rest in
+    let more = sent_more k.growth k.room c.args.moment g.N.Opened.state now
+    (state_of core.history (k.shown core.keeper)) (tells g.K.Link c.args.link.now)
+    (tells g.K.Link c.due.link) (tells g.K.Link c.try_next.new.link)
+    (output g.O.Sink c.args.out.now) (output g.O.Sink c.due.out)
+    (output g.O.Sink c.try_next.new.out) inv.trying rest.legal
+    (rw (c.in-Ok-true.is, c.in-Ok-true.field-0-test) at c.try_next.ensures.tries) in
+    record { first = inv.first; rest = rest; trying = more.0 }
+
+pub into_core-core-requires : goal.into_core-core-requires
+into_core-core-requires g c = record { alone = c.try_next.ensures.alone }
+
+pub into_core-core-requires-in-Err : goal.into_core-core-requires-in-Err
+into_core-core-requires-in-Err g c = record { alone = c.try_next.ensures.alone }
 
 pub overflow_sub-count : goal.overflow_sub-count
 overflow_sub-count g c =
+    let k = g.P.Keeper in
     let inv = c.due.invariant in
-    let grown = trying_grown g.P.Keeper.growth g.P.Keeper.room _ _ _ _ _ _ _ inv.trying in
-    let now : c.count.result ≡ length c.due.core.history = rw c.claim.ensures.claimed at c.count.ensures in
-    omega (arith, grown, now, inv.first)
+    let d = (rw (c.in-Ok-false.is, c.in-Ok-false.field-0-test) at c.try_next.ensures.tries).1 in
+    let grown = trying_grown k.growth k.room _ _ _ _ _ _ _ inv.trying in
+    let same : length c.try_next.new.alone.logged.core.history
+    ≡ length c.due.alone.logged.core.history = ap (λ s. length s.history) d.same in
+    let now : c.count.result ≡ length c.try_next.new.alone.logged.core.history =
+    c.count.ensures ∙ ap (λ m. length m.history) c.into_core-core.ensures.core in
+    omega (arith, grown, same, now, inv.first)
 
-pub returns-clause-tried : goal.returns-clause-tried
-returns-clause-tried g c =
-    λ reading is_now.
-    let written = output_by g.O.Sink.sent g.O.Sink.write_faults in
+pub returns-in-Ok-false-clause-tried : goal.returns-in-Ok-false-clause-tried
+returns-in-Ok-false-clause-tried g c = λ reading is_now.
+    let k = g.P.Keeper in
     let inv = c.due.invariant in
-    let none = claimed_none c.due.core.history c.args.moment c.due.core.rows inv.legal inv.queue inv.unclaimed c.in_default.ensures.first in
-    let all : c.count.result ≡ length c.due.core.history = rw c.claim.ensures.claimed at c.count.ensures in
-    let counted : c.count.result - c.count-first.result ≡ length c.due.core.history - length c.args.core.now.history = omega (arith, all, inv.first) in
+    let was = c.due.alone.logged.core in
+    let core = c.try_next.new.alone.logged.core in
+    let counted : c.count.result - c.count-first.result
+    ≡ length core.history - length g.N.Opened.state.history =
+    let all = c.count.ensures ∙ ap (λ m. length m.history) c.into_core-core.ensures.core in
+    omega (arith, all, inv.first) in
     let text = c.as_bytes.ensures.value ∙ c.deref.ensures.0 ∙ c.done_line-line.ensures in
-    let printed = subst (λ (bytes : List ℕ). Prints (written c.due.out) (written c.print.new.out) bytes c.print.result) text c.print.ensures in
-    rw c.claim.ensures.claimed
-    (trying_done g.P.Keeper.growth g.P.Keeper.room reading c.args.moment (c.count.result - c.count-first.result) _ _ _ _ _ _ _ _ is_now inv.trying none counted printed)
+    let printed = subst (λ (bytes : List ℕ). Prints (output g.O.Sink c.try_next.new.out)
+    (output g.O.Sink c.print.new.out) bytes c.print.result) text c.print.ensures in
+    rw c.into_core-core.ensures.core
+    (done_due k.growth k.room reading c.args.moment (c.count.result - c.count-first.result)
+    g.N.Opened.state (state_of was.history (k.shown was.keeper))
+    (state_of core.history (k.shown core.keeper)) _ _ _ _ _ _ _ _ is_now inv.trying
+    (rw (c.in-Ok-false.is, c.in-Ok-false.field-0-test) at c.try_next.ensures.tries) counted printed)
+
+pub returns-in-Ok-false-clause-crashes : goal.returns-in-Ok-false-clause-crashes
+returns-in-Ok-false-clause-crashes g c =
+    (c.try_next.new.alone.logged.log, c.into_core-core.ensures.survives)
+
+pub returns-in-Err-clause-tried : goal.returns-in-Err-clause-tried
+returns-in-Err-clause-tried g c = λ reading is_now.
+    let k = g.P.Keeper in
+    let inv = c.due.invariant in
+    let was = c.due.alone.logged.core in
+    let core = c.into_core-core-in-Err.result in
+    let last = c.report_stop-status.new.core in
+    let ends = subst (λ (m : Machine _). EndsNext k.growth k.room c.args.moment
+    (state_of was.history (k.shown was.keeper)) (state_of m.history (k.shown m.keeper))
+    (tells g.K.Link c.due.link) (tells g.K.Link c.try_next.new.link) (output g.O.Sink c.due.out)
+    (output g.O.Sink c.try_next.new.out) c.try_next.result) (sym c.into_core-core-in-Err.ensures.core)
+    c.try_next.ensures.tries in
+    ended_due k.growth k.room reading c.args.moment g.N.Opened.state
+    (state_of was.history (k.shown was.keeper)) (state_of core.history (k.shown core.keeper))
+    (state_of last.history (k.shown last.keeper)) _ _ _ _ _ _ _ c.in-Err.stop _ is_now inv.trying
+    (rw c.in-Err.is at ends) c.report_stop-status.ensures.ends
+
+pub returns-in-Err-clause-crashes : goal.returns-in-Err-clause-crashes
+returns-in-Err-clause-crashes g c =
+    let k = g.P.Keeper in
+    let was = c.due.alone.logged.core in
+    let core = c.into_core-core-in-Err.result in
+    let last = c.report_stop-status.new.core in
+    let ends = subst (λ (m : Machine _). EndsNext k.growth k.room c.args.moment
+    (state_of was.history (k.shown was.keeper)) (state_of m.history (k.shown m.keeper))
+    (tells g.K.Link c.due.link) (tells g.K.Link c.try_next.new.link) (output g.O.Sink c.due.out)
+    (output g.O.Sink c.try_next.new.out) c.try_next.result) (sym c.into_core-core-in-Err.ensures.core)
+    c.try_next.ensures.tries in
+    stopped_survives k.growth k.room (base_of k.growth k.room g.N.Opened.state) c.args.moment
+    (state_of was.history (k.shown was.keeper)) (given g.N.Opened.state.history)
+    c.try_next.new.alone.logged.log g.N.Opened.crashes (standing_by k.shown k.crashes core)
+    (standing_by k.shown k.crashes last) _ _ _ _ _ c.in-Err.stop _ c.into_core-core-in-Err.ensures.survives
+    (rw c.in-Err.is at ends) c.report_stop-status.ensures.ends c.report_stop-status.ensures.time

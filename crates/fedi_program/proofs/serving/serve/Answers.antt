@@ -3,7 +3,7 @@ use denote.Param.Send.{sendable}
 use Rattle.fedi_index.proofs.Sent.{shelf_send}
 use Rattle.fedi_logged.proofs.Hosted.{hosted}
 use Rattle.fedi_program.proofs.RunLemmas.{doors_safe, doors_status}
-use Rattle.fedi_program.proofs.StoreLemmas.{serves_doors}
+use Rattle.fedi_program.proofs.StoreLemmas.{over, serves_doors}
 use Rattle.fedi_program.proofs.serving.serve.Goals as goal
 
 pub serve_core-end-requires-send-S : goal.serve_core-end-requires-send-S
@@ -20,10 +20,11 @@ returns-in-Ok g c =
     let core = c.in-Ok.core in
     let last = c.serve_core-end.result.core.keeper.disk in
     let closed = rw c.close_store.ensures.disk at c.close_store.ensures.closed in
-    let served = serves_doors g.W.Door g.K.Link _ (g.D.Disk.shown c.args.disk) (g.D.Disk.shown core.keeper.disk) (g.D.Disk.shown last) (g.D.Disk.crashes c.args.disk)
-    (g.D.Disk.crashes core.keeper.disk) (g.D.Disk.crashes last) _ _ (length core.keeper.gates.items) _ _ _
-    c.in-Ok.ensures.opened refl c.in-Ok.ensures.untouched (met.only_now c.args.disk) c.in-Ok.ensures.leaves (met.only_now core.keeper.disk)
-    c.serve_core-end.ensures.served closed (c.serve_core-end.result.end, c.status_after.ensures, c.serve_core-end.ensures.ends) in
+    let served = serves_doors _ _ _ _ _ g.W.Door g.K.Link _ _ _ _
+    (over g.D.Disk met.only_now c.args.disk core.keeper.disk last _ _
+    (length core.keeper.gates.items) c.in-Ok.ensures.opened refl c.in-Ok.ensures.untouched
+    c.in-Ok.ensures.leaves closed) c.serve_core-end.ensures.served
+    (c.serve_core-end.result.end, c.status_after.ensures, c.serve_core-end.ensures.ends) in
     record {
       served = rw c.close_store.ensures.disk served;
       safe = rw c.close_store.ensures.disk

@@ -6,6 +6,26 @@ use Rattle.fedi_turn.proofs.TurnFacts.{seat_has, last_writer}
 use Rattle.fedi_turn.proofs.LastLook.{all_continue, all_named}
 use Rattle.fedi_turn.proofs.lock.TurnLock.close.Goals as goal
 
+pub into_seat-seat-requires : goal.into_seat-seat-requires
+into_seat-seat-requires g c =
+    let idle = All-pop (IsIdle g.V.Grows c.args.self) c.args.passes.items c.pop.new.self.items (Some c.in-Some.first) c.in-Some.ensures.items c.requires in
+    (_, idle.1.1)
+
+pub wait_turn-value-requires-clause-table : goal.wait_turn-value-requires-clause-table
+wait_turn-value-requires-clause-table g c =
+    let idle = All-pop (IsIdle g.V.Grows c.args.self) c.args.passes.items c.pop.new.self.items (Some c.in-Some.first) c.in-Some.ensures.items c.requires in
+    (c.into_seat-seat.ensures.0 ∙ idle.1.0, c.args.self.sizes.0)
+
+pub wait_turn-value-requires-clause-seat : goal.wait_turn-value-requires-clause-seat
+wait_turn-value-requires-clause-seat g c =
+    let idle = All-pop (IsIdle g.V.Grows c.args.self) c.args.passes.items c.pop.new.self.items (Some c.in-Some.first) c.in-Some.ensures.items c.requires in
+    seat_has c.in-Some.first.gate.views c.into_seat-seat.result.me _ c.into_seat-seat.ensures.2 c.into_seat-seat.ensures.3 idle.1.1
+
+pub into_seat-requires : goal.into_seat-requires
+into_seat-requires g c =
+    let idle = All-pop (IsIdle g.V.Grows c.args.self) c.args.passes.items c.pop.new.self.items (Some c.in-Some.first) c.in-Some.ensures.items c.requires in
+    (_, idle.1.3)
+
 pub carry_reader-requires-clause-views : goal.carry_reader-requires-clause-views
 carry_reader-requires-clause-views g c =
     let idle = All-pop (IsIdle g.V.Grows c.args.self) c.args.passes.items c.pop.new.self.items (Some c.in-Some.first) c.in-Some.ensures.items c.requires in

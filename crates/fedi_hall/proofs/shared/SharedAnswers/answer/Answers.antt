@@ -1,7 +1,7 @@
 use Rattle.std.proofs.Common.{◌∙◌, Err, Ok, sym}
 use Rattle.fedi_town.specs.Histories.{town}
 use Rattle.fedi_hall.proofs.Knowing.{known_caller}
-use Rattle.fedi_hall.proofs.shared.SharedTurns.answer.Goals as goal
+use Rattle.fedi_hall.proofs.shared.SharedAnswers.answer.Goals as goal
 
 pub answer_in_turn-requires-clause-caller : goal.answer_in_turn-requires-clause-caller
 answer_in_turn-requires-clause-caller g c =

@@ -1,7 +1,7 @@
 use Rattle.std.proofs.Common.{None}
 use Rattle.fedi_log.specs.Keeping.{base_of}
 use Rattle.fedi_logged.proofs.Own.{alone_lacks, alone_more, lacks_here, tells_here}
-use Rattle.fedi_logged.proofs.alone.AloneTurns.answer.Goals as goal
+use Rattle.fedi_logged.proofs.alone.AloneRoutesAnswers.answer.Goals as goal
 
 pub returns-in_ok-ask-in-Ok-clause-ready : goal.returns-in_ok-ask-in-Ok-clause-ready
 returns-in_ok-ask-in-Ok-clause-ready g c = (

@@ -1,6 +1,6 @@
--- How a worker attempts one delivery, over a log that others add to too (ActivityPub, section 7.1).
-use Rattle.std.specs.Prelude.{◌≡◌, ◌⊎◌, ℕ, ◌≤◌, List, [], ◌∷◌, ◌++◌, length, Option, Result, Ok}
-use Rattle.std.specs.Prelude.{Err}
+-- How one delivery is attempted, over a log that others may add to too (ActivityPub, section 7.1).
+use Rattle.std.specs.Prelude.{◌≡◌, ◌⊎◌, ℕ, ◌≤◌, List, [], ◌∷◌, ◌++◌, length, Option, None, Some}
+use Rattle.std.specs.Prelude.{Result, Ok, Err}
 use Rattle.std.specs.declared.alloc.AllocError.{AllocError}
 use Rattle.fedi_core.specs.declared.delivering.RecordFault.{RecordFault}
 use Rattle.fedi_core.specs.declared.delivering.RecordFault.TheVariants as records
@@ -19,8 +19,10 @@ use Rattle.fedi_outside.specs.declared.turns.Rest.TheVariants as rests
 use Rattle.fedi_queue.specs.declared.rows.Claim.{Claim}
 use Rattle.fedi_logged.specs.Conversations.{IsNow, Setting}
 use Rattle.fedi_town.specs.Histories.{town}
-use Rattle.fedi_hall.specs.declared.delivering.Step.{Step}
-use Rattle.fedi_hall.specs.declared.delivering.Step.TheVariants.{Sent, Nothing, Fault, Full, Memory}
+use Rattle.fedi_logged.specs.declared.delivering.Step.{Step}
+use Rattle.fedi_logged.specs.declared.delivering.Step.TheVariants.{Sent, Nothing, Fault, Full}
+use Rattle.fedi_logged.specs.declared.delivering.Step.TheVariants.{Memory}
+use Rattle.fedi_logged.specs.declared.delivering.Tried.{Tried}
 
 -- an attempt: the log at which its delivery was claimed, the delivery and the claim, and the log at
 -- which the attempt ended
@@ -29,6 +31,50 @@ pub record Attempt : Type 0 where
   pub pair : Pair
   pub claim : Claim
   pub back : Log
+
+-- The delivery is the first that was due at this moment and not claimed, at a log that extends what
+-- was seen. The log at the end of the attempt extends the claim by items of others.
+pub record IsOut (by : Option ℕ) (moment : ℕ) (seen : Log) (a : Attempt) : Type 0 where
+  pub later : Goes by seen a.log
+  pub at : a.claim.moment ≡ moment
+  pub first : IsFirst a.pair.activity a.pair.recipient (free_in a.log moment)
+  pub back : Goes by (a.log ++ claim_item by a.pair a.claim ∷ []) a.back
+
+-- the delivery was attempted, and is claimed at the last log; its claim is at this position
+pub record IsTried (by : Option ℕ) (moment : ℕ) (seen now : Log) (asked heard : Told) (front : ℕ)
+    (t : Tried) : Type 0 where
+  pub log : Log
+  pub pair : Pair
+  pub out : IsOut by moment seen (record { log = log; pair = pair; claim = t.claim; back = now })
+  pub counts : front ≡ length log
+  pub exchanges : List Exchange
+  pub shows : ShowsCame (town (history_of log)) pair.activity pair.recipient exchanges t.came
+  pub exchanged : HasExchanged asked heard exchanges
+
+-- an attempt that was not finished because memory ran out, and whose delivery was released
+pub record IsGivenUp (by : Option ℕ) (moment : ℕ) (seen now : Log) (asked heard : Told) : Type 0
+  where
+    pub attempt : Attempt
+    pub out : IsOut by moment seen attempt
+    pub exchanges : List Exchange
+    pub begun :
+        IsBegun (town (history_of attempt.log)) attempt.pair.activity attempt.pair.recipient exchanges
+    pub exchanged : HasExchanged asked heard exchanges
+    pub released : now ≡ attempt.back ++ made_by by (Released attempt.pair) ∷ []
+
+-- The first delivery that is due at this moment and not claimed is attempted, and is then still
+-- claimed; or there is none; or memory ran out, and the delivery is released, or the log is crowded
+-- and nothing was claimed.
+abbrev pub TriesNext : Option ℕ → ℕ → (seen now : Log) → (asked heard : Told) → ℕ
+    → Result (Option Tried) AllocError → Type 0
+TriesNext by moment seen now asked heard front (Ok None) =
+    HasExchanged asked heard [] × Goes by seen now × (front ≡ length now)
+    × (free_in now moment ≡ [])
+TriesNext by moment seen now asked heard front (Ok (Some t)) =
+    IsTried by moment seen now asked heard front t
+TriesNext by moment seen now asked heard front (Err e) =
+    (HasExchanged asked heard [] × Goes by seen now × IsCrowded now)
+    ⊎ IsGivenUp by moment seen now asked heard
 
 -- The delivery is the first that was due and not claimed, at a moment that the clock gave and at a
 -- log that extends what was seen. The log at the end of the attempt extends the claim by items of

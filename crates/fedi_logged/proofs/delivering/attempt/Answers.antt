@@ -2,8 +2,8 @@ use Rattle.std.proofs.lemmas.Result.{err_from_is_err_and}
 use Rattle.fedi_log.specs.Log.{history_of}
 use Rattle.fedi_logged.proofs.Attempts.{lookup_begun, lookup_ended, lookup_may, none_sent, post_ended, post_may}
 use Rattle.fedi_town.specs.Histories.{town}
-use Rattle.fedi_hall.proofs.Attempting.{posted_at}
-use Rattle.fedi_hall.proofs.delivering.attempt.Goals as goal
+use Rattle.fedi_logged.proofs.Attempting.{posted_at}
+use Rattle.fedi_logged.proofs.delivering.attempt.Goals as goal
 
 pub returns-in_err-buffer-clause-came : goal.returns-in_err-buffer-clause-came
 returns-in_err-buffer-clause-came g c = λ p log more has begins sending.
@@ -43,3 +43,9 @@ returns-clause-came g c = λ p log more has begins sending.
 
 pub returns-clause-may_come : goal.returns-clause-may_come
 returns-clause-may_come g c = post_may c.post.ensures.posts.row c.post.result c.post.ensures.posts.shows
+
+pub returns-in_err-came-clause-same : goal.returns-in_err-came-clause-same
+returns-in_err-came-clause-same g c = g.T.Turns.same_none c.args.turns.now
+
+pub returns-in-Ended-clause-same : goal.returns-in-Ended-clause-same
+returns-in-Ended-clause-same g c = g.T.Turns.same_none c.args.turns.now
