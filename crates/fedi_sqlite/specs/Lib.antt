@@ -1,0 +1,4 @@
+pub mod Filling
+pub mod Kept
+pub mod Tables
+pub mod Vaults
