@@ -1,5 +1,6 @@
 //! Tests of what lies outside: doubles in memory, real streams, real files as disks and as journals,
-//! and journals in memory: files written by hand, and disks that stop or fail at each call.
+//! tables of a database in memory, and journals in memory: files written by hand, and disks that stop
+//! or fail at each call.
 #![tactic(auto)]
 
 #[cfg(test)]
@@ -16,5 +17,7 @@ mod journals;
 mod outside;
 #[cfg(test)]
 mod real_files;
+#[cfg(test)]
+mod selections;
 #[cfg(test)]
 mod stops;
