@@ -1,6 +1,6 @@
 //! The authors of the activities.
 
-ghost use Rattle.std.specs.Prelude.{◌≡◌, ◌+◌, ◌^◌, ◌<◌, [], IsTrue, OnOk, option_copied};
+ghost use Rattle.std.specs.Prelude.{◌≡◌, ◌+◌, ◌^◌, ◌<◌, [], IsTrue, OnErr, OnOk, option_copied};
 ghost use Rattle.std.specs.List.{find};
 ghost use Rattle.fedi_address.specs.Recipients.{add_new, is_among};
 ghost use Rattle.fedi_register.specs.Authors.{CountsOne, SameCounts, count_in, ids_of, is_author};
@@ -107,6 +107,7 @@ impl Authors {
     /// then nothing has changed.
     pub(crate) fn add(&mut self, id: &Iri) -> Result<(), AllocError>
         ensures known { OnOk result (ids_of self.new ≡ add_new (ids_of self.old) id.now) }
+        ensures err { OnErr result (ids_of self.new ≡ ids_of self.old) }
         ensures counts { SameCounts self.old self.new }
     {
         if self.is_known(id) {

@@ -3,7 +3,7 @@
 //! look-up visits only the few marks in the same chain as the one it is looking for.
 
 ghost use Rattle.std.specs.Prelude.{◌≡◌, ℕ, Bool, ◌∷◌, [], ◌+◌, ◌-◌, ◌^◌, ◌<◌, ◌≤◌, ◌++◌, OnErr};
-ghost use Rattle.std.specs.Prelude.{OnOk, IfOk, is_some, length, nat_eq, option_copied, set};
+ghost use Rattle.std.specs.Prelude.{OnErr, OnOk, IfOk, is_some, length, nat_eq, option_copied, set};
 ghost use Rattle.std.specs.Prelude.{slice_index, vec_capacity, vec_len};
 ghost use Rattle.std.specs.Fn.{FnReturnsAt};
 ghost use Rattle.fedi_register.specs.Chains.{HasHeads, IsChained, chain_of, marks_of, newest};
@@ -285,10 +285,11 @@ impl Marks {
     }
 
     /// Makes room for two more marks. The error is out of memory, also if there are more than
-    /// [`MOST_ITEMS`] marks.
+    /// [`MOST_ITEMS`] marks, and then there is room for none.
     pub fn reserve(&mut self) -> Result<(), AllocError>
         ensures marks { self.new.marks ≡ self.old.marks }
         ensures room { OnOk result (2 ≤ self.new.room) }
+        ensures err { OnErr result (self.new.room ≡ 0) }
     {
         self.room = 0;
         if self.steps.len() > MOST_ITEMS {

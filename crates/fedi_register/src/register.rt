@@ -1,7 +1,7 @@
 //! The accepted activities and the indexes used to look them up.
 
 ghost use Rattle.std.specs.Prelude.{◌≡◌, ◌∷◌, Bool, [], ◌+◌, ◌-◌, ◌&&◌, ◌^◌, ◌<◌, ◌≤◌, ◌++◌, IfOk};
-ghost use Rattle.std.specs.Prelude.{IsTrue, OnOk, Some, map, take, vec_len, vec_capacity};
+ghost use Rattle.std.specs.Prelude.{IsTrue, OnErr, OnOk, Some, map, take, vec_len, vec_capacity};
 ghost use Rattle.std.specs.Prelude.{option_copied, option_map, if◌then◌else◌};
 ghost use Rattle.std.specs.Fn.{FnReturnsAt};
 ghost use Rattle.std.specs.List.{find, fold, list_any};
@@ -390,11 +390,12 @@ impl Register {
     }
 
     /// Starts counting the activities of the author if they are not counted yet. The error is out
-    /// of memory.
+    /// of memory, and then the same authors are counted as before.
     pub fn add_author(&mut self, author: &Iri) -> Result<(), AllocError>
         ensures acts { self.new.acts ≡ self.old.acts }
         ensures room { self.new.room ≡ self.old.room }
         ensures ok { OnOk result (self.new.known ≡ add_new self.old.known author.now) }
+        ensures err { OnErr result (self.new.known ≡ self.old.known) }
     {
         self.authors.add(author)
     }

@@ -52,7 +52,10 @@ impl Line {
         let mut tickets = self.tickets.lock(rt);
         let next = tickets.served.wrapping_add(1);
         tickets.served = next;
+        let is_awaited = next != tickets.given;
         drop(tickets);
-        bell_of(&self.bells, next).notify_all();
+        if is_awaited {
+            bell_of(&self.bells, next).notify_all();
+        }
     }
 }

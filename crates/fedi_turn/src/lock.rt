@@ -21,8 +21,8 @@ pub enum Span {
 ///
 /// What it promises, it promises of calls that return. That a turn comes, in which order turns come,
 /// and how long one waits, no contract promises. It is made so that nobody waits for long: callers
-/// who do not find the value wait in a line, first come, first served, and only short turns pass the
-/// first of them, and that eight times at most.
+/// who do not find the value wait in a line, first come, first served. Only short turns pass the
+/// first of them: after it was woken for the eighth time in vain, the value is left to it.
 #[derive(Drop)]
 pub struct TurnLock<V: Grows> {
     pub(crate) gate: GateTable<V>,

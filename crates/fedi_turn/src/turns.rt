@@ -32,9 +32,10 @@ impl<V: Grows> TurnLock<V> {
     /// all that the pass has seen, and each item after that is another's. Takes no memory.
     ///
     /// A caller who does not find the value looks for it a hundred times, then waits in the line,
-    /// and at its head looks again and sleeps until a `give` wakes it. A short turn may come before
-    /// it, but not more than eight times, and a long one does not. If the caller before does not
-    /// give the value back, the call does not return.
+    /// and at its head looks again and sleeps until a `give` wakes it. Short turns may come before
+    /// it wakes, and take the value again. After eight times in vain the value is left to it. A
+    /// long turn does not come before it. If the caller before does not give the value back, the
+    /// call does not return.
     pub fn take<R: Wait>(&self, rt: &R, pass: &mut Pass<V::Item>, span: Span) -> Held<V, V::Item>
         requires { IsIdle V.Grows self.now pass.old }
         ensures turn { IsTurn V.Grows self.now pass.new result }
