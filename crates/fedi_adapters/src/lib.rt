@@ -16,6 +16,7 @@ mod tcp_benches;
 mod tcp_doors;
 mod tcp_lines;
 mod tcp_links;
+mod waiting;
 
 pub use file_disk::FileDisk;
 pub use health::Health;

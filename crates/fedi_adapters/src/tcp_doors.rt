@@ -79,7 +79,7 @@ impl<'a, R: Net<Listener = TcpListener, Stream = TcpStream> + Clock + Wait> TcpD
         for _ in self.rt.forever() {
             let stream = self.listening.next()?;
             // It fails if the other side has left.
-            if let Ok(line) = TcpLine::new(self.rt, stream) {
+            if let Ok(line) = TcpLine::new(self.rt, self.listening, stream) {
                 return Some(line);
             }
         }
