@@ -1,7 +1,7 @@
 //! A selection in memory that may be made to fail.
-ghost use Rattle.std.specs.Prelude.{◌≡◌, ◌↔◌, [], IfOk, IsErrOf, IsTrue};
-ghost use Rattle.fedi_outside.specs.Plans.{is_to_fail, no_faults};
-ghost use Rattle.fedi_selection.specs.ActRows.{is_by, picked};
+ghost use Rattle.std.specs.Prelude.{◌≡◌, ◌↔◌, [], IfOk, IsErrOf, IsTrue, OnErr, OnOk};
+ghost use Rattle.fedi_outside.specs.Plans.{after_call, is_to_fail, no_faults};
+ghost use Rattle.fedi_selection.specs.ActRows.{AreInOrder, is_by, picked};
 ghost use Rattle.fedi_selection.specs.MemorySelections.{selection_shown};
 
 use crate::act_rows::ActRow;
@@ -86,7 +86,13 @@ fn picked(
 impl Selection for MemorySelection {
     ghost shown = { selection_shown };
 
-    fn lay(&mut self, alloc: Global, rows: &[ActRow]) -> Result<(), SelectionFault> {
+    fn lay(&mut self, alloc: Global, rows: &[ActRow]) -> Result<(), SelectionFault>
+        requires order { AreInOrder rows.now }
+        ensures failed { IsErrOf result SelectionFault.Failed ↔ IsTrue (is_to_fail self.old.plan) }
+        ensures laid { OnOk result (self.new.laid ≡ rows.now) }
+        ensures same { OnErr result (self.new.laid ≡ self.old.laid) }
+        ensures plan { self.new.plan ≡ after_call self.old.plan }
+    {
         if self.plan.next_fails() {
             return Err(SelectionFault::Failed);
         }
@@ -99,7 +105,12 @@ impl Selection for MemorySelection {
         alloc: Global,
         actor: &str,
         kind: &str,
-    ) -> Result<Vec<ActRow>, SelectionFault> {
+    ) -> Result<Vec<ActRow>, SelectionFault>
+        ensures failed { IsErrOf result SelectionFault.Failed ↔ IsTrue (is_to_fail self.old.plan) }
+        ensures found { IfOk result (λ found.
+            found.items ≡ picked actor.now kind.now self.old.laid) }
+        ensures after { self.new ≡ record self.old { plan = after_call self.old.plan } }
+    {
         if self.plan.next_fails() {
             return Err(SelectionFault::Failed);
         }

@@ -1,5 +1,5 @@
 //! A selection over a table of a database.
-ghost use Rattle.std.specs.Prelude.{◌≡◌, IfOk, List, None, Some, []};
+ghost use Rattle.std.specs.Prelude.{◌≡◌, IfErr, IfOk, List, None, Some, []};
 ghost use Rattle.sqlite.specs.Held.{state};
 ghost use Rattle.fedi_selection.specs.ActRows.{ActFields, AreInOrder};
 ghost use Rattle.fedi_selection.specs.Databases.{IsSteady};
@@ -39,8 +39,9 @@ impl TableSelection<MemStore> {
     /// A selection over a new database in memory, in which nothing is laid. It reports its rows.
     /// The error is out of memory.
     pub fn in_memory(alloc: Global) -> Result<TableSelection<MemStore>, SelectionFault>
-        ensures { IfOk result (λ made. ⟦<TableSelection<MemStore> as Selection>⟧.shown made
+        ensures shown { IfOk result (λ made. ⟦<TableSelection<MemStore> as Selection>⟧.shown made
             ≡ record { laid = Some []; faults = 0 }) }
+        ensures memory { IfErr result (λ fault. fault ≡ SelectionFault.Memory) }
     {
         let mut conn = Connection::open_in_memory(alloc)?;
         match make_acts(&mut conn) {

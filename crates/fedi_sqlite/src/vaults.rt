@@ -1,5 +1,6 @@
 //! A vault over a database.
-ghost use Rattle.std.specs.Prelude.{◌≡◌, [], IfErr, IfOk, None, Some, false};
+ghost use Rattle.std.specs.Prelude.{◌≡◌, [], IfErr, IfOk, None, Some, false, is_some, not};
+ghost use Rattle.fedi_outside.specs.Vaults.{IsFilled, after_fill};
 ghost use Rattle.fedi_sqlite.specs.Vaults.{counted_fault, counted_unfilled, vault_shown};
 
 use crate::filling::fill_table;
@@ -65,6 +66,13 @@ impl<S: Alter + Drop> TableVault<S> {
             faults: 0,
             reports: false,
         }
+    }
+
+    /// The connection to its database, unless a keeper is out.
+    pub fn into_connection(self) -> Option<Connection<S>>
+        ensures { is_some result ≡ not (⟦<TableVault<S> as Vault>⟧.shown self).out }
+    {
+        self.conn
     }
 }
 
@@ -137,7 +145,15 @@ impl<S: Alter + Drop> Vault for TableVault<S> {
         self.conn = Some(keeper.conn);
     }
 
-    fn fill<P: Keeper>(&mut self, alloc: Global, from: &mut P) -> Result<(), FillFault> {
+    // It reports its records after the filling if it did before.
+    fn fill<P: Keeper>(&mut self, alloc: Global, from: &mut P) -> Result<(), FillFault>
+        requires home { (vault_shown S.Store self.old).out ≡ false }
+        ensures filled { IsFilled (P.shown from.old).records (vault_shown S.Store self.old)
+            (vault_shown S.Store self.new) result }
+        ensures source { P.shown from.new ≡ after_fill result (P.shown from.old) }
+        ensures outside { P.only_read from.old from.new }
+        ensures reports { self.new.reports ≡ self.old.reports }
+    {
         let Some(mut conn) = self.conn.take() else {
             unreachable!();
         };

@@ -12,7 +12,7 @@ invariant_of-result c reports =
     let made = (c.in-Ok.ensures (memory_is_steady c.in_ok-conn.conn c.make_acts.new.conn)).first (empty_is_at_rest (state over_memory c.in_ok-conn.conn) c.in_ok-conn.ensures.empty) in
     knows_of over_memory c.make_acts.new.conn [] memory_is_steady (record { rests = made; order = tt })
 
-pub returns-in-Ok : goal.returns-in-Ok
-returns-in-Ok c =
+pub returns-in-Ok-clause-shown : goal.returns-in-Ok-clause-shown
+returns-in-Ok-clause-shown c =
     let made = (c.in-Ok.ensures (memory_is_steady c.in_ok-conn.conn c.make_acts.new.conn)).first (empty_is_at_rest (state over_memory c.in_ok-conn.conn) c.in_ok-conn.ensures.empty) in
     ap (λ rows. record { laid = Some rows; faults = 0 }) (acts_are (state over_memory c.make_acts.new.conn) [] (record { rests = made; order = tt }))

@@ -54,3 +54,9 @@ returns-in-Err-clause-filled g c =
       home = refl;
       cause = c.counted_unfilled-self-inside.ensures ∙ ap (λ v. counted_unfilled c.in-Err.fault (vault_shown g.S.Store v).faults) c.self.view_is ∙ counted_unfilled_same ℕ c.in-Err.fault _;
     }
+
+pub returns-in-Ok-clause-reports : goal.returns-in-Ok-clause-reports
+returns-in-Ok-clause-reports g c = ap (λ v. v.reports) c.self.view_is
+
+pub returns-in-Err-clause-reports : goal.returns-in-Err-clause-reports
+returns-in-Err-clause-reports g c = ap (λ v. v.reports) c.self.view_is
