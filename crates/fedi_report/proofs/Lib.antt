@@ -2,3 +2,4 @@ mod Blocks
 mod Exported
 mod Pieces
 pub mod RowLemmas
+pub mod Selecting

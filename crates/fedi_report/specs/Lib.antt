@@ -1,3 +1,4 @@
 pub mod Exports
 pub mod Reports
+pub mod Selections
 pub mod Tables

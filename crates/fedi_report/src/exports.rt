@@ -39,19 +39,19 @@ fn locked_text(member: &Actor) -> &str
     if member.locked { "yes" } else { "no" }
 }
 
-fn kind_text(act: &Kept) -> &str
+pub(crate) fn kind_text(act: &Kept) -> &str
     ensures { result.now ≡ kind_name act.now.activity.kind }
 {
     act.kind().name()
 }
 
-fn state_text(act: &Kept) -> &str
+pub(crate) fn state_text(act: &Kept) -> &str
     ensures { result.now ≡ state_name act.now.state }
 {
     act.state().name()
 }
 
-fn id_text(id: Option<&Iri>) -> &str
+pub(crate) fn id_text(id: Option<&Iri>) -> &str
     ensures { result.now ≡ text_of (option_copied id.entry) }
 {
     match id {
@@ -147,7 +147,7 @@ fn counted_at<'a, L: Ledger>(facts: &'a Facts, position: usize, blank: Blank) ->
 }
 
 // The activity at this position in the order of acceptance, if there is one.
-fn activity_at(facts: &Facts, position: usize) -> Option<&Kept>
+pub(crate) fn activity_at(facts: &Facts, position: usize) -> Option<&Kept>
     ensures { option_copied result ≡ slice_get facts.now.town.acts position }
 {
     counted_at::<Brand>(facts, position, Blank::new(1))
@@ -196,10 +196,15 @@ impl Table for Activities<'_> {
     }
 }
 
-fn write_activities<K: Sink>(alloc: Global, facts: &Facts, sink: &mut K) -> Result<(), ReportFault>
+/// Writes a table with the columns of the export of activities.
+pub(crate) fn write_activity_table<T: Table, K: Sink>(
+    alloc: Global,
+    table: &T,
+    sink: &mut K,
+) -> Result<(), ReportFault>
     ensures { Reports (output_by K.sent K.write_faults sink.old)
         (output_by K.sent K.write_faults sink.new)
-        (rows_text (activity_columns ∷ activity_rows 0 facts.now.town.acts)) result }
+        (rows_text (activity_columns ∷ T.rows table.now)) result }
 {
     let columns = [
         b"place".as_slice(),
@@ -209,7 +214,7 @@ fn write_activities<K: Sink>(alloc: Global, facts: &Facts, sink: &mut K) -> Resu
         b"state".as_slice(),
         b"moment".as_slice(),
     ];
-    write_table(alloc, &Activities { facts }, &columns, sink)
+    write_table(alloc, table, &columns, sink)
 }
 
 // ---- deliveries
@@ -321,7 +326,8 @@ pub fn csv_activities<S: Shelf + Drop, P: Keeper, K: Sink>(
         (output_by K.sent K.write_faults sink.new)
         (activities_text (town core.now.history)) result }
 {
-    write_activities(alloc, core.facts(), sink)
+    let facts = core.facts();
+    write_activity_table(alloc, &Activities { facts }, sink)
 }
 
 /// Writes the deliveries that have not ended (ActivityPub, section 7.1), in the order of acceptance

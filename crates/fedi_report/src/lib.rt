@@ -2,6 +2,7 @@
 #![tactic(auto)]
 
 mod exports;
+mod selections;
 mod tables;
 
 ghost use Rattle.std.specs.Prelude.{◌≡◌, ◌++◌, IfOk, OnOk, decimal};
@@ -14,6 +15,7 @@ use fedi_core::Core;
 use fedi_outside::Keeper;
 use fedi_visible::Shelf;
 use itoa::Buffer;
+pub use selections::{SelectFault, act_rows, csv_selected};
 use std::alloc::{AllocError, Global};
 pub use tables::ReportFault;
 

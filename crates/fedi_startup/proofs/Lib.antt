@@ -5,3 +5,4 @@ pub mod OpeningSteps
 pub mod Stored
 pub mod Surviving
 pub mod Told
+mod VaultSteps

@@ -9,7 +9,7 @@ use Rattle.fedi_outside.specs.Causes.{next_count}
 use Rattle.fedi_outside.specs.Disks.{DiskCrashes, DiskState, Elapses, IsTorn, MayTear}
 use Rattle.fedi_startup.specs.Stores.{IsDuring, IsStoreOf, LeavesFiles, LeftFiles, records_of}
 use Rattle.fedi_startup.specs.declared.faults.MakeFault.{MakeFault}
-use Rattle.fedi_startup.specs.declared.faults.MakeFault.TheVariants.{Exists, Failed, Memory}
+use Rattle.fedi_startup.specs.declared.faults.MakeFault.TheVariants.{Exists, Failed, Full, Memory}
 
 -- it was not both longer than a journal without records and different at the beginning
 abbrev pub WasFree : Option (List ℕ) → Type 0
@@ -47,6 +47,7 @@ abbrev pub IsNotMade : List ℕ → MakeFault → DiskState → DiskState → Ty
 IsNotMade code Exists before after =
     IfSome before.reads (IsOther chained) × (after.reads ≡ before.reads)
     × (after.faults ≡ before.faults)
+IsNotMade code Full before after = ⊥
 IsNotMade code Failed before after =
     MayBeBegun code before.reads after.reads × (after.faults ≡ next_count before.faults)
 IsNotMade code Memory before after =

@@ -63,13 +63,17 @@ impl From<OpenFault> for StoreFault {
     }
 }
 
-/// Why a disk was not made a store.
+/// Why a disk or a vault was not made a store.
 #[derive(Clone, Copy, Debug, PartialEq, Eq, Error)]
 pub enum MakeFault {
-    /// The disk has more than 9 bytes, and does not begin with the magic and a closed gate.
+    /// The disk has more than 9 bytes, and does not begin with the magic and a closed gate; or the
+    /// vault keeps at least one record.
     #[error("it exists")]
     Exists,
-    /// The disk failed, and has counted it.
+    /// The vault has no room for a first record. A disk has.
+    #[error("it is full")]
+    Full,
+    /// The disk or the vault failed, and has counted it.
     #[error("the disk failed")]
     Failed,
     /// Out of memory.

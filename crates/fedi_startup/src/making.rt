@@ -17,7 +17,7 @@ use fedi_text::Moment;
 use std::alloc::{AllocError, Global};
 
 // The first entry of a history.
-fn first_entry(host: Host, moment: Moment) -> Entry
+pub(crate) fn first_entry(host: Host, moment: Moment) -> Entry
     ensures entry { result ≡ Hosted host moment }
     ensures sound { IsSound (Hosted host moment ∷ []) }
 {

@@ -25,7 +25,7 @@ use std::alloc::{AllocError, Global};
 pub type StoreCore<D> = Core<IndexedShelf, Journal<D>>;
 
 // Opens the machine over the records of a keeper.
-fn open_core<P: Keeper>(
+pub(crate) fn open_core<P: Keeper>(
     alloc: Global,
     seed: Seed,
     keeper: P,
