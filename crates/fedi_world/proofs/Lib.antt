@@ -1,0 +1,15 @@
+pub mod Arriving
+pub mod Causes
+pub mod Crashed
+pub mod Ended
+pub mod Finding
+pub mod Kept
+pub mod Reached
+pub mod Recorded
+pub mod Saying
+pub mod Spots
+pub mod Started
+pub mod Taking
+pub mod Ties
+pub mod Waiting
+pub mod Whole
