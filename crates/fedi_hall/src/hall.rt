@@ -157,6 +157,7 @@ impl<S: Shelf + Drop, P: Keeper + Drop, O: Opened> Hall<S, P, O> {
             (state_of core.history (P.shown core.keeper)) (P.crashes core.keeper) log
             × ContinuesEach ⟦<Logged<S, P, O> as Grows>⟧ passes.items log
             × NamesOneOf ⟦<Logged<S, P, O> as Grows>⟧ self.lock passes.items log) }
+        ensures back { IfErr result (λ back. (back.0 ≡ self) × (back.1 ≡ passes)) }
     {
         let Hall { lock, lobby } = self;
         match lock.close(rt, passes) {
