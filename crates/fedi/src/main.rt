@@ -10,7 +10,10 @@ use fedi_adapters::{
     Writing, benches,
 };
 use fedi_outside::{Bench, Door};
-use fedi_program::{Connection, OUT_OF_MEMORY, Seed, address_of, run, second_store_of, store_of};
+use fedi_program::{
+    Connection, OUT_OF_MEMORY, Seed, TABLE, address_of, run, second_store_of, store_of,
+};
+use fedi_tables::{FileSelection, FileVault};
 use std::alloc::{AllocError, Global};
 use std::fs::{File, Files};
 use std::io::ErrorKind;
@@ -91,6 +94,20 @@ fn outside<
     Ok((FileDisk::watched(rt, path, health), benches))
 }
 
+// The file of the table among these two stores, or no path.
+fn table_of<'a>(store: &'a str, second: &'a str) -> &'a str {
+    let table = store
+        .strip_prefix(TABLE)
+        .or_else(|| second.strip_prefix(TABLE));
+    table.unwrap_or_default()
+}
+
+// The file in which the activities of a store are laid for a report: beside the file of the store.
+// The error is out of memory.
+fn report_of(alloc: Global, store: &str) -> Result<String, AllocError> {
+    format!(in alloc; "{}.report", store.strip_prefix(TABLE).unwrap_or(store))
+}
+
 fn main(rt: HostRuntime) -> ExitCode {
     let Ok(arguments) = arguments(&rt) else {
         return ExitCode::from(OUT_OF_MEMORY);
@@ -106,13 +123,21 @@ fn main(rt: HostRuntime) -> ExitCode {
     // In the same way, only `serve` asks its doors, and the address is bound, or the socket on the
     // standard input taken, when one is first asked.
     let address = address_of(&arguments).unwrap_or_default();
-    let listening = Listening::new(&rt, address).or_on(rt.stdin());
+    let listening = Listening::new(&rt, rt.alloc(), address).or_on(rt.stdin());
     let alloc = rt.alloc();
     let Ok((disk, benches)) = outside(&rt, alloc, path, &listening, &health) else {
         return ExitCode::from(OUT_OF_MEMORY);
     };
     // Only `migrate` names a second store, and asks its disk.
-    let second = FileDisk::new(&rt, second_store_of(&arguments).unwrap_or_default());
+    let second_path = second_store_of(&arguments).unwrap_or_default();
+    let second = FileDisk::new(&rt, second_path);
+    // Only a store that is a table asks the vault, and by that opens its file.
+    let mut vault = FileVault::new(&rt, table_of(path, second_path));
+    // In the same way, only `report` asks the selection.
+    let Ok(report) = report_of(alloc, path) else {
+        return ExitCode::from(OUT_OF_MEMORY);
+    };
+    let mut selection = FileSelection::new(&rt, &report);
     let mut entropy = SystemEntropy::new(&rt);
     let ended = run(
         &rt,
@@ -122,8 +147,13 @@ fn main(rt: HostRuntime) -> ExitCode {
         &mut connection,
         disk,
         second,
+        &mut vault,
+        &mut selection,
         benches,
         &mut entropy,
     );
+    // What the run has kept is safe without this, in two files.
+    vault.finish();
+    selection.finish();
     ExitCode::from(ended.status)
 }

@@ -1,5 +1,5 @@
 -- How trials follow one another, and how their trying ends.
-use Rattle.std.proofs.Common.{◌≡◌, ◌⊎◌, ℕ, ◌+◌, ◌-◌, ◌≤◌, false, true, List, [], ◌∷◌, ◌++◌, length, Option, None, Some, Ok, Err, arith, inl, inr, refl, sym, ap, subst, ◌∙◌, append-nil, codes}
+use Rattle.std.proofs.Common.{◌≡◌, ℕ, ◌+◌, ◌-◌, ◌≤◌, false, true, List, [], ◌∷◌, ◌++◌, length, Option, None, Some, Ok, Err, arith, inl, inr, refl, sym, ap, subst, ◌∙◌, append-nil, codes}
 use Rattle.std.proofs.lemmas.Grind.{flat_map-append}
 use Rattle.std.proofs.lemmas.List.{length-append}
 use Rattle.fedi_core.specs.Keeping.{IsKept, Refuses}
@@ -17,7 +17,7 @@ use Rattle.fedi_logged.specs.Turns.{Standing, Turns}
 use Rattle.fedi_objects.specs.declared.entry.Entry.{Entry}
 use Rattle.fedi_objects.specs.declared.entry.Entry.TheVariants.{Tried}
 use Rattle.fedi_opening.specs.Opening.{IsNext}
-use Rattle.fedi_outside.specs.Keepers.{Crashes, KeeperState, OnlyRoomChanged, PassesTime, after_fault}
+use Rattle.fedi_outside.specs.Keepers.{Crashes, KeeperState, OnlyRoomChanged, PassesTime}
 use Rattle.fedi_startup.specs.Surviving.{growth, room}
 use Rattle.fedi_logged.specs.Conversations.{IsNow}
 use Rattle.fedi_logged.specs.Endings.{BreaksOff, Output, Writes, WritesUnlessFailed}

@@ -1,7 +1,9 @@
 pub mod CheckLemmas
+pub mod CompleteInLemmas
 pub mod CompleteLemmas
 pub mod DeliverLemmas
 pub mod Examples
+pub mod FillLemmas
 pub mod HeadlineLemmas
 pub mod MemberLemmas
 pub mod MigrateLemmas
@@ -9,6 +11,10 @@ pub mod MigratingLemmas
 pub mod NextLemmas
 pub mod NumberLemmas
 pub mod PeerLemmas
+pub mod PlayLemmas
+pub mod ReportLemmas
 pub mod RunLemmas
 pub mod StoreLemmas
+pub mod TableLemmas
 pub mod WordLemmas
+pub mod WorkLemmas

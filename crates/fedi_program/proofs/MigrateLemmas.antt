@@ -130,7 +130,7 @@ migrate_status disks old left before after first now status (_, inr (history, _,
 
 -- ---- it is done
 
-refused_done : (fault : StoreFault) (old left : DiskState) (first now : Output) (status : ℕ) (history : List Entry) → IsNotRead fault old → left.faults ≡ count_after fault old.faults
+pub refused_done : (fault : StoreFault) (old left : DiskState) (first now : Output) (status : ℕ) (history : List Entry) → IsNotRead fault old → left.faults ≡ count_after fault old.faults
     → ReportsStore fault first now status → HasEitherStore old history → IsCalm old.faults left.faults → IsDone Migrate status
 refused_done stores.NotAStore old left first now status history why faults tells (bytes, told, store) calm =
     absurd (either_none history bytes store (of_known old.reads _ why bytes told))
@@ -142,7 +142,7 @@ refused_done (stores.DamagedRecord place) old left first now status history why 
 refused_done stores.Failed old left first now status history why faults tells has calm = absurd (calm (rises old.faults left.faults faults))
 refused_done stores.Memory old left first now status history why faults tells has calm = inr (inl tells.0)
 
-ends_done : (reads : Option (List ℕ)) (history : List Entry) (was is : ℕ) (before after : Medium) (first now : Output) (status : ℕ) (old bytes : List ℕ)
+ends_done : {A : Type 0} (reads : Option A) (history : List Entry) (was is : ℕ) (before after : Medium) (first now : Output) (status : ℕ) (old : A) (bytes : List ℕ)
     → EndsFilling reads history was is before after first now status → reads ≡ Some old → before.shown.reads ≡ Some bytes → (IsTooLong (records_of history) → ⊥)
     → IsCalm was is → IsCalm before.shown.faults after.shown.faults → IsCalm first.faults now.faults → IsDone Migrate status
 ends_done reads history was is before after first now status old bytes (inl (copies.Source, unfilled, _, tells)) known told short calm second writes =
@@ -155,7 +155,7 @@ ends_done reads history was is before after first now status old bytes (inl (cop
 ends_done reads history was is before after first now status old bytes (inr (_, _, _, prints)) known told short calm second writes =
     printed Migrate first now _ status writes prints
 
-moves_done : (reads : Option (List ℕ)) (history : List Entry) (was is : ℕ) (before after : Medium) (first now : Output) (status : ℕ) (old bytes : List ℕ)
+pub moves_done : {A : Type 0} (reads : Option A) (history : List Entry) (was is : ℕ) (before after : Medium) (first now : Output) (status : ℕ) (old : A) (bytes : List ℕ)
     → MovesTo reads history was is before after first now status → reads ≡ Some old → before.shown.reads ≡ Some bytes → (IsVisible bytes → ⊥) → (IsTooLong (records_of history) → ⊥)
     → IsCalm was is → IsCalm before.shown.faults after.shown.faults → IsCalm first.faults now.faults → IsDone Migrate status
 moves_done reads history was is before after first now status old bytes (inl (_, (inits.Exists, why, _, _, tells))) known told free short calm second writes =

@@ -1,5 +1,5 @@
 -- What moving the records of a store makes of two disks.
-use Rattle.std.proofs.Common.{◌≡◌, ◌⊎◌, ⊎_elim, ℕ, List, [], ◌∷◌, length, take, Option, Some, None, arith, inl, inr, refl, sym, ap, subst, ◌∙◌}
+use Rattle.std.proofs.Common.{◌≡◌, ⊎_elim, ℕ, List, [], ◌∷◌, length, take, Option, Some, None, arith, inl, inr, refl, sym, ap, subst, ◌∙◌}
 use Rattle.std.specs.Prelude.{◌≢◌, IfSome, Err, option_map}
 use Rattle.fedi_journal.specs.Chains.{IsHidden, chained, hidden}
 use Rattle.fedi_journal.specs.Finding as journals
@@ -127,19 +127,19 @@ module _ {A B : Type 0} (a : Option A) (b : Option B) (here : (Q : Type 0) → I
       )
 
 -- the count of faults after an opening
-counts_open : (fault : OpenFault) (k : KeeperState) → (after_open {T = ℕ} (Err fault) k).faults ≡ count_after (of_opening fault) k.faults
+pub counts_open : (fault : OpenFault) (k : KeeperState) → (after_open {T = ℕ} (Err fault) k).faults ≡ count_after (of_opening fault) k.faults
 counts_open openings.Failed k = refl
 counts_open (openings.Damaged place) k = refl
 counts_open openings.Empty k = refl
 counts_open openings.Memory k = refl
 
-no_records : (rs : List (List ℕ)) → 0 ≡ length rs → rs ≡ []
+pub no_records : (rs : List (List ℕ)) → 0 ≡ length rs → rs ≡ []
 no_records [] is = refl
 no_records (r ∷ rs) is = absurd (omega (arith, is))
 
 module _ (f : Format) (either : (P : Format → Type 0) → P f → InEither P) where
   -- the records of a keeper that was read from a disk are no history
-  not_stopped : (fault : OpenFault) (read : List Entry) (disk : DiskState) (k : KeeperState)
+  pub not_stopped : (fault : OpenFault) (read : List Entry) (disk : DiskState) (k : KeeperState)
       → ((bytes : List ℕ) → disk.reads ≡ Some bytes → (rs : List (List ℕ)) × IsImage f rs bytes × (k.records ≡ Some rs) × (k.end ≡ length (front f rs)))
       → IfSome k.records (λ records. k.held ≡ length records) → IsStopped fault k read → IsNotRead (of_opening fault) disk
   not_stopped openings.Failed read disk k finds counted stopped = tt

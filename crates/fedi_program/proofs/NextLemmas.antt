@@ -1,5 +1,5 @@
 -- The delivery that is tried next by a machine that nobody else uses.
-use Rattle.std.proofs.Common.{◌≡◌, ◌⊎◌, ℕ, Bool, true, false, cond, List, [], ◌∷◌, ◌++◌, All}
+use Rattle.std.proofs.Common.{◌≡◌, ℕ, Bool, true, false, cond, List, [], ◌∷◌, ◌++◌, All}
 use Rattle.std.proofs.Common.{Option, None, Some, Result, Ok, Err, inl, inr, refl, sym, ap, subst}
 use Rattle.std.proofs.Common.{◌∙◌, IfOk, Vec, append_assoc, append-nil}
 use Rattle.std.proofs.lemmas.List.{append_cancel_left}

@@ -1,18 +1,5 @@
 -- A number of at most four digits.
-use Rattle.std.proofs.Common.{
-  ◌≡◌,
-  ◌^◌,
-  ◌<◌,
-  ◌≤◌,
-  ℕ,
-  true,
-  List,
-  [],
-  ◌∷◌,
-  length,
-  arith,
-  lit<,
-}
+use Rattle.std.proofs.Common.{◌≡◌, ◌^◌, ◌<◌, ◌≤◌, ℕ, true, List, length, arith, lit<}
 use Rattle.std.specs.Str.Parse.{digits_value}
 use Rattle.std.proofs.Math.Nat.{pow-le-pow_right}
 use Rattle.std.proofs.lemmas.Int.Digits.{digits_value-lt}

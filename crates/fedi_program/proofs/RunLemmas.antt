@@ -43,11 +43,15 @@ not_done (faults.DamagedRecord place) is = absurd cc
 not_done faults.Failed is = absurd cc
 not_done faults.Memory is = absurd cc
 
+never_begun : (status : ℕ) → status ≡ 0 → status ≡ 12 → ⊥
+never_begun status done is = let clash : 12 ≡ 0 = sym is ∙ done in cc clash
+
 -- at status 0 the whole conversation was held
 pub store_talks : (told : Option ℕ) (before after : Medium) (first now : Scene) (status : ℕ) → status ≡ 0
     → ServesStore told before after first now status → TalksOverStore told before after first now
 store_talks told before after first now status done (inl (fault, _, _, is)) = absurd (not_done fault (sym done ∙ is))
-store_talks told before after first now status done (inr (opened, closed, log, served, ran)) =
+store_talks told before after first now status done (inr (opened, closed, log, served, inr unserved)) = absurd (never_begun status done unserved.0)
+store_talks told before after first now status done (inr (opened, closed, log, served, inl ran)) =
     (opened, closed, log, served, session_talks (setting_by growth room told None opened) opened log first now status done ran)
 
 -- ---- what becomes of the store

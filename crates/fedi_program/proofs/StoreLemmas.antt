@@ -1,10 +1,9 @@
 -- A machine that was opened over a disk, and closed.
-use Rattle.std.proofs.Common.{◌≡◌, ℕ, Bool, Option, Some, None, List, [], inl, inr, refl, sym, subst, ◌∙◌}
+use Rattle.std.proofs.Common.{◌≡◌, ℕ, Option, Some, None, List, [], inl, inr, refl, subst}
 use Rattle.std.specs.Prelude.{IfSome}
 use Rattle.fedi_address.specs.Hosts.{IsHost}
 use Rattle.fedi_entry.specs.Codes.{code_of}
 use Rattle.fedi_journal.specs.Chains.{chained}
-use Rattle.fedi_outside.proofs.ImageSteps.{of_some}
 use Rattle.fedi_outside.specs.Known.{record_crashes, records_told}
 use Rattle.fedi_journal.specs.Making.{KeepsOther}
 use Rattle.fedi_log.specs.Keeping.{HoldsFrom, State, since}
@@ -14,19 +13,14 @@ use Rattle.fedi_objects.specs.declared.entry.Entry.TheVariants.{Hosted}
 use Rattle.fedi_outside.proofs.Untouched.{untouched_now}
 use Rattle.fedi_outside.specs.Disks.{DiskCrashes, DiskState, IsUntouched}
 use Rattle.fedi_outside.specs.Keepers.{Crashes}
-use Rattle.fedi_startup.proofs.OpeningSteps.{begins_so}
 use Rattle.fedi_startup.proofs.Stored.{leaves_stores, stores_along, stores_found}
 use Rattle.fedi_startup.proofs.Surviving.{survives_on_disk}
-use Rattle.fedi_startup.proofs.Told.{each_some}
 use Rattle.fedi_startup.specs.Making.{LeavesAtMost}
 use Rattle.fedi_logged.specs.Marks.{MarksMayCome, Survives}
-use Rattle.fedi_startup.specs.Stores.{IsClosed, IsOpened, IsStoreOf, LeavesFiles, records_of}
+use Rattle.fedi_startup.specs.Stores.{IsClosed, IsOpened, LeavesFiles, records_of}
 use Rattle.fedi_startup.specs.Surviving.{LeavesStoresAlong, LeavesStoresFound, SurvivesOnDisk, growth, opened_base, room}
-use Rattle.fedi_startup.specs.declared.faults.StoreFault.TheVariants as faults
 use Rattle.fedi_logged.specs.Conversations.{IsNow}
-use Rattle.fedi_logged.specs.Endings.{Output, Scene}
-use Rattle.fedi_program.specs.Endings.{RunsTo}
-use Rattle.fedi_logged.specs.Turning.{setting_by}
+use Rattle.fedi_logged.specs.Endings.{Output}
 use Rattle.fedi_hall.specs.Serving.{EndsServing, ServesAll}
 use Rattle.fedi_hall.specs.declared.serving.ServeEnd.{ServeEnd}
 use Rattle.fedi_outside.specs.declared.disks.Disk.{Ghosts as DiskGhosts}
@@ -35,7 +29,7 @@ use Rattle.fedi_outside.specs.declared.doors.Door.{Ghosts as DoorGhosts}
 use Rattle.fedi_outside.specs.declared.links.Link.{Ghosts as LinkGhosts}
 use Rattle.fedi_program.specs.Seen.{Medium, medium, tells}
 use Rattle.fedi_program.specs.Serving.{ServesDoors, status_after}
-use Rattle.fedi_program.specs.Stores.{ChecksStore, Counts, EndsMaking, ExportsStore, IsRefused, IsRunAlone, IsServed, IsServedAlone, MakesStore, PrintsTable, ServesStore, table_text}
+use Rattle.fedi_program.specs.Stores.{ChecksStore, Counts, EndsMaking, ExportsStore, IsNoHost, IsServed, IsServedAlone, MakesStore, PrintsTable, table_text}
 use Rattle.fedi_program.specs.declared.commands.Table.{Table}
 use Rattle.fedi_town.specs.Histories.{town}
 
@@ -77,7 +71,7 @@ over disks only disk found last opened closed count opens told untouched leaves 
 }
 
 -- what a crash may leave of the records on this disk
-abbrev left : Medium → Crashes
+abbrev pub left : Medium → Crashes
 left m = record_crashes chained m.shown m.crashes
 
 module _ (before found after : Medium) (opened closed : State) where
@@ -127,16 +121,7 @@ module _ (before found after : Medium) (opened closed : State) where
       record { past = alone.past; is = alone.is; holds = survives.holds.holds } in
       (served log k holds survives.crashes survives.marks, alone)
 
-  -- it served a connection
-  pub serves : (told : Option ℕ) (log : Log) (first now : Scene) (status : ℕ)
-      → IsOver before found after opened closed
-      → Survives (opened_base opened) None (given opened.history) log closed (left found) (left after)
-      → RunsTo (setting_by growth room told None opened) opened log first now status
-      → ServesStore told before after first now status
-  serves told log first now status k survives runs =
-      inr (opened, closed, log, served_alone log k survives, runs)
-
-  -- or those of many doors
+  -- it served the connections of many doors
   pub serves_doors : {W L K : Type 0} (doors : DoorGhosts W L) (links : LinkGhosts K)
       (told : Option ℕ) (first now : List (Bench W K)) (status : ℕ)
       → IsOver before found after opened closed
@@ -158,27 +143,9 @@ module _ (before found after : Medium) (opened closed : State) where
         ends,
       )
 
-  -- or did what a command asks
-  pub ran_alone : (log : Log) → IsOver before found after opened closed
-      → Survives (opened_base opened) None (given opened.history) log closed (left found) (left after)
-      → IsRunAlone before after opened closed
-  ran_alone log k survives = (log, served_alone log k survives)
-
 -- ---- a machine that was only read
 
 module _ (before found : Medium) (opened : State) where
-  -- memory ran out before it did anything
-  pub given_up : IsOver before found found opened opened → IsRefused before found faults.Memory
-  given_up k = record {
-    back = record {
-      why = each_some before.shown.reads (λ bytes is.
-          begins_so (records_of opened.history) bytes
-          (of_some before.shown.reads (IsStoreOf opened.history) k.opens.stored bytes is).file);
-      faults = sym k.closes.faults ∙ k.opens.faults;
-    };
-    same = k.untouched;
-  }
-
   -- what it holds was counted
   pub checks : (first now : Output) (status : ℕ) → IsOver before found found opened opened
       → Survives (opened_base opened) None (given opened.history) (given opened.history) opened
@@ -211,6 +178,12 @@ module _ (before found : Medium) (opened : State) where
 -- nothing was asked of the disk
 pub not_asked : (shown : DiskState) (crashes : DiskCrashes) → KeepsOther chained shown shown crashes crashes
 not_asked shown crashes = λ bytes is other. untouched_now shown crashes
+
+-- no host was read, so the disk was not asked
+pub no_host_made : {D : Type 0} (disks : DiskGhosts D) (told : Option ℕ) (disk : D) (first now : Output) (host : List ℕ) (status : ℕ) → IsNoHost host first now status
+    → MakesStore disks told disk disk first now host status
+no_host_made disks told disk first now host status (inl (twelve, wrote)) = inl (twelve, refl, wrote)
+no_host_made disks told disk first now host status (inr (bad, reports)) = inr (inl (bad, refl, reports))
 
 -- The host that was read is the text that was given.
 pub making_ends : {D : Type 0} (disks : DiskGhosts D) (told : Option ℕ) (before after : D) (first now : Output)

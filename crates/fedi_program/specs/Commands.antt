@@ -1,6 +1,6 @@
 -- The arguments that the program takes.
-use Rattle.std.specs.Prelude.{ℕ, Bool, true, false, not, ◌&&◌, ◌==◌, nat_eq, nat_le, List, [], ◌∷◌}
-use Rattle.std.specs.Prelude.{codes, length, map, bytes_eq, Option, Some, None, option_map}
+use Rattle.std.specs.Prelude.{ℕ, Bool, true, false, not, ◌&&◌, ◌==◌, nat_eq, nat_le, List, []}
+use Rattle.std.specs.Prelude.{◌∷◌, codes, length, map, bytes_eq, Option, Some, None, option_map}
 use Rattle.std.specs.Prelude.{slice_index_or, if◌then◌else◌}
 use Rattle.std.specs.List.{starts_with, filter, find, list_all, list_any}
 use Rattle.std.specs.Option.{option_and_then}
@@ -19,7 +19,9 @@ use Rattle.fedi_program.specs.declared.words.Verb.TheVariants as verbs
 -- connection, to serve those that come to this address, to make a member of this name, who is
 -- locked or not, to make this host a peer with this key at this address, which is a relay or not,
 -- to try each delivery that is due, to print this table of a store, to count what a store holds, to
--- move the records of a store to another file, or to run the demonstration with this number.
+-- move the records of a store to another file, or to a table, to report of the activities of the
+-- member of this name and of this type, to run the demonstration with this number, or to play the
+-- script on the input.
 pub data Task : Type 0 where
   Usage : Task
   Init : List ℕ → Task
@@ -31,7 +33,10 @@ pub data Task : Type 0 where
   Export : Table → Task
   Check : Task
   Migrate : Task
+  Fill : Task
+  Report : List ℕ → List ℕ → Task
   Demo : ℕ → Task
+  Play : Task
 
 -- the task of a command, without its references
 abbrev pub task_of : Command → Task
@@ -45,7 +50,10 @@ task_of commands.Deliver = Deliver
 task_of (commands.Export table) = Export table
 task_of commands.Check = Check
 task_of commands.Migrate = Migrate
+task_of commands.Fill = Fill
+task_of (commands.Report name kind) = Report name.now kind.now
 task_of (commands.Demo number) = Demo number
+task_of commands.Play = Play
 
 -- ---- the table of commands
 
@@ -62,8 +70,8 @@ abbrev pub row : Verb → List ℕ → ℕ → Option (List ℕ) → Row
 row verb name positions flag =
     record { verb = verb; name = name; positions = positions; flag = flag }
 
--- the rows: the first positional argument is the store, but `usage` and `demo` have none; the second
--- of `migrate` is the file that its records are moved to
+-- the rows: the first positional argument is the store, but `usage`, `demo` and `play` have none;
+-- the second of `migrate` is the file, or the table, that its records are moved to
 abbrev pub rows : List Row
 rows =
     row verbs.Usage (codes "usage") 0 None
@@ -76,7 +84,9 @@ rows =
     ∷ row verbs.Export (codes "export") 2 None
     ∷ row verbs.Check (codes "check") 1 None
     ∷ row verbs.Migrate (codes "migrate") 2 None
+    ∷ row verbs.Report (codes "report") 3 None
     ∷ row verbs.Demo (codes "demo") 1 None
+    ∷ row verbs.Play (codes "play") 0 None
     ∷ []
 
 -- the row of the command of this name
@@ -149,20 +159,31 @@ number_of word =
 abbrev pub word : List (List ℕ) → ℕ → List ℕ
 word positions k = slice_index_or positions k []
 
--- what a command with these positional arguments is to do, with its flag or without
+-- whether the word means a table, which is kept in a vault: it begins with `table:`
+abbrev pub is_table : List ℕ → Bool
+is_table word = starts_with nat_eq word (codes "table:")
+
+-- what a command with these positional arguments is to do, with its flag or without; `serve` is for
+-- files alone, and one of the two stores of `migrate` is a file
 abbrev pub task_at : Verb → List (List ℕ) → Bool → Option Task
 task_at verbs.Usage positions flagged = Some Usage
 task_at verbs.Init positions flagged = Some (Init (word positions 1))
 task_at verbs.Inetd positions flagged = Some Inetd
-task_at verbs.Serve positions flagged = Some (Serve (word positions 1))
+task_at verbs.Serve positions flagged =
+    if is_table (word positions 0) then None else Some (Serve (word positions 1))
 task_at verbs.AddActor positions flagged = Some (AddActor (word positions 1) flagged)
 task_at verbs.AddPeer positions flagged =
     Some (AddPeer (word positions 1) (word positions 2) (word positions 3) flagged)
 task_at verbs.Deliver positions flagged = Some Deliver
 task_at verbs.Export positions flagged = option_map Export (table_of (word positions 1))
 task_at verbs.Check positions flagged = Some Check
-task_at verbs.Migrate positions flagged = Some Migrate
+task_at verbs.Migrate positions flagged =
+    if is_table (word positions 1)
+    then (if is_table (word positions 0) then None else Some Fill)
+    else Some Migrate
+task_at verbs.Report positions flagged = Some (Report (word positions 1) (word positions 2))
 task_at verbs.Demo positions flagged = option_map Demo (number_of (word positions 0))
+task_at verbs.Play positions flagged = Some Play
 
 -- what accepted arguments ask for
 abbrev pub task_by : Reading → Option Task
@@ -185,7 +206,10 @@ names_store (Some Deliver) = true
 names_store (Some (Export table)) = true
 names_store (Some Check) = true
 names_store (Some Migrate) = true
+names_store (Some Fill) = true
+names_store (Some (Report name kind)) = true
 names_store (Some (Demo number)) = false
+names_store (Some Play) = false
 
 -- the store that the arguments name: the first positional argument, if the arguments are accepted
 -- and the task has a store
@@ -194,6 +218,29 @@ store_in arguments =
     if names_store (task_in arguments)
     then option_map (λ reading. word reading.positions 0) (read arguments)
     else None
+
+-- where a store is: on a disk, or in a vault
+pub data Place : Type 0 where
+  OnDisk : Place
+  InVault : Place
+
+-- whether a store is named, and its word means a table
+abbrev pub is_table_if : Option (List ℕ) → Bool
+is_table_if None = false
+is_table_if (Some store) = is_table store
+
+-- whether the arguments name a table
+abbrev pub names_table : List (List ℕ) → Bool
+names_table arguments = is_table_if (store_in arguments)
+
+-- the place of a table, and of every other store
+abbrev pub place_if : Bool → Place
+place_if true = InVault
+place_if false = OnDisk
+
+-- where the store is that the arguments name
+abbrev pub place_in : List (List ℕ) → Place
+place_in arguments = place_if (names_table arguments)
 
 -- whether arguments that ask for this name a second store
 abbrev pub names_second : Option Task → Bool
@@ -208,7 +255,10 @@ names_second (Some Deliver) = false
 names_second (Some (Export table)) = false
 names_second (Some Check) = false
 names_second (Some Migrate) = true
+names_second (Some Fill) = true
+names_second (Some (Report name kind)) = false
 names_second (Some (Demo number)) = false
+names_second (Some Play) = false
 
 -- that store: the second positional argument, if the arguments are accepted and the task has one
 abbrev pub second_in : List (List ℕ) → Option (List ℕ)
@@ -230,7 +280,10 @@ address_of (Some Deliver) = None
 address_of (Some (Export table)) = None
 address_of (Some Check) = None
 address_of (Some Migrate) = None
+address_of (Some Fill) = None
+address_of (Some (Report name kind)) = None
 address_of (Some (Demo number)) = None
+address_of (Some Play) = None
 
 -- ---- as the code has them
 

@@ -1,6 +1,6 @@
 -- Trying each delivery that is due once (ActivityPub, sections 7.1 and 7.1.2): the operator's
 -- command, and what is printed.
-use Rattle.std.specs.Prelude.{◌≡◌, ◌⊎◌, ℕ, List, [], ◌∷◌, ◌++◌, codes, decimal, length, map, Option}
+use Rattle.std.specs.Prelude.{◌≡◌, ◌⊎◌, ℕ, List, [], ◌∷◌, ◌++◌, codes, decimal, length, Option}
 use Rattle.std.specs.Prelude.{Bool, false, true, None, Result, Ok, Err}
 use Rattle.std.specs.List.{flat_map}
 use Rattle.fedi_address.specs.Iris.{host_of}

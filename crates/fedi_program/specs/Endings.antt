@@ -25,6 +25,13 @@ RunsTo w opened log first now status =
     (ending : SessionEnd) × (status ≡ status_of ending)
     × IfSome first.input (Serves w (given opened.history) first.output now log ending)
 
+-- the same, or there was no memory to begin a session (12): nothing was read or written, and
+-- nothing was added to the log
+abbrev pub HoldsSession : Setting → State → Log → Scene → Scene → ℕ → Type 0
+HoldsSession w opened log first now status =
+    RunsTo w opened log first now status
+    ⊎ ((status ≡ 12) × (now ≡ first) × (log ≡ given opened.history))
+
 -- the whole conversation over the input was held over this log, if the input is known
 abbrev pub TalksIfTold : Setting → State → Log → Scene → Scene → Type 0
 TalksIfTold w opened log first now =

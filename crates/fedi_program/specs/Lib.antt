@@ -3,12 +3,17 @@ pub mod Complete
 pub mod Delivering
 pub mod Demonstrating
 pub mod Endings
+pub mod Filling
 pub mod Headline
 pub mod Members
 pub mod Migrating
 pub mod Peers
+pub mod Playing
+pub mod Reporting
 pub mod Runs
 pub mod Seen
 pub mod Serving
 pub mod Stores
 pub mod Usage
+pub mod Vaults
+pub mod Working

@@ -14,7 +14,7 @@ use Rattle.fedi_outside.specs.Disks.{DiskCrashes, DiskState, IsUntouched}
 use Rattle.fedi_outside.specs.declared.disks.Disk.{Ghosts as DiskGhosts}
 use Rattle.fedi_logged.specs.Conversations.{IsNow}
 use Rattle.fedi_logged.specs.Endings.{BreaksOff, Output, Scene, Writes}
-use Rattle.fedi_program.specs.Endings.{Prints, RunsTo, TalksIfTold}
+use Rattle.fedi_program.specs.Endings.{HoldsSession, Prints, TalksIfTold}
 use Rattle.fedi_logged.specs.Turning.{setting_by}
 use Rattle.fedi_program.specs.Members.{MakesMember, Reports, refusal_line}
 use Rattle.fedi_program.specs.Peers.{MakesPeer}
@@ -114,15 +114,15 @@ ReportsStore Memory before now status = (status ≡ 12) × Writes before now []
 
 -- ---- what a run does
 
--- How a run serves one connection over the store of a disk: the store is not opened, or there is no
--- memory to serve it, and nothing is read or written; or it is opened, and a session is held.
+-- How a run serves one connection over the store of a disk: the store is not opened, and nothing is
+-- read or written; or it is opened, and a session is held, unless there is no memory to begin one.
 abbrev pub ServesStore : Option ℕ → Medium → Medium → Scene → Scene → ℕ → Type 0
 ServesStore told before after first now status =
     ((fault : StoreFault) × IsRefused before after fault × (now ≡ first)
     × (status ≡ status_by fault))
     ⊎ ((opened : State) × (closed : State) × (log : Log)
     × IsServedAlone before after opened closed log
-    × RunsTo (setting_by growth room told None opened) opened log first now status)
+    × HoldsSession (setting_by growth room told None opened) opened log first now status)
 
 -- the whole conversation over the input was held, over the store of a disk
 abbrev pub TalksOverStore : Option ℕ → Medium → Medium → Scene → Scene → Type 0
@@ -199,10 +199,26 @@ ExportsStore table before after first now status =
 abbrev pub made_line : List ℕ → List ℕ
 made_line host = codes "made " ++ (host ++ codes "\n")
 
+-- what a store is begun with that is to be made for this host: its host and the moment, and the
+-- line that says that it was made
+pub record IsBeginning (told : Option ℕ) (host : List ℕ) (read : List ℕ) (moment : ℕ)
+    (line : List ℕ) : Type 0 where
+  pub same : read ≡ host
+  pub valid : IsHost read
+  pub moment_is : IsNow told moment
+  pub line_is : line ≡ made_line host
+
+-- why none is to be made, and the status: memory ran out (12), or the text is not a valid host (10)
+abbrev pub IsNoHost : List ℕ → Output → Output → ℕ → Type 0
+IsNoHost host first now status =
+    ((status ≡ 12) × Writes first now [])
+    ⊎ ((IsHost host → ⊥) × Reports first now 10 (refusal_line (codes "bad host")) status)
+
 -- what is printed about a store that is not made, which is nothing if memory ran out, and the
 -- status
 abbrev pub ReportsMaking : MakeFault → Output → Output → ℕ → Type 0
 ReportsMaking makes.Exists before now status = Reports before now 9 (codes "exists\n") status
+ReportsMaking makes.Full before now status = Reports before now 13 (codes "full\n") status
 ReportsMaking makes.Failed before now status = Reports before now 5 (codes "disk fault\n") status
 ReportsMaking makes.Memory before now status = (status ≡ 12) × Writes before now []
 

@@ -14,4 +14,6 @@ usage_text =
     ++ (codes "fedi export STORE actors|activities|queue\n"
     ++ (codes "fedi check STORE\n"
     ++ (codes "fedi migrate OLD NEW\n"
-    ++ codes "fedi demo NUMBER\n")))))))))
+    ++ (codes "fedi report STORE NAME KIND\n"
+    ++ (codes "fedi demo NUMBER\n"
+    ++ codes "fedi play\n")))))))))))

@@ -27,7 +27,10 @@ use fedi_startup::{StoreCore, open_store};
 use std::alloc::{AllocError, Global};
 
 /// The line that says how much the machine holds. The error is out of memory.
-fn count<P: Keeper>(alloc: Global, core: &Core<IndexedShelf, P>) -> Result<Vec<u8>, AllocError>
+pub(crate) fn count<P: Keeper>(
+    alloc: Global,
+    core: &Core<IndexedShelf, P>,
+) -> Result<Vec<u8>, AllocError>
     requires legal { IsLegal core.now.history }
     ensures counted { IfOk result (λ line. line.items ≡ check_text core.now.history) }
     // The machine is only read.

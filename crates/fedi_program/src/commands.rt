@@ -1,9 +1,9 @@
 //! The arguments of the program.
 
 ghost use Rattle.std.specs.Prelude.{◌≡◌, map, is_some, option_map, string_bytes};
-ghost use Rattle.fedi_program.specs.Commands.{address_of, names_store, number_of, reading_of};
-ghost use Rattle.fedi_program.specs.Commands.{second_in, store_in, table_of, task_by, task_in};
-ghost use Rattle.fedi_program.specs.Commands.{task_of};
+ghost use Rattle.fedi_program.specs.Commands.{address_of, is_table, names_store, names_table};
+ghost use Rattle.fedi_program.specs.Commands.{number_of, reading_of, second_in, store_in};
+ghost use Rattle.fedi_program.specs.Commands.{table_of, task_by, task_in, task_of};
 
 use crate::words::{Reading, Verb, read};
 use fedi_text::read_decimal;
@@ -45,11 +45,22 @@ pub enum Command<'a> {
     Check,
     /// To move the records of a store to another file.
     Migrate,
+    /// To move the records of a store to a table.
+    Fill,
+    /// To report of the activities of one member and of one type.
+    Report {
+        /// The member's name.
+        name: &'a str,
+        /// The name of the type.
+        kind: &'a str,
+    },
     /// To run a demonstration.
     Demo {
         /// Its number.
         number: u16,
     },
+    /// To play the script on the input.
+    Play,
 }
 
 /// A table of what a store holds.
@@ -99,7 +110,17 @@ fn number_of(word: &str) -> Option<u16>
     u16::try_from(number).ok()
 }
 
-// The command that accepted arguments give, or `None` if they name no valid table or number.
+/// What the word of a store that is a table begins with. The file of the table follows it.
+pub const TABLE: &str = "table:";
+
+fn is_table(word: &str) -> bool
+    ensures { result ≡ is_table word.now }
+{
+    word.as_bytes().starts_with(b"table:")
+}
+
+// The command that accepted arguments give, or `None` if they name no valid table or number, or a
+// store of the wrong kind.
 fn command_by<'a>(reading: &Reading<'a>) -> Option<Command<'a>>
     ensures { option_map task_of result ≡ task_by (reading_of reading.now) }
 {
@@ -109,9 +130,14 @@ fn command_by<'a>(reading: &Reading<'a>) -> Option<Command<'a>>
             host: reading.position(1),
         },
         Verb::Inetd => Command::Inetd,
-        Verb::Serve => Command::Serve {
-            address: reading.position(1),
-        },
+        Verb::Serve => {
+            if is_table(reading.position(0)) {
+                return None;
+            }
+            Command::Serve {
+                address: reading.position(1),
+            }
+        }
         Verb::AddActor => Command::AddActor {
             name: reading.position(1),
             locked: reading.flagged,
@@ -127,10 +153,23 @@ fn command_by<'a>(reading: &Reading<'a>) -> Option<Command<'a>>
             table: table_of(reading.position(1))?,
         },
         Verb::Check => Command::Check,
-        Verb::Migrate => Command::Migrate,
+        Verb::Migrate => {
+            if !is_table(reading.position(1)) {
+                Command::Migrate
+            } else if is_table(reading.position(0)) {
+                return None;
+            } else {
+                Command::Fill
+            }
+        }
+        Verb::Report => Command::Report {
+            name: reading.position(1),
+            kind: reading.position(2),
+        },
         Verb::Demo => Command::Demo {
             number: number_of(reading.position(0))?,
         },
+        Verb::Play => Command::Play,
     };
     Some(command)
 }
@@ -153,19 +192,29 @@ pub fn store_of(arguments: &[String]) -> Option<&str>
 {
     let reading = read(arguments)?;
     match command_by(&reading)? {
-        Command::Usage | Command::Demo { .. } => None,
+        Command::Usage | Command::Demo { .. } | Command::Play => None,
         _ => Some(reading.position(0)),
     }
 }
 
-/// The file that the records of a store are to be moved to, if the arguments ask for that: the second
-/// positional argument after the command.
+/// Whether the arguments name a store that is a table.
+pub(crate) fn names_table(arguments: &[String]) -> bool
+    ensures { result ≡ names_table (map string_bytes arguments.now) }
+{
+    match store_of(arguments) {
+        Some(store) => is_table(store),
+        None => false,
+    }
+}
+
+/// The file, or the table, that the records of a store are to be moved to, if the arguments ask for
+/// that: the second positional argument after the command.
 pub fn second_store_of(arguments: &[String]) -> Option<&str>
     ensures { option_map (λ store. store.now) result ≡ second_in (map string_bytes arguments.now) }
 {
     let reading = read(arguments)?;
     match command_by(&reading)? {
-        Command::Migrate => Some(reading.position(1)),
+        Command::Migrate | Command::Fill => Some(reading.position(1)),
         _ => None,
     }
 }

@@ -39,7 +39,7 @@ fn write_table<O: Sink, P: Keeper>(
 }
 
 /// Prints the table. Returns the exit status.
-fn print_table<O: Sink, P: Keeper>(
+pub(crate) fn print_table<O: Sink, P: Keeper>(
     alloc: Global,
     out: &mut O,
     core: &Core<IndexedShelf, P>,

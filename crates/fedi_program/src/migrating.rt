@@ -4,6 +4,7 @@ ghost use Rattle.std.specs.Prelude.{◌≡◌, ◌≢◌, List, IfErr, None, OnO
 ghost use Rattle.fedi_core.specs.Opening.{outcome_of};
 ghost use Rattle.fedi_objects.specs.declared.entry.Entry.{Entry};
 ghost use Rattle.fedi_opening.specs.Opening.{IsRead, IsStopped, after_open};
+ghost use Rattle.fedi_program.specs.Filling.{IsMoved};
 ghost use Rattle.fedi_program.specs.Migrating.{Migrates, MovesFrom, ReportsFilling, keeper_left};
 ghost use Rattle.fedi_program.specs.Migrating.{moved_line};
 ghost use Rattle.fedi_program.specs.Seen.{medium, output};
@@ -23,7 +24,7 @@ use std::alloc::{AllocError, Global};
 
 /// The line that says how many entries were moved.
 #[tactic(auto, unfolding(crate::specs::Migrating::moved_line))]
-fn moved_line(count: u64) -> ArrayString<64>
+pub(crate) fn moved_line(count: u64) -> ArrayString<64>
     ensures { result.bytes ≡ moved_line count }
 {
     let mut digits = itoa::Buffer::new();
@@ -48,7 +49,7 @@ fn report_filling<O: Sink>(out: &mut O, fault: CopyFault) -> u8
 
 /// Judges the records of a keeper: they have to be the codes of a legal history, which is not empty.
 /// The town that they make is dropped again. Each error returns the keeper.
-fn judge<P: Keeper>(alloc: Global, seed: Seed, keeper: P) -> Result<P, (OpenFault, P)>
+pub(crate) fn judge<P: Keeper>(alloc: Global, seed: Seed, keeper: P) -> Result<P, (OpenFault, P)>
     requires settled { (P.shown keeper).doubt ≡ None }
     ensures read { OnOk result ((history : List Entry)
         × IsRead (P.shown keeper).records (P.shown keeper).held history) }
@@ -71,7 +72,7 @@ fn judge<P: Keeper>(alloc: Global, seed: Seed, keeper: P) -> Result<P, (OpenFaul
 
 /// Moves the records of a keeper to the second disk, if they are those of a legal history. Returns
 /// the exit status, the keeper, which was only read, and the disk.
-fn move_records<O: Sink, P: Keeper, D: Disk>(
+pub(crate) fn move_records<O: Sink, P: Keeper, D: Disk>(
     alloc: Global,
     seed: Seed,
     out: &mut O,
@@ -82,6 +83,7 @@ fn move_records<O: Sink, P: Keeper, D: Disk>(
     ensures moved { MovesFrom D.Disk (P.shown from) (P.shown result.1) second result.2
         (output O.Sink out.old) (output O.Sink out.new) result.0 }
     ensures outside { P.only_read from result.1 }
+    ensures kept { IsMoved result.0 → (P.shown result.1).records ≡ (P.shown from).records }
 {
     let mut from = match judge(alloc, seed, from) {
         Ok(from) => from,

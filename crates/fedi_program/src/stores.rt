@@ -1,21 +1,22 @@
 //! What a run prints about a store that is made, or that is not opened.
 
-ghost use Rattle.std.specs.Prelude.{◌≡◌, ◌≤◌, IfOk, length};
+ghost use Rattle.std.specs.Prelude.{◌≡◌, ◌≤◌, IfErr, IfOk, OnOk, false, length};
 ghost use Rattle.fedi_journal.specs.Chains.{chained};
 ghost use Rattle.fedi_journal.specs.Making.{KeepsOther};
 ghost use Rattle.fedi_program.specs.Members.{Reports};
 ghost use Rattle.fedi_program.specs.Seen.{output};
-ghost use Rattle.fedi_program.specs.Stores.{MakesStore, ReportsMaking, ReportsStore, damage_line};
-ghost use Rattle.fedi_program.specs.Stores.{made_line, status_by};
+ghost use Rattle.fedi_program.specs.Stores.{IsBeginning, IsNoHost, MakesStore, ReportsMaking};
+ghost use Rattle.fedi_program.specs.Stores.{ReportsStore, damage_line, made_line, status_by};
+ghost use Rattle.fedi_program.specs.Vaults.{MakesIn};
 
 use crate::printing::{print, report};
 use crate::statuses::{
-    DAMAGED, DISK_FAULT, EXISTS, NOT_A_STORE, OLD_FORMAT, OUT_OF_MEMORY, REFUSED,
+    DAMAGED, DISK_FAULT, EXISTS, FULL, NOT_A_STORE, OLD_FORMAT, OUT_OF_MEMORY, REFUSED,
 };
 use arrayvec::ArrayString;
 use fedi_address::{Host, HostFault};
-use fedi_outside::{Clock, Disk, Sink};
-use fedi_startup::{MakeFault, StoreFault, make_store};
+use fedi_outside::{Clock, Disk, Sink, Vault};
+use fedi_startup::{MakeFault, StoreFault, make_store, make_vault};
 use fedi_text::Moment;
 use std::alloc::{AllocError, Global};
 
@@ -79,6 +80,7 @@ pub fn report_making<O: Sink>(out: &mut O, fault: MakeFault) -> u8
 {
     match fault {
         MakeFault::Exists => report(out, EXISTS, b"exists\n"),
+        MakeFault::Full => report(out, FULL, b"full\n"),
         MakeFault::Failed => report(out, DISK_FAULT, b"disk fault\n"),
         MakeFault::Memory => OUT_OF_MEMORY,
     }
@@ -95,11 +97,46 @@ fn made_line(alloc: Global, host: &str) -> Result<Vec<u8>, AllocError>
     Ok(line)
 }
 
-/// Makes the disk a store for this host, as an operator asks, and prints that it was made. The line
-/// is made before the store, so that no store is made that could not be reported because memory
-/// runs out. Returns the exit status, and the disk: at 0 and 7 a store was made. Whatever the
-/// status, the bytes of an existing store stay: reads give the same, and a crash leaves nothing
-/// new.
+/// What a store is begun with.
+#[derive(Drop)]
+struct Beginning {
+    /// The host that the store is for.
+    host: Host,
+    /// The moment.
+    moment: Moment,
+    /// The line that says that a store was made for this host.
+    line: Vec<u8>,
+}
+
+/// Reads the clock and the host of a store that an operator wants to be made. The line is made
+/// before the store, so that no store is made that could not be reported because memory runs out.
+/// The error is the exit status, after this was reported.
+fn begin<O: Sink, C: Clock>(
+    alloc: Global,
+    out: &mut O,
+    clock: &C,
+    host: &str,
+) -> Result<Beginning, u8>
+    ensures begun { IfOk result (λ first. IsBeginning (C.told clock.now) host.now
+        first.host first.moment first.line.items) }
+    ensures same { OnOk result (out.new ≡ out.old) }
+    ensures refused { IfErr result (λ status.
+        IsNoHost host.now (output O.Sink out.old) (output O.Sink out.new) status) }
+{
+    let moment = Moment::clamped(clock.now());
+    let Ok(line) = made_line(alloc, host) else {
+        return Err(OUT_OF_MEMORY);
+    };
+    match Host::parse(alloc, host) {
+        Ok(host) => Ok(Beginning { host, moment, line }),
+        Err(HostFault::BadHost) => Err(report(out, REFUSED, b"refused: bad host\n")),
+        Err(HostFault::Memory) => Err(OUT_OF_MEMORY),
+    }
+}
+
+/// Makes the disk a store for this host, as an operator asks, and prints that it was made. Returns
+/// the exit status, and the disk: at 0 and 7 a store was made. Whatever the status, the bytes of an
+/// existing store stay: reads give the same, and a crash leaves nothing new.
 #[tactic(auto, using(crate::proofs::StoreLemmas::not_asked))]
 pub fn begin_store<O: Sink, D: Disk, C: Clock>(
     alloc: Global,
@@ -113,17 +150,36 @@ pub fn begin_store<O: Sink, D: Disk, C: Clock>(
     ensures stays { KeepsOther chained (D.shown disk) (D.shown result.1)
         (D.crashes disk) (D.crashes result.1) }
 {
-    let moment = Moment::clamped(clock.now());
-    let Ok(line) = made_line(alloc, host) else {
-        return (OUT_OF_MEMORY, disk);
-    };
-    let host = match Host::parse(alloc, host) {
-        Ok(host) => host,
-        Err(HostFault::BadHost) => return (report(out, REFUSED, b"refused: bad host\n"), disk),
-        Err(HostFault::Memory) => return (OUT_OF_MEMORY, disk),
+    let Beginning { host, moment, line } = match begin(alloc, out, clock, host) {
+        Ok(first) => first,
+        Err(status) => return (status, disk),
     };
     match make_store(alloc, disk, host, moment) {
         (Ok(()), disk) => (print(out, &line), disk),
         (Err(fault), disk) => (report_making(out, fault), disk),
+    }
+}
+
+/// Makes the vault a store for this host, as an operator asks, and prints that it was made. Returns
+/// the exit status: at 0 and 7 a store was made, and otherwise the vault keeps what it kept.
+pub fn begin_vault<O: Sink, V: Vault, C: Clock>(
+    alloc: Global,
+    out: &mut O,
+    clock: &C,
+    vault: &mut V,
+    host: &str,
+) -> u8
+    requires home { (V.shown vault.old).out ≡ false }
+    ensures made { MakesIn V.K.Keeper (C.told clock.now) (V.shown vault.old) (V.shown vault.new)
+        (output O.Sink out.old) (output O.Sink out.new) host.now result }
+    ensures home { (V.shown vault.new).out ≡ false }
+{
+    let Beginning { host, moment, line } = match begin(alloc, out, clock, host) {
+        Ok(first) => first,
+        Err(status) => return status,
+    };
+    match make_vault(alloc, vault, host, moment) {
+        Ok(()) => print(out, &line),
+        Err(fault) => report_making(out, fault),
     }
 }

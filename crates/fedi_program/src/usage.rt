@@ -14,7 +14,9 @@ fedi deliver STORE
 fedi export STORE actors|activities|queue
 fedi check STORE
 fedi migrate OLD NEW
+fedi report STORE NAME KIND
 fedi demo NUMBER
+fedi play
 ";
 
 /// One line for each command, each ending in LF.

@@ -30,8 +30,12 @@ pub enum Verb {
     Check,
     /// `migrate`
     Migrate,
+    /// `report`
+    Report,
     /// `demo`
     Demo,
+    /// `play`
+    Play,
 }
 
 /// A row of the table of commands.
@@ -102,7 +106,9 @@ fn row_of(name: &str) -> Option<Row>
         "export" => Some(Row::new(Verb::Export, 2)),
         "check" => Some(Row::new(Verb::Check, 1)),
         "migrate" => Some(Row::new(Verb::Migrate, 2)),
+        "report" => Some(Row::new(Verb::Report, 3)),
         "demo" => Some(Row::new(Verb::Demo, 1)),
+        "play" => Some(Row::new(Verb::Play, 0)),
         _ => None,
     }
 }

@@ -1,4 +1,4 @@
-use Rattle.std.proofs.Common.{IfOk, None, ap}
+use Rattle.std.proofs.Common.{None}
 use Rattle.fedi_program.proofs.NextLemmas.{line_for}
 use Rattle.fedi_program.proofs.delivering.line_of.Goals as goal
 

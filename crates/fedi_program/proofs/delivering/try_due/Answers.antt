@@ -1,4 +1,4 @@
-use Rattle.std.proofs.Common.{◌≡◌, ◌-◌, ◌<◌, ◌+◌, ℕ, List, None, arith, length, sym, subst, ap, ◌∙◌}
+use Rattle.std.proofs.Common.{◌≡◌, ◌-◌, ◌<◌, ◌+◌, ℕ, List, arith, length, sym, subst, ap, ◌∙◌}
 use Rattle.std.specs.Prelude.{IsTrue, is_some}
 use Rattle.fedi_core.specs.Machines.{Machine}
 use Rattle.fedi_log.specs.Keeping.{State, base_of, state_of}
@@ -8,7 +8,7 @@ use Rattle.fedi_logged.specs.Turns.{standing_by}
 use Rattle.fedi_queue.specs.Due.{due_in}
 use Rattle.fedi_town.specs.Histories.{town}
 use Rattle.fedi_town.specs.Queues.{Delivery}
-use Rattle.fedi_program.specs.Delivering.{EndsNext, TriesDue}
+use Rattle.fedi_program.specs.Delivering.{EndsNext}
 use Rattle.fedi_program.specs.Endings.{Prints}
 use Rattle.fedi_program.specs.Seen.{output, tells}
 use Rattle.fedi_program.proofs.DeliverLemmas.{IsTrying, done_due, ended_due, sent_more}

@@ -1,12 +1,10 @@
-use Rattle.std.proofs.Common.{None, Some, Ok, inl, inr, sym, subst, ap, ◌∙◌, ◌++◌, ◌∷◌, [], List, arith}
-use Rattle.fedi_log.specs.Keeping.{state_of}
+use Rattle.std.proofs.Common.{None, inl, subst, ap, ◌∙◌, ◌++◌, ◌∷◌, [], arith}
 use Rattle.fedi_logged.proofs.Attempting.{own_stays}
 use Rattle.fedi_logged.proofs.Own.{alone_item}
 use Rattle.fedi_logged.specs.Claiming.{tried}
 use Rattle.fedi_logged.specs.Endings.{BreaksOff, Writes}
 use Rattle.fedi_logged.specs.Turns.{standing_by}
-use Rattle.fedi_objects.specs.declared.entry.Entry.{Entry}
-use Rattle.fedi_program.specs.Seen.{output, tells}
+use Rattle.fedi_program.specs.Seen.{output}
 use Rattle.fedi_program.proofs.NextLemmas.{broken_first, lacking_next, lineless_first, nothing_next}
 use Rattle.fedi_program.proofs.NextLemmas.{rest_after, sent_first, standing_from, tried_first}
 use Rattle.fedi_program.proofs.NextLemmas.{unkept_first}

@@ -1,4 +1,4 @@
-use Rattle.std.proofs.Common.{◌≡◌, true, false, None, inl, inr, refl}
+use Rattle.std.proofs.Common.{◌≡◌, true, false, inl, inr, refl}
 use Rattle.fedi_log.specs.Keeping.{state_of}
 use Rattle.std.proofs.lemmas.Bool.{false_from_ne_true}
 use Rattle.fedi_logged.proofs.SessionLemmas.{now_of}

@@ -1,4 +1,4 @@
-use Rattle.std.proofs.Common.{◌≡◌, List, ℕ, length, inl, inr, refl, sym, ap, ◌∙◌}
+use Rattle.std.proofs.Common.{length, inl, refl, ap, ◌∙◌}
 use Rattle.fedi_journal.specs.ChainLaws.{chained_ok}
 use Rattle.fedi_journal.specs.Chains.{chained}
 use Rattle.fedi_journal.specs.Finding as journals
@@ -7,7 +7,6 @@ use Rattle.fedi_outside.proofs.ImageSteps.{told_count}
 use Rattle.fedi_outside.proofs.Untouched.{untouched_then}
 use Rattle.fedi_outside.specs.Images.{plain}
 use Rattle.fedi_startup.specs.Faults.{of_journal}
-use Rattle.fedi_startup.proofs.Told.{faults_here}
 use Rattle.fedi_program.proofs.MigratingLemmas.{counts_read, in_chained, in_plain, moves_store, not_read, older_plain}
 use Rattle.fedi_program.proofs.migrating.migrate.Goals as goal
 

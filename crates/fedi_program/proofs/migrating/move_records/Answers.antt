@@ -1,12 +1,9 @@
-use Rattle.std.proofs.Common.{◌≡◌, List, ℕ, Option, Some, None, length, inl, inr, refl, sym, ap, subst, ◌∙◌}
-use Rattle.std.specs.Prelude.{IfSome}
+use Rattle.std.proofs.Common.{◌≡◌, List, ℕ, Some, inl, inr, refl, sym, ap, ◌∙◌}
 use Rattle.fedi_journal.specs.Making.{blank}
 use Rattle.fedi_journal.specs.Chains.{hidden}
 use Rattle.fedi_outside.specs.Disks.{spliced}
 use Rattle.fedi_outside.specs.Keepers.{KeeperState}
-use Rattle.fedi_program.specs.Endings.{Prints}
-use Rattle.fedi_program.specs.Migrating.{moved_line}
-use Rattle.fedi_program.specs.Seen.{output}
+use Rattle.fedi_program.proofs.FillLemmas.{not_moved, opening_keeps}
 use Rattle.fedi_program.proofs.MigratingLemmas.{fills_from, if_known, is_filled, too_long_from}
 use Rattle.fedi_program.proofs.migrating.move_records.Goals as goal
 
@@ -96,3 +93,15 @@ returns-in-Err-fill-clause-moved g c =
 
 pub returns-in-Err-fill-clause-outside : goal.returns-in-Err-fill-clause-outside
 returns-in-Err-fill-clause-outside g c = g.met.P.Keeper.read_both c.args.from c.in-Ok.from c.fill.new.from c.in-Ok.ensures.outside c.fill.ensures.outside
+
+pub returns-in-Err-clause-kept : goal.returns-in-Err-clause-kept
+returns-in-Err-clause-kept g c moved = opening_keeps c.in-Err.fault (g.P.Keeper.shown c.args.from) _ c.in-Err.ensures.shown
+
+pub returns-in-Err-hide-clause-kept : goal.returns-in-Err-hide-clause-kept
+returns-in-Err-hide-clause-kept g c moved = ap (λ (k : KeeperState). k.records) c.in-Ok.ensures.shown
+
+pub returns-in-Ok-fill-clause-kept : goal.returns-in-Ok-fill-clause-kept
+returns-in-Ok-fill-clause-kept g c moved = ap (λ (k : KeeperState). k.records) (c.in-Ok-fill.ensures.calm.0 ∙ c.in-Ok.ensures.shown)
+
+pub returns-in-Err-fill-clause-kept : goal.returns-in-Err-fill-clause-kept
+returns-in-Err-fill-clause-kept g c moved = absurd (not_moved c.in-Err-fill.fault _ _ _ c.report_filling.ensures moved)

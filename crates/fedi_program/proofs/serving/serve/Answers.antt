@@ -1,4 +1,4 @@
-use Rattle.std.proofs.Common.{length, inr, refl}
+use Rattle.std.proofs.Common.{length, refl}
 use denote.Param.Send.{sendable}
 use Rattle.fedi_index.proofs.Sent.{shelf_send}
 use Rattle.fedi_logged.proofs.Hosted.{hosted}
