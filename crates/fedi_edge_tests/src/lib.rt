@@ -1,6 +1,5 @@
 //! Tests of what lies outside: doubles in memory, real streams, real files as disks and as journals,
-//! tables of a database in memory, and journals in memory: files written by hand, and disks that stop
-//! or fail at each call.
+//! and journals in memory: files written by hand, and disks that stop or fail at each call.
 #![tactic(auto)]
 
 #[cfg(test)]
@@ -17,7 +16,5 @@ mod journals;
 mod outside;
 #[cfg(test)]
 mod real_files;
-#[cfg(test)]
-mod selections;
 #[cfg(test)]
 mod stops;

@@ -19,5 +19,7 @@ mod tally;
 mod towns;
 #[cfg(test)]
 mod turns;
+#[cfg(test)]
+mod waiting;
 
 pub use tally::{Tally, turn};

@@ -1,11 +1,15 @@
 //! Workers that serve lines side by side over one store, in memory.
 ghost use Rattle.std.specs.Prelude.{IfOk};
 ghost use Rattle.fedi_hall.specs.Works.{IsWaiting};
+ghost use Rattle.fedi_outside.specs.Doors.{IsNewLine};
+ghost use Rattle.fedi_outside.specs.MemoryDoors.{line_reads, line_sent, line_writes};
 
 use crate::clocks::{Slow, Ticking};
 use crate::held::{Gate, HeldDoor, Part};
 use crate::towns::{SECONDS, done_by, post, serve, silent, source, town};
-use fedi_outside::{Bench, Door, MemoryDoor, MemoryLink, MemorySink, MemorySource, Turn};
+use fedi_outside::{
+    Bench, Door, MemoryDoor, MemoryLine, MemoryLink, MemoryRow, MemorySink, MemorySource, Turn,
+};
 use std::alloc::{AllocError, Global};
 use std::sync::Wait;
 use std::sync::atomic::AtomicU64;
@@ -158,6 +162,50 @@ fn a_post_is_dated_after_it_has_come(rt: HostRuntime) -> Result<(), Fail> {
         }
     }
     Ok(())
+}
+
+fn is_answered(row: &MemoryRow) -> bool {
+    match row {
+        MemoryRow::Spoken { line, .. } => line.sink.bytes().starts_with(b"HTTP/1.1 404 "),
+        MemoryRow::Rested(_) => false,
+    }
+}
+
+// A line that asks for an object, of which these reads fail.
+fn asking(alloc: Global, failing: &[u64]) -> Result<MemoryLine, AllocError>
+    ensures { IfOk result (λ line. IsNewLine line_sent line_reads line_writes line) }
+{
+    let bytes = Vec::from_slice(alloc, OBJECT.as_bytes())?;
+    Ok(MemoryLine {
+        source: MemorySource::new(alloc, bytes).failing(failing.to_vec(alloc)?),
+        sink: MemorySink::new(alloc),
+    })
+}
+
+// Of two lines of one door, the first of which cannot be read, the second is served.
+#[test]
+fn a_line_that_fails_ends_alone(rt: HostRuntime) -> Result<(), Fail> {
+    let mut turns = Vec::new(rt.alloc());
+    turns.push(Turn::Line(asking(rt.alloc(), &[0])?))?;
+    turns.push(Turn::Line(asking(rt.alloc(), &[])?))?;
+    let mut benches = Vec::new(rt.alloc());
+    benches.push(Bench {
+        door: MemoryDoor::new(rt.alloc(), turns)?,
+        link: silent(rt.alloc()),
+    })?;
+    let ended = serve(&rt, rt.alloc(), town(rt.alloc())?, benches)?;
+    let answered = match ended.benches.as_slice() {
+        [bench] => match bench.door.rows() {
+            [failed, served] => !is_answered(failed) && is_answered(served),
+            _ => false,
+        },
+        _ => false,
+    };
+    if ended.status == 0 && answered {
+        Ok(())
+    } else {
+        Err(Fail::new("the lines"))
+    }
 }
 
 // The status for the turns of one door.

@@ -5,9 +5,10 @@ ghost use Rattle.fedi_hall.specs.Works.{IsWaiting};
 use fedi_effects::Seed;
 use fedi_outside::{
     Bench, Clock, Door, FixedClock, Link, MemoryDisk, MemoryDoor, MemoryEntropy, MemoryLink,
-    MemorySink, MemorySource, Source,
+    MemorySink, MemorySource, MemoryVault, Source,
 };
 use fedi_program::{Connection, Ended, address_of, run, run_alone};
+use fedi_selection::MemorySelection;
 use std::alloc::{AllocError, Global};
 use std::sync::Wait;
 use std::test::Fail;
@@ -82,6 +83,8 @@ pub fn done_by<S: Source + Drop, C: Clock + Drop>(
         &mut connection,
         disk,
         MemoryDisk::new(alloc, Vec::new(alloc))?,
+        &mut MemoryVault::new(alloc),
+        &mut MemorySelection::new(alloc),
         benches,
         &mut entropy,
     );
@@ -163,6 +166,8 @@ pub fn serve_by<
         &mut connection,
         disk,
         MemoryDisk::new(alloc, Vec::new(alloc))?,
+        &mut MemoryVault::new(alloc),
+        &mut MemorySelection::new(alloc),
         benches,
         &mut entropy,
     ))

@@ -1,26 +1,34 @@
-//! Vaults over a table: in memory, over rows that other statements wrote, and over a file.
+//! Vaults over a table of a file: what a vault does in turn, and over rows that other statements
+//! wrote.
 
 ghost use Rattle.std.specs.Prelude.{◌≡◌, IfOk, false};
 
+use crate::files::remove;
 use crate::vaults::{RECORDS, expect_filled, expect_kept, keeper_of, makes_with, opens_with};
 use fedi_outside::{FillFault, Vault, VaultFault};
-use fedi_rows::expect_at;
+use fedi_rows::{expect, expect_at};
+use fedi_selection::TableSelection;
 use fedi_sqlite::TableVault;
-use sqlite::{Connection, MemStore};
-use std::alloc::Global;
-use std::fs;
+use fedi_tables::FileVault;
+use sqlite::Connection;
 use std::test::Fail;
 
-#[test]
-fn a_table_keeps_records(rt: HostRuntime) -> Result<(), Fail> {
-    let alloc = rt.alloc();
-    expect_kept(alloc, &mut TableVault::in_memory(alloc)?)
+// What a vault over a new file of this name does in turn.
+fn expect_turns(rt: &HostRuntime, path: &str) -> Result<(), Fail> {
+    remove(rt, path)?;
+    let mut kept = FileVault::new(rt, path);
+    expect_kept(rt.alloc(), &mut kept)?;
+    kept.finish();
+    remove(rt, path)?;
+    let mut filled = FileVault::new(rt, path);
+    expect_filled(rt.alloc(), &mut filled)?;
+    filled.finish();
+    remove(rt, path)
 }
 
 #[test]
-fn a_table_is_filled_whole_or_not(rt: HostRuntime) -> Result<(), Fail> {
-    let alloc = rt.alloc();
-    expect_filled(alloc, &mut TableVault::in_memory(alloc)?)
+fn a_table_keeps_records_and_is_filled_whole_or_not(rt: HostRuntime) -> Result<(), Fail> {
+    expect_turns(&rt, "turns.table")
 }
 
 /// The table as the program makes it.
@@ -62,27 +70,30 @@ const WRITTEN: [Written; 6] = [
     ),
 ];
 
-// A vault over a database in memory in which this was written.
-fn written(alloc: Global, sql: &str) -> Result<TableVault<MemStore>, Fail>
-    ensures { IfOk result (λ vault.
-        (⟦<TableVault<MemStore> as Vault>⟧.shown vault).out ≡ false) }
+// A vault over a new file in which this was written, and which was not closed as a vault is.
+fn written<'a>(rt: &'a HostRuntime, path: &'a str, sql: &str) -> Result<FileVault<'a>, Fail>
+    ensures { IfOk result (λ vault. (⟦<FileVault<'a> as Vault>⟧.shown vault).out ≡ false) }
 {
-    let mut conn = Connection::open_in_memory(alloc)?;
+    remove(rt, path)?;
+    let mut conn = Connection::open(rt, path)?;
     conn.execute_batch(sql)?;
-    Ok(TableVault::over(conn))
+    drop(conn);
+    Ok(FileVault::new(rt, path))
 }
 
-fn expect_written(alloc: Global, row: &Written, number: usize) -> Result<(), Fail> {
-    let opened = opens_with(alloc, &mut written(alloc, row.0)?, &[]);
+fn expect_written(rt: &HostRuntime, row: &Written, number: usize) -> Result<(), Fail> {
+    let path = "written.table";
+    let opened = opens_with(rt.alloc(), &mut written(rt, path, row.0)?, &[]);
     expect_at(opened == row.1, "opened over row", number)?;
-    let made = makes_with(alloc, &mut written(alloc, row.0)?, &[]);
-    expect_at(made == row.2, "made over row", number)
+    let made = makes_with(rt.alloc(), &mut written(rt, path, row.0)?, &[]);
+    expect_at(made == row.2, "made over row", number)?;
+    remove(rt, path)
 }
 
 #[test]
 fn a_table_that_was_written_elsewhere_is_judged(rt: HostRuntime) -> Result<(), Fail> {
     for number in 0..WRITTEN.len() {
-        expect_written(rt.alloc(), &WRITTEN[number], number)?;
+        expect_written(&rt, &WRITTEN[number], number)?;
     }
     Ok(())
 }
@@ -90,31 +101,17 @@ fn a_table_that_was_written_elsewhere_is_judged(rt: HostRuntime) -> Result<(), F
 // A table of other columns is not filled.
 #[test]
 fn a_refused_statement_is_a_fault(rt: HostRuntime) -> Result<(), Fail> {
-    let alloc = rt.alloc();
-    let mut vault = written(alloc, WRITTEN[5].0)?;
-    let mut from = keeper_of(alloc, &RECORDS, &[])?;
-    let filled = vault.fill(alloc, &mut from);
-    expect_at(filled == Err(FillFault::Failed), "filled over row", 5)
+    let path = "refused.table";
+    let mut vault = written(&rt, path, WRITTEN[5].0)?;
+    let mut from = keeper_of(rt.alloc(), &RECORDS, &[])?;
+    let filled = vault.fill(rt.alloc(), &mut from);
+    expect_at(filled == Err(FillFault::Failed), "filled over row", 5)?;
+    remove(&rt, path)
 }
 
-// Nobody else has the database of a file while it is open, and its records stay when it is closed.
-fn expect_file(rt: &HostRuntime, path: &str) -> Result<(), Fail> {
-    let alloc = rt.alloc();
-    let mut vault = TableVault::over(Connection::open(rt, path)?);
-    expect_at(makes_with(alloc, &mut vault, &RECORDS) == Ok(true), path, 1)?;
-    expect_at(Connection::open(rt, path).is_err(), path, 2)?;
-    drop(vault);
-    let mut again = TableVault::over(Connection::open(rt, path)?);
-    expect_at(opens_with(alloc, &mut again, &RECORDS) == Ok(true), path, 3)
-}
-
+// A table in memory is made if there is memory. What it then does, its contract says.
 #[test]
-fn a_table_in_a_file_keeps_records(rt: HostRuntime) -> Result<(), Fail> {
-    let path = "kept.table";
-    let _ = fs::remove_file(&rt, path);
-    let _ = fs::remove_file(&rt, "kept.table-wal");
-    expect_file(&rt, path)?;
-    fs::remove_file(&rt, path)?;
-    fs::remove_file(&rt, "kept.table-wal")?;
-    Ok(())
+fn a_table_in_memory_is_made(rt: HostRuntime) -> Result<(), Fail> {
+    expect(TableVault::in_memory(rt.alloc()).is_ok(), "a vault")?;
+    expect(TableSelection::in_memory(rt.alloc()).is_ok(), "a selection")
 }

@@ -4,7 +4,7 @@ use crate::cases::{Case, SECONDS, calm, inetd};
 use crate::example::PEERED;
 use crate::runs::{are_texts, calls_after, calls_of_an_opening, ends, left_by};
 use fedi_rows::records::{ANA, FOLLOWED, FORWARDED, HILL, HOSTED, LAKE, NOTE};
-use fedi_rows::{expect, expect_at, has_records};
+use fedi_rows::{expect, expect_at, has_records, records_of};
 use std::alloc::{AllocError, Global};
 use std::test::Fail;
 
@@ -15,17 +15,32 @@ const FOLLOWING: [&[u8]; 4] = [HOSTED, ANA, LAKE, FOLLOWED];
 pub const WAITING: [&[u8]; 7] = [HOSTED, ANA, LAKE, HILL, FOLLOWED, NOTE, FORWARDED];
 
 /// The actor document of the follower.
-const EVE: &str = "\
+pub const EVE: &str = "\
     HTTP/1.1 200 OK\r\n\
     Content-Length: 86\r\n\r\n\
     {\"id\":\"https://lake.example/users/eve\",\
     \"inbox\":\"https://lake.example/users/eve/inbox\"}";
 
+/// The actor document of somebody else.
+const FINN: &str = "\
+    HTTP/1.1 200 OK\r\n\
+    Content-Length: 88\r\n\r\n\
+    {\"id\":\"https://lake.example/users/finn\",\
+    \"inbox\":\"https://lake.example/users/finn/inbox\"}";
+
 /// A delivery was taken.
-const TAKEN: &str = "HTTP/1.1 202 Accepted\r\nContent-Length: 0\r\n\r\n";
+pub const TAKEN: &str = "HTTP/1.1 202 Accepted\r\nContent-Length: 0\r\n\r\n";
 
 /// What was requested is gone.
 const GONE: &str = "HTTP/1.1 410 Gone\r\n\r\n";
+
+/// The look-up of the first attempt to deliver the acceptance of the Follow failed.
+const UNHEARD: &[u8] = b"\
+    \x06\
+    \0\0\0\x22https://club.example/users/ana/a/1\
+    \0\0\0\x1ehttps://lake.example/users/eve\
+    \0\0\
+    \0\0\0\0.\xbc\x98\xa1";
 
 /// The requests by which the acceptance of the Follow is delivered.
 const LOOK_UP: &str = "\
@@ -73,7 +88,7 @@ const OTHER: &str = "https://hill.example/users/dora/a/8 lake.example ";
 
 /// What is shown, the replies, which exchanges fail, what is printed for both attempts, and what
 /// was asked.
-const RUNS: [(&str, &[&str], &[u64], &[&str], &[&str]); 4] = [
+const RUNS: [(&str, &[&str], &[u64], &[&str], &[&str]); 5] = [
     (
         "both are delivered",
         &[EVE, TAKEN, EVE, TAKEN],
@@ -92,6 +107,13 @@ const RUNS: [(&str, &[&str], &[u64], &[&str], &[&str]); 4] = [
         "one that fails does not stop the other",
         &["", EVE, TAKEN],
         &[0],
+        &[OWN, "again\n", OTHER, "delivered\n", "done 2\n"],
+        &[LOOK_UP, LOOK_UP, FORWARD],
+    ),
+    (
+        "somebody else gets nothing",
+        &[FINN, EVE, TAKEN],
+        &[],
         &[OWN, "again\n", OTHER, "delivered\n", "done 2\n"],
         &[LOOK_UP, LOOK_UP, FORWARD],
     ),
@@ -179,6 +201,23 @@ fn is_tried(alloc: Global, disk: &mut Vec<u8>, due: u64) -> Result<bool, AllocEr
     Ok(waits && is_printed(alloc, disk, due, &[OWN, "again\n", "done 1\n"])?)
 }
 
+// Whether what is kept of the first attempt is that the exchange of its look-up failed.
+fn keeps_failure(alloc: Global) -> Result<bool, AllocError> {
+    let case = Case {
+        failing_exchanges: &[0],
+        ..delivering(&FOLLOWING, &[])
+    };
+    let left = left_by(alloc, &case)?;
+    let Some(records) = records_of(alloc, &left.disk)? else {
+        return Ok(false);
+    };
+    Ok(
+        records
+            .last()
+            .is_some_and(|last| last.as_slice() == UNHEARD),
+    )
+}
+
 fn expect_tries(alloc: Global, disk: &mut Vec<u8>) -> Result<(), Fail> {
     for (number, due) in DUE.iter().enumerate() {
         expect_at(is_tried(alloc, disk, *due)?, "attempt", number)?;
@@ -209,7 +248,7 @@ fn each_delivery_that_is_due_is_tried_once(rt: HostRuntime) -> Result<(), Fail> 
     for (number, row) in RUNS.iter().enumerate() {
         expect_at(has_run(rt.alloc(), row)?, row.0, number)?;
     }
-    Ok(())
+    expect(keeps_failure(rt.alloc())?, "the record of a failure")
 }
 
 #[test]

@@ -91,3 +91,6 @@ pub const PEERED: [&[u8]; 7] = [HOSTED, ANA, BEN, CLEO, DAN, HILL, LAKE];
 
 /// The records of the example town.
 pub const TOWN: [&[u8]; 7] = [HOSTED, ANA, BEN, CLEO, DAN, HELLO, PSST];
+
+/// The records of a town with two peers, in which ana posted a note to everybody.
+pub const CLUB: [&[u8]; 8] = [HOSTED, ANA, BEN, CLEO, DAN, LAKE, HILL, HELLO];

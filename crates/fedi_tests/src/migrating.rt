@@ -8,10 +8,11 @@ use crate::example::{HOSTED, TOWN};
 use crate::runs::{are_texts, left_by};
 use fedi_outside::{
     Bench, Call, FixedClock, MemoryDisk, MemoryDoor, MemoryEntropy, MemoryLink, MemorySink,
-    MemorySource,
+    MemorySource, MemoryVault,
 };
 use fedi_program::{Connection, address_of, run_alone};
 use fedi_rows::{disk_of, expect, expect_at, first_store_of, has_records, store_of};
+use fedi_selection::MemorySelection;
 use std::alloc::{AllocError, Global};
 use std::test::Fail;
 
@@ -63,6 +64,7 @@ fn moved_in(
     let None = address_of(arguments) else {
         return moved_of(alloc, u8::MAX, &connection.out, &old, &new);
     };
+    let mut vault = MemoryVault::new(alloc);
     let ended = run_alone(
         alloc,
         seed(),
@@ -70,6 +72,8 @@ fn moved_in(
         connection,
         old,
         new,
+        &mut vault,
+        &mut MemorySelection::new(alloc),
         benches,
         entropy,
     );

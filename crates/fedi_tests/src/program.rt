@@ -19,14 +19,17 @@ pub const USAGE: &str = "\
     fedi export STORE actors|activities|queue\n\
     fedi check STORE\n\
     fedi migrate OLD NEW\n\
-    fedi demo NUMBER\n";
+    fedi report STORE NAME KIND\n\
+    fedi demo NUMBER\n\
+    fedi play\n";
 
 /// The command line, which writes fail; then the status and the output.
-const ARGUMENTS: [(&str, &[u64], u8, &str); 4] = [
+const ARGUMENTS: [(&str, &[u64], u8, &str); 5] = [
     ("fedi usage", &[], 0, USAGE),
     ("fedi fly s", &[], 2, USAGE),
     ("fedi usage", &[2], 7, "fedi usage\nfedi in"),
     ("fedi fly", &[2], 2, "fedi usage\nfedi in"),
+    ("fedi check s", &[0], 7, ""),
 ];
 
 fn has_arguments(alloc: Global, row: &(&str, &[u64], u8, &str)) -> Result<bool, AllocError> {
@@ -84,7 +87,8 @@ const NOT_FOUND: &str = "\
 
 /// Each read takes one byte of two requests, and each write one byte of two replies: which reads and
 /// which writes fail; then the status and the output, in which no byte comes twice.
-const FAILING: [(&[u64], &[u64], u8, &[&str]); 5] = [
+const FAILING: [(&[u64], &[u64], u8, &[&str]); 6] = [
+    (&[0], &[], 6, &[]),
     (&[5], &[], 6, &[]),
     (&[30], &[], 6, &[NOT_FOUND]),
     (&[], &[0], 7, &[]),
@@ -104,10 +108,64 @@ fn ends_at_failure(alloc: Global, row: &(&[u64], &[u64], u8, &[&str])) -> Result
     ends(alloc, &case, status, wanted, 0)
 }
 
+/// Whether a post is kept if the first write of its reply fails.
+fn is_kept_unanswered(alloc: Global) -> Result<bool, AllocError> {
+    let case = Case {
+        failing_writes: &[0],
+        ..inetd(&MEMBERS, &[NOTE])
+    };
+    ends(alloc, &case, 7, &[], 1)
+}
+
 #[test]
 fn a_read_or_a_write_fails(rt: HostRuntime) -> Result<(), Fail> {
     for (number, row) in FAILING.iter().enumerate() {
         expect_at(ends_at_failure(rt.alloc(), row)?, "a failure", number)?;
+    }
+    expect(is_kept_unanswered(rt.alloc())?, "a post without a reply")
+}
+
+/// Two servers, one of which crashes.
+const SCRIPT: &[&str] = &["server a.example\nserver b.example\n", "crash b.example\n"];
+
+/// The same, and then a reply that nobody has made.
+const REFUSED: &[&str] = &[
+    "server a.example\nserver b.example\ncrash b.example\n",
+    "reach 0\n",
+];
+
+/// What is printed about the first script.
+const PLAYED: &str = "crashed\na.example entries 1\nb.example entries 1\n";
+
+/// The script, of which each read takes one byte, and of the text each write nine: which reads and
+/// which writes fail; then the status and the output.
+const PLAYING: [(&[&str], &[u64], &[u64], u8, &str); 7] = [
+    (SCRIPT, &[], &[], 0, PLAYED),
+    (SCRIPT, &[0], &[], 6, ""),
+    (SCRIPT, &[49], &[], 6, ""),
+    (SCRIPT, &[], &[1], 7, "crashed\na"),
+    (REFUSED, &[], &[], 10, "crashed\nrefused: line 4\n"),
+    (REFUSED, &[], &[1], 10, "crashed\nr"),
+    (&[], &[], &[], 0, ""),
+];
+
+fn is_played(alloc: Global, row: &(&[&str], &[u64], &[u64], u8, &str)) -> Result<bool, AllocError> {
+    let (input, failing_reads, failing_writes, status, wanted) = *row;
+    let case = Case {
+        input,
+        in_bytes: true,
+        failing_reads,
+        write_limit: 9,
+        failing_writes,
+        ..calm("fedi play", &TOWN)
+    };
+    ends(alloc, &case, status, &[wanted], 0)
+}
+
+#[test]
+fn a_script_is_played_or_a_read_or_a_write_fails(rt: HostRuntime) -> Result<(), Fail> {
+    for (number, row) in PLAYING.iter().enumerate() {
+        expect_at(is_played(rt.alloc(), row)?, "a script", number)?;
     }
     Ok(())
 }

@@ -5,9 +5,11 @@ use crate::cases::{
 };
 use fedi_outside::{
     Bench, FixedClock, MemoryDisk, MemoryDoor, MemoryEntropy, MemoryLink, MemorySink, MemorySource,
+    MemoryVault,
 };
 use fedi_program::{Connection, Ended, address_of, run_alone};
 use fedi_rows::{disk_of, has_records, leaked};
+use fedi_selection::MemorySelection;
 use std::alloc::{AllocError, Global};
 use std::mem::ManuallyDrop;
 
@@ -59,11 +61,15 @@ fn left_with(alloc: Global, case: &Case, arguments: &[String]) -> Result<Left, A
     let mut connection = leaked(connection_of(alloc, case)?);
     let disk = leaked(disk_in(alloc, case)?);
     let second = leaked(disk_of(alloc, b"")?);
+    let mut vault = leaked(MemoryVault::new(alloc));
+    let mut selection = leaked(MemorySelection::new(alloc));
     let benches = benches_of(alloc, case)?;
     let ended = leaked(run_alone::<
         MemorySource,
         MemorySink,
         MemoryDisk,
+        MemoryVault,
+        MemorySelection,
         MemoryDoor,
         MemoryLink,
         FixedClock,
@@ -75,6 +81,8 @@ fn left_with(alloc: Global, case: &Case, arguments: &[String]) -> Result<Left, A
         &mut connection,
         ManuallyDrop::into_inner(disk),
         ManuallyDrop::into_inner(second),
+        &mut vault,
+        &mut selection,
         benches,
         &mut entropy,
     ));

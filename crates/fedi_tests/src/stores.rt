@@ -170,10 +170,10 @@ const FAULT: &str = "\
     Content-Length: 23\r\n\r\n\
     {\"error\":\"KeeperFault\"}";
 
-/// Which calls of the disk fail, counted from the first after the opening, the replies to two
-/// posts, and how many more records the disk has. An append writes a record, syncs, opens its gate
+/// Which calls of the disk fail, counted from the first after the opening, the replies to two or
+/// three posts, and how many more records the disk has. An append writes a record, syncs, opens its gate
 /// and syncs again, and a settling closes a gate and syncs.
-const DISKS: [(&[u64], &[&str], usize); 13] = [
+const DISKS: [(&[u64], &[&str], usize); 14] = [
     (&[], &[FIRST, SECOND], 2),
     (&[0], &[FAULT, FIRST], 1),
     (&[1], &[FAULT, FIRST], 1),
@@ -188,6 +188,7 @@ const DISKS: [(&[u64], &[&str], usize); 13] = [
     // The settling fails at its write and at its sync.
     (&[3, 4], &[FAULT, FAULT], 1),
     (&[3, 5], &[FAULT, FAULT], 0),
+    (&[3, 4], &[FAULT, FAULT, FIRST], 1),
     (&[8], &[FIRST, SECOND], 2),
 ];
 
@@ -198,15 +199,16 @@ fn has_disk(
 ) -> Result<bool, AllocError> {
     let (failing, wanted, kept) = *row;
     let failing_calls = calls_after(alloc, opening, failing)?;
+    let posts = [NOTE; 3];
     let case = Case {
         failing_calls: &failing_calls,
-        ..inetd(&MEMBERS, &[NOTE, NOTE])
+        ..inetd(&MEMBERS, posts.get(..wanted.len()).unwrap_or_default())
     };
     ends(alloc, &case, 0, wanted, kept)
 }
 
 #[test]
-fn the_disk_fails_at_each_call_of_two_posts(rt: HostRuntime) -> Result<(), Fail> {
+fn the_disk_fails_at_each_call_of_posts(rt: HostRuntime) -> Result<(), Fail> {
     let opening = calls_of_an_opening(rt.alloc(), &MEMBERS)?;
     for (number, row) in DISKS.iter().enumerate() {
         expect_at(has_disk(rt.alloc(), opening, row)?, "a disk", number)?;

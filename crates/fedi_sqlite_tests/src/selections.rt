@@ -1,10 +1,12 @@
-//! Selections in memory and over a table of a database, which do the same.
+//! Selections in memory and over a table of a file, which do the same.
 
 ghost use Rattle.std.specs.Prelude.{◌≡◌, ◌<◌, ◌^◌, IfOk};
 ghost use Rattle.fedi_selection.specs.ActRows.{AreInOrder};
 
+use crate::files::{are_there, remove};
 use fedi_rows::{expect, expect_at};
-use fedi_selection::{ActRow, MemorySelection, Selection, SelectionFault, TableSelection};
+use fedi_selection::{ActRow, MemorySelection, Selection};
+use fedi_tables::FileSelection;
 use std::alloc::{AllocError, Global};
 use std::test::Fail;
 
@@ -88,35 +90,18 @@ fn expect_selection<S: Selection>(alloc: Global, selection: &mut S) -> Result<()
     expect(found.is_empty(), "the rows before are gone")
 }
 
-#[test]
-fn a_table_selects_as_memory_does(rt: HostRuntime) -> Result<(), Fail> {
-    let alloc = rt.alloc();
-    expect_selection(alloc, &mut MemorySelection::new(alloc))?;
-    match TableSelection::in_memory(alloc) {
-        Ok(mut table) => expect_selection(alloc, &mut table),
-        Err(_) => Err(Fail::new("a table")),
-    }
-}
-
-fn expect_failing<S: Selection>(alloc: Global, selection: &mut S) -> Result<(), Fail> {
-    let rows = rows(alloc)?;
-    expect(selection.lay(alloc, &rows) == Ok(()), "rows")?;
-    expect(
-        selection.lay(alloc, &[]) == Err(SelectionFault::Failed),
-        "rows that are not laid",
-    )?;
-    let failed = places(alloc, selection, "ana", "Create")?;
-    expect(failed.as_slice() == [9].as_slice(), "a pick that fails")?;
-    let found = places(alloc, selection, "ana", "Create")?;
-    expect(
-        found.as_slice() == [0, 4].as_slice(),
-        "the rows are as before",
-    )
+// A selection over a new file of this name, which is then in this one file.
+fn expect_table(rt: &HostRuntime, path: &str, log: &str) -> Result<(), Fail> {
+    remove(rt, path)?;
+    let mut table = FileSelection::new(rt, path);
+    expect_selection(rt.alloc(), &mut table)?;
+    table.finish();
+    expect(are_there(rt, path, log)? == (true, false), path)?;
+    remove(rt, path)
 }
 
 #[test]
-fn what_fails_leaves_the_rows(rt: HostRuntime) -> Result<(), Fail> {
-    let alloc = rt.alloc();
-    let failing = [1, 2].as_slice().to_vec(alloc)?;
-    expect_failing(alloc, &mut MemorySelection::new(alloc).failing(failing))
+fn a_table_selects_as_memory_does_and_leaves_one_file(rt: HostRuntime) -> Result<(), Fail> {
+    expect_selection(rt.alloc(), &mut MemorySelection::new(rt.alloc()))?;
+    expect_table(&rt, "one.report", "one.report-wal")
 }
