@@ -4,8 +4,8 @@ _fedi() {
     local word=${COMP_WORDS[COMP_CWORD]} words='' file
     COMPREPLY=()
     if [ "$COMP_CWORD" -eq 1 ]; then
-        words='usage init add-actor add-peer inetd serve deliver export check migrate demo'
-    elif [[ $word != -* && ($COMP_CWORD -eq 2 && ${COMP_WORDS[1]} != @(usage|demo)
+        words='usage init add-actor add-peer inetd serve deliver export check migrate report demo play'
+    elif [[ $word != -* && ($COMP_CWORD -eq 2 && ${COMP_WORDS[1]} != @(usage|demo|play)
         || $COMP_CWORD -eq 3 && ${COMP_WORDS[1]} == migrate) ]]; then
         compopt -o filenames
         while IFS= read -r file; do COMPREPLY+=("$file"); done < <(compgen -f -- "$word")

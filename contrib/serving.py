@@ -2,6 +2,7 @@
 import http.server
 import json
 import os
+import secrets
 import socket
 import struct
 import subprocess
@@ -138,6 +139,45 @@ class Talk:
         self.close()
 
 
+class Steady:
+    """Asks on one connection, and on a new one what the last one left unanswered, as it may: while
+    others wait, a connection ends that says nothing. So each post has a key.
+    """
+
+    def __init__(self, server):
+        self.server, self.talk = server, None
+
+    def replies(self, *requests):
+        """The replies to these requests, which are sent at once."""
+        found, until = [], time.monotonic() + PATIENCE
+        while len(found) < len(requests):
+            try:
+                if not self.talk:
+                    self.talk = Talk(self.server)
+                self.talk.send(*requests[len(found) :])
+                while len(found) < len(requests):
+                    found.append(self.talk.reply())
+            except Lost:
+                self.close()
+                if time.monotonic() > until:
+                    raise
+        return found
+
+    def ask(self, request):
+        return self.replies(request)[0]
+
+    def close(self):
+        if self.talk:
+            self.talk.close()
+        self.talk = None
+
+    def __enter__(self):
+        return self
+
+    def __exit__(self, *_):
+        self.close()
+
+
 class Peer:
     """Another server, FAR, at a port of its own: whoever is asked for is there, and each post is
     taken. It answers nothing before it is let go.
@@ -202,6 +242,12 @@ def post(name, key, activity):
         f"POST /users/{name}/outbox HTTP/1.1\r\nHost: {HOST}\r\nAuthorization: Bearer {key}\r\n"
         f"Content-Type: application/json\r\nContent-Length: {len(body)}\r\n\r\n{body}"
     ).encode()
+
+
+def repeatable(request):
+    """The same post with a key, under which it can be sent again and is kept once."""
+    key = b"\r\nIdempotency-Key: %s\r\n\r\n" % secrets.token_hex(8).encode()
+    return request.replace(b"\r\n\r\n", key, 1)
 
 
 def note(content, to="Public"):
