@@ -161,6 +161,7 @@ fn copy_record<P: Keeper, D: Disk>(
     requires inside { place < (P.shown from.old).held }
     requires settled { (⟦<SealedJournal<D, HiddenChain> as Keeper>⟧.shown journal.old).doubt ≡ None }
     ensures same { OnOk result (P.shown from.new ≡ P.shown from.old) }
+    ensures source { (P.shown from.new).records ≡ (P.shown from.old).records }
     ensures settled { OnOk result
         ((⟦<SealedJournal<D, HiddenChain> as Keeper>⟧.shown journal.new).doubt ≡ None) }
     ensures copied { OnOk result ((kept : List (List ℕ)) → (P.shown from.old).records ≡ Some kept
@@ -204,8 +205,8 @@ impl<D: Disk> Hidden<D> {
     /// Appends each record of a keeper to a hidden file, and then makes it a journal by one byte.
     /// Each error hands the disk back: `Source` if the keeper failed, `Failed` if the disk did,
     /// `Full` if a record has no room, and `Memory` if memory runs out. Whatever the result, the
-    /// keeper is only read, and each image that a crash leaves since the call began is hidden, or a
-    /// file of exactly the records of the keeper.
+    /// keeper is only read and has the records that it had, and each image that a crash leaves
+    /// since the call began is hidden, or a file of exactly these records.
     pub fn fill<P: Keeper>(self, alloc: Global, from: &mut P) -> Result<Journal<D>, (CopyFault, D)>
         ensures records { IfOk result (λ made. (kept : List (List ℕ))
             → (P.shown from.old).records ≡ Some kept → IfSome (D.shown (disk_of made)).reads
@@ -220,6 +221,7 @@ impl<D: Disk> Hidden<D> {
         ensures full { IfErr result (λ back. back.0 ≡ CopyFault.Full → (kept : List (List ℕ))
             → (P.shown from.old).records ≡ Some kept
             → IfSome (D.shown (disk_in self)).reads (λ _. IsTooLong kept)) }
+        ensures source { (P.shown from.new).records ≡ (P.shown from.old).records }
         ensures outside { P.only_read from.old from.new }
         ensures images { (kept : List (List ℕ)) → (P.shown from.old).records ≡ Some kept
             → IfSome (D.shown (disk_in self)).reads (λ _. Elapses (D.crashes (disk_in self))

@@ -2,7 +2,6 @@
 use Rattle.std.proofs.Common.{◌≡◌, ℕ, Bool, true, false, max, List, [], length, Option, Some, None, Err, arith, inl, inr, refl, sym, ap, subst, ◌∙◌}
 use Rattle.std.specs.Prelude.{◌≢◌, IfSome, IsErrOf}
 use Rattle.fedi_journal.specs.Hiding.{IsTooLong, IsVisible}
-use Rattle.fedi_journal.specs.declared.faults.CopyFault.{CopyFault}
 use Rattle.fedi_journal.specs.declared.faults.CopyFault.TheVariants as copies
 use Rattle.fedi_journal.specs.declared.faults.InitFault.TheVariants as inits
 use Rattle.fedi_logged.specs.Endings.{Output, faults_of}
@@ -25,8 +24,8 @@ use Rattle.fedi_startup.specs.declared.faults.StoreFault.{StoreFault}
 use Rattle.fedi_startup.specs.declared.faults.StoreFault.TheVariants as stores
 use Rattle.fedi_program.specs.Commands.{Fill, Migrate, place_if}
 use Rattle.fedi_program.specs.Complete.{CanBeFilled, HasEitherStore, HasStoreIn, IsCalm, IsComplete, IsCompleteIn, IsDone, Outside, outside_of}
-use Rattle.fedi_program.specs.Filling.{FillsFrom, FillsTo, IsFilledBy, IsMoved, IsUnfilled, MigratesIn, MigratesOut, MovesOut, ReportsUnfilled, count_filled, count_source}
-use Rattle.fedi_program.specs.Migrating.{InEither, IsStoreIn, MovesFrom, MovesTo, ReportsFilling}
+use Rattle.fedi_program.specs.Filling.{FillsFrom, FillsTo, IsFilledBy, IsUnfilled, MigratesIn, MigratesOut, MovesOut, ReportsUnfilled, count_filled, count_source}
+use Rattle.fedi_program.specs.Migrating.{InEither, IsStoreIn, MovesFrom, MovesTo}
 use Rattle.fedi_program.specs.Runs.{asks_disk, asks_vault, is_status_of}
 use Rattle.fedi_program.specs.Seen.{Chance, Medium, medium}
 use Rattle.fedi_program.specs.Stores.{IsSame}
@@ -226,17 +225,6 @@ opening_keeps (openings.Damaged place) k l is = ap (λ (s : KeeperState). s.reco
 opening_keeps openings.Empty k l is = ap (λ (s : KeeperState). s.records) is
 opening_keeps openings.Memory k l is = ap (λ (s : KeeperState). s.records) is
 
--- the records were not all moved
-pub not_moved : (fault : CopyFault) (first now : Output) (status : ℕ) → ReportsFilling fault first now status → IsMoved status → ⊥
-not_moved copies.Source first now status tells (inl zero) = let clash : 5 ≡ 0 = sym tells.0 ∙ zero in cc clash
-not_moved copies.Source first now status tells (inr seven) = let clash : 5 ≡ 7 = sym tells.0 ∙ seven in cc clash
-not_moved copies.Failed first now status tells (inl zero) = let clash : 5 ≡ 0 = sym tells.0 ∙ zero in cc clash
-not_moved copies.Failed first now status tells (inr seven) = let clash : 5 ≡ 7 = sym tells.0 ∙ seven in cc clash
-not_moved copies.Full first now status tells (inl zero) = let clash : 13 ≡ 0 = sym tells.0 ∙ zero in cc clash
-not_moved copies.Full first now status tells (inr seven) = let clash : 13 ≡ 7 = sym tells.0 ∙ seven in cc clash
-not_moved copies.Memory first now status tells (inl zero) = let clash : 12 ≡ 0 = sym tells.0 ∙ zero in cc clash
-not_moved copies.Memory first now status tells (inr seven) = let clash : 12 ≡ 7 = sym tells.0 ∙ seven in cc clash
-
 -- the records of a keeper are no history
 not_opened_kept : (fault : OpenFault) (read : List Entry) (k : KeeperState) → IfSome k.records (λ records. k.held ≡ length records) → IsStopped fault k read
     → IsNotOpenedIn (of_opening fault) k.records
@@ -251,7 +239,7 @@ not_opened_kept openings.Empty read k counted stopped =
 not_opened_kept openings.Memory read k counted stopped = tt
 
 pub moves_out : {D : Type 0} (disks : DiskGhosts D) (was is : KeeperState) (before after : D) (first now : Output) (status : ℕ) → IfSome was.records (λ records. was.held ≡ length records)
-    → MovesFrom disks was is before after first now status → (IsMoved status → is.records ≡ was.records) → MovesOut disks was.records was.faults is before after first now status
+    → MovesFrom disks was is before after first now status → is.records ≡ was.records → MovesOut disks was.records was.faults is before after first now status
 moves_out disks was is before after first now status counted (inl (fault, read, stopped, shown, unasked, tells)) keeps = inl (
   of_opening fault,
   not_opened_kept fault read was counted stopped,
@@ -297,7 +285,7 @@ closed_as disks old middle left is before after first now status still closed (i
   history,
   is.faults,
   store,
-  (λ moved. ap (λ (v : VaultState). v.kept) closed ∙ keeps moved),
+  ap (λ (v : VaultState). v.kept) closed ∙ keeps,
   ap (λ (v : VaultState). v.out) closed,
   ap (λ (v : VaultState). v.faults) closed ∙ ap (λ (n : ℕ). max n is.faults) still,
   moves,

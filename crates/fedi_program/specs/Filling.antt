@@ -105,21 +105,17 @@ pub record IsKeptStore (history : List Entry) (kept : Option (List (List ℕ))) 
   pub sound : IsSound history
   pub stored : AreRecordsOf history kept
 
--- with these statuses all records were moved, though at 7 that was not printed completely
-abbrev pub IsMoved : ℕ → Type 0
-IsMoved status = (status ≡ 0) ⊎ (status ≡ 7)
-
 -- How a run moves the records of the store of a vault to a second disk. The vault is not the store
 -- of a history, which is reported, and the second disk is not asked; or it is, and its keeper,
--- which has counted this many faults then, gives the records of that history. The vault keeps what
--- it kept, if all records were moved or none was tried.
+-- which has counted this many faults then, gives the records of that history. Whatever the status,
+-- the vault keeps what it kept.
 abbrev pub MigratesOut : {D : Type 0} → DiskGhosts D → VaultState → VaultState → D → D → Output
     → Output → ℕ → Type 0
 MigratesOut disks old left before after first now status =
     ((fault : StoreFault) × IsRefusedIn fault old left × (after ≡ before)
     × ReportsStore fault first now status)
     ⊎ ((history : List Entry) × (count : ℕ) × IsKeptStore history old.kept
-    × (IsMoved status → left.kept ≡ old.kept) × (left.out ≡ false)
+    × (left.kept ≡ old.kept) × (left.out ≡ false)
     × (left.faults ≡ max old.faults count)
     × MovesTo old.kept history old.faults count (medium disks before) (medium disks after) first now
     status)
@@ -130,6 +126,6 @@ abbrev pub MovesOut : {D : Type 0} → DiskGhosts D → Option (List (List ℕ))
 MovesOut disks kept was is before after first now status =
     ((fault : StoreFault) × IsNotOpenedIn fault kept × (is.records ≡ kept)
     × (is.faults ≡ count_after fault was) × (after ≡ before) × ReportsStore fault first now status)
-    ⊎ ((history : List Entry) × IsKeptStore history kept × (IsMoved status → is.records ≡ kept)
+    ⊎ ((history : List Entry) × IsKeptStore history kept × (is.records ≡ kept)
     × MovesTo kept history was is.faults (medium disks before) (medium disks after) first now
     status)

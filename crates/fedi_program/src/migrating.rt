@@ -4,7 +4,6 @@ ghost use Rattle.std.specs.Prelude.{◌≡◌, ◌≢◌, List, IfErr, None, OnO
 ghost use Rattle.fedi_core.specs.Opening.{outcome_of};
 ghost use Rattle.fedi_objects.specs.declared.entry.Entry.{Entry};
 ghost use Rattle.fedi_opening.specs.Opening.{IsRead, IsStopped, after_open};
-ghost use Rattle.fedi_program.specs.Filling.{IsMoved};
 ghost use Rattle.fedi_program.specs.Migrating.{Migrates, MovesFrom, ReportsFilling, keeper_left};
 ghost use Rattle.fedi_program.specs.Migrating.{moved_line};
 ghost use Rattle.fedi_program.specs.Seen.{medium, output};
@@ -83,7 +82,7 @@ pub(crate) fn move_records<O: Sink, P: Keeper, D: Disk>(
     ensures moved { MovesFrom D.Disk (P.shown from) (P.shown result.1) second result.2
         (output O.Sink out.old) (output O.Sink out.new) result.0 }
     ensures outside { P.only_read from result.1 }
-    ensures kept { IsMoved result.0 → (P.shown result.1).records ≡ (P.shown from).records }
+    ensures kept { (P.shown result.1).records ≡ (P.shown from).records }
 {
     let mut from = match judge(alloc, seed, from) {
         Ok(from) => from,

@@ -3,7 +3,7 @@ use Rattle.fedi_journal.specs.Making.{blank}
 use Rattle.fedi_journal.specs.Chains.{hidden}
 use Rattle.fedi_outside.specs.Disks.{spliced}
 use Rattle.fedi_outside.specs.Keepers.{KeeperState}
-use Rattle.fedi_program.proofs.FillLemmas.{not_moved, opening_keeps}
+use Rattle.fedi_program.proofs.FillLemmas.{opening_keeps}
 use Rattle.fedi_program.proofs.MigratingLemmas.{fills_from, if_known, is_filled, too_long_from}
 use Rattle.fedi_program.proofs.migrating.move_records.Goals as goal
 
@@ -95,13 +95,13 @@ pub returns-in-Err-fill-clause-outside : goal.returns-in-Err-fill-clause-outside
 returns-in-Err-fill-clause-outside g c = g.met.P.Keeper.read_both c.args.from c.in-Ok.from c.fill.new.from c.in-Ok.ensures.outside c.fill.ensures.outside
 
 pub returns-in-Err-clause-kept : goal.returns-in-Err-clause-kept
-returns-in-Err-clause-kept g c moved = opening_keeps c.in-Err.fault (g.P.Keeper.shown c.args.from) _ c.in-Err.ensures.shown
+returns-in-Err-clause-kept g c = opening_keeps c.in-Err.fault (g.P.Keeper.shown c.args.from) _ c.in-Err.ensures.shown
 
 pub returns-in-Err-hide-clause-kept : goal.returns-in-Err-hide-clause-kept
-returns-in-Err-hide-clause-kept g c moved = ap (λ (k : KeeperState). k.records) c.in-Ok.ensures.shown
+returns-in-Err-hide-clause-kept g c = ap (λ (k : KeeperState). k.records) c.in-Ok.ensures.shown
 
 pub returns-in-Ok-fill-clause-kept : goal.returns-in-Ok-fill-clause-kept
-returns-in-Ok-fill-clause-kept g c moved = ap (λ (k : KeeperState). k.records) (c.in-Ok-fill.ensures.calm.0 ∙ c.in-Ok.ensures.shown)
+returns-in-Ok-fill-clause-kept g c = ap (λ (k : KeeperState). k.records) (c.in-Ok-fill.ensures.calm.0 ∙ c.in-Ok.ensures.shown)
 
 pub returns-in-Err-fill-clause-kept : goal.returns-in-Err-fill-clause-kept
-returns-in-Err-fill-clause-kept g c moved = absurd (not_moved c.in-Err-fill.fault _ _ _ c.report_filling.ensures moved)
+returns-in-Err-fill-clause-kept g c = c.fill.ensures.source ∙ ap (λ (k : KeeperState). k.records) c.in-Ok.ensures.shown
