@@ -4,11 +4,11 @@
 ghost use Rattle.std.specs.Prelude.{◌≡◌, IfOk, false};
 
 use crate::cases::{
-    Case, arguments_of, benches_of, calm, connection_of, disk_in, entropy_of, seed,
+    Case, arguments_of, benches_of, calm, connection_of, disk_in, entropy_of, inetd, seed,
 };
 use crate::delivering::{EVE, TAKEN, WAITING};
-use crate::example::{CLUB, HOSTED, MEMBERS};
-use crate::program::{NOTE, USAGE};
+use crate::example::{CLUB, HOSTED, MEMBERS, PEERED};
+use crate::program::{FIRST, NOTE, USAGE};
 use crate::runs::{are_texts, left_by};
 use fedi_outside::{
     FillFault, FixedClock, Keeper, MemoryDisk, MemoryDoor, MemoryEntropy, MemoryKeeper, MemoryLink,
@@ -223,10 +223,10 @@ fn a_store_in_a_vault_is_as_one_on_a_disk(rt: HostRuntime) -> Result<(), Fail> {
     expect(begins_so(&vault), "the first record")
 }
 
-/// Whether the keeper has three records, the first of which is that of the host.
-fn has_host<P: Keeper>(alloc: Global, keeper: &mut P) -> bool {
+/// Whether the keeper has so many records, the first of which is that of the host.
+fn has_host<P: Keeper>(alloc: Global, keeper: &mut P, count: u64) -> bool {
     match keeper.load(alloc, 0) {
-        Ok(Some(record)) => keeper.count() == 3 && record.as_slice() == HOSTED,
+        Ok(Some(record)) => keeper.count() == count && record.as_slice() == HOSTED,
         _ => false,
     }
 }
@@ -242,7 +242,54 @@ fn a_store_in_a_database_is_as_one_on_a_disk(rt: HostRuntime) -> Result<(), Fail
     let Ok(keeper) = vault.open(alloc) else {
         return Err(Fail::new("the records"));
     };
-    expect(has_host(alloc, &mut *leaked(keeper)), "the first record")
+    let begins = has_host(alloc, &mut *leaked(keeper), 3);
+    expect(begins, "the first record")
+}
+
+/// Fills the vault with these records.
+fn fill_with<V: Vault>(alloc: Global, vault: &mut V, records: &[&[u8]]) -> Result<(), Fail>
+    requires home { (V.shown vault.old).out ≡ false }
+    ensures stays { (V.shown vault.new).out ≡ false }
+{
+    let mut source = leaked(MemoryKeeper::new(alloc));
+    for record in records {
+        expect(adds(&mut source, record), "a record")?;
+    }
+    let filled = vault.fill(alloc, &mut *source);
+    expect(filled == Ok(()), "the records")
+}
+
+/// A post of ana's, and then the activity that it has made is read.
+const POSTED: [&str; 2] = [
+    NOTE,
+    "GET /users/ana/a/1 HTTP/1.1\r\nHost: club.example\r\n\r\n",
+];
+
+#[test]
+fn a_database_answers_a_post_as_a_disk_does(rt: HostRuntime) -> Result<(), Fail> {
+    let alloc = rt.alloc();
+    let Ok(vault) = TableVault::in_memory(alloc) else {
+        return Err(Fail::new("a table of records"));
+    };
+    let mut vault = leaked(vault);
+    fill_with(alloc, &mut *vault, &PEERED)?;
+    let case = inetd(&PEERED, &POSTED);
+    let left = left_by(alloc, &case)?;
+    let (ended, out) = printed_over(
+        alloc,
+        &Case {
+            line: "fedi inetd table:s",
+            ..case
+        },
+        &mut *vault,
+    )?;
+    let same = left.status == 0 && ended == 0 && out == left.out;
+    expect(same && out.starts_with(FIRST.as_bytes()), "the replies")?;
+    let Ok(keeper) = vault.open(alloc) else {
+        return Err(Fail::new("the records"));
+    };
+    let begins = has_host(alloc, &mut *leaked(keeper), 8);
+    expect(begins, "the first record")
 }
 
 /// A table with one record, which is at place 1.
