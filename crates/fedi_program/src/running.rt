@@ -222,15 +222,15 @@ pub fn run_alone<
 /// | 2 | the arguments are not accepted | the usage |
 /// | 3 | the disk has fewer than 9 bytes, or does not begin with a store's, of either format, or has no record; the vault has no record | `not a store` |
 /// | 4 | the store is damaged | `damaged at byte P`, `damaged at record R` |
-/// | 5 | a disk or the vault failed | `disk fault` |
+/// | 5 | a disk, the vault or the selection failed | `disk fault` |
 /// | 6 | a read failed, or no key could be drawn | nothing |
 /// | 7 | a write failed | |
 /// | 8 | the input ended inside a request | |
-/// | 9 | a store was to be made, or records to be moved, and the disk for them has other bytes; or a store was to be made, and the vault has a record | `exists` |
-/// | 10 | a rule is broken | `refused: bad name`, `refused: name taken`, `refused: key taken`, `refused: bad host`, `refused: host taken`, `refused: bad key`, `refused: bad address`; by `play` the lines of the events, then `refused: line N`, or `refused: too long` |
+/// | 9 | a store was to be made, or records to be moved, and the disk for them has other bytes, or the vault a record | `exists` |
+/// | 10 | a rule is broken | `refused: bad name`, `refused: name taken`, `refused: key taken`, `refused: bad host`, `refused: host taken`, `refused: bad key`, `refused: bad address`, `refused: bad kind`; by `play` the lines of the events, then `refused: line N`, or `refused: too long` |
 /// | 11 | a door failed | nothing |
 /// | 12 | out of memory | nothing, lines of attempts that were kept, or a prefix of the table |
-/// | 13 | the store has no room for a member or a peer, for the result of an attempt, or for the records that are to be moved | `full` |
+/// | 13 | the store has no room for a member or a peer, for the result of an attempt, or for the records that are to be moved; or the vault has none for a first record | `full` |
 /// | 14 | the store is of the first format, and the command is not `migrate` | `old format` |
 ///
 /// `inetd` is done if the input ended after the last request, or a reply closed the connection, and
