@@ -18,6 +18,7 @@ use Rattle.fedi_world.specs.declared.event.Happened.{Happened}
 use Rattle.fedi_world.specs.Happenings.{Happens, LacksAttempt, LacksName, LacksReply, LacksRequest}
 use Rattle.fedi_world.specs.Happenings.{LacksRoom, LacksServer, Limits, limits}
 use Rattle.fedi_world.specs.Scenes.{Scene}
+use Rattle.fedi_worlds.specs.Promises.{HaveArrived, HaveOrigins}
 use Rattle.fedi_worlds.specs.Worlds.{Server}
 use Rattle.fedi_play.specs.Telling.{happened_line}
 
@@ -75,13 +76,17 @@ abbrev pub IsRefusedIn : Scene → Instruction → Type 0
 IsRefusedIn w i =
     ((e : Event) → AsksIn w i e → ⊥) ⊎ ((e : Event) × AsksIn w i e × CannotHappen w e)
 
--- the line asks for an event, which happens, and the line about it is printed
+-- The line asks for an event, which happens, and the line about it is printed. Then each delivery
+-- that a server has accepted comes from where it says, and what a server has kept as delivered has
+-- arrived (ActivityPub, sections 3 and 7.1).
 pub record Lets (w : Scene) (i : Instruction) (printed : List ℕ) (v : Scene) : Type 0 where
   pub event : Event
   pub asked : AsksIn w i event
   pub what : Happened
   pub happens : Happens memory w event what v
   pub reported : printed ≡ happened_line what
+  pub origins : HaveOrigins v.world
+  pub arrivals : HaveArrived v.world
 
 -- ---- one line
 

@@ -1,6 +1,7 @@
 -- A script of several servers: its lines, and what each says.
-use Rattle.std.specs.Prelude.{ℕ, Bool, ◌==◌, nat_lt, ◌^◌, List, [], ◌∷◌, codes}
-use Rattle.std.specs.Prelude.{bytes_eq, Option, Some, None, option_map, if◌then◌else◌}
+use Rattle.std.specs.Prelude.{ℕ, Bool, false, ◌==◌, nat_lt, ◌^◌, List, [], ◌∷◌, codes, length}
+use Rattle.std.specs.Prelude.{bytes_eq, slice_index, Option, Some, None, option_map}
+use Rattle.std.specs.Prelude.{if◌then◌else◌}
 use Rattle.std.specs.List.{after_first, before_first, list_any}
 use Rattle.std.specs.Option.{option_and_then}
 use Rattle.std.specs.Str.{is_utf8}
@@ -69,9 +70,15 @@ last_word parts = option_map (λ word. (parts.0, word)) (one_word parts.1)
 abbrev pub last_parts : List ℕ × List ℕ → Option (List ℕ × List ℕ × List ℕ)
 last_parts parts = option_map (λ more. (parts.0, more.0, more.1)) (cut parts.1)
 
--- the number that 1 to 19 digits write
+-- there is a zero (48) before another character
+abbrev pub is_padded : List ℕ → Bool
+is_padded word = if nat_lt 1 (length word) then slice_index word 0 == 48 else false
+
+-- the number that 1 to 19 digits write, without a leading zero
 abbrev pub number_in : List ℕ → Option ℕ
-number_in word = if is_decimal word then Some (digits_value 10 word) else None
+number_in word =
+    if is_padded word then None
+    else (if is_decimal word then Some (digits_value 10 word) else None)
 
 -- the same, if it has 32 bits
 abbrev pub seconds_in : List ℕ → Option ℕ

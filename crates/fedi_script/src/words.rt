@@ -2,7 +2,8 @@
 
 ghost use Rattle.std.specs.Prelude.{◌≡◌, None, Some, option_copied, option_map, if◌then◌else◌};
 ghost use Rattle.fedi_script.specs.Lines.{cut, instruction_by, instruction_in, instruction_of};
-ghost use Rattle.fedi_script.specs.Lines.{last_parts, last_word, number_in, one_word, seconds_in};
+ghost use Rattle.fedi_script.specs.Lines.{is_padded, last_parts, last_word, number_in, one_word};
+ghost use Rattle.fedi_script.specs.Lines.{seconds_in};
 ghost use Rattle.std.specs.Option.{option_and_then};
 ghost use Rattle.std.specs.Str.{is_utf8};
 
@@ -109,11 +110,22 @@ fn three_parts(text: &str) -> Option<(&str, &str, &str)>
     Some((first, second, rest))
 }
 
-/// The number that 1 to 19 digits write.
+/// Whether there is a zero before another character.
+fn is_padded(word: &str) -> bool
+    ensures { result ≡ is_padded word.now }
+{
+    word.len() > 1 && word.as_bytes()[0] == b'0'
+}
+
+/// The number that 1 to 19 digits write, without a leading zero.
 fn number_in(word: &str) -> Option<u64>
     ensures { result ≡ number_in word.now }
 {
-    read_decimal(word.as_bytes())
+    if is_padded(word) {
+        None
+    } else {
+        read_decimal(word.as_bytes())
+    }
 }
 
 /// The same, if it has 32 bits.
@@ -177,8 +189,8 @@ fn text_of(bytes: &[u8]) -> Option<&str>
 /// What a line of a script says. `None` if it is not UTF-8 or has none of these forms, whose words
 /// are separated by single spaces: `server HOST`, `actor HOST NAME`, `peers HOST HOST`,
 /// `say HOST NAME JSON`, `claim HOST`, `arrive N`, `reach N`, `lose N`, `crash HOST`, `wait N`.
-/// JSON is the rest of the line, whatever it is. N has 1 to 19 digits, and in a `wait` is below
-/// 2^32. What is a host or a name is not judged here.
+/// JSON is the rest of the line, whatever it is. N has 1 to 19 digits and no leading zero, and in a
+/// `wait` is below 2^32. What is a host or a name is not judged here.
 pub fn read_line(line: &[u8]) -> Option<Line<'_>>
     ensures { option_map instruction_of result ≡ instruction_in line.now }
 {

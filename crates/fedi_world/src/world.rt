@@ -95,7 +95,9 @@ impl<S: Blank + Drop, P: Calm + Drop> World<S, P> {
         })
     }
 
-    /// Lets this event happen. What has happened is the event of the definitions.
+    /// Lets this event happen. What has happened is the event of the definitions. Whatever has,
+    /// each delivery that a server has accepted comes from where it says, and what a server has
+    /// kept as delivered has arrived (ActivityPub, sections 3 and 7.1).
     ///
     /// Each error has one cause: `NoServer`, `NoRequest`, `NoReply`, `NoAttempt` and `NoName` come
     /// exactly if what the event names is not there, and then nothing has changed. `Full` comes if
@@ -115,8 +117,10 @@ impl<S: Blank + Drop, P: Calm + Drop> World<S, P> {
         ensures no_attempt { IsErrOf result WorldFault.NoAttempt
             ↔ LacksAttempt self.old.world event }
         ensures no_name { IsErrOf result WorldFault.NoName ↔ LacksName self.old.world event }
+        ensures origins { HaveOrigins self.new.world }
+        ensures arrivals { HaveArrived self.new.world }
     {
-        match event {
+        let what = match event {
             Event::Say { server, name, body } => self.say(alloc, server, name, body),
             Event::Claim { server } => self.claim(alloc, server),
             Event::Arrive { request } => self.arrive(alloc, request),
@@ -124,7 +128,10 @@ impl<S: Blank + Drop, P: Calm + Drop> World<S, P> {
             Event::Lose { attempt } => self.lose(alloc, attempt),
             Event::Crash { server } => self.crash(alloc, server),
             Event::Wait { seconds } => Ok(self.wait(seconds)),
-        }
+        };
+        self.show_origins();
+        self.show_arrivals();
+        what
     }
 
     /// How many servers there are.
