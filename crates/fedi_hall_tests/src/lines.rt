@@ -208,12 +208,14 @@ fn a_line_that_fails_ends_alone(rt: HostRuntime) -> Result<(), Fail> {
     }
 }
 
-// The status for the turns of one door.
+// The status for the turns of one door, which is idle or not before it fails or closes.
 #[test]
 fn a_door_that_fails_ends_with_11(rt: HostRuntime) -> Result<(), Fail> {
-    for (fails, status) in [(false, 0), (true, 11)] {
+    for (is_idle, fails, status) in [(true, false, 0), (false, true, 11), (true, true, 11)] {
         let mut turns = Vec::new(rt.alloc());
-        turns.push(Turn::Idle)?;
+        if is_idle {
+            turns.push(Turn::Idle)?;
+        }
         if fails {
             turns.push(Turn::Failed)?;
         }
