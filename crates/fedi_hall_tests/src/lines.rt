@@ -206,17 +206,19 @@ fn a_line_that_fails_ends_alone(rt: HostRuntime) -> Result<(), Fail> {
     }
 }
 
-// The status for the turns of one door.
+// The status for the turns of one door, which is idle or not before it fails or closes.
 #[test]
 fn a_door_that_fails_ends_with_11(rt: HostRuntime) -> Result<(), Fail> {
     let (gate, seconds) = (Gate::new(), AtomicU64::new(SECONDS));
     let clock = Ticking::still(&seconds);
-    for (fails, expected) in [(false, 0), (true, 11)] {
+    for (is_idle, fails, expected) in [(true, false, 0), (false, true, 11), (true, true, 11)] {
         let mut coming = Vec::new(rt.alloc());
         if fails {
             coming.push(Given::Failed)?;
         }
-        coming.push(Given::Idle)?;
+        if is_idle {
+            coming.push(Given::Idle)?;
+        }
         let (status, _, _) = served(&rt, rt.alloc(), &gate, clock, coming)?;
         if status != expected {
             return Err(Fail::new("the status"));

@@ -201,20 +201,22 @@ fn is_tried(alloc: Global, disk: &mut Vec<u8>, due: u64) -> Result<bool, AllocEr
     Ok(waits && is_printed(alloc, disk, due, &[OWN, "again\n", "done 1\n"])?)
 }
 
-// Whether what is kept of the first attempt is that the exchange of its look-up failed.
+// Whether what is kept of the first attempt is one record: that the exchange of its look-up failed.
 fn keeps_failure(alloc: Global) -> Result<bool, AllocError> {
     let case = Case {
         failing_exchanges: &[0],
         ..delivering(&FOLLOWING, &[])
     };
     let left = left_by(alloc, &case)?;
+    let is_one = has_records(alloc, &left.disk, &FOLLOWING, 1)?;
     let Some(records) = records_of(alloc, &left.disk)? else {
         return Ok(false);
     };
     Ok(
-        records
-            .last()
-            .is_some_and(|last| last.as_slice() == UNHEARD),
+        is_one
+            && records
+                .last()
+                .is_some_and(|last| last.as_slice() == UNHEARD),
     )
 }
 

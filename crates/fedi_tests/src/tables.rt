@@ -1,7 +1,7 @@
 //! Stores in a vault: the same commands as on a disk end in the same way, and leave the same records;
 //! and what is refused if there is no room.
 
-ghost use Rattle.std.specs.Prelude.{◌≡◌, IfOk, false};
+ghost use Rattle.std.specs.Prelude.{◌≡◌, false};
 
 use crate::cases::{
     Case, arguments_of, benches_of, calm, connection_of, disk_in, entropy_of, inetd, seed,
@@ -376,10 +376,8 @@ fn adds(keeper: &mut MemoryKeeper, record: &[u8]) -> bool {
     keeper.reserve(record.len()).is_ok() && keeper.settle().is_ok() && keeper.append(record).is_ok()
 }
 
-// A vault that keeps these records. Only a record of 10 bytes or fewer has room after them.
-fn crowded(alloc: Global, records: &[&[u8]]) -> Result<MemoryVault, AllocError>
-    ensures { IfOk result (λ vault. vault.out ≡ false) }
-{
+/// A keeper of these records. Only a record of 10 bytes or fewer has room after them.
+pub fn crowded(alloc: Global, records: &[&[u8]]) -> Result<MemoryKeeper, AllocError> {
     let mut end = (1_u64 << 62).saturating_sub(20);
     for record in records {
         end = end.saturating_sub(9).saturating_sub(record.len() as u64);
@@ -390,7 +388,7 @@ fn crowded(alloc: Global, records: &[&[u8]]) -> Result<MemoryVault, AllocError>
             return Err(AllocError);
         }
     }
-    Ok(MemoryVault::holding(alloc, keeper))
+    Ok(keeper)
 }
 
 // Whether the command is refused, and the vault keeps what it kept.
@@ -405,7 +403,7 @@ fn has_no_room(
         replies,
         ..calm(line, &[])
     };
-    let mut vault = crowded(alloc, records)?;
+    let mut vault = MemoryVault::holding(alloc, crowded(alloc, records)?);
     let (ended, out) = printed_over(alloc, &case, &mut vault)?;
     let kept = vault.kept().records();
     Ok(
