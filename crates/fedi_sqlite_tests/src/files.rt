@@ -17,9 +17,9 @@ pub fn remove(rt: &HostRuntime, path: &str) -> Result<(), Fail> {
     Ok(())
 }
 
-/// Whether there is a file of this name, and one of its log.
-pub fn are_there(rt: &HostRuntime, path: &str, log: &str) -> Result<(bool, bool), Fail> {
-    Ok((fs::exists(rt, path)?, fs::exists(rt, log)?))
+/// Whether there is a file of this name, and one of its log, or `None` if that cannot be asked.
+pub fn are_there(rt: &HostRuntime, path: &str, log: &str) -> Option<(bool, bool)> {
+    Some((fs::exists(rt, path).ok()?, fs::exists(rt, log).ok()?))
 }
 
 // What is made is in one file once the vault is finished, which is its owner's alone, and is opened
@@ -29,20 +29,28 @@ fn a_vault_leaves_one_file(rt: HostRuntime) -> Result<(), Fail> {
     let (path, log) = ("one.table", "one.table-wal");
     let alloc = rt.alloc();
     let mut first = FileVault::new(&rt, path);
-    expect_at(are_there(&rt, path, log)? == (false, false), path, 0)?;
-    expect_at(makes_with(alloc, &mut first, &RECORDS) == Ok(true), path, 1)?;
-    expect_at(are_there(&rt, path, log)? == (true, true), path, 2)?;
+    let before = are_there(&rt, path, log);
+    let made = makes_with(alloc, &mut first, &RECORDS);
+    let while_open = are_there(&rt, path, log);
     let mut second = FileVault::new(&rt, path);
-    let busy = Err(VaultFault::Failed);
-    expect_at(opens_with(alloc, &mut second, &RECORDS) == busy, path, 3)?;
+    let while_locked = opens_with(alloc, &mut second, &RECORDS);
     first.finish();
-    expect_at(are_there(&rt, path, log)? == (true, false), path, 4)?;
-    // It was refused once, and stays so.
-    expect_at(opens_with(alloc, &mut second, &RECORDS) == busy, path, 5)?;
+    let finished = are_there(&rt, path, log);
+    let refused_once = opens_with(alloc, &mut second, &RECORDS);
+    drop(second);
     let mut third = FileVault::new(&rt, path);
-    expect_at(opens_with(alloc, &mut third, &RECORDS) == Ok(true), path, 6)?;
+    let opened = opens_with(alloc, &mut third, &RECORDS);
     third.finish();
-    expect_at(are_there(&rt, path, log)? == (true, false), path, 7)?;
+    expect_at(before == Some((false, false)), path, 0)?;
+    expect_at(made == Ok(true), path, 1)?;
+    expect_at(while_open == Some((true, true)), path, 2)?;
+    let busy = Err(VaultFault::Failed);
+    expect_at(while_locked == busy, path, 3)?;
+    expect_at(finished == Some((true, false)), path, 4)?;
+    // It was refused once, and stays so.
+    expect_at(refused_once == busy, path, 5)?;
+    expect_at(opened == Ok(true), path, 6)?;
+    expect_at(are_there(&rt, path, log) == Some((true, false)), path, 7)?;
     let mode = fs::metadata(&rt, path)?.mode();
     expect_at(mode & 0o777 == 0o600, path, 8)?;
     fs::remove_file(&rt, path)?;
@@ -57,15 +65,18 @@ fn a_file_that_is_no_database_is_refused(rt: HostRuntime) -> Result<(), Fail> {
     let (path, log) = ("text.table", "text.table-wal");
     let alloc = rt.alloc();
     fs::write(&rt, path, NO_DATABASE)?;
-    let mut vault = FileVault::new(&rt, path);
-    let refused = Err(VaultFault::Failed);
-    expect_at(opens_with(alloc, &mut vault, &[]) == refused, path, 1)?;
-    expect_at(makes_with(alloc, &mut vault, &[]) == refused, path, 2)?;
     let mut from = keeper_of(alloc, &RECORDS, &[])?;
+    let mut vault = FileVault::new(&rt, path);
+    let opened = opens_with(alloc, &mut vault, &[]);
+    let made = makes_with(alloc, &mut vault, &[]);
     let filled = vault.fill(alloc, &mut from);
-    expect_at(filled == Err(FillFault::Failed), path, 3)?;
     vault.finish();
-    expect_at(are_there(&rt, path, log)? == (true, false), path, 4)?;
+    drop(from);
+    let refused = Err(VaultFault::Failed);
+    expect_at(opened == refused, path, 1)?;
+    expect_at(made == refused, path, 2)?;
+    expect_at(filled == Err(FillFault::Failed), path, 3)?;
+    expect_at(are_there(&rt, path, log) == Some((true, false)), path, 4)?;
     let left = fs::read(&rt, path)?;
     expect_at(left.as_slice() == NO_DATABASE, path, 5)?;
     fs::remove_file(&rt, path)?;
@@ -77,10 +88,12 @@ fn a_file_that_is_no_database_is_refused(rt: HostRuntime) -> Result<(), Fail> {
 fn a_missing_folder_is_refused(rt: HostRuntime) -> Result<(), Fail> {
     let alloc = rt.alloc();
     let mut vault = FileVault::new(&rt, "missing/one.table");
-    let refused = Err(VaultFault::Failed);
-    expect(makes_with(alloc, &mut vault, &[]) == refused, "a vault")?;
+    let made = makes_with(alloc, &mut vault, &[]);
+    drop(vault);
     let mut selection = FileSelection::new(&rt, "missing/one.table");
     let laid = selection.lay(alloc, &[]);
+    drop(selection);
+    expect(made == Err(VaultFault::Failed), "a vault")?;
     expect(laid == Err(SelectionFault::Failed), "a selection")?;
     expect(!fs::exists(&rt, "missing")?, "no folder")
 }

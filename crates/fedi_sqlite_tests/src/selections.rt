@@ -94,14 +94,18 @@ fn expect_selection<S: Selection>(alloc: Global, selection: &mut S) -> Result<()
 fn expect_table(rt: &HostRuntime, path: &str, log: &str) -> Result<(), Fail> {
     remove(rt, path)?;
     let mut table = FileSelection::new(rt, path);
-    expect_selection(rt.alloc(), &mut table)?;
+    let selected = expect_selection(rt.alloc(), &mut table);
     table.finish();
-    expect(are_there(rt, path, log)? == (true, false), path)?;
+    selected?;
+    expect(are_there(rt, path, log) == Some((true, false)), path)?;
     remove(rt, path)
 }
 
 #[test]
 fn a_table_selects_as_memory_does_and_leaves_one_file(rt: HostRuntime) -> Result<(), Fail> {
-    expect_selection(rt.alloc(), &mut MemorySelection::new(rt.alloc()))?;
+    let mut memory = MemorySelection::new(rt.alloc());
+    let selected = expect_selection(rt.alloc(), &mut memory);
+    drop(memory);
+    selected?;
     expect_table(&rt, "one.report", "one.report-wal")
 }

@@ -134,15 +134,17 @@ pub fn expect_filled<V: Vault>(alloc: Global, vault: &mut V) -> Result<(), Fail>
 {
     let mut failing = keeper_of(alloc, &RECORDS, &FIFTH_LOAD)?;
     let part = vault.fill(alloc, &mut failing);
+    drop(failing);
+    let empty = makes_with(alloc, vault, &[]);
     expect(part == Err(FillFault::Source), "a source that fails")?;
-    expect(makes_with(alloc, vault, &[]) == Ok(true), "no part of it")?;
+    expect(empty == Ok(true), "no part of it")?;
     let mut whole = keeper_of(alloc, &RECORDS, &[])?;
-    expect(vault.fill(alloc, &mut whole) == Ok(()), "filled")?;
-    expect(
-        opens_with(alloc, vault, &RECORDS) == Ok(true),
-        "all records",
-    )?;
+    let filled = vault.fill(alloc, &mut whole);
+    let opened = opens_with(alloc, vault, &RECORDS);
     let again = vault.fill(alloc, &mut whole);
+    drop(whole);
+    expect(filled == Ok(()), "filled")?;
+    expect(opened == Ok(true), "all records")?;
     expect(again == Err(FillFault::Exists), "filled twice")
 }
 
@@ -152,13 +154,10 @@ fn a_vault_in_memory_fails_by_a_plan(rt: HostRuntime) -> Result<(), Fail> {
     let alloc = rt.alloc();
     let mut vault = MemoryVault::new(alloc).failing([0, 5].to_vec(alloc)?);
     let first = makes_with(alloc, &mut vault, &RECORDS);
+    let second = makes_with(alloc, &mut vault, &RECORDS);
+    let opened = opens_with(alloc, &mut vault, &RECORDS[..1]);
+    drop(vault);
     expect(first == Err(VaultFault::Failed), "the first call")?;
-    expect(
-        makes_with(alloc, &mut vault, &RECORDS) == Ok(false),
-        "a record",
-    )?;
-    expect(
-        opens_with(alloc, &mut vault, &RECORDS[..1]) == Ok(true),
-        "what was added",
-    )
+    expect(second == Ok(false), "a record")?;
+    expect(opened == Ok(true), "what was added")
 }
