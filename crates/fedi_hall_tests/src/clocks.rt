@@ -1,31 +1,20 @@
 //! A clock that advances, and what takes time by it.
 ghost use Rattle.std.specs.Prelude.{None};
 
-use fedi_outside::{Clock, Failed, Source};
+use fedi_outside::{Clock, Failed, Link, Source};
 use std::sync::atomic::{AtomicU64, Ordering};
 
-/// A clock that shows so many seconds more each time that it is read. It reports no moment, and all
-/// copies are one clock.
+/// A clock that shows a second more each time that it is read. It reports no moment, and all copies
+/// are one clock.
 #[derive(Clone, Copy)]
 pub struct Ticking<'a> {
     seconds: &'a AtomicU64,
-    step: u64,
 }
 
 impl<'a> Ticking<'a> {
-    /// A clock whose next reading is this number, and each further one a second later.
+    /// A clock whose next reading is this number.
     pub fn new(seconds: &'a AtomicU64) -> Self {
-        Ticking { seconds, step: 1 }
-    }
-
-    /// A clock that always shows this number.
-    pub fn still(seconds: &'a AtomicU64) -> Self {
-        Ticking { seconds, step: 0 }
-    }
-
-    /// Reads it.
-    pub fn tick(&self) -> u64 {
-        self.seconds.fetch_add(self.step, Ordering::SeqCst)
+        Ticking { seconds }
     }
 }
 
@@ -33,11 +22,11 @@ impl Clock for Ticking<'_> {
     ghost told = { λ _. None };
 
     fn now(&self) -> u64 {
-        self.tick()
+        self.seconds.fetch_add(1, Ordering::SeqCst)
     }
 }
 
-/// A source each of whose reads takes one step of the clock.
+/// A source or a link each of whose calls takes a second.
 #[derive(Drop)]
 pub struct Slow<'a, T> {
     pub inner: T,
@@ -52,7 +41,25 @@ impl<T: Source> Source for Slow<'_, T> {
     ghost beside_source = { λ slow. T.beside_source slow.inner };
 
     fn read(&mut self, into: &mut [u8]) -> Result<usize, Failed> {
-        let _passed = self.clock.tick();
+        let _passed = self.clock.now();
         self.inner.read(into)
+    }
+}
+
+impl<T: Link> Link for Slow<'_, T> {
+    ghost asked = { λ slow. T.asked slow.inner };
+
+    ghost heard = { λ slow. T.heard slow.inner };
+
+    ghost link_faults = { λ slow. T.link_faults slow.inner };
+
+    fn exchange(
+        &mut self,
+        address: &str,
+        request: &[u8],
+        into: &mut [u8],
+    ) -> Result<usize, Failed> {
+        let _passed = self.clock.now();
+        self.inner.exchange(address, request, into)
     }
 }

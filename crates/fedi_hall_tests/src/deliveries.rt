@@ -2,10 +2,10 @@
 ghost use Rattle.std.specs.Prelude.{IfOk};
 ghost use Rattle.fedi_hall.specs.Works.{IsWaiting};
 
-use crate::clocks::Ticking;
-use crate::held::{Gate, Given, HeldDoor, HeldLink, Part};
-use crate::towns::{SECONDS, disk_after, has_counts, post, serve, silent, town};
-use fedi_outside::{Bench, Door, MemoryDisk, MemoryLink, Rest};
+use crate::clocks::{Slow, Ticking};
+use crate::held::{Gate, HeldLink, IdleDoor, Part};
+use crate::towns::{SECONDS, disk_after, has_counts, post, serve, serve_by, silent, town};
+use fedi_outside::{Bench, Door, MemoryDisk, MemoryDoor, MemoryLink, MemoryRow, Rest, Turn};
 use std::alloc::{AllocError, Global};
 use std::sync::Wait;
 use std::sync::atomic::AtomicU64;
@@ -37,11 +37,11 @@ const ENTRIES: u64 = 4;
 const SEAL: usize = 32;
 
 // The disk of such a store, with this many notes.
-fn waiting<R: Wait + Clock + Sync>(rt: &R, alloc: Global, notes: u32) -> Result<MemoryDisk, Fail> {
-    let mut disk = disk_after(rt, alloc, PEER, "", town(rt, alloc)?)?;
+fn waiting(alloc: Global, notes: u32) -> Result<MemoryDisk, Fail> {
+    let mut disk = disk_after(alloc, PEER, "", town(alloc)?)?;
     let post = post(alloc, NOTE)?;
     for _ in 0..notes {
-        disk = disk_after(rt, alloc, "inetd s", &post, disk)?;
+        disk = disk_after(alloc, "inetd s", &post, disk)?;
     }
     // A disk of its own, whose calls are counted from 0.
     Ok(MemoryDisk::new(alloc, disk.bytes().to_vec(alloc)?)?)
@@ -57,50 +57,60 @@ fn taking(alloc: Global, deliveries: u32) -> Result<MemoryLink, AllocError> {
     Ok(MemoryLink::new(alloc, replies))
 }
 
-// A bench whose door is idle so many times, and whose link takes so many deliveries. The door opens
-// the first gate when nothing is due, and the link is held back by the second, or opens it.
-fn bench<'a, R: Wait + Clock + Sync>(
-    rt: &'a R,
-    alloc: Global,
-    gates: (&'a Gate, &'a Gate),
-    part: Part,
-    clock: Ticking<'a>,
-    idle: u32,
-    deliveries: u32,
-) -> Result<Bench<HeldDoor<'a, R>, HeldLink<'a, R>>, AllocError>
-    ensures { IfOk result (λ bench. IsWaiting ⟦<HeldDoor<'a, R> as Door>⟧.out
-        ⟦<HeldDoor<'a, R> as Door>⟧.idle bench.door) }
+// A door that is idle twice, and then closed.
+fn idle_twice(alloc: Global) -> Result<MemoryDoor, AllocError>
+    ensures { IfOk result (λ door. IsWaiting
+        ⟦<MemoryDoor as Door>⟧.out ⟦<MemoryDoor as Door>⟧.idle door) }
 {
-    let mut coming = Vec::new(alloc);
-    for _ in 0..idle {
-        coming.push(Given::Idle)?;
-    }
-    Ok(Bench {
-        door: HeldDoor::new(rt, gates.0, Part::Free, coming),
-        link: HeldLink::new(rt, gates.1, part, clock, taking(alloc, deliveries)?),
-    })
+    let mut turns = Vec::new(alloc);
+    turns.push(Turn::Idle)?;
+    turns.push(Turn::Idle)?;
+    MemoryDoor::new(alloc, turns)
 }
 
-// The last two rests of the door of a bench that is idle so many times by this clock, how many
-// exchanges its link had, and the disk.
-fn rests<R: Threads + Wait + Clock + Sync>(
+// The two rests of a door, if it had no other turns.
+fn told(rows: &[MemoryRow]) -> Option<(Rest, Rest)> {
+    match rows {
+        [MemoryRow::Rested(first), MemoryRow::Rested(second)] => Some((*first, *second)),
+        _ => None,
+    }
+}
+
+// The two rests of the door of a bench that is idle twice, how many exchanges its link had, and the
+// disk.
+fn rests<R: Threads + Wait + Sync>(
     rt: &R,
     alloc: Global,
-    clock: Ticking,
-    idle: u32,
     disk: MemoryDisk,
-) -> Result<([Option<Rest>; 2], usize, MemoryDisk), Fail> {
-    let gate = Gate::new();
+) -> Result<(Option<(Rest, Rest)>, usize, MemoryDisk), Fail> {
     let mut benches = Vec::with_capacity(alloc, 1)?;
-    benches.push(bench(rt, alloc, (&gate, &gate), Part::Free, clock, idle, 2)?)?;
-    let ended = serve(rt, alloc, clock, disk, benches)?;
+    benches.push(Bench {
+        door: idle_twice(alloc)?,
+        link: taking(alloc, 2)?,
+    })?;
+    let ended = serve(rt, alloc, disk, benches)?;
     match ended.benches.as_slice() {
         [bench] if ended.status == 0 => {
-            let (exchanges, _) = bench.link.counts();
-            Ok((bench.door.rests(), exchanges, ended.disk))
+            let (told, asked) = (told(bench.door.rows()), bench.link.asked().len());
+            Ok((told, asked, ended.disk))
         }
         _ => Err(Fail::new("the status")),
     }
+}
+
+// How many calls of the disk an opening makes.
+fn calls_of_an_opening<R: Threads + Wait + Sync>(
+    rt: &R,
+    alloc: Global,
+    disk: MemoryDisk,
+) -> Result<u64, Fail> {
+    let mut benches = Vec::with_capacity(alloc, 1)?;
+    benches.push(Bench {
+        door: MemoryDoor::new(alloc, Vec::new(alloc))?,
+        link: silent(alloc),
+    })?;
+    let ended = serve(rt, alloc, disk, benches)?;
+    Ok(ended.disk.calls().len() as u64)
 }
 
 fn expect(holds: bool, what: &str) -> Result<(), Fail> {
@@ -110,44 +120,56 @@ fn expect(holds: bool, what: &str) -> Result<(), Fail> {
 // What is due is delivered while no connection waits, and is then due no more.
 #[test]
 fn a_worker_delivers_what_is_due(rt: HostRuntime) -> Result<(), Fail> {
-    let seconds = AtomicU64::new(SECONDS);
-    let disk = waiting(&rt, rt.alloc(), 1)?;
-    let (rests, asked, disk) = rests(&rt, rt.alloc(), Ticking::still(&seconds), 2, disk)?;
+    let (told, asked, disk) = rests(&rt, rt.alloc(), waiting(rt.alloc(), 1)?)?;
     let tried = Rest::Tried { claimed: ENTRIES };
     let nothing = Rest::Nothing {
         front: ENTRIES + 2,
         moment: SECONDS,
     };
-    expect(rests == [Some(tried), Some(nothing)], "the rests")?;
+    expect(told == Some((tried, nothing)), "what the door was told")?;
     expect(asked == 2, "the exchanges")?;
     let counts = "entries 5 actors 1 activities 1 queue 0\n";
-    expect(has_counts(&rt, rt.alloc(), disk, counts)?, "the counts")
+    expect(has_counts(rt.alloc(), disk, counts)?, "the counts")
 }
 
 // The first call of the disk by which an attempt would be kept fails. So the delivery is due as
 // before, and only the result of the next attempt is kept.
 #[test]
 fn an_attempt_that_is_not_kept_is_made_again(rt: HostRuntime) -> Result<(), Fail> {
-    let seconds = AtomicU64::new(SECONDS);
-    let clock = Ticking::still(&seconds);
-    // How many calls of the disk an opening makes.
-    let opened = waiting(&rt, rt.alloc(), 1)?;
-    let (_, _, opened) = rests(&rt, rt.alloc(), clock, 0, opened)?;
+    let opening = calls_of_an_opening(&rt, rt.alloc(), waiting(rt.alloc(), 1)?)?;
     let mut failing = Vec::new(rt.alloc());
-    failing.push(opened.calls().len() as u64)?;
-    let disk = waiting(&rt, rt.alloc(), 1)?.failing(failing);
-    let (rests, asked, disk) = rests(&rt, rt.alloc(), clock, 2, disk)?;
-    let [
-        Some(Rest::Tried { claimed: ENTRIES }),
-        Some(Rest::Tried { .. }),
-    ] = rests
-    else {
-        return Err(Fail::new("the rests"));
+    failing.push(opening)?;
+    let disk = waiting(rt.alloc(), 1)?.failing(failing);
+    let (told, asked, disk) = rests(&rt, rt.alloc(), disk)?;
+    let Some((Rest::Tried { claimed: ENTRIES }, Rest::Tried { .. })) = told else {
+        return Err(Fail::new("what the door was told"));
     };
     expect(asked == 4, "the exchanges")?;
     let kept = MemoryDisk::new(rt.alloc(), disk.bytes().to_vec(rt.alloc())?)?;
     let counts = "entries 5 actors 1 activities 1 queue 0\n";
-    expect(has_counts(&rt, rt.alloc(), kept, counts)?, "the counts")
+    expect(has_counts(rt.alloc(), kept, counts)?, "the counts")
+}
+
+// What the door of a bench was told, which was idle twice by a clock that advances, and the disk.
+fn slow_rests<R: Threads + Wait + Sync>(
+    rt: &R,
+    alloc: Global,
+    clock: Ticking,
+    disk: MemoryDisk,
+) -> Result<(Option<(Rest, Rest)>, MemoryDisk), Fail> {
+    let mut benches = Vec::with_capacity(alloc, 1)?;
+    benches.push(Bench {
+        door: idle_twice(alloc)?,
+        link: Slow {
+            inner: taking(alloc, 1)?,
+            clock,
+        },
+    })?;
+    let ended = serve_by(rt, alloc, clock, disk, benches)?;
+    match ended.benches.as_slice() {
+        [bench] if ended.status == 0 => Ok((told(bench.door.rows()), ended.disk)),
+        _ => Err(Fail::new("the status")),
+    }
 }
 
 // Whether the last record of the disk's store is of this moment. Its bytes end in the moment, and
@@ -167,46 +189,60 @@ fn ends_at(disk: &MemoryDisk, moment: u64) -> bool {
 #[test]
 fn an_attempt_is_dated_after_its_exchanges(rt: HostRuntime) -> Result<(), Fail> {
     let seconds = AtomicU64::new(SECONDS);
-    let disk = waiting(&rt, rt.alloc(), 1)?;
-    let (rests, _, disk) = rests(&rt, rt.alloc(), Ticking::new(&seconds), 2, disk)?;
+    let disk = waiting(rt.alloc(), 1)?;
+    let (told, disk) = slow_rests(&rt, rt.alloc(), Ticking::new(&seconds), disk)?;
     let tried = Rest::Tried { claimed: ENTRIES };
     let nothing = Rest::Nothing {
         front: ENTRIES + 2,
         moment: SECONDS + 4,
     };
-    expect(rests == [Some(tried), Some(nothing)], "the rests")?;
+    expect(told == Some((tried, nothing)), "what the door was told")?;
     expect(ends_at(&disk, SECONDS + 3), "the moment")
 }
 
 // ---- two workers
 
+// A bench whose door is idle once, and whose link takes one delivery.
+fn bench<'a, R: Wait + Clock + Sync>(
+    rt: &'a R,
+    alloc: Global,
+    gates: (&'a Gate, &'a Gate),
+    part: Part,
+) -> Result<Bench<IdleDoor<'a, R>, HeldLink<'a, R>>, AllocError>
+    ensures { IfOk result (λ bench. IsWaiting
+        ⟦<IdleDoor<'a, R> as Door>⟧.out ⟦<IdleDoor<'a, R> as Door>⟧.idle bench.door) }
+{
+    Ok(Bench {
+        door: IdleDoor::new(rt, gates.0),
+        link: HeldLink::new(rt, gates.1, part, taking(alloc, 1)?),
+    })
+}
+
 // What two benches are left with: for each the rest of its door, how many exchanges its link had,
 // and how many of them failed.
 #[derive(Drop)]
 struct Left {
-    rests: [Option<Rest>; 2],
+    told: [Option<Rest>; 2],
     counts: [(usize, u64); 2],
     disk: MemoryDisk,
 }
 
 // Lets each of two workers look once for what is due. The doors open the first gate when nothing is
 // due, and the links are held back by the second, or open it.
-fn side_by_side<R: Threads + Wait + Clock + Sync>(
-    rt: &R,
+fn side_by_side<'a, R: Threads + Wait + Clock + Sync>(
+    rt: &'a R,
     alloc: Global,
-    gates: (&Gate, &Gate),
+    gates: (&'a Gate, &'a Gate),
     parts: (Part, Part),
     disk: MemoryDisk,
 ) -> Result<Left, Fail> {
-    let seconds = AtomicU64::new(SECONDS);
-    let clock = Ticking::still(&seconds);
     let mut benches = Vec::with_capacity(alloc, 2)?;
-    benches.push(bench(rt, alloc, gates, parts.0, clock, 1, 1)?)?;
-    benches.push(bench(rt, alloc, gates, parts.1, clock, 1, 1)?)?;
-    let ended = serve(rt, alloc, clock, disk, benches)?;
+    benches.push(bench(rt, alloc, gates, parts.0)?)?;
+    benches.push(bench(rt, alloc, gates, parts.1)?)?;
+    let ended = serve(rt, alloc, disk, benches)?;
     match ended.benches.as_slice() {
         [one, two] if ended.status == 0 => Ok(Left {
-            rests: [one.door.rests()[1], two.door.rests()[1]],
+            told: [one.door.told(), two.door.told()],
             counts: [one.link.counts(), two.link.counts()],
             disk: ended.disk,
         }),
@@ -219,7 +255,7 @@ fn side_by_side<R: Threads + Wait + Clock + Sync>(
 #[test]
 fn a_delivery_is_claimed_once(rt: HostRuntime) -> Result<(), Fail> {
     let gate = Gate::new();
-    let disk = waiting(&rt, rt.alloc(), 1)?;
+    let disk = waiting(rt.alloc(), 1)?;
     let parts = (Part::Waits, Part::Waits);
     let left = side_by_side(&rt, rt.alloc(), (&gate, &gate), parts, disk)?;
     let tried = Some(Rest::Tried { claimed: ENTRIES });
@@ -227,16 +263,13 @@ fn a_delivery_is_claimed_once(rt: HostRuntime) -> Result<(), Fail> {
         front: ENTRIES + 1,
         moment: SECONDS,
     });
-    let [first, second] = left.rests;
+    let [first, second] = left.told;
     let [one, two] = left.counts;
     let is_first = first == tried && second == nothing && one == (2, 0) && two == (0, 0);
     let is_second = first == nothing && second == tried && one == (0, 0) && two == (2, 0);
     expect(is_first || is_second, "who claimed it")?;
     let counts = "entries 5 actors 1 activities 1 queue 0\n";
-    expect(
-        has_counts(&rt, rt.alloc(), left.disk, counts)?,
-        "the counts",
-    )
+    expect(has_counts(rt.alloc(), left.disk, counts)?, "the counts")
 }
 
 // The first link is held back until the second has been asked: so both attempts are made at once,
@@ -244,13 +277,10 @@ fn a_delivery_is_claimed_once(rt: HostRuntime) -> Result<(), Fail> {
 #[test]
 fn two_deliveries_are_tried_at_once(rt: HostRuntime) -> Result<(), Fail> {
     let (unused, gate) = (Gate::new(), Gate::new());
-    let disk = waiting(&rt, rt.alloc(), 2)?;
+    let disk = waiting(rt.alloc(), 2)?;
     let parts = (Part::Waits, Part::Opens);
     let left = side_by_side(&rt, rt.alloc(), (&unused, &gate), parts, disk)?;
     expect(left.counts == [(2, 0), (2, 0)], "the exchanges")?;
     let counts = "entries 7 actors 1 activities 2 queue 0\n";
-    expect(
-        has_counts(&rt, rt.alloc(), left.disk, counts)?,
-        "the counts",
-    )
+    expect(has_counts(rt.alloc(), left.disk, counts)?, "the counts")
 }

@@ -3,13 +3,13 @@ ghost use Rattle.std.specs.Prelude.{◌≡◌, None, false};
 ghost use Rattle.std.proofs.Common.{refl};
 ghost use Rattle.fedi_adapters.specs.Untold.{untold_if};
 
-use crate::clocks::Ticking;
 use fedi_outside::{
-    Door, Failed, Line, Link, MemoryLink, MemorySink, MemorySource, Rest, Sink, Source, Turn,
+    Door, Failed, Line, Link, MemoryLine, MemoryLink, MemorySink, MemorySource, Rest, Sink, Source,
+    Turn,
 };
 use std::sync::{Mutex, Wait};
+use std::thread;
 use std::time::{Clock, Duration};
-use std::{mem, thread};
 
 /// How often a waiting thread looks at a gate before it fails.
 const TURNS: u32 = 1_000_000;
@@ -140,38 +140,29 @@ impl<R: Wait + Clock> Line for HeldLine<'_, R> {
     ghost writes_beside = { λ _. refl };
 }
 
-/// What a door in memory gives.
-#[derive(Drop)]
-pub enum Given {
-    /// A line over these.
-    Line(MemorySource, MemorySink),
-    /// No connection waits.
-    Idle,
-    /// The door fails.
-    Failed,
-}
-
-/// A door in memory, which is closed after it gave all that it has. It keeps the last two lines that
-/// came back and the last two rests, and opens the gate when nothing was due.
+/// A door that gives one line, and is closed after it.
 #[derive(Drop)]
 pub struct HeldDoor<'a, R> {
     rt: &'a R,
     gate: &'a Gate,
     part: Part,
-    // What it gives, the next one last.
-    coming: Vec<Given>,
-    last: Option<HeldLine<'a, R>>,
-    last_but_one: Option<HeldLine<'a, R>>,
-    rests: [Option<Rest>; 2],
+    // What the line is made of, until it is given.
+    coming: Option<(MemorySource, MemorySink)>,
+    came_back: Option<HeldLine<'a, R>>,
     is_out: bool,
     is_idle: bool,
     is_closed: bool,
-    faults: u64,
 }
 
 impl<'a, R> HeldDoor<'a, R> {
-    /// A door that gives these, the last one first. Its lines have this part.
-    pub fn new(rt: &'a R, gate: &'a Gate, part: Part, coming: Vec<Given>) -> Self
+    /// A door that gives a line over these.
+    pub fn new(
+        rt: &'a R,
+        gate: &'a Gate,
+        part: Part,
+        source: MemorySource,
+        sink: MemorySink,
+    ) -> Self
         ensures out { result.is_out ≡ false }
         ensures idle { result.is_idle ≡ false }
     {
@@ -179,32 +170,20 @@ impl<'a, R> HeldDoor<'a, R> {
             rt,
             gate,
             part,
-            coming,
-            last: None,
-            last_but_one: None,
-            rests: [None; 2],
+            coming: Some((source, sink)),
+            came_back: None,
             is_out: false,
             is_idle: false,
             is_closed: false,
-            faults: 0,
         }
     }
 
-    /// What was written on the last line that came back, and on the one before it.
-    pub fn sent(&self) -> (&[u8], &[u8]) {
-        (sent_on(&self.last), sent_on(&self.last_but_one))
-    }
-
-    /// Its last two rests, the last one last.
-    pub fn rests(&self) -> [Option<Rest>; 2] {
-        self.rests
-    }
-}
-
-fn sent_on<'a, R>(line: &'a Option<HeldLine<'_, R>>) -> &'a [u8] {
-    match line {
-        Some(line) => line.sink.bytes(),
-        None => &[],
+    /// What was written on the line that came back.
+    pub fn sent(&self) -> &[u8] {
+        match &self.came_back {
+            Some(line) => line.sink.bytes(),
+            None => &[],
+        }
     }
 }
 
@@ -219,81 +198,57 @@ impl<'a, R: Wait + Clock + Sync> Door for HeldDoor<'a, R> {
 
     ghost closed = { λ door. door.is_closed };
 
-    ghost faults = { λ door. door.faults };
+    ghost faults = { λ _. 0 };
 
     fn next(&mut self) -> Turn<HeldLine<'a, R>> {
         self.is_closed = false;
-        match self.coming.pop() {
-            Some(Given::Line(source, sink)) => {
-                self.is_out = true;
-                Turn::Line(HeldLine {
-                    rt: self.rt,
-                    gate: self.gate,
-                    part: self.part,
-                    has_read: false,
-                    source,
-                    sink,
-                    read_faults: 0,
-                    write_faults: 0,
-                })
-            }
-            Some(Given::Idle) => {
-                self.is_idle = true;
-                Turn::Idle
-            }
-            Some(Given::Failed) => {
-                self.faults = self.faults.saturating_add(1);
-                Turn::Failed
-            }
-            None => {
-                self.is_closed = true;
-                Turn::Closed
-            }
-        }
+        let Some((source, sink)) = self.coming.take() else {
+            self.is_closed = true;
+            return Turn::Closed;
+        };
+        self.is_out = true;
+        Turn::Line(HeldLine {
+            rt: self.rt,
+            gate: self.gate,
+            part: self.part,
+            has_read: false,
+            source,
+            sink,
+            read_faults: 0,
+            write_faults: 0,
+        })
     }
 
     fn back(&mut self, line: HeldLine<'a, R>) {
-        self.last_but_one = mem::replace(&mut self.last, Some(line));
+        self.came_back = Some(line);
         self.is_out = false;
     }
 
-    fn rested(&mut self, rest: Rest) {
+    fn rested(&mut self, _rest: Rest) {
         self.is_idle = false;
-        self.rests = [self.rests[1], Some(rest)];
-        if let Rest::Nothing { .. } = rest {
-            self.gate.reach(self.rt, OPEN);
-        }
     }
 }
 
 // ---- links
 
-/// A link in memory, each of whose exchanges takes one step of the clock. It reports neither what it
-/// was asked nor what was heard; the link inside it has that.
+/// A link in memory. It reports neither what it was asked nor what was heard; the link inside it
+/// has that.
 #[derive(Drop)]
 pub struct HeldLink<'a, R> {
     rt: &'a R,
     gate: &'a Gate,
     part: Part,
-    clock: Ticking<'a>,
     link: MemoryLink,
     faults: u64,
 }
 
 impl<'a, R> HeldLink<'a, R> {
     /// This link, held back by the gate, or opening it.
-    pub fn new(
-        rt: &'a R,
-        gate: &'a Gate,
-        part: Part,
-        clock: Ticking<'a>,
-        link: MemoryLink,
-    ) -> Self {
+    pub fn new(rt: &'a R, gate: &'a Gate, part: Part, link: MemoryLink) -> Self {
         HeldLink {
             rt,
             gate,
             part,
-            clock,
             link,
             faults: 0,
         }
@@ -318,7 +273,6 @@ impl<R: Wait + Clock> Link for HeldLink<'_, R> {
         request: &[u8],
         into: &mut [u8],
     ) -> Result<usize, Failed> {
-        let _passed = self.clock.tick();
         let goes_on = match self.part {
             Part::Free => true,
             Part::Waits => self.gate.wait(self.rt, OPEN),
@@ -334,5 +288,78 @@ impl<R: Wait + Clock> Link for HeldLink<'_, R> {
         }
         self.faults = self.faults.saturating_add(1);
         Err(Failed)
+    }
+}
+
+/// A door that is idle once, and closed after that. It keeps its rest, and opens the gate if
+/// nothing was due.
+#[derive(Drop)]
+pub struct IdleDoor<'a, R> {
+    rt: &'a R,
+    gate: &'a Gate,
+    has_been_idle: bool,
+    told: Option<Rest>,
+    is_out: bool,
+    is_idle: bool,
+    is_closed: bool,
+}
+
+impl<'a, R> IdleDoor<'a, R> {
+    /// A door that has not rested yet.
+    pub fn new(rt: &'a R, gate: &'a Gate) -> Self
+        ensures out { result.is_out ≡ false }
+        ensures idle { result.is_idle ≡ false }
+    {
+        IdleDoor {
+            rt,
+            gate,
+            has_been_idle: false,
+            told: None,
+            is_out: false,
+            is_idle: false,
+            is_closed: false,
+        }
+    }
+
+    /// Its rest.
+    pub fn told(&self) -> Option<Rest> {
+        self.told
+    }
+}
+
+impl<R: Wait + Sync> Door for IdleDoor<'_, R> {
+    type L = MemoryLine;
+
+    ghost out = { λ door. untold_if door.is_out };
+
+    ghost idle = { λ door. door.is_idle };
+
+    ghost served = { λ _. None };
+
+    ghost closed = { λ door. door.is_closed };
+
+    ghost faults = { λ _. 0 };
+
+    fn next(&mut self) -> Turn<MemoryLine> {
+        self.is_closed = self.has_been_idle;
+        self.is_idle = !self.has_been_idle;
+        self.has_been_idle = true;
+        if self.is_idle {
+            Turn::Idle
+        } else {
+            Turn::Closed
+        }
+    }
+
+    fn back(&mut self, _line: MemoryLine) {
+        self.is_out = false;
+    }
+
+    fn rested(&mut self, rest: Rest) {
+        self.is_idle = false;
+        self.told = Some(rest);
+        if let Rest::Nothing { .. } = rest {
+            self.gate.reach(self.rt, OPEN);
+        }
     }
 }

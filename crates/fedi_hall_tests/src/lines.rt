@@ -1,11 +1,15 @@
 //! Workers that serve lines side by side over one store, in memory.
-ghost use Rattle.std.specs.Prelude.{◌<◌, All, IfOk, vec_len};
+ghost use Rattle.std.specs.Prelude.{IfOk};
 ghost use Rattle.fedi_hall.specs.Works.{IsWaiting};
+ghost use Rattle.fedi_outside.specs.Doors.{IsNewLine};
+ghost use Rattle.fedi_outside.specs.MemoryDoors.{line_reads, line_sent, line_writes};
 
-use crate::clocks::Ticking;
-use crate::held::{Gate, Given, HeldDoor, HeldLink, Part};
-use crate::towns::{Benches, SECONDS, done_by, post, serve, silent, source, town};
-use fedi_outside::{Bench, Door, MemorySink, MemorySource};
+use crate::clocks::{Slow, Ticking};
+use crate::held::{Gate, HeldDoor, Part};
+use crate::towns::{SECONDS, done_by, post, serve, silent, source, town};
+use fedi_outside::{
+    Bench, Door, MemoryDoor, MemoryLine, MemoryLink, MemoryRow, MemorySink, MemorySource, Turn,
+};
 use std::alloc::{AllocError, Global};
 use std::sync::Wait;
 use std::sync::atomic::AtomicU64;
@@ -31,16 +35,14 @@ struct Row<'a> {
     text: &'a str,
 }
 
-// A bench whose door gives the line of the row, and whose link nobody is to use.
-fn bench<'a, R: Wait + Clock + Sync>(
+fn door<'a, R: Wait + Clock + Sync>(
     rt: &'a R,
     alloc: Global,
     gate: &'a Gate,
-    clock: Ticking<'a>,
     row: &Row,
-) -> Result<Bench<HeldDoor<'a, R>, HeldLink<'a, R>>, AllocError>
-    ensures { IfOk result (λ bench. IsWaiting ⟦<HeldDoor<'a, R> as Door>⟧.out
-        ⟦<HeldDoor<'a, R> as Door>⟧.idle bench.door) }
+) -> Result<HeldDoor<'a, R>, AllocError>
+    ensures { IfOk result (λ door. IsWaiting
+        ⟦<HeldDoor<'a, R> as Door>⟧.out ⟦<HeldDoor<'a, R> as Door>⟧.idle door) }
 {
     let mut bytes = Vec::new(alloc);
     let mut lengths = Vec::new(alloc);
@@ -49,12 +51,7 @@ fn bench<'a, R: Wait + Clock + Sync>(
         lengths.push(piece.len())?;
     }
     let source = MemorySource::new(alloc, bytes).cut(lengths);
-    let mut coming = Vec::new(alloc);
-    coming.push(Given::Line(source, MemorySink::new(alloc)))?;
-    Ok(Bench {
-        door: HeldDoor::new(rt, gate, row.part, coming),
-        link: HeldLink::new(rt, gate, Part::Free, clock, silent(alloc)),
-    })
+    Ok(HeldDoor::new(rt, gate, row.part, source, MemorySink::new(alloc)))
 }
 
 fn has_replies(sent: &[u8], row: &Row) -> bool {
@@ -69,30 +66,31 @@ fn has_replies(sent: &[u8], row: &Row) -> bool {
         && text.contains(row.text)
 }
 
-fn have_replies<R>(
-    benches: &[Bench<HeldDoor<'_, R>, HeldLink<'_, R>>],
-    row: &Row,
-    other: &Row,
-) -> bool {
+fn have_replies<R>(benches: &[Bench<HeldDoor<'_, R>, MemoryLink>], row: &Row, other: &Row) -> bool {
     match benches {
-        [one, two] => has_replies(one.door.sent().0, row) && has_replies(two.door.sent().0, other),
+        [one, two] => has_replies(one.door.sent(), row) && has_replies(two.door.sent(), other),
         _ => false,
     }
 }
 
 // Fails unless the lines of the rows, each at a bench of its own, have their replies.
-fn expect<R: Threads + Wait + Clock + Sync>(
-    rt: &R,
+fn expect<'a, R: Threads + Wait + Clock + Sync>(
+    rt: &'a R,
     alloc: Global,
+    gate: &'a Gate,
     row: &Row,
     other: &Row,
 ) -> Result<(), Fail> {
-    let (gate, seconds) = (Gate::new(), AtomicU64::new(SECONDS));
-    let clock = Ticking::still(&seconds);
     let mut benches = Vec::with_capacity(alloc, 2)?;
-    benches.push(bench(rt, alloc, &gate, clock, row)?)?;
-    benches.push(bench(rt, alloc, &gate, clock, other)?)?;
-    let ended = serve(rt, alloc, clock, town(rt, alloc)?, benches)?;
+    benches.push(Bench {
+        door: door(rt, alloc, gate, row)?,
+        link: silent(alloc),
+    })?;
+    benches.push(Bench {
+        door: door(rt, alloc, gate, other)?,
+        link: silent(alloc),
+    })?;
+    let ended = serve(rt, alloc, town(alloc)?, benches)?;
     if ended.status == 0 && have_replies(&ended.benches, row, other) {
         Ok(())
     } else {
@@ -118,7 +116,8 @@ fn a_line_that_only_reads_finds_what_another_posted(rt: HostRuntime) -> Result<(
         statuses: &["201"],
         text: "Location: https://club.example/users/ana/a/1",
     };
-    expect(&rt, rt.alloc(), &reads, &posts)
+    let gate = Gate::new();
+    expect(&rt, rt.alloc(), &gate, &reads, &posts)
 }
 
 #[test]
@@ -136,7 +135,8 @@ fn a_line_that_posts_finds_its_own_post(rt: HostRuntime) -> Result<(), Fail> {
         statuses: &[],
         text: "",
     };
-    expect(&rt, rt.alloc(), &own, &none)
+    let gate = Gate::new();
+    expect(&rt, rt.alloc(), &gate, &own, &none)
 }
 
 // The reply to a post, and the object that it made, by a clock that shows 08:49:37 when the post
@@ -144,11 +144,14 @@ fn a_line_that_posts_finds_its_own_post(rt: HostRuntime) -> Result<(), Fail> {
 #[test]
 fn a_post_is_dated_after_it_has_come(rt: HostRuntime) -> Result<(), Fail> {
     let seconds = AtomicU64::new(SECONDS);
+    let clock = Ticking::new(&seconds);
     let mut input = post(rt.alloc(), NOTE)?;
     input.push_str(OBJECT)?;
-    let town = town(&rt, rt.alloc())?;
-    let clock = Ticking::new(&seconds);
-    let (_, sent) = done_by(&rt, rt.alloc(), "inetd s", &input, clock, town)?;
+    let slow = Slow {
+        inner: source(rt.alloc(), &input)?,
+        clock,
+    };
+    let (_, sent) = done_by(rt.alloc(), "inetd s", slow, clock, town(rt.alloc())?)?;
     let text = str::from_utf8(&sent).unwrap_or_default();
     for part in [
         "HTTP/1.1 201 Created\r\nDate: Sun, 06 Nov 1994 08:49:38 GMT\r\n",
@@ -161,45 +164,44 @@ fn a_post_is_dated_after_it_has_come(rt: HostRuntime) -> Result<(), Fail> {
     Ok(())
 }
 
-// The status after one door gave these, and what was written on its last two lines, the last first.
-fn served<'a, R: Threads + Wait + Clock + Sync>(
-    rt: &'a R,
-    alloc: Global,
-    gate: &'a Gate,
-    clock: Ticking<'a>,
-    coming: Vec<Given>,
-) -> Result<(u8, Vec<u8>, Vec<u8>), Fail> {
-    let mut benches = Vec::new(alloc);
-    benches.push(Bench {
-        door: HeldDoor::new(rt, gate, Part::Free, coming),
-        link: HeldLink::new(rt, gate, Part::Free, clock, silent(alloc)),
-    })?;
-    let ended = serve(rt, alloc, clock, town(rt, alloc)?, benches)?;
-    match ended.benches.as_slice() {
-        [bench] => {
-            let (last, before) = bench.door.sent();
-            Ok((ended.status, last.to_vec(alloc)?, before.to_vec(alloc)?))
-        }
-        _ => Err(Fail::new("the benches")),
+fn is_answered(row: &MemoryRow) -> bool {
+    match row {
+        MemoryRow::Spoken { line, .. } => line.sink.bytes().starts_with(b"HTTP/1.1 404 "),
+        MemoryRow::Rested(_) => false,
     }
 }
 
 // A line that asks for an object, of which these reads fail.
-fn asking(alloc: Global, failing: &[u64]) -> Result<Given, AllocError> {
-    let source = source(alloc, OBJECT)?.failing(failing.to_vec(alloc)?);
-    Ok(Given::Line(source, MemorySink::new(alloc)))
+fn asking(alloc: Global, failing: &[u64]) -> Result<MemoryLine, AllocError>
+    ensures { IfOk result (λ line. IsNewLine line_sent line_reads line_writes line) }
+{
+    let bytes = Vec::from_slice(alloc, OBJECT.as_bytes())?;
+    Ok(MemoryLine {
+        source: MemorySource::new(alloc, bytes).failing(failing.to_vec(alloc)?),
+        sink: MemorySink::new(alloc),
+    })
 }
 
 // Of two lines of one door, the first of which cannot be read, the second is served.
 #[test]
 fn a_line_that_fails_ends_alone(rt: HostRuntime) -> Result<(), Fail> {
-    let (gate, seconds) = (Gate::new(), AtomicU64::new(SECONDS));
-    let mut coming = Vec::new(rt.alloc());
-    coming.push(asking(rt.alloc(), &[])?)?;
-    coming.push(asking(rt.alloc(), &[0])?)?;
-    let clock = Ticking::still(&seconds);
-    let (status, last, first) = served(&rt, rt.alloc(), &gate, clock, coming)?;
-    if status == 0 && first.is_empty() && last.starts_with(b"HTTP/1.1 404 ") {
+    let mut turns = Vec::new(rt.alloc());
+    turns.push(Turn::Line(asking(rt.alloc(), &[0])?))?;
+    turns.push(Turn::Line(asking(rt.alloc(), &[])?))?;
+    let mut benches = Vec::new(rt.alloc());
+    benches.push(Bench {
+        door: MemoryDoor::new(rt.alloc(), turns)?,
+        link: silent(rt.alloc()),
+    })?;
+    let ended = serve(&rt, rt.alloc(), town(rt.alloc())?, benches)?;
+    let answered = match ended.benches.as_slice() {
+        [bench] => match bench.door.rows() {
+            [failed, served] => !is_answered(failed) && is_answered(served),
+            _ => false,
+        },
+        _ => false,
+    };
+    if ended.status == 0 && answered {
         Ok(())
     } else {
         Err(Fail::new("the lines"))
@@ -209,18 +211,21 @@ fn a_line_that_fails_ends_alone(rt: HostRuntime) -> Result<(), Fail> {
 // The status for the turns of one door, which is idle or not before it fails or closes.
 #[test]
 fn a_door_that_fails_ends_with_11(rt: HostRuntime) -> Result<(), Fail> {
-    let (gate, seconds) = (Gate::new(), AtomicU64::new(SECONDS));
-    let clock = Ticking::still(&seconds);
-    for (is_idle, fails, expected) in [(true, false, 0), (false, true, 11), (true, true, 11)] {
-        let mut coming = Vec::new(rt.alloc());
-        if fails {
-            coming.push(Given::Failed)?;
-        }
+    for (is_idle, fails, status) in [(true, false, 0), (false, true, 11), (true, true, 11)] {
+        let mut turns = Vec::new(rt.alloc());
         if is_idle {
-            coming.push(Given::Idle)?;
+            turns.push(Turn::Idle)?;
         }
-        let (status, _, _) = served(&rt, rt.alloc(), &gate, clock, coming)?;
-        if status != expected {
+        if fails {
+            turns.push(Turn::Failed)?;
+        }
+        let mut benches = Vec::new(rt.alloc());
+        benches.push(Bench {
+            door: MemoryDoor::new(rt.alloc(), turns)?,
+            link: silent(rt.alloc()),
+        })?;
+        let ended = serve(&rt, rt.alloc(), town(rt.alloc())?, benches)?;
+        if ended.status != status {
             return Err(Fail::new("the status"));
         }
     }

@@ -1,22 +1,18 @@
-//! A town in memory, and runs of the program over it. All runs are over the same kinds of things, so
-//! that the program is compiled for the tests once.
+//! A town in memory, and runs of the program over it.
 ghost use Rattle.std.specs.Prelude.{◌<◌, All, IfOk, vec_len};
 ghost use Rattle.fedi_hall.specs.Works.{IsWaiting};
 
-use crate::clocks::{Slow, Ticking};
-use crate::held::{Gate, HeldDoor, HeldLink, Part};
 use fedi_effects::Seed;
 use fedi_outside::{
-    Bench, Door, MemoryDisk, MemoryEntropy, MemoryLink, MemorySink, MemorySource, MemoryVault,
+    Bench, Clock, Door, FixedClock, Link, MemoryDisk, MemoryDoor, MemoryEntropy, MemoryLink,
+    MemorySink, MemorySource, MemoryVault, Source,
 };
 use fedi_program::{Connection, Ended, address_of, run, run_alone};
 use fedi_selection::MemorySelection;
 use std::alloc::{AllocError, Global};
 use std::sync::Wait;
-use std::sync::atomic::AtomicU64;
 use std::test::Fail;
 use std::thread::Threads;
-use std::time::Clock;
 
 /// The moment of all events, in seconds since 1970-01-01T00:00:00Z.
 pub const SECONDS: u64 = 784_111_777;
@@ -25,9 +21,6 @@ pub const SECONDS: u64 = 784_111_777;
 const DRAWN: &[u8] = b"0123456789abcdefghijklmnopqrstuv";
 
 const KEY: &str = "303132333435363738396162636465666768696a6b6c6d6e6f70717273747576";
-
-/// The benches of a test, each with a door and a link that may wait.
-pub type Benches<'a, R> = Vec<Bench<HeldDoor<'a, R>, HeldLink<'a, R>>>;
 
 fn seed() -> Seed {
     Seed::new(b"0123456789abcdef")
@@ -41,46 +34,48 @@ fn words(alloc: Global, line: &str) -> Result<Vec<String>, AllocError> {
     Ok(words)
 }
 
+// A bench whose door gives no connection, and whose link has no reply.
+fn idle_bench(alloc: Global) -> Result<Vec<Bench<MemoryDoor, MemoryLink>>, AllocError>
+    ensures { IfOk result (λ benches. 0 < vec_len benches) }
+{
+    let mut benches = Vec::new(alloc);
+    benches.push(Bench {
+        door: MemoryDoor::new(alloc, Vec::new(alloc))?,
+        link: silent(alloc),
+    })?;
+    Ok(benches)
+}
+
 /// A source of these bytes.
 pub fn source(alloc: Global, input: &str) -> Result<MemorySource, AllocError> {
     Ok(MemorySource::new(alloc, Vec::from_slice(alloc, input.as_bytes())?))
 }
 
-// A connection over this source, each of whose reads takes one step of this clock.
-fn connection<'a>(
-    alloc: Global,
-    input: MemorySource,
-    clock: Ticking<'a>,
-) -> Connection<Slow<'a, MemorySource>, MemorySink, Ticking<'a>> {
+// A connection over this source, dated by this clock.
+fn connection<S, C>(alloc: Global, input: S, clock: C) -> Connection<S, MemorySink, C> {
     Connection {
-        input: Slow {
-            inner: input,
-            clock,
-        },
+        input,
         out: MemorySink::new(alloc),
         clock,
     }
 }
 
-/// The disk after a command, which has to succeed, with this input and by this clock; and what it
+/// The disk after a command, which has to succeed, over this source and by this clock; and what it
 /// wrote.
-pub fn done_by<R: Wait + Clock + Sync>(
-    rt: &R,
+pub fn done_by<S: Source + Drop, C: Clock + Drop>(
     alloc: Global,
     line: &str,
-    input: &str,
-    clock: Ticking,
+    input: S,
+    clock: C,
     disk: MemoryDisk,
 ) -> Result<(MemoryDisk, Vec<u8>), Fail> {
     let words = words(alloc, line)?;
     let None = address_of(&words) else {
         return Err(Fail::new(line));
     };
-    let mut connection = connection(alloc, source(alloc, input)?, clock);
+    let mut connection = connection(alloc, input, clock);
     let mut entropy = MemoryEntropy::new(alloc, DRAWN.to_vec(alloc)?);
-    let gate = Gate::new();
-    // Nobody asks its door or its link.
-    let benches = benches(rt, alloc, &gate, clock)?;
+    let benches = idle_bench(alloc)?;
     let ended = run_alone(
         alloc,
         seed(),
@@ -101,55 +96,31 @@ pub fn done_by<R: Wait + Clock + Sync>(
     }
 }
 
-// One bench, whose door gives no connection, and whose link has no reply.
-fn benches<'a, R>(
-    rt: &'a R,
-    alloc: Global,
-    gate: &'a Gate,
-    clock: Ticking<'a>,
-) -> Result<Benches<'a, R>, AllocError>
-    ensures { IfOk result (λ benches. 0 < vec_len benches) }
-{
-    let mut benches = Vec::new(alloc);
-    benches.push(Bench {
-        door: HeldDoor::new(rt, gate, Part::Free, Vec::new(alloc)),
-        link: HeldLink::new(rt, gate, Part::Free, clock, silent(alloc)),
-    })?;
-    Ok(benches)
-}
-
-// The same at the moment of all events.
-fn done<R: Wait + Clock + Sync>(
-    rt: &R,
+// The same with this input, at the moment of all events.
+fn done(
     alloc: Global,
     line: &str,
     input: &str,
     disk: MemoryDisk,
 ) -> Result<(MemoryDisk, Vec<u8>), Fail> {
-    let seconds = AtomicU64::new(SECONDS);
-    done_by(rt, alloc, line, input, Ticking::still(&seconds), disk)
+    let clock = FixedClock::new(SECONDS);
+    done_by(alloc, line, source(alloc, input)?, clock, disk)
 }
 
 /// The disk after a command, which has to succeed, with this input.
-pub fn disk_after<R: Wait + Clock + Sync>(
-    rt: &R,
+pub fn disk_after(
     alloc: Global,
     line: &str,
     input: &str,
     disk: MemoryDisk,
 ) -> Result<MemoryDisk, Fail> {
-    let (disk, _) = done(rt, alloc, line, input, disk)?;
+    let (disk, _) = done(alloc, line, input, disk)?;
     Ok(disk)
 }
 
 /// Whether `check` prints this of the store of the disk, and then its tip.
-pub fn has_counts<R: Wait + Clock + Sync>(
-    rt: &R,
-    alloc: Global,
-    disk: MemoryDisk,
-    printed: &str,
-) -> Result<bool, Fail> {
-    let (_, out) = done(rt, alloc, "check s", "", disk)?;
+pub fn has_counts(alloc: Global, disk: MemoryDisk, printed: &str) -> Result<bool, Fail> {
+    let (_, out) = done(alloc, "check s", "", disk)?;
     match out.as_slice().strip_prefix(printed.as_bytes()) {
         Some(tip) => Ok(tip.starts_with(b"tip ")),
         None => Ok(false),
@@ -162,23 +133,27 @@ pub fn silent(alloc: Global) -> MemoryLink {
 }
 
 /// The disk of a store with the member ana.
-pub fn town<R: Wait + Clock + Sync>(rt: &R, alloc: Global) -> Result<MemoryDisk, Fail> {
+pub fn town(alloc: Global) -> Result<MemoryDisk, Fail> {
     let empty = MemoryDisk::new(alloc, Vec::new(alloc))?;
-    let made = disk_after(rt, alloc, "init s club.example", "", empty)?;
-    disk_after(rt, alloc, "add-actor s ana", "", made)
+    let made = disk_after(alloc, "init s club.example", "", empty)?;
+    disk_after(alloc, "add-actor s ana", "", made)
 }
 
 /// Serves the connections of the doors, and delivers over the links, by this clock.
-pub fn serve<'a, R: Threads + Wait + Clock + Sync>(
-    rt: &'a R,
+pub fn serve_by<
+    R: Threads + Wait + Sync,
+    W: Door + Send + Drop,
+    K: Link + Send + Drop,
+    C: Clock + Sync + Drop,
+>(
+    rt: &R,
     alloc: Global,
-    clock: Ticking,
+    clock: C,
     disk: MemoryDisk,
-    benches: Benches<'a, R>,
-) -> Result<Ended<MemoryDisk, HeldDoor<'a, R>, HeldLink<'a, R>>, AllocError>
+    benches: Vec<Bench<W, K>>,
+) -> Result<Ended<MemoryDisk, W, K>, AllocError>
     requires some { 0 < vec_len benches }
-    requires waiting { All (λ b. IsWaiting ⟦<HeldDoor<'a, R> as Door>⟧.out
-        ⟦<HeldDoor<'a, R> as Door>⟧.idle b.door) benches.items }
+    requires waiting { All (λ b. IsWaiting W.out W.idle b.door) benches.items }
 {
     let words = words(alloc, "serve s 127.0.0.1:80")?;
     let mut connection = connection(alloc, source(alloc, "")?, clock);
@@ -196,6 +171,19 @@ pub fn serve<'a, R: Threads + Wait + Clock + Sync>(
         benches,
         &mut entropy,
     ))
+}
+
+/// The same at the moment of all events.
+pub fn serve<R: Threads + Wait + Sync, W: Door + Send + Drop, K: Link + Send + Drop>(
+    rt: &R,
+    alloc: Global,
+    disk: MemoryDisk,
+    benches: Vec<Bench<W, K>>,
+) -> Result<Ended<MemoryDisk, W, K>, AllocError>
+    requires some { 0 < vec_len benches }
+    requires waiting { All (λ b. IsWaiting W.out W.idle b.door) benches.items }
+{
+    serve_by(rt, alloc, FixedClock::new(SECONDS), disk, benches)
 }
 
 /// A post of this body by ana.
