@@ -15,6 +15,7 @@ use Rattle.fedi_town.specs.Showing.{sight_of, shown_ref, shown_activity, present
 use Rattle.fedi_town.specs.Towns.{Town, deed}
 use Rattle.fedi_town.specs.declared.act.Act.{Act}
 use Rattle.fedi_town.specs.declared.caller.Caller.{Caller}
+use Rattle.fedi_town.proofs.Finding.{found_passes}
 use Rattle.fedi_town.proofs.Texts.{bytes_eq-is}
 use Rattle.std.proofs.lemmas.Bool.{and_parts}
 
@@ -62,21 +63,6 @@ it_is id (Some own) e = ap (λ (i : List ℕ). Some i) (bytes_eq-is own id e)
 pub about_it : (id : List ℕ) (m : Act) → makes id m ≡ true → ref_id m.activity.object ≡ Some id
 unfolding makes is_about
 about_it id m made = it_is id (ref_id m.activity.object) (and_parts (is_create (deed m) && is_done m.state) (is_id id (ref_id m.activity.object)) made).1
-
--- what is found passes
-pub found_passes : {A : Type 0} (p : A → Bool) (xs : List A) (x : A) → find p xs ≡ Some x → p x ≡ true
-found_passes p [] x is = absurd cc
-found_passes {A} p (y ∷ xs) x is =
-    elim (p y) as (λ b. p y ≡ b → p x ≡ true) [
-      | true ↦ λ passes.
-          let here : find p (y ∷ xs) ≡ Some y = rw passes refl in
-          let same : y ≡ x = cc in
-          subst (λ (z : A). p z ≡ true) same passes
-      | false ↦ λ fails.
-          let later : find p (y ∷ xs) ≡ find p xs = rw fails refl in
-          let there : find p xs ≡ Some x = cc in
-          found_passes p xs x there
-    ] refl
 
 carried_named : (id : List ℕ) (found : Option Act) → ((m : Act) → found ≡ Some m → makes id m ≡ true) → HasId (object_of found) (Some id)
 carried_named id None h = tt

@@ -26,7 +26,7 @@ use Rattle.fedi_town.specs.Relations.{ref_id, is_id, is_about}
 use Rattle.fedi_town.specs.Replays.{acts_in, updates, deletes, next_form, replay_act}
 use Rattle.fedi_town.specs.States.{state_of, state_with, only_where, is_own_live}
 use Rattle.fedi_town.specs.Towns.{Town, deed, empty_town, id_of, is_by}
-use Rattle.fedi_laws.proofs.Alike.{found_passes}
+use Rattle.fedi_town.proofs.Finding.{found_passes}
 use Rattle.fedi_laws.proofs.Replaying.{answers_forms, step_replays}
 use Rattle.fedi_town.proofs.Steps.{answers}
 use Rattle.fedi_town.proofs.Texts.{bytes_eq-is, and_none}

@@ -288,7 +288,7 @@ pub made_host : (t : Town) (host : Option (List ℕ)) (name digest : List ℕ) (
 made_host t None name digest locked = refl
 made_host t (Some host) name digest locked = refl
 
-made-acts : (t : Town) (host : Option (List ℕ)) (name digest : List ℕ) (locked : Bool) → (with_addition t (member_addition host name digest locked)).acts ≡ t.acts
+pub made-acts : (t : Town) (host : Option (List ℕ)) (name digest : List ℕ) (locked : Bool) → (with_addition t (member_addition host name digest locked)).acts ≡ t.acts
 made-acts t None name digest locked = refl
 made-acts t (Some host) name digest locked = refl
 

@@ -6,4 +6,7 @@ pub mod DeliveryFaultLemmas
 pub mod DeliveryKept
 pub mod FaultLemmas
 pub mod KeptLemmas
+pub mod OrderedMembers
+pub mod PlainForms
+pub mod PlainRead
 pub mod ReadingLemmas

@@ -5,6 +5,7 @@ pub mod Bodies
 pub mod Deliveries
 pub mod DeliveryFaults
 pub mod Faults
+pub mod Plain
 pub mod Properties
 pub mod Reading
 pub mod Shapes

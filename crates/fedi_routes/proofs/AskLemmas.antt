@@ -84,7 +84,7 @@ read_passes : (known : Bool) (reads : Data → Result activities.Activity ShapeF
 read_passes true reads test passes body read h = body_passes reads test passes body read h
 read_passes false reads test passes body read h = subst (λ (r : Read). IsRead test r) (sym h) tt
 
-read_for : (author : List ℕ) (id : Option (List ℕ)) (read : Read) → ((own : List ℕ) → id ≡ Some own → own ≡ author)
+pub read_for : (author : List ℕ) (id : Option (List ℕ)) (read : Read) → ((own : List ℕ) → id ≡ Some own → own ≡ author)
     → IsRead (is_posted author) read → IsReadFor id read
 read_for author None read same h = tt
 read_for author (Some own) read same h = subst (λ (a : List ℕ). IsRead (is_posted a) read) (sym (same own refl)) h

@@ -106,7 +106,7 @@ due_on t u id r m n y z l le g e =
     let still : is_due_at n (progress_of u id r z.moment) ≡ true = rw (l.progress z.moment, g.moment) (later_moment (progress_of t id r y.moment) m n le c.1) in
     rw (own_on id y z g a.0, sends_on t u y z r l.host g b.0, l.peer c.0, still) refl
 
-any_on : {A B : Type 0} (p : A → Bool) (q : B → Bool) (f : A → B) → ((x : A) → p x ≡ true → q (f x) ≡ true) → (xs : List A) → list_any p xs ≡ true → list_any q (map f xs) ≡ true
+pub any_on : {A B : Type 0} (p : A → Bool) (q : B → Bool) (f : A → B) → ((x : A) → p x ≡ true → q (f x) ≡ true) → (xs : List A) → list_any p xs ≡ true → list_any q (map f xs) ≡ true
 any_on p q f h [] e = absurd cc
 any_on p q f h (x ∷ xs) e =
     elim (p x) as (λ b. p x ≡ b → list_any q (map f (x ∷ xs)) ≡ true) [
@@ -114,7 +114,7 @@ any_on p q f h (x ∷ xs) e =
       | false ↦ λ k. or_right (q (f x)) (list_any q (map f xs)) (any_on p q f h xs (rw k at e))
     ] refl
 
-any_more : {A : Type 0} (p : A → Bool) (xs ys : List A) → list_any p xs ≡ true → list_any p (xs ++ ys) ≡ true
+pub any_more : {A : Type 0} (p : A → Bool) (xs ys : List A) → list_any p xs ≡ true → list_any p (xs ++ ys) ≡ true
 any_more p xs ys e = list_any-append p xs ys ∙ rw e refl
 
 -- each activity still goes to its recipients, and more activities may come

@@ -25,10 +25,10 @@ use Rattle.fedi_town.proofs.Texts.{is_false, not_both, bytes_eq-is, bytes_eq-sam
 
 -- ---- ids of different authors and numbers
 
-not_slash : (b : ℕ) → is_name_byte b ≡ true → b ≡ 47 → ⊥
+pub not_slash : (b : ℕ) → is_name_byte b ≡ true → b ≡ 47 → ⊥
 not_slash b named is = let wrong : is_name_byte 47 ≡ true = subst (λ (x : ℕ). is_name_byte x ≡ true) is named in absurd cc
 
-unslashed : (m n s t : List ℕ) → list_all is_name_byte m ≡ true → list_all is_name_byte n ≡ true → m ++ 47 ∷ s ≡ n ++ 47 ∷ t → (m ≡ n) × (s ≡ t)
+pub unslashed : (m n s t : List ℕ) → list_all is_name_byte m ≡ true → list_all is_name_byte n ≡ true → m ++ 47 ∷ s ≡ n ++ 47 ∷ t → (m ≡ n) × (s ≡ t)
 unslashed [] [] s t p q e = (refl, let same : s ≡ t = cc in same)
 unslashed [] (b ∷ n) s t p q e =
     absurd (not_slash b (and_parts (is_name_byte b) (list_all is_name_byte n) q).0 (let same : b ≡ 47 = cc in same))

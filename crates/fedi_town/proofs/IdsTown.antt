@@ -85,8 +85,8 @@ room_of t local author b d r does about e = room_for t local author b (is_whole 
 -- ---- the Accept
 
 -- what is known of an activity whose Accept is made
-record IsRoomy (t : Town) (x : Act) : Type 0 where
-  room : (b : List ℕ) → is_follow (deed x) ≡ true → ref_id x.activity.object ≡ Some b → is_accepted x.state ≡ true → has_room t x.author b ≡ true
+pub record IsRoomy (t : Town) (x : Act) : Type 0 where
+  pub room : (b : List ℕ) → is_follow (deed x) ≡ true → ref_id x.activity.object ≡ Some b → is_accepted x.state ≡ true → has_room t x.author b ≡ true
 
 counted : (t : Town) (x : Act) (b : List ℕ) → count_of (with_act t x) b ≡ count_after t x.author b
 unfolding is_by
@@ -147,13 +147,13 @@ record IsAt (t : Town) (host : List ℕ) : Type 0 where
   shape : is_host_text host ≡ true
   all : list_all (is_member (Some host)) t.actors ≡ true
 
-local_roomy : (t : Town) (host name : List ℕ) (repeat : Option (List ℕ × List ℕ)) (a : Activity) (moment : ℕ) → IsRoomy t (local_act t host name repeat a moment)
+pub local_roomy : (t : Town) (host name : List ℕ) (repeat : Option (List ℕ × List ℕ)) (a : Activity) (moment : ℕ) → IsRoomy t (local_act t host name repeat a moment)
 local_roomy t host name repeat a moment = record {
   room = λ b does about state.
       room_of t true (actor_id host name) b (deed_of a.kind) (local_act t host name repeat a moment).activity.object (follows_is (deed_of a.kind) does) about state;
 }
 
-remote_roomy : (t : Town) (owner author : List ℕ) (a : Activity) (moment : ℕ) → IsRoomy t (remote_act t owner author a moment)
+pub remote_roomy : (t : Town) (owner author : List ℕ) (a : Activity) (moment : ℕ) → IsRoomy t (remote_act t owner author a moment)
 remote_roomy t owner author a moment = record {
   room = λ b does about state.
       room_of t false author b (deed_of a.kind) a.object (follows_is (deed_of a.kind) does) (sym (ref_received (deed_of a.kind) author moment a.object) ∙ about) state;
@@ -221,7 +221,7 @@ numbered None false e = absurd cc
 numbered (Some x) n e = absurd cc
 
 -- an author that may post
-poster : (t : Town) (host name : List ℕ) (repeat : Option (List ℕ × List ℕ)) (a : Activity) (id : Option (List ℕ)) → list_all (is_member (Some host)) t.actors ≡ true
+pub poster : (t : Town) (host name : List ℕ) (repeat : Option (List ℕ × List ℕ)) (a : Activity) (id : Option (List ℕ)) → list_all (is_member (Some host)) t.actors ≡ true
     → id_of t name ≡ id → may_post t name repeat a id ≡ true → nat_lt (count_of t (actor_id host name)) 4294967295 ≡ true
 poster t host name repeat a None all is ok = absurd cc
 poster t host name repeat a (Some author) all is ok =
@@ -238,7 +238,7 @@ found_any p (x ∷ xs) id e =
     ] e
 
 -- the name of a member who has an id is valid
-poster_name : (t : Town) (host name : List ℕ) (repeat : Option (List ℕ × List ℕ)) (a : Activity) (id : Option (List ℕ)) → list_all (is_member (Some host)) t.actors ≡ true
+pub poster_name : (t : Town) (host name : List ℕ) (repeat : Option (List ℕ × List ℕ)) (a : Activity) (id : Option (List ℕ)) → list_all (is_member (Some host)) t.actors ≡ true
     → id_of t name ≡ id → may_post t name repeat a id ≡ true → is_name name ≡ true
 poster_name t host name repeat a None all is ok = absurd cc
 poster_name t host name repeat a (Some author) all is ok = named_is name (Some host) t.actors all (found_any (has_name name) t.actors author is)
@@ -287,11 +287,11 @@ step_at t host (Tried activity recipient came moment) s ok h = rw s.hosted h
 
 -- ---- before the server not-false set up
 
-no_members : (xs : List Actor) → list_all (is_member None) xs ≡ true → (name : List ℕ) → option_map (λ a. a.id) (find (has_name name) xs) ≡ None
+pub no_members : (xs : List Actor) → list_all (is_member None) xs ≡ true → (name : List ℕ) → option_map (λ a. a.id) (find (has_name name) xs) ≡ None
 no_members [] all name = refl
 no_members (x ∷ xs) all name = absurd (let first : is_member None x ≡ true = (and_parts (is_member None x) (list_all (is_member None) xs) all).0 in cc)
 
-no_post : (t : Town) (name : List ℕ) (repeat : Option (List ℕ × List ℕ)) (a : Activity) (id : Option (List ℕ)) → id ≡ None → may_post t name repeat a id ≡ true → ⊥
+pub no_post : (t : Town) (name : List ℕ) (repeat : Option (List ℕ × List ℕ)) (a : Activity) (id : Option (List ℕ)) → id ≡ None → may_post t name repeat a id ≡ true → ⊥
 no_post t name repeat a None is ok = absurd cc
 no_post t name repeat a (Some i) is ok = absurd cc
 

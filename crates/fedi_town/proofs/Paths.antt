@@ -25,7 +25,7 @@ digits_in_path =
     (λ n lt. both_true (digit_in_path n lt) refl)
     (λ n ds more h. list_all-append is_path_byte ds ((48 + n % 10) ∷ []) ∙ both_true h (both_true (digit_in_path (n % 10) (omega arith)) refl))
 
-name_in_path : (name : List ℕ) → list_all is_name_byte name ≡ true → list_all is_path_byte name ≡ true
+pub name_in_path : (name : List ℕ) → list_all is_name_byte name ≡ true → list_all is_path_byte name ≡ true
 name_in_path [] h = refl
 name_in_path (b ∷ name) h =
     let first : is_name_byte b ≡ true = (and_parts (is_name_byte b) (list_all is_name_byte name) h).0 in

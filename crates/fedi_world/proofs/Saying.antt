@@ -3,7 +3,7 @@ use Rattle.std.proofs.Common.{Vec, Global, ◌≡◌, ℕ, ◌+◌, ◌<◌, tru
 use Rattle.std.specs.Prelude.{map, slice_get, slice_set, is_some, IsTrue, IfSome}
 use Rattle.serde_json.specs.Data.{Data}
 use Rattle.fedi_logged.specs.Logs.{MachineLog}
-use Rattle.fedi_model.specs.Asks.{IsRead, IsReadFor, entry_of}
+use Rattle.fedi_model.specs.Asks.{IsRead, entry_of}
 use Rattle.fedi_model.specs.Replies.{reply}
 use Rattle.fedi_model.specs.Routes.{IsPostableAt, ReadsBody}
 use Rattle.fedi_model.specs.declared.ask.Ask.TheVariants.{Outbox}
@@ -15,6 +15,7 @@ use Rattle.fedi_model.proofs.PostedActivity.{activity_is_posted}
 use Rattle.fedi_objects.specs.declared.entry.Entry.{Entry}
 use Rattle.fedi_outside.specs.declared.keepers.Keeper.{Ghosts}
 use Rattle.fedi_reading.specs.Activities.{reads_activity}
+use Rattle.fedi_routes.proofs.AskLemmas.{read_for}
 use Rattle.fedi_seat.specs.Serving.{IsGiven, Stays}
 use Rattle.fedi_town.specs.declared.caller.Caller.TheVariants.{Actor}
 use Rattle.fedi_town.specs.Histories.{town}
@@ -48,10 +49,6 @@ read_posted : (author body : List ℕ) (read : Read) → ReadsBody (reads_activi
 read_posted author body NotJson h = tt
 read_posted author body (Bad fault) h = tt
 read_posted author body (Ready a) h = activity_is_posted h.0 a author h.2
-
-read_for : (author : List ℕ) (id : Option (List ℕ)) (read : Read) → ((own : List ℕ) → id ≡ Some own → own ≡ author) → IsRead (is_posted author) read → IsReadFor id read
-read_for author None read same h = tt
-read_for author (Some own) read same h = subst (λ (a : List ℕ). IsRead (is_posted a) read) (sym (same own refl)) h
 
 -- a member of another legal history with this host and of this name has the same id
 same_id : (h : List Entry) (host : Option (List ℕ)) (name author : List ℕ) → IsLegal h → is_some host ≡ true → (town h).host ≡ host → id_of (town h) name ≡ Some author

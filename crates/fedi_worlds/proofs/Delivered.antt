@@ -88,18 +88,10 @@ use Rattle.fedi_worlds.proofs.Reading.{inbox_place}
 use Rattle.fedi_worlds.proofs.Simple.{inbox_target, inbox_host, inbox_path_is_plain}
 use Rattle.fedi_worlds.proofs.Statuses.{IsBad, never_delivered, refused_bad, misshapen_bad}
 use Rattle.fedi_worlds.proofs.Wire.{post_arrives, host_is_plain, path_plain, weaker}
-use Rattle.fedi_worlds.proofs.TownLemmas.{any_on}
+use Rattle.fedi_town.proofs.Due.{any_on}
+use Rattle.fedi_town.proofs.Finding.{found_passes}
 
 -- ---- who posts
-
--- as in fedi_laws (proofs/Alike)
-found_passes : {A : Type 0} (p : A → Bool) (xs : List A) (x : A) → find p xs ≡ Some x → p x ≡ true
-found_passes p [] x e = absurd cc
-found_passes {A} p (y ∷ xs) x e =
-    elim (p y) as (λ b. p y ≡ b → (if b then Some y else find p xs) ≡ Some x → p x ≡ true) [
-      | true ↦ λ k h. subst (λ (z : A). p z ≡ true) (some_is y x h) k
-      | false ↦ λ k h. found_passes p xs x h
-    ] refl e
 
 -- the caller is the peer of this host, or nobody may be taken for it
 abbrev IsPeerOr : List ℕ → Result Caller Refusal → Type 0

@@ -37,7 +37,7 @@ use Rattle.fedi_town.specs.declared.effect.Effect.TheVariants as effects
 use Rattle.fedi_queue.proofs.Addressed.{made_host, posted_host, delivered_host}
 use Rattle.fedi_worlds.proofs.Local.{FrontsAreLegal, HostsStay, MembersStay, RelaysStay}
 use Rattle.fedi_worlds.proofs.Local.{InboxesKeep}
-use Rattle.fedi_worlds.proofs.TownLemmas.{any_on, any_more}
+use Rattle.fedi_town.proofs.Due.{any_on, any_more}
 
 -- ---- an activity keeps its name
 

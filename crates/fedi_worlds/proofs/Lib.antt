@@ -1,5 +1,4 @@
 pub mod Arriving
-pub mod Back
 pub mod Carried
 pub mod Delivered
 pub mod Documents
@@ -9,7 +8,6 @@ pub mod Invariant
 pub mod Local
 pub mod Locals
 pub mod Members
-pub mod Ordered
 pub mod Places
 pub mod Plain
 pub mod Reading
@@ -20,7 +18,5 @@ pub mod Shown
 pub mod Simple
 pub mod Sites
 pub mod Statuses
-pub mod TownLemmas
-pub mod Values
 pub mod Wire
 pub mod Worlds

@@ -100,18 +100,18 @@ use Rattle.fedi_model.specs.declared.ask.Allow.{Allow}
 use Rattle.fedi_model.specs.Documents.{collection_id}
 use Rattle.fedi_worlds.proofs.Sites.{IsSite, IsServer}
 use Rattle.fedi_worlds.proofs.Delivered.{JudgedBy, judged}
-use Rattle.fedi_worlds.proofs.Values.{IsPlain}
+use Rattle.fedi_reading.specs.Plain.{IsPlain}
 use Rattle.fedi_worlds.specs.Worlds.{Server}
-use Rattle.fedi_worlds.proofs.Back.{reads_back}
+use Rattle.fedi_reading.proofs.PlainRead.{reads_back}
 use Rattle.fedi_worlds.proofs.Documents.{apart, text_other, list_other, object_other, context_other}
 use Rattle.fedi_worlds.proofs.Documents.{iri_is, actor_is_iri, inbox_is_iri, reference_is, typed}
 use Rattle.fedi_worlds.proofs.Documents.{worded, heard, aimed, told}
 use Rattle.fedi_worlds.proofs.Invariant.{IsInboxOf}
 use Rattle.fedi_worlds.proofs.Local.{DocumentsAreMembers}
 use Rattle.fedi_worlds.proofs.Places.{some_is}
-use Rattle.fedi_worlds.proofs.Plain.{Good, good_put, good_none, good_string, good_context}
-use Rattle.fedi_worlds.proofs.Plain.{low_members, activity_low, object_low, AreLow, items_good}
-use Rattle.fedi_worlds.proofs.Plain.{strings_low}
+use Rattle.fedi_reading.proofs.PlainForms.{Good, good_put, good_none, good_string, good_context}
+use Rattle.fedi_reading.proofs.PlainForms.{low_members, activity_low, object_low, AreLow, items_good}
+use Rattle.fedi_reading.proofs.PlainForms.{strings_low}
 use Rattle.fedi_worlds.proofs.Replies.{document_reply, body_read}
 use Rattle.fedi_worlds.proofs.Statuses.{status_read, refused_bad, misshapen_bad, IsBad, is_good}
 

@@ -42,7 +42,7 @@ use Rattle.fedi_town.specs.declared.refusal.Refusal.{Refusal}
 use Rattle.fedi_worlds.specs.Steps.{Comes, IsAnswered, Settles}
 use Rattle.fedi_worlds.proofs.Local.{LookupsOnlyRead}
 use Rattle.fedi_worlds.proofs.Wire.{front_head, method_is}
-use Rattle.fedi_worlds.proofs.TownLemmas.{not_slash, unslashed}
+use Rattle.fedi_town.proofs.IdsOnce.{not_slash, unslashed}
 
 -- ---- a reading makes no entry
 

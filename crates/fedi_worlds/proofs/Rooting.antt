@@ -40,8 +40,9 @@ use Rattle.fedi_worlds.proofs.Invariant.{IsOwn, IsTaken, IsRooted}
 use Rattle.fedi_worlds.specs.Promises.{IsRelay}
 use Rattle.fedi_worlds.proofs.Local.{ActsAreRooted, DeliveriesMayCome}
 use Rattle.fedi_worlds.proofs.Places.{stays, at_end, mapped_from, some_is}
-use Rattle.fedi_worlds.proofs.TownLemmas.{IsRoomy, local_roomy, remote_roomy, poster, poster_name}
-use Rattle.fedi_worlds.proofs.TownLemmas.{no_members, no_post}
+use Rattle.fedi_town.proofs.Finding.{found_passes}
+use Rattle.fedi_town.proofs.IdsTown.{IsRoomy, local_roomy, remote_roomy, poster, poster_name}
+use Rattle.fedi_town.proofs.IdsTown.{no_members, no_post}
 
 -- ---- lists of activities
 
@@ -460,14 +461,6 @@ relay_is host peer t a k other =
       k.known,
       k.allows.relayed (bytes_eq-swapped k.sender.host (host_of k.actor) (rw own other)),
     )
-  where
-    found_passes : (p : Peer → Bool) (xs : List Peer) (x : Peer) → find p xs ≡ Some x → p x ≡ true
-    found_passes p [] x e = absurd cc
-    found_passes p (y ∷ xs) x e =
-        elim (p y) as (λ b. p y ≡ b → (if b then Some y else find p xs) ≡ Some x → p x ≡ true) [
-          | true ↦ λ k h. subst (λ (z : Peer). p z ≡ true) (some_is y x h) k
-          | false ↦ λ k h. found_passes p xs x h
-        ] refl e
 
 pub may_come : DeliveriesMayCome
 may_come h host peer inbox a moment hosted legal =

@@ -39,7 +39,7 @@ use Rattle.fedi_worlds.proofs.Sites.{IsSite}
 use Rattle.fedi_worlds.proofs.Local.{IsLocalEntry, OnlyPeersDeliver, MembersAreNear, InboxesAreNear}
 use Rattle.fedi_worlds.proofs.Local.{WhatIsFreeIsSent, IsDue}
 use Rattle.fedi_worlds.proofs.Places.{some_is, slice_split}
-use Rattle.fedi_worlds.proofs.TownLemmas.{name_in_path}
+use Rattle.fedi_town.proofs.Paths.{name_in_path}
 
 -- ---- what is free
 

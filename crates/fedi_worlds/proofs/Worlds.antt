@@ -23,7 +23,7 @@ use Rattle.fedi_worlds.proofs.Local.{Locals}
 use Rattle.fedi_worlds.proofs.Carried.{AreLegal}
 use Rattle.fedi_worlds.proofs.Events.{asked, claimed, reached, lost, crashed, waited}
 use Rattle.fedi_worlds.proofs.Arriving.{arrived}
-use Rattle.fedi_worlds.proofs.TownLemmas.{made-acts}
+use Rattle.fedi_queue.proofs.Addressed.{made-acts}
 
 happened : (l : Locals) (w v : World) (e : Event) → IsWorld w → Happens w e v → AreLegal v
     → IsWorld v

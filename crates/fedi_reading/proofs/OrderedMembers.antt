@@ -4,7 +4,7 @@ use Rattle.std.proofs.lemmas.Cmp.{nat_list_cmp_total}
 use Rattle.std.specs.Cmp.Lexicographic.{slice_cmp}
 use Rattle.std.specs.Ordering.{match_ordering, ordering_reverse}
 use Rattle.serde_json.specs.Data.{Data, Members, no_members, member, put}
-use Rattle.fedi_worlds.proofs.Values.{AreAbove, IsPlain, AreOrdered}
+use Rattle.fedi_reading.specs.Plain.{AreAbove, IsPlain, AreOrdered}
 
 abbrev before : List ℕ → List ℕ → Ordering
 before k l = slice_cmp nat_cmp k l

@@ -1,5 +1,4 @@
--- JSON values that are read back from their compact texts (RFC 8259, sections 4 to 7). They are
--- about values of serde_json alone.
+-- JSON values that are read back from their compact texts (RFC 8259, sections 4 to 7).
 use Rattle.std.specs.Prelude.{◌≡◌, ℕ, ◌≤◌, List, Some}
 use Rattle.std.specs.Ordering.{nat_cmp}
 use Rattle.std.specs.declared.cmp.Ordering.TheVariants.{Less}

@@ -13,8 +13,8 @@ use Rattle.serde_json.specs.Data.{items_depth, members_depth}
 use Rattle.serde_json.specs.Read.{read, of_json, of_items, of_members, max_depth}
 use Rattle.serde_json.specs.Written.{outline, items_outline, members_outline}
 use Rattle.serde_json.proofs.Texts.{print-outline}
-use Rattle.fedi_worlds.proofs.Values.{AreAbove, IsPlain, ArePlain, AreOrdered, ReadsBack}
-use Rattle.fedi_worlds.proofs.Ordered.{turned_back}
+use Rattle.fedi_reading.specs.Plain.{AreAbove, IsPlain, ArePlain, AreOrdered, ReadsBack}
+use Rattle.fedi_reading.proofs.OrderedMembers.{turned_back}
 
 mutual
   shallow : (d : Data) → tree.depth (outline d) ≤ depth d
