@@ -91,7 +91,7 @@ fn watch<R: Abort + Clock>(rt: &R, ended: &AtomicU64) {
     panic!(rt; "the value did not come back")
 }
 
-// No clause says that a `give` hands the value back: a later `take` would wait for ever.
+// No clause says that `give` hands the value back. If it did not, a later `take` would not return.
 #[test]
 fn a_value_that_was_given_can_be_taken_again(rt: HostRuntime) -> Result<(), Fail> {
     let token = Arc::new(rt.alloc(), 0u8)?;
