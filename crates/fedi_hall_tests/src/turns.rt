@@ -80,9 +80,9 @@ fn each_turn_of_two_and_of_four_threads_adds_its_mark(rt: HostRuntime) -> Result
     race(&rt, rt.alloc(), 4)
 }
 
-// Fails if nothing ended within five seconds.
+// Fails if nothing ended within fifty seconds.
 fn watch<R: Abort + Clock>(rt: &R, ended: &AtomicU64) {
-    for _ in 0..500u32 {
+    for _ in 0..5000u32 {
         if ended.load(Ordering::SeqCst) != 0 {
             return;
         }

@@ -27,7 +27,7 @@ abbrev pub IsShown : {P : Type 0} → KeeperGhosts P → KeeperState → Type 0
 IsShown {P} keepers k = (keeper : P) × (k ≡ keepers.shown keeper)
 
 -- A machine was opened over the vault, with a keeper of this kind, and closed, and nobody else added
--- to its log. What a crash leaves of a vault is not said.
+-- to its log. It has no part for what a crash leaves of a vault.
 abbrev pub IsRunIn : {P : Type 0} → KeeperGhosts P → VaultState → VaultState → State → State → Log
     → Type 0
 IsRunIn keepers before after opened closed log =

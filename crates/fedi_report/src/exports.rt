@@ -30,8 +30,8 @@ use std::alloc::{AllocError, Global};
 use std::marker::Brand;
 use std::sync::ledger::{Blank, Ledger};
 
-// The fields of one array are borrowed for the same time, so fields that live for ever are returned
-// for as long as the value that they describe.
+// The fields of one array are borrowed for the same time, so static fields are returned for as long
+// as the value that they describe.
 
 fn locked_text(member: &Actor) -> &str
     ensures { result.now ≡ yes_or_no member.now.locked }
