@@ -44,11 +44,21 @@ use std::marker::Model;
 /// The machine: a shelf with a legal history, the keeper of its records, which are the codes of the
 /// entries in order, and the queue of its deliveries. Contracts see it as the history, the keeper
 /// and the rows of the queue.
-#[derive(Drop)]
 pub struct Core<S: Shelf, P: Keeper> {
     pub(crate) shelf: S,
     pub(crate) keeper: P,
     pub(crate) queue: Queue,
+}
+
+// Written out, so that a caller does not prove again how each part is dropped.
+impl<S: Shelf + Drop, P: Keeper + Drop> Drop for Core<S, P> {
+    fn drop(self) {
+        let Core {
+            shelf: _,
+            keeper: _,
+            queue: _,
+        } = self;
+    }
 }
 
 impl<S: Shelf, P: Keeper> Model for Core<S, P> {

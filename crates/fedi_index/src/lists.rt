@@ -28,11 +28,21 @@ struct Row {
 
 /// Lists of positions, one for each collection of an owner. An empty list takes no memory unless
 /// room was made in it.
-#[derive(Drop)]
 pub(crate) struct Lists {
     seed: Seed,
     rows: Vec<Row>,
     index: Marks,
+}
+
+// Written out, so that a caller does not prove again how each part is dropped.
+impl Drop for Lists {
+    fn drop(self) {
+        let Lists {
+            seed: _,
+            rows: _,
+            index: _,
+        } = self;
+    }
 }
 
 impl Model for Lists {

@@ -39,12 +39,23 @@ struct Room {
 /// The waiting deliveries of a history, in the order of acceptance and of recipients (ActivityPub,
 /// section 7.1): those to recipients of peers for which another attempt is due. Each may be
 /// claimed, and is then given to nobody else until it is tried or given back.
-#[derive(Drop)]
 pub struct Queue {
     start: Option<Start>,
     since: Trace<Entry>,
     rows: Rows,
     room: Option<Room>,
+}
+
+// Written out, so that a caller does not prove again how each part is dropped.
+impl Drop for Queue {
+    fn drop(self) {
+        let Queue {
+            start: _,
+            since: _,
+            rows: _,
+            room: _,
+        } = self;
+    }
 }
 
 impl Model for Queue {

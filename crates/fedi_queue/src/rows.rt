@@ -41,12 +41,21 @@ pub struct Claim {
 }
 
 /// Waiting deliveries, in order.
-#[derive(Drop)]
 pub(crate) struct Rows {
     list: Vec<QueueRow>,
     // None of them may be claimed before this, so that a claim while nothing is due takes one
     // comparison.
     earliest: u64,
+}
+
+// Written out, so that a caller does not prove again how each part is dropped.
+impl Drop for Rows {
+    fn drop(self) {
+        let Rows {
+            list: _,
+            earliest: _,
+        } = self;
+    }
 }
 
 impl Model for Rows {
