@@ -1,2 +1,4 @@
-pub mod Pages
+pub mod Drafts
+pub mod Items
 pub mod Members
+pub mod Pages

@@ -1,19 +1,9 @@
 -- The tokens of the documents of a collection and of a page (ActivityStreams 2.0 Core, section 5).
-use Rattle.std.specs.Prelude.{ℕ, zero, suc, ◌+◌, nat_le, List, [], ◌∷◌, ◌++◌, Option, Some, None}
-use Rattle.std.specs.Prelude.{codes, decimal, if◌then◌else◌}
+use Rattle.std.specs.Prelude.{ℕ, zero, suc, ◌+◌, nat_le, List, [], ◌∷◌, ◌++◌, codes, decimal}
+use Rattle.std.specs.Prelude.{if◌then◌else◌}
 use Rattle.json.specs.Token.{Token}
-use Rattle.json.specs.Tree.{json_tokens}
-use Rattle.serde_json.specs.Data.{Data}
-use Rattle.serde_json.specs.Written.{outline}
 use Rattle.fedi_model.specs.Documents.{page_id}
 use Rattle.fedi_town.specs.Collections.{highest}
-
--- the tokens of an item, if there is one
-abbrev pub tokens_at : {A : Type 0} → (A → Data) → Option A → List Token
-tokens_at form None = []
-tokens_at form (Some x) = json_tokens (outline (form x))
-
--- ---- tokens of members
 
 -- a member whose value is a string
 abbrev pub text_member : List ℕ → List ℕ → List Token

@@ -1,8 +1,10 @@
-//! Collections and their pages, as their readers see them.
+//! Collections and their pages, as their readers see them. What a page shows is found in the facts,
+//! and its document is written later.
 #![tactic(auto)]
 
 mod address;
 mod documents;
+mod drafts;
 mod items;
 mod members;
 mod pages;
@@ -10,5 +12,6 @@ mod replies;
 
 pub use address::Address;
 pub use documents::{begin_page, end_page, highest_page};
-pub use pages::{page, summary, summary_text};
-pub use replies::collection_reply;
+pub use drafts::CollectionDraft;
+pub use pages::{PageDraft, draft_page, summary, summary_text};
+pub use replies::draft_collection;

@@ -1,23 +1,24 @@
 //! The documents of collections and of their pages. Out of memory is the only error.
 
-ghost use Rattle.std.specs.Prelude.{◌≡◌, ◌+◌, ◌*◌, ◌≤◌, IfOk, List, OnErr, OnOk, Some, drop};
-ghost use Rattle.std.specs.Prelude.{length, map, option_map, reverse, slice_get, take};
+ghost use Rattle.std.specs.Prelude.{◌≡◌, ◌+◌, ◌≤◌, IfOk, List, OnErr, OnOk, Some, map, reverse};
+ghost use Rattle.std.specs.Prelude.{slice_get};
 ghost use Rattle.serde_json.specs.Written.{compact_text};
 ghost use Rattle.fedi_model.specs.Documents.{collection_id, item_form, page_form, summary_form};
-ghost use Rattle.fedi_collections.specs.Pages.{page_text, summary_of, total_of};
+ghost use Rattle.fedi_collections.specs.Pages.{page_or_none, summary_of, total_of};
 ghost use Rattle.fedi_objects.specs.Writing.{IsWritten};
 ghost use Rattle.fedi_town.specs.Collections.{highest, owner_of};
 ghost use Rattle.fedi_town.specs.declared.act.Act.{Act};
 
 use crate::address::Address;
 use crate::documents::{begin_page, end_page, highest_page, write_summary};
-use crate::items::write_items;
+use crate::items::{ItemDraft, draft_items, write_items};
 use fedi_address::Iri;
 use fedi_effects::{Facts, Steps};
 use fedi_town::{Caller, Which};
 use fedi_visible::{PAGE, Shelf, VisiblePage};
 use json::Writer;
 use std::alloc::{AllocError, Global};
+use std::marker::Model;
 use std::sync::ledger::Ledger;
 
 // The room for what is written besides the items, and for an item, in bytes. It grows if it is too
@@ -60,39 +61,64 @@ pub fn summary<S: Shelf, L: Ledger>(
     summary_text(alloc, Address::of(alloc, which, owner)?, page.total)
 }
 
-// The room for a page with this many items.
-fn page_room(which: &Which, items: usize) -> usize
-    ensures { result ≤ 13568 }
-{
-    let each = match which {
-        Which::Inbox(_) | Which::Outbox(_) => EMBEDDED,
-        _ => ADDRESS,
-    };
-    FRAME + each * items.min(PAGE)
-}
+// ---- pages
 
-// Writes the page of this number, with the items at these positions among the activities.
-fn write_page<L: Ledger>(
-    out: &mut Writer,
-    address: &mut Address,
-    facts: &Facts,
-    which: &Which,
+/// A page of a collection. Contracts see the document that it becomes. It depends on the facts no
+/// more.
+#[derive(Drop)]
+pub struct PageDraft {
+    address: Address,
     number: u64,
-    page: &VisiblePage,
-    steps: &mut Steps<L>,
-) -> Result<(), AllocError>
-    ensures written { OnOk result ((xs : List Act)
-        → map (slice_get facts.now.town.acts) page.now.places.items ≡ map Some xs
-        → IsWritten (page_form address.old number page.now.total
-        (map (item_form facts.now.town which.now) (reverse xs))) out.old out.new) }
-    ensures cost { steps.new ≤ steps.old + 20 }
-{
-    begin_page(out, address, number)?;
-    write_items(out, facts, which, page.places.as_slice(), steps)?;
-    end_page(out, address, number, page.total)
+    // The number of items in the whole collection.
+    total: u64,
+    // The newest first.
+    items: Vec<ItemDraft>,
 }
 
-fn page_text<L: Ledger>(
+impl Model for PageDraft {
+    ghost use Rattle.std.specs.Prelude.{map};
+    ghost use Rattle.serde_json.specs.Data.{Data};
+    ghost use Rattle.fedi_model.specs.Documents.{page_form};
+    ghost use Rattle.fedi_collections.specs.Items.{item_data};
+
+    ghost Value = { Data };
+
+    ghost view = { λ p. page_form p.address p.number p.total (map item_data p.items.items) };
+}
+
+impl PageDraft {
+    // The room for the text of the page.
+    fn room(&self) -> usize
+        ensures { result ≤ 13568 }
+    {
+        let each = match self.items.first() {
+            Some(ItemDraft::Embedded(_)) => EMBEDDED,
+            _ => ADDRESS,
+        };
+        FRAME + each * self.items.len().min(PAGE)
+    }
+
+    fn write_in(&mut self, out: &mut Writer) -> Result<(), AllocError>
+        ensures { OnOk result (IsWritten self.old out.old out.new) }
+    {
+        begin_page(out, &mut self.address, self.number)?;
+        write_items(out, self.items.as_slice())?;
+        end_page(out, &mut self.address, self.number, self.total)
+    }
+
+    /// The JSON of the page. The error is out of memory.
+    pub fn write(self, alloc: Global) -> Result<Vec<u8>, AllocError>
+        ensures { IfOk result (λ text. text.items ≡ compact_text self) }
+    {
+        let mut page = self;
+        let mut out = Writer::new(Vec::with_capacity(alloc, page.room())?);
+        page.write_in(&mut out)?;
+        Ok(out.into_inner())
+    }
+}
+
+// The page of this number, with the items at its positions among the activities.
+fn draft_found<L: Ledger>(
     alloc: Global,
     facts: &Facts,
     which: &Which,
@@ -100,27 +126,29 @@ fn page_text<L: Ledger>(
     number: u64,
     page: &VisiblePage,
     steps: &mut Steps<L>,
-) -> Result<Vec<u8>, AllocError>
-    ensures text { IfOk result (λ text. (xs : List Act)
+) -> Result<PageDraft, AllocError>
+    ensures page { IfOk result (λ draft. (xs : List Act)
         → map (slice_get facts.now.town.acts) page.now.places.items ≡ map Some xs
-        → text.items ≡ compact_text
-        (page_form (collection_id which.now owner.now) number page.now.total
-        (map (item_form facts.now.town which.now) (reverse xs)))) }
+        → draft ≡ page_form (collection_id which.now owner.now) number page.now.total
+        (map (item_form facts.now.town which.now) (reverse xs))) }
     ensures cost { steps.new ≤ steps.old + 20 }
 {
-    let mut address = Address::of(alloc, which, owner)?;
-    let room = page_room(which, page.places.as_slice().len());
-    let mut out = Writer::new(Vec::with_capacity(alloc, room)?);
-    write_page(&mut out, &mut address, facts, which, number, page, steps)?;
-    Ok(out.into_inner())
+    let address = Address::of(alloc, which, owner)?;
+    let items = draft_items(alloc, facts, which, page.places.as_slice(), steps)?;
+    Ok(PageDraft {
+        address,
+        number,
+        total: page.total,
+        items,
+    })
 }
 
-/// The JSON of the page of this number (ActivityStreams 2.0 Core, section 5.2): up to 20 of the
-/// items that the reader sees, the newest first, and the pages before and after it. `None` is
-/// returned exactly if the page is above the highest, which has the newest item and is 0 for an
-/// empty collection; then it takes no memory. The owner is the member or the object with this id.
-/// Besides the activities that a page of the shelf reads, each item is read once.
-pub fn page<S: Shelf, L: Ledger>(
+/// The page of this number (ActivityStreams 2.0 Core, section 5.2): up to 20 of the items that the
+/// reader sees, the newest first, and the pages before and after it. `None` is returned exactly if
+/// the page is above the highest, which has the newest item and is 0 for an empty collection; then
+/// it takes no memory. The owner is the member or the object with this id. Besides the activities
+/// that a page of the shelf reads, each item is read once.
+pub fn draft_page<S: Shelf, L: Ledger>(
     alloc: Global,
     shelf: &S,
     caller: &Caller,
@@ -128,10 +156,10 @@ pub fn page<S: Shelf, L: Ledger>(
     owner: &Iri,
     number: u64,
     steps: &mut Steps<L>,
-) -> Result<Option<Vec<u8>>, AllocError>
+) -> Result<Option<PageDraft>, AllocError>
     requires owner { owner_of (S.holding shelf.now).town which.now ≡ Some owner.now }
-    ensures text { IfOk result (λ page. option_map (λ text. text.items) page
-        ≡ page_text (S.holding shelf.now).town caller.now which.now owner.now number) }
+    ensures page { IfOk result (λ page. page
+        ≡ page_or_none (S.holding shelf.now).town caller.now which.now owner.now number) }
     ensures memory { OnErr result (number
         ≤ highest (total_of (S.holding shelf.now).town caller.now which.now owner.now)) }
     ensures cost { steps.new ≤ steps.old + S.page_cost shelf.now which.now owner.now + 20 }
@@ -140,6 +168,6 @@ pub fn page<S: Shelf, L: Ledger>(
     if number > highest_page(page.total) {
         return Ok(None);
     }
-    let text = page_text(alloc, shelf.facts(), which, owner, number, &page, steps)?;
-    Ok(Some(text))
+    let draft = draft_found(alloc, shelf.facts(), which, owner, number, &page, steps)?;
+    Ok(Some(draft))
 }

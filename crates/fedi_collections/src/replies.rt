@@ -2,6 +2,7 @@
 
 ghost use Rattle.std.specs.Prelude.{◌≡◌, ◌<◌, ◌||◌, IfOk, IsTrue, OnErr, Some, false, not};
 ghost use Rattle.std.specs.Prelude.{option_copied};
+ghost use Rattle.fedi_collections.specs.Drafts.{is_ready, reply_in};
 ghost use Rattle.fedi_model.specs.Reading.{collection_answer, is_malformed, items_answer};
 ghost use Rattle.fedi_model.specs.Reading.{marks_rule, name_of, object_rule, owner_answer};
 ghost use Rattle.fedi_model.specs.Reading.{reading_rule};
@@ -10,7 +11,8 @@ ghost use Rattle.fedi_town.specs.declared.caller.Which.TheVariants.{Inbox, Likes
 ghost use Rattle.fedi_model.specs.Memory.{finds_marked, is_refused};
 ghost use Rattle.fedi_model.specs.Replies.{reply_of};
 
-use crate::pages::{page, summary};
+use crate::drafts::CollectionDraft;
+use crate::pages::{draft_page, summary};
 use fedi_address::{Iri, LocalName};
 use fedi_effects::{Facts, Steps};
 use fedi_model::{Form, PageAsk, Reply, is_nobody, is_self, refusal_reply};
@@ -107,9 +109,9 @@ fn object_owner(
 // ---- replies
 
 // The reply to a reader of this part of the owner's collection. The reads of activities are counted
-// here, and the bounds are those of `summary` and `page`.
-#[tactic(auto, unfolding(fedi_model::specs::Reading::items_answer))]
-fn items_reply<S: Shelf, L: Ledger>(
+// here, and the bounds are those of `summary` and `draft_page`.
+#[tactic(auto, using(crate::proofs::Found::page_answered), unfolding(fedi_model::specs::Reading::items_answer))]
+fn draft_part<S: Shelf, L: Ledger>(
     alloc: Global,
     shelf: &S,
     caller: &Caller,
@@ -117,55 +119,60 @@ fn items_reply<S: Shelf, L: Ledger>(
     owner: &Iri,
     part: &PageAsk,
     blank: Blank,
-) -> Result<Reply, AllocError>
+) -> Result<CollectionDraft, AllocError>
     requires name { blank.name ≡ L.name }
     requires parts { blank.parts ≡ L.parts }
     requires some { 0 < blank.parts }
     requires owner { owner_of (S.holding shelf.now).town which.now ≡ Some owner.now }
-    ensures reply { IfOk result (λ r. r ≡ reply_of
+    ensures reply { IfOk result (λ draft. reply_in draft ≡ reply_of
         (items_answer (S.holding shelf.now).town caller.now which.now owner.now part.now)) }
     ensures memory { OnErr result (is_refused
         (items_answer (S.holding shelf.now).town caller.now which.now owner.now part.now)
         ≡ false) }
+    ensures ready { IfOk result (λ draft. IsTrue (is_ready draft || not (is_refused
+        (items_answer (S.holding shelf.now).town caller.now which.now owner.now part.now)))) }
 {
     let mut steps = Steps::<L>::new(blank);
     match part {
         PageAsk::Summary => {
             let text = summary(alloc, shelf, caller, which, owner, &mut steps)?;
-            Ok(Reply::document(StatusCode::OK, Form::Activity, text))
+            let reply = Reply::document(StatusCode::OK, Form::Activity, text);
+            Ok(CollectionDraft::Ready(reply))
         }
         PageAsk::Page(number) => {
-            match page(alloc, shelf, caller, which, owner, *number, &mut steps)? {
-                Some(text) => Ok(Reply::document(StatusCode::OK, Form::Activity, text)),
-                None => Ok(refusal_reply(Refusal::NotFound)),
+            match draft_page(alloc, shelf, caller, which, owner, *number, &mut steps)? {
+                Some(page) => Ok(CollectionDraft::Page(page)),
+                None => Ok(CollectionDraft::Ready(refusal_reply(Refusal::NotFound))),
             }
         }
-        PageAsk::Malformed => Ok(refusal_reply(Refusal::BadQuery)),
+        PageAsk::Malformed => Ok(CollectionDraft::Ready(refusal_reply(Refusal::BadQuery))),
     }
 }
 
 // The reply to a reader of the collection of the owner with this id.
-fn owner_reply<S: Shelf>(
+fn draft_owned<S: Shelf>(
     alloc: Global,
     shelf: &S,
     caller: &Caller,
     which: &Which,
     owner: &Iri,
     part: &PageAsk,
-) -> Result<Reply, AllocError>
+) -> Result<CollectionDraft, AllocError>
     requires { owner_of (S.holding shelf.now).town which.now ≡ Some owner.now }
-    ensures reply { IfOk result (λ r. r ≡ reply_of (owner_answer
+    ensures reply { IfOk result (λ draft. reply_in draft ≡ reply_of (owner_answer
         (S.holding shelf.now).town caller.now which.now part.now (Some owner.now))) }
     ensures memory { OnErr result (is_refused (owner_answer
         (S.holding shelf.now).town caller.now which.now part.now (Some owner.now)) ≡ false) }
+    ensures ready { IfOk result (λ draft. IsTrue (is_ready draft || not (is_refused (owner_answer
+        (S.holding shelf.now).town caller.now which.now part.now (Some owner.now))))) }
 {
     if let Some(refusal) = reading_rule(caller, which) {
-        return Ok(refusal_reply(refusal));
+        return Ok(CollectionDraft::Ready(refusal_reply(refusal)));
     }
     if let Some(refusal) = object_rule(shelf.facts(), caller, which, owner) {
-        return Ok(refusal_reply(refusal));
+        return Ok(CollectionDraft::Ready(refusal_reply(refusal)));
     }
-    items_reply::<S, Brand>(alloc, shelf, caller, which, owner, part, Blank::new(1))
+    draft_part::<S, Brand>(alloc, shelf, caller, which, owner, part, Blank::new(1))
 }
 
 fn is_malformed(part: &PageAsk) -> bool
@@ -177,42 +184,45 @@ fn is_malformed(part: &PageAsk) -> bool
     }
 }
 
-/// The reply to a reader of a collection or of a page of it (ActivityPub, section 5). `NotFound` if
-/// there is no such member or no page of that number; `BadQuery` if the page is not a number;
-/// `NoKey` and `NotOwner` if an inbox is read by somebody other than its owner (section 5.2); for
-/// the Likes and Announces of an object, `NotFound` if the reader does not see the object, and
-/// `Gone` if it was deleted.
-pub fn collection_reply<S: Shelf>(
+/// The reply to a reader of a collection or of a page of it (ActivityPub, section 5), before a page
+/// is written. `NotFound` if there is no such member or no page of that number; `BadQuery` if the
+/// page is not a number; `NoKey` and `NotOwner` if an inbox is read by somebody other than its
+/// owner (section 5.2); for the Likes and Announces of an object, `NotFound` if the reader does not
+/// see the object, and `Gone` if it was deleted.
+pub fn draft_collection<S: Shelf>(
     alloc: Global,
     shelf: &S,
     caller: &Caller,
     which: &Which,
     part: &PageAsk,
-) -> Result<Reply, AllocError>
-    ensures reply { IfOk result (λ r. r ≡ reply_of
+) -> Result<CollectionDraft, AllocError>
+    ensures reply { IfOk result (λ draft. reply_in draft ≡ reply_of
         (collection_answer (S.holding shelf.now).town caller.now which.now part.now)) }
-    // A refusal never runs out of memory, except when the id of an object is made to find it.
+    // A refusal never runs out of memory, except when the id of an object is made to find it. It
+    // leaves nothing to be written.
     ensures memory { OnErr result (IsTrue (finds_marked which.now part.now || not (is_refused
+        (collection_answer (S.holding shelf.now).town caller.now which.now part.now)))) }
+    ensures ready { IfOk result (λ draft. IsTrue (is_ready draft || not (is_refused
         (collection_answer (S.holding shelf.now).town caller.now which.now part.now)))) }
 {
     let facts = shelf.facts();
     let Some(member) = facts.id_of(name_of(which)) else {
-        return Ok(refusal_reply(Refusal::NotFound));
+        return Ok(CollectionDraft::Ready(refusal_reply(Refusal::NotFound)));
     };
     if is_malformed(part) {
-        return Ok(refusal_reply(Refusal::BadQuery));
+        return Ok(CollectionDraft::Ready(refusal_reply(Refusal::BadQuery)));
     }
     match which {
         Which::Likes(name, number) | Which::Shares(name, number) => {
             match object_owner(alloc, facts, name, *number)? {
-                Some(owner) => owner_reply(alloc, shelf, caller, which, &owner, part),
-                None => Ok(refusal_reply(Refusal::NotFound)),
+                Some(owner) => draft_owned(alloc, shelf, caller, which, &owner, part),
+                None => Ok(CollectionDraft::Ready(refusal_reply(Refusal::NotFound))),
             }
         }
         Which::Inbox(_)
         | Which::Outbox(_)
         | Which::Followers(_)
         | Which::Following(_)
-        | Which::Liked(_) => owner_reply(alloc, shelf, caller, which, member, part),
+        | Which::Liked(_) => draft_owned(alloc, shelf, caller, which, member, part),
     }
 }

@@ -18,6 +18,7 @@ use Rattle.fedi_model.specs.Asks.{IsPostable, entry_of}
 use Rattle.fedi_laws.proofs.Next.{entry_admissible}
 use Rattle.fedi_model.specs.Replies.{IsPrivate, reply}
 use Rattle.fedi_laws.proofs.PrivateReplies.{replies_agree}
+use Rattle.fedi_core.specs.Drafts.{reply_in}
 use Rattle.fedi_core.specs.Keeping.{MayAdd}
 use Rattle.fedi_core.specs.declared.deciding.Decision.{Decision}
 
@@ -80,7 +81,7 @@ decided_may h t c ask moment (Ok d) facts postable entry =
 decided_may h t c ask moment (Err e) facts postable entry = tt
 
 pub decided_private : (h : List Entry) (t : Town) (c : Caller) (ask : Ask) (r : Result Decision AllocError) → t ≡ town h → IsLegal h
-    → IfOk r (λ d. d.reply ≡ reply t c ask) → IfOk r (λ d. IsPrivate h c ask d.reply)
+    → IfOk r (λ d. reply_in d.draft ≡ reply t c ask) → IfOk r (λ d. IsPrivate h c ask (reply_in d.draft))
 decided_private h t c ask (Ok d) facts legal is =
     λ g also agree. replies_agree g h c ask also legal agree ∙ sym (is ∙ ap (λ (s : Town). reply s c ask) facts)
 decided_private h t c ask (Err e) facts legal is = tt

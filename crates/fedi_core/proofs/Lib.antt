@@ -2,6 +2,7 @@ pub mod Claims
 pub mod Commanding
 pub mod Rules
 pub mod Accepting
+pub mod Drafting
 pub mod Growing
 pub mod Kept
 pub mod Limits

@@ -4,4 +4,5 @@ pub mod Commands
 pub mod Machines
 pub mod Crashing
 pub mod Delivering
+pub mod Drafts
 pub mod Opening

@@ -1,19 +1,21 @@
 //! What the machine decides on one ask.
 
-ghost use Rattle.std.specs.Prelude.{◌≡◌, ◌<◌, ◌+◌, IfOk, IsTrue, OnErr, false, option_copied};
-ghost use Rattle.std.specs.Prelude.{option_map};
+ghost use Rattle.std.specs.Prelude.{◌≡◌, ◌<◌, ◌+◌, ◌||◌, IfOk, IsTrue, OnErr, false, true};
+ghost use Rattle.std.specs.Prelude.{option_copied, option_map};
 ghost use Rattle.fedi_model.specs.Asks.{entry_of};
 ghost use Rattle.fedi_model.specs.Posting.{delivery_answer, delivery_of, entry_at, inbox_entry_at};
 ghost use Rattle.fedi_model.specs.Posting.{post_answer};
 ghost use Rattle.fedi_model.specs.Memory.{is_refused, keeps_delivery, takes_memory};
 ghost use Rattle.fedi_model.specs.Replies.{reply, reply_of};
+ghost use Rattle.fedi_core.specs.Drafts.{is_ready, reply_in};
 ghost use Rattle.fedi_town.specs.Ids.{activity_id};
 ghost use Rattle.fedi_town.specs.Towns.{id_of};
 
+use crate::drafts::Draft;
 use crate::posts::{Judged, judge};
 use crate::profiles::{actor_reply, webfinger_reply, wrong_method_reply};
 use fedi_address::{Host, Iri, LocalName};
-use fedi_collections::collection_reply;
+use fedi_collections::draft_collection;
 use fedi_effects::Facts;
 use fedi_inbound::{Received, receive};
 use fedi_model::{Ask, Post, Reply, misshapen_reply, refusal_reply};
@@ -21,14 +23,14 @@ use fedi_objects::{Activity, Boxed, Entry};
 use fedi_pins::board_reply;
 use fedi_text::Moment;
 use fedi_town::{Caller, Refusal, activity_iri};
-use fedi_visible::{Shelf, activity_reply, object_reply};
+use fedi_visible::{Shelf, draft_activity, draft_object};
 use std::alloc::{AllocError, Global};
 
 /// The decision on an ask.
 #[derive(Drop)]
 pub struct Decision {
     /// The reply. If there is an entry, it may be sent only after the entry is kept.
-    pub reply: Reply,
+    pub draft: Draft,
     /// The entry that the ask adds: that of a post or a delivery that is accepted and new.
     pub entry: Option<Entry>,
 }
@@ -68,30 +70,34 @@ fn decide_post(
     post: Post,
     moment: Moment,
 ) -> Result<Decision, AllocError>
-    ensures reply { IfOk result (λ d. d.reply ≡ reply_of (post_answer facts.now.town caller.now
-        name post (id_of facts.now.town name))) }
+    ensures reply { IfOk result (λ d. reply_in d.draft ≡ reply_of (post_answer facts.now.town
+        caller.now name post (id_of facts.now.town name))) }
     ensures entry { IfOk result (λ d. d.entry ≡ entry_at facts.now.town caller.now
         name post moment (id_of facts.now.town name)) }
     ensures memory { OnErr result (is_refused (post_answer facts.now.town caller.now
         name post (id_of facts.now.town name)) ≡ false) }
+    ensures ready { IfOk result (λ d. is_ready d.draft ≡ true) }
 {
     let Some(author) = facts.id_of(&name) else {
         return Ok(Decision {
-            reply: refusal_reply(Refusal::NotFound),
+            draft: Draft::Ready(refusal_reply(Refusal::NotFound)),
             entry: None,
         });
     };
     match judge(facts, caller, &name, author, post) {
-        Judged::Refused(reply) => Ok(Decision { reply, entry: None }),
+        Judged::Refused(reply) => Ok(Decision {
+            draft: Draft::Ready(reply),
+            entry: None,
+        }),
         Judged::Repeated(id) => Ok(Decision {
-            reply: Reply::created(copy_id(id)?),
+            draft: Draft::Ready(Reply::created(copy_id(id)?)),
             entry: None,
         }),
         Judged::Kept(activity, repeat) => {
             let number = facts.count_of(author) as u64 + 1;
             let id = id_at(alloc, facts.host(), &name, number)?;
             Ok(Decision {
-                reply: Reply::created(id),
+                draft: Draft::Ready(Reply::created(id)),
                 entry: Some(Entry::Local {
                     name,
                     repeat,
@@ -132,41 +138,43 @@ fn decide_delivery(
     post: Post,
     moment: Moment,
 ) -> Result<Decision, AllocError>
-    ensures reply { IfOk result (λ d. d.reply ≡ reply_of (delivery_answer facts.now.town caller.now
-        post (id_of facts.now.town name))) }
+    ensures reply { IfOk result (λ d. reply_in d.draft ≡ reply_of (delivery_answer facts.now.town
+        caller.now post (id_of facts.now.town name))) }
     ensures entry { IfOk result (λ d. d.entry ≡ inbox_entry_at facts.now.town caller.now
         name post moment (id_of facts.now.town name)) }
     ensures memory { OnErr result (IsTrue (keeps_delivery facts.now.town caller.now
         post (id_of facts.now.town name))) }
+    ensures ready { IfOk result (λ d. is_ready d.draft ≡ true) }
 {
     let Some(owner) = facts.id_of(&name) else {
         return Ok(Decision {
-            reply: refusal_reply(Refusal::NotFound),
+            draft: Draft::Ready(refusal_reply(Refusal::NotFound)),
             entry: None,
         });
     };
     match receive(facts, caller, owner, post) {
         Received::Refused(refusal) => Ok(Decision {
-            reply: refusal_reply(refusal),
+            draft: Draft::Ready(refusal_reply(refusal)),
             entry: None,
         }),
         Received::Misshapen(fault) => Ok(Decision {
-            reply: misshapen_reply(fault),
+            draft: Draft::Ready(misshapen_reply(fault)),
             entry: None,
         }),
         Received::Repeated => Ok(Decision {
-            reply: Reply::accepted(),
+            draft: Draft::Ready(Reply::accepted()),
             entry: None,
         }),
         Received::Kept(activity) => Ok(Decision {
-            reply: Reply::accepted(),
+            draft: Draft::Ready(Reply::accepted()),
             entry: delivery_of(caller, name, activity, moment)?,
         }),
     }
 }
 
 /// Decides on an ask by the history on a shelf. The only error is out of memory. A refusal takes no
-/// memory, unless an id is made to look something up.
+/// memory, unless an id is made to look something up, and is ready.
+#[tactic(auto, using(crate::proofs::Drafting::ready_more))]
 pub fn decide<S: Shelf>(
     alloc: Global,
     shelf: &S,
@@ -175,30 +183,40 @@ pub fn decide<S: Shelf>(
     moment: Moment,
 ) -> Result<Decision, AllocError>
     ensures reply { IfOk result (λ d.
-        d.reply ≡ reply (S.holding shelf.now).town caller.now ask) }
+        reply_in d.draft ≡ reply (S.holding shelf.now).town caller.now ask) }
     ensures entry { IfOk result (λ d.
         d.entry ≡ entry_of (S.holding shelf.now).town caller.now ask moment) }
     ensures memory { OnErr result
         (IsTrue (takes_memory (S.holding shelf.now).town caller.now ask)) }
+    ensures ready { IfOk result (λ d. IsTrue (is_ready d.draft
+        || takes_memory (S.holding shelf.now).town caller.now ask)) }
 {
     let facts = shelf.facts();
-    let reply = match ask {
-        Ask::Nowhere => refusal_reply(Refusal::NotFound),
-        Ask::WrongMethod(allow) => wrong_method_reply(allow),
-        Ask::Webfinger(resource) => webfinger_reply(alloc, facts, resource.as_ref())?,
-        Ask::Actor(name) => actor_reply(alloc, facts, &name)?,
-        Ask::Activity(name, number) => activity_reply(alloc, facts, caller, &name, number)?,
-        Ask::Object(name, number) => object_reply(alloc, facts, caller, &name, number)?,
+    let draft = match ask {
+        Ask::Nowhere => Draft::Ready(refusal_reply(Refusal::NotFound)),
+        Ask::WrongMethod(allow) => Draft::Ready(wrong_method_reply(allow)),
+        Ask::Webfinger(resource) => {
+            Draft::Ready(webfinger_reply(alloc, facts, resource.as_ref())?)
+        }
+        Ask::Actor(name) => Draft::Ready(actor_reply(alloc, facts, &name)?),
+        Ask::Activity(name, number) => {
+            Draft::Document(draft_activity(alloc, facts, caller, &name, number)?)
+        }
+        Ask::Object(name, number) => {
+            Draft::Document(draft_object(alloc, facts, caller, &name, number)?)
+        }
         Ask::Outbox(name, post) => {
             return decide_post(alloc, facts, caller, name, post, moment);
         }
-        Ask::Collection(which, part) => collection_reply(alloc, shelf, caller, &which, &part)?,
+        Ask::Collection(which, part) => {
+            Draft::Collection(draft_collection(alloc, shelf, caller, &which, &part)?)
+        }
         Ask::Board(name, slug, part) => {
-            board_reply(alloc, shelf, caller, &name, slug.as_ref(), &part)?
+            Draft::Ready(board_reply(alloc, shelf, caller, &name, slug.as_ref(), &part)?)
         }
         Ask::Inbox(name, post) => {
             return decide_delivery(facts, caller, name, post, moment);
         }
     };
-    Ok(Decision { reply, entry: None })
+    Ok(Decision { draft, entry: None })
 }

@@ -1,7 +1,7 @@
 //! The machine over one history and the keeper of its records.
 
-ghost use Rattle.std.specs.Prelude.{◌≡◌, ◌↔◌, List, IfOk, IfErr, IfSome, IsErrOf, IsTrue, None};
-ghost use Rattle.std.specs.Prelude.{OnOk, OnErr, length, map, option_copied};
+ghost use Rattle.std.specs.Prelude.{◌≡◌, ◌↔◌, ◌||◌, List, IfOk, IfErr, IfSome, IsErrOf, IsTrue};
+ghost use Rattle.std.specs.Prelude.{None, OnOk, OnErr, length, map, option_copied};
 ghost use Rattle.std.specs.List.{AllByRecursion};
 ghost use Rattle.fedi_entry.specs.Codes.{code_of};
 ghost use Rattle.fedi_entry.specs.Fields.{IsFormed};
@@ -14,6 +14,7 @@ ghost use Rattle.fedi_model.specs.Memory.{copies_host, takes_memory};
 ghost use Rattle.fedi_model.specs.Replies.{IsPrivate, reply};
 ghost use Rattle.fedi_model.specs.Routes.{IsPostableAt};
 ghost use Rattle.fedi_core.specs.Commands.{IsCommand, RefusesCommand, unkept};
+ghost use Rattle.fedi_core.specs.Drafts.{is_ready, reply_in};
 ghost use Rattle.fedi_core.specs.Keeping.{HidesDeliveries, HidesPosts, Keeps, MayAdd, TellsOwners};
 ghost use Rattle.fedi_core.specs.Keeping.{TellsPeers, fault_by};
 ghost use Rattle.fedi_core.specs.Opening.{IsUnopened, keeper_after, outcome_of};
@@ -192,10 +193,11 @@ impl<S: Shelf + Drop, P: Keeper> Core<S, P> {
     }
 
     /// Decides on an ask at a moment (ActivityPub, sections 3.2, 4.1, 6 and 7; RFC 7033, section
-    /// 4.2). The result is the reply and, for a post or a delivery that is accepted and new, the
-    /// entry that `keep` has to keep before the reply is sent. Nothing changes. The error is out of
-    /// memory, which occurs only if the answer takes memory: a refusal takes none, unless an id is
-    /// made to look something up.
+    /// 4.2). The result is the reply, whose document can be written later, and, for a post or a
+    /// delivery that is accepted and new, the entry that `keep` has to keep before the reply is
+    /// sent. Nothing changes. The error is out of memory, which occurs only if the answer takes
+    /// memory: a refusal takes none, unless an id is made to look something up. Nor does writing
+    /// the reply take memory then.
     pub fn decide(
         &self,
         alloc: Global,
@@ -204,15 +206,19 @@ impl<S: Shelf + Drop, P: Keeper> Core<S, P> {
         moment: Moment,
     ) -> Result<Decision, AllocError>
         requires postable { IsPostableAt (town self.now.history).host ask }
-        ensures reply { IfOk result (λ d. d.reply ≡ reply (town self.now.history) caller.now ask) }
+        ensures reply { IfOk result (λ d.
+            reply_in d.draft ≡ reply (town self.now.history) caller.now ask) }
         ensures entry { IfOk result (λ d.
             d.entry ≡ entry_of (town self.now.history) caller.now ask moment) }
         ensures may_add { IfOk result (λ d. IfSome d.entry (MayAdd (town self.now.history))) }
         // Every legal history that agrees with this one on what the caller may know gives the same
         // reply.
-        ensures private { IfOk result (λ d. IsPrivate self.now.history caller.now ask d.reply) }
+        ensures private { IfOk result (λ d.
+            IsPrivate self.now.history caller.now ask (reply_in d.draft)) }
         ensures memory { OnErr result
             (IsTrue (takes_memory (town self.now.history) caller.now ask)) }
+        ensures ready { IfOk result (λ d. IsTrue
+            (is_ready d.draft || takes_memory (town self.now.history) caller.now ask)) }
     {
         decide(alloc, &self.shelf, caller, ask, moment)
     }

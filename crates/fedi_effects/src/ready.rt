@@ -113,7 +113,7 @@ fn keep_with_spare(alloc: Global, acceptance: Acceptance) -> Result<Ready, Alloc
     ensures ready { IfOk result (λ ready. addition_in ready ≡ additions.Activity acceptance) }
     ensures fits { (acts : List Act) → IfOk result (λ ready. FitsActs acts ready) }
 {
-    match Spare::new(alloc) {
+    match Spare::new(alloc, &acceptance.effect) {
         Ok(spare) => keep_all(alloc, acceptance, spare),
         Err(error) => {
             drop(acceptance);

@@ -41,9 +41,10 @@ fn span_of(ask: &Ask) -> Span {
 }
 
 /// Answers a request of this caller that has this body and asks this, in one turn of the pass: it
-/// determines what becomes of a post or a delivery, and keeps it. Returns the text of the reply,
-/// which has no body if the method is HEAD and says that the connection closes if `closing`. The
-/// error is out of memory, and then nothing was kept, and the keeper did not fail.
+/// determines what becomes of a post or a delivery, and keeps it. A reply to a request that kept
+/// nothing is written after the turn, and is that of the log of the turn. Returns the text of the
+/// reply, which has no body if the method is HEAD and says that the connection closes if `closing`.
+/// The error is out of memory, and then nothing was kept, and the keeper did not fail.
 pub fn answer_in_turn<R: Wait, S: Shelf + Drop, P: Keeper + Drop, O: Opened>(
     rt: &R,
     alloc: Global,
@@ -74,10 +75,11 @@ pub fn answer_in_turn<R: Wait, S: Shelf + Drop, P: Keeper + Drop, O: Opened>(
     let span = span_of(&ask);
     queues.enter(rt, span);
     let mut held = lock.take(rt, pass, span);
-    let text = held.value.answer(alloc, Some(by), request, body, caller, ask, moment, closing);
+    let settled = held.value.settle(alloc, Some(by), request, body, caller, ask, moment, closing);
     lock.give(pass, held);
     queues.leave(rt, span);
-    text
+    let answered = settled?;
+    answered.write(alloc, moment, request.head_only, closing)
 }
 
 /// Refuses a request whose caller was refused for this reason, in one turn of the pass, at whose log

@@ -7,7 +7,7 @@ ghost use Rattle.fedi_town.specs.Boards.{board_id};
 use crate::seeds::seed;
 use crate::town::{ACTIVITIES, NAMES, add_town};
 use fedi_address::{Host, Iri, LocalName};
-use fedi_collections::collection_reply;
+use fedi_collections::draft_collection;
 use fedi_effects::Steps;
 use fedi_index::IndexedShelf;
 use fedi_model::PageAsk;
@@ -30,8 +30,8 @@ fn agree_on<A: Shelf, B: Shelf>(
     which: &Which,
     part: &PageAsk,
 ) -> Result<bool, AllocError> {
-    let first = collection_reply(alloc, one, caller, which, part)?;
-    let second = collection_reply(alloc, other, caller, which, part)?;
+    let first = draft_collection(alloc, one, caller, which, part)?.write(alloc)?;
+    let second = draft_collection(alloc, other, caller, which, part)?.write(alloc)?;
     Ok(first.body.bytes() == second.body.bytes())
 }
 
@@ -136,7 +136,7 @@ fn has_count<S: Shelf>(
     which: &Which,
     text: &str,
 ) -> Result<bool, AllocError> {
-    let reply = collection_reply(alloc, shelf, caller, which, &PageAsk::Summary)?;
+    let reply = draft_collection(alloc, shelf, caller, which, &PageAsk::Summary)?.write(alloc)?;
     Ok(str::from_utf8(reply.body.bytes()).is_ok_and(|body| body.contains(text)))
 }
 

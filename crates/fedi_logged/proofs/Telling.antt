@@ -1,5 +1,5 @@
 -- What a turn says about its log.
-use Rattle.std.proofs.Common.{◌≡◌, ℕ, List, ◌++◌, Bool, Option, Result, Ok, Err, Vec, IfOk, OnErr, subst}
+use Rattle.std.proofs.Common.{◌≡◌, ℕ, List, ◌++◌, Bool, Option, Result, Ok, Err, Vec, IfOk, subst, sym}
 use Rattle.fedi_log.specs.Keeping.{Holds, State, base_of}
 use Rattle.fedi_log.specs.Log.{Log, Outcome, history_of, items_of}
 use Rattle.fedi_model.specs.declared.reply.Reply.{Reply}
@@ -37,10 +37,10 @@ told growth room opened state by log seen now moment q body closing o given (Ok 
     tells growth room opened state by log seen now moment q body closing o given t.items same holds reply grown is
 told growth room opened state by log seen now moment q body closing o given (Err e) same holds reply grown is = tt
 
--- the log is unchanged
-pub untold : {T E : Type 0} (r : Result T E) (log now : Log) → now ≡ log → OnErr r (now ≡ log)
-untold (Ok t) log now same = tt
-untold (Err e) log now same = same
+-- the text is this one, of which this holds
+pub of_text : {A E : Type 0} (P : List ℕ → Type 0) (text : List ℕ) (r : Result (Vec ℕ A) E) → P text → IfOk r (λ t. t.items ≡ text) → IfOk r (λ t. P t.items)
+of_text P text (Ok t) holds is = subst P (sym is) holds
+of_text P text (Err e) holds is = tt
 
 -- one turn of the machine and this log
 pub turned : {P : Type 0} (growth : ℕ → ℕ) (by : Option ℕ) (shown : P → KeeperState) (crashes : P → Crashes) (m n : MachineLog P) (after : Machine P) (now : Log) → m ≡ n

@@ -1,11 +1,25 @@
 -- What one turn does for a request, over a log that others may add to too.
-use Rattle.std.specs.Prelude.{◌≡◌, ℕ, Bool, List, ◌++◌, Option}
+use Rattle.std.specs.Prelude.{◌≡◌, ℕ, Bool, false, true, List, ◌++◌, Option}
+use Rattle.fedi_core.specs.Drafts.{reply_in}
 use Rattle.fedi_log.specs.Keeping.{Base, State, base_of, end_of}
 use Rattle.fedi_log.specs.Log.{Goes, Log, Outcome, history_of, items_of}
 use Rattle.fedi_model.specs.declared.reply.Reply.{Reply}
 use Rattle.fedi_model.specs.declared.request.Request.{Request}
 use Rattle.fedi_model.specs.ReplyText.{reply_text}
 use Rattle.fedi_logged.specs.Conversations.{IsReply, Setting}
+use Rattle.fedi_logged.specs.declared.answered.Answered.{Answered}
+use Rattle.fedi_logged.specs.declared.answered.Answered.TheVariants.{Text, Draft}
+
+-- the text that the answer of a turn becomes, at this moment and on a connection that then closes
+-- or goes on
+abbrev pub text_in : ℕ → Bool → Bool → Answered → List ℕ
+text_in moment head_only closing (Text text) = text.items
+text_in moment head_only closing (Draft d) = reply_text moment head_only closing (reply_in d)
+
+-- the text is not written yet
+abbrev pub is_draft : Answered → Bool
+is_draft (Text text) = false
+is_draft (Draft d) = true
 
 -- this is the reply to the request with this body at this log
 abbrev pub IsReplyAt : Base → Log → ℕ → Request → List ℕ → Outcome → Reply → Type 0

@@ -7,6 +7,7 @@
 #![tactic(auto)]
 
 mod alone;
+mod answered;
 mod answers;
 mod channels;
 mod claims;
@@ -22,6 +23,7 @@ mod sessions;
 mod turns;
 
 pub use alone::{Alone, serve_alone};
+pub use answered::Answered;
 pub use channels::{Channel, Joined};
 pub use claims::Sending;
 pub use connection::{Connection, serve_connection};

@@ -18,6 +18,7 @@ use Rattle.fedi_register.specs.contracts.kept.Kept.TheInside as Inside
 use Rattle.fedi_register.specs.contracts.object.Hidden as Hidden
 use Rattle.fedi_register.specs.contracts.object.KeptObject as KeptObject
 use Rattle.fedi_register.specs.contracts.parts.Beside as Beside
+use Rattle.fedi_register.specs.contracts.words.Words as Words
 
 pub iri_send : IsSend Iri.the_row
 iri_send = search (crosses, sendable) depth 20
@@ -28,6 +29,12 @@ iri_sync = search (crosses, sendable) depth 20
 pub text_send : IsSend Text.the_row
 text_send = search (crosses, sendable) depth 20
 
+pub text_sync : IsSync Text.the_row
+text_sync = search (crosses, sendable) depth 20
+
+words_send : IsSend Words.the_row
+words_send = search (text_send, text_sync, crosses, sendable) depth 40
+
 pub iris_send : IsSend Iris.the_row
 iris_send = search (iri_send, iri_sync, crosses, sendable) depth 40
 
@@ -35,7 +42,7 @@ hidden_send : IsSend Hidden.the_row
 hidden_send = search (crosses, sendable) depth 40
 
 object_send : IsSend KeptObject.the_row
-object_send = declared_send KeptObject.the_type (search (iri_send, text_send, common_send, common_sync, extras_send, hidden_send, crosses, sendable) depth 40)
+object_send = declared_send KeptObject.the_type (search (iri_send, text_send, words_send, common_send, common_sync, extras_send, hidden_send, crosses, sendable) depth 40)
 
 changed_send : IsSend Changed.the_row
 changed_send = search (iri_send, crosses, sendable) depth 20

@@ -1,6 +1,7 @@
 pub mod Authors
 pub mod Chains
 pub mod Changes
+pub mod Excerpts
 pub mod Following
 pub mod Keys
 pub mod Lists
@@ -11,3 +12,4 @@ pub mod Registers
 pub mod Seeds
 pub mod Seen
 pub mod Traces
+pub mod Words

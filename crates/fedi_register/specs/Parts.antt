@@ -10,6 +10,7 @@ use Rattle.fedi_register.specs.declared.extras.Extras.{Extras}
 use Rattle.fedi_register.specs.declared.object.KeptObject.{KeptObject}
 use Rattle.fedi_register.specs.declared.parts.Beside.{Beside}
 use Rattle.fedi_register.specs.declared.parts.Beside.TheVariants as besides
+use Rattle.fedi_register.specs.declared.parts.KeptRare.{KeptRare}
 use Rattle.fedi_register.specs.declared.parts.Named.{Named}
 use Rattle.fedi_register.specs.declared.parts.Parts.{Parts}
 use Rattle.fedi_register.specs.declared.parts.Rare.{Rare}
@@ -122,10 +123,22 @@ no_rare = record {
   forwards = [];
 }
 
+-- the rare properties that are stored
+abbrev pub rare_kept : KeptRare → Rare
+rare_kept r = record {
+  target = r.target;
+  in_reply_to = r.in_reply_to;
+  content = r.content;
+  summary = r.summary;
+  name = r.name;
+  tags = r.tags;
+  forwards = r.forwards;
+}
+
 -- the rare properties, if there are any
-abbrev pub rare_in : {A : Type 0} → Option (Box Rare A) → Rare
+abbrev pub rare_in : {A : Type 0} → Option (Box KeptRare A) → Rare
 rare_in None = no_rare
-rare_in (Some r) = r.value
+rare_in (Some r) = rare_kept r.value
 
 -- the rare properties of an activity
 abbrev pub rare_part : Option Parts → Rare
@@ -133,9 +146,9 @@ rare_part None = no_rare
 rare_part (Some p) = rare_in p.rare
 
 -- the borrowed rare properties, if there are any
-abbrev pub rare_lent : Option Rare → Rare
+abbrev pub rare_lent : Option KeptRare → Rare
 rare_lent None = no_rare
-rare_lent (Some r) = r
+rare_lent (Some r) = rare_kept r
 
 -- the content of a box, if there is one
 abbrev pub unboxed : {T A : Type 0} → Option (Box T A) → Option T

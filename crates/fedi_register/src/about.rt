@@ -5,6 +5,7 @@ ghost use Rattle.fedi_town.specs.Objects.{is_tombstone_in, rewrite_ref, tombston
 ghost use Rattle.fedi_town.specs.Objects.{update_object, whole_of};
 ghost use Rattle.fedi_town.specs.Relations.{ref_id};
 ghost use Rattle.fedi_town.specs.Showing.{shown_object};
+ghost use Rattle.fedi_register.specs.Excerpts.{excerpt_ref};
 ghost use Rattle.fedi_register.specs.Mentions.{reply_in, tags_in};
 ghost use Rattle.fedi_register.specs.Parts.{object_names, referred};
 
@@ -50,6 +51,23 @@ impl About {
                 change: Snapshot::of(&change),
                 id: change.id,
             })),
+        }
+    }
+
+    /// A copy for readers, without `bto` and `bcc`, which shares the long texts and the lists. The
+    /// error is out of memory.
+    pub(crate) fn excerpt(&self, alloc: Global) -> Result<About, AllocError>
+        ensures about { IfOk result (λ about. referred about ≡ excerpt_ref (referred self.now)) }
+        ensures named { IfOk result (λ about. object_names about ≡ object_names self.now) }
+    {
+        match self {
+            About::Nothing => Ok(About::Nothing),
+            About::Id(id) => Ok(About::Id(id.copy()?)),
+            About::Whole(object) => {
+                let object = object.excerpt(alloc)?;
+                Ok(About::Whole(Box::new(alloc, object)?))
+            }
+            About::Changed(changed) => Ok(About::Id(changed.id.copy()?)),
         }
     }
 

@@ -1,13 +1,15 @@
 //! The properties that few objects have, in their stored form.
 
-ghost use Rattle.std.specs.Prelude.{◌≡◌, true, IfOk, [], option_copied};
+ghost use Rattle.std.specs.Prelude.{◌≡◌, true, IfOk, OnOk, option_copied};
 ghost use Rattle.fedi_town.specs.Objects as objects;
 ghost use Rattle.fedi_register.specs.Parts.{emptied_extras, extras_in, no_extras};
 
 use crate::pool::Pool;
-use fedi_address::{Iri, Items};
+use crate::words::{Blocks, TagList, Words, copy_iri, copy_text};
+use fedi_address::Iri;
 use fedi_objects::{Edit, Tag, set};
 use fedi_text::Text;
+use fedi_town::Effect;
 use std::alloc::{AllocError, Global};
 
 // The properties that few objects have when they are created. An Update or a Delete may add them to
@@ -15,54 +17,54 @@ use std::alloc::{AllocError, Global};
 #[derive(Drop)]
 pub(crate) struct Extras {
     pub(crate) in_reply_to: Option<Iri>,
-    pub(crate) summary: Option<Text>,
-    pub(crate) name: Option<Text>,
+    pub(crate) summary: Words,
+    pub(crate) name: Words,
     pub(crate) url: Option<Iri>,
     pub(crate) updated: Option<Text>,
     pub(crate) former_kind: Option<Text>,
     pub(crate) deleted: Option<Text>,
-    pub(crate) tags: Items<Tag>,
+    pub(crate) tags: TagList,
 }
 
-/// Memory for what an Update or a Delete adds to an object without extras, so that neither
-/// allocates.
+/// Memory for what an Update or a Delete adds to an object, so that neither allocates.
 #[derive(Drop)]
 pub struct Spare {
-    extras: Box<Extras>,
+    pub(crate) extras: Box<Extras>,
+    pub(crate) blocks: Blocks,
 }
 
 impl Spare {
-    /// Spare memory for one change. The error is out of memory.
-    pub fn new(alloc: Global) -> Result<Spare, AllocError> {
-        let extras = Box::new(alloc, Extras::none(alloc))?;
-        Ok(Spare { extras })
+    /// Spare memory for the effect of one activity. The error is out of memory.
+    pub fn new(alloc: Global, effect: &Effect) -> Result<Spare, AllocError> {
+        let blocks = Blocks::new(alloc, effect)?;
+        let extras = Box::new(alloc, Extras::none())?;
+        Ok(Spare { extras, blocks })
     }
+}
 
-    // Empty extras in this memory.
-    fn take(self) -> Box<Extras>
-        ensures { result.value ≡ no_extras }
-    {
-        let Spare { mut extras } = self;
-        let none = Extras::none(*Box::allocator(&extras));
-        set(&mut *extras, none);
-        extras
-    }
+// Empty extras in this memory.
+fn emptied(extras: Box<Extras>) -> Box<Extras>
+    ensures { result.value ≡ no_extras }
+{
+    let mut extras = extras;
+    set(&mut *extras, Extras::none());
+    extras
 }
 
 impl Extras {
     // Empty extras. This allocates nothing.
-    fn none(alloc: Global) -> Extras
+    fn none() -> Extras
         ensures { result ≡ no_extras }
     {
         Extras {
             in_reply_to: None,
-            summary: None,
-            name: None,
+            summary: Words::none(),
+            name: Words::none(),
             url: None,
             updated: None,
             former_kind: None,
             deleted: None,
-            tags: Items::empty(alloc),
+            tags: TagList::none(),
         }
     }
 
@@ -76,7 +78,30 @@ impl Extras {
             && self.updated.is_none()
             && self.former_kind.is_none()
             && self.deleted.is_none()
-            && is_empty(&self.tags)
+            && self.tags.is_empty()
+    }
+
+    // Copies all properties.
+    fn fill_from(&mut self, other: &Extras) -> Result<(), AllocError>
+        ensures { OnOk result (self.new ≡ other.now) }
+    {
+        copy_iri(&mut self.in_reply_to, &other.in_reply_to)?;
+        set(&mut self.summary, other.summary.copy()?);
+        set(&mut self.name, other.name.copy()?);
+        copy_iri(&mut self.url, &other.url)?;
+        copy_text(&mut self.updated, &other.updated)?;
+        copy_text(&mut self.former_kind, &other.former_kind)?;
+        copy_text(&mut self.deleted, &other.deleted)?;
+        set(&mut self.tags, other.tags.copy()?);
+        Ok(())
+    }
+
+    // A copy, which shares the long texts and the mentions. The error is out of memory.
+    fn copy(&self) -> Result<Extras, AllocError>
+        ensures { IfOk result (λ copy. copy ≡ self.now) }
+    {
+        let mut copy = Extras::none();
+        copy.fill_from(self).and(Ok(copy))
     }
 
     /// Clears everything that an Update may set.
@@ -84,11 +109,10 @@ impl Extras {
         ensures { self.new ≡ emptied_extras self.old }
     {
         set(&mut self.in_reply_to, None);
-        set(&mut self.summary, None);
-        set(&mut self.name, None);
+        set(&mut self.summary, Words::none());
+        set(&mut self.name, Words::none());
         set(&mut self.url, None);
-        let none = Items::empty(self.tags.allocator());
-        set(&mut self.tags, none);
+        set(&mut self.tags, TagList::none());
     }
 
     /// The extras in a box of their own, or `None` if there are none. The error is out of memory.
@@ -103,12 +127,6 @@ impl Extras {
     }
 }
 
-fn is_empty(tags: &Items<Tag>) -> bool
-    ensures { result ≡ true → tags.now ≡ [] }
-{
-    tags.as_slice().is_empty()
-}
-
 /// Applies a client's Update to a property.
 pub(crate) fn edit<T: Drop>(property: &mut Option<T>, by: Edit<T>)
     ensures { property.new ≡ objects.edit by property.old }
@@ -120,19 +138,8 @@ pub(crate) fn edit<T: Drop>(property: &mut Option<T>, by: Edit<T>)
     }
 }
 
-/// Applies a client's Update to a list.
-pub(crate) fn edit_list<T: Drop>(list: &mut Items<T>, by: Edit<Items<T>>)
-    ensures { list.new ≡ objects.edit_list by list.old }
-{
-    match by {
-        Edit::Keep => {}
-        Edit::Remove => *list = Items::empty(list.allocator()),
-        Edit::Give(values) => *list = values,
-    }
-}
-
 /// The extras to change: those of the object, or empty ones in the spare memory.
-pub(crate) fn extras_or(extras: Option<Box<Extras>>, spare: Spare) -> Box<Extras>
+pub(crate) fn extras_or(extras: Option<Box<Extras>>, spare: Box<Extras>) -> Box<Extras>
     ensures { result.value ≡ extras_in extras }
 {
     match extras {
@@ -140,7 +147,23 @@ pub(crate) fn extras_or(extras: Option<Box<Extras>>, spare: Spare) -> Box<Extras
             drop(spare);
             extras
         }
-        None => spare.take(),
+        None => emptied(spare),
+    }
+}
+
+/// A copy, which shares the long texts and the mentions. The error is out of memory.
+pub(crate) fn copy_extras(
+    alloc: Global,
+    extras: &Option<Box<Extras>>,
+) -> Result<Option<Box<Extras>>, AllocError>
+    ensures { IfOk result (λ copy. extras_in copy ≡ extras_in extras.now) }
+{
+    match extras {
+        Some(extras) => {
+            let copy = extras.copy()?;
+            Ok(Some(Box::new(alloc, copy)?))
+        }
+        None => Ok(None),
     }
 }
 

@@ -123,6 +123,27 @@ impl Iris {
         }
     }
 
+    /// No IRIs.
+    pub(crate) fn none() -> Iris
+        ensures { result ≡ [] }
+    {
+        Iris {
+            held: Held::Nothing,
+        }
+    }
+
+    /// A copy, which shares the IRIs. The error means that they have too many owners.
+    pub(crate) fn copy(&self) -> Result<Iris, AllocError>
+        ensures { IfOk result (λ list. list ≡ self.now) }
+    {
+        let held = match &self.held {
+            Held::Nothing => Held::Nothing,
+            Held::One(iri) => Held::One(iri.copy()?),
+            Held::Many(iris) => Held::Many(Arc::try_clone(iris)?),
+        };
+        Ok(Iris { held })
+    }
+
     /// Makes a single IRI share the text of an equal one, and several share the memory of an equal
     /// list. The effect cannot be observed, and nothing is allocated.
     pub fn share(&mut self, pool: &mut Pool)

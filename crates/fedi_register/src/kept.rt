@@ -6,14 +6,16 @@ ghost use Rattle.fedi_town.specs.Deeds.{deed_of};
 ghost use Rattle.fedi_town.specs.Objects.{is_deleted, rewrite_act, tombstone_of, update_object};
 ghost use Rattle.fedi_town.specs.Objects.{whole_of};
 ghost use Rattle.fedi_town.specs.Relations.{ref_id};
+ghost use Rattle.fedi_register.specs.Excerpts.{excerpt};
 ghost use Rattle.fedi_register.specs.Mentions.{reply_in, tags_in};
 
 use crate::about::About;
 use crate::extras::Spare;
-use crate::iris::{Iris, shrunk};
-use crate::object::{Hidden, hidden_of};
+use crate::iris::Iris;
+use crate::object::{Hidden, hidden_of, nothing_hidden};
 use crate::parts::{Beside, Named, Rare, beside_of, content_of};
 use crate::pool::Pool;
+use crate::words::copy_iri;
 use fedi_address::Iri;
 use fedi_objects::{Kind, ObjectRef, RepeatKey, State, StrippedObject, Tag};
 use fedi_text::{Moment, Text};
@@ -78,8 +80,8 @@ impl Kept {
             content: activity.content,
             summary: activity.summary,
             name: activity.name,
-            tags: shrunk(activity.tags),
-            forwards: shrunk(act.forwards),
+            tags: activity.tags,
+            forwards: act.forwards,
         };
         let (about, own) = content_of(alloc, activity.object, named, rare)?;
         let beside = beside_of(alloc, own, act.repeat)?;
@@ -96,6 +98,33 @@ impl Kept {
             for_followers: act.for_followers,
             actor,
             hidden,
+        })
+    }
+
+    /// A copy of what readers may be shown of the activity. It shares the long texts and the lists,
+    /// so that its time and its memory have a limit whatever the activity says. The error is out of
+    /// memory.
+    pub fn excerpt(&self, alloc: Global) -> Result<Kept, AllocError>
+        ensures { IfOk result (λ copy. copy ≡ excerpt self.now) }
+    {
+        let mut id = None;
+        copy_iri(&mut id, &self.id)?;
+        let author = self.author.copy()?;
+        let beside = self.beside.excerpt(alloc)?;
+        let about = self.about.excerpt(alloc)?;
+        Ok(Kept {
+            author,
+            id,
+            about,
+            beside,
+            recipients: Iris::none(),
+            moment: self.moment,
+            kind: self.kind,
+            state: self.state,
+            is_public: self.is_public,
+            for_followers: self.for_followers,
+            actor: Snapshot::of(&None),
+            hidden: nothing_hidden(alloc),
         })
     }
 

@@ -20,6 +20,7 @@ mod register;
 mod repeats;
 mod seeds;
 mod trace;
+mod words;
 
 pub use acts::{
     can_be_undone, has_activity_id, is_about, is_accepted, is_announce, is_announce_of, is_block,

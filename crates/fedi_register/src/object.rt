@@ -1,6 +1,6 @@
 //! The object that an activity carries, in its stored form.
 
-ghost use Rattle.std.specs.Prelude.{◌≡◌, IfOk};
+ghost use Rattle.std.specs.Prelude.{◌≡◌, [], IfOk};
 ghost use Rattle.fedi_objects.specs.Forms.{is_tombstone};
 ghost use Rattle.fedi_objects.specs.Objects.{stripped_object};
 ghost use Rattle.fedi_town.specs.Objects as objects;
@@ -9,10 +9,10 @@ ghost use Rattle.fedi_register.specs.Parts.{extras_in, named_in, no_extras, whol
 
 use crate::common::Common;
 use crate::extras::{
-    Extras, Spare, deleted, edit, edit_list, empty_extras, extras_or, former_kind, share_extras,
+    Extras, Spare, copy_extras, deleted, edit, empty_extras, extras_or, former_kind, share_extras,
 };
-use crate::iris::shrunk;
 use crate::pool::Pool;
+use crate::words::{Said, TagList, Words, copy_iri, copy_text, edit_tags, edit_words};
 use fedi_address::{Iri, Items, Recipients};
 use fedi_objects::{Change, Object, ObjectRef, ObjectView, StrippedObject, TOMBSTONE, set};
 use fedi_text::Text;
@@ -36,7 +36,7 @@ pub(crate) struct KeptObject {
     pub(crate) id: Option<Iri>,
     pub(crate) kind: Text,
     pub(crate) common: Arc<Common>,
-    pub(crate) content: Option<Text>,
+    pub(crate) content: Words,
     pub(crate) published: Option<Text>,
     pub(crate) extras: Option<Box<Extras>>,
     pub(crate) hidden: Hidden,
@@ -53,6 +53,18 @@ pub(crate) fn hidden_of(recipients: &Recipients) -> Hidden
     Hidden {
         bto: Snapshot::of(&recipients.bto),
         bcc: Snapshot::of(&recipients.bcc),
+    }
+}
+
+/// No `bto` and no `bcc`. This allocates nothing.
+pub(crate) fn nothing_hidden(alloc: Global) -> Hidden
+    ensures bto { result.bto.value ≡ [] }
+    ensures bcc { result.bcc.value ≡ [] }
+{
+    let nobody = Items::empty(alloc);
+    Hidden {
+        bto: Snapshot::of(&nobody),
+        bcc: Snapshot::of(&nobody),
     }
 }
 
@@ -84,15 +96,22 @@ impl KeptObject {
         ensures { IfOk result (λ kept. whole kept ≡ object) }
     {
         let hidden = hidden_of(&object.recipients);
+        let said = Said::new(
+            alloc,
+            object.content,
+            object.summary,
+            object.name,
+            object.tags,
+        )?;
         let extras = Extras {
             in_reply_to: object.in_reply_to,
-            summary: object.summary,
-            name: object.name,
+            summary: said.summary,
+            name: said.name,
             url: object.url,
             updated: object.updated,
             former_kind: object.former_kind,
             deleted: object.deleted,
-            tags: shrunk(object.tags),
+            tags: said.tags,
         };
         let (common, extras) = common_and_extras(
             alloc,
@@ -104,10 +123,35 @@ impl KeptObject {
             id: object.id,
             kind: object.kind,
             common,
-            content: object.content,
+            content: said.content,
             published: object.published,
             extras,
             hidden,
+        })
+    }
+
+    /// A copy for readers, without `bto` and `bcc`, which shares the long texts and the lists. The
+    /// error is out of memory.
+    pub(crate) fn excerpt(&self, alloc: Global) -> Result<KeptObject, AllocError>
+        ensures whole { IfOk result (λ copy. whole copy ≡ stripped_object (whole self.now)) }
+        ensures named { IfOk result (λ copy. named_in copy ≡ named_in self.now) }
+    {
+        let mut id = None;
+        copy_iri(&mut id, &self.id)?;
+        let common = Arc::try_clone(&self.common)?;
+        let kind = self.kind.clone()?;
+        let mut published = None;
+        copy_text(&mut published, &self.published)?;
+        let content = self.content.copy()?;
+        let extras = copy_extras(alloc, &self.extras)?;
+        Ok(KeptObject {
+            id,
+            kind,
+            common,
+            content,
+            published,
+            extras,
+            hidden: nothing_hidden(alloc),
         })
     }
 
@@ -220,13 +264,14 @@ impl KeptObject {
         ensures changed { whole self.new ≡ objects.change_object by stamp (whole self.old) }
         ensures named { named_in self.new ≡ named_in self.old }
     {
-        edit(&mut self.content, by.content);
-        let mut extras = extras_or(self.extras.take(), spare);
-        edit(&mut extras.summary, by.summary);
-        edit(&mut extras.name, by.name);
+        let Spare { extras, blocks } = spare;
+        edit_words(&mut self.content, by.content, blocks.content);
+        let mut extras = extras_or(self.extras.take(), extras);
+        edit_words(&mut extras.summary, by.summary, blocks.summary);
+        edit_words(&mut extras.name, by.name, blocks.name);
         edit(&mut extras.url, by.url);
         edit(&mut extras.in_reply_to, by.in_reply_to);
-        edit_list(&mut extras.tags, by.tags);
+        edit_tags(&mut extras.tags, by.tags, blocks.tags);
         set(&mut extras.updated, Some(stamp));
         self.extras = Some(extras);
     }
@@ -237,13 +282,20 @@ impl KeptObject {
         ensures replaced { whole self.new ≡ objects.replace_object by (whole self.old) }
         ensures named { named_in self.new ≡ named_in self.old }
     {
-        set(&mut self.content, by.content);
-        let mut extras = extras_or(self.extras.take(), spare);
-        set(&mut extras.summary, by.summary);
-        set(&mut extras.name, by.name);
+        let Spare { extras, blocks } = spare;
+        set(
+            &mut self.content,
+            Words::in_block(by.content, blocks.content),
+        );
+        let mut extras = extras_or(self.extras.take(), extras);
+        set(
+            &mut extras.summary,
+            Words::in_block(by.summary, blocks.summary),
+        );
+        set(&mut extras.name, Words::in_block(by.name, blocks.name));
         set(&mut extras.url, by.url);
         set(&mut extras.in_reply_to, by.in_reply_to);
-        set(&mut extras.tags, by.tags);
+        set(&mut extras.tags, TagList::in_block(by.tags, blocks.tags));
         set(&mut extras.updated, by.updated);
         self.extras = Some(extras);
     }
@@ -266,7 +318,7 @@ impl KeptObject {
         ensures emptied { whole self.new ≡ objects.emptied (whole self.old) }
         ensures named { named_in self.new ≡ named_in self.old }
     {
-        set(&mut self.content, None);
+        set(&mut self.content, Words::none());
         empty_extras(&mut self.extras);
     }
 
@@ -279,7 +331,9 @@ impl KeptObject {
     {
         self.empty();
         let former = mem::replace(&mut self.kind, kind);
-        let mut extras = extras_or(self.extras.take(), spare);
+        let Spare { extras, blocks } = spare;
+        drop(blocks);
+        let mut extras = extras_or(self.extras.take(), extras);
         set(&mut extras.former_kind, Some(former));
         set(&mut extras.deleted, Some(stamp));
         self.extras = Some(extras);

@@ -1,9 +1,11 @@
 //! What an activity has in addition to its object, in its stored form.
 
-ghost use Rattle.std.specs.Prelude.{◌≡◌, true, false, IfOk, [], option_copied};
+ghost use Rattle.std.specs.Prelude.{◌≡◌, true, false, IfOk, [], None, OnOk, Some};
+ghost use Rattle.std.specs.Prelude.{option_copied};
 ghost use Rattle.fedi_register.specs.Parts.{named_part, names_given, no_names, no_rare};
 ghost use Rattle.fedi_register.specs.Parts.{object_names};
-ghost use Rattle.fedi_register.specs.Parts.{rare_in, parts_in, rare_lent, rare_part, referred};
+ghost use Rattle.fedi_register.specs.Parts.{rare_in, parts_in, rare_kept, rare_lent, rare_part};
+ghost use Rattle.fedi_register.specs.Parts.{referred};
 ghost use Rattle.fedi_register.specs.Parts.{repeat_in, unboxed};
 
 use crate::about::About;
@@ -11,12 +13,13 @@ use crate::common::Lists;
 use crate::iris::{Iris, are_same};
 use crate::object::KeptObject;
 use crate::pool::Pool;
+use crate::words::{Said, TagList, Words, copy_iri, copy_text};
 use fedi_address::{Iri, Items};
-use fedi_objects::{ObjectRef, RepeatKey, Tag};
+use fedi_objects::{ObjectRef, RepeatKey, Tag, set};
 use fedi_text::Text;
 use std::alloc::{AllocError, Global};
 
-// The properties that few activities have.
+// The properties that few activities have, as they are given.
 #[derive(Drop)]
 pub(crate) struct Rare {
     pub(crate) target: Option<Iri>,
@@ -28,6 +31,18 @@ pub(crate) struct Rare {
     pub(crate) forwards: Items<Iri>,
 }
 
+// The properties that few activities have, in their stored form.
+#[derive(Drop)]
+pub(crate) struct KeptRare {
+    pub(crate) target: Option<Iri>,
+    pub(crate) in_reply_to: Option<Iri>,
+    pub(crate) content: Words,
+    pub(crate) summary: Words,
+    pub(crate) name: Words,
+    pub(crate) tags: TagList,
+    pub(crate) forwards: Iris,
+}
+
 // What an activity has of its own, if its object does not have the same.
 #[derive(Drop)]
 pub(crate) struct Parts {
@@ -35,7 +50,7 @@ pub(crate) struct Parts {
     pub(crate) cc: Iris,
     pub(crate) audience: Iris,
     pub(crate) published: Option<Text>,
-    pub(crate) rare: Option<Box<Rare>>,
+    pub(crate) rare: Option<Box<KeptRare>>,
 }
 
 /// The key by which a repeated post is recognized, and the digest of the posted body.
@@ -123,12 +138,85 @@ fn is_named_as_object(named: &Named, about: &About) -> bool
     }
 }
 
-fn rare_of(alloc: Global, rare: Rare) -> Result<Option<Box<Rare>>, AllocError>
+impl KeptRare {
+    // Empty properties. This allocates nothing.
+    fn none() -> KeptRare
+        ensures { rare_kept result ≡ no_rare }
+    {
+        KeptRare {
+            target: None,
+            in_reply_to: None,
+            content: Words::none(),
+            summary: Words::none(),
+            name: Words::none(),
+            tags: TagList::none(),
+            forwards: Iris::none(),
+        }
+    }
+
+    // Copies all properties but `forwards`.
+    fn fill_from(&mut self, other: &KeptRare) -> Result<(), AllocError>
+        ensures { OnOk result (rare_kept self.new
+            ≡ record (rare_kept other.now) { forwards = self.old.forwards }) }
+    {
+        copy_iri(&mut self.target, &other.target)?;
+        copy_iri(&mut self.in_reply_to, &other.in_reply_to)?;
+        set(&mut self.content, other.content.copy()?);
+        set(&mut self.summary, other.summary.copy()?);
+        set(&mut self.name, other.name.copy()?);
+        set(&mut self.tags, other.tags.copy()?);
+        Ok(())
+    }
+
+    // A copy without `forwards`, which shares the long texts and the mentions. The error is out of
+    // memory.
+    fn excerpt(&self) -> Result<KeptRare, AllocError>
+        ensures { IfOk result
+            (λ copy. rare_kept copy ≡ record (rare_kept self.now) { forwards = [] }) }
+    {
+        let mut copy = KeptRare::none();
+        copy.fill_from(self).and(Ok(copy))
+    }
+}
+
+fn excerpt_of_rare(
+    alloc: Global,
+    rare: &Option<Box<KeptRare>>,
+) -> Result<Option<Box<KeptRare>>, AllocError>
+    ensures { IfOk result (λ copy. rare_in copy ≡ record (rare_in rare.now) { forwards = [] }) }
+{
+    match rare {
+        Some(rare) => {
+            let copy = rare.excerpt()?;
+            Ok(Some(Box::new(alloc, copy)?))
+        }
+        None => Ok(None),
+    }
+}
+
+fn keep_rare(alloc: Global, rare: Rare) -> Result<KeptRare, AllocError>
+    ensures { IfOk result (λ kept. rare_kept kept ≡ rare) }
+{
+    let forwards = Iris::new(alloc, rare.forwards)?;
+    let said = Said::new(alloc, rare.content, rare.summary, rare.name, rare.tags)?;
+    Ok(KeptRare {
+        target: rare.target,
+        in_reply_to: rare.in_reply_to,
+        content: said.content,
+        summary: said.summary,
+        name: said.name,
+        tags: said.tags,
+        forwards,
+    })
+}
+
+fn rare_of(alloc: Global, rare: Rare) -> Result<Option<Box<KeptRare>>, AllocError>
     ensures { IfOk result (λ kept. rare_in kept ≡ rare) }
 {
     if has_nothing(&rare) {
         return Ok(None);
     }
+    let rare = keep_rare(alloc, rare)?;
     let rare = Box::new(alloc, rare)?;
     Ok(Some(rare))
 }
@@ -136,7 +224,7 @@ fn rare_of(alloc: Global, rare: Rare) -> Result<Option<Box<Rare>>, AllocError>
 fn parts_of(
     alloc: Global,
     named: Named,
-    rare: Option<Box<Rare>>,
+    rare: Option<Box<KeptRare>>,
 ) -> Result<Option<Box<Parts>>, AllocError>
     ensures named { IfOk result (λ kept. (about : _)
         → named_part (unboxed kept) about ≡ names_given named) }
@@ -227,8 +315,26 @@ impl Beside {
         }
     }
 
+    /// A copy for readers, without the key and without `forwards`, which shares the long texts and
+    /// the lists. The error is out of memory.
+    pub(crate) fn excerpt(&self, alloc: Global) -> Result<Beside, AllocError>
+        ensures named { IfOk result (λ copy. (about : _)
+            → named_part (parts_in copy) about ≡ named_part (parts_in self.now) about) }
+        ensures rare { IfOk result (λ copy. rare_part (parts_in copy)
+            ≡ record (rare_part (parts_in self.now)) { forwards = [] }) }
+        ensures repeat { IfOk result (λ copy. repeat_in copy ≡ None) }
+    {
+        match self.parts() {
+            Some(parts) => {
+                let copy = parts.excerpt(alloc)?;
+                Ok(Beside::Parts(Box::new(alloc, copy)?))
+            }
+            None => Ok(Beside::Nothing),
+        }
+    }
+
     /// The rare properties, if this activity has any.
-    pub(crate) fn rare(&self) -> Option<&Rare>
+    pub(crate) fn rare(&self) -> Option<&KeptRare>
         ensures { rare_lent (option_copied result) ≡ rare_part (parts_in self.now) }
     {
         match self.parts() {
@@ -265,6 +371,29 @@ impl Beside {
 }
 
 impl Parts {
+    // A copy without `forwards`, which shares the long texts and the lists. The error is out of
+    // memory.
+    fn excerpt(&self, alloc: Global) -> Result<Parts, AllocError>
+        ensures named { IfOk result (λ copy. (about : _)
+            → named_part (Some copy) about ≡ named_part (Some self.now) about) }
+        ensures rare { IfOk result (λ copy. rare_part (Some copy)
+            ≡ record (rare_part (Some self.now)) { forwards = [] }) }
+    {
+        let to = self.to.copy()?;
+        let cc = self.cc.copy()?;
+        let audience = self.audience.copy()?;
+        let mut published = None;
+        copy_text(&mut published, &self.published)?;
+        let rare = excerpt_of_rare(alloc, &self.rare)?;
+        Ok(Parts {
+            to,
+            cc,
+            audience,
+            published,
+            rare,
+        })
+    }
+
     fn share(&mut self, pool: &mut Pool)
         ensures { self.new ≡ self.old }
     {

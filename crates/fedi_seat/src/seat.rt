@@ -394,7 +394,8 @@ impl<S: Shelf + Drop, P: Calm> Seat<S, P> {
             self.old self.new) }
         ensures lacking { OnErr result (Stays P.Keeper self.old self.new) }
     {
-        let Decision { reply, entry } = self.core.decide(alloc, caller, ask, moment)?;
+        let Decision { draft, entry } = self.core.decide(alloc, caller, ask, moment)?;
+        let reply = draft.write(alloc)?;
         let kept = self.keep_made(alloc, entry)?;
         if kept {
             return Ok(reply);
@@ -423,7 +424,8 @@ impl<S: Shelf + Drop, P: Calm> Seat<S, P> {
             }
         };
         let ask = route(alloc, request, body, self.core.host(), routes, &caller)?;
-        let Decision { reply, entry } = self.core.decide(alloc, &caller, ask, moment)?;
+        let Decision { draft, entry } = self.core.decide(alloc, &caller, ask, moment)?;
+        let reply = draft.write(alloc)?;
         let served = write_reply(alloc, &reply, moment, head_only, closing)?;
         let kept = self.keep_made(alloc, entry)?;
         if kept {

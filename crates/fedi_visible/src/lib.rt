@@ -3,6 +3,8 @@
 //! to find what its readers see of its collections.
 #![tactic(auto)]
 
+mod drafts;
+mod excerpts;
 mod listing;
 mod pins;
 mod places;
@@ -12,11 +14,13 @@ mod seeing;
 mod shelf;
 mod showing;
 
+pub use drafts::{Draft, document_reply};
+pub use excerpts::{Excerpt, excerpt_of};
 pub use listing::{is_item, is_same_item};
 pub use pins::{is_directed, is_pin_kind};
 pub use places::{is_same_seen, is_seen_item};
 pub use plain_shelf::PlainShelf;
-pub use replies::{activity_reply, document_reply, object_reply, seen_maker};
+pub use replies::{draft_activity, draft_object, seen_maker};
 pub use seeing::sees;
 pub use shelf::{PAGE, Shelf, VisiblePage};
 pub use showing::shown_of;

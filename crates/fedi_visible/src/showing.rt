@@ -1,12 +1,14 @@
 //! What is shown of an activity.
 
-ghost use Rattle.std.specs.Prelude.{◌≡◌, Bool, Some, option_copied, option_map};
+ghost use Rattle.std.specs.Prelude.{◌≡◌, Bool, Option, Some, option_copied, option_map};
+ghost use Rattle.fedi_objects.specs.declared.object.Object.{Object};
 ghost use Rattle.fedi_objects.specs.Forms.{activity_form, object_in, shown_in};
 ghost use Rattle.fedi_town.specs.Addressing.{is_of_town};
 ghost use Rattle.fedi_town.specs.Objects.{object_of, maker_of, whole_of};
 ghost use Rattle.fedi_town.specs.Relations.{ref_id};
 ghost use Rattle.fedi_town.specs.Showing.{object_or_id, present_object, ref_to, shown_activity};
 ghost use Rattle.fedi_town.specs.Showing.{shown_object, shown_ref};
+ghost use Rattle.fedi_visible.specs.Excerpts.{shown_with};
 
 use fedi_address::Iri;
 use fedi_effects::{Facts, is_of_town};
@@ -25,10 +27,10 @@ fn changed_object<'a>(facts: &'a Facts, id: Option<&Iri>) -> Option<StrippedObje
     }
 }
 
-/// The object of an activity as it is now: what a Create made, and what an Update changed, if they
-/// were done.
+// The object of an activity as it is now: what a Create made, and what an Update changed, if they
+// were done.
 #[tactic(auto, unfolding(fedi_town::specs::Showing::present_object))]
-pub fn present_object<'a>(facts: &'a Facts, act: &'a Kept) -> Option<StrippedObject<'a>>
+fn present_object<'a>(facts: &'a Facts, act: &'a Kept) -> Option<StrippedObject<'a>>
     ensures { result ≡ option_map shown_object (present_object facts.now.town act.now) }
 {
     match (act.deed(), act.state()) {
@@ -47,29 +49,36 @@ fn id_or_nothing(id: Option<&Iri>) -> ShownObject<'_>
     }
 }
 
+/// An object if there is one, otherwise its address.
+pub(crate) fn object_or_id<'a>(
+    object: Option<StrippedObject<'a>>,
+    id: Option<&'a Iri>,
+) -> ShownObject<'a>
+    ensures { (o : Option Object) → object ≡ option_map shown_object o
+        → object_in result ≡ object_or_id o (option_copied id.entry) }
+{
+    match object {
+        Some(object) => ShownObject::Present(object),
+        None => id_or_nothing(id),
+    }
+}
+
 // What an activity is about: its object as it is now if there is one, otherwise its address.
 #[tactic(auto, unfolding(fedi_town::specs::Showing::shown_ref))]
 fn shown_object<'a>(facts: &'a Facts, act: &'a Kept) -> ShownObject<'a>
     ensures { object_in result ≡ shown_ref facts.now.town act.now }
 {
-    match present_object(facts, act) {
-        Some(object) => ShownObject::Present(object),
-        None => id_or_nothing(act.object_id()),
-    }
+    object_or_id(present_object(facts, act), act.object_id())
 }
 
-/// What those who may see an activity see of it: it is without `bto` and `bcc`, its actor is its
-/// author, and its object is shown as it is now, a Tombstone with four members alone (ActivityPub,
-/// section 6). An activity is local if its author is of this host.
-pub fn shown_of<'a>(facts: &'a Facts, act: &'a Kept) -> Shown<'a>
-    ensures shown { shown_in result
-        ≡ record (shown_activity facts.now.town act.now) { actor = Some act.now.author } }
-    ensures local { result.local ≡ is_of_town facts.now.town.host act.now.author }
+/// What is shown of an activity with this object: it is without `bto` and `bcc`, and its actor is
+/// its author (ActivityPub, section 6).
+pub(crate) fn show<'a>(act: &'a Kept, object: ShownObject<'a>, local: bool) -> Shown<'a>
+    ensures shown { shown_in result ≡ shown_with act.now (object_in object.entry) }
+    ensures author { result.author.now ≡ act.now.author }
     ensures state { result.state ≡ act.now.state }
     ensures public { result.public ≡ act.now.is_public }
-    ensures form { (local context : Bool)
-        → activity_form local context result.author.now (shown_in result)
-        ≡ activity_form local context act.now.author (shown_activity facts.now.town act.now) }
+    ensures local { result.local ≡ local }
 {
     Shown {
         id: act.id(),
@@ -87,7 +96,24 @@ pub fn shown_of<'a>(facts: &'a Facts, act: &'a Kept) -> Shown<'a>
         tags: act.tags(),
         state: act.state(),
         public: act.is_public(),
-        local: is_of_town(facts, act.author()),
-        object: shown_object(facts, act),
+        local,
+        object,
     }
+}
+
+/// What those who may see an activity see of it: it is without `bto` and `bcc`, its actor is its
+/// author, and its object is shown as it is now, a Tombstone with four members alone (ActivityPub,
+/// section 6). An activity is local if its author is of this host.
+pub fn shown_of<'a>(facts: &'a Facts, act: &'a Kept) -> Shown<'a>
+    ensures shown { shown_in result
+        ≡ record (shown_activity facts.now.town act.now) { actor = Some act.now.author } }
+    ensures local { result.local ≡ is_of_town facts.now.town.host act.now.author }
+    ensures state { result.state ≡ act.now.state }
+    ensures public { result.public ≡ act.now.is_public }
+    ensures form { (local context : Bool)
+        → activity_form local context result.author.now (shown_in result)
+        ≡ activity_form local context act.now.author (shown_activity facts.now.town act.now) }
+{
+    let local = is_of_town(facts, act.author());
+    show(act, shown_object(facts, act), local)
 }

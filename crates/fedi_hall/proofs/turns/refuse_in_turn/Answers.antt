@@ -11,7 +11,7 @@ give-requires-clause-grows g c = grows_none _ _ _ c.take-held.ensures.value
 pub returns-clause-text : goal.returns-clause-text
 returns-clause-text g c =
     let n = number_of c.args.pass.now in
-    turn_tells (base_of g.P.Keeper.growth g.P.Keeper.room g.O.Opened.state) n n _ _
+    turn_tells (λ text. text.items) (base_of g.P.Keeper.growth g.P.Keeper.room g.O.Opened.state) n n _ _
     c.take-held.result.value.log c.take-held.result.value.log _
     c.args.moment c.args.request.now c.args.body.now c.args.closing c.refuse-text.result refl
     c.take-held.ensures.value c.give.ensures.seen c.take-held.ensures.list

@@ -1,3 +1,4 @@
+use Rattle.fedi_register.specs.Changes.{end_both}
 use Rattle.fedi_register.proofs.applying.apply_effect.Goals as goal
 
 pub update-requires-clause-once : goal.update-requires-clause-once
@@ -5,3 +6,10 @@ update-requires-clause-once c = c.requires.once c.in-Update.object
 
 pub make_tombstone-requires-clause-once : goal.make_tombstone-requires-clause-once
 make_tombstone-requires-clause-once c = c.requires.once c.in-Delete.object
+
+pub returns-in-EndFollows : goal.returns-in-EndFollows
+returns-in-EndFollows c = rw (c.in-EndFollows.is) c.end_follows.ensures.acts
+
+pub returns-in-EndBoth : goal.returns-in-EndBoth
+unfolding end_both
+returns-in-EndBoth c = rw (c.in-EndBoth.is) c.end_both.ensures

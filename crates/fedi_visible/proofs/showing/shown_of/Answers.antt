@@ -1,12 +1,17 @@
-use Rattle.fedi_visible.proofs.ShownForms.{shown_form, shown_whole}
+use Rattle.std.proofs.Common.{ap, ◌∙◌}
+use Rattle.fedi_objects.specs.declared.activity.ObjectRef.{ObjectRef}
+use Rattle.fedi_town.specs.Showing.{shown_activity}
+use Rattle.fedi_visible.proofs.ShownForms.{shown_form}
+use Rattle.fedi_visible.specs.Excerpts.{shown_with}
 use Rattle.fedi_visible.proofs.showing.shown_of.Goals as goal
 
 pub returns-clause-shown : goal.returns-clause-shown
-returns-clause-shown c =
-    shown_whole c.args.facts.now.town c.args.act.now (record { id = c.id.result; author = c.author.result; kind = c.kind.result; target = c.target.result; to = c.to.result; cc = c.cc.result; audience = c.audience.result; in_reply_to = c.in_reply_to.result; content = c.content.result; summary = c.summary.result; name = c.name.result; published = c.published.result; tags = c.tags.result; state = c.state.result; public = c.is_public.result; local = c.is_of_town.result; object = c.shown_object.result })
-    (record { id = c.id.ensures; author = c.author.ensures; kind = c.kind.ensures; target = c.target.ensures; to = c.to.ensures; cc = c.cc.ensures; audience = c.audience.ensures; in_reply_to = c.in_reply_to.ensures; content = c.content.ensures; summary = c.summary.ensures; name = c.name.ensures; published = c.published.ensures; tags = c.tags.ensures; object = c.shown_object.ensures })
+unfolding shown_activity
+returns-clause-shown c = c.show.ensures.shown ∙ ap (λ (o : ObjectRef). shown_with c.args.act.now o) c.shown_object.ensures
 
 pub returns-clause-form : goal.returns-clause-form
+unfolding shown_activity
 returns-clause-form c =
-    shown_form c.args.facts.now.town c.args.act.now (record { id = c.id.result; author = c.author.result; kind = c.kind.result; target = c.target.result; to = c.to.result; cc = c.cc.result; audience = c.audience.result; in_reply_to = c.in_reply_to.result; content = c.content.result; summary = c.summary.result; name = c.name.result; published = c.published.result; tags = c.tags.result; state = c.state.result; public = c.is_public.result; local = c.is_of_town.result; object = c.shown_object.result })
-    (record { id = c.id.ensures; author = c.author.ensures; kind = c.kind.ensures; target = c.target.ensures; to = c.to.ensures; cc = c.cc.ensures; audience = c.audience.ensures; in_reply_to = c.in_reply_to.ensures; content = c.content.ensures; summary = c.summary.ensures; name = c.name.ensures; published = c.published.ensures; tags = c.tags.ensures; object = c.shown_object.ensures })
+    shown_form c.args.facts.now.town c.args.act.now c.show.result
+    (c.show.ensures.shown ∙ ap (λ (o : ObjectRef). shown_with c.args.act.now o) c.shown_object.ensures)
+    c.show.ensures.author

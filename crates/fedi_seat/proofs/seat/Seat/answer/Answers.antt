@@ -40,7 +40,7 @@ decide-requires g c = record {
 pub keep_made-requires-clause-untried : goal.keep_made-requires-clause-untried
 keep_made-requires-clause-untried g c =
     untried_made (town c.self.inside.core.history) c.in-Ok.caller c.in_ok-ask.ask c.args.moment
-    c.in_ok-reply.field-0.entry c.in_ok-reply.ensures.entry
+    c.in_ok-draft.field-0.entry c.in_ok-draft.ensures.entry
 
 pub returns-then-kept-clause-served : goal.returns-then-kept-clause-served
 returns-then-kept-clause-served g c =
@@ -49,8 +49,8 @@ returns-then-kept-clause-served g c =
     let t = town now.core.history in
     let q = c.args.request.now in
     let shown = shown_by c.credentials.result in
-    let r = c.in_ok-reply.field-0.reply in
-    let made = c.in_ok-reply.field-0.entry in
+    let r = c.in_ok-reply.reply in
+    let made = c.in_ok-draft.field-0.entry in
     let ask = c.in_ok-ask.ask in
     let by = c.in-Ok.caller in
     let caller : caller_of t q c.args.body.now ≡ Ok by =
@@ -60,8 +60,8 @@ returns-then-kept-clause-served g c =
     replied g.P.Keeper c.args.moment q c.args.body.now c.in_ok-served.served r r made now after
     (asked t c.args.moment q c.args.body.now by ask (option_copied c.host.result) r made caller
     (c.host.ensures ∙ ap (λ m. (town m.core.history).host) c.self.view_is) c.in_ok-ask.ensures.asks
-    (c.in_ok-reply.ensures.reply ∙ ap (λ m. reply (town m.core.history) by ask) c.self.view_is)
-    (c.in_ok-reply.ensures.entry ∙ ap (λ m. entry_of (town m.core.history) by ask c.args.moment) c.self.view_is))
+    (c.in_ok-reply.ensures.reply ∙ c.in_ok-draft.ensures.reply ∙ ap (λ m. reply (town m.core.history) by ask) c.self.view_is)
+    (c.in_ok-draft.ensures.entry ∙ ap (λ m. entry_of (town m.core.history) by ask c.args.moment) c.self.view_is))
     (given_kept g.P.Keeper r r made made now after refl refl
     (subst (λ b. Became g.P.Keeper b made now after) c.if-kept.true
     c.in_ok-kept.ensures.kept))
@@ -76,8 +76,8 @@ returns-clause-served g c =
     let t = town now.core.history in
     let q = c.args.request.now in
     let shown = shown_by c.credentials.result in
-    let r = c.in_ok-reply.field-0.reply in
-    let made = c.in_ok-reply.field-0.entry in
+    let r = c.in_ok-reply.reply in
+    let made = c.in_ok-draft.field-0.entry in
     let ask = c.in_ok-ask.ask in
     let by = c.in-Ok.caller in
     let caller : caller_of t q c.args.body.now ≡ Ok by =
@@ -88,8 +88,8 @@ returns-clause-served g c =
     c.write_reply-3.result now after
     (asked t c.args.moment q c.args.body.now by ask (option_copied c.host.result) r made caller
     (c.host.ensures ∙ ap (λ m. (town m.core.history).host) c.self.view_is) c.in_ok-ask.ensures.asks
-    (c.in_ok-reply.ensures.reply ∙ ap (λ m. reply (town m.core.history) by ask) c.self.view_is)
-    (c.in_ok-reply.ensures.entry ∙ ap (λ m. entry_of (town m.core.history) by ask c.args.moment) c.self.view_is))
+    (c.in_ok-reply.ensures.reply ∙ c.in_ok-draft.ensures.reply ∙ ap (λ m. reply (town m.core.history) by ask) c.self.view_is)
+    (c.in_ok-draft.ensures.entry ∙ ap (λ m. entry_of (town m.core.history) by ask c.args.moment) c.self.view_is))
     (given_full g.P.Keeper r c.refusal_reply-full.result made made now after c.refusal_reply-full.ensures refl
     (subst (λ b. Became g.P.Keeper b made now after) c.if-kept.false
     c.in_ok-kept.ensures.kept))
@@ -98,7 +98,7 @@ returns-clause-served g c =
 pub returns-clause-lacking : goal.returns-clause-lacking
 returns-clause-lacking g c =
     let after = c.keep_made.new.self in
-    let made = c.in_ok-reply.field-0.entry in
+    let made = c.in_ok-draft.field-0.entry in
     lacks_full g.P.Keeper made c.args.self.now after c.write_reply-3.result
     (subst (λ b. Became g.P.Keeper b made c.args.self.now after) c.if-kept.false
     c.in_ok-kept.ensures.kept)

@@ -4,7 +4,7 @@ use Rattle.fedi_objects.proofs.Additions.{document}
 use Rattle.fedi_model.specs.declared.reply.Form.TheVariants as forms
 use Rattle.fedi_model.specs.Replies.{showing}
 use Rattle.fedi_visible.proofs.ShownForms.{object_shown}
-use Rattle.fedi_visible.proofs.replies.object_document.Goals as goal
+use Rattle.fedi_visible.proofs.drafts.object_document.Goals as goal
 
 pub returns : goal.returns
 returns c =

@@ -1,0 +1,22 @@
+use Rattle.std.proofs.Common.{OnOk, ap, map, subst}
+use Rattle.std.proofs.lemmas.Result.{on_ok_weaker}
+use Rattle.serde_json.specs.Data.{array}
+use Rattle.serde_json.specs.View.{items_of}
+use Rattle.fedi_collections.proofs.Adding.{added_as}
+use Rattle.fedi_collections.proofs.DocumentParts.{page_parts}
+use Rattle.fedi_collections.specs.Items.{item_data}
+use Rattle.fedi_collections.specs.Members.{page_end}
+use Rattle.fedi_objects.proofs.Additions.{then}
+use Rattle.fedi_objects.specs.Writing.{Adds, IsWritten}
+use Rattle.fedi_collections.proofs.pages.PageDraft.write_in.Goals as goal
+
+pub returns : goal.returns
+returns c =
+    let p = c.self.inside in
+    subst (λ d. OnOk c.end_page.result (IsWritten d c.args.out.now c.end_page.new.out)) c.self.view_is
+    (on_ok_weaker c.end_page.result
+    (λ ended. subst (λ ts. Adds ts c.args.out.now c.end_page.new.out) (page_parts p.address p.number p.total (map item_data p.items.items))
+    (then c.in_ok-begin_page.ensures.written
+    (then (subst (λ xs. IsWritten (array (items_of (map item_data xs))) c.begin_page.new.out c.write_items.new.out) c.as_slice.ensures.value c.in_ok-write_items.ensures)
+    (added_as (λ i. page_end i p.number p.total) _ p.address c.in_ok-begin_page.ensures.same ended))))
+    c.end_page.ensures)
