@@ -9,7 +9,7 @@ use fedi_model::{Form, Reply};
 use http::StatusCode;
 use std::alloc::{AllocError, Global};
 
-/// A reply to a reader of a collection. It depends on the facts no more.
+/// A reply to a reader of a collection. It no longer depends on the facts.
 #[derive(Drop)]
 pub enum CollectionDraft {
     /// A reply that needs no more writing: a refusal, or a collection without its items.

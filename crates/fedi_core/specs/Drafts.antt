@@ -12,7 +12,7 @@ reply_in (Ready r) = r
 reply_in (Document d) = documents.reply_in d
 reply_in (Collection d) = collections.reply_in d
 
--- nothing is left to be written, or only what takes no memory
+-- nothing is left to be written
 abbrev pub is_ready : Draft → Bool
 is_ready (Ready r) = true
 is_ready (Document d) = false

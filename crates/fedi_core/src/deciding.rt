@@ -173,7 +173,7 @@ fn decide_delivery(
 }
 
 /// Decides on an ask by the history on a shelf. The only error is out of memory. A refusal takes no
-/// memory, unless an id is made to look something up, and is ready.
+/// memory, unless an id is made to look something up, and leaves nothing to be written.
 #[tactic(auto, using(crate::proofs::Drafting::ready_more))]
 pub fn decide<S: Shelf>(
     alloc: Global,

@@ -7,11 +7,11 @@ use fedi_collections::CollectionDraft;
 use fedi_model::Reply;
 use std::alloc::{AllocError, Global};
 
-/// A reply that is decided on. It shares what it shows with the history, and depends on the history
-/// no more: it can be written at any time, and is the same whatever was kept since.
+/// A reply that is decided on. It shares what it shows with the history, but no longer depends on
+/// it: it can be written at any time, and is the same whatever was kept since.
 #[derive(Drop)]
 pub enum Draft {
-    /// A reply that needs no more writing: a refusal, or one whose size has a limit.
+    /// A reply that needs no more writing: a refusal, or one that shows no text of a member.
     Ready(Reply),
     /// The document of an activity or of an object.
     Document(fedi_visible::Draft),

@@ -196,8 +196,8 @@ impl<S: Shelf + Drop, P: Keeper> Core<S, P> {
     /// 4.2). The result is the reply, whose document can be written later, and, for a post or a
     /// delivery that is accepted and new, the entry that `keep` has to keep before the reply is
     /// sent. Nothing changes. The error is out of memory, which occurs only if the answer takes
-    /// memory: a refusal takes none, unless an id is made to look something up. Nor does writing
-    /// the reply take memory then.
+    /// memory: a refusal takes none, unless an id is made to look something up, and writing it
+    /// takes none either.
     pub fn decide(
         &self,
         alloc: Global,

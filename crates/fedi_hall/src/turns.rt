@@ -41,8 +41,9 @@ fn span_of(ask: &Ask) -> Span {
 }
 
 /// Answers a request of this caller that has this body and asks this, in one turn of the pass: it
-/// determines what becomes of a post or a delivery, and keeps it. A reply to a request that kept
-/// nothing is written after the turn, and is that of the log of the turn. Returns the text of the
+/// determines what becomes of a post or a delivery, and keeps it. Only the replies to a request that
+/// makes an entry are written in the turn, that of success and that of a failed keeper. Any other is
+/// written after it, and is that of the log of the turn. Returns the text of the
 /// reply, which has no body if the method is HEAD and says that the connection closes if `closing`.
 /// The error is out of memory, and then nothing was kept, and the keeper did not fail.
 pub fn answer_in_turn<R: Wait, S: Shelf + Drop, P: Keeper + Drop, O: Opened>(

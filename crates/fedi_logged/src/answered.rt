@@ -7,19 +7,19 @@ use fedi_http::reply_bytes;
 use fedi_text::Moment;
 use std::alloc::{AllocError, Global};
 
-/// What a turn answers to a request. It depends on the machine no more.
+/// What a turn answers to a request. It no longer depends on the machine.
 #[derive(Drop)]
 pub enum Answered {
     /// The text of the reply to a post or a delivery that was kept, or that the keeper failed to
     /// keep.
     Text(Vec<u8>),
-    /// The reply to a request that kept nothing.
+    /// Any other reply. Nothing was kept.
     Draft(Draft),
 }
 
 impl Answered {
     /// The text of the reply, which has no body if `head_only` and says that the connection closes
-    /// if `closing`. The moment and both are those of the turn. The error is out of memory, which
+    /// if `closing`. All three are those of the turn. The error is out of memory, which
     /// occurs only if nothing was kept.
     pub fn write(
         self,

@@ -152,7 +152,7 @@ impl<S: Shelf + Drop, P: Keeper, O: Opened> Logged<S, P, O> {
         ensures text { IfOk result (λ answered. Tells (base_of P.growth P.room O.state) by
             self.old.log self.new.log moment request.now body.now closing
             (text_in moment request.now.head_only closing answered)) }
-        // What is left to be written kept nothing.
+        // If the reply is left to be written, nothing was kept.
         ensures draft { IfOk result (λ answered. IsTrue (is_draft answered)
             → self.new.log ≡ self.old.log) }
         ensures lacking { OnErr result (self.new.log ≡ self.old.log) }

@@ -20,7 +20,7 @@ use http::StatusCode;
 use json::Writer;
 use std::alloc::{AllocError, Global};
 
-/// A reply whose document is not written yet. It depends on the facts no more.
+/// A reply whose document is not written yet. It no longer depends on the facts.
 #[derive(Drop)]
 pub enum Draft {
     /// A reply that needs no more writing, as a refusal.

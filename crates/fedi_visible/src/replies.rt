@@ -1,4 +1,4 @@
-//! The replies to reads. Out of memory is the only error.
+//! The replies to reads, before they are written. Out of memory is the only error.
 
 ghost use Rattle.std.specs.Prelude.{◌≡◌, IfOk, option_copied};
 ghost use Rattle.fedi_model.specs.Asks.{id_at};
