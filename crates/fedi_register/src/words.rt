@@ -1,5 +1,5 @@
 //! What members write, in its stored form: texts and mentions that may be long, and that are copied
-//! in constant time.
+//! in a limited time.
 
 ghost use Rattle.std.specs.Prelude.{◌≡◌, [], IfErr, IfOk, None, OnOk, Some, option_copied, true};
 ghost use Rattle.fedi_town.specs.Objects as objects;
@@ -14,8 +14,8 @@ use std::alloc::{AllocError, Global};
 use std::marker::Model;
 use std::sync::Arc;
 
-// The longest text that is stored in place, in bytes. A copy of it takes about as long as a share
-// of a longer one, and a shared text takes 40 bytes more.
+// The longest text that is stored in place, in bytes. A copy of it takes about as long as sharing
+// a longer one, and a shared text takes 40 bytes more.
 const LONGEST_OWN: usize = 256;
 
 // The storage of a text that may be absent. The three cases take no more than an optional text.
