@@ -20,12 +20,22 @@ use std::marker::Model;
 /// A copy of what everybody who sees an activity is shown of it, with its object in the state that
 /// it had then. It shares long texts and lists with the facts, so that its time and its memory have
 /// a limit whatever the activity says.
-#[derive(Drop)]
 pub struct Excerpt {
     act: Kept,
     // The activity that made the object, if this is an Update.
     maker: Option<Kept>,
     local: bool,
+}
+
+// Written out, so that a caller does not prove again how each part is dropped.
+impl Drop for Excerpt {
+    fn drop(self) {
+        let Excerpt {
+            act: _,
+            maker: _,
+            local: _,
+        } = self;
+    }
 }
 
 impl Model for Excerpt {

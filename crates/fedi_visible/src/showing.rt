@@ -54,7 +54,7 @@ pub(crate) fn object_or_id<'a>(
     object: Option<StrippedObject<'a>>,
     id: Option<&'a Iri>,
 ) -> ShownObject<'a>
-    ensures { (o : Option Object) → object ≡ option_map shown_object o
+    ensures { (o : Option Object) → object.entry ≡ option_map shown_object o
         → object_in result ≡ object_or_id o (option_copied id.entry) }
 {
     match object {
