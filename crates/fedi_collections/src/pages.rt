@@ -1,9 +1,10 @@
 //! The documents of collections and of their pages. Out of memory is the only error.
 
 ghost use Rattle.std.specs.Prelude.{◌≡◌, ◌+◌, ◌≤◌, IfOk, List, OnErr, OnOk, Some, map, reverse};
-ghost use Rattle.std.specs.Prelude.{slice_get};
+ghost use Rattle.std.specs.Prelude.{option_map, slice_get};
 ghost use Rattle.serde_json.specs.Written.{compact_text};
 ghost use Rattle.fedi_model.specs.Documents.{collection_id, item_form, page_form, summary_form};
+ghost use Rattle.fedi_collections.specs.Drafts.{page_data};
 ghost use Rattle.fedi_collections.specs.Pages.{page_or_none, summary_of, total_of};
 ghost use Rattle.fedi_objects.specs.Writing.{IsWritten};
 ghost use Rattle.fedi_town.specs.Collections.{highest, owner_of};
@@ -18,7 +19,6 @@ use fedi_town::{Caller, Which};
 use fedi_visible::{PAGE, Shelf, VisiblePage};
 use json::Writer;
 use std::alloc::{AllocError, Global};
-use std::marker::Model;
 use std::sync::ledger::Ledger;
 
 // The room for what is written besides the items, and for an item, in bytes. It grows if it is too
@@ -63,8 +63,7 @@ pub fn summary<S: Shelf, L: Ledger>(
 
 // ---- pages
 
-/// A page of a collection. Contracts see the document that it becomes. It depends on the facts no
-/// more.
+/// A page of a collection. It no longer depends on the facts.
 #[derive(Drop)]
 pub struct PageDraft {
     address: Address,
@@ -73,17 +72,6 @@ pub struct PageDraft {
     total: u64,
     // The newest first.
     items: Vec<ItemDraft>,
-}
-
-impl Model for PageDraft {
-    ghost use Rattle.std.specs.Prelude.{map};
-    ghost use Rattle.serde_json.specs.Data.{Data};
-    ghost use Rattle.fedi_model.specs.Documents.{page_form};
-    ghost use Rattle.fedi_collections.specs.Items.{item_data};
-
-    ghost Value = { Data };
-
-    ghost view = { λ p. page_form p.address p.number p.total (map item_data p.items.items) };
 }
 
 impl PageDraft {
@@ -99,7 +87,7 @@ impl PageDraft {
     }
 
     fn write_in(&mut self, out: &mut Writer) -> Result<(), AllocError>
-        ensures { OnOk result (IsWritten self.old out.old out.new) }
+        ensures { OnOk result (IsWritten (page_data self.old) out.old out.new) }
     {
         begin_page(out, &mut self.address, self.number)?;
         write_items(out, self.items.as_slice())?;
@@ -108,7 +96,7 @@ impl PageDraft {
 
     /// The JSON of the page. The error is out of memory.
     pub fn write(self, alloc: Global) -> Result<Vec<u8>, AllocError>
-        ensures { IfOk result (λ text. text.items ≡ compact_text self) }
+        ensures { IfOk result (λ text. text.items ≡ compact_text (page_data self)) }
     {
         let mut page = self;
         let mut out = Writer::new(Vec::with_capacity(alloc, page.room())?);
@@ -129,7 +117,7 @@ fn draft_found<L: Ledger>(
 ) -> Result<PageDraft, AllocError>
     ensures page { IfOk result (λ draft. (xs : List Act)
         → map (slice_get facts.now.town.acts) page.now.places.items ≡ map Some xs
-        → draft ≡ page_form (collection_id which.now owner.now) number page.now.total
+        → page_data draft ≡ page_form (collection_id which.now owner.now) number page.now.total
         (map (item_form facts.now.town which.now) (reverse xs))) }
     ensures cost { steps.new ≤ steps.old + 20 }
 {
@@ -158,7 +146,7 @@ pub fn draft_page<S: Shelf, L: Ledger>(
     steps: &mut Steps<L>,
 ) -> Result<Option<PageDraft>, AllocError>
     requires owner { owner_of (S.holding shelf.now).town which.now ≡ Some owner.now }
-    ensures page { IfOk result (λ page. page
+    ensures page { IfOk result (λ page. option_map page_data page
         ≡ page_or_none (S.holding shelf.now).town caller.now which.now owner.now number) }
     ensures memory { OnErr result (number
         ≤ highest (total_of (S.holding shelf.now).town caller.now which.now owner.now)) }

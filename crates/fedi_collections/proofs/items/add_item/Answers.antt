@@ -1,16 +1,14 @@
 use Rattle.std.proofs.Common.{◌≤◌, map, subst}
-use Rattle.std.proofs.lemmas.Result.{on_ok_weaker}
 use Rattle.fedi_model.specs.Documents.{item_form}
 use Rattle.fedi_collections.specs.Items.{item_data}
 use Rattle.fedi_collections.proofs.ItemTokens.{form_added, no_form_past}
 use Rattle.fedi_collections.proofs.items.add_item.Goals as goal
 
-pub returns-in_ok-item-clause-added : goal.returns-in_ok-item-clause-added
-returns-in_ok-item-clause-added g c =
+pub returns-in_ok-push-clause-added : goal.returns-in_ok-push-clause-added
+returns-in_ok-push-clause-added g c =
     let t = c.args.facts.now.town in
-    on_ok_weaker c.push.result
-    (form_added (item_form t c.args.which.now) item_data t.acts c.args.place c.shown.result.now c.args.items.now.items c.push.new.self.items c.in_ok-item.item
-    c.shown.ensures.act c.in_ok-item.ensures) c.push.ensures.items
+    form_added (item_form t c.args.which.now) item_data t.acts c.args.place c.shown.result.now c.args.items.now.items c.push.new.self.items c.in_ok-item.item
+    c.shown.ensures.act c.in_ok-item.ensures c.in_ok-push.ensures.items
 
 pub returns-else-place-activities-clause-added : goal.returns-else-place-activities-clause-added
 returns-else-place-activities-clause-added g c =

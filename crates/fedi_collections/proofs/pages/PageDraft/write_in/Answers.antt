@@ -12,11 +12,10 @@ use Rattle.fedi_collections.proofs.pages.PageDraft.write_in.Goals as goal
 
 pub returns : goal.returns
 returns c =
-    let p = c.self.inside in
-    subst (λ d. OnOk c.end_page.result (IsWritten d c.args.out.now c.end_page.new.out)) c.self.view_is
-    (on_ok_weaker c.end_page.result
+    let p = c.args.self.now in
+    on_ok_weaker c.end_page.result
     (λ ended. subst (λ ts. Adds ts c.args.out.now c.end_page.new.out) (page_parts p.address p.number p.total (map item_data p.items.items))
     (then c.in_ok-begin_page.ensures.written
     (then (subst (λ xs. IsWritten (array (items_of (map item_data xs))) c.begin_page.new.out c.write_items.new.out) c.as_slice.ensures.value c.in_ok-write_items.ensures)
     (added_as (λ i. page_end i p.number p.total) _ p.address c.in_ok-begin_page.ensures.same ended))))
-    c.end_page.ensures)
+    c.end_page.ensures
