@@ -10,7 +10,6 @@ use std::alloc::Global;
 /// The table of activities in a file. The first call opens the file, or makes it, and it is locked
 /// until `finish`. If it cannot be opened, that call and each later one fails, and is counted. Only
 /// if memory was short, the next call tries again. It reports nothing of its rows.
-#[derive(Drop)]
 pub struct FileSelection<'a> {
     rt: &'a HostRuntime,
     path: &'a str,
@@ -18,6 +17,18 @@ pub struct FileSelection<'a> {
     selection: Option<TableSelection<FileStore<File>>>,
     // How many calls failed because it is not.
     faults: u64,
+}
+
+// Written out, so that a caller does not prove again how each part is dropped.
+impl Drop for FileSelection<'_> {
+    fn drop(self) {
+        let FileSelection {
+            rt: _,
+            path: _,
+            selection: _,
+            faults: _,
+        } = self;
+    }
 }
 
 impl<'a> FileSelection<'a> {

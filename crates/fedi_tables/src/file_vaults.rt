@@ -11,7 +11,6 @@ use std::alloc::Global;
 /// The table of records in a file. The first call opens the file, or makes it, and it is locked
 /// until `finish`. If it cannot be opened, that call and each later one fails, and is counted. Only
 /// if memory was short, the next call tries again. It reports nothing of its records.
-#[derive(Drop)]
 pub struct FileVault<'a> {
     rt: &'a HostRuntime,
     path: &'a str,
@@ -20,6 +19,19 @@ pub struct FileVault<'a> {
     log: Option<Log>,
     // How many calls failed because it is not.
     faults: u64,
+}
+
+// Written out, so that a caller does not prove again how each part is dropped.
+impl Drop for FileVault<'_> {
+    fn drop(self) {
+        let FileVault {
+            rt: _,
+            path: _,
+            vault: _,
+            log: _,
+            faults: _,
+        } = self;
+    }
 }
 
 impl<'a> FileVault<'a> {
