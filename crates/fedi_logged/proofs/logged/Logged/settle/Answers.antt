@@ -50,7 +50,7 @@ returns-in_default-clause-text g c =
     (sym same ∙ sym (append-nil _)) refl
 
 pub returns-in_default-clause-draft : goal.returns-in_default-clause-draft
-returns-in_default-clause-draft g c = λ left. ap (λ m. m.log) c.self.view_is
+returns-in_default-clause-draft g c = λ left. refl
 
 pub invariant_of-self : goal.invariant_of-self
 invariant_of-self g c =
