@@ -8,16 +8,20 @@ use Rattle.fedi_model.specs.declared.reply.Reply.{Reply}
 use Rattle.fedi_collections.specs.declared.drafts.CollectionDraft.{CollectionDraft}
 use Rattle.fedi_collections.specs.declared.drafts.CollectionDraft.TheVariants.{Ready, Page}
 use Rattle.fedi_collections.specs.declared.pages.PageDraft.{PageDraft}
-use Rattle.fedi_collections.specs.Items.{item_data}
+use Rattle.fedi_collections.specs.Items.{excerpt_form}
 
 -- the document that a page becomes (ActivityStreams 2.0 Core, section 5.2)
 abbrev pub page_data : PageDraft → Data
-page_data p = page_form p.address p.number p.total (map item_data p.items.items)
+page_data p = page_form p.address p.number p.total (map excerpt_form p.excerpts.items)
+
+-- the reply that shows this page
+abbrev pub page_reply : Data → Reply
+page_reply page = reply_of (Document page)
 
 -- the reply that a draft becomes
 abbrev pub reply_in : CollectionDraft → Reply
 reply_in (Ready r) = r
-reply_in (Page d) = reply_of (Document (page_data d))
+reply_in (Page d) = page_reply (page_data d)
 
 -- nothing is left to be written
 abbrev pub is_ready : CollectionDraft → Bool

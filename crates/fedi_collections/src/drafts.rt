@@ -12,9 +12,10 @@ use std::alloc::{AllocError, Global};
 /// A reply to a reader of a collection. It no longer depends on the facts.
 #[derive(Drop)]
 pub enum CollectionDraft {
-    /// A reply that needs no more writing: a refusal, or a collection without its items.
+    /// A reply that needs no more writing: a refusal, a collection without its items, or a page
+    /// whose items are brief.
     Ready(Reply),
-    /// A page.
+    /// A page that has activities of any length.
     Page(PageDraft),
 }
 

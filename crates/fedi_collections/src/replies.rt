@@ -110,7 +110,7 @@ fn object_owner(
 
 // The reply to a reader of this part of the owner's collection. The reads of activities are counted
 // here, and the bounds are those of `summary` and `draft_page`.
-#[tactic(auto, using(crate::proofs::Found::page_answered), unfolding(fedi_model::specs::Reading::items_answer))]
+#[tactic(auto, using(crate::proofs::Found::page_answered, crate::proofs::Found::page_shown), unfolding(fedi_model::specs::Reading::items_answer))]
 fn draft_part<S: Shelf, L: Ledger>(
     alloc: Global,
     shelf: &S,
@@ -141,7 +141,7 @@ fn draft_part<S: Shelf, L: Ledger>(
         }
         PageAsk::Page(number) => {
             match draft_page(alloc, shelf, caller, which, owner, *number, &mut steps)? {
-                Some(page) => Ok(CollectionDraft::Page(page)),
+                Some(page) => Ok(page),
                 None => Ok(CollectionDraft::Ready(refusal_reply(Refusal::NotFound))),
             }
         }

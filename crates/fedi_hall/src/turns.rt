@@ -41,11 +41,12 @@ fn span_of(ask: &Ask) -> Span {
 }
 
 /// Answers a request of this caller that has this body and asks this, in one turn of the pass: it
-/// determines what becomes of a post or a delivery, and keeps it. Only the replies to a request that
-/// makes an entry are written in the turn, that of success and that of a failed keeper. Any other is
-/// written after it, and is that of the log of the turn. Returns the text of the
-/// reply, which has no body if the method is HEAD and says that the connection closes if `closing`.
-/// The error is out of memory, and then nothing was kept, and the keeper did not fail.
+/// determines what becomes of a post or a delivery, and keeps it. What is written in the turn has a
+/// limit: the replies to a request that makes an entry, that of success and that of a failed keeper,
+/// and documents that are brief. Any other document is written after it, and is that of the log of
+/// the turn. Returns the text of the reply, which has no body if the method is HEAD and says that the
+/// connection closes if `closing`. The error is out of memory, and then nothing was kept, and the
+/// keeper did not fail.
 pub fn answer_in_turn<R: Wait, S: Shelf + Drop, P: Keeper + Drop, O: Opened>(
     rt: &R,
     alloc: Global,

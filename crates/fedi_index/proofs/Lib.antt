@@ -8,6 +8,7 @@ mod NextEntry
 mod Owners
 mod Positions
 mod Pushed
+mod Readers
 mod Rooms
 mod SameKind
 pub mod Sent

@@ -6,6 +6,7 @@ mod collection;
 mod growing;
 mod lists;
 mod pages;
+mod reader;
 mod shelf;
 
 pub use shelf::IndexedShelf;

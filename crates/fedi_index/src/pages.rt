@@ -1,15 +1,19 @@
 //! Pages of a collection. Only the candidates of the collection are read.
 
-ghost use Rattle.std.specs.Prelude.{◌≡◌, ◌+◌, ◌*◌, ◌<◌, ◌≤◌, drop, filter, length, take};
+ghost use Rattle.std.specs.Prelude.{◌≡◌, ◌+◌, ◌*◌, ◌≤◌, drop, filter, length, take, true};
 ghost use Rattle.std.specs.List.{list_any};
 ghost use Rattle.fedi_index.specs.Candidates.{is_candidate};
+ghost use Rattle.fedi_index.specs.Readers.{GoesTo, reader_id};
+ghost use Rattle.fedi_town.specs.Collections.{is_item};
+ghost use Rattle.fedi_town.specs.declared.act.Act.{Act};
 ghost use Rattle.fedi_visible.specs.Places.{is_first, is_listed, is_same_seen, places_from};
 
+use crate::reader::Reader;
 use fedi_address::Iri;
 use fedi_effects::{Facts, Steps, object_key};
 use fedi_register::Kept;
 use fedi_town::{Caller, Which};
-use fedi_visible::{VisiblePage, is_same_seen, is_seen_item};
+use fedi_visible::{VisiblePage, is_item, is_same_seen};
 use std::sync::ledger::Ledger;
 
 // Whether an activity before this position is the same item and the caller sees it: an earlier
@@ -37,39 +41,48 @@ fn comes_again(
     }
 }
 
-// Whether the activity is an item that the caller sees, and no activity before this position is the
-// same item.
-#[tactic(auto, unfolding(fedi_visible::specs::Places::is_first))]
-fn is_first(
-    facts: &Facts,
-    caller: &Caller,
-    which: &Which,
-    owner: &Iri,
-    act: &Kept,
-    place: usize,
-) -> bool
-    ensures { result ≡ is_first facts.now.town caller.now which.now owner.now
-        (take place facts.now.town.acts) act.now }
+// Whether every candidate of the collection goes to the caller: those of the caller's own inbox do.
+fn go_to_reader(reader: &Reader<'_>, which: &Which, owner: &Iri) -> bool
+    ensures { (x : Act) → is_candidate which.now owner.now x ≡ true
+        → GoesTo result (reader_id reader.now.town reader.now.caller) x }
 {
-    is_seen_item(facts, caller, which, owner, act)
-        && !comes_again(facts, caller, which, owner, act, place)
+    match which {
+        Which::Inbox(_) => reader.is(owner),
+        _ => false,
+    }
 }
 
-// Whether the activity at this position is the first through which the caller sees its item.
-fn is_listed<L: Ledger>(
-    facts: &Facts,
-    caller: &Caller,
+// Whether the candidate is an item. In an inbox and an outbox all are.
+fn is_item_too(act: &Kept, which: &Which, owner: &Iri) -> bool
+    requires { is_candidate which.now owner.now act.now ≡ true }
+    ensures { result ≡ is_item which.now owner.now act.now }
+{
+    match which {
+        Which::Inbox(_) | Which::Outbox(_) => true,
+        _ => is_item(act, which, owner),
+    }
+}
+
+// Whether the candidate is an item that the caller sees, and no activity before this position is the
+// same item.
+#[tactic(auto, unfolding(fedi_visible::specs::Places::is_first, fedi_visible::specs::Places::is_seen_item))]
+fn is_first<'a>(
+    reader: &mut Reader<'a>,
     which: &Which,
     owner: &Iri,
+    act: &'a Kept,
     place: usize,
-    steps: &mut Steps<L>,
+    goes_to: bool,
 ) -> bool
-    requires { place < length facts.now.town.acts }
-    ensures value { result ≡ is_listed facts.now.town caller.now which.now owner.now place }
-    ensures cost { steps.new ≡ steps.old + 1 }
+    requires candidate { is_candidate which.now owner.now act.now ≡ true }
+    requires goes { GoesTo goes_to (reader_id reader.old.town reader.old.caller) act.now }
+    ensures value { result ≡ is_first reader.old.town reader.old.caller which.now owner.now
+        (take place reader.old.town.acts) act.now }
+    ensures same { reader.new ≡ reader.old }
 {
-    let act = facts.shown(place, steps);
-    is_first(facts, caller, which, owner, act, place)
+    is_item_too(act, which, owner)
+        && reader.sees(act, goes_to)
+        && !comes_again(reader.facts(), reader.caller(), which, owner, act, place)
 }
 
 /// The page with this number of the collection that has these candidates. Each candidate is read
@@ -92,9 +105,12 @@ pub(crate) fn page<L: Ledger>(
     ensures cost { steps.new ≤ steps.old + length candidates.now }
 {
     let mut page = VisiblePage::empty();
+    let mut reader = Reader::new(facts, caller);
+    let goes_to = go_to_reader(&reader, which, owner);
     for place in candidates {
-        if is_listed(facts, caller, which, owner, *place, steps) {
-            page.add(number, *place);
+        let act = facts.shown(*place, steps);
+        if is_first(&mut reader, which, owner, act, *place, goes_to) {
+            page.add_act(number, *place, facts, act);
         }
     }
     page

@@ -9,7 +9,7 @@ use Rattle.fedi_town.specs.declared.caller.Caller.{Caller}
 use Rattle.fedi_town.specs.declared.caller.Which.{Which}
 use Rattle.fedi_town.specs.Collections.{items}
 use Rattle.fedi_town.specs.Towns.{Town}
-use Rattle.fedi_visible.specs.Places.{is_listed, places}
+use Rattle.fedi_visible.specs.Places.{is_first, is_listed, places}
 use Rattle.fedi_visible.proofs.Listed.{items_placed}
 
 -- ---- how many there are
@@ -51,3 +51,9 @@ one_listed t c which id n listed = places_more t c which id n ∙ rw listed refl
 pub none_listed : (t : Town) (c : Caller) (which : Which) (id : List ℕ) (n : ℕ) → is_listed t c which id n ≡ false
     → places_before t c which id (n + 1) ≡ places_before t c which id n
 none_listed t c which id n other = places_more t c which id n ∙ rw other (append-nil (places_before t c which id n))
+
+-- the activity at this position is an item if it is the first of its item
+pub listed_there : (t : Town) (c : Caller) (which : Which) (id : List ℕ) (n : ℕ) (x : Act) → Some x ≡ slice_get t.acts n
+    → is_listed t c which id n ≡ is_first t c which id (take n t.acts) x
+unfolding is_listed
+listed_there t c which id n x at = rw (← at) refl

@@ -82,3 +82,12 @@ pub sight_shown : (t : Town) (x : Act) → sight_document (sight_at t x) ≡ act
 unfolding sight_document activity_document
 sight_shown t x =
     ap (λ (d : Data). Document d) (actor_unseen (is_of_town t.host x.author) true x.author (shown_activity t x) (Some x.author))
+
+-- so is the document of what is shown of it in this town
+pub shown_document : (t : Town) (x : Act) (s : Shown) → s.local ≡ is_of_town t.host x.author
+    → ((local context : Bool) → activity_form local context s.author.now (shown_in s) ≡ activity_form local context x.author (shown_activity t x))
+    → showing 200 forms.Activity (activity_form s.local true s.author.now (shown_in s)) ≡ reply_of (activity_document t x)
+unfolding activity_document
+shown_document t x s local form =
+    ap (showing 200 forms.Activity)
+    (ap (λ (local : Bool). activity_form local true s.author.now (shown_in s)) local ∙ form (is_of_town t.host x.author) true)

@@ -3,7 +3,7 @@
 
 ghost use Rattle.std.specs.Prelude.{◌≡◌, ◌+◌, ◌*◌, ◌<◌, ◌≤◌, drop, length, take};
 ghost use Rattle.std.specs.List.{list_any};
-ghost use Rattle.fedi_visible.specs.Places.{can_come_again, is_first, is_listed, is_same_seen};
+ghost use Rattle.fedi_visible.specs.Places.{can_come_again, is_first, is_same_seen};
 ghost use Rattle.fedi_visible.specs.Places.{is_seen_item, places};
 
 use crate::listing::{is_item, is_same_item};
@@ -114,23 +114,6 @@ fn is_first<L: Ledger>(
         && !comes_again(facts, caller, which, owner, act, count, steps)
 }
 
-// Whether the activity at this position is the first by which the caller sees its item.
-fn is_listed<L: Ledger>(
-    facts: &Facts,
-    caller: &Caller,
-    which: &Which,
-    owner: &Iri,
-    place: usize,
-    steps: &mut Steps<L>,
-) -> bool
-    requires { place < length facts.now.town.acts }
-    ensures value { result ≡ is_listed facts.now.town caller.now which.now owner.now place }
-    ensures cost { steps.new ≤ steps.old + (place + 1) }
-{
-    let act = facts.shown(place, steps);
-    is_first(facts, caller, which, owner, act, place, steps)
-}
-
 /// The positions of the items on the page of this number, and the number of items on all pages. For
 /// each activity it reads at most those before it.
 pub fn page<L: Ledger>(
@@ -149,8 +132,9 @@ pub fn page<L: Ledger>(
 {
     let mut page = VisiblePage::empty();
     for place in 0..facts.activities() {
-        if is_listed(facts, caller, which, owner, place, steps) {
-            page.add(number, place);
+        let act = facts.shown(place, steps);
+        if is_first(facts, caller, which, owner, act, place, steps) {
+            page.add_act(number, place, facts, act);
         }
     }
     page

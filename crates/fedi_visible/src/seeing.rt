@@ -10,8 +10,9 @@ use fedi_effects::{Facts, is_following, sees_as};
 use fedi_register::Kept;
 use fedi_town::Caller;
 
+/// Whether the IRI is of the other server.
 #[tactic(auto, unfolding(fedi_town::specs::Seeing::is_of_peer))]
-fn is_of_peer(host: &Host, iri: &Iri) -> bool
+pub fn is_of_peer(host: &Host, iri: &Iri) -> bool
     ensures { result ≡ is_of_peer host.now iri.now }
 {
     iri.host() == host.text()
@@ -24,8 +25,9 @@ fn reaches(facts: &Facts, host: &Host, author: &Iri, recipient: &Iri) -> bool
     is_of_peer(host, recipient) && !facts.has_block_between(recipient, author)
 }
 
-// Whether the activity goes to somebody of the other server who is not kept away by a Block.
-fn reaches_any(facts: &Facts, host: &Host, author: &Iri, recipients: &[Iri]) -> bool
+/// Whether an activity by the author goes to somebody of the other server who is not kept away by a
+/// Block.
+pub fn reaches_any(facts: &Facts, host: &Host, author: &Iri, recipients: &[Iri]) -> bool
     ensures { result ≡ list_any (reaches facts.now.town host.now author.now) recipients.now }
 {
     recipients
@@ -42,8 +44,9 @@ fn is_follower_from(facts: &Facts, host: &Host, author: &Iri, act: &Kept) -> boo
     is_following(act, author) && reaches(facts, host, author, act.author())
 }
 
-// Whether somebody of the other server follows the author, and no Block keeps the two apart.
-fn is_followed_from(facts: &Facts, host: &Host, author: &Iri) -> bool
+/// Whether somebody of the other server follows the author, and no Block keeps the two apart. The
+/// followers of the author are looked through.
+pub fn is_followed_from(facts: &Facts, host: &Host, author: &Iri) -> bool
     ensures { result ≡ is_followed_from facts.now.town host.now author.now }
 {
     facts.is_followed_by(author, |act| is_follower_from(facts, host, author, act))

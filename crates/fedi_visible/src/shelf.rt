@@ -13,10 +13,12 @@ ghost use Rattle.fedi_town.specs.Legal.{IsLegal, is_admissible};
 ghost use Rattle.fedi_town.specs.Towns.{id_of};
 ghost use Rattle.fedi_visible.specs.Pins.{directed_places, pin_places};
 
+use crate::brief::is_brief;
 use arrayvec::ArrayVec;
 use fedi_address::{Iri, LocalName};
 use fedi_effects::{Facts, Steps};
 use fedi_objects::Entry;
+use fedi_register::Kept;
 use fedi_town::{Caller, Which};
 use std::alloc::{AllocError, Global};
 use std::sync::ledger::Ledger;
@@ -32,6 +34,8 @@ pub struct VisiblePage {
     /// The positions of the page's items among the activities, the oldest first. A page above the
     /// highest has none.
     pub places: ArrayVec<usize, 20>,
+    /// Whether the document of each of these activities is brief.
+    pub is_brief: bool,
 }
 
 impl VisiblePage {
@@ -43,6 +47,7 @@ impl VisiblePage {
         VisiblePage {
             total: 0,
             places: ArrayVec::new(),
+            is_brief: true,
         }
     }
 
@@ -59,6 +64,20 @@ impl VisiblePage {
             self.places.push(place);
         }
         self.total += 1;
+    }
+
+    /// The same for an activity, which is at this position.
+    pub fn add_act(&mut self, number: u64, place: usize, facts: &Facts, act: &Kept)
+        requires total { self.old.total < 2 ^ 63 }
+        requires room { self.old.total / 20 ≡ number → array_vec_len self.old.places < 20 }
+        ensures total { self.new.total ≡ self.old.total + 1 }
+        ensures places { self.new.places.items ≡ (if nat_eq (self.old.total / 20) number
+            then self.old.places.items ++ place ∷ [] else self.old.places.items) }
+    {
+        if self.total / PAGE as u64 == number && self.is_brief {
+            self.is_brief = is_brief(facts, act);
+        }
+        self.add(number, place);
     }
 }
 

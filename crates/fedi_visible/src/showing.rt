@@ -27,10 +27,10 @@ fn changed_object<'a>(facts: &'a Facts, id: Option<&Iri>) -> Option<StrippedObje
     }
 }
 
-// The object of an activity as it is now: what a Create made, and what an Update changed, if they
-// were done.
+/// The object of an activity as it is now: what a Create made, and what an Update changed, if they
+/// were done.
 #[tactic(auto, unfolding(fedi_town::specs::Showing::present_object))]
-fn present_object<'a>(facts: &'a Facts, act: &'a Kept) -> Option<StrippedObject<'a>>
+pub(crate) fn present_object<'a>(facts: &'a Facts, act: &'a Kept) -> Option<StrippedObject<'a>>
     ensures { result ≡ option_map shown_object (present_object facts.now.town act.now) }
 {
     match (act.deed(), act.state()) {

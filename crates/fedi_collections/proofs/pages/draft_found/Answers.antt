@@ -1,11 +1,11 @@
-use Rattle.std.proofs.Common.{ap, map, slice_get, ◌∙◌}
+use Rattle.std.proofs.Common.{ap, map, reverse, ◌∙◌}
 use Rattle.fedi_model.specs.Documents.{collection_id, page_form}
-use Rattle.fedi_collections.specs.Items.{item_data}
+use Rattle.fedi_collections.specs.Drafts.{page_reply}
+use Rattle.fedi_collections.proofs.Found.{embedded_items}
 use Rattle.fedi_collections.proofs.pages.draft_found.Goals as goal
 
-pub returns-clause-page : goal.returns-clause-page
-returns-clause-page g c = λ xs same.
-    let total = c.args.page.now.total in
-    ap (λ id. page_form id c.args.number total (map item_data c.in_ok-items.items.items)) c.in_ok-address.ensures
-    ∙ ap (λ ds. page_form (collection_id c.args.which.now c.args.owner.now) c.args.number total ds)
-    (c.in_ok-items.ensures.items xs (ap (map (slice_get c.args.facts.now.town.acts)) c.as_slice.ensures.value ∙ same))
+pub returns-in_ok-draft-clause-page : goal.returns-in_ok-draft-clause-page
+returns-in_ok-draft-clause-page g c = λ xs same.
+    ap page_reply (c.in_ok-draft.ensures.page xs same
+    ∙ ap (page_form (collection_id c.args.which.now c.args.owner.now) c.args.number c.args.page.now.total)
+    (embedded_items c.args.facts.now.town c.args.which.now (reverse xs) (search)))

@@ -3,24 +3,32 @@ use Rattle.fedi_visible.proofs.Pages.{IsPageOf, has_room, none_counted, one_coun
 use Rattle.std.specs.Prelude.{filter}
 use Rattle.std.proofs.Common.{take}
 use Rattle.fedi_index.specs.Candidates.{is_candidate}
-use Rattle.fedi_index.proofs.Listed.{candidate_there, none_more_listed, one_more_listed}
-use Rattle.fedi_visible.specs.Places.{is_listed}
+use Rattle.fedi_index.proofs.Listed.{candidate_passes, candidate_there, none_more_listed, one_more_listed}
+use Rattle.fedi_index.specs.Readers.{Reading}
+use Rattle.fedi_visible.proofs.Items.{listed_there}
+use Rattle.fedi_visible.specs.Places.{is_first, is_listed}
 use Rattle.fedi_index.proofs.pages.page.Goals as goal
-use Rattle.fedi_index.proofs.pages.page.Goals.{then-is_listed, else-is_listed}
+use Rattle.fedi_index.proofs.pages.page.Goals.{then-is_first, else-is_first}
 
 pub loop-place-init : goal.loop-place-init
 loop-place-init g c = record {
   gathered = none_counted c.args.number c.empty-page.result.total c.empty-page.result.places.items c.empty-page.ensures.total c.empty-page.ensures.places;
   few = omega (arith, c.empty-page.ensures.total);
   cost = omega arith;
+  reader = c.new-reader.ensures;
 }
 
-pub is_listed-requires : goal.is_listed-requires
-is_listed-requires g c =
+pub shown-requires : goal.shown-requires
+shown-requires g c =
     candidate_there (is_candidate c.args.which.now c.args.owner.now) c.loop-place.place-index c.args.facts.now.town.acts c.args.candidates.now _ c.requires c.loop-place-test.true refl
 
-pub add-requires-clause-room : goal.add-requires-clause-room
-add-requires-clause-room g c =
+pub is_first-requires-clause-candidate : goal.is_first-requires-clause-candidate
+is_first-requires-clause-candidate g c =
+    candidate_passes (is_candidate c.args.which.now c.args.owner.now) c.loop-place.place-index c.args.facts.now.town.acts c.args.candidates.now _ _ c.requires c.loop-place-test.true refl
+    c.shown-act.ensures.act
+
+pub add_act-requires-clause-room : goal.add_act-requires-clause-room
+add_act-requires-clause-room g c =
     let listed = is_listed c.args.facts.now.town c.args.caller.now c.args.which.now c.args.owner.now in
     has_room c.args.number (filter listed (take c.loop-place.place-index c.args.candidates.now)) c.loop-place.page.total c.loop-place.page.places.items
     c.loop-place.invariant.gathered
@@ -34,18 +42,22 @@ loop-place-preserved g c =
     let so_far = c.loop-place.invariant in
     let total = c.loop-place.page.total in
     let found = c.loop-place.page.places.items in
-    elim c.if-is_listed.branch [
-      | then-is_listed w ↦ rw w.page-is (record {
-        gathered = subst (λ (places : List ℕ). IsPageOf number places w.add.new.self.total w.add.new.self.places.items)
-            (sym (one_more_listed listed all i _ c.loop-place-test.true refl (sym c.is_listed.ensures.value ∙ w.if-is_listed.true)))
-            (one_counted number (filter listed (take i all)) total found _ _ _ so_far.gathered w.add.ensures.total w.add.ensures.places);
-        few = omega (arith, so_far.few, w.add.ensures.total);
-        cost = omega (arith, so_far.cost, c.is_listed.ensures.cost);
+    let at = listed_there c.args.facts.now.town c.args.caller.now c.args.which.now c.args.owner.now _ _ c.shown-act.ensures.act in
+    let first = subst (λ (r : Reading). listed _ ≡ is_first r.town r.caller c.args.which.now c.args.owner.now (take _ r.town.acts) _) (sym so_far.reader) at ∙ sym c.is_first.ensures.value in
+    elim c.if-is_first.branch [
+      | then-is_first w ↦ rw w.page-is (record {
+        gathered = subst (λ (places : List ℕ). IsPageOf number places w.add_act.new.self.total w.add_act.new.self.places.items)
+            (sym (one_more_listed listed all i _ c.loop-place-test.true refl (first ∙ w.if-is_first.true)))
+            (one_counted number (filter listed (take i all)) total found _ _ _ so_far.gathered w.add_act.ensures.total w.add_act.ensures.places);
+        few = omega (arith, so_far.few, w.add_act.ensures.total);
+        cost = omega (arith, so_far.cost, c.shown-act.ensures.cost);
+        reader = c.is_first.ensures.same ∙ so_far.reader;
       })
-      | else-is_listed w ↦ rw w.page-is (record {
+      | else-is_first w ↦ rw w.page-is (record {
         gathered = subst (λ (places : List ℕ). IsPageOf number places total found)
-            (sym (none_more_listed listed all i _ c.loop-place-test.true refl (sym c.is_listed.ensures.value ∙ w.if-is_listed.false))) so_far.gathered;
+            (sym (none_more_listed listed all i _ c.loop-place-test.true refl (first ∙ w.if-is_first.false))) so_far.gathered;
         few = omega (arith, so_far.few);
-        cost = omega (arith, so_far.cost, c.is_listed.ensures.cost);
+        cost = omega (arith, so_far.cost, c.shown-act.ensures.cost);
+        reader = c.is_first.ensures.same ∙ so_far.reader;
       })
     ]

@@ -1,9 +1,9 @@
 use Rattle.std.proofs.Common.{rules, arith, ◌≡◌, ◌<◌, ◌≤◌, ◌+◌, ◌*◌, List, ℕ, length, sym, subst, ◌∙◌}
 use Rattle.fedi_visible.proofs.Pages.{IsPageOf, has_room, none_counted, one_counted}
 use Rattle.fedi_visible.proofs.Costs.{steps_more}
-use Rattle.fedi_visible.proofs.Items.{none_listed, one_listed, places_before}
+use Rattle.fedi_visible.proofs.Items.{listed_there, none_listed, one_listed, places_before}
 use Rattle.fedi_visible.proofs.places.page.Goals as goal
-use Rattle.fedi_visible.proofs.places.page.Goals.{then-is_listed, else-is_listed}
+use Rattle.fedi_visible.proofs.places.page.Goals.{then-is_first, else-is_first}
 
 pub loop-place-init : goal.loop-place-init
 loop-place-init g c = record {
@@ -12,8 +12,8 @@ loop-place-init g c = record {
   cost = omega arith;
 }
 
-pub add-requires-clause-room : goal.add-requires-clause-room
-add-requires-clause-room g c =
+pub add_act-requires-clause-room : goal.add_act-requires-clause-room
+add_act-requires-clause-room g c =
     let t = c.args.facts.now.town in
     has_room c.args.number (places_before t c.args.caller.now c.args.which.now c.args.owner.now c.loop-place.place) c.loop-place.page.total c.loop-place.page.places.items
     c.loop-place.invariant.gathered
@@ -30,18 +30,20 @@ loop-place-preserved g c =
     let total = c.loop-place.page.total in
     let found = c.loop-place.page.places.items in
     let within : n < length t.acts = search rules in
-    let cost = steps_more (length t.acts) n c.loop-place.steps c.args.steps.now c.is_listed.new.steps within so_far.cost c.is_listed.ensures.cost in
-    elim c.if-is_listed.branch [
-      | then-is_listed w ↦ rw w.page-is (record {
-        gathered = subst (λ (places : List ℕ). IsPageOf number places w.add.new.self.total w.add.new.self.places.items)
-            (sym (one_listed t caller which owner n (sym c.is_listed.ensures.value ∙ w.if-is_listed.true)))
-            (one_counted number (places_before t caller which owner n) total found n _ _ so_far.gathered w.add.ensures.total w.add.ensures.places);
-        few = omega (arith, so_far.few, w.add.ensures.total);
+    let read : c.is_first.new.steps ≤ c.loop-place.steps + (n + 1) = omega (arith, c.shown-act.ensures.cost, c.is_first.ensures.cost) in
+    let cost = steps_more (length t.acts) n c.loop-place.steps c.args.steps.now c.is_first.new.steps within so_far.cost read in
+    let first = listed_there t caller which owner n c.shown-act.result.now c.shown-act.ensures.act ∙ sym c.is_first.ensures.value in
+    elim c.if-is_first.branch [
+      | then-is_first w ↦ rw w.page-is (record {
+        gathered = subst (λ (places : List ℕ). IsPageOf number places w.add_act.new.self.total w.add_act.new.self.places.items)
+            (sym (one_listed t caller which owner n (first ∙ w.if-is_first.true)))
+            (one_counted number (places_before t caller which owner n) total found n _ _ so_far.gathered w.add_act.ensures.total w.add_act.ensures.places);
+        few = omega (arith, so_far.few, w.add_act.ensures.total);
         cost = cost;
       })
-      | else-is_listed w ↦ rw w.page-is (record {
+      | else-is_first w ↦ rw w.page-is (record {
         gathered = subst (λ (places : List ℕ). IsPageOf number places total found)
-            (sym (none_listed t caller which owner n (sym c.is_listed.ensures.value ∙ w.if-is_listed.false))) so_far.gathered;
+            (sym (none_listed t caller which owner n (first ∙ w.if-is_first.false))) so_far.gathered;
         few = omega (arith, so_far.few);
         cost = cost;
       })
