@@ -1,4 +1,4 @@
-use Rattle.std.proofs.Common.{rules, arith, ◌≡◌, ◌<◌, ◌≤◌, ◌+◌, ◌*◌, List, ℕ, length, sym, subst, ◌∙◌}
+use Rattle.std.proofs.Common.{rules, arith, ◌<◌, ◌≤◌, ◌+◌, List, ℕ, length, sym, subst, ◌∙◌}
 use Rattle.fedi_visible.proofs.Pages.{IsPageOf, has_room, none_counted, one_counted}
 use Rattle.fedi_visible.proofs.Costs.{steps_more}
 use Rattle.fedi_visible.proofs.Items.{listed_there, none_listed, one_listed, places_before}
