@@ -9,7 +9,7 @@ use Rattle.serde_json.specs.Data.{Data}
 use Rattle.serde_json.specs.Written.{compact_text, outline}
 use Rattle.serde_json.proofs.Texts.{print-outline}
 use Rattle.fedi_model.specs.AnswerKinds.{Document, Refuse}
-use Rattle.fedi_model.specs.Documents.{collection_id, embedded_form, item_form, page_form}
+use Rattle.fedi_model.specs.Documents.{collection_id, item_form, page_form}
 use Rattle.fedi_model.specs.Memory.{is_refused}
 use Rattle.fedi_model.specs.Reading.{items_answer}
 use Rattle.fedi_model.specs.Replies.{reply_of}
@@ -18,12 +18,10 @@ use Rattle.fedi_model.specs.declared.ask.PageAsk.TheVariants.{Page}
 use Rattle.fedi_town.specs.declared.act.Act.{Act}
 use Rattle.fedi_town.specs.declared.caller.Caller.{Caller}
 use Rattle.fedi_town.specs.declared.caller.Which.{Which}
-use Rattle.fedi_town.specs.declared.caller.Which.TheVariants.{Inbox, Outbox, Followers, Following, Liked, Likes, Shares}
 use Rattle.fedi_town.specs.Collections.{highest, items, page_of}
 use Rattle.fedi_town.specs.Towns.{Town}
 use Rattle.fedi_town.specs.declared.refusal.Refusal.TheVariants.{NotFound}
 use Rattle.fedi_collections.specs.Drafts.{page_reply}
-use Rattle.fedi_collections.specs.Items.{has_activities}
 use Rattle.fedi_collections.specs.Pages.{page_at, page_or_none, total_of}
 use Rattle.fedi_objects.specs.Writing.{IsWritten}
 
@@ -70,13 +68,3 @@ page_answered t c which id k reply is = (page_there t c which id k reply is).0
 pub page_shown : (t : Town) (c : Caller) (which : Which) (id : List ℕ) (k : ℕ) (reply : Reply) → Some reply ≡ option_map page_reply (page_or_none t c which id k)
     → is_refused (items_answer t c which id (Page k)) ≡ false
 page_shown t c which id k reply is = (page_there t c which id k reply is).1
-
--- the items of a collection of activities are these as they occur in a page
-pub embedded_items : (t : Town) (which : Which) (xs : List Act) → has_activities which ≡ true → map (embedded_form t) xs ≡ map (item_form t which) xs
-embedded_items t (Inbox name) xs has = refl
-embedded_items t (Outbox name) xs has = refl
-embedded_items t (Followers name) xs has = absurd cc
-embedded_items t (Following name) xs has = absurd cc
-embedded_items t (Liked name) xs has = absurd cc
-embedded_items t (Likes name number) xs has = absurd cc
-embedded_items t (Shares name number) xs has = absurd cc

@@ -7,7 +7,7 @@ use Rattle.fedi_collections.proofs.items.write_excerpts.Goals as goal
 
 pub loop-excerpt-preserved : goal.loop-excerpt-preserved
 loop-excerpt-preserved c =
-    more_added excerpt_form c.args.excerpts.now c.loop-excerpt.excerpt-index c.item-excerpt.result c.loop-excerpt-test.true c.item-excerpt.is c.loop-excerpt.invariant
+    more_added excerpt_form c.args.excerpts.now c.loop-excerpt.excerpt-index c.excerpt-item.result c.loop-excerpt-test.true c.excerpt-item.is c.loop-excerpt.invariant
     c.in_ok-write_excerpt.ensures
 
 pub returns : goal.returns

@@ -1,6 +1,6 @@
-use Rattle.std.proofs.Common.{arith, [], ◌∷◌, ◌<◌, ◌∙◌, length, reverse, slice_get, subst}
+use Rattle.std.proofs.Common.{arith, [], ◌∷◌, slice_get, subst}
 use Rattle.std.proofs.lemmas.Iterator.Adapters.{YieldsList-from_rev_slice}
-use Rattle.std.proofs.lemmas.Iterator.Consumers.{YieldsList-end, YieldsList-turn}
+use Rattle.std.proofs.lemmas.Iterator.Consumers.{YieldsList-end}
 use Rattle.std.proofs.lemmas.List.{length-reverse, length_push}
 use Rattle.std.proofs.lemmas.Result.{on_ok_weaker}
 use Rattle.std.specs.List.{flat_map}
