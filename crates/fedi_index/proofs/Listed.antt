@@ -1,5 +1,5 @@
 -- The items of a collection are among its candidates.
-use Rattle.std.proofs.Common.{◌≡◌, ◌<◌, ℕ, zero, suc, ◌+◌, arith, Bool, true, false, List, [], ◌∷◌, ◌++◌, Some, ◌*◌, drop, get_or, length, take, refl, ap, ◌∙◌}
+use Rattle.std.proofs.Common.{◌≡◌, ◌<◌, ◌≤◌, ℕ, zero, suc, ◌+◌, arith, Bool, true, false, List, [], ◌∷◌, ◌++◌, Some, ◌*◌, drop, get_or, length, take, refl, ap, subst, ◌∙◌}
 use Rattle.std.specs.Prelude.{◌&&◌, filter, map, slice_get, if◌then◌else◌}
 use Rattle.std.specs.List.{range_with_len}
 use Rattle.std.proofs.lemmas.Bool.{and_parts}
@@ -100,6 +100,10 @@ none_more_listed p places i place within at other = filter_more p places i 0 wit
 
 -- ---- a candidate passes
 
+after-first : (n i : ℕ) (ps : List ℕ) → ((j : ℕ) → j < length ps → suc n ≤ get_or ps j 0) → i < length (n ∷ ps) → n ≤ get_or (n ∷ ps) i 0
+after-first n zero ps rest h = omega arith
+after-first n (suc i) ps rest h = let later = rest i (omega (arith, h)) in omega (arith, later)
+
 places-after : (q : Act → Bool) (n i : ℕ) (xs : List Act) → i < length (places_from q n xs) → n ≤ get_or (places_from q n xs) i 0
 places-after q n i [] within = absurd (omega (arith, within))
 places-after q n i (x ∷ xs) within =
@@ -108,39 +112,44 @@ places-after q n i (x ∷ xs) within =
       | true ↦ λ h. after-first n i (places_from q (suc n) xs) (λ j k. places-after q (suc n) j xs k) h
       | false ↦ λ h. let rest = places-after q (suc n) i xs h in omega (arith, rest)
     ] within
-  where
-    after-first : (n i : ℕ) (ps : List ℕ) → ((j : ℕ) → j < length ps → suc n ≤ get_or ps j 0) → i < length (n ∷ ps) → n ≤ get_or (n ∷ ps) i 0
-    after-first n zero ps rest h = omega arith
-    after-first n (suc i) ps rest h = let later = rest i (omega (arith, h)) in omega (arith, later)
 
-passes-later : (q : Act → Bool) (n i k : ℕ) (x : Act) (y : Act) (ys : List Act) → ((j : ℕ) → get_or (places_from q (suc n) ys) i 0 ≡ suc n + j → Some x ≡ slice_get ys j → q x ≡ true)
+passes-later : (q : Act → Bool) (n i k : ℕ) (x y : Act) (ys : List Act)
+    → ((j : ℕ) → get_or (places_from q (suc n) ys) i 0 ≡ suc n + j → Some x ≡ slice_get ys j → q x ≡ true)
     → i < length (places_from q (suc n) ys) → get_or (places_from q (suc n) ys) i 0 ≡ n + k → Some x ≡ slice_get (y ∷ ys) k → q x ≡ true
 passes-later q n i zero x y ys rest within at is = let low = places-after q (suc n) i ys within in absurd (omega (arith, low, at))
 passes-later q n i (suc k) x y ys rest within at is = rest k (omega (arith, at)) is
 
-passes : (q : Act → Bool) (n i k : ℕ) (x : Act) (xs : List Act) → i < length (places_from q n xs) → get_or (places_from q n xs) i 0 ≡ n + k → Some x ≡ slice_get xs k → q x ≡ true
+passes-first : (q : Act → Bool) (k : ℕ) (x y : Act) (ys : List Act) → q y ≡ true → k ≡ 0 → Some x ≡ slice_get (y ∷ ys) k → q x ≡ true
+passes-first q zero x y ys passing none is = let same : x ≡ y = cc in rw same passing
+passes-first q (suc k) x y ys passing none is = absurd (omega (arith, none))
+
+passes-here : (q : Act → Bool) (n i k : ℕ) (x y : Act) (ys : List Act) → q y ≡ true
+    → ((i j : ℕ) → i < length (places_from q (suc n) ys) → get_or (places_from q (suc n) ys) i 0 ≡ suc n + j → Some x ≡ slice_get ys j → q x ≡ true)
+    → i < length (n ∷ places_from q (suc n) ys) → get_or (n ∷ places_from q (suc n) ys) i 0 ≡ n + k → Some x ≡ slice_get (y ∷ ys) k → q x ≡ true
+passes-here q n zero k x y ys passing rest within at is = passes-first q k x y ys passing (omega (arith, at)) is
+passes-here q n (suc i) k x y ys passing rest within at is =
+    let later : i < length (places_from q (suc n) ys) = omega (arith, within) in
+    passes-later q n i k x y ys (λ j b c. rest i j later b c) later at is
+
+passes : (q : Act → Bool) (n i k : ℕ) (x : Act) (xs : List Act) → i < length (places_from q n xs) → get_or (places_from q n xs) i 0 ≡ n + k → Some x ≡ slice_get xs k
+    → q x ≡ true
 passes q n i k x [] within at is = absurd (omega (arith, within))
 passes q n i k x (y ∷ ys) within at is =
+    let rest : (i j : ℕ) → i < length (places_from q (suc n) ys) → get_or (places_from q (suc n) ys) i 0 ≡ suc n + j → Some x ≡ slice_get ys j → q x ≡ true =
+    λ i j a b c. passes q (suc n) i j x ys a b c in
     elim (q y) as (λ b. q y ≡ b → i < length (if b then n ∷ places_from q (suc n) ys else places_from q (suc n) ys)
     → get_or (if b then n ∷ places_from q (suc n) ys else places_from q (suc n) ys) i 0 ≡ n + k → q x ≡ true) [
-      | true ↦ λ e h a. here e i h a
-      | false ↦ λ e h a. passes-later q n i k x y ys (λ j b c. passes q (suc n) i j x ys h b c) h a is
+      | true ↦ λ e h a. passes-here q n i k x y ys e rest h a is
+      | false ↦ λ e h a. passes-later q n i k x y ys (λ j b c. rest i j h b c) h a is
     ] refl within at
-  where
-    here : q y ≡ true → (i : ℕ) → i < length (n ∷ places_from q (suc n) ys) → get_or (n ∷ places_from q (suc n) ys) i 0 ≡ n + k → q x ≡ true
-    here e zero h a = first k (omega (arith, a)) is
-      where
-        first : (k : ℕ) → k ≡ 0 → Some x ≡ slice_get (y ∷ ys) k → q x ≡ true
-        first zero none at = let same : x ≡ y = cc in rw same e
-        first (suc k) none at = absurd (omega (arith, none))
-    here e (suc i) h a = passes-later q n i k x y ys (λ j b c. passes q (suc n) i j x ys (omega (arith, h)) b c) (omega (arith, h)) a is
 
 -- the activity at the position of a candidate is one
 pub candidate_passes : (q : Act → Bool) (i : ℕ) (acts : List Act) (places : List ℕ) (place : ℕ) (x : Act) → places ≡ places_from q 0 acts → i < length places
     → place ≡ get_or places i 0 → Some x ≡ slice_get acts place → q x ≡ true
 candidate_passes q i acts places place x are within at is =
     let here : get_or (places_from q 0 acts) i 0 ≡ 0 + place = let none : 0 + place ≡ place = omega arith in rw (none, at, are) refl in
-    passes q 0 i place x acts (rw (← are) within) here is
+    let inside : i < length (places_from q 0 acts) = subst (λ (ps : List ℕ). i < length ps) are within in
+    passes q 0 i place x acts inside here is
 
 -- ---- the page
 

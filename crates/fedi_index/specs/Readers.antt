@@ -43,11 +43,12 @@ IsTrueOf p (Some author) answer = answer ≡ p author
 abbrev pub Remembers : (List ℕ → Bool) → Option (List ℕ) × Bool → Type 0
 Remembers p memo = IsTrueOf p memo.0 memo.1
 
--- what is known of the reader is true
-pub record IsReader (t : Town) (c : Caller) (id : Option (List ℕ)) (block follow : Option (List ℕ) × Bool) : Type 0 where
-  pub id : id ≡ reader_id t c
-  pub block : Remembers (is_blocked t id) block
-  pub follow : Remembers (is_following t c) follow
+-- what is known of the reader is true: its id, and what was looked up last
+pub record IsReader (t : Town) (c : Caller) (known : Option (List ℕ))
+    (blocked following : Option (List ℕ) × Bool) : Type 0 where
+  pub id : known ≡ reader_id t c
+  pub block : Remembers (is_blocked t known) blocked
+  pub follow : Remembers (is_following t c) following
 
 -- the activity goes to the member who reads, if this is said
 abbrev pub GoesTo : Bool → Option (List ℕ) → Act → Type 0

@@ -42,6 +42,7 @@ fn comes_again(
 }
 
 // Whether every candidate of the collection goes to the caller: those of the caller's own inbox do.
+#[tactic(auto, using(crate::proofs::Readers::all_go))]
 fn go_to_reader(reader: &Reader<'_>, which: &Which, owner: &Iri) -> bool
     ensures { (x : Act) → is_candidate which.now owner.now x ≡ true
         → GoesTo result (reader_id reader.now.town reader.now.caller) x }
@@ -53,6 +54,7 @@ fn go_to_reader(reader: &Reader<'_>, which: &Which, owner: &Iri) -> bool
 }
 
 // Whether the candidate is an item. In an inbox and an outbox all are.
+#[tactic(auto, unfolding(crate::specs::Candidates::belongs, fedi_town::specs::Collections::is_item))]
 fn is_item_too(act: &Kept, which: &Which, owner: &Iri) -> bool
     requires { is_candidate which.now owner.now act.now ≡ true }
     ensures { result ≡ is_item which.now owner.now act.now }

@@ -1,7 +1,9 @@
 //! A caller who reads many activities.
 
-ghost use Rattle.std.specs.Prelude.{◌≡◌, ◌×◌, Bool, IfSome, List, None, Some, false, ℕ};
+ghost use Rattle.std.specs.Prelude.{◌≡◌, ℕ, Bool, false, true, List, IfSome, None, Some};
+ghost use Rattle.std.specs.Prelude.{option_copied};
 ghost use Rattle.fedi_index.specs.Readers.{GoesTo, Remembers, reader_id};
+ghost use Rattle.fedi_town.specs.declared.caller.Caller.TheVariants.{Peer};
 ghost use Rattle.fedi_town.specs.Relations.{follows, has_block_between};
 ghost use Rattle.fedi_town.specs.Seeing.{is_followed_from, sees, sees_as};
 
@@ -129,6 +131,7 @@ impl<'a> Reader<'a> {
         self.id.is_some_and(|id| id == member)
     }
 
+    #[tactic(auto, using(crate::proofs::Readers::block_of_member))]
     fn is_blocked(&mut self, id: &Iri, author: &'a Iri) -> bool
         requires { reader_id self.old.town self.old.caller ≡ Some id.now }
         ensures value { result ≡ has_block_between self.old.town id.now author.now }
@@ -144,6 +147,7 @@ impl<'a> Reader<'a> {
         }
     }
 
+    #[tactic(auto, using(crate::proofs::Readers::follow_of_member))]
     fn follows(&mut self, id: &Iri, author: &'a Iri) -> bool
         requires { reader_id self.old.town self.old.caller ≡ Some id.now }
         ensures value { result ≡ follows self.old.town id.now author.now }
@@ -159,6 +163,7 @@ impl<'a> Reader<'a> {
         }
     }
 
+    #[tactic(auto, using(crate::proofs::Readers::follow_of_peer))]
     fn is_followed_from(&mut self, host: &Host, author: &'a Iri) -> bool
         requires { self.old.caller ≡ Peer host.now }
         ensures value { result ≡ is_followed_from self.old.town host.now author.now }
@@ -176,6 +181,7 @@ impl<'a> Reader<'a> {
 
     // Whether the caller, who is the member with this id, sees the activity. A Block is looked up
     // last, for what would be seen without it.
+    #[tactic(auto, unfolding(fedi_town::specs::Seeing::sees_as, fedi_town::specs::Seeing::is_for_follower))]
     fn sees_as(&mut self, id: &Iri, act: &'a Kept, goes_to: bool) -> bool
         requires id { reader_id self.old.town self.old.caller ≡ Some id.now }
         requires goes { GoesTo goes_to (reader_id self.old.town self.old.caller) act.now }
@@ -191,6 +197,7 @@ impl<'a> Reader<'a> {
     }
 
     // Whether the other server, which is the caller, sees the activity.
+    #[tactic(auto, unfolding(fedi_town::specs::Seeing::sees))]
     fn sees_from(&mut self, host: &Host, act: &'a Kept) -> bool
         requires { self.old.caller ≡ Peer host.now }
         ensures value { result ≡ sees self.old.town self.old.caller act.now }
@@ -204,6 +211,7 @@ impl<'a> Reader<'a> {
 
     /// Whether the caller sees the activity (ActivityPub, sections 5, 6 and 6.9), of which it may be
     /// known that it goes to the caller.
+    #[tactic(auto, unfolding(fedi_town::specs::Seeing::sees))]
     pub(crate) fn sees(&mut self, act: &'a Kept, goes_to: bool) -> bool
         requires { GoesTo goes_to (reader_id self.old.town self.old.caller) act.now }
         ensures value { result ≡ sees self.old.town self.old.caller act.now }

@@ -4,9 +4,8 @@ use Rattle.std.specs.Prelude.{filter}
 use Rattle.std.proofs.Common.{take}
 use Rattle.fedi_index.specs.Candidates.{is_candidate}
 use Rattle.fedi_index.proofs.Listed.{candidate_passes, candidate_there, none_more_listed, one_more_listed}
-use Rattle.fedi_index.specs.Readers.{Reading}
-use Rattle.fedi_visible.proofs.Items.{listed_there}
-use Rattle.fedi_visible.specs.Places.{is_first, is_listed}
+use Rattle.fedi_index.proofs.Readers.{first_for, goes_on}
+use Rattle.fedi_visible.specs.Places.{is_listed}
 use Rattle.fedi_index.proofs.pages.page.Goals as goal
 use Rattle.fedi_index.proofs.pages.page.Goals.{then-is_first, else-is_first}
 
@@ -18,14 +17,20 @@ loop-place-init g c = record {
   reader = c.new-reader.ensures;
 }
 
-pub shown-requires : goal.shown-requires
-shown-requires g c =
+pub shown-act-requires : goal.shown-act-requires
+shown-act-requires g c =
     candidate_there (is_candidate c.args.which.now c.args.owner.now) c.loop-place.place-index c.args.facts.now.town.acts c.args.candidates.now _ c.requires c.loop-place-test.true refl
 
 pub is_first-requires-clause-candidate : goal.is_first-requires-clause-candidate
 is_first-requires-clause-candidate g c =
     candidate_passes (is_candidate c.args.which.now c.args.owner.now) c.loop-place.place-index c.args.facts.now.town.acts c.args.candidates.now _ _ c.requires c.loop-place-test.true refl
     c.shown-act.ensures.act
+
+pub is_first-requires-clause-goes : goal.is_first-requires-clause-goes
+is_first-requires-clause-goes g c =
+    let passes = candidate_passes (is_candidate c.args.which.now c.args.owner.now) c.loop-place.place-index c.args.facts.now.town.acts c.args.candidates.now _ _ c.requires c.loop-place-test.true refl
+    c.shown-act.ensures.act in
+    goes_on _ _ _ _ (c.new-reader.ensures ∙ sym c.loop-place.invariant.reader) (c.go_to_reader-goes_to.ensures _ passes)
 
 pub add_act-requires-clause-room : goal.add_act-requires-clause-room
 add_act-requires-clause-room g c =
@@ -42,8 +47,7 @@ loop-place-preserved g c =
     let so_far = c.loop-place.invariant in
     let total = c.loop-place.page.total in
     let found = c.loop-place.page.places.items in
-    let at = listed_there c.args.facts.now.town c.args.caller.now c.args.which.now c.args.owner.now _ _ c.shown-act.ensures.act in
-    let first = subst (λ (r : Reading). listed _ ≡ is_first r.town r.caller c.args.which.now c.args.owner.now (take _ r.town.acts) _) (sym so_far.reader) at ∙ sym c.is_first.ensures.value in
+    let first = first_for c.args.facts.now.town c.args.caller.now c.args.which.now c.args.owner.now _ _ _ so_far.reader c.shown-act.ensures.act ∙ sym c.is_first.ensures.value in
     elim c.if-is_first.branch [
       | then-is_first w ↦ rw w.page-is (record {
         gathered = subst (λ (places : List ℕ). IsPageOf number places w.add_act.new.self.total w.add_act.new.self.places.items)
