@@ -35,11 +35,12 @@ is_following t Nobody author = false
 is_following t (Actor name) author = is_follower t (id_of t name) author
 is_following t (Peer host) author = is_followed_from t host author
 
--- what is remembered of an author, if of any, is true of it
+-- the answer is true of the author, if there is one
 abbrev pub IsTrueOf : (List ℕ → Bool) → Option (List ℕ) → Bool → Type 0
 IsTrueOf p None answer = ⊤
 IsTrueOf p (Some author) answer = answer ≡ p author
 
+-- what was looked up last is true
 abbrev pub Remembers : (List ℕ → Bool) → Option (List ℕ) × Bool → Type 0
 Remembers p memo = IsTrueOf p memo.0 memo.1
 
