@@ -34,6 +34,9 @@ const EMBEDDED: usize = 640;
 
 const ADDRESS: usize = 128;
 
+// The number of a page above the highest of any collection, for which no item is kept.
+const NO_PAGE: u64 = u64::MAX;
+
 // The room for a page with this many items.
 fn page_room(has_activities: bool, items: usize) -> usize
     ensures { result ≤ 13568 }
@@ -70,7 +73,7 @@ pub fn summary<S: Shelf, L: Ledger>(
         (summary_of (S.holding shelf.now).town caller.now which.now owner.now)) }
     ensures cost { steps.new ≤ steps.old + S.page_cost shelf.now which.now owner.now }
 {
-    let page = shelf.visible_page(caller, which, owner, 0, steps);
+    let page = shelf.visible_page(caller, which, owner, NO_PAGE, steps);
     summary_text(alloc, Address::of(alloc, which, owner)?, page.total)
 }
 
