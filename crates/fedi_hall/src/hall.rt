@@ -32,6 +32,8 @@ pub struct Queues {
     /// Those who record an attempt: so posts and deliveries to members get every second turn of
     /// those who keep an entry.
     pub attempts: Line,
+    /// Those who check a long body against its code, which takes time.
+    pub codes: Line,
     /// Those who read a long body, which takes much memory.
     pub bodies: Line,
 }
@@ -42,6 +44,7 @@ impl Queues {
         Queues {
             entries: Line::new(),
             attempts: Line::new(),
+            codes: Line::new(),
             bodies: Line::new(),
         }
     }

@@ -2,6 +2,8 @@
 ghost use Rattle.std.specs.Prelude.{◌≡◌, IfOk, Some};
 ghost use Rattle.std.proofs.Common.{ap, refl, ◌∙◌};
 ghost use Rattle.fedi_log.specs.Keeping.{base_of};
+ghost use Rattle.fedi_model.specs.Callers.{caller_among};
+ghost use Rattle.fedi_model.specs.Credentials.{credentials_of};
 ghost use Rattle.fedi_model.specs.Routes.{Asks, IsPostableAt};
 ghost use Rattle.fedi_town.specs.Histories.{town};
 ghost use Rattle.fedi_turn.specs.Turn.{number_of, seen_of};
@@ -15,7 +17,7 @@ use fedi_address::Iri;
 use fedi_core::{RecordFault, caller_of};
 use fedi_log::Item;
 use fedi_logged::{Answers, Delivers, Logged, Opened, Sending, Turns};
-use fedi_model::{Ask, Caller, Request};
+use fedi_model::{Ask, Caller, Credentials, Refusal, Request};
 use fedi_objects::Came;
 use fedi_outside::Keeper;
 use fedi_queue::Claim;
@@ -36,9 +38,32 @@ pub struct Shared<'a, 'b, R, S: Shelf + Drop, P: Keeper + Drop, O: Opened> {
     pub pass: &'b mut Pass<Item>,
 }
 
-/// The most bytes of a body that is read while others are. JSON in memory may take 80 times as many
-/// bytes as its text.
+/// The most bytes of a body that is read, or checked against its code, while others are. JSON in
+/// memory may take 80 times as many bytes as its text.
 const SHORT_BODY: usize = 8_192;
+
+// Who makes the request. Of long bodies one is checked against its code at a time, so that wrong
+// codes keep one processor busy at most. The error is out of memory.
+fn find_caller<R: Wait>(
+    rt: &R,
+    lobby: &Lobby,
+    request: &Request,
+    body: &[u8],
+) -> Result<Result<Caller, Refusal>, AllocError>
+    ensures { let known = lobby.now.roster in IfOk result (λ caller. caller
+        ≡ caller_among known.actors known.peers (credentials_of request.now body.now)) }
+{
+    let shown = credentials(request, body);
+    let is_long = body.len() > SHORT_BODY && matches!(shown, Credentials::Mac(Some(_)));
+    if is_long {
+        lobby.queues.codes.enter(rt);
+    }
+    let caller = caller_of(&lobby.roster, &shown);
+    if is_long {
+        lobby.queues.codes.leave(rt);
+    }
+    caller
+}
 
 // What this caller's request asks. Of long bodies one is read at a time. The error is out of memory.
 fn read_ask<R: Wait>(
@@ -104,7 +129,8 @@ impl<'a, 'b, R: Wait, S: Shelf + Drop, P: Keeper + Drop, O: Opened> Answers
         closing: bool,
     ) -> Result<Vec<u8>, AllocError> {
         let (rt, lock, lobby) = (self.rt, self.lock, self.lobby);
-        match caller_of(&lobby.roster, &credentials(request, body))? {
+        let caller = find_caller(rt, lobby, request, body)?;
+        match caller {
             Ok(caller) => {
                 let ask = read_ask(rt, alloc, request, body, lobby, &caller)?;
                 answer_in_turn(
